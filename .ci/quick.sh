@@ -1,0 +1,22 @@
+#!/usr/bin/env bash
+# Quick checks of the repository's own rules. Prints what is wrong, and nothing else; the last line of the gate stays that of `rt ci`.
+cd "$(dirname "$0")/.." || exit 1
+failed=0
+wrong() { printf 'quick check: %s\n' "$1" >&2; failed=1; }
+
+[ "$(cat HANDLES)" = 'Handles allowed: Threads, Wait.' ] || wrong 'HANDLES has changed'
+cites=$(git grep -nIE '\b(document|paper) 0[1-4]\b|\b0[1-4] section|\b(D([1-9]|[12][0-9])|W([1-9]|1[0-6])|R([1-9]|1[0-9]|20)|T[1-5])\b' -- '*.md' '*.rt' '*.antt' '*.edit' \
+  | grep -vE '[<:,&(] *[DTRW][0-9]+ *[>:,)]|\{[A-Z]')
+[ -z "$cites" ] || wrong "a number of a paper is cited: $cites"
+while read -r line; do
+  name=${line%%:*}
+  case "$name" in ''|\#*) continue ;; esac
+  for page in README.md docs/ARCHITECTURE.md; do
+    grep -q "\`$name\`" "$page" || wrong "$name is not in $page"
+  done
+done < crates.txt
+for path in $(grep -oE '(examples|docs|bench)/[A-Za-z0-9_./-]+' README.md | sort -u); do
+  [ -e "${path%.}" ] || wrong "README.md names $path, which is not there"
+done
+[ -x automizer ] || wrong 'the script ./automizer is not there'
+exit "$failed"

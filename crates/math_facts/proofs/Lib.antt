@@ -1,0 +1,4 @@
+pub mod Whole
+pub mod SumBelow
+pub mod TermLaws
+pub mod Division
