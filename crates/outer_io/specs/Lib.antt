@@ -1,0 +1,4 @@
+pub mod Faults
+pub mod MemShelf
+pub mod MemSink
+pub mod Texts
