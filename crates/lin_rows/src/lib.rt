@@ -1,0 +1,28 @@
+//! Rows over whole numbers, `a.x <= b` and `a.x = b`: made from terms, tightened, and added up. All numbers of a row fit,
+//! and each call says exactly when a number would not.
+#![tactic(auto)]
+
+mod make;
+mod merging;
+mod numbers;
+mod sums;
+#[cfg(test)]
+mod tests;
+mod tightening;
+mod types;
+
+ghost use Rattle.std.specs.Prelude.{ℕ, ℤ, List};
+ghost use Rattle.std.specs.List.{AllByRecursion};
+ghost use Rattle.lin_rows.specs.Rows.{LinearRow, Holds};
+ghost use Rattle.lin_rows.specs.Combinations.{Contradicts};
+
+pub use make::row;
+pub use sums::add_scaled;
+pub use tightening::tighten;
+pub use types::{Col, Past, Row, RowFault, RowKind};
+
+/// Rows with a contradicting combination hold together at no whole point (Farkas, 1902).
+pub fn contradiction_is_sound()
+    ensures { (rows : List LinearRow) (parts : List (ℕ × ℤ)) (point : ℕ → ℤ) →
+        Contradicts rows parts → AllByRecursion (Holds point) rows → ⊥ }
+{}
