@@ -1,0 +1,17 @@
+pub mod Bytes
+pub mod Tokens
+pub mod Straight
+pub mod Claims
+pub mod Syntax
+pub mod Meaning
+pub mod FirstForm
+pub mod Views
+pub mod WellFormed
+pub mod Class
+pub mod FirstToken
+pub mod Reading
+pub mod FoundViews
+pub mod Sums
+pub mod Tidy
+pub mod Names
+pub mod Commands

@@ -1,0 +1,17 @@
+/// What a token is.
+#[derive(Clone, Copy, Debug, PartialEq, Eq)]
+pub enum TokenKind {
+    /// A name or a keyword.
+    Word,
+    /// A run of digits.
+    Literal,
+    /// An operator or a mark of punctuation.
+    Mark,
+}
+
+/// A token of a text, with the slice that it is.
+#[derive(Clone, Copy)]
+pub(crate) struct Token<'a> {
+    pub kind: TokenKind,
+    pub text: &'a [u8],
+}
