@@ -1,0 +1,37 @@
+use Rattle.std.proofs.Common.{◌≡◌, ◌++◌, ◌∙◌, Some, List, ℕ, map, sym, subst}
+use Rattle.std.specs.Prelude.{IfSome}
+use Rattle.std.specs.String.{string_bytes}
+use Rattle.outer_io.specs.Texts.{GainsFront}
+use Rattle.automizer_top.specs.Answers.{answered}
+use Rattle.automizer_top.proofs.ReportLaws.{nothing_is_safe, front_is_safe, whole_is_safe, zero_is_safe}
+use Rattle.automizer_top.proofs.running.run.Goals as goal
+
+pub returns-in-Err-Fault-clause-accepted_text_is_safe : goal.returns-in-Err-Fault-clause-accepted_text_is_safe
+returns-in-Err-Fault-clause-accepted_text_is_safe g c =
+    nothing_is_safe (map string_bytes c.args.words.now) (g.H.Shelf.texts c.args.shelf.now) (g.K.Sink.taken c.args.sink.now)
+
+pub returns-in-Err-Memory-clause-accepted_text_is_safe : goal.returns-in-Err-Memory-clause-accepted_text_is_safe
+returns-in-Err-Memory-clause-accepted_text_is_safe g c =
+    nothing_is_safe (map string_bytes c.args.words.now) (g.H.Shelf.texts c.args.shelf.now) (g.K.Sink.taken c.args.sink.now)
+
+pub returns-in_default-clause-accepted_text_is_safe : goal.returns-in_default-clause-accepted_text_is_safe
+returns-in_default-clause-accepted_text_is_safe g c =
+    nothing_is_safe (map string_bytes c.args.words.now) (g.H.Shelf.texts c.args.shelf.now) (g.K.Sink.taken c.args.sink.now)
+
+pub returns-in-Ok-write_all-clause-accepted_is_safe : goal.returns-in-Ok-write_all-clause-accepted_is_safe
+returns-in-Ok-write_all-clause-accepted_is_safe g c =
+    λ z. zero_is_safe (map string_bytes c.args.words.now) (g.H.Shelf.texts c.args.shelf.now) (answered c.in-Ok.answer) c.in-Ok.ensures.reported (sym c.status.ensures ∙ z)
+
+pub returns-in-Ok-write_all-clause-accepted_text_is_safe : goal.returns-in-Ok-write_all-clause-accepted_text_is_safe
+returns-in-Ok-write_all-clause-accepted_text_is_safe g c =
+    let bytes : c.as_bytes.result.now ≡ (answered c.in-Ok.answer).bytes = c.as_bytes.ensures.value ∙ c.in-Ok-text.ensures in
+    whole_is_safe (map string_bytes c.args.words.now) (g.H.Shelf.texts c.args.shelf.now) (g.K.Sink.taken c.args.sink.now) (g.K.Sink.taken c.write_all.new.sink) (answered c.in-Ok.answer)
+    c.in-Ok.ensures.reported
+    (subst (λ (bs : List ℕ). IfSome (g.K.Sink.taken c.args.sink.now) (λ before. g.K.Sink.taken c.write_all.new.sink ≡ Some (before ++ bs))) bytes c.in-Ok-write_all.ensures.whole)
+
+pub returns-clause-accepted_text_is_safe : goal.returns-clause-accepted_text_is_safe
+returns-clause-accepted_text_is_safe g c =
+    let bytes : c.as_bytes.result.now ≡ (answered c.in-Ok.answer).bytes = c.as_bytes.ensures.value ∙ c.in-Ok-text.ensures in
+    front_is_safe (map string_bytes c.args.words.now) (g.H.Shelf.texts c.args.shelf.now) (g.K.Sink.taken c.args.sink.now) (g.K.Sink.taken c.write_all.new.sink) (answered c.in-Ok.answer)
+    c.in-Ok.ensures.reported
+    (subst (λ (bs : List ℕ). IfSome (g.K.Sink.taken c.args.sink.now) (λ before. GainsFront bs before (g.K.Sink.taken c.write_all.new.sink))) bytes c.in-Err.ensures.front)

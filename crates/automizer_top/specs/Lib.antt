@@ -1,0 +1,14 @@
+pub mod StraightRun
+pub mod StraightRows
+pub mod ProofText
+pub mod StraightCheck
+pub mod Report
+pub mod ProofReading
+pub mod LeafTest
+pub mod Walk
+pub mod LeafSums
+pub mod Labels
+pub mod Verdicts
+pub mod Answers
+pub mod ProofPieces
+pub mod ProofLeaves

@@ -1,0 +1,79 @@
+-- What the program answers to its words and the texts that they name.
+use Rattle.std.specs.Prelude.{◌≡◌, ℕ, ◌-◌, ◌^◌, ◌<◌, ◌≤◌, List, [], ◌∷◌, ◌++◌, length, Option, Some, codes, IfSome, ◌⊎◌}
+use Rattle.std.specs.Fmt.{decimal}
+use Rattle.outer_io.specs.Texts.{text_named, GainsFront}
+use Rattle.boogie_parse.specs.Straight.{Program}
+use Rattle.boogie_parse.specs.FirstForm.{IsFirstForm}
+use Rattle.automizer_top.specs.StraightRun.{IsSafe}
+use Rattle.automizer_top.specs.StraightCheck.{Verdict, accepted, syntax, bad_triple, Judges}
+
+-- the bytes that are written, and the status
+pub record Answer : Type 0 where
+  pub bytes : List ℕ
+  pub status : ℕ
+
+abbrev pub usage_line : List ℕ
+usage_line = codes "usage: automizer MODE PROGRAM [SECOND] [--entry NAME] [--rounds N] [--workers N] [--depth N]\n"
+
+-- the most bytes of a program text, and of a second text
+abbrev pub program_limit : ℕ
+program_limit = 1048576
+
+abbrev pub second_limit : ℕ
+second_limit = 2 ^ 63 - 1
+
+-- the words ask for a check of the program of that name by the proof of that name
+abbrev pub AskCheck : List (List ℕ) → List ℕ → List ℕ → Type 0
+AskCheck words program second = words ≡ codes "check" ∷ program ∷ second ∷ []
+
+abbrev pub answer : List ℕ → ℕ → Answer
+answer bytes status = record { bytes = bytes; status = status }
+
+abbrev pub rejected_line : ℕ → List ℕ → List ℕ
+rejected_line line cause = codes "rejected " ++ decimal line ++ 32 ∷ (cause ++ 10 ∷ [])
+
+abbrev pub verdict_answer : Verdict → Answer
+verdict_answer accepted = answer (codes "accepted\n") 0
+verdict_answer (syntax line) = answer (rejected_line line (codes "Syntax")) 1
+verdict_answer (bad_triple line) = answer (rejected_line line (codes "BadTriple")) 1
+
+-- What is answered to a program text and to what the second name stands for. The cases exclude each other.
+pub data ReportsCheck (program : List ℕ) (second : Option (List ℕ)) (a : Answer) : Type 0 where
+  program_too_long : program_limit < length program → a ≡ answer (codes "refused TooLong\n") 3 → ReportsCheck program second a
+  no_first_form : length program ≤ program_limit → ((p : Program) → IsFirstForm program p → ⊥) →
+      a ≡ answer (codes "refused Form\n") 3 → ReportsCheck program second a
+  second_too_long : (p : Program) (text : List ℕ) → length program ≤ program_limit → IsFirstForm program p →
+      second ≡ Some text → second_limit < length text → a ≡ answer (codes "refused TooLong\n") 3 → ReportsCheck program second a
+  judged : (p : Program) (text : List ℕ) (verdict : Verdict) → length program ≤ program_limit → IsFirstForm program p →
+      second ≡ Some text → length text ≤ second_limit → Judges p text verdict →
+      a ≡ verdict_answer verdict → ReportsCheck program second a
+
+-- The report: to words that ask for no check the usage line, to others what the named texts give.
+pub data Reports (words : List (List ℕ)) (texts : List (List ℕ × List ℕ)) (a : Answer) : Type 0 where
+  usage : ((program second : List ℕ) → AskCheck words program second → ⊥) → a ≡ answer usage_line 4 → Reports words texts a
+  checked : (program second text : List ℕ) → AskCheck words program second →
+      text_named program texts ≡ Some text → ReportsCheck text (text_named second texts) a → Reports words texts a
+
+-- The words ask for a check of a program that stands in the texts, is in the first form, and is safe.
+pub record AsksForSafe (words : List (List ℕ)) (texts : List (List ℕ × List ℕ)) (program second text : List ℕ) (p : Program) : Type 0 where
+  pub asked : AskCheck words program second
+  pub found : text_named program texts ≡ Some text
+  pub read : IsFirstForm text p
+  pub safe : IsSafe p
+
+abbrev pub ProgramIsSafe : List (List ℕ) → List (List ℕ × List ℕ) → Type 0
+ProgramIsSafe words texts = (program second text : List ℕ) × (p : Program) × AsksForSafe words texts program second text p
+
+-- What holds of the texts and of what was taken before, where the shelf and the sink tell these.
+abbrev pub WhereTold : Option (List (List ℕ × List ℕ)) → Option (List ℕ) → (List (List ℕ × List ℕ) → List ℕ → Type 0) → Type 0
+WhereTold texts taken P = IfSome texts (λ shown. IfSome taken (λ before. P shown before))
+
+-- The sink has taken all bytes of an answer that the report allows, and the status is that of the answer.
+pub record Answers (words : List (List ℕ)) (texts : List (List ℕ × List ℕ)) (before : List ℕ) (after : Option (List ℕ)) (status : ℕ) (a : Answer) : Type 0 where
+  pub reported : Reports words texts a
+  pub status_is : status ≡ a.status
+  pub taken : after ≡ Some (before ++ a.bytes)
+
+-- The sink has taken nothing, or a front of the bytes of an answer that the report allows.
+abbrev pub TookFront : List (List ℕ) → List (List ℕ × List ℕ) → List ℕ → Option (List ℕ) → Type 0
+TookFront words texts before after = (after ≡ Some before) ⊎ ((a : Answer) × Reports words texts a × GainsFront a.bytes before after)

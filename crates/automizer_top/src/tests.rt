@@ -1,0 +1,151 @@
+use crate::run;
+use outer_io::{MemShelf, MemSink};
+use std::alloc::{AllocError, Global};
+use std::test::Fail;
+
+const INCREMENT: &str = "procedure main() {\n  var x: int;\n  x := 1;\n  assert x >= 1;\n}\n";
+
+const PROOF: &str = "straight 1\nassertion 1 1 (leaf 0:-1 1:1)\nend\n";
+
+/// The program as the text `p` and its proof as the text `q`.
+fn texts(
+    alloc: Global,
+    program: &[u8],
+    proof: &[u8],
+) -> Result<Vec<(String, Vec<u8>)>, AllocError> {
+    let mut texts = Vec::new(alloc);
+    for (name, text) in [("p", program), ("q", proof)] {
+        let name = String::from_str(alloc, name)?;
+        texts.push((name, text.to_vec(alloc)?))?;
+    }
+    Ok(texts)
+}
+
+fn all_words(alloc: Global, words: &[&str]) -> Result<Vec<String>, AllocError> {
+    let mut all = Vec::new(alloc);
+    for word in words {
+        all.push(String::from_str(alloc, word)?)?;
+    }
+    Ok(all)
+}
+
+/// What `check p q` writes, in pieces of at most 7 bytes, and its status.
+fn check(alloc: Global, program: &[u8], proof: &[u8]) -> Result<(String, u8), Fail> {
+    let words = all_words(alloc, &["check", "p", "q"])?;
+    let mut shelf = MemShelf::new(texts(alloc, program, proof)?, 7, Vec::new(alloc));
+    let mut sink = MemSink::new(alloc, 7, Vec::new(alloc));
+    let status = run(&(), alloc, &words, &mut shelf, &mut sink);
+    Ok((String::from_utf8(sink.taken().to_vec(alloc)?)?, status))
+}
+
+#[test]
+fn proofs_of_straight_lines(rt: HostRuntime) -> Result<(), Fail> {
+    let equal = "procedure main() { var x: int; x := 1; assert x == 1; }";
+    // Row 0 is x = 1, row 1 the way to fail: x <= 0, or for the second way of == x >= 2.
+    for (program, proof, output, status) in [
+        (INCREMENT, PROOF, "accepted\n", 0),
+        (
+            INCREMENT,
+            "straight 1\nassertion 1 1 (leaf 0:1 1:1)\nend\n",
+            "rejected 2 BadTriple\n",
+            1,
+        ),
+        (
+            INCREMENT,
+            "straight 1\nassertion 1 1 (leaf 0:-1 1:-1)\nend\n",
+            "rejected 2 BadTriple\n",
+            1,
+        ),
+        (
+            INCREMENT,
+            "straight 1\nassertion 1 1 (leaf 0:-1 1:1)\n",
+            "rejected 3 Syntax\n",
+            1,
+        ),
+        (
+            equal,
+            "straight 1\nassertion 1 1 (leaf 0:-1 1:1)\nassertion 1 2 (leaf 0:1 1:1)\nend\n",
+            "accepted\n",
+            0,
+        ),
+        (equal, PROOF, "rejected 3 Syntax\n", 1),
+        ("", PROOF, "refused Form\n", 3),
+        ("", "", "refused Form\n", 3),
+        ("procedure main() { }", "straight 1\nend\n", "accepted\n", 0),
+        ("procedure main() { }", "", "rejected 1 Syntax\n", 1),
+        (INCREMENT, "", "rejected 1 Syntax\n", 1),
+    ] {
+        let (written, given) = check(rt.alloc(), program.as_bytes(), proof.as_bytes())?;
+        assert_eq!(rt; written.as_str(), output, "{program} by {proof}");
+        assert_eq!(rt; given, status, "{program} by {proof}");
+    }
+    Ok(())
+}
+
+#[test]
+fn assumptions_and_assertions_help_later_ones(rt: HostRuntime) -> Result<(), Fail> {
+    // Rows: 0 y - x <= 0, 1 x = 3 (a new column), 2 y >= 4 (the first way to fail), then without it 2 y <= 3, 3 y >= 5.
+    let program = "procedure main() { var x, y: int; assume y <= x; x := 3; assume y <= 3; \
+        assert y <= 3; assert y < 5; }";
+    for (proof, output) in [
+        (
+            "straight 1\nassertion 1 1 (leaf 2:1 3:1)\nassertion 2 1 (leaf 3:1 4:1)\nend\n",
+            "accepted\n",
+        ),
+        (
+            "straight 1\nassertion 1 1 (leaf 2:1 3:1)\nassertion 2 1 (leaf 2:1 4:1)\nend\n",
+            "accepted\n",
+        ),
+        (
+            "straight 1\nassertion 1 1 (leaf 2:1 3:1)\nassertion 2 1 (leaf 0:1 4:1)\nend\n",
+            "rejected 3 BadTriple\n",
+        ),
+        (
+            "straight 1\nassertion 1 1 (leaf 3:1 2:1)\nassertion 2 1 (leaf 3:1 4:1)\nend\n",
+            "rejected 2 BadTriple\n",
+        ),
+        (
+            "straight 1\nassertion 1 1 (leaf 2:1 5:1)\nassertion 2 1 (leaf 3:1 4:1)\nend\n",
+            "rejected 2 BadTriple\n",
+        ),
+    ] {
+        let (written, _status) = check(rt.alloc(), program.as_bytes(), proof.as_bytes())?;
+        assert_eq!(rt; written.as_str(), output, "{proof}");
+    }
+    Ok(())
+}
+
+#[test]
+fn words_and_devices(rt: HostRuntime) -> Result<(), Fail> {
+    let usage =
+        "usage: automizer MODE PROGRAM [SECOND] [--entry NAME] [--rounds N] [--workers N] [--depth N]\n";
+    let alloc = rt.alloc();
+    // In pieces of 7 bytes the program takes the calls 1 to 10: it is begun, has 57 bytes, and then nothing is left.
+    for (words, shelf_fails, sink_fails, output, status) in [
+        (["check", "p", "q"], 0, 0, "accepted\n", 0),
+        (["check", "p", ""], 0, 0, "", 5),
+        (["check", "other", "q"], 0, 0, "", 5),
+        (["verify", "p", "q"], 0, 0, usage, 4),
+        (["p", "check", "q"], 0, 0, usage, 4),
+        (["check", "p", "q"], 1, 0, "", 5),
+        (["check", "p", "q"], 2, 0, "", 5),
+        (["check", "p", "q"], 12, 0, "", 5),
+        (["check", "p", "q"], 0, 1, "", 5),
+        (["check", "p", "q"], 0, 2, "accepte", 5),
+        (["check", "p", "q"], 0, 3, "accepted\n", 0),
+    ] {
+        let words = all_words(alloc, &words)?;
+        let texts = texts(alloc, INCREMENT.as_bytes(), PROOF.as_bytes())?;
+        let mut shelf = MemShelf::new(texts, 7, vec![in alloc; shelf_fails]?);
+        let mut sink = MemSink::new(alloc, 7, vec![in alloc; sink_fails]?);
+        let given = run(&(), alloc, &words, &mut shelf, &mut sink);
+        assert_eq!(rt; sink.taken(), output.as_bytes(), "{words:?}");
+        assert_eq!(rt; given, status, "{words:?}");
+    }
+    let words = all_words(alloc, &["check", "p"])?;
+    let mut shelf = MemShelf::new(Vec::new(alloc), 7, Vec::new(alloc));
+    let mut sink = MemSink::new(alloc, 100, Vec::new(alloc));
+    assert_eq!(rt; run(&(), alloc, &words, &mut shelf, &mut sink), 4);
+    assert_eq!(rt; sink.taken(), usage.as_bytes());
+    Ok(())
+}
