@@ -1,0 +1,7 @@
+procedure main() {
+  var low, high, middle: int;
+  assume low < high;
+  middle := low + 1;
+  assert low < middle;
+  assert middle <= high;
+}
