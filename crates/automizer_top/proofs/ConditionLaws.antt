@@ -13,7 +13,8 @@ use Rattle.boogie_parse.specs.Claims.{Claim, claims_by, negated, true_claims, fa
 use Rattle.boogie_parse.specs.WellFormed.{ComparisonIsWell}
 use Rattle.automizer_top.specs.StraightRun.{value_in, Compares, IsTrueIn}
 use Rattle.automizer_top.specs.StraightRows.{versioned, kind_of, claim_row, kept_rows}
-use Rattle.automizer_top.proofs.RowLaws.{dot-summed, dot-versioned}
+use Rattle.lin_rows.proofs.SummedLaws.{dot-summed}
+use Rattle.automizer_top.proofs.RowLaws.{dot-versioned}
 
 -- the claim is true in a state
 abbrev pub ClaimHolds : (ℕ → ℤ) → Claim → Type 0

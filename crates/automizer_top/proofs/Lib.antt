@@ -19,3 +19,4 @@ pub mod ProofTextMagnitude
 pub mod ProofTextAfter
 pub mod ProofTextLeaves
 pub mod ProofTextReading
+pub mod ReportUnique

@@ -166,7 +166,7 @@ pub first_part_read : (p : Part) (parts : List Part) → IsPart p → part_at (t
 first_part_read p parts h = ap part_at (append_assoc (part_text p) (flat_map part_text parts) (codes ")\n")) ∙ part_read p (to_end parts) h (no_digit_next parts)
 
 -- the end of a leaf is no part
-no_part_at_end : {A : Type 0} (x : LeafPart × List ℕ) → part_at (to_end []) ≡ Some x → A
+pub no_part_at_end : {A : Type 0} (x : LeafPart × List ℕ) → part_at (to_end []) ≡ Some x → A
 unfolding part_at
 no_part_at_end x h = absurd (none-some x h)
 

@@ -20,7 +20,8 @@ use Rattle.automizer_top.specs.StraightRun.{value_in, IsTrueIn, configuration, I
 use Rattle.automizer_top.specs.StraightRows.{versioned, with_version, claim_row, assignment_row, kept_rows, Obligation, paths_from, obligations_from, obligations}
 use Rattle.automizer_top.specs.ProofText.{Part}
 use Rattle.automizer_top.specs.StraightCheck.{LeafRefutes, AllRefuted}
-use Rattle.automizer_top.proofs.RowLaws.{dot-summed, dot-versioned, IsBelow-summed, IsBelow-versioned}
+use Rattle.lin_rows.proofs.SummedLaws.{dot-summed}
+use Rattle.automizer_top.proofs.RowLaws.{dot-versioned, IsBelow-summed, IsBelow-versioned}
 use Rattle.automizer_top.proofs.ConditionLaws.{SomeMember, true_rows_hold, false_row_holds, true_same}
 use Rattle.automizer_top.proofs.RunLaws.{WillFail, run_fails}
 

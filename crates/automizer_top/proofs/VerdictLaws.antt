@@ -57,7 +57,7 @@ values_are (p ∷ ps) (t ∷ ts) e =
     λ i. pair_is p t head i ∷ values_are ps ts tail i
 
 -- what refutes as it was read refutes by the text
-read_refutes : (rows : List LinearRow) (ps : List Part) → PartsRefute (map tightened rows) (map leaf_part ps) → LeafRefutes rows ps
+pub read_refutes : (rows : List LinearRow) (ps : List Part) → PartsRefute (map tightened rows) (map leaf_part ps) → LeafRefutes rows ps
 read_refutes rows ps (leaf, same, fits, contradicts) = (leaf, values_are ps leaf same, fits, contradicts)
 
 -- ---- and back: a numeral of a row that exists, and a multiplier that fits, are read
@@ -129,7 +129,7 @@ parts_read rows (p ∷ ps) (t ∷ ts) l is e f x =
     λ i. part_read p t is.0 head (omega arith) f.0 i ∷ parts_read rows ps ts l is.1 tail f.1 x.1 i
 
 -- what refutes by the text refutes as it was read
-text_refutes : (rows : List LinearRow) (ps : List Part) → length rows < 2 ^ 64 → AllByRecursion IsPart ps → LeafRefutes rows ps → PartsRefute (map tightened rows) (map leaf_part ps)
+pub text_refutes : (rows : List LinearRow) (ps : List Part) → length rows < 2 ^ 64 → AllByRecursion IsPart ps → LeafRefutes rows ps → PartsRefute (map tightened rows) (map leaf_part ps)
 text_refutes rows ps l is (leaf, values, fits, contradicts) =
     let same : length (map tightened rows) ≡ length rows = simp length-map in
     (leaf, parts_read (map tightened rows) ps leaf (omega arith) is values fits contradicts.each, fits, contradicts)

@@ -16,4 +16,4 @@ mod trying;
 mod way;
 mod words;
 
-pub use running::run;
+pub use running::{one_report, run};

@@ -149,3 +149,66 @@ fn words_and_devices(rt: HostRuntime) -> Result<(), Fail> {
     assert_eq!(rt; sink.taken(), usage.as_bytes());
     Ok(())
 }
+
+#[test]
+fn texts_past_the_limit_and_odd_bytes(rt: HostRuntime) -> Result<(), Fail> {
+    let alloc = rt.alloc();
+    let blanks = vec![in alloc; b' '; 1_048_577]?;
+    let proof = PROOF.as_bytes();
+    for (program, proof, output) in [
+        (&blanks[..1_048_576], proof, "refused Form\n"),
+        (&blanks[..], proof, "refused TooLong\n"),
+        (b"\xff\xfe".as_slice(), proof, "refused Form\n"),
+        (
+            b"procedure main() { \x80 }".as_slice(),
+            proof,
+            "refused Form\n",
+        ),
+        (
+            INCREMENT.as_bytes(),
+            b"\xff".as_slice(),
+            "rejected 1 Syntax\n",
+        ),
+        (
+            INCREMENT.as_bytes(),
+            b"straight 1\n\x80\n".as_slice(),
+            "rejected 2 Syntax\n",
+        ),
+    ] {
+        let words = all_words(alloc, &["check", "p", "q"])?;
+        let mut shelf = MemShelf::new(texts(alloc, program, proof)?, 65_536, Vec::new(alloc));
+        let mut sink = MemSink::new(alloc, 100, Vec::new(alloc));
+        let _status = run(&(), alloc, &words, &mut shelf, &mut sink);
+        assert_eq!(rt; sink.taken(), output.as_bytes());
+    }
+    Ok(())
+}
+
+// The program is whole without its last newline; the proof is not, and the line in which it ends is the wrong one.
+#[test]
+fn texts_cut_off(rt: HostRuntime) -> Result<(), Fail> {
+    let alloc = rt.alloc();
+    let program = INCREMENT.as_bytes();
+    for length in 0..program.len() - 1 {
+        let (written, _status) = check(alloc, &program[..length], PROOF.as_bytes())?;
+        assert_eq!(rt;
+            written.as_str(),
+            "refused Form\n",
+            "the first {length} bytes"
+        );
+    }
+    let (written, _status) = check(alloc, &program[..program.len() - 1], PROOF.as_bytes())?;
+    assert_eq!(rt; written.as_str(), "accepted\n");
+    let mut line = 1u64;
+    for (length, byte) in PROOF.bytes().enumerate() {
+        let (written, _status) = check(alloc, program, &PROOF.as_bytes()[..length])?;
+        assert_eq!(rt;
+            written.as_str(),
+            format!(in alloc; "rejected {line} Syntax\n")?.as_str()
+        );
+        if byte == b'\n' {
+            line = line.saturating_add(1);
+        }
+    }
+    Ok(())
+}

@@ -1,0 +1,211 @@
+-- The report allows one answer at most: its cases exclude each other.
+use Rattle.std.proofs.Common.{◌≡◌, ℕ, ◌+◌, ◌^◌, ◌<◌, ◌≤◌, List, [], ◌∷◌, ◌++◌, map, length, Option, Some, ap, refl, sym, ◌∙◌, subst, arith, ⊎_elim, append_assoc}
+use Rattle.std.specs.Prelude.{codes}
+use Rattle.std.specs.List.{AllByRecursion}
+use Rattle.std.specs.Fmt.{decimal}
+use Rattle.std.proofs.lemmas.Option.{some_pair_parts}
+use Rattle.lin_rows.specs.Rows.{LinearRow}
+use Rattle.lin_rows.specs.Tightening.{tightened}
+use Rattle.outer_io.specs.Texts.{text_named}
+use Rattle.boogie_parse.specs.Straight.{Program}
+use Rattle.boogie_parse.specs.FirstForm.{IsFirstForm}
+use Rattle.boogie_parse.proofs.WellFormedLaw.{steps_within}
+use Rattle.boogie_parse.proofs.ProgramUnique.{program_unique}
+use Rattle.automizer_top.specs.declared.proof_text.LeafPart.{LeafPart}
+use Rattle.automizer_top.specs.StraightRows.{Obligation, obligations}
+use Rattle.automizer_top.specs.ProofText.{Part, IsPart, leaf_text, IsLeafLine, Expected, exactly, leaf, Fits, LinesAre, FirstDiffers, proof_lines, label_of, lines_of}
+use Rattle.automizer_top.specs.ProofPieces.{part_at}
+use Rattle.automizer_top.specs.ProofReading.{leaf_part}
+use Rattle.automizer_top.specs.StraightCheck.{LeafRefutes, AllRefuted, FirstUnrefuted, Verdict, accepted, syntax, bad_triple, Judges}
+use Rattle.automizer_top.specs.LeafTest.{PartsRefute}
+use Rattle.automizer_top.specs.Report.{Answer, program_limit, verdict_answer, ReportsCheck, program_too_long, no_first_form, second_too_long, judged, Reports, usage, checked}
+use Rattle.automizer_top.proofs.ProofTextLeaves.{to_end, first_part_read, no_part_at_end}
+use Rattle.automizer_top.proofs.VerdictLaws.{FewRows, AllParts, read_refutes, text_refutes}
+use Rattle.automizer_top.proofs.JudgedLaws.{few_rows, leaves_are}
+
+-- ---- the parts of a line
+
+front_cancelled : (xs r s : List ℕ) → xs ++ r ≡ xs ++ s → r ≡ s
+front_cancelled [] r s e = e
+front_cancelled (x ∷ xs) r s e = front_cancelled xs r s (cc)
+
+parts_once : (ps qs : List Part) → AllByRecursion IsPart ps → AllByRecursion IsPart qs → to_end ps ≡ to_end qs → map leaf_part ps ≡ map leaf_part qs
+parts_once [] [] h k e = refl
+parts_once [] (q ∷ qs) h k e = no_part_at_end (leaf_part q, to_end qs) (ap part_at e ∙ first_part_read q qs k.0)
+parts_once (p ∷ ps) [] h k e = no_part_at_end (leaf_part p, to_end ps) (ap part_at (sym e) ∙ first_part_read p ps h.0)
+parts_once (p ∷ ps) (q ∷ qs) h k e =
+    let same : Some (leaf_part p, to_end ps) ≡ Some (leaf_part q, to_end qs) = sym (first_part_read p ps h.0) ∙ ap part_at e ∙ first_part_read q qs k.0 in
+    let both = some_pair_parts (leaf_part p) (leaf_part q) (to_end ps) (to_end qs) same in
+    λ i. both.0 i ∷ parts_once ps qs h.1 k.1 both.1 i
+
+-- a line has the label in front of its parts
+leaf_text_by_parts : (assertion path : ℕ) (ps : List Part) →
+    leaf_text assertion path ps ≡ (codes "assertion " ++ decimal assertion ++ 32 ∷ (decimal path ++ codes " (leaf")) ++ to_end ps
+leaf_text_by_parts assertion path ps = simp append_assoc
+
+leaf_once : (assertion path : ℕ) (ps qs : List Part) (line : List ℕ) → IsLeafLine assertion path ps line → IsLeafLine assertion path qs line →
+    map leaf_part ps ≡ map leaf_part qs
+leaf_once assertion path ps qs line h k =
+    parts_once ps qs h.parts_are k.parts_are
+    (front_cancelled (codes "assertion " ++ decimal assertion ++ 32 ∷ (decimal path ++ codes " (leaf")) (to_end ps) (to_end qs)
+    (sym (leaf_text_by_parts assertion path ps) ∙ sym h.spelled ∙ k.spelled ∙ leaf_text_by_parts assertion path qs))
+
+-- ---- the lines of a text
+
+leaves_once : (es : List Expected) (ls : List (List ℕ)) (L M : List (List Part)) → LinesAre es ls L → LinesAre es ls M →
+    map (map leaf_part) L ≡ map (map leaf_part) M
+leaves_once [] [] [] [] h k = refl
+leaves_once [] [] [] (m ∷ M) h k = absurd k
+leaves_once [] [] (l ∷ L) M h k = absurd h
+leaves_once [] (x ∷ ls) L M h k = absurd h
+leaves_once (e ∷ es) [] L M h k = absurd h
+leaves_once (exactly text ∷ es) (x ∷ ls) L M h k = leaves_once es ls L M h.1 k.1
+leaves_once (leaf a p ∷ es) (x ∷ ls) [] M h k = absurd h
+leaves_once (leaf a p ∷ es) (x ∷ ls) (l ∷ L) [] h k = absurd k
+leaves_once (leaf a p ∷ es) (x ∷ ls) (l ∷ L) (m ∷ M) h k = λ i. leaf_once a p l m x h.0 k.0 i ∷ leaves_once es ls L M h.1 k.1 i
+
+-- lines that are all as expected have no first other one
+not_both : (n k : ℕ) (es : List Expected) (ls : List (List ℕ)) (L : List (List Part)) → LinesAre es ls L → FirstDiffers n es ls k → ⊥
+not_both n k [] [] L h d = d
+not_both n k [] (x ∷ ls) L h d = h
+not_both n k (e ∷ es) [] L h d = h
+not_both n k (exactly text ∷ es) (x ∷ ls) L h d =
+    ⊎_elim (λ (w : (x ≡ text → ⊥) × (k ≡ n)). w.0 h.0) (λ (w : (x ≡ text) × FirstDiffers (n + 1) es ls k). not_both (n + 1) k es ls L h.1 w.1) d
+not_both n k (leaf a p ∷ es) (x ∷ ls) [] h d = h
+not_both n k (leaf a p ∷ es) (x ∷ ls) (l ∷ L) h d =
+    ⊎_elim
+    (λ (w : (((ps : List Part) × IsLeafLine a p ps x) → ⊥) × (k ≡ n)). w.0 (l, h.0))
+    (λ (w : ((ps : List Part) × IsLeafLine a p ps x) × FirstDiffers (n + 1) es ls k). not_both (n + 1) k es ls L h.1 w.1) d
+
+differs_once : (n k m : ℕ) (es : List Expected) (ls : List (List ℕ)) → FirstDiffers n es ls k → FirstDiffers n es ls m → k ≡ m
+differs_once n k m [] [] d c = absurd d
+differs_once n k m [] (x ∷ ls) d c = d ∙ sym c
+differs_once n k m (e ∷ es) [] d c = d ∙ sym c
+differs_once n k m (e ∷ es) (x ∷ ls) d c =
+    ⊎_elim
+    (λ (w : (Fits e x → ⊥) × (k ≡ n)).
+    ⊎_elim (λ (v : (Fits e x → ⊥) × (m ≡ n)). w.1 ∙ sym v.1) (λ (v : Fits e x × FirstDiffers (n + 1) es ls m). absurd (w.0 v.0)) c)
+    (λ (w : Fits e x × FirstDiffers (n + 1) es ls k).
+    ⊎_elim (λ (v : (Fits e x → ⊥) × (m ≡ n)). absurd (v.0 w.0)) (λ (v : Fits e x × FirstDiffers (n + 1) es ls m). differs_once (n + 1) k m es ls w.1 v.1) c)
+    d
+
+-- ---- the leaves of a text
+
+-- leaves that were read alike refute alike
+refutes_alike : (rows : List LinearRow) (ps qs : List Part) → length rows < 2 ^ 64 → AllByRecursion IsPart ps → map leaf_part ps ≡ map leaf_part qs →
+    LeafRefutes rows ps → LeafRefutes rows qs
+refutes_alike rows ps qs few is same r =
+    read_refutes rows qs (subst (λ (parts : List LeafPart). PartsRefute (map tightened rows) parts) same (text_refutes rows ps few is r))
+
+refuted_or_not : (n k : ℕ) (os : List Obligation) (L M : List (List Part)) → FewRows os → AllParts L → map (map leaf_part) L ≡ map (map leaf_part) M →
+    AllRefuted os L → FirstUnrefuted n os M k → ⊥
+refuted_or_not n k [] L M few is same r u = u
+refuted_or_not n k (o ∷ os) [] M few is same r u = r
+refuted_or_not n k (o ∷ os) (l ∷ L) [] few is same r u = u
+refuted_or_not n k (o ∷ os) (l ∷ L) (m ∷ M) few is same r u =
+    let first : map leaf_part l ≡ map leaf_part m = cc in
+    let rest : map (map leaf_part) L ≡ map (map leaf_part) M = cc in
+    ⊎_elim
+    (λ (w : (LeafRefutes o.rows m → ⊥) × (k ≡ n)). w.0 (refutes_alike o.rows l m few.0 is.0 first r.0))
+    (λ (w : LeafRefutes o.rows m × FirstUnrefuted (n + 1) os M k). refuted_or_not (n + 1) k os L M few.1 is.1 rest r.1 w.1) u
+
+unrefuted_once : (n k j : ℕ) (os : List Obligation) (L M : List (List Part)) → FewRows os → AllParts L → AllParts M → map (map leaf_part) L ≡ map (map leaf_part) M →
+    FirstUnrefuted n os L k → FirstUnrefuted n os M j → k ≡ j
+unrefuted_once n k j [] L M few is are same u v = absurd u
+unrefuted_once n k j (o ∷ os) [] M few is are same u v = absurd u
+unrefuted_once n k j (o ∷ os) (l ∷ L) [] few is are same u v = absurd v
+unrefuted_once n k j (o ∷ os) (l ∷ L) (m ∷ M) few is are same u v =
+    let first : map leaf_part l ≡ map leaf_part m = cc in
+    let rest : map (map leaf_part) L ≡ map (map leaf_part) M = cc in
+    ⊎_elim
+    (λ (w : (LeafRefutes o.rows l → ⊥) × (k ≡ n)).
+    ⊎_elim (λ (x : (LeafRefutes o.rows m → ⊥) × (j ≡ n)). w.1 ∙ sym x.1)
+    (λ (x : LeafRefutes o.rows m × FirstUnrefuted (n + 1) os M j). absurd (w.0 (refutes_alike o.rows m l few.0 are.0 (sym first) x.0))) v)
+    (λ (w : LeafRefutes o.rows l × FirstUnrefuted (n + 1) os L k).
+    ⊎_elim (λ (x : (LeafRefutes o.rows m → ⊥) × (j ≡ n)). absurd (x.0 (refutes_alike o.rows l m few.0 is.0 first w.0)))
+    (λ (x : LeafRefutes o.rows m × FirstUnrefuted (n + 1) os M j). unrefuted_once (n + 1) k j os L M few.1 is.1 are.1 rest w.1 x.1) v)
+    u
+
+-- ---- verdicts
+
+verdict_once : (p : Program) (text : List ℕ) (v w : Verdict) → FewRows (obligations p) → Judges p text v → Judges p text w → v ≡ w
+verdict_once p text accepted accepted few h k = refl
+verdict_once p text accepted (syntax m) few (L, lines, r) k = absurd (not_both 1 m (proof_lines (map label_of (obligations p))) (lines_of text) L lines k)
+verdict_once p text accepted (bad_triple m) few (L, lines, r) (M, other, u) =
+    absurd (refuted_or_not 2 m (obligations p) L M few (leaves_are (obligations p) (lines_of text) L lines).1
+    (leaves_once (proof_lines (map label_of (obligations p))) (lines_of text) L M lines other) r u)
+verdict_once p text (syntax l) accepted few h (M, other, r) = absurd (not_both 1 l (proof_lines (map label_of (obligations p))) (lines_of text) M other h)
+verdict_once p text (syntax l) (syntax m) few h k = ap syntax (differs_once 1 l m (proof_lines (map label_of (obligations p))) (lines_of text) h k)
+verdict_once p text (syntax l) (bad_triple m) few h (M, other, u) = absurd (not_both 1 l (proof_lines (map label_of (obligations p))) (lines_of text) M other h)
+verdict_once p text (bad_triple l) accepted few (L, lines, u) (M, other, r) =
+    absurd (refuted_or_not 2 l (obligations p) M L few (leaves_are (obligations p) (lines_of text) M other).1
+    (leaves_once (proof_lines (map label_of (obligations p))) (lines_of text) M L other lines) r u)
+verdict_once p text (bad_triple l) (syntax m) few (L, lines, u) k = absurd (not_both 1 m (proof_lines (map label_of (obligations p))) (lines_of text) L lines k)
+verdict_once p text (bad_triple l) (bad_triple m) few (L, lines, u) (M, other, v) =
+    ap bad_triple (unrefuted_once 2 l m (obligations p) L M few (leaves_are (obligations p) (lines_of text) L lines).1
+    (leaves_are (obligations p) (lines_of text) M other).1
+    (leaves_once (proof_lines (map label_of (obligations p))) (lines_of text) L M lines other) u v)
+
+-- ---- the report
+
+same_text : (a b : List ℕ) (o : Option (List ℕ)) → o ≡ Some a → o ≡ Some b → a ≡ b
+same_text a b o h k = unwrapped a b (sym h ∙ k)
+  where
+    unwrapped : (a b : List ℕ) → Some a ≡ Some b → a ≡ b
+    unwrapped a b e = cc
+
+few_obligations : (text : List ℕ) (p : Program) → length text ≤ program_limit → IsFirstForm text p → FewRows (obligations p)
+few_obligations text p l f = let within : length p.steps ≤ length text = steps_within text p f in few_rows p (omega arith)
+
+check_once : (text : List ℕ) (second : Option (List ℕ)) (a b : Answer) → ReportsCheck text second a → ReportsCheck text second b → a ≡ b
+check_once text second a b (program_too_long past is) (program_too_long past' is') = is ∙ sym is'
+check_once text second a b (program_too_long past is) (no_first_form l none is') = absurd (omega arith)
+check_once text second a b (program_too_long past is) (second_too_long p t l f e long is') = absurd (omega arith)
+check_once text second a b (program_too_long past is) (judged p t v l f e m j is') = absurd (omega arith)
+check_once text second a b (no_first_form l none is) (program_too_long past is') = absurd (omega arith)
+check_once text second a b (no_first_form l none is) (no_first_form l' none' is') = is ∙ sym is'
+check_once text second a b (no_first_form l none is) (second_too_long p t l' f e long is') = absurd (none p f)
+check_once text second a b (no_first_form l none is) (judged p t v l' f e m j is') = absurd (none p f)
+check_once text second a b (second_too_long p t l f e long is) (program_too_long past is') = absurd (omega arith)
+check_once text second a b (second_too_long p t l f e long is) (no_first_form l' none is') = absurd (none p f)
+check_once text second a b (second_too_long p t l f e long is) (second_too_long q u l' f' e' long' is') = is ∙ sym is'
+check_once text second a b (second_too_long p t l f e long is) (judged q u v l' f' e' m j is') =
+    let same : t ≡ u = same_text t u second e e' in
+    let lengths : length t ≡ length u = ap (λ (xs : List ℕ). length xs) same in
+    absurd (omega arith)
+check_once text second a b (judged p t v l f e m j is) (program_too_long past is') = absurd (omega arith)
+check_once text second a b (judged p t v l f e m j is) (no_first_form l' none is') = absurd (none p f)
+check_once text second a b (judged p t v l f e m j is) (second_too_long q u l' f' e' long is') =
+    let same : t ≡ u = same_text t u second e e' in
+    let lengths : length t ≡ length u = ap (λ (xs : List ℕ). length xs) same in
+    absurd (omega arith)
+check_once text second a b (judged p t v l f e m j is) (judged q u w l' f' e' m' k is') =
+    let programs : q ≡ p = program_unique text q p f' f in
+    let texts : u ≡ t = same_text u t second e' e in
+    let mine : Judges p t w = subst (λ (x : List ℕ). Judges p x w) texts (subst (λ (r : Program). Judges r u w) programs k) in
+    is ∙ ap verdict_answer (verdict_once p t v w (few_obligations text p l f) j mine) ∙ sym is'
+
+abbrev second_of : List (List ℕ) → List ℕ
+second_of [] = []
+second_of (x ∷ []) = []
+second_of (x ∷ y ∷ ys) = y
+
+abbrev third_of : List (List ℕ) → List ℕ
+third_of [] = []
+third_of (x ∷ xs) = second_of xs
+
+-- The report allows one answer at most.
+pub report_once : (words : List (List ℕ)) (texts : List (List ℕ × List ℕ)) (a b : Answer) → Reports words texts a → Reports words texts b → a ≡ b
+report_once words texts a b (usage none is) (usage none' is') = is ∙ sym is'
+report_once words texts a b (usage none is) (checked p s t asked found check) = absurd (none p s asked)
+report_once words texts a b (checked p s t asked found check) (usage none is) = absurd (none p s asked)
+report_once words texts a b (checked p s t asked found check) (checked q r u asked' found' check') =
+    let words_same : codes "check" ∷ p ∷ s ∷ [] ≡ codes "check" ∷ q ∷ r ∷ [] = sym asked ∙ asked' in
+    let names : (p ≡ q) × (s ≡ r) = members p s q r words_same in
+    let text : u ≡ t = same_text u t (text_named p texts) (subst (λ (n : List ℕ). text_named n texts ≡ Some u) (sym names.0) found') found in
+    check_once t (text_named s texts) a b check
+    (subst (λ (x : List ℕ). ReportsCheck x (text_named s texts) b) text
+    (subst (λ (n : List ℕ). ReportsCheck u (text_named n texts) b) (sym names.1) check'))
+  where
+    members : (p s q r : List ℕ) → codes "check" ∷ p ∷ s ∷ [] ≡ codes "check" ∷ q ∷ r ∷ [] → (p ≡ q) × (s ≡ r)
+    members p s q r e = (ap second_of e, ap third_of e)
