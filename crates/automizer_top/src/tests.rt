@@ -121,20 +121,20 @@ fn words_and_devices(rt: HostRuntime) -> Result<(), Fail> {
         "usage: automizer MODE PROGRAM [SECOND] [--entry NAME] [--rounds N] [--workers N] [--depth N]\n";
     let alloc = rt.alloc();
     // In pieces of 7 bytes the program takes the calls 1 to 10: it is begun, has 57 bytes, and then nothing is left.
-    for (words, shelf_fails, sink_fails, output, status) in [
-        (["check", "p", "q"], 0, 0, "accepted\n", 0),
-        (["check", "p", ""], 0, 0, "", 5),
-        (["check", "other", "q"], 0, 0, "", 5),
-        (["verify", "p", "q"], 0, 0, usage, 4),
-        (["p", "check", "q"], 0, 0, usage, 4),
-        (["check", "p", "q"], 1, 0, "", 5),
-        (["check", "p", "q"], 2, 0, "", 5),
-        (["check", "p", "q"], 12, 0, "", 5),
-        (["check", "p", "q"], 0, 1, "", 5),
-        (["check", "p", "q"], 0, 2, "accepte", 5),
-        (["check", "p", "q"], 0, 3, "accepted\n", 0),
+    for (mode, program, second, shelf_fails, sink_fails, output, status) in [
+        ("check", "p", "q", 0, 0, "accepted\n", 0),
+        ("check", "p", "", 0, 0, "", 5),
+        ("check", "other", "q", 0, 0, "", 5),
+        ("verify", "p", "q", 0, 0, usage, 4),
+        ("p", "check", "q", 0, 0, usage, 4),
+        ("check", "p", "q", 1, 0, "", 5),
+        ("check", "p", "q", 2, 0, "", 5),
+        ("check", "p", "q", 12, 0, "", 5),
+        ("check", "p", "q", 0, 1, "", 5),
+        ("check", "p", "q", 0, 2, "accepte", 5),
+        ("check", "p", "q", 0, 3, "accepted\n", 0),
     ] {
-        let words = all_words(alloc, &words)?;
+        let words = all_words(alloc, &[mode, program, second])?;
         let texts = texts(alloc, INCREMENT.as_bytes(), PROOF.as_bytes())?;
         let mut shelf = MemShelf::new(texts, 7, vec![in alloc; shelf_fails]?);
         let mut sink = MemSink::new(alloc, 7, vec![in alloc; sink_fails]?);
@@ -153,11 +153,12 @@ fn words_and_devices(rt: HostRuntime) -> Result<(), Fail> {
 #[test]
 fn texts_past_the_limit_and_odd_bytes(rt: HostRuntime) -> Result<(), Fail> {
     let alloc = rt.alloc();
-    let blanks = vec![in alloc; b' '; 1_048_577]?;
+    let blanks = vec![in alloc; b' '; 1_048_576]?;
+    let one_more = vec![in alloc; b' '; 1_048_577]?;
     let proof = PROOF.as_bytes();
     for (program, proof, output) in [
-        (&blanks[..1_048_576], proof, "refused Form\n"),
-        (&blanks[..], proof, "refused TooLong\n"),
+        (blanks.as_slice(), proof, "refused Form\n"),
+        (one_more.as_slice(), proof, "refused TooLong\n"),
         (b"\xff\xfe".as_slice(), proof, "refused Form\n"),
         (
             b"procedure main() { \x80 }".as_slice(),
@@ -184,24 +185,30 @@ fn texts_past_the_limit_and_odd_bytes(rt: HostRuntime) -> Result<(), Fail> {
     Ok(())
 }
 
+/// The first bytes of a text, or all of it where it has fewer.
+fn front(text: &[u8], length: usize) -> &[u8] {
+    text.get(..length).unwrap_or(text)
+}
+
 // The program is whole without its last newline; the proof is not, and the line in which it ends is the wrong one.
 #[test]
 fn texts_cut_off(rt: HostRuntime) -> Result<(), Fail> {
     let alloc = rt.alloc();
     let program = INCREMENT.as_bytes();
-    for length in 0..program.len() - 1 {
-        let (written, _status) = check(alloc, &program[..length], PROOF.as_bytes())?;
+    let last = program.len().saturating_sub(1);
+    for length in 0..last {
+        let (written, _status) = check(alloc, front(program, length), PROOF.as_bytes())?;
         assert_eq!(rt;
             written.as_str(),
             "refused Form\n",
             "the first {length} bytes"
         );
     }
-    let (written, _status) = check(alloc, &program[..program.len() - 1], PROOF.as_bytes())?;
+    let (written, _status) = check(alloc, front(program, last), PROOF.as_bytes())?;
     assert_eq!(rt; written.as_str(), "accepted\n");
     let mut line = 1u64;
     for (length, byte) in PROOF.bytes().enumerate() {
-        let (written, _status) = check(alloc, program, &PROOF.as_bytes()[..length])?;
+        let (written, _status) = check(alloc, program, front(PROOF.as_bytes(), length))?;
         assert_eq!(rt;
             written.as_str(),
             format!(in alloc; "rejected {line} Syntax\n")?.as_str()
