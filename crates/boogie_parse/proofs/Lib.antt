@@ -17,7 +17,7 @@ pub mod Differ
 pub mod NameLaws
 pub mod LiteralLaws
 pub mod SumLaws
-pub mod WellLaws
+pub mod TidyLaws
 pub mod CommandLaws
 pub mod ProgramLaws
 pub mod ColumnLaws

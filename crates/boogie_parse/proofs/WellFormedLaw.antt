@@ -1,6 +1,6 @@
 -- Every program of the first form is well formed, and has no more statements than its text has bytes.
-use Rattle.std.proofs.Common.{◌≡◌, ℕ, zero, suc, ◌+◌, ◌^◌, ◌<◌, ◌≤◌, ℤ, pos, ◌+ℤ◌, Bool, true, false, List, [], ◌∷◌, length, Option, Some, None, option_map, count_by, if◌then◌else◌, nat_le, refl, ap, ◌∙◌, subst, arith, ⊎_elim, length-append, ltb-true, leb-true}
-use Rattle.std.specs.List.{AllByRecursion, flat_map, list_all, position_from}
+use Rattle.std.proofs.Common.{◌≡◌, ℕ, zero, suc, ◌+◌, ◌^◌, ◌<◌, ◌≤◌, ℤ, pos, ◌+ℤ◌, true, List, [], ◌∷◌, length, Option, Some, None, option_map, count_by, if◌then◌else◌, nat_le, refl, ap, ◌∙◌, subst, arith, length-append, ltb-true, leb-true}
+use Rattle.std.specs.List.{AllByRecursion, flat_map, list_all}
 use Rattle.std.specs.Str.{bytes_eq}
 use Rattle.std.proofs.lemmas.Bool.{and_parts}
 use Rattle.std.proofs.lemmas.Int.{ints}
@@ -13,7 +13,8 @@ use Rattle.boogie_parse.specs.Syntax.{Term, number, local, product, Sign, plus, 
 use Rattle.boogie_parse.specs.Meaning.{declared_names, place_of, signed, value_of, signed_terms, with_term, local_terms, constant_of, is_number, literal_fits, all_differ, same_local, has_good_literals, line_of, sum_meaning, condition_meaning, command_meaning, commands_meaning, meaning}
 use Rattle.boogie_parse.specs.FirstForm.{IsSpelled, IsFirstForm}
 use Rattle.boogie_parse.specs.WellFormed.{IsLine, ComparisonIsWell, StatementIsWell, IsWellFormed}
-use Rattle.boogie_parse.proofs.OptionParts.{if_cases, if_some, option_map_some, option_and_then_some}
+use Rattle.boogie_parse.proofs.NameLaws.{place_below}
+use Rattle.boogie_parse.proofs.OptionParts.{if_some, option_map_some, option_and_then_some}
 use Rattle.boogie_parse.proofs.TokenLaws.{tokens_within}
 
 -- ---- numbers and places
@@ -23,21 +24,6 @@ Fits-signed : (s : Sign) (n : ℕ) → n < 2 ^ 127 → Fits (signed s n)
 Fits-signed plus n h = h
 Fits-signed minus zero h = h
 Fits-signed minus (suc n) h = h
-
--- a first place is a place of the list
-position_from_below : {X : Type 0} (test : X → Bool) (i : ℕ) (xs : List X) (k : ℕ) → position_from test i xs ≡ Some k → k < i + length xs
-position_from_below test i [] k e = cc
-position_from_below test i (x ∷ xs) k e =
-    ⊎_elim
-    (λ (a : (test x ≡ true) × (Some i ≡ Some k)). let d : i ≡ k = same_Some i k a.1 in omega arith)
-    (λ (a : (test x ≡ false) × (position_from test (i + 1) xs ≡ Some k)).
-    let d : k < i + 1 + length xs = position_from_below test (i + 1) xs k a.1 in omega arith)
-    (if_cases (test x) (Some i) (position_from test (i + 1) xs) (Some k) e)
-
-place_of_below : (names : List (List ℕ)) (name : List ℕ) (k : ℕ) → place_of names name ≡ Some k → k < length names
-place_of_below names name k e =
-    let d : k < 0 + length names = position_from_below (bytes_eq name) 0 names k e in
-    omega arith
 
 -- ---- lines
 
@@ -60,11 +46,11 @@ unfolding AreGood
 local_terms_good names [] us h e = subst (AreGood (length names)) (same_Some [] us e) (tt, tt)
 local_terms_good names ((s, number digits) ∷ ts) us h e = local_terms_good names ts us (and_parts (literal_fits (number digits)) (list_all (λ t. literal_fits t.1) ts) h).1 e
 local_terms_good names ((s, local name) ∷ ts) us h e =
-    with_term_good (length names) (signed s 1) (place_of names name) (local_terms names ts) us (Fits-signed s 1 (omega arith)) (place_of_below names name)
+    with_term_good (length names) (signed s 1) (place_of names name) (local_terms names ts) us (Fits-signed s 1 (omega arith)) (place_below names name)
     (λ vs. local_terms_good names ts vs (and_parts true (list_all (λ t. literal_fits t.1) ts) h).1) e
 local_terms_good names ((s, product digits name) ∷ ts) us h e =
     let parts : (literal_fits (product digits name) ≡ true) × (list_all (λ t. literal_fits t.1) ts ≡ true) = and_parts (literal_fits (product digits name)) (list_all (λ t. literal_fits t.1) ts) h in
-    with_term_good (length names) (signed s (value_of digits)) (place_of names name) (local_terms names ts) us (Fits-signed s (value_of digits) (ltb-true (value_of digits) (2 ^ 127) parts.0)) (place_of_below names name)
+    with_term_good (length names) (signed s (value_of digits)) (place_of names name) (local_terms names ts) us (Fits-signed s (value_of digits) (ltb-true (value_of digits) (2 ^ 127) parts.0)) (place_below names name)
     (λ vs. local_terms_good names ts vs parts.1) e
 
 -- how many terms are a literal alone
@@ -134,12 +120,12 @@ condition_meaning_well names c t e =
     option_map_some (λ (b : Linear). record { left = left.0; op = c.op; right = b }) (sum_meaning names c.right) t left.2 in
     subst (ComparisonIsWell (length names)) right.2 (sum_meaning_line names c.left left.0 left.1, sum_meaning_line names c.right right.0 right.1)
 
-command_meaning_well : (names : List (List ℕ)) (c : Command) (s : Statement) → command_meaning names c ≡ Some s → StatementIsWell (length names) s
+pub command_meaning_well : (names : List (List ℕ)) (c : Command) (s : Statement) → command_meaning names c ≡ Some s → StatementIsWell (length names) s
 command_meaning_well names (assignment name value) s e =
     let target : (k : ℕ) × (place_of names name ≡ Some k) × (option_map (assigns k) (sum_meaning names value) ≡ Some s) =
     option_and_then_some (λ (k : ℕ). option_map (assigns k) (sum_meaning names value)) (place_of names name) s e in
     let line : (l : Linear) × (sum_meaning names value ≡ Some l) × (assigns target.0 l ≡ s) = option_map_some (assigns target.0) (sum_meaning names value) s target.2 in
-    subst (StatementIsWell (length names)) line.2 (place_of_below names name target.0 target.1, sum_meaning_line names value line.0 line.1)
+    subst (StatementIsWell (length names)) line.2 (place_below names name target.0 target.1, sum_meaning_line names value line.0 line.1)
 command_meaning_well names (assumption c) s e =
     let test : (t : Comparison) × (condition_meaning names c ≡ Some t) × (assumes t ≡ s) = option_map_some assumes (condition_meaning names c) s e in
     subst (StatementIsWell (length names)) test.2 (condition_meaning_well names c test.0 test.1)
