@@ -1,0 +1,7 @@
+-- What a call that ends by an error owes.
+use Rattle.std.proofs.Common.{Result, Ok, Err, OnErr}
+
+-- a fact that holds also holds at an error
+pub on_err : {T E P : Type 0} (r : Result T E) → P → OnErr r P
+on_err (Ok x) p = tt
+on_err (Err e) p = p

@@ -1,0 +1,11 @@
+pub mod Factors
+pub mod Divisors
+pub mod LowestTerms
+mod Reducing
+mod Sharing
+mod ProductLaws
+mod SignLaws
+mod WholeLaws
+mod SumLaws
+mod FormulaLaws
+mod Exits
