@@ -7,3 +7,6 @@ pub mod TighteningLaw
 mod TighteningLemmas
 mod MergingLemmas
 mod MakingLemmas
+pub mod PointLemmas
+pub mod NegatingLemmas
+pub mod SystemLaws

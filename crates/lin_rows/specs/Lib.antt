@@ -4,3 +4,6 @@ pub mod Making
 pub mod Merging
 pub mod Tightening
 pub mod Combinations
+pub mod Negating
+pub mod Points
+pub mod Systems

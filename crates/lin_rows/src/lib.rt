@@ -1,11 +1,15 @@
-//! Rows over whole numbers, `a.x <= b` and `a.x = b`: made from terms, tightened, and added up. All numbers of a row fit,
-//! and each call says exactly when a number would not.
+//! Rows over whole numbers, `a.x <= b` and `a.x = b`: made from terms, tightened, negated, added up, and tried at a point.
+//! All numbers of a row fit, and each call says exactly when a number would not. A system has rows, and groups of
+//! systems of which one member holds.
 #![tactic(auto)]
 
 mod make;
 mod merging;
+mod negating;
 mod numbers;
+mod points;
 mod sums;
+mod systems;
 #[cfg(test)]
 mod tests;
 mod tightening;
@@ -17,7 +21,10 @@ ghost use Rattle.lin_rows.specs.Rows.{LinearRow, Holds};
 ghost use Rattle.lin_rows.specs.Combinations.{Contradicts};
 
 pub use make::row;
+pub use negating::negate;
+pub use points::holds;
 pub use sums::add_scaled;
+pub use systems::System;
 pub use tightening::tighten;
 pub use types::{Col, Past, Row, RowFault, RowKind};
 

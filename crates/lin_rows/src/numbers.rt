@@ -2,6 +2,7 @@
 
 ghost use Rattle.std.specs.Prelude.{ℤ, ◌+ℤ◌, ◌*ℤ◌, SomeIff};
 ghost use Rattle.math_facts.specs.Fits.{Fits};
+ghost use Rattle.lin_rows.specs.Negating.{below_opposite};
 
 /// `a + b`, where it fits.
 pub fn plus(a: i128, b: i128) -> Option<i128>
@@ -28,4 +29,16 @@ pub fn plus_times(a: i128, m: i128, b: i128) -> Option<i128>
     ensures { SomeIff result (Fits (m *ℤ b) × Fits (a +ℤ (m *ℤ b))) (a +ℤ (m *ℤ b)) }
 {
     plus(a, times(m, b)?)
+}
+
+/// `-b-1`, where it fits.
+pub fn below_opposite(b: i128) -> Option<i128>
+    ensures { SomeIff result (Fits (below_opposite b)) (below_opposite b) }
+{
+    let below = -1 - b;
+    if below != i128::MIN {
+        Some(below)
+    } else {
+        None
+    }
 }

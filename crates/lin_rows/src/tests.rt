@@ -92,6 +92,41 @@ const ADDED: [(Said, i128, Said, Option<Said>); 7] = [
     ((&[(1, 1)], LE, 0), 3, (&[(1, MOST / 2)], LE, 1), None),
 ];
 
+/// Inequalities, and their negations, if the bound fits.
+const NEGATED: [(Said, Option<Said>); 6] = [
+    (
+        (&[(0, 2), (1, -3)], LE, 5),
+        Some((&[(0, -2), (1, 3)], LE, -6)),
+    ),
+    ((&[], LE, 0), Some((&[], LE, -1))),
+    ((&[(0, MOST)], LE, -1), Some((&[(0, -MOST)], LE, 0))),
+    ((&[(0, 1)], LE, -MOST), Some((&[(0, -1)], LE, MOST - 1))),
+    ((&[(0, 1)], LE, MOST - 1), Some((&[(0, -1)], LE, -MOST))),
+    ((&[(0, 1)], LE, MOST), None),
+];
+
+/// Rows with points, and whether they hold there, if all numbers fit.
+const HELD: [(Said, &[i128], Result<bool, Past>); 12] = [
+    // 4 + 3 and 6 + 3
+    ((&[(0, 2), (2, 3)], LE, 7), &[2, 9, 1], Ok(true)),
+    ((&[(0, 2), (2, 3)], LE, 7), &[3, 0, 1], Ok(false)),
+    ((&[(0, 1)], EQ, 5), &[5], Ok(true)),
+    ((&[(0, 1)], EQ, 5), &[4], Ok(false)),
+    ((&[], LE, -1), &[], Ok(false)),
+    ((&[], EQ, 0), &[], Ok(true)),
+    ((&[(0, MOST)], LE, MOST), &[1], Ok(true)),
+    ((&[(0, MOST)], LE, MOST), &[2], Err(Past)),
+    ((&[(0, -1)], LE, 0), &[i128::MIN], Err(Past)),
+    ((&[(0, 1)], LE, 0), &[i128::MIN], Err(Past)),
+    ((&[(0, 1), (1, 1)], LE, 0), &[MOST, 1], Err(Past)),
+    // the second sum does not fit, the third would
+    (
+        (&[(0, 1), (1, 1), (2, -1)], LE, 0),
+        &[MOST, 1, 1],
+        Err(Past),
+    ),
+];
+
 fn assert_row(rt: &impl Abort, made: &Result<Row, RowFault>, wanted: Option<Said>) {
     match (made, wanted) {
         (Ok(row), Some((terms, kind, bound))) => {
@@ -138,4 +173,65 @@ fn rows_are_scaled_and_added(rt: HostRuntime) {
     for (a, m, b, wanted) in ADDED {
         assert_row(&rt, &sum_of(rt.alloc(), a, m, b), wanted);
     }
+}
+
+/// The negation of an inequality that is made first.
+fn negation_of(alloc: Global, said: Said) -> Result<Row, RowFault> {
+    let made = row(alloc, said.0, said.1, said.2)?;
+    if made.kind() != LE {
+        return Err(RowFault::Past);
+    }
+    negate(alloc, &made)
+}
+
+#[test]
+fn inequalities_are_negated(rt: HostRuntime) {
+    for (given, wanted) in NEGATED {
+        assert_row(&rt, &negation_of(rt.alloc(), given), wanted);
+    }
+}
+
+/// Whether a row of at most three terms holds at a point that covers its columns.
+fn held_at(row: &Row, point: &[i128]) -> Option<Result<bool, Past>> {
+    let covers = |t: &(Col, i128)| (t.0 as usize) < point.len();
+    match row.terms() {
+        [] => Some(holds(row, point)),
+        [t] if covers(t) => Some(holds(row, point)),
+        [t, u] if covers(t) && covers(u) => Some(holds(row, point)),
+        [t, u, v] if covers(t) && covers(u) && covers(v) => Some(holds(row, point)),
+        _ => None,
+    }
+}
+
+#[test]
+fn rows_hold_at_points(rt: HostRuntime) -> Result<(), Fail> {
+    for (given, point, wanted) in HELD {
+        let made = row(rt.alloc(), given.0, given.1, given.2)?;
+        assert_eq!(rt; held_at(&made, point), Some(wanted), "{point:?}");
+        assert_row(&rt, &Ok(made.copy()?), Some(given));
+    }
+    Ok(())
+}
+
+#[test]
+fn systems_are_copied(rt: HostRuntime) -> Result<(), Fail> {
+    let alloc = rt.alloc();
+    let member = System {
+        rows: vec![in alloc; row(alloc, &[(0, 1)], LE, 2)?]?,
+        groups: vec![in alloc; Vec::new(alloc)]?,
+    };
+    let system = System {
+        rows: vec![in alloc; row(alloc, &[(1, 3)], EQ, 4)?, row(alloc, &[], LE, 0)?]?,
+        groups: vec![in alloc; vec![in alloc; member]?]?,
+    };
+    let copy = system.copy()?;
+    shared(&copy);
+    assert_eq!(rt; copy.rows.len(), 2);
+    assert_eq!(rt; copy.rows[0].terms(), [(1, 3)].as_slice());
+    assert_eq!(rt; copy.groups.len(), 1);
+    assert_eq!(rt; copy.groups[0].len(), 1);
+    assert_eq!(rt; copy.groups[0][0].rows.len(), 1);
+    assert_eq!(rt; copy.groups[0][0].rows[0].bound(), 2);
+    assert_eq!(rt; copy.groups[0][0].groups.len(), 1);
+    Ok(())
 }

@@ -1,4 +1,4 @@
-ghost use Rattle.std.specs.Prelude.{◌≡◌};
+ghost use Rattle.std.specs.Prelude.{◌≡◌, IfOk};
 
 use smallvec::SmallVec;
 use std::alloc::{AllocError, AllocFailed};
@@ -90,6 +90,19 @@ impl Row {
         ensures valid { IsRow self.now }
     {
         self.terms.as_slice()
+    }
+
+    /// An equal row.
+    pub fn copy(&self) -> Result<Self, AllocError>
+        ensures value { IfOk result (λ r. r ≡ self.now) }
+        ensures valid { IsRow self.now }
+    {
+        let terms = Terms::from_slice(*self.terms.allocator(), self.terms.as_slice())?;
+        Ok(Row {
+            terms,
+            kind: self.kind,
+            bound: self.bound,
+        })
     }
 
     /// Whether the row is an inequality or an equality.
