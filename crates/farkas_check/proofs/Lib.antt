@@ -1,0 +1,5 @@
+pub mod Sound
+pub mod NodeLaws
+pub mod LeafSteps
+pub mod WalkLaws
+pub mod TreeLaws
