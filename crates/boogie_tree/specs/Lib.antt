@@ -1,0 +1,5 @@
+pub mod Tree
+pub mod View
+pub mod Levels
+pub mod Printing
+pub mod Apart
