@@ -1,10 +1,17 @@
 //! Boogie programs as trees, and their canonical text.
 #![tactic(auto)]
 
+pub mod laws;
+mod level;
+mod printing;
 mod span;
+#[cfg(test)]
+mod tests;
 mod text;
 mod tree;
 
+pub use level::Level;
+pub use printing::print;
 pub use span::Span;
 pub use text::Text;
 pub use tree::{

@@ -1,0 +1,5 @@
+pub mod Bare
+pub mod Branches
+pub mod Crossing
+pub mod Loops
+pub mod Seen
