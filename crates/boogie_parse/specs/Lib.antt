@@ -15,3 +15,10 @@ pub mod Sums
 pub mod Tidy
 pub mod Names
 pub mod Commands
+pub mod Places
+pub mod Pieces
+pub mod Attributes
+pub mod Lexed
+pub mod Slices
+pub mod PieceViews
+pub mod Turns
