@@ -22,3 +22,12 @@ pub mod CommandLaws
 pub mod ProgramLaws
 pub mod ColumnLaws
 pub mod ClaimLaws
+pub mod EnclosedLaws
+pub mod FrontLaws
+pub mod PieceTurns
+pub mod LexedTurns
+pub mod LeftOut
+pub mod PieceViewLaws
+pub mod FrontTurns
+pub mod TokenTurns
+pub mod SliceLaws

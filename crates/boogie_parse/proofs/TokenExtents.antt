@@ -19,7 +19,7 @@ run_within p (b ∷ bs) =
     let short = run_within p bs in
     cond_both (p b) (suc (run p bs)) 0 (λ n. n ≤ suc (length bs)) (λ _. omega arith) (λ _. omega arith)
 
-run_fits : (p : ℕ → Bool) (b : ℕ) (bs : List ℕ) → p b ≡ true → (0 < run p (b ∷ bs)) × (run p (b ∷ bs) ≤ length (b ∷ bs))
+pub run_fits : (p : ℕ → Bool) (b : ℕ) (bs : List ℕ) → p b ≡ true → (0 < run p (b ∷ bs)) × (run p (b ∷ bs) ≤ length (b ∷ bs))
 run_fits p b bs passes =
     let short = run_within p bs in
     rw passes (omega arith, omega arith)
@@ -29,7 +29,7 @@ literal_fits b bs digit =
     cond_both (makes_real (drop (run is_digit (b ∷ bs)) (b ∷ bs))) None (Some (Literal, run is_digit (b ∷ bs))) (IsWithin (b ∷ bs)) (λ _. tt) (λ _. run_fits is_digit b bs digit)
 
 -- what a text begins with is no longer than the text
-front_within : (m text : List ℕ) → starts_with nat_eq text m ≡ true → length m ≤ length text
+pub front_within : (m text : List ℕ) → starts_with nat_eq text m ≡ true → length m ≤ length text
 front_within [] text is = omega arith
 front_within (b ∷ m) [] is = cc
 front_within (b ∷ m) (c ∷ text) is =

@@ -5,8 +5,8 @@ ghost use Rattle.boogie_parse.specs.Tokens.{Token, Spells, token_at};
 ghost use Rattle.boogie_parse.specs.FirstToken.{IsFirstToken};
 ghost use Rattle.boogie_parse.specs.Views.{token};
 
-mod bytes;
-mod front;
+pub(crate) mod bytes;
+pub(crate) mod front;
 #[cfg(test)]
 mod tests;
 

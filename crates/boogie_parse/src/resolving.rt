@@ -12,7 +12,7 @@ use names::{Locals, declared};
 use std::alloc::{AllocError, Global};
 
 mod commands;
-mod literals;
+pub(crate) mod literals;
 mod names;
 mod rows;
 mod sums;

@@ -16,9 +16,11 @@ const MARKS: [&[u8]; 31] = [
 
 /// Bytes that make up tokens in runs.
 #[derive(Clone, Copy)]
-enum Class {
+pub(crate) enum Class {
     Digit,
     Name,
+    /// All but line feeds.
+    Line,
 }
 
 impl Class {
@@ -28,12 +30,13 @@ impl Class {
         match self {
             Class::Digit => is_digit(b),
             Class::Name => is_name_byte(b),
+            Class::Line => b != b'\n',
         }
     }
 }
 
 /// How many bytes of the class the text begins with.
-fn run(class: Class, text: &[u8]) -> usize
+pub(crate) fn run(class: Class, text: &[u8]) -> usize
     ensures counted { result ≡ run (passes class) text.now }
     ensures within { result ≤ length text.now }
 {
@@ -46,7 +49,7 @@ fn run(class: Class, text: &[u8]) -> usize
 }
 
 /// Whether what follows a run of digits makes it a real.
-fn makes_real(text: &[u8]) -> bool
+pub(crate) fn makes_real(text: &[u8]) -> bool
     ensures { result ≡ makes_real text.now }
 {
     match text {
@@ -66,7 +69,7 @@ fn literal_at(text: &[u8]) -> Option<(TokenKind, usize)>
     Some((TokenKind::Literal, len))
 }
 
-fn mark_at(text: &[u8]) -> Option<(TokenKind, usize)>
+pub(crate) fn mark_at(text: &[u8]) -> Option<(TokenKind, usize)>
     ensures { result ≡ mark_at text.now }
 {
     let mark = MARKS.iter().find(|m| text.starts_with(m))?;

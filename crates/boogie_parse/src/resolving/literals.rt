@@ -9,7 +9,7 @@ use crate::tree::Sign;
 const LARGEST: u128 = u128::MAX >> 1;
 
 /// The value of a literal; none where it does not fit.
-pub(super) fn literal(digits: &[u8]) -> Option<u128>
+pub(crate) fn literal(digits: &[u8]) -> Option<u128>
     ensures { result ≡ literal_of digits.now }
 {
     let mut value = 0;
