@@ -1,6 +1,6 @@
 //! The walk along a prefix list: the goal at hand, and the goals that wait.
 
-ghost use Rattle.std.specs.Prelude.{◌≡◌, ◌≤◌, ◌∷◌, [], ◌++◌, ◌↔◌, IsTrue, IfOk, OnOk, IsSome, IfSome, MatchBool, length, map};
+ghost use Rattle.std.specs.Prelude.{◌≡◌, ◌≤◌, ◌∷◌, [], ◌++◌, ◌↔◌, IfOk, OnOk, IsSome, IfSome, MatchBool, length, map};
 ghost use Rattle.math_facts.specs.Fits.{Fits};
 ghost use Rattle.lin_rows.specs.Negating.{below_opposite};
 ghost use Rattle.lin_rows.specs.Tightening.{tightened};
@@ -124,8 +124,10 @@ impl<'a> Walk<'a> {
 
     /// Keeps what is left of the node whose goal is at hand.
     fn wait(&mut self, rest: Rest<'a>) -> Result<(), AllocError>
-        ensures waits { OnOk result (goals_left self.new ≡ goals_of rest.entry (goal_at_hand self.old) ++ goals_left self.old) }
-        ensures frames { OnOk result (self.new.frames.items ≡ self.old.frames.items ++ frame_at self.old rest.entry ∷ []) }
+        ensures waits { OnOk result
+            (goals_left self.new ≡ goals_of rest.entry (goal_at_hand self.old) ++ goals_left self.old) }
+        ensures frames { OnOk result
+            (self.new.frames.items ≡ self.old.frames.items ++ frame_at self.old rest.entry ∷ []) }
         ensures same_goal { OnOk result (HoldsSame self.old self.new) }
     {
         self.frames.push(Frame {
@@ -168,7 +170,8 @@ impl<'a> Walk<'a> {
     fn resume(&mut self, frame: Frame<'a>) -> Result<bool, AllocError>
         ensures { IfOk result (λ more. MatchBool more
             (goals_with self.old frame.entry ≡ goal_at_hand self.new ∷ goals_left self.new)
-            ((goals_with self.old frame.entry ≡ goals_left self.new) × (self.new.frames.items ≡ self.old.frames.items))) }
+            ((goals_with self.old frame.entry ≡ goals_left self.new)
+            × (self.new.frames.items ≡ self.old.frames.items))) }
     {
         self.go_back(frame.rows_len, frame.groups_len, frame.first);
         match frame.rest {
@@ -178,6 +181,7 @@ impl<'a> Walk<'a> {
             }
             Rest::Above(cut) => {
                 let row = cut.above(self.alloc)?;
+                // no member: nothing is left of a cut after its second side
                 self.take_row(Rest::Members(&[]), row)?;
             }
             Rest::Members([]) => return Ok(false),
@@ -204,7 +208,8 @@ impl<'a> Walk<'a> {
     /// Keeps what is left, and adds a row to the goal at hand.
     fn take_row(&mut self, rest: Rest<'a>, row: Row) -> Result<(), AllocError>
         ensures goal { OnOk result (goal_at_hand self.new ≡ with_row (goal_at_hand self.old) row) }
-        ensures left { OnOk result (goals_left self.new ≡ goals_of rest.entry (goal_at_hand self.old) ++ goals_left self.old) }
+        ensures left { OnOk result
+            (goals_left self.new ≡ goals_of rest.entry (goal_at_hand self.old) ++ goals_left self.old) }
     {
         self.wait(rest)?;
         self.rows.push(row)?;
@@ -215,7 +220,8 @@ impl<'a> Walk<'a> {
     fn take_member(&mut self, rest: Rest<'a>, member: &'a System) -> Result<(), AllocError>
         requires { self.old.first ≤ length self.old.groups.items }
         ensures goal { OnOk result (goal_at_hand self.new ≡ with_member (goal_at_hand self.old) member.now) }
-        ensures left { OnOk result (goals_left self.new ≡ goals_of rest.entry (goal_at_hand self.old) ++ goals_left self.old) }
+        ensures left { OnOk result
+            (goals_left self.new ≡ goals_of rest.entry (goal_at_hand self.old) ++ goals_left self.old) }
     {
         self.wait(rest)?;
         push_tightened(self.alloc, &mut self.rows, &member.rows)?;
@@ -283,7 +289,8 @@ fn push_groups<'a>(
     groups: &mut Vec<&'a [System]>,
     more: &'a Vec<Vec<System>>,
 ) -> Result<(), AllocError>
-    ensures { OnOk result (map (λ g. g.now) groups.new.items ≡ map (λ g. g.now) groups.old.items ++ members_of more.now.items) }
+    ensures { OnOk result
+        (map (λ g. g.now) groups.new.items ≡ map (λ g. g.now) groups.old.items ++ members_of more.now.items) }
 {
     for group in more {
         groups.push(group.as_slice())?;
