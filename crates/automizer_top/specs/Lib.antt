@@ -6,7 +6,7 @@ pub mod Report
 pub mod ProofReading
 pub mod LeafTest
 pub mod Walk
-pub mod LeafSums
+pub mod NamedRows
 pub mod Labels
 pub mod Verdicts
 pub mod Answers

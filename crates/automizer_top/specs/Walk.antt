@@ -1,8 +1,7 @@
--- The ways to fail as the code goes through them: versions as a list of columns, rows tightened as they are made.
+-- The ways to fail as the code goes through them: versions as a list of columns.
 use Rattle.std.specs.Prelude.{◌≡◌, ℕ, ◌+◌, ◌<◌, ◌≤◌, pos, ◌-ℤ◌, Vec, List, [], ◌∷◌, ◌++◌, map, length, drop, slice_index, slice_set, Option, None, Some, ◌⊎◌}
 use Rattle.std.specs.Global.{Global}
 use Rattle.lin_rows.specs.Rows.{LinearRow}
-use Rattle.lin_rows.specs.Tightening.{tightened}
 use Rattle.math_facts.specs.Terms.{opposite}
 use Rattle.boogie_parse.specs.Straight.{Linear, Statement, assigns, assumes, asserts}
 use Rattle.boogie_parse.specs.Claims.{Claim, at_most, equals, true_claims, false_claims}
@@ -33,25 +32,20 @@ at_most_claim a b = at_most (a.terms ++ opposite b.terms) (b.constant -ℤ a.con
 abbrev pub equal_claim : Linear → Linear → Claim
 equal_claim a b = equals (a.terms ++ opposite b.terms) (b.constant -ℤ a.constant)
 
--- the tightened rows of claims
-abbrev pub tight_claims : List ℕ → List Claim → List LinearRow
-tight_claims versions claims = map tightened (map (claim_row (slice_index versions)) claims)
-
--- the tightened row that a true condition adds, where it has only one way to be true
-abbrev pub tight_kept : List ℕ → List Claim → List LinearRow
-tight_kept versions claims = map tightened (kept_rows (slice_index versions) claims)
+-- the rows of claims
+abbrev pub claim_rows : List ℕ → List Claim → List LinearRow
+claim_rows versions claims = map (claim_row (slice_index versions)) claims
 
 -- the rows of each way to fail, from statements still to come: versions so far, the next column, rows so far
-abbrev pub tight_ways : List ℕ → ℕ → List LinearRow → List Statement → List (List LinearRow)
-tight_ways versions column rows [] = []
-tight_ways versions column rows (assigns x e ∷ rest) =
-    tight_ways (slice_set versions x column) (column + 1)
-    (rows ++ tightened (assignment_row (slice_index versions) column e) ∷ []) rest
-tight_ways versions column rows (assumes t ∷ rest) =
-    tight_ways versions column (rows ++ tight_kept versions (true_claims t)) rest
-tight_ways versions column rows (asserts t ∷ rest) =
-    map (λ r. rows ++ r ∷ []) (tight_claims versions (false_claims t))
-    ++ tight_ways versions column (rows ++ tight_kept versions (true_claims t)) rest
+abbrev pub ways_to_fail : List ℕ → ℕ → List LinearRow → List Statement → List (List LinearRow)
+ways_to_fail versions column rows [] = []
+ways_to_fail versions column rows (assigns x e ∷ rest) =
+    ways_to_fail (slice_set versions x column) (column + 1) (rows ++ assignment_row (slice_index versions) column e ∷ []) rest
+ways_to_fail versions column rows (assumes t ∷ rest) =
+    ways_to_fail versions column (rows ++ kept_rows (slice_index versions) (true_claims t)) rest
+ways_to_fail versions column rows (asserts t ∷ rest) =
+    map (λ r. rows ++ r ∷ []) (claim_rows versions (false_claims t))
+    ++ ways_to_fail versions column (rows ++ kept_rows (slice_index versions) (true_claims t)) rest
 
 -- the number of the first way whose leaf does not refute it, where the first of these has the number n; none where all do
 abbrev pub Finds : ℕ → List (List LinearRow) → List (List LeafPart) → Option ℕ → Type 0
@@ -70,9 +64,9 @@ pub record IsStart (n : ℕ) (versions : List ℕ) : Type 0 where
   pub count : length versions ≡ n
   pub own : (x : ℕ) → x < n → slice_index versions x ≡ x
 
--- the rows of an obligation, tightened
-abbrev pub tight_rows : Obligation → List LinearRow
-tight_rows o = map tightened o.rows
+-- the rows of each obligation
+abbrev pub obligation_rows : List Obligation → List (List LinearRow)
+obligation_rows os = map (λ o. o.rows) os
 
 -- the first leaf of the list refutes the rows
 abbrev pub FirstRefutes : List LinearRow → List (List LeafPart) → Type 0
@@ -99,7 +93,7 @@ Settles at leaves ways (Fails k) = (more : List (List LinearRow)) → Finds at (
 abbrev pub SettlesStatement : ℕ → List (List LeafPart) → Statement → List ℕ → ℕ → List LinearRow → List ℕ → ℕ → List LinearRow → Tried → Type 0
 SettlesStatement at leaves s versions column rows new_versions new_column new_rows (Refuted next) =
     (next ≤ length leaves) × ((rest : List Statement) (found : Option ℕ) →
-    Finds next (tight_ways new_versions new_column new_rows rest) (drop next leaves) found →
-    Finds at (tight_ways versions column rows (s ∷ rest)) (drop at leaves) found)
+    Finds next (ways_to_fail new_versions new_column new_rows rest) (drop next leaves) found →
+    Finds at (ways_to_fail versions column rows (s ∷ rest)) (drop at leaves) found)
 SettlesStatement at leaves s versions column rows new_versions new_column new_rows (Fails k) =
-    (rest : List Statement) → Finds at (tight_ways versions column rows (s ∷ rest)) (drop at leaves) (Some k)
+    (rest : List Statement) → Finds at (ways_to_fail versions column rows (s ∷ rest)) (drop at leaves) (Some k)
