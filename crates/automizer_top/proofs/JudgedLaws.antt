@@ -10,14 +10,15 @@ use Rattle.automizer_top.specs.declared.proof_text.LeafPart.{LeafPart}
 use Rattle.automizer_top.specs.declared.proof_text.Reading.TheVariants.{Leaves}
 use Rattle.automizer_top.specs.ProofReading.{ReadsAs}
 use Rattle.automizer_top.specs.StraightCheck.{Judges, accepted, bad_triple}
-use Rattle.automizer_top.specs.Walk.{Finds, tight_rows, leaf_lists}
+use Rattle.automizer_top.specs.Walk.{Finds, obligation_rows, leaf_lists}
 use Rattle.automizer_top.proofs.VerdictLaws.{FewRows, AllParts, none_found, one_found, found_within}
 
 few-append : (os ps : List Obligation) → FewRows os → FewRows ps → FewRows (os ++ ps)
 few-append [] ps h k = k
 few-append (o ∷ os) ps h k = (h.0, few-append os ps h.1 k)
 
-kept_at_most_one : (version : ℕ → ℕ) (claims : List Claim) → length (kept_rows version claims) ≤ 1
+-- a true condition adds at most one row
+pub kept_at_most_one : (version : ℕ → ℕ) (claims : List Claim) → length (kept_rows version claims) ≤ 1
 kept_at_most_one version [] = omega arith
 kept_at_most_one version (c ∷ []) = omega arith
 kept_at_most_one version (c ∷ d ∷ cs) = omega arith
@@ -74,20 +75,20 @@ leaves_are os (l ∷ ls) leaves h = leaves-leaf_lines os ls leaves h.1
 
 -- Where no way is found that its leaf does not refute, the text is accepted.
 pub accepted_by : (p : Program) (text : List ℕ) (labels : List (ℕ × ℕ)) (read : Vec (Vec LeafPart Global) Global) → labels ≡ map label_of (obligations p) →
-    ReadsAs labels text (Leaves read) → Finds 0 (map tight_rows (obligations p)) (leaf_lists read.items) None → Judges p text accepted
+    ReadsAs labels text (Leaves read) → Finds 0 (obligation_rows (obligations p)) (leaf_lists read.items) None → Judges p text accepted
 accepted_by p text labels read e (leaves, lines, same) f =
     let mine : LinesAre (proof_lines (map label_of (obligations p))) (lines_of text) leaves =
     subst (λ (ls : List (ℕ × ℕ)). LinesAre (proof_lines ls) (lines_of text) leaves) e lines in (
       leaves,
       mine,
       none_found 0 (obligations p) leaves (leaves_are (obligations p) (lines_of text) leaves mine).0
-          (subst (λ (L : List (List LeafPart)). Finds 0 (map tight_rows (obligations p)) L None) same f),
+          (subst (λ (L : List (List LeafPart)). Finds 0 (obligation_rows (obligations p)) L None) same f),
     )
 
 -- Where one is found, its line has the first leaf that does not refute.
 pub bad_triple_by : (p : Program) (text : List ℕ) (labels : List (ℕ × ℕ)) (read : Vec (Vec LeafPart Global) Global) (k : ℕ) → length p.steps + 1 < 2 ^ 64 →
     labels ≡ map label_of (obligations p) → ReadsAs labels text (Leaves read) →
-    Finds 0 (map tight_rows (obligations p)) (leaf_lists read.items) (Some k) → Judges p text (bad_triple (k + 2))
+    Finds 0 (obligation_rows (obligations p)) (leaf_lists read.items) (Some k) → Judges p text (bad_triple (k + 2))
 bad_triple_by p text labels read k l e (leaves, lines, same) f =
     let mine : LinesAre (proof_lines (map label_of (obligations p))) (lines_of text) leaves =
     subst (λ (ls : List (ℕ × ℕ)). LinesAre (proof_lines ls) (lines_of text) leaves) e lines in
@@ -95,7 +96,7 @@ bad_triple_by p text labels read k l e (leaves, lines, same) f =
       leaves,
       mine,
       one_found 0 k (obligations p) leaves are.0 (few_rows p l) are.1
-          (subst (λ (L : List (List LeafPart)). Finds 0 (map tight_rows (obligations p)) L (Some k)) same f),
+          (subst (λ (L : List (List LeafPart)). Finds 0 (obligation_rows (obligations p)) L (Some k)) same f),
     )
 
 -- and the line has a number

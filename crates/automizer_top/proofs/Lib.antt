@@ -4,7 +4,8 @@ pub mod ClaimLaws
 pub mod ConditionLaws
 pub mod RunLaws
 pub mod Safety
-pub mod LeafSteps
+pub mod NamedRows
+pub mod NamedContradictions
 pub mod TryingLaws
 pub mod SearchLaws
 pub mod WaysLaws

@@ -5,7 +5,6 @@ use Rattle.std.specs.List.{AllByRecursion}
 use Rattle.std.specs.Fmt.{decimal}
 use Rattle.std.proofs.lemmas.Option.{some_pair_parts}
 use Rattle.lin_rows.specs.Rows.{LinearRow}
-use Rattle.lin_rows.specs.Tightening.{tightened}
 use Rattle.outer_io.specs.Texts.{text_named}
 use Rattle.boogie_parse.specs.Straight.{Program}
 use Rattle.boogie_parse.specs.FirstForm.{IsFirstForm}
@@ -95,7 +94,7 @@ differs_once n k m (e ∷ es) (x ∷ ls) d c =
 refutes_alike : (rows : List LinearRow) (ps qs : List Part) → length rows < 2 ^ 64 → AllByRecursion IsPart ps → map leaf_part ps ≡ map leaf_part qs →
     LeafRefutes rows ps → LeafRefutes rows qs
 refutes_alike rows ps qs few is same r =
-    read_refutes rows qs (subst (λ (parts : List LeafPart). PartsRefute (map tightened rows) parts) same (text_refutes rows ps few is r))
+    read_refutes rows qs (subst (λ (parts : List LeafPart). PartsRefute rows parts) same (text_refutes rows ps few is r))
 
 refuted_or_not : (n k : ℕ) (os : List Obligation) (L M : List (List Part)) → FewRows os → AllParts L → map (map leaf_part) L ≡ map (map leaf_part) M →
     AllRefuted os L → FirstUnrefuted n os M k → ⊥

@@ -18,7 +18,7 @@ use Rattle.automizer_top.specs.ProofText.{Numeral, IsNumeral, HasOneSpelling, nu
 use Rattle.automizer_top.specs.ProofReading.{row_number, fitting_value, leaf_part}
 use Rattle.automizer_top.specs.StraightCheck.{part_value, LeafRefutes, AllRefuted, FirstUnrefuted}
 use Rattle.automizer_top.specs.LeafTest.{part_of, PartsRefute}
-use Rattle.automizer_top.specs.Walk.{Finds, tight_rows}
+use Rattle.automizer_top.specs.Walk.{Finds, obligation_rows}
 
 -- ---- the numbers of a part
 
@@ -57,7 +57,7 @@ values_are (p ∷ ps) (t ∷ ts) e =
     λ i. pair_is p t head i ∷ values_are ps ts tail i
 
 -- what refutes as it was read refutes by the text
-pub read_refutes : (rows : List LinearRow) (ps : List Part) → PartsRefute (map tightened rows) (map leaf_part ps) → LeafRefutes rows ps
+pub read_refutes : (rows : List LinearRow) (ps : List Part) → PartsRefute rows (map leaf_part ps) → LeafRefutes rows ps
 read_refutes rows ps (leaf, same, fits, contradicts) = (leaf, values_are ps leaf same, fits, contradicts)
 
 -- ---- and back: a numeral of a row that exists, and a multiplier that fits, are read
@@ -129,7 +129,7 @@ parts_read rows (p ∷ ps) (t ∷ ts) l is e f x =
     λ i. part_read p t is.0 head (omega arith) f.0 i ∷ parts_read rows ps ts l is.1 tail f.1 x.1 i
 
 -- what refutes by the text refutes as it was read
-pub text_refutes : (rows : List LinearRow) (ps : List Part) → length rows < 2 ^ 64 → AllByRecursion IsPart ps → LeafRefutes rows ps → PartsRefute (map tightened rows) (map leaf_part ps)
+pub text_refutes : (rows : List LinearRow) (ps : List Part) → length rows < 2 ^ 64 → AllByRecursion IsPart ps → LeafRefutes rows ps → PartsRefute rows (map leaf_part ps)
 text_refutes rows ps l is (leaf, values, fits, contradicts) =
     let same : length (map tightened rows) ≡ length rows = simp length-map in
     (leaf, parts_read (map tightened rows) ps leaf (omega arith) is values fits contradicts.each, fits, contradicts)
@@ -151,14 +151,14 @@ AllParts (ps ∷ leaves) = AllByRecursion IsPart ps × AllParts leaves
 
 -- where no way is found, each is refuted
 pub none_found : (n : ℕ) (os : List Obligation) (leaves : List (List Part)) → length leaves ≡ length os →
-    Finds n (map tight_rows os) (map (map leaf_part) leaves) None → AllRefuted os leaves
+    Finds n (obligation_rows os) (map (map leaf_part) leaves) None → AllRefuted os leaves
 none_found n [] [] c f = tt
 none_found n [] (ps ∷ leaves) c f = absurd (omega arith)
 none_found n (o ∷ os) [] c f = absurd (omega arith)
 none_found n (o ∷ os) (ps ∷ leaves) c f =
     ⊎_elim
-    (λ (h : (PartsRefute (map tightened o.rows) (map leaf_part ps) → ⊥) × (None ≡ Some n)). cc_absurd n o os ps leaves h.1)
-    (λ (h : PartsRefute (map tightened o.rows) (map leaf_part ps) × Finds (n + 1) (map tight_rows os) (map (map leaf_part) leaves) None).
+    (λ (h : (PartsRefute o.rows (map leaf_part ps) → ⊥) × (None ≡ Some n)). cc_absurd n o os ps leaves h.1)
+    (λ (h : PartsRefute o.rows (map leaf_part ps) × Finds (n + 1) (obligation_rows os) (map (map leaf_part) leaves) None).
     (read_refutes o.rows ps h.0, none_found (n + 1) os leaves (omega arith) h.1)) f
   where
     cc_absurd : (n : ℕ) (o : Obligation) (os : List Obligation) (ps : List Part) (leaves : List (List Part)) → None ≡ Some n → AllRefuted (o ∷ os) (ps ∷ leaves)
@@ -166,15 +166,15 @@ none_found n (o ∷ os) (ps ∷ leaves) c f =
 
 -- the way that is found is the first that is not refuted, on its line
 pub one_found : (n k : ℕ) (os : List Obligation) (leaves : List (List Part)) → length leaves ≡ length os → FewRows os → AllParts leaves →
-    Finds n (map tight_rows os) (map (map leaf_part) leaves) (Some k) → FirstUnrefuted (n + 2) os leaves (k + 2)
+    Finds n (obligation_rows os) (map (map leaf_part) leaves) (Some k) → FirstUnrefuted (n + 2) os leaves (k + 2)
 one_found n k [] leaves c few parts f = absurd (subst is_some_there f tt)
 one_found n k (o ∷ os) [] c few parts f = absurd (omega arith)
 one_found n k (o ∷ os) (ps ∷ leaves) c few parts f =
     ⊎_elim
-    (λ (h : (PartsRefute (map tightened o.rows) (map leaf_part ps) → ⊥) × (Some k ≡ Some n)).
+    (λ (h : (PartsRefute o.rows (map leaf_part ps) → ⊥) × (Some k ≡ Some n)).
     let e : k ≡ n = cc in
     inl (λ r. h.0 (text_refutes o.rows ps few.0 parts.0 r), ap (λ (j : ℕ). j + 2) e))
-    (λ (h : PartsRefute (map tightened o.rows) (map leaf_part ps) × Finds (n + 1) (map tight_rows os) (map (map leaf_part) leaves) (Some k)).
+    (λ (h : PartsRefute o.rows (map leaf_part ps) × Finds (n + 1) (obligation_rows os) (map (map leaf_part) leaves) (Some k)).
     let later : FirstUnrefuted ((n + 1) + 2) os leaves (k + 2) = one_found (n + 1) k os leaves (omega arith) few.1 parts.1 h.1 in
     let line : (n + 1) + 2 ≡ (n + 2) + 1 = omega arith in
     inr (read_refutes o.rows ps h.0, subst (λ (j : ℕ). FirstUnrefuted j os leaves (k + 2)) line later)) f

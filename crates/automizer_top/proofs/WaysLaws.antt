@@ -7,21 +7,16 @@ use Rattle.math_facts.specs.Terms.{opposite, IsBelow}
 use Rattle.lin_rows.specs.declared.types.RowKind.TheVariants.{Eq}
 use Rattle.lin_rows.specs.Rows.{LinearRow}
 use Rattle.lin_rows.specs.Sums.{row_of}
-use Rattle.lin_rows.specs.Tightening.{tightened}
 use Rattle.boogie_parse.specs.Straight.{Linear, Statement, assigns, assumes, asserts, Program}
 use Rattle.boogie_parse.specs.Claims.{Claim, negated, true_claims, false_claims}
 use Rattle.boogie_parse.specs.WellFormed.{IsLine, StatementIsWell}
-use Rattle.automizer_top.specs.StraightRows.{versioned, with_version, kind_of, claim_row, assignment_row, kept_rows, paths_from, obligations_from, obligations}
-use Rattle.automizer_top.specs.Walk.{AreVersions, IsStart, tight_claims, tight_kept, tight_ways, tight_rows, each_with}
+use Rattle.automizer_top.specs.StraightRows.{versioned, with_version, kind_of, claim_row, assignment_row, kept_rows, Obligation, paths_from, obligations_from, obligations}
+use Rattle.automizer_top.specs.Walk.{AreVersions, IsStart, claim_rows, ways_to_fail, obligation_rows, each_with}
 use Rattle.automizer_top.proofs.Safety.{ClaimIsBelow, claims_below}
 
-map-append_one : {X Y : Type 0} (f : X → Y) (xs : List X) (x : X) → map f (xs ++ x ∷ []) ≡ map f xs ++ f x ∷ []
-map-append_one f [] x = refl
-map-append_one {X} {Y} f (y ∷ xs) x = ap (λ (ys : List Y). f y ∷ ys) (map-append_one f xs x)
-
-map-append : {X Y : Type 0} (f : X → Y) (xs ys : List X) → map f (xs ++ ys) ≡ map f xs ++ map f ys
-map-append f [] ys = refl
-map-append {X} {Y} f (x ∷ xs) ys = ap (λ (zs : List Y). f x ∷ zs) (map-append f xs ys)
+obligation_rows-append : (os ps : List Obligation) → obligation_rows (os ++ ps) ≡ obligation_rows os ++ obligation_rows ps
+obligation_rows-append [] ps = refl
+obligation_rows-append (o ∷ os) ps = ap (λ (rs : List (List LinearRow)). o.rows ∷ rs) (obligation_rows-append os ps)
 
 -- ---- versions that agree on the locals
 
@@ -58,49 +53,42 @@ agree_after versions version column x l s y m = by_test (nat_eq x y) refl
 
 -- ---- the ways of one assertion
 
-paths_are : (path assertion : ℕ) (rows ways : List LinearRow) → map tight_rows (paths_from path assertion rows ways) ≡ each_with (map tightened rows) (map tightened ways)
+paths_are : (path assertion : ℕ) (rows ways : List LinearRow) → obligation_rows (paths_from path assertion rows ways) ≡ each_with rows ways
 paths_are path assertion rows [] = refl
-paths_are path assertion rows (r ∷ rs) = λ i. map-append_one tightened rows r i ∷ paths_are (path + 1) assertion rows rs i
+paths_are path assertion rows (r ∷ rs) = λ i. (rows ++ r ∷ []) ∷ paths_are (path + 1) assertion rows rs i
 
 -- ---- all
 
 ways_from : (n : ℕ) (versions : List ℕ) (version : ℕ → ℕ) (column assertion : ℕ) (rows : List LinearRow) (ss : List Statement) → length versions ≡ n →
     ((x : ℕ) → x < n → slice_index versions x ≡ version x) → AllByRecursion (StatementIsWell n) ss →
-    tight_ways versions column (map tightened rows) ss ≡ map tight_rows (obligations_from version column assertion rows ss)
+    ways_to_fail versions column rows ss ≡ obligation_rows (obligations_from version column assertion rows ss)
 ways_from n versions version column assertion rows [] c s w = refl
 ways_from n versions version column assertion rows (assigns x e ∷ rest) c s w =
-    let row : LinearRow = assignment_row version column e in
     let same : assignment_row (slice_index versions) column e ≡ assignment_row version column e = assignment_row_same n column (slice_index versions) version e w.0.1 s in
-    let grown : map tightened rows ++ tightened (assignment_row (slice_index versions) column e) ∷ [] ≡ map tightened (rows ++ assignment_row version column e ∷ []) =
-    ap (λ (r : LinearRow). map tightened rows ++ tightened r ∷ []) same ∙ sym (map-append_one tightened rows (assignment_row version column e)) in
-    ap (λ (rs : List LinearRow). tight_ways (slice_set versions x column) (column + 1) rs rest) grown
+    ap (λ (r : LinearRow). ways_to_fail (slice_set versions x column) (column + 1) (rows ++ r ∷ []) rest) same
     ∙ ways_from n (slice_set versions x column) (with_version version x column) (column + 1) assertion (rows ++ assignment_row version column e ∷ []) rest
     (length-set versions x column ∙ c)
     (λ y l. agree_after versions version column x (subst (λ (k : ℕ). x < k) (sym c) w.0.0) (λ z m. s z (subst (λ (k : ℕ). z < k) c m)) y (subst (λ (k : ℕ). y < k) (sym c) l))
     w.1
 ways_from n versions version column assertion rows (assumes t ∷ rest) c s w =
-    let grown : map tightened rows ++ tight_kept versions (true_claims t) ≡ map tightened (rows ++ kept_rows version (true_claims t)) =
-    ap (λ (rs : List LinearRow). map tightened rows ++ map tightened rs) (kept_rows_same n (slice_index versions) version (true_claims t) (claims_below n t.op t w.0) s)
-    ∙ sym (map-append tightened rows (kept_rows version (true_claims t))) in
-    ap (λ (rs : List LinearRow). tight_ways versions column rs rest) grown
+    let kept : kept_rows (slice_index versions) (true_claims t) ≡ kept_rows version (true_claims t) = kept_rows_same n (slice_index versions) version (true_claims t) (claims_below n t.op t w.0) s in
+    ap (λ (rs : List LinearRow). ways_to_fail versions column (rows ++ rs) rest) kept
     ∙ ways_from n versions version column assertion (rows ++ kept_rows version (true_claims t)) rest c s w.1
 ways_from n versions version column assertion rows (asserts t ∷ rest) c s w =
-    let grown : map tightened rows ++ tight_kept versions (true_claims t) ≡ map tightened (rows ++ kept_rows version (true_claims t)) =
-    ap (λ (rs : List LinearRow). map tightened rows ++ map tightened rs) (kept_rows_same n (slice_index versions) version (true_claims t) (claims_below n t.op t w.0) s)
-    ∙ sym (map-append tightened rows (kept_rows version (true_claims t))) in
-    let now : each_with (map tightened rows) (tight_claims versions (false_claims t)) ≡ map tight_rows (paths_from 1 assertion rows (map (claim_row version) (false_claims t))) =
-    ap (λ (rs : List LinearRow). each_with (map tightened rows) (map tightened rs)) (claim_rows_same n (slice_index versions) version (false_claims t) (claims_below n (negated t.op) t w.0) s)
+    let kept : kept_rows (slice_index versions) (true_claims t) ≡ kept_rows version (true_claims t) = kept_rows_same n (slice_index versions) version (true_claims t) (claims_below n t.op t w.0) s in
+    let now : each_with rows (claim_rows versions (false_claims t)) ≡ obligation_rows (paths_from 1 assertion rows (map (claim_row version) (false_claims t))) =
+    ap (each_with rows) (claim_rows_same n (slice_index versions) version (false_claims t) (claims_below n (negated t.op) t w.0) s)
     ∙ sym (paths_are 1 assertion rows (map (claim_row version) (false_claims t))) in
-    let later : tight_ways versions column (map tightened rows ++ tight_kept versions (true_claims t)) rest
-    ≡ map tight_rows (obligations_from version column (assertion + 1) (rows ++ kept_rows version (true_claims t)) rest) =
-    ap (λ (rs : List LinearRow). tight_ways versions column rs rest) grown
+    let later : ways_to_fail versions column (rows ++ kept_rows (slice_index versions) (true_claims t)) rest
+    ≡ obligation_rows (obligations_from version column (assertion + 1) (rows ++ kept_rows version (true_claims t)) rest) =
+    ap (λ (rs : List LinearRow). ways_to_fail versions column (rows ++ rs) rest) kept
     ∙ ways_from n versions version column (assertion + 1) (rows ++ kept_rows version (true_claims t)) rest c s w.1 in
     (λ i. now i ++ later i)
-    ∙ sym (map-append tight_rows (paths_from 1 assertion rows (map (claim_row version) (false_claims t)))
+    ∙ sym (obligation_rows-append (paths_from 1 assertion rows (map (claim_row version) (false_claims t)))
     (obligations_from version column (assertion + 1) (rows ++ kept_rows version (true_claims t)) rest))
 
 pub ways_are : (p : Program) (versions : List ℕ) → IsStart p.locals versions → AllByRecursion (StatementIsWell p.locals) p.steps →
-    tight_ways versions p.locals [] p.steps ≡ map tight_rows (obligations p)
+    ways_to_fail versions p.locals [] p.steps ≡ obligation_rows (obligations p)
 ways_are p versions start w = ways_from p.locals versions (λ x. x) p.locals 1 [] p.steps start.count start.own w
 
 -- the first versions are different, and below the next column

@@ -4,15 +4,14 @@ ghost use Rattle.math_facts.specs.Fits.{Fits};
 ghost use Rattle.math_facts.specs.Terms.{opposite, IsBelow};
 ghost use Rattle.lin_rows.specs.Rows.{LinearRow};
 ghost use Rattle.lin_rows.specs.Sums.{row_of, SumsFit};
-ghost use Rattle.lin_rows.specs.Tightening.{tightened};
 ghost use Rattle.boogie_parse.specs.Straight.{linear, comparison};
 ghost use Rattle.boogie_parse.specs.Claims.{ClaimFits, claims_by};
 ghost use Rattle.boogie_parse.specs.WellFormed.{IsLine, ComparisonIsWell};
 ghost use Rattle.automizer_top.specs.StraightRows.{versioned, claim_row};
-ghost use Rattle.automizer_top.specs.Walk.{VersionsDiffer, less_claim, at_most_claim, equal_claim, tight_claims, ways_list};
+ghost use Rattle.automizer_top.specs.Walk.{VersionsDiffer, less_claim, at_most_claim, equal_claim, claim_rows, ways_list};
 
 use boogie_parse::{Line, Test, TestOp};
-use lin_rows::{Col, Row, RowFault, RowKind, row, tighten};
+use lin_rows::{Col, Row, RowFault, RowKind, row};
 use std::alloc::{AllocError, Global};
 
 /// The rows of one condition, by its ways to be true: one, or two for a difference.
@@ -61,18 +60,18 @@ pub(crate) fn push_opposite_terms(
     Ok(())
 }
 
-/// The tightened row of `terms <= bound`, or of `terms = bound`, whose numbers fit.
-pub(crate) fn tight_row(
+/// The row of `terms <= bound`, or of `terms = bound`, whose numbers fit.
+pub(crate) fn fitting_row(
     alloc: Global,
     terms: &[(Col, i128)],
     kind: RowKind,
     bound: i128,
 ) -> Result<Row, AllocError>
     requires { SumsFit terms.now bound }
-    ensures { IfOk result (λ r. r ≡ tightened (row_of terms.now kind bound)) }
+    ensures { IfOk result (λ r. r ≡ row_of terms.now kind bound) }
 {
     match row(alloc, terms, kind, bound) {
-        Ok(made) => tighten(alloc, &made),
+        Ok(made) => Ok(made),
         Err(RowFault::Memory) => Err(AllocError),
         Err(RowFault::Past) => unreachable!(),
     }
@@ -96,7 +95,7 @@ fn difference_terms(
     Ok(terms)
 }
 
-/// The tightened row of `a - b <= bound`, or of `a - b = bound`.
+/// The row of `a - b <= bound`, or of `a - b = bound`.
 fn difference(
     alloc: Global,
     versions: &[Col],
@@ -109,10 +108,10 @@ fn difference(
     requires b_below { IsBelow (length versions.now) b.now }
     requires b_fits { AllByRecursion (λ t. Fits t.1) b.now }
     requires fits { SumsFit (versioned (slice_index versions.now) (a.now ++ opposite b.now)) bound }
-    ensures { IfOk result (λ r. r ≡ tightened (row_of (versioned (slice_index versions.now) (a.now ++ opposite b.now)) kind bound)) }
+    ensures { IfOk result (λ r. r ≡ row_of (versioned (slice_index versions.now) (a.now ++ opposite b.now)) kind bound) }
 {
     let terms = difference_terms(alloc, versions, a, b)?;
-    tight_row(alloc, &terms, kind, bound)
+    fitting_row(alloc, &terms, kind, bound)
 }
 
 /// The bound of `a < b`, from the constants of both sides.
@@ -132,43 +131,43 @@ fn at_most_bound(a: &Line, b: &Line) -> i128
     b.constant - a.constant
 }
 
-/// The tightened row of `a < b`.
+/// The row of `a < b`.
 fn less(alloc: Global, versions: &[Col], a: &Line, b: &Line) -> Result<Row, AllocError>
     requires versions { VersionsDiffer versions.now }
     requires a_is { IsLine (length versions.now) (linear a.now) }
     requires b_is { IsLine (length versions.now) (linear b.now) }
     requires fits { ClaimFits (less_claim (linear a.now) (linear b.now)) }
-    ensures { IfOk result (λ r. r ≡ tightened (claim_row (slice_index versions.now) (less_claim (linear a.now) (linear b.now)))) }
+    ensures { IfOk result (λ r. r ≡ claim_row (slice_index versions.now) (less_claim (linear a.now) (linear b.now))) }
 {
     let bound = less_bound(a, b);
     difference(alloc, versions, &a.terms, &b.terms, RowKind::Le, bound)
 }
 
-/// The tightened row of `a <= b`.
+/// The row of `a <= b`.
 fn at_most(alloc: Global, versions: &[Col], a: &Line, b: &Line) -> Result<Row, AllocError>
     requires versions { VersionsDiffer versions.now }
     requires a_is { IsLine (length versions.now) (linear a.now) }
     requires b_is { IsLine (length versions.now) (linear b.now) }
     requires fits { ClaimFits (at_most_claim (linear a.now) (linear b.now)) }
-    ensures { IfOk result (λ r. r ≡ tightened (claim_row (slice_index versions.now) (at_most_claim (linear a.now) (linear b.now)))) }
+    ensures { IfOk result (λ r. r ≡ claim_row (slice_index versions.now) (at_most_claim (linear a.now) (linear b.now))) }
 {
     let bound = at_most_bound(a, b);
     difference(alloc, versions, &a.terms, &b.terms, RowKind::Le, bound)
 }
 
-/// The tightened row of `a = b`.
+/// The row of `a = b`.
 fn equal(alloc: Global, versions: &[Col], a: &Line, b: &Line) -> Result<Row, AllocError>
     requires versions { VersionsDiffer versions.now }
     requires a_is { IsLine (length versions.now) (linear a.now) }
     requires b_is { IsLine (length versions.now) (linear b.now) }
     requires fits { ClaimFits (equal_claim (linear a.now) (linear b.now)) }
-    ensures { IfOk result (λ r. r ≡ tightened (claim_row (slice_index versions.now) (equal_claim (linear a.now) (linear b.now)))) }
+    ensures { IfOk result (λ r. r ≡ claim_row (slice_index versions.now) (equal_claim (linear a.now) (linear b.now))) }
 {
     let bound = at_most_bound(a, b);
     difference(alloc, versions, &a.terms, &b.terms, RowKind::Eq, bound)
 }
 
-/// The tightened rows of the ways in which the operator is true of the two sides of a comparison.
+/// The rows of the ways in which the operator is true of the two sides of a comparison.
 #[tactic(auto, using(crate::proofs::ClaimLaws::greater_is_less, crate::proofs::ClaimLaws::at_least_is_at_most))]
 pub(crate) fn ways_by(
     alloc: Global,
@@ -179,7 +178,7 @@ pub(crate) fn ways_by(
     requires versions { VersionsDiffer versions.now }
     requires test { ComparisonIsWell (length versions.now) (comparison test.now) }
     requires fits { AllByRecursion ClaimFits (claims_by op (comparison test.now)) }
-    ensures { IfOk result (λ ways. ways_list ways ≡ tight_claims versions.now (claims_by op (comparison test.now))) }
+    ensures { IfOk result (λ ways. ways_list ways ≡ claim_rows versions.now (claims_by op (comparison test.now))) }
 {
     let left = &test.left;
     let right = &test.right;

@@ -1,11 +1,11 @@
-ghost use Rattle.std.specs.Prelude.{◌≡◌, ◌+◌, ◌<◌, ◌≤◌, ◌^◌, ℕ, ◌++◌, [], ◌∷◌, Some, None, IfOk, OnOk, length, map, drop, vec_len};
+ghost use Rattle.std.specs.Prelude.{◌≡◌, ◌+◌, ◌<◌, ◌≤◌, ◌^◌, ℕ, ◌++◌, [], ◌∷◌, Some, None, IfOk, OnOk, length, drop, slice_index, vec_len};
 ghost use Rattle.std.specs.List.{AllByRecursion};
 ghost use Rattle.boogie_parse.specs.Straight.{comparison, statement};
 ghost use Rattle.boogie_parse.specs.Straight.{program as meant};
 ghost use Rattle.boogie_parse.specs.Claims.{ClaimFits, StatementFits, negated, true_claims, false_claims};
 ghost use Rattle.boogie_parse.specs.WellFormed.{ComparisonIsWell, StatementIsWell, IsWellFormed};
-ghost use Rattle.automizer_top.specs.StraightRows.{obligations};
-ghost use Rattle.automizer_top.specs.Walk.{VersionsDiffer, AreVersions, IsStart, tight_claims, tight_kept, tight_rows, leaf_lists, each_with, Finds, Settles, SettlesStatement};
+ghost use Rattle.automizer_top.specs.StraightRows.{obligations, kept_rows};
+ghost use Rattle.automizer_top.specs.Walk.{VersionsDiffer, AreVersions, IsStart, claim_rows, obligation_rows, leaf_lists, each_with, Finds, Settles, SettlesStatement};
 
 use crate::claims::ways_by;
 use crate::proof_text::LeafPart;
@@ -41,13 +41,14 @@ fn try_assertion(
     requires test { ComparisonIsWell (length way.old.versions.items) (comparison test.now) }
     requires true_fit { AllByRecursion ClaimFits (true_claims (comparison test.now)) }
     requires false_fit { AllByRecursion ClaimFits (false_claims (comparison test.now)) }
+    requires few { length way.old.rows.items + 1 < 2 ^ 32 }
     requires at { at ≤ length leaves.now }
     ensures rows { OnOk result (way.new.rows.items ≡ way.old.rows.items
-        ++ tight_kept way.old.versions.items (true_claims (comparison test.now))) }
+        ++ kept_rows (slice_index way.old.versions.items) (true_claims (comparison test.now))) }
     ensures versions { OnOk result (way.new.versions.items ≡ way.old.versions.items) }
     ensures columns { OnOk result (way.new.columns ≡ way.old.columns) }
     ensures settled { IfOk result (Settles at (leaf_lists leaves.now)
-        (each_with way.old.rows.items (tight_claims way.old.versions.items (false_claims (comparison test.now))))) }
+        (each_with way.old.rows.items (claim_rows way.old.versions.items (false_claims (comparison test.now))))) }
 {
     let ways = ways_by(alloc, &way.versions, negation(test.op), test)?;
     let tried = try_ways(alloc, &mut way.rows, ways, leaves, at)?;
@@ -67,10 +68,12 @@ fn try_statement(
     requires versions { AreVersions way.old.columns way.old.versions.items }
     requires statement { StatementIsWell (length way.old.versions.items) (statement step.now) }
     requires fits { StatementFits (statement step.now) }
+    requires few { length way.old.rows.items + 1 < 2 ^ 32 }
     requires at { at ≤ length leaves.now }
     ensures versions { OnOk result (AreVersions way.new.columns way.new.versions.items) }
     ensures count { OnOk result (length way.new.versions.items ≡ length way.old.versions.items) }
     ensures columns { OnOk result (way.new.columns ≤ way.old.columns + 1) }
+    ensures rows { OnOk result (length way.new.rows.items ≤ length way.old.rows.items + 1) }
     ensures settled { IfOk result (SettlesStatement at (leaf_lists leaves.now) (statement step.now)
         way.old.versions.items way.old.columns way.old.rows.items way.new.versions.items way.new.columns way.new.rows.items) }
 {
@@ -107,7 +110,7 @@ pub(crate) fn first_unrefuted(
 ) -> Result<Option<usize>, AllocError>
     requires well_formed { IsWellFormed (meant program.now) }
     requires short { program.now.locals + vec_len program.now.steps < 2 ^ 32 }
-    ensures { IfOk result (Finds 0 (map tight_rows (obligations (meant program.now))) (leaf_lists leaves.now)) }
+    ensures { IfOk result (Finds 0 (obligation_rows (obligations (meant program.now))) (leaf_lists leaves.now)) }
 {
     let mut way = Way {
         rows: Vec::new(alloc),

@@ -1,4 +1,4 @@
-ghost use Rattle.std.specs.Prelude.{◌≡◌, ◌+◌, ◌<◌, ◌≤◌, ℕ, ◌++◌, [], ◌∷◌, IfOk, OnOk, IsTrue, ◌↔◌, length, map, drop};
+ghost use Rattle.std.specs.Prelude.{◌≡◌, ◌+◌, ◌<◌, ◌≤◌, ◌^◌, ℕ, ◌++◌, [], ◌∷◌, IfOk, OnOk, IsTrue, ◌↔◌, length, map, drop};
 ghost use Rattle.automizer_top.specs.Walk.{FirstRefutes, leaf_lists, each_with, Settles, ways_list};
 
 use crate::claims::Ways;
@@ -23,6 +23,7 @@ fn is_refuted(
     leaves: &[Vec<LeafPart>],
     at: usize,
 ) -> Result<bool, AllocError>
+    requires { length rows.old.items + 1 < 2 ^ 32 }
     ensures same { OnOk result (rows.new.items ≡ rows.old.items) }
     ensures refuted { IfOk result (λ yes. IsTrue yes ↔ FirstRefutes (rows.old.items ++ way ∷ []) (drop at (leaf_lists leaves.now))) }
 {
@@ -44,7 +45,8 @@ fn try_one(
     leaves: &[Vec<LeafPart>],
     at: usize,
 ) -> Result<Tried, AllocError>
-    requires { at ≤ length leaves.now }
+    requires few { length rows.old.items + 1 < 2 ^ 32 }
+    requires at { at ≤ length leaves.now }
     ensures same { OnOk result (rows.new.items ≡ rows.old.items) }
     ensures settled { IfOk result (Settles at (leaf_lists leaves.now) (each_with rows.old.items (way ∷ []))) }
 {
@@ -64,7 +66,8 @@ pub(crate) fn try_ways(
     leaves: &[Vec<LeafPart>],
     at: usize,
 ) -> Result<Tried, AllocError>
-    requires { at ≤ length leaves.now }
+    requires few { length rows.old.items + 1 < 2 ^ 32 }
+    requires at { at ≤ length leaves.now }
     ensures same { OnOk result (rows.new.items ≡ rows.old.items) }
     ensures settled { IfOk result (Settles at (leaf_lists leaves.now) (each_with rows.old.items (ways_list ways))) }
 {

@@ -3,19 +3,18 @@ ghost use Rattle.std.specs.List.{AllByRecursion};
 ghost use Rattle.math_facts.specs.Terms.{opposite, IsBelow};
 ghost use Rattle.math_facts.specs.Fits.{Fits};
 ghost use Rattle.lin_rows.specs.Rows.{LinearRow};
-ghost use Rattle.lin_rows.specs.Tightening.{tightened};
 ghost use Rattle.boogie_parse.specs.Straight.{linear, comparison};
 ghost use Rattle.boogie_parse.specs.Claims.{ClaimFits, claims_by, true_claims, false_claims};
 ghost use Rattle.boogie_parse.specs.WellFormed.{IsLine, ComparisonIsWell};
-ghost use Rattle.automizer_top.specs.StraightRows.{versioned, assignment_row};
-ghost use Rattle.automizer_top.specs.Walk.{VersionsDiffer, AreVersions, tight_claims, tight_kept, ways_list};
+ghost use Rattle.automizer_top.specs.StraightRows.{versioned, assignment_row, kept_rows};
+ghost use Rattle.automizer_top.specs.Walk.{VersionsDiffer, AreVersions, claim_rows, ways_list};
 
-use crate::claims::{Ways, push_opposite_terms, tight_row, ways_by};
+use crate::claims::{Ways, fitting_row, push_opposite_terms, ways_by};
 use boogie_parse::{Line, Test};
 use lin_rows::{Col, Row, RowKind};
 use std::alloc::{AllocError, Global};
 
-/// The way so far: the rows of the statements, tightened, the column of each local's present version, and the number of
+/// The way so far: the rows of the statements, the column of each local's present version, and the number of
 /// columns.
 #[derive(Drop)]
 pub(crate) struct Way {
@@ -24,14 +23,14 @@ pub(crate) struct Way {
     pub columns: Col,
 }
 
-/// The tightened row of `x' - e = 0`, where the column is that of `x'`.
+/// The row of `x' - e = 0`, where the column is that of `x'`.
 fn assignment(alloc: Global, versions: &[Col], column: Col, value: &Line) -> Result<Row, AllocError>
     requires versions { AreVersions column versions.now }
     requires value { IsLine (length versions.now) (linear value.now) }
-    ensures { IfOk result (λ r. r ≡ tightened (assignment_row (slice_index versions.now) column (linear value.now))) }
+    ensures { IfOk result (λ r. r ≡ assignment_row (slice_index versions.now) column (linear value.now)) }
 {
     let terms = assignment_terms(alloc, versions, column, &value.terms)?;
-    tight_row(alloc, &terms, RowKind::Eq, value.constant)
+    fitting_row(alloc, &terms, RowKind::Eq, value.constant)
 }
 
 fn assignment_terms(
@@ -62,7 +61,7 @@ pub(crate) fn assign(
     requires target { target < length way.old.versions.items }
     requires value { IsLine (length way.old.versions.items) (linear value.now) }
     ensures rows { OnOk result (way.new.rows.items ≡ way.old.rows.items
-        ++ tightened (assignment_row (slice_index way.old.versions.items) way.old.columns (linear value.now)) ∷ []) }
+        ++ assignment_row (slice_index way.old.versions.items) way.old.columns (linear value.now) ∷ []) }
     ensures versions { OnOk result (way.new.versions.items ≡ slice_set way.old.versions.items target way.old.columns) }
     ensures columns { OnOk result (way.new.columns ≡ way.old.columns + 1) }
 {
@@ -79,7 +78,7 @@ pub(crate) fn keep(alloc: Global, way: &mut Way, test: &Test) -> Result<(), Allo
     requires test { ComparisonIsWell (length way.old.versions.items) (comparison test.now) }
     requires fits { AllByRecursion ClaimFits (true_claims (comparison test.now)) }
     ensures rows { OnOk result (way.new.rows.items ≡ way.old.rows.items
-        ++ tight_kept way.old.versions.items (true_claims (comparison test.now))) }
+        ++ kept_rows (slice_index way.old.versions.items) (true_claims (comparison test.now))) }
     ensures versions { OnOk result (way.new.versions.items ≡ way.old.versions.items) }
     ensures columns { OnOk result (way.new.columns ≡ way.old.columns) }
 {

@@ -32,9 +32,14 @@ fn adds_up_the_rows_of_the_parts(rt: HostRuntime) -> Result<(), Fail> {
             (1, RowKind::Le, 0),
             (-1, RowKind::Le, 0),
             (1, RowKind::Eq, -1),
+            (2, RowKind::Le, 1),
+            (-2, RowKind::Le, -1),
+            (0, RowKind::Eq, 0),
+            (0, RowKind::Le, -1),
         ],
     )?;
-    let table: [(&[(u64, i128)], bool); 14] = [
+    assert_eq!(rt; rows.len(), 8);
+    let table: [(&[(u64, i128)], bool); 18] = [
         // -x = -1 and x <= 0: 0 <= -1
         (&[(0, -1), (1, 1)], true),
         // 2x <= 1
@@ -49,6 +54,13 @@ fn adds_up_the_rows_of_the_parts(rt: HostRuntime) -> Result<(), Fail> {
         (&[(0, -1), (3, 1)], true),
         // x <= 0 and -x <= 0: 0 <= 0
         (&[(1, 1), (2, 1)], false),
+        // 2x <= 1 is x <= 0, and -2x <= -1 is -x <= -1: 0 <= -1
+        (&[(4, 1), (5, 1)], true),
+        // 0 <= -1 alone, and with 0 = 0
+        (&[(7, 1)], true),
+        (&[(6, -i128::MAX), (7, 1)], true),
+        // the multiplier does not fit, though 0 = 0 would stay 0 = 0
+        (&[(6, i128::MIN), (7, 1)], false),
         // no parts: 0 = 0
         (&[], false),
         // the same row twice, else 0 <= -2
@@ -56,7 +68,7 @@ fn adds_up_the_rows_of_the_parts(rt: HostRuntime) -> Result<(), Fail> {
         // rows out of order, else 0 <= -1
         (&[(1, 1), (0, -1)], false),
         // a row that does not exist
-        (&[(0, -1), (1, 1), (4, 1)], false),
+        (&[(0, -1), (1, 1), (8, 1)], false),
         (&[(0, -1), (1, 1), (u64::MAX, 1)], false),
         // a row that is taken 0 times, of either kind
         (&[(0, -1), (1, 1), (2, 0)], false),
@@ -80,6 +92,7 @@ fn needs_a_row_and_a_multiplier(rt: HostRuntime) -> Result<(), Fail> {
             (1, RowKind::Le, 7),
         ],
     )?;
+    assert_eq!(rt; rows.len(), 3);
     // -x = -1 and x <= 0 say 0 <= -1, but the last part counts too
     for (row, multiplier) in [(None, Some(1)), (Some(2), None), (None, None)] {
         let mut parts = parts_of(rt.alloc(), &[(0, -1), (1, 1)])?;
@@ -89,42 +102,6 @@ fn needs_a_row_and_a_multiplier(rt: HostRuntime) -> Result<(), Fail> {
             !refutes(rt.alloc(), &rows, &parts)?,
             "{row:?}:{multiplier:?}"
         );
-    }
-    Ok(())
-}
-
-#[test]
-fn keeps_all_numbers_within_the_limit(rt: HostRuntime) -> Result<(), Fail> {
-    // the greatest number that fits is 2^127 - 1
-    let most = i128::MAX;
-    let rows = rows_of(
-        rt.alloc(),
-        &[
-            (1, RowKind::Eq, 1),
-            (1, RowKind::Eq, 0),
-            (1, RowKind::Eq, 0),
-            (1, RowKind::Le, 0),
-            (0, RowKind::Eq, 0),
-            (0, RowKind::Le, -1),
-        ],
-    )?;
-    let table: [(&[(u64, i128)], bool); 6] = [
-        // -most*x = -most and most*x <= 0
-        (&[(0, -most), (3, most)], true),
-        // the coefficients of the running sum are -most+1, -most, -most+1, 0
-        (&[(0, 1 - most), (1, -1), (2, 1), (3, most - 1)], true),
-        // here they would be -most, -most-1, -most, 0
-        (&[(0, -most), (1, -1), (2, 1), (3, most)], false),
-        // 0 <= -1 alone, and with 0 = 0 taken -most times
-        (&[(5, 1)], true),
-        (&[(4, -most), (5, 1)], true),
-        // the multiplier does not fit, though 0 = 0 would stay 0 = 0
-        (&[(4, i128::MIN), (5, 1)], false),
-    ];
-    for (given, expected) in table {
-        let parts = parts_of(rt.alloc(), given)?;
-        let found = refutes(rt.alloc(), &rows, &parts)?;
-        assert_eq!(rt; found, expected, "{given:?}");
     }
     Ok(())
 }

@@ -5,7 +5,7 @@ use Rattle.automizer_top.specs.declared.proof_text.Reading.TheVariants.{Leaves}
 use Rattle.automizer_top.specs.ProofReading.{ReadsAs}
 use Rattle.automizer_top.specs.StraightRows.{obligations}
 use Rattle.automizer_top.specs.ProofText.{label_of}
-use Rattle.automizer_top.specs.Walk.{tight_rows}
+use Rattle.automizer_top.specs.Walk.{obligation_rows}
 use Rattle.automizer_top.proofs.JudgedLaws.{accepted_by, bad_triple_by, line_fits}
 use Rattle.automizer_top.proofs.check.judged.Goals as goal
 
@@ -20,7 +20,7 @@ pub overflow_add-result : goal.overflow_add-result
 overflow_add-result c =
     let few : length c.in-Leaves.leaves.items < 2 ^ 63 = omega (arith, c.in-Leaves.leaves.small, c.in-Leaves.leaves.ok) in
     let bound : c.in-Some.number + 2 < 2 ^ 64 =
-    line_fits (map tight_rows (obligations (program c.args.program.now))) c.in-Leaves.leaves.items c.in-Some.number few
+    line_fits (obligation_rows (obligations (program c.args.program.now))) c.in-Leaves.leaves.items c.in-Some.number few
     (rw (← c.deref-in-Leaves.ensures.value, ← c.in-Some.is) c.in_ok-first_unrefuted-in-Leaves.ensures) in
     search rules
 

@@ -7,8 +7,8 @@ use Rattle.automizer_top.specs.StraightRows.{versioned}
 use Rattle.automizer_top.proofs.VersionLaws.{assignment_fits}
 use Rattle.automizer_top.proofs.way.assignment.Goals as goal
 
-pub tight_row-requires : goal.tight_row-requires
-tight_row-requires c =
+pub fitting_row-requires : goal.fitting_row-requires
+fitting_row-requires c =
     let f : FitsSigned w128 c.args.value.now.constant = search rules in
     let terms : c.deref-2.result.now ≡ (c.args.column, pos 1) ∷ opposite (versioned (slice_index c.args.versions.now) c.deref.result.now) = c.deref-2.ensures.value ∙ c.in_ok-terms.ensures in
     rw (terms, c.deref.ensures.value, to_z-of_z) (assignment_fits c.args.versions.now c.args.column (linear c.args.value.now) c.requires.versions c.requires.value)
