@@ -45,11 +45,7 @@ fn one_leaf(alloc: Global, parts: Vec<(u32, i128)>) -> Result<Refutation, AllocE
 }
 
 /// Copies of the rows that the parts name, and the parts over these. `None` where a part cannot follow those before it.
-fn named_rows(
-    alloc: Global,
-    rows: &[Row],
-    parts: &[LeafPart],
-) -> Result<Option<Named>, AllocError>
+fn named_rows(alloc: Global, rows: &[Row], parts: &[LeafPart]) -> Result<Option<Named>, AllocError>
     requires { length rows.now < 2 ^ 32 }
     ensures { IfOk result (λ o. MatchOption o
         ((leaf : List (ℕ × ℤ)) → parts.now ≡ map part_of leaf → NamesRows rows.now 0 leaf → ⊥)
