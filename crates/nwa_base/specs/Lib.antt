@@ -1,0 +1,11 @@
+pub mod Groups
+pub mod Members
+pub mod Letters
+pub mod Words
+pub mod Automata
+pub mod Edges
+pub mod Acceptance
+pub mod Runs
+pub mod Pairs
+pub mod Reading
+pub mod Tracing
