@@ -1,0 +1,5 @@
+use Rattle.nwa_base.proofs.EdgeLemmas.{indexed_none}
+use Rattle.nwa_base.proofs.edges.Edges.new.Goals as goal
+
+pub invariant_of-result : goal.invariant_of-result
+invariant_of-result c = indexed_none _ _ _ c.new.ensures.items c.new-2.ensures c.new-3.ensures

@@ -1,0 +1,32 @@
+//! Nested words and automata over them (Alur and Madhusudan, 2009): what a word is, and when an automaton accepts it.
+//! The laws that other crates build on stand in [`laws`]; [`on_inside`], [`on_call`] and [`on_back`] are the steps by
+//! which an automaton is made deterministic.
+#![tactic(auto)]
+
+mod automata;
+mod back_edges;
+mod building;
+mod edges;
+mod faults;
+mod finals;
+mod groups;
+pub mod laws;
+mod letters;
+mod pairs;
+mod reading;
+mod spelling;
+mod tracing;
+mod words;
+
+pub use automata::Nwa;
+pub use building::empty;
+pub use faults::NwaFault;
+pub use letters::{Kind, Letter};
+pub use pairs::{Pair, on_back, on_call, on_inside};
+pub use reading::{accepts, has_final};
+pub use spelling::word;
+pub use tracing::run_of;
+pub use words::Word;
+
+#[cfg(test)]
+mod tests;
