@@ -46,7 +46,7 @@ def main() -> None:
     names = sys.argv[1:] or sorted(path.stem for path in (TOP / "bench" / "programs").glob("*.txt"))
     with tempfile.TemporaryDirectory() as folder:
         work = pathlib.Path(folder)
-        shutil.copytree(TOP / "crates", work / "crates")
+        shutil.copytree(TOP / "crates", work / "crates", ignore=shutil.ignore_patterns("out"))
         for each in ["crates.txt", "HANDLES"]:
             shutil.copy(TOP / each, work / each)
         for name in names:

@@ -50,6 +50,23 @@ struct Built {
     backs: &'static [(u32, u32, Letter, u32)],
 }
 
+/// A call, an inside letter and a return, one after another. The state before the return is final, too.
+const CALLS_ONCE: Built = Built {
+    states: 4,
+    start: 0,
+    finals: &[2, 3],
+    insides: &[(1, A, 2)],
+    calls: &[(0, C, 1)],
+    backs: &[(2, 0, R, 3)],
+};
+
+/// Words for it, and their only accepting runs, or no states. In the first the call is pending.
+const CALLED_ONCE: [(&[Letter], &[u32]); 3] = [
+    (&[C, A], &[0, 1, 2]),
+    (&[C, A, R], &[0, 1, 2, 3]),
+    (&[C], &[]),
+];
+
 /// Returns read the state before their call: from 0 a call returns to 3, from 1 to 4.
 const REMEMBERS: Built = Built {
     states: 5,
@@ -163,6 +180,31 @@ fn words_have_no_pending_return(rt: HostRuntime) -> Result<(), Fail> {
         );
     }
     Ok(())
+}
+
+#[test]
+fn words_of_one_call(rt: HostRuntime) -> Result<(), Fail> {
+    let nwa = automaton(rt.alloc(), CALLS_ONCE)?;
+    for (letters, run) in CALLED_ONCE {
+        assert_run(&rt, rt.alloc(), &nwa, letters, run)?;
+    }
+    Ok(())
+}
+
+#[test]
+fn states_are_refused_before_letters(rt: HostRuntime) -> Result<(), Fail> {
+    let mut nwa = automaton(rt.alloc(), CALLS_ONCE)?;
+    assert_refused(&rt, nwa.add_inside(9, C, 0), true);
+    assert_refused(&rt, nwa.add_inside(0, C, 1), false);
+    Ok(())
+}
+
+#[test]
+fn the_start_is_a_state(rt: HostRuntime) {
+    match empty(rt.alloc(), 2, 2) {
+        Err(NwaFault::BadState) => {}
+        _ => panic!(rt; "not refused"),
+    }
 }
 
 #[test]
