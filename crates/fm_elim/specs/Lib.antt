@@ -1,0 +1,9 @@
+pub mod Answers
+pub mod Quotients
+pub mod Folds
+pub mod Derivations
+pub mod Columns
+pub mod Values
+pub mod Elimination
+pub mod Climb
+pub mod Worth
