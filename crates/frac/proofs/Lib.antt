@@ -1,7 +1,7 @@
 pub mod Factors
 pub mod Divisors
 pub mod LowestTerms
-mod Reducing
+pub mod Reducing
 mod Sharing
 mod ProductLaws
 mod SignLaws

@@ -1,0 +1,23 @@
+use Rattle.std.proofs.Common.{◌≡◌, Option, None, take, get_or, sym, subst}
+use Rattle.std.specs.List.{fold}
+use Rattle.frac.specs.Fractions.{Fraction}
+use Rattle.fm_elim.specs.Answers.{GivesEnd}
+use Rattle.fm_elim.specs.Folds.{FoldFits}
+use Rattle.fm_elim.specs.Derivations.{DerivedRow}
+use Rattle.fm_elim.specs.Values.{lower_end, raised, RaisedFits}
+use Rattle.fm_elim.proofs.Exits.{exit_part}
+use Rattle.fm_elim.proofs.FoldLaws.{fits_step}
+use Rattle.fm_elim.proofs.values.lower_end.Goals as goal
+
+pub returns-in_err-best : goal.returns-in_err-best
+returns-in_err-best c =
+    let k = c.args.column in
+    let values = c.args.values.now in
+    let rows = c.args.rows.now in
+    let i = c.loop-row.row-index in
+    let r = c.row-item.result in
+    let e : get_or rows i r ≡ r = cc in
+    exit_part c.from_residual.result (GivesEnd (lower_end k values rows)) (FoldFits (raised k values) (RaisedFits k values) None rows) (RaisedFits k values c.loop-row.best r) c.in_err-best.field-0.0
+    (λ h. subst (λ (o : Option Fraction). RaisedFits k values o r) (sym c.loop-row.invariant.value.1)
+    (subst (λ (q : DerivedRow). RaisedFits k values (fold (raised k values) None (take i rows)) q) e (fits_step (raised k values) (RaisedFits k values) None rows i r c.loop-row-test.true h)))
+    c.in_err-best.ensures c.from_residual.ensures.1

@@ -1,0 +1,38 @@
+//! Elimination of the columns of rows over whole numbers, with exact rational values (Fourier, 1826; Motzkin, 1936): rows
+//! that no rational point meets are refuted by multipliers, and for others a point is found.
+#![tactic(auto)]
+
+mod ascent;
+mod columns;
+mod derivations;
+mod descent;
+mod fractions;
+mod numbers;
+mod rows;
+mod solving;
+#[cfg(test)]
+mod tests;
+mod types;
+mod values;
+
+ghost use Rattle.std.specs.Prelude.{ℕ, ℤ, List, map};
+ghost use Rattle.std.specs.List.{AllByRecursion};
+ghost use Rattle.lin_rows.specs.Rows.{LinearRow, IsRow};
+ghost use Rattle.lin_rows.specs.Tightening.{tightened};
+ghost use Rattle.fm_elim.specs.Worth.{Combines, IsSolvable, IsWorth, ColumnsBelow};
+ghost use Rattle.fm_elim.specs.Elimination.{elimination};
+
+pub use solving::eliminate;
+pub use types::{Elim, ElimFault};
+
+/// Rows with a false combination have no rational point (Farkas, 1902).
+pub fn combination_is_sound()
+    ensures { (rows : List LinearRow) (parts : List (ℕ × ℤ)) → Combines rows parts → IsSolvable rows → ⊥ }
+{}
+
+/// The outcome of the elimination is true of the tightened rows: multipliers whose combination is false, or a rational
+/// point that meets the rows. So it refutes exactly where the tightened rows have no rational point.
+pub fn elimination_is_sound()
+    ensures { (columns : ℕ) (rows : List LinearRow) → AllByRecursion IsRow rows → ColumnsBelow columns rows →
+        IsWorth columns (map tightened rows) (elimination columns rows) }
+{}
