@@ -1,6 +1,6 @@
 -- What a call that ends by a fault owes.
 use Rattle.std.proofs.Common.{◌≡◌, Result, Ok, Err, sym, subst, refl}
-use Rattle.std.specs.Result.{IsErrAnd}
+use Rattle.std.specs.Result.{IsErrAnd, MatchResult}
 use Rattle.lin_rows.specs.declared.types.RowFault.{RowFault}
 use Rattle.lin_rows.specs.declared.types.RowFault.TheVariants as row_fault
 use Rattle.fm_elim.specs.declared.types.ElimFault.{ElimFault}
@@ -32,3 +32,8 @@ pub exit_row : {X : Type 0} (r : Result X ElimFault) (P : X → Type 0) (F G : T
 exit_row (Ok x) P F G e f h i = absurd i
 exit_row (Err d) P F G row_fault.Past f h i = subst (λ x. PastOnly x F) (sym i) (λ x. h refl (f x))
 exit_row (Err d) P F G row_fault.Memory f h i = subst (λ x. PastOnly x F) (sym i) tt
+
+-- the fault of a step
+pub exit_step : {X : Type 0} (r : Result X ElimFault) (P : X → Type 0) (F G : Type 0) (e : ElimFault) → (F → G) → PastOnly e G → IsErrAnd r (λ f. f ≡ e) → MatchResult r P (λ f. PastOnly f F)
+exit_step (Ok x) P F G e f h i = absurd i
+exit_step (Err d) P F G e f h i = subst (λ x. PastOnly x F) (sym i) (past_weaker e F G f h)

@@ -19,3 +19,4 @@ pub mod WayBack
 pub mod Outcomes
 pub mod ValueLemmas
 pub mod FoldLaws
+pub mod FreeColumns

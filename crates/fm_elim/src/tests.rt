@@ -29,7 +29,7 @@ enum Wanted {
 }
 
 /// Rows over a number of columns, and what their elimination finds. The column 0 is x, 1 is y, 2 is z.
-const ELIMINATED: [(&[Said], u32, Wanted); 11] = [
+const ELIMINATED: [(&[Said], u32, Wanted); 12] = [
     (&[], 2, Wanted::Point(&[(0, 1), (0, 1)])),
     // 2x <= -3 is tightened to x <= -2, the nearest to 0 is -2
     (&[(&[(0, 2)], LE, -3)], 1, Wanted::Point(&[(-2, 1)])),
@@ -39,6 +39,12 @@ const ELIMINATED: [(&[Said], u32, Wanted); 11] = [
         &[(&[(0, 1)], EQ, 5), (&[(0, -1), (1, 2)], EQ, 0)],
         2,
         Wanted::Point(&[(5, 1), (5, 2)]),
+    ),
+    // y = 5: the other columns stand in no row, and 0 is nearest to 0
+    (
+        &[(&[(1, 1)], EQ, 5)],
+        4,
+        Wanted::Point(&[(0, 1), (5, 1), (0, 1), (0, 1)]),
     ),
     // 2y = 5 is tightened to 0 <= -1
     (&[(&[(1, 2)], EQ, 5)], 2, Wanted::Refuted(&[(0, 1)])),
