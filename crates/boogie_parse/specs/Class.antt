@@ -1,7 +1,7 @@
 -- The classes of bytes that the code of the lexer names.
 use Rattle.std.specs.Prelude.{ℕ, Bool}
-use Rattle.boogie_parse.specs.declared.lexing.front.Class.{Class}
-use Rattle.boogie_parse.specs.declared.lexing.front.Class.TheVariants.{Digit, Name, Line}
+use Rattle.boogie_parse.specs.declared.lexer.runs.Class.{Class}
+use Rattle.boogie_parse.specs.declared.lexer.runs.Class.TheVariants.{Digit, Name, Line}
 use Rattle.boogie_parse.specs.Bytes.{is_digit, is_name_byte}
 use Rattle.boogie_parse.specs.Pieces.{is_in_line}
 

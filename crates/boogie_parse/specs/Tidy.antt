@@ -4,7 +4,7 @@ use Rattle.std.specs.List.{AllByRecursion}
 use Rattle.math_facts.specs.Fits.{Fits}
 use Rattle.boogie_parse.specs.declared.statements.TestOp.{TestOp}
 use Rattle.boogie_parse.specs.declared.statements.TestOp.TheVariants.{Eq, Ne, Lt, Le, Gt, Ge}
-use Rattle.boogie_parse.specs.Meaning.{all_differ, same_local}
+use Rattle.boogie_parse.specs.Differ.{all_differ, same_local}
 use Rattle.boogie_parse.specs.Straight.{Linear, Comparison, Statement, assigns, assumes, asserts}
 
 -- each coefficient fits, and no local stands in two terms

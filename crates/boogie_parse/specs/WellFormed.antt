@@ -5,7 +5,7 @@ use Rattle.math_facts.specs.Fits.{Fits}
 use Rattle.math_facts.specs.Terms.{IsBelow}
 use Rattle.boogie_parse.specs.Straight.{Linear, Comparison, Statement, assigns, assumes, asserts, Program}
 use Rattle.boogie_parse.specs.Claims.{StatementFits}
-use Rattle.boogie_parse.specs.Meaning.{all_differ, same_local}
+use Rattle.boogie_parse.specs.Differ.{all_differ, same_local}
 
 -- a sum over n locals: no local stands twice, and each number fits
 pub record IsLine (n : ℕ) (e : Linear) : Type 0 where
