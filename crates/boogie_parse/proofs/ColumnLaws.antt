@@ -7,7 +7,7 @@ use Rattle.std.proofs.lemmas.Int.{ints, to_z-of_z, fits_signed_from_abs}
 use Rattle.math_facts.specs.Fits.{Fits}
 use Rattle.math_facts.specs.Terms.{coefficient, opposite}
 use Rattle.math_facts.proofs.TermLaws.{coefficient-append, coefficient-opposite}
-use Rattle.boogie_parse.specs.Meaning.{all_differ, same_local}
+use Rattle.boogie_parse.specs.Differ.{all_differ, same_local}
 use Rattle.boogie_parse.specs.Tidy.{TermsAreTidy}
 use Rattle.boogie_parse.proofs.Differ.{all_differ-head}
 

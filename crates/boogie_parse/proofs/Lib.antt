@@ -1,25 +1,15 @@
 pub mod OptionParts
-pub mod TokenLaws
-pub mod WellFormedLaw
-pub mod SyntaxLaws
-pub mod ProgramUnique
 pub mod TokenExtents
 pub mod FirstMark
-pub mod Spelling
-pub mod ReadingPlaces
-pub mod ReadingTurns
-pub mod ReadingSoundTools
-pub mod ReadingSound
-pub mod ReadingCompleteTools
-pub mod ReadingComplete
-pub mod ReadingLaws
+pub mod Blanks
 pub mod Differ
 pub mod NameLaws
+mod FormLaws
+mod FormValue
+mod FormRowLaws
+mod FirstFormLaws
+mod StepLaws
 pub mod LiteralLaws
-pub mod SumLaws
-pub mod TidyLaws
-pub mod CommandLaws
-pub mod ProgramLaws
 pub mod ColumnLaws
 pub mod ClaimLaws
 pub mod EnclosedLaws
@@ -31,3 +21,48 @@ pub mod PieceViewLaws
 pub mod FrontTurns
 pub mod TokenTurns
 pub mod SliceLaws
+pub mod ExpressionSteps
+pub mod ExpressionSound
+pub mod ExpressionComplete
+pub mod ExpressionRoom
+mod ListTurns
+mod ProgramCounts
+mod ListSound
+mod ConditionSound
+mod StatementSound
+mod ProgramSound
+mod ListComplete
+mod ConditionComplete
+mod StatementComplete
+mod ProgramComplete
+mod ExpressionRefusals
+mod ProgramRefusals
+mod ProgramRoom
+pub mod LiteralTokens
+pub mod WholeText
+pub mod Spellings
+pub mod SyntaxFaults
+pub mod LimitFaults
+pub mod LimitPlaces
+pub mod TokenFaults
+mod SettledTools
+mod SettledExpressions
+mod SettledPrograms
+pub mod BodyLengths
+pub mod FirstFormLengths
+mod PrintedPieces
+mod PrintedTexts
+mod PrintedExpressions
+mod PrintedLists
+mod PrintedStatements
+mod PrintedPrograms
+mod SpellableTrees
+mod SpellableTokens
+mod RespelledTools
+mod RespelledRest
+mod RespelledExpressions
+mod RespelledLists
+mod RespelledStatements
+mod RespelledPrograms
+mod RespelledLimits
+mod RoundTrip

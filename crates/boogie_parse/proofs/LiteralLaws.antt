@@ -4,8 +4,8 @@ use Rattle.std.specs.Char.{digit_value}
 use Rattle.std.specs.Str.Parse.{digits_value_after}
 use Rattle.std.proofs.lemmas.Bool.Decides.{nat_tests}
 use Rattle.std.proofs.lemmas.List.{at_drop_more}
-use Rattle.boogie_parse.specs.Meaning.{value_of}
-use Rattle.boogie_parse.specs.Sums.{literal_of, digit_after}
+use Rattle.boogie_parse.specs.Literals.{value_of}
+use Rattle.boogie_parse.specs.Literals.{literal_of, digit_after}
 
 -- more digits make no number smaller
 pub digits_value_after-ge : (n : ℕ) (digits : List ℕ) → n ≤ digits_value_after 10 n digits

@@ -8,7 +8,8 @@ use Rattle.std.specs.Borrow.{Bor}
 use Rattle.std.proofs.lemmas.Bool.{cases_Bool, false≢true}
 use Rattle.std.proofs.lemmas.Slice.Eq.{bytes_eq-Decides}
 use Rattle.std.proofs.lemmas.List.{take_more, map-append, length-map, take-append-drop, drop_more, length-take-le}
-use Rattle.boogie_parse.specs.Meaning.{place_of, all_differ}
+use Rattle.boogie_parse.specs.Differ.{all_differ}
+use Rattle.boogie_parse.specs.Forms.{place_of}
 use Rattle.boogie_parse.specs.Names.{texts}
 use Rattle.boogie_parse.proofs.Differ.{all_differ_push, all_differ_repeat}
 

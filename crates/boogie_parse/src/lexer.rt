@@ -1,15 +1,19 @@
 //! The tokens of a text, attributes left out, or its first lexical fault.
 
 ghost use Rattle.std.specs.Prelude.{◌≡◌, ◌≢◌, ◌+◌, ◌<◌, ◌^◌, length, map, Ok, Err, IfOk, IfErr};
+ghost use Rattle.std.specs.List.{AllByRecursion};
+ghost use Rattle.boogie_parse.specs.Symbols.{LiteralFits};
 ghost use Rattle.boogie_parse.specs.Lexed.{found_in, tokens_or_fault, lexed};
 ghost use Rattle.boogie_parse.specs.PieceViews.{piece};
 ghost use Rattle.boogie_parse.specs.Slices.{AreSlices};
 
 mod attributes;
+mod bytes;
 mod enclosed;
 mod fronts;
 mod judgement;
 mod piece;
+mod runs;
 mod scan;
 #[cfg(test)]
 mod tests;
@@ -19,6 +23,7 @@ use crate::fault::Fault;
 use attributes::{attribute_length, begins_attribute};
 use judgement::judged;
 use piece::Piece;
+pub(crate) use scan::behind;
 use scan::pieces;
 use std::alloc::Global;
 pub use token::Token;
@@ -34,6 +39,7 @@ pub fn lex(alloc: Global, text: &[u8]) -> Result<Vec<Token>, Fault>
     ensures tokens { IfOk result (λ ts. lexed text.now ≡ Ok ts.items) }
     ensures fault { IfErr result (λ f. f ≢ Fault.Memory → lexed text.now ≡ Err f) }
     ensures slices { IfOk result (λ ts. AreSlices 0 text.now ts.items) }
+    ensures literals { IfOk result (λ ts. AllByRecursion LiteralFits ts.items) }
 {
     let pieces = pieces(alloc, text)?;
     tokens_of(alloc, &pieces)

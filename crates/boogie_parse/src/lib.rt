@@ -1,18 +1,23 @@
-//! Reads programs: the tokens of a text, and the first form of programs, straight-line programs over whole numbers.
+//! Reads programs: the tokens of a text, programs of the whole language, and the first form, straight-line programs over whole numbers.
 #![tactic(auto)]
 
 mod fault;
+mod grammar;
 mod lexer;
-mod lexing;
-mod parsing;
-mod reading;
-mod resolving;
+mod literals;
+mod printed;
 mod statements;
+mod straight;
+mod symbols;
 mod token;
-mod tree;
+mod whole_text;
 
 pub use fault::{Fault, What, Which};
 pub use lexer::{Token, lex};
-pub use reading::{StraightFault, one_program, straight};
 pub use statements::{Line, Plain, Straight, Test, TestOp};
+pub use straight::laws::{forms_have_the_value, one_program, straight_programs_are_short};
+pub use straight::straight_of;
 pub use token::TokenKind;
+pub use whole_text::{
+    bodies_are_short, one_program_tree, parse, printed_programs_are_read_again, texts_are_read,
+};

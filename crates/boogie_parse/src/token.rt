@@ -8,10 +8,3 @@ pub enum TokenKind {
     /// An operator or a mark of punctuation.
     Mark,
 }
-
-/// A token of a text, with the slice that it is.
-#[derive(Clone, Copy)]
-pub(crate) struct Token<'a> {
-    pub kind: TokenKind,
-    pub text: &'a [u8],
-}

@@ -7,11 +7,11 @@ ghost use Rattle.boogie_parse.specs.Pieces as spec;
 ghost use Rattle.boogie_parse.specs.PieceViews.{front};
 ghost use Rattle.boogie_parse.specs.Turns.{first_mark, front_of};
 
+use super::bytes::{is_blank, is_digit, is_name_byte};
 use super::enclosed::{comment_length, string_length};
 use super::piece::{Front, Shape};
-use crate::lexing::bytes::{is_blank, is_digit, is_name_byte};
-use crate::lexing::front::{Class, makes_real, mark_at, run};
-use crate::resolving::literals::literal;
+use super::runs::{Class, makes_real, mark_at, run};
+use crate::literals::literal;
 use crate::token::TokenKind;
 
 // A text that begins with a digit. A literal that is too large is no real, whatever stands behind it.

@@ -29,8 +29,8 @@ fn behind_byte(b: u8, here: Span) -> Span
     }
 }
 
-// The place behind bytes that begin here.
-fn behind(bytes: &[u8], here: Span) -> Span
+/// The place behind bytes that begin here.
+pub(crate) fn behind(bytes: &[u8], here: Span) -> Span
     requires lines { here.line + length bytes.now < 2 ^ 32 }
     requires columns { here.col + length bytes.now < 2 ^ 32 }
     ensures { result ≡ places.behind bytes.now here }

@@ -1,0 +1,7 @@
+use Rattle.boogie_parse.specs.ListReading.{expression_at}
+use Rattle.boogie_parse.proofs.ConditionSound.{expression_at-sound}
+use Rattle.boogie_parse.proofs.ProgramSound.{program-sound}
+use Rattle.boogie_parse.proofs.grammar.laws.programs_are_read.Goals as goal
+
+pub returns : goal.returns
+returns c end p b v q ts = program-sound (expression_at end) end p b v (expression_at-sound end) q ts

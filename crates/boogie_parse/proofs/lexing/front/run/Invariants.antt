@@ -1,7 +1,0 @@
-use Rattle.std.proofs.Common.{◌≡◌, ◌+◌, drop}
-use Rattle.boogie_parse.specs.Tokens.{run}
-use Rattle.boogie_parse.specs.Class.{passes}
-use Rattle.boogie_parse.proofs.lexing.front.run.Given as goal
-
-abbrev pub invariant-loop-i : goal.invariant-loop-i
-invariant-loop-i l = l.i + run (passes l.class) (drop l.i l.text) ≡ run (passes l.class) l.text

@@ -1,0 +1,14 @@
+use Rattle.std.proofs.Common.{sym, subst}
+use Rattle.boogie_parse.specs.PrintedTokens.{HasSigns}
+use Rattle.boogie_parse.specs.GrammarProgram.{joined}
+use Rattle.boogie_parse.proofs.SpellableTokens.{lexed_spellable}
+use Rattle.boogie_parse.proofs.SpellableTrees.{program_of}
+use Rattle.boogie_parse.proofs.PrintedPrograms.{program_has_signs}
+use Rattle.boogie_parse.proofs.printed.read_programs_are_spellable.Goals as goal
+
+pub returns-clause-spellable : goal.returns-clause-spellable
+returns-clause-spellable c text groups h = program_of h.spelled (lexed_spellable text h.tokens h.lexical)
+
+pub returns-clause-printed : goal.returns-clause-printed
+returns-clause-printed c text program h =
+    subst HasSigns (sym h.declarations) (program_has_signs (joined h.groups) (program_of h.spelled (lexed_spellable text h.tokens h.lexical)))

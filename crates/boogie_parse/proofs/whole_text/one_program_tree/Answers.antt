@@ -1,0 +1,5 @@
+use Rattle.boogie_parse.proofs.WholeText.{one_program}
+use Rattle.boogie_parse.proofs.whole_text.one_program_tree.Goals as goal
+
+pub returns : goal.returns
+returns c = one_program

@@ -1,0 +1,61 @@
+ghost use Rattle.std.specs.Prelude.{◌≡◌, ◌<◌, ◌≤◌, suc, max, IfOk};
+ghost use Rattle.boogie_tree.specs.Tree.{Bin};
+ghost use Rattle.boogie_tree.specs.View.{kind_view};
+ghost use Rattle.boogie_parse.specs.GrammarLimits.{depth};
+ghost use Rattle.boogie_parse.specs.ExpressionReading.{done};
+ghost use Rattle.boogie_parse.specs.ExpressionViews.{tree, Gives, HasHeight};
+
+use super::parser::Parser;
+use crate::fault::Fault;
+use crate::symbols::Symbol;
+use boogie_tree::{Expr, ExprKind, Op, Span};
+
+/// An expression that was read.
+#[derive(Drop)]
+pub(crate) struct Found<'a> {
+    pub expr: Box<Expr>,
+    /// How deep the expression is: 0 for a name or a literal, else one more than its deepest part.
+    pub height: u8,
+    /// The symbols behind it.
+    pub rest: &'a [Symbol],
+}
+
+impl Parser {
+    /// The expression of that kind and height.
+    pub(crate) fn node<'a>(
+        &self,
+        span: Span,
+        kind: ExprKind,
+        height: u8,
+        rest: &'a [Symbol],
+    ) -> Result<Found<'a>, Fault>
+        requires { height ≡ depth (kind_view span kind) }
+        ensures gives { Gives result (done (kind_view span kind) rest.entry.now) }
+        ensures height { IfOk result HasHeight }
+        ensures same { IfOk result (λ f. f.height ≡ height) }
+    {
+        let expr = Box::new(self.alloc, Expr { span, kind })?;
+        Ok(Found { expr, height, rest })
+    }
+
+    /// The operation on two operands, of which the right one was read last.
+    pub(crate) fn operation<'a>(
+        &self,
+        span: Span,
+        op: Op,
+        left: Found<'_>,
+        right: Found<'a>,
+    ) -> Result<Found<'a>, Fault>
+        requires left_low { left.height < 255 }
+        requires right_low { right.height < 255 }
+        requires left_height { HasHeight left }
+        requires right_height { HasHeight right }
+        ensures gives { Gives result (done (Bin span op (tree left.entry) (tree right.entry)) right.entry.rest.now) }
+        ensures height { IfOk result HasHeight }
+        ensures same { IfOk result (λ f. f.height ≡ suc (max left.entry.height right.entry.height)) }
+    {
+        let height = left.height.max(right.height) + 1;
+        let kind = ExprKind::Bin(op, left.expr, right.expr);
+        self.node(span, kind, height, right.rest)
+    }
+}

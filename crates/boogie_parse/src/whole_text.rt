@@ -1,0 +1,74 @@
+//! Programs of whole texts.
+
+ghost use Rattle.std.specs.Prelude.{◌≡◌, ℕ, ◌+◌, ◌<◌, ◌≤◌, ◌^◌, List, length, Ok, Err, IfOk, IfErr};
+ghost use Rattle.std.specs.List.{AllByRecursion};
+ghost use Rattle.boogie_tree.specs.Tree.{Declaration};
+ghost use Rattle.boogie_tree.specs.View.{program};
+ghost use Rattle.boogie_parse.specs.Lexed.{lexed};
+ghost use Rattle.boogie_parse.specs.GrammarLimits.{IsProgram};
+ghost use Rattle.boogie_parse.specs.ListViews.{Gives};
+ghost use Rattle.boogie_parse.specs.Respelled.{IsProgramAgain};
+ghost use Rattle.boogie_tree.specs.Printing.{program_text};
+ghost use Rattle.boogie_parse.specs.BodyLengths.{body_length};
+ghost use Rattle.boogie_parse.specs.WholeText.{end_of, read_text, IsOrMemory, IsOutside, IfSyntax, IfLimit, IsLimitAt, IfTokenFault};
+
+#[cfg(test)]
+mod tests;
+
+use crate::fault::Fault;
+use crate::grammar::parser::Parser;
+use crate::lexer::{behind, lex};
+use crate::symbols::symbols;
+use boogie_tree::{Program, Span};
+use std::alloc::Global;
+
+/// The place just past the text's end.
+fn end_of(text: &[u8]) -> Span
+    requires { length text.now + 1 < 2 ^ 32 }
+    ensures { result ≡ end_of text.now }
+{
+    behind(text, Span { line: 1, col: 1 })
+}
+
+/// The program that a text spells; else the first fault.
+///
+/// A fault of the tokens comes before all others. `Syntax` stands at the first token that can't stand there, or just past the
+/// text's end. `Limit` stands at the first token that goes past a limit: 200 open parentheses, 200 open blocks, an expression
+/// 200 deep, 1,000 variables in one declaration, 1,000 procedures. Takes time and memory linear in the text.
+pub fn parse(alloc: Global, text: &[u8]) -> Result<Program, Fault>
+    requires short { length text.now + 1 < 2 ^ 32 }
+    ensures read { Gives program result (read_text text.now) }
+    ensures found { IfOk result (λ p. IsProgram text.now (program p)) }
+    ensures syntax { IfErr result (λ f. IfSyntax f (IsOutside text.now)) }
+    ensures only { (ds : List Declaration) → IsProgram text.now ds → IsOrMemory result ds }
+    ensures limits { IfErr result (λ f. IfLimit f (IsLimitAt text.now)) }
+    ensures tokens { IfErr result (λ f. IfTokenFault f (lexed text.now ≡ Err f)) }
+    ensures again { IfOk result (λ p. IsProgramAgain (program_text (program p)) (program p)) }
+{
+    let tokens = lex(alloc, text)?;
+    let symbols = symbols(alloc, tokens)?;
+    let end = end_of(text);
+    (Parser { alloc, end }).program(&symbols)
+}
+
+/// The text that a program of a text is printed as spells that program, apart from places. So `parse` of what `print` wrote
+/// of a program that was parsed gives that program, apart from places, where it is short enough and memory is found.
+pub fn printed_programs_are_read_again()
+    ensures { (text : List ℕ) (ds : List Declaration) → IsProgram text ds → IsProgramAgain (program_text ds) ds }
+{}
+
+/// A text spells one program at most.
+pub fn one_program_tree()
+    ensures { (text : List ℕ) (a b : List Declaration) → IsProgram text a → IsProgram text b → a ≡ b }
+{}
+
+/// What a text is read as is its program by the grammar, within the limits, and the other way round.
+pub fn texts_are_read()
+    ensures sound { (text : List ℕ) (ds : List Declaration) → read_text text ≡ Ok ds → IsProgram text ds }
+    ensures complete { (text : List ℕ) (ds : List Declaration) → IsProgram text ds → read_text text ≡ Ok ds }
+{}
+
+/// A program has no more statements in a body than its text has bytes.
+pub fn bodies_are_short()
+    ensures { (text : List ℕ) (ds : List Declaration) → IsProgram text ds → AllByRecursion (λ d. body_length d ≤ length text) ds }
+{}
