@@ -10,7 +10,7 @@ use Rattle.lin_rows.proofs.SystemLaws.{members_of-append}
 use Rattle.farkas_check.specs.declared.refutations.Node.{Node}
 use Rattle.farkas_check.specs.Nodes.{PlainNode, plain, plain_nodes, cases}
 use Rattle.farkas_check.specs.Refutes.{Goal, with_member, Refute}
-use Rattle.farkas_check.specs.Walks.{LeavesGoals, LeavesNone}
+use Rattle.farkas_check.specs.Walks.{LeavesGoals, LeavesNone, OpensGroup}
 use Rattle.farkas_check.proofs.NodeLaws.{plain_from, plain_none}
 
 -- ---- cases
@@ -111,3 +111,17 @@ held_more refs refs' initial ref more i d l h e f =
     let a : map (λ (g : Bor (List System)). g.now) refs' ≡ map (λ (g : Bor (List System)). g.now) refs ++ ref.now ∷ [] = ap (map (λ (g : Bor (List System)). g.now)) e ∙ map-append (λ (g : Bor (List System)). g.now) refs (ref ∷ []) in
     let b : members_of (take (i + 1) more) ≡ members_of (take i more) ++ (get_or more i d).items ∷ [] = ap members_of (take_more more i d l) ∙ members_of-append (take i more) (get_or more i d ∷ []) in
     rw (a, h, b, f) (append_assoc (map (λ (g : Bor (List System)). g.now) initial) (members_of (take i more)) ((get_or more i d).items ∷ []))
+
+-- ---- groups that are opened
+
+-- the group at the place i is taken away
+pub opens_at : (rows : List LinearRow) (groups : List (List System)) (i : ℕ) (members : List System) (left new_left : List Goal) → i < length groups →
+    members ≡ get_or groups i members → new_left ≡ map (with_member (goal_from rows groups (i + 1))) members ++ left →
+    OpensGroup (goal_from rows groups i) left (length members) new_left
+opens_at rows groups i members left new_left l e w = record {
+  members = members;
+  groups = drop (i + 1) groups;
+  taken = drop_more groups i members l ∙ ap (λ (m : List System). m ∷ drop (i + 1) groups) (sym e);
+  count = refl;
+  wait = w;
+}

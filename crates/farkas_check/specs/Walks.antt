@@ -58,6 +58,20 @@ pub record HoldsSame (old new : Walk) : Type 0 where
   pub groups : new.groups.items ≡ old.groups.items
   pub first : new.first ≡ old.first
 
+-- the first group of the goal has n members, and is taken away: a goal for each of them waits in front of the others
+pub record OpensGroup (goal : Goal) (left : List Goal) (n : ℕ) (new_left : List Goal) : Type 0 where
+  pub members : List System
+  pub groups : List (List System)
+  pub taken : goal.groups ≡ members ∷ groups
+  pub count : n ≡ length members
+  pub wait : new_left ≡ map (with_member (record { rows = goal.rows; groups = groups })) members ++ left
+
+-- the goal has no group, and nothing changes
+pub record HasNoGroup (goal : Goal) (left : List Goal) (new_goal : Goal) (new_left : List Goal) : Type 0 where
+  pub none : goal.groups ≡ []
+  pub same_goal : new_goal ≡ goal
+  pub same_left : new_left ≡ left
+
 -- a node with which the old goals become the new ones
 abbrev pub LeavesGoals : PlainNode → List Goal → List Goal → Type 0
 LeavesGoals n old new = (ns : List PlainNode) → Refute ns new ↔ Refute (n ∷ ns) old

@@ -18,6 +18,7 @@ ghost use Rattle.farkas_check.specs.Trees.{Tree, prefix_of, TreeRefutes, IsPrefi
 
 pub use checking::check;
 pub use refutations::{Node, Refutation, tree};
+pub use walk::Walk;
 
 /// A system that a tree refutes is met by no whole point.
 pub fn refutation_is_sound()

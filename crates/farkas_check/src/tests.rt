@@ -355,6 +355,33 @@ fn groups_of_members_come_last(rt: HostRuntime) -> Result<(), Fail> {
 }
 
 #[test]
+fn goals_are_walked_one_by_one(rt: HostRuntime) -> Result<(), Fail> {
+    let alloc = rt.alloc();
+    let system = nested(alloc)?;
+    let mut walk = Walk::new(alloc, &system)?;
+    // three groups of one member each add a row each: x <= 0, x <= 5 and -x <= -1
+    for held in 0..3 {
+        assert!(rt; walk.take_goal()?);
+        assert_eq!(rt; walk.rows().len(), held);
+        assert_eq!(rt; walk.open_group()?, Some(1));
+    }
+    assert!(rt; walk.take_goal()?);
+    assert_eq!(rt; walk.open_group()?, None);
+    assert_eq!(rt; walk.rows().len(), 3);
+    // the sides of the cut have one row more
+    walk.open_cut(0, 7)?;
+    for wanted in [7, -8] {
+        assert!(rt; walk.take_goal()?);
+        let [_, _, _, side] = walk.rows() else {
+            panic!(rt; "four rows");
+        };
+        assert_eq!(rt; side.bound(), wanted);
+    }
+    assert!(rt; !walk.take_goal()?);
+    Ok(())
+}
+
+#[test]
 fn an_empty_group_refutes(rt: HostRuntime) -> Result<(), Fail> {
     let alloc = rt.alloc();
     let mut system = System {

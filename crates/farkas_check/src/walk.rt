@@ -1,6 +1,6 @@
 //! The walk along a prefix list: the goal at hand, and the goals that wait.
 
-ghost use Rattle.std.specs.Prelude.{◌≡◌, ◌≤◌, ◌∷◌, [], ◌++◌, ◌↔◌, IfOk, OnOk, IsSome, IfSome, MatchBool, length, map};
+ghost use Rattle.std.specs.Prelude.{◌≡◌, ◌≤◌, ◌∷◌, [], ◌++◌, ◌↔◌, IfOk, OnOk, IsSome, IfSome, MatchBool, MatchOption, length, map};
 ghost use Rattle.math_facts.specs.Fits.{Fits};
 ghost use Rattle.lin_rows.specs.Negating.{below_opposite};
 ghost use Rattle.lin_rows.specs.Tightening.{tightened};
@@ -91,10 +91,12 @@ pub(crate) struct Frame<'a> {
     first: usize,
 }
 
-/// The rows and groups of the goal at hand, and the nodes that wait, the newest last. The groups from `first` on are still
-/// to be taken. What a waiting node adds stands behind what it began with, so going back only cuts off.
+/// The goals of a system, one by one: what a tree of cuts and cases has to refute. One goal is at hand, others wait. A goal
+/// that is taken up may be opened, by its first group or by a cut, and then goals that it comes down to wait in its place.
+// The nodes that wait stand in `frames`, the newest last. The groups from `first` on are still to be taken. What a waiting
+// node adds stands behind what it began with, so going back only cuts off.
 #[derive(Drop)]
-pub(crate) struct Walk<'a> {
+pub struct Walk<'a> {
     alloc: Global,
     rows: Vec<Row>,
     groups: Vec<&'a [System]>,
@@ -103,12 +105,12 @@ pub(crate) struct Walk<'a> {
 }
 
 impl<'a> Walk<'a> {
-    ghost use Rattle.farkas_check.specs.Walks.{goals_of, goal_of_lengths, waiting_of_lengths, frame_at, HoldsSame, goal_at_hand, goals_left, goals_with, LeavesGoals, LeavesNone};
+    ghost use Rattle.farkas_check.specs.Walks.{goals_of, goal_of_lengths, waiting_of_lengths, frame_at, HoldsSame, goal_at_hand, goals_left, goals_with, OpensGroup, HasNoGroup, LeavesGoals, LeavesNone};
     ghost use Rattle.farkas_check.specs.Nodes.{cut, cases};
     ghost use Rattle.farkas_check.specs.Refutes.{with_row, with_member};
 
     /// A walk for which one goal waits, that of the system.
-    pub(crate) fn new(alloc: Global, system: &'a System) -> Result<Self, AllocError>
+    pub fn new(alloc: Global, system: &'a System) -> Result<Self, AllocError>
         ensures { IfOk result (λ w. goals_left w ≡ goal_of system.now ∷ []) }
     {
         let mut walk = Walk {
@@ -153,7 +155,7 @@ impl<'a> Walk<'a> {
     }
 
     /// Takes up the next goal. False where none waits.
-    pub(crate) fn take_goal(&mut self) -> Result<bool, AllocError>
+    pub fn take_goal(&mut self) -> Result<bool, AllocError>
         ensures { IfOk result (λ more. MatchBool more
             (goals_left self.old ≡ goal_at_hand self.new ∷ goals_left self.new)
             (goals_left self.old ≡ [])) }
@@ -164,6 +166,43 @@ impl<'a> Walk<'a> {
             }
         }
         Ok(false)
+    }
+
+    /// The rows of the goal at hand, tightened.
+    pub fn rows(&self) -> &[Row]
+        ensures { result.now ≡ (goal_at_hand self.now).rows }
+    {
+        self.rows.as_slice()
+    }
+
+    /// Takes the first group of the goal at hand away: a goal for each of its members waits, in order, before those that
+    /// waited. Says how many members there are. `None` where no group is left, and then nothing changes.
+    pub fn open_group(&mut self) -> Result<Option<usize>, AllocError>
+        ensures { IfOk result (λ o. MatchOption o
+            (HasNoGroup (goal_at_hand self.old) (goals_left self.old) (goal_at_hand self.new) (goals_left self.new))
+            (λ n. OpensGroup (goal_at_hand self.old) (goals_left self.old) n (goals_left self.new))) }
+    {
+        if self.first >= self.groups.len() {
+            return Ok(None);
+        }
+        let members = self.groups[self.first];
+        self.first += 1;
+        self.wait(Rest::Members(members))?;
+        Ok(Some(members.len()))
+    }
+
+    /// Cuts the goal at hand: a goal with `column <= k` waits, then one with `-column <= -k-1`, before those that waited.
+    pub fn open_cut(&mut self, column: Col, k: i128) -> Result<(), AllocError>
+        requires fits { Fits k }
+        requires opposite_fits { Fits (below_opposite k) }
+        ensures { OnOk result
+            (goals_left self.new ≡ with_row (goal_at_hand self.old) (at_most column k)
+            ∷ with_row (goal_at_hand self.old) (above column k) ∷ goals_left self.old) }
+    {
+        let Some(sides) = Cut::new(column, k) else {
+            unreachable!();
+        };
+        self.wait(Rest::BothSides(sides))
     }
 
     /// Goes back to the goal of a frame, and takes up what is left of its node. False where nothing is left.
