@@ -1,0 +1,5 @@
+use Rattle.std.proofs.Common.{◌≡◌, ◌++◌, replicate}
+use Rattle.int_decide.proofs.search.push_copies.Given as goal
+
+abbrev pub invariant-loop-time : goal.invariant-loop-time
+invariant-loop-time l = l.numbers.items ≡ l.initial.numbers.items ++ replicate l._time l.number

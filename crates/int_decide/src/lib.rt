@@ -1,0 +1,18 @@
+//! Whether a system over whole numbers has a whole point: refuted by a tree of cuts and cases, or met by a point that is
+//! found.
+#![tactic(auto)]
+
+mod deciding;
+mod laws;
+mod search;
+#[cfg(test)]
+mod tests;
+mod types;
+mod values;
+
+pub use deciding::{decide, plain};
+pub use laws::{
+    decisions_are_sound, group_count_is_enough, refuted_systems_have_no_whole_point,
+    rows_are_refuted_exactly,
+};
+pub use types::{Answer, DecideFault};

@@ -1,0 +1,330 @@
+ghost use Rattle.std.specs.Prelude.{◌≤◌, ◌<◌, suc, IsTrue, IfSome};
+ghost use Rattle.std.specs.List.{AllByRecursion};
+ghost use Rattle.math_facts.specs.Terms.{IsBelow};
+ghost use Rattle.fm_elim.specs.Worth.{ColumnsBelow};
+ghost use Rattle.int_decide.specs.Sizes.{total, extent, SystemBelow};
+
+use super::*;
+use farkas_check::Node;
+use lin_rows::{Row, RowKind, System, row};
+use std::alloc::{AllocError, Global};
+use std::test::Fail;
+
+// Systems over the columns below a number, and what Decide answers at the depths 0, 1 and 2; the last text holds for the depths
+// after it, too. A row gives the coefficients of the columns from 0 on; groups follow in braces, the members parted by `|`.
+// `W 5 -2` is a whole point, `G` a gap and `P` a number that does not fit. Else these are the nodes of a refutation: `L 0:1 1:-1`
+// is a leaf with its parts, `C 1 2` a cut of column 1 at 2, and `A 3` cases of 3 members. bench/decide_rows.py computes all but
+// `P` from the definition.
+const DECIDED: [(u32, &str, &[&str]); 54] = [
+    (
+        2,
+        "1 0 = 5,-1 2 = 0",
+        &["G", "C 1 2 L 0:-1 1:-1 2:2 L 0:1 1:1 2:2"],
+    ),
+    (1, "2 = 5", &["L 0:1"]),
+    (1, "", &["W 0"]),
+    (3, "", &["W 0 0 0"]),
+    (1, "-1 <= -4", &["W 4"]),
+    (1, "2 <= -3", &["W -2"]),
+    (1, "1 <= 2,-1 <= -3", &["L 0:1 1:1"]),
+    (1, "2 <= 5,-2 <= -5", &["L 0:1 1:1"]),
+    (1, "3 <= 8,-3 <= -7", &["L 0:1 1:1"]),
+    (1, "1 = 1,1 = 2", &["L 0:1 1:-1"]),
+    (1, "3 = 6,-1 <= 0", &["W 2"]),
+    (1, "0 <= -1", &["L 0:1"]),
+    (1, "0 = 0", &["W 0"]),
+    (2, "3 5 = 7", &["G", "W -1 2"]),
+    (2, "3 5 = 4,-1 0 <= -2", &["G", "W 3 -1"]),
+    (2, "2 4 = 3", &["L 0:1"]),
+    (
+        2,
+        "2 2 <= 3,-2 -2 <= -1,1 -1 = 0",
+        &["G", "C 0 0 L 1:1 2:-1 3:2 L 0:1 2:1 3:2"],
+    ),
+    (
+        2,
+        "1 -1 = 0,1 1 = 1",
+        &["G", "C 0 0 L 0:-1 1:-1 2:2 L 0:1 1:1 2:2"],
+    ),
+    (2, "2 3 <= 11,1 -1 <= 0,-1 0 <= -2,1 0 <= 7", &["W 2 2"]),
+    (2, "2 3 <= 11,1 -1 <= 0,-1 0 <= -3", &["L 0:1 1:3 2:5"]),
+    (
+        2,
+        "2 -3 = 1,-1 0 <= -1,1 0 <= 1",
+        &["G", "C 1 0 L 0:1 1:2 3:3 L 0:-1 2:2 3:3"],
+    ),
+    (2, "2 -3 = 1,-1 0 <= 0,1 0 <= 1", &["G"]),
+    (
+        2,
+        "3 -2 <= 0,-3 2 <= 0,-1 0 <= -1,1 0 <= 1",
+        &["G", "C 1 1 L 0:1 2:3 4:2 L 1:1 3:3 4:2"],
+    ),
+    (2, "2 -2 <= 1,-2 2 <= -1", &["L 0:1 1:1"]),
+    (
+        2,
+        "3 2 = 0,3 -2 = 3",
+        &["G", "C 0 0 L 0:-1 1:-1 2:6 L 0:1 1:1 2:6"],
+    ),
+    (2, "4 2 <= 3,-4 -2 <= -3,-1 0 <= 0", &["L 0:1 1:1"]),
+    (2, "3 -3 = 1", &["L 0:1"]),
+    (
+        2,
+        "5 -3 <= 1,-5 3 <= -1,-1 0 <= 0,1 0 <= 2",
+        &["G", "G", "W 2 3"],
+    ),
+    (2, "7 -5 = 1,-1 0 <= 0,1 0 <= 2", &["G"]),
+    (2, "2 -5 = 3,1 0 <= -1,-1 0 <= 9", &["W -1 -1"]),
+    (
+        3,
+        "1 -1 0 <= -1,0 1 -1 <= -1,-1 0 1 <= 1",
+        &["L 0:1 1:1 2:1"],
+    ),
+    (3, "1 -1 0 <= -1,0 1 -1 <= -1,-1 0 1 <= 2", &["W 0 1 2"]),
+    (3, "1 1 1 = 3,1 -1 0 = 0,0 1 -1 = 0", &["W 1 1 1"]),
+    (
+        3,
+        "1 1 1 = 4,1 -1 0 = 0,0 1 -1 = 0",
+        &["G", "C 0 1 L 0:-1 1:-2 2:-1 3:3 L 0:1 1:2 2:1 3:3"],
+    ),
+    (3, "2 2 0 = 3,0 0 1 = 1", &["L 0:1"]),
+    (3, "3 0 -2 = 1,0 3 -2 = 2", &["G"]),
+    (3, "2 -3 0 = 0,0 3 -5 = 0,-1 0 0 <= -1,1 0 0 <= 14", &["G"]),
+    (3, "2 -3 0 = 0,0 3 -5 = 0,-1 0 0 <= -1,1 0 0 <= 16", &["G"]),
+    (
+        3,
+        "6 -4 3 = 1,-1 0 0 <= 0,0 -1 0 <= 0",
+        &["G", "G", "W 0 2 3"],
+    ),
+    (3, "2 0 -1 = 0,0 2 -1 = 1", &["G"]),
+    (1, "{1 <= 2|1 <= 3}", &["W 0"]),
+    (
+        1,
+        "-1 <= -5{1 <= 2|1 <= 3|1 <= 4}",
+        &["A 3 L 0:1 1:1 L 0:1 1:1 L 0:1 1:1"],
+    ),
+    (1, "-1 <= -5{1 <= 2|1 <= 6}", &["W 5"]),
+    (
+        2,
+        "1 0 = 5{-1 2 = 0|-1 4 = 0}",
+        &[
+            "G",
+            "A 2 C 1 2 L 0:-1 1:-1 2:2 L 0:1 1:1 2:2 C 1 1 L 0:-1 1:-1 2:4 L 0:1 1:1 2:4",
+        ],
+    ),
+    (2, "1 0 = 5{-1 2 = 0|-1 5 = 0}", &["W 5 1"]),
+    (2, "1 0 = 5{-1 5 = 0|-1 2 = 0}", &["W 5 1"]),
+    (
+        2,
+        "{2 0 = 1|1 0 = 3}{1 -2 = 0|1 -3 = 1}",
+        &[
+            "G",
+            "A 2 A 2 L 0:1 L 0:1 A 2 C 1 1 L 0:-1 1:1 2:2 L 0:1 1:-1 2:2 C 1 0 L 0:-1 1:1 2:3 L 0:1 1:-1 2:3",
+        ],
+    ),
+    (
+        2,
+        "{1 0 <= 1|1 0 = 4}{0 1 = 2,-1 1 <= -1|0 1 = 7}",
+        &["W 0 7"],
+    ),
+    (1, "1 = 0{1 = 1|}", &["W 0"]),
+    (2, "-1 0 <= -1{1 0 <= 0|0 1 = 3|1 1 = 2}", &["W 1 3"]),
+    (
+        2,
+        "-2 0 <= -1,2 0 <= 1{0 1 = 0|0 2 = 4}",
+        &["A 2 L 0:1 1:1 L 0:1 1:1"],
+    ),
+    (
+        2,
+        "1 -2 = 0,-1 0 <= -1,1 0 <= 1{0 1 <= 0|0 -1 <= 0}",
+        &["G", "A 2 L 0:1 1:1 3:2 C 1 0 L 0:1 1:1 4:2 L 0:-1 2:1 4:2"],
+    ),
+    (
+        2,
+        "-3 2 <= 0,3 -2 <= 0,-1 0 <= -1{1 0 <= 1|1 0 <= 2}",
+        &["G", "W 2 3"],
+    ),
+    // 3 times the first and 2 times the second, where 2 * (2^127-1) does not fit
+    (
+        2,
+        "1 2 <= 0,170141183460469231731687303715884105727 -3 <= 0",
+        &["P"],
+    ),
+];
+
+/// The row that a text gives.
+fn row_of(alloc: Global, text: &str) -> Result<Row, Fail> {
+    let mut terms = Vec::new(alloc);
+    let mut kind = None;
+    let mut column = 0u32;
+    let mut bound = 0;
+    for word in text.split_whitespace() {
+        match word {
+            "<=" => kind = Some(RowKind::Le),
+            "=" => kind = Some(RowKind::Eq),
+            _ => {
+                bound = word.parse::<i128>()?;
+                if kind.is_none() {
+                    terms.push((column, bound))?;
+                    column = column.saturating_add(1);
+                }
+            }
+        }
+    }
+    Ok(row(alloc, &terms, kind.unwrap_or(RowKind::Eq), bound)?)
+}
+
+/// The rows of a text, parted by commas.
+fn rows_of(alloc: Global, text: &str) -> Result<Vec<Row>, Fail> {
+    let mut rows = Vec::new(alloc);
+    for piece in text.split(',') {
+        if !piece.is_empty() {
+            rows.push(row_of(alloc, piece)?)?;
+        }
+    }
+    Ok(rows)
+}
+
+/// The members of a group.
+fn members_of(alloc: Global, text: &str) -> Result<Vec<System>, Fail> {
+    let mut members = Vec::new(alloc);
+    for piece in text.split('|') {
+        members.push(System {
+            rows: rows_of(alloc, piece)?,
+            groups: Vec::new(alloc),
+        })?;
+    }
+    Ok(members)
+}
+
+/// The system that a text gives.
+fn system_of(alloc: Global, text: &str) -> Result<System, Fail> {
+    let mut pieces = text.split('{');
+    let rows = rows_of(alloc, pieces.next().unwrap_or(""))?;
+    let mut groups = Vec::new(alloc);
+    for piece in pieces {
+        groups.push(members_of(alloc, piece.trim_end_matches('}'))?)?;
+    }
+    Ok(System { rows, groups })
+}
+
+/// Whether all columns of the rows are below the number given.
+fn are_below(rows: &[Row], columns: u32) -> bool
+    ensures { IsTrue result → ColumnsBelow columns rows.now }
+{
+    for row in rows {
+        if !is_below(row, columns) {
+            return false;
+        }
+    }
+    true
+}
+
+/// Whether all columns of the row are below the number given.
+fn is_below(row: &Row, columns: u32) -> bool
+    ensures { IsTrue result → IsBelow columns row.now.terms }
+{
+    for (column, _) in row.terms() {
+        if *column >= columns {
+            return false;
+        }
+    }
+    true
+}
+
+/// How many rows and members the system has, those of its members counted, where all columns are below the number given.
+#[cycle(measuring)]
+fn measured(system: &System, columns: u32) -> Option<u64>
+    ensures below { IfSome result (λ _. SystemBelow columns system.now) }
+    ensures size { IfSome result (λ n. extent system.now ≤ n) }
+{
+    if !are_below(&system.rows, columns) {
+        return None;
+    }
+    let mut sum = system.rows.len() as u64;
+    for group in &system.groups {
+        sum = sum.checked_add(measured_members(group, columns)?)?;
+    }
+    Some(sum)
+}
+
+/// The same of the members of a group, which count themselves, too.
+#[cycle(measuring)]
+fn measured_members(members: &Vec<System>, columns: u32) -> Option<u64>
+    ensures below { IfSome result (λ _. AllByRecursion (SystemBelow columns) members.now.items) }
+    ensures size { IfSome result (λ n. total (λ m. suc (extent m)) members.now.items ≤ n) }
+{
+    let mut sum = 0u64;
+    for member in members {
+        sum = sum.checked_add(measured(member, columns)?)?.checked_add(1)?;
+    }
+    Some(sum)
+}
+
+/// What `plain` answers of a system, in short.
+fn decided(alloc: Global, system: &System, columns: u32, depth: u32) -> Result<String, Fail> {
+    let mut text = String::new(alloc);
+    let Some(size) = measured(system, columns) else {
+        return Ok(text);
+    };
+    if size > 1000 || depth > 1000 {
+        return Ok(text);
+    }
+    match plain(alloc, system, columns, depth) {
+        Ok(answer) => show(&mut text, &answer)?,
+        Err(DecideFault::Gap) => text.push_str("G")?,
+        Err(DecideFault::Past) => text.push_str("P")?,
+        Err(DecideFault::Memory) => text.push_str("M")?,
+    }
+    Ok(text)
+}
+
+/// Writes an answer in short.
+fn show(text: &mut String, answer: &Answer) -> Result<(), AllocError> {
+    match answer {
+        Answer::Whole(values) => {
+            write!(text, "W")?;
+            for value in values {
+                write!(text, " {value}")?;
+            }
+        }
+        Answer::Refuted(proof) => {
+            for node in proof.nodes() {
+                show_node(text, node)?;
+            }
+        }
+    }
+    Ok(())
+}
+
+/// Writes a node in short.
+fn show_node(text: &mut String, node: &Node) -> Result<(), AllocError> {
+    if !text.is_empty() {
+        write!(text, " ")?;
+    }
+    match node {
+        Node::Cut { col, k } => write!(text, "C {col} {k}")?,
+        Node::Cases(members) => write!(text, "A {members}")?,
+        Node::Leaf(parts) => {
+            write!(text, "L")?;
+            for (number, multiplier) in parts {
+                write!(text, " {number}:{multiplier}")?;
+            }
+        }
+    }
+    Ok(())
+}
+
+#[test]
+fn systems_are_decided(rt: HostRuntime) -> Result<(), Fail> {
+    let alloc = rt.alloc();
+    for (columns, text, answers) in DECIDED {
+        let system = system_of(alloc, text)?;
+        let mut wanted = "";
+        for depth in 0..3 {
+            wanted = answers.get(depth as usize).copied().unwrap_or(wanted);
+            let found = decided(alloc, &system, columns, depth)?;
+            assert_eq!(rt; found.as_str(), wanted, "{text} at {depth}");
+        }
+    }
+    Ok(())
+}
