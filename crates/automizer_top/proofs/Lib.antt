@@ -13,6 +13,7 @@ pub mod LabelLaws
 pub mod VerdictLaws
 pub mod JudgedLaws
 pub mod WordLaws
+pub mod PrintedTexts
 pub mod ReportLaws
 pub mod ProofTextLines
 pub mod ProofTextNumerals

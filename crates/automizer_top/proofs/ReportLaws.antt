@@ -1,109 +1,222 @@
 -- Cases of the report, and what an accepted proof is worth.
 use Rattle.std.proofs.lemmas.List.{length-append}
-use Rattle.std.proofs.Common.{◌≡◌, ℕ, zero, suc, ◌+◌, ◌<◌, ◌≤◌, List, [], ◌∷◌, ◌++◌, length, get_or, take, Option, None, Some, ap, refl, sym, ◌∙◌, arith}
-use Rattle.std.specs.Prelude.{IfSome, IsSome, codes}
+use Rattle.std.proofs.Common.{◌≡◌, ℕ, zero, suc, ◌+◌, ◌<◌, ◌≤◌, List, [], ◌∷◌, ◌++◌, length, get_or, take, Option, None, Some, Err, ap, refl, sym, ◌∙◌, subst, arith, ◌⊎◌, inl, inr}
+use Rattle.std.specs.Prelude.{◌≢◌, Result, Ok, IfOk, IfSome, IsSome, codes}
+use Rattle.std.specs.Borrow.{Bor}
+use Rattle.std.specs.declared.alloc.AllocError.{AllocError}
 use Rattle.outer_io.specs.Texts.{text_named, GainsFront}
+use Rattle.boogie_tree.specs.Tree.{Declaration}
+use Rattle.boogie_tree.specs.Printing.{program_text}
+use Rattle.boogie_parse.specs.declared.fault.Fault.{Fault}
+use Rattle.boogie_parse.specs.declared.fault.Fault.TheVariants as faults
+use Rattle.boogie_parse.specs.GrammarLimits.{IsProgram}
+use Rattle.boogie_parse.specs.WholeText.{read_text}
 use Rattle.boogie_parse.specs.Straight.{Program}
 use Rattle.boogie_parse.specs.FirstForm.{IsFirstForm}
-use Rattle.boogie_parse.proofs.WellFormedLaw.{well_formed}
+use Rattle.boogie_parse.proofs.FirstFormLaws.{well_formed}
+use Rattle.automizer_top.specs.declared.answer.Answer as code
+use Rattle.automizer_top.specs.declared.reporting.Halt.{Halt}
+use Rattle.automizer_top.specs.declared.words.Mode.{Mode}
+use Rattle.automizer_top.specs.declared.words.Mode.TheVariants.{Check, Print}
 use Rattle.automizer_top.specs.StraightCheck.{Verdict, accepted, syntax, bad_triple, Judges}
+use Rattle.automizer_top.specs.Refusals.{refusal}
+use Rattle.automizer_top.specs.Answers.{answered, Asks, program_name}
+use Rattle.automizer_top.specs.Report.{Answer, answer, program_limit, second_limit, verdict_answer, RefusesProgram, too_long, no_program, ReportsPrint, refused_print, printed, ReportsCheck, refused_check, no_first_form, second_too_long, judged, AskCheck, AskPrint, Reports, usage, printing, checked, PrintsProgram, ProgramIsSafe, WhereTold}
 use Rattle.automizer_top.proofs.Safety.{refuted_is_safe}
-use Rattle.automizer_top.specs.Report.{Answer, answer, program_limit, second_limit, verdict_answer, ReportsCheck, program_too_long, no_first_form, second_too_long, judged, AskCheck, Reports, usage, checked, ProgramIsSafe, WhereTold}
+use Rattle.automizer_top.proofs.PrintedTexts.{begins_otherwise}
+
+-- ---- what is answered to a program text
+
+-- the text is no program
+pub fault_printed : (text : List ℕ) (f : Fault) (a : Answer) → length text ≤ program_limit → read_text text ≡ Err f → a ≡ answer (refusal f) 3 → ReportsPrint text a
+fault_printed text f a l e is = refused_print (no_program f l e is)
+
+-- and this is what the code answered to its fault
+pub fault_answered : (text : List ℕ) (f : Fault) (r : Result code.Answer AllocError) → length text ≤ program_limit → (f ≢ faults.Memory → read_text text ≡ Err f) →
+    IfOk r (λ a. answered a ≡ answer (refusal f) 3) → IfOk r (λ a. f ≢ faults.Memory) → IfOk r (λ a. ReportsPrint text (answered a))
+fault_answered text f (Ok a) l read is no_memory = fault_printed text f (answered a) l (read no_memory) is
+fault_answered text f (Err e) l read is no_memory = tt
+
+-- the text is a program
+pub program_printed : (text out : List ℕ) (ds : List Declaration) → length text ≤ program_limit → IsProgram text ds → out ≡ program_text ds → ReportsPrint text (answer out 0)
+program_printed text out ds l w is = printed ds l w (ap (λ (bytes : List ℕ). answer bytes 0) is)
+
+-- the text is no program, whatever the second text
+pub fault_reported : (program name : List ℕ) (f : Fault) (a : Answer) (texts : Option (List (List ℕ × List ℕ))) → length program ≤ program_limit → read_text program ≡ Err f →
+    a ≡ answer (refusal f) 3 → IfSome texts (λ shown. ReportsCheck program (text_named name shown) a)
+fault_reported program name f a None l e is = tt
+fault_reported program name f a (Some shown) l e is = refused_check (no_program f l e is)
+
+-- the program is not in the first form
+pub form_reported : (program name : List ℕ) (ds : List Declaration) (texts : Option (List (List ℕ × List ℕ))) → length program ≤ program_limit → IsProgram program ds →
+    ((p : Program) → IsFirstForm ds p → ⊥) → IfSome texts (λ shown. ReportsCheck program (text_named name shown) (answer (codes "refused Form\n") 3))
+form_reported program name ds None l w none = tt
+form_reported program name ds (Some shown) l w none = no_first_form ds l w none refl
 
 -- the second text is past its limit
-pub second_reported : (program name : List ℕ) (p : Program) (texts : Option (List (List ℕ × List ℕ))) → length program ≤ program_limit → IsFirstForm program p →
+pub second_reported : (program name : List ℕ) (ds : List Declaration) (p : Program) (texts : Option (List (List ℕ × List ℕ))) → length program ≤ program_limit → IsProgram program ds → IsFirstForm ds p →
     IfSome texts (λ shown. IsSome (text_named name shown) × IfSome (text_named name shown) (λ text. second_limit < length text)) →
     IfSome texts (λ shown. ReportsCheck program (text_named name shown) (answer (codes "refused TooLong\n") 3))
-second_reported program name p None l f h = tt
-second_reported program name p (Some shown) l f h = by_text (text_named name shown) refl h.0 h.1
+second_reported program name ds p None l w f h = tt
+second_reported program name ds p (Some shown) l w f h = by_text (text_named name shown) refl h.0 h.1
   where
     by_text : (found : Option (List ℕ)) → text_named name shown ≡ found → IsSome found → IfSome found (λ text. second_limit < length text) →
         ReportsCheck program (text_named name shown) (answer (codes "refused TooLong\n") 3)
     by_text None e some past = cc
-    by_text (Some text) e some past = second_too_long p text l f e past refl
+    by_text (Some text) e some past = second_too_long ds p text l w f e past refl
 
 -- the second text gets a verdict
-pub verdict_reported : (program name text : List ℕ) (p : Program) (verdict : Verdict) (texts : Option (List (List ℕ × List ℕ))) → length program ≤ program_limit → IsFirstForm program p →
+pub verdict_reported : (program name text : List ℕ) (ds : List Declaration) (p : Program) (verdict : Verdict) (texts : Option (List (List ℕ × List ℕ))) → length program ≤ program_limit → IsProgram program ds → IsFirstForm ds p →
     IfSome texts (λ shown. (text_named name shown ≡ Some text) × (length text ≤ second_limit)) → Judges p text verdict →
     IfSome texts (λ shown. ReportsCheck program (text_named name shown) (verdict_answer verdict))
-verdict_reported program name text p verdict None l f h j = tt
-verdict_reported program name text p verdict (Some shown) l f h j = judged p text verdict l f h.0 h.1 j refl
+verdict_reported program name text ds p verdict None l w f h j = tt
+verdict_reported program name text ds p verdict (Some shown) l w f h j = judged ds p text verdict l w f h.0 h.1 j refl
+
+-- ---- what is answered to words
+
+-- a program text that is past its limit is refused, whatever the words ask for
+too_long_asked : (words : List (List ℕ)) (mode : Mode) (text : List ℕ) (shown : List (List ℕ × List ℕ)) → Asks words mode →
+    text_named (program_name mode) shown ≡ Some text → program_limit < length text → Reports words shown (answer (codes "refused TooLong\n") 3)
+too_long_asked words (Check program second) text shown ask e past = checked program.now second.now text ask e (refused_check (too_long past refl))
+too_long_asked words (Print program) text shown ask e past = printing program.now text ask e (refused_print (too_long past refl))
 
 -- the program text is past its limit
-pub program_reported : (words : List (List ℕ)) (program second : List ℕ) (texts : Option (List (List ℕ × List ℕ))) → AskCheck words program second →
-    IfSome texts (λ shown. IsSome (text_named program shown) × IfSome (text_named program shown) (λ text. program_limit < length text)) →
+pub program_reported : (words : List (List ℕ)) (mode : Mode) (name : List ℕ) (texts : Option (List (List ℕ × List ℕ))) → Asks words mode → name ≡ program_name mode →
+    IfSome texts (λ shown. IsSome (text_named name shown) × IfSome (text_named name shown) (λ text. program_limit < length text)) →
     IfSome texts (λ shown. Reports words shown (answer (codes "refused TooLong\n") 3))
-program_reported words program second None asked h = tt
-program_reported words program second (Some shown) asked h = by_text (text_named program shown) refl h.0 h.1
+program_reported words mode name None ask same h = tt
+program_reported words mode name (Some shown) ask same h = by_text (text_named name shown) refl h.0 h.1
   where
-    by_text : (found : Option (List ℕ)) → text_named program shown ≡ found → IsSome found → IfSome found (λ text. program_limit < length text) →
+    by_text : (found : Option (List ℕ)) → text_named name shown ≡ found → IsSome found → IfSome found (λ text. program_limit < length text) →
         Reports words shown (answer (codes "refused TooLong\n") 3)
     by_text None e some past = cc
-    by_text (Some text) e some past = checked program second text asked e (program_too_long past refl)
+    by_text (Some text) e some past =
+        too_long_asked words mode text shown ask (ap (λ (n : List ℕ). text_named n shown) (sym same) ∙ e) past
 
--- the program text was read
-pub check_reported : (words : List (List ℕ)) (program second text : List ℕ) (a : Answer) (texts : Option (List (List ℕ × List ℕ))) → AskCheck words program second →
-    IfSome texts (λ shown. (text_named program shown ≡ Some text) × (length text ≤ program_limit)) →
-    IfSome texts (λ shown. ReportsCheck text (text_named second shown) a) → IfSome texts (λ shown. Reports words shown a)
-check_reported words program second text a None asked h r = tt
-check_reported words program second text a (Some shown) asked h r = checked program second text asked h.0 r
+-- the program text was read, and is to be checked
+check_reported : (words : List (List ℕ)) (mode : Mode) (program second : Bor (List ℕ)) (name text : List ℕ) (a : Answer) (texts : Option (List (List ℕ × List ℕ))) →
+    Asks words mode → mode ≡ Check program second → name ≡ program_name mode →
+    IfSome texts (λ shown. (text_named name shown ≡ Some text) × (length text ≤ program_limit)) →
+    IfSome texts (λ shown. ReportsCheck text (text_named second.now shown) a) → IfSome texts (λ shown. Reports words shown a)
+check_reported words mode program second name text a None ask is same h r = tt
+check_reported words mode program second name text a (Some shown) ask is same h r =
+    let asked : AskCheck words program.now second.now = subst (Asks words) is ask in
+    let named : name ≡ program.now = same ∙ ap program_name is in
+    checked program.now second.now text asked (ap (λ (n : List ℕ). text_named n shown) (sym named) ∙ h.0) r
+
+-- and this is what the code answered
+pub check_answered : (words : List (List ℕ)) (mode : Mode) (program second : Bor (List ℕ)) (name text : List ℕ) (r : Result code.Answer Halt) (texts : Option (List (List ℕ × List ℕ))) →
+    Asks words mode → mode ≡ Check program second → name ≡ program_name mode →
+    IfSome texts (λ shown. (text_named name shown ≡ Some text) × (length text ≤ program_limit)) →
+    IfOk r (λ a. IfSome texts (λ shown. ReportsCheck text (text_named second.now shown) (answered a))) →
+    IfOk r (λ a. IfSome texts (λ shown. Reports words shown (answered a)))
+check_answered words mode program second name text (Ok a) texts ask is same h r = check_reported words mode program second name text (answered a) texts ask is same h r
+check_answered words mode program second name text (Err e) texts ask is same h r = tt
+
+-- the program text was read, and is to be printed
+pub print_reported : (words : List (List ℕ)) (mode : Mode) (program : Bor (List ℕ)) (name text : List ℕ) (a : Answer) (texts : Option (List (List ℕ × List ℕ))) →
+    Asks words mode → mode ≡ Print program → name ≡ program_name mode →
+    IfSome texts (λ shown. (text_named name shown ≡ Some text) × (length text ≤ program_limit)) →
+    ReportsPrint text a → IfSome texts (λ shown. Reports words shown a)
+print_reported words mode program name text a None ask is same h r = tt
+print_reported words mode program name text a (Some shown) ask is same h r =
+    let asked : AskPrint words program.now = subst (Asks words) is ask in
+    let named : name ≡ program.now = same ∙ ap program_name is in
+    printing program.now text asked (ap (λ (n : List ℕ). text_named n shown) (sym named) ∙ h.0) r
 
 -- ---- what is accepted is safe
 
+three_is_not_zero : (n : ℕ) → n ≡ 3 → n ≡ 0 → ⊥
+three_is_not_zero n d e = omega arith
+
+-- no refused program has the status 0
+refused_is_not_zero : (text : List ℕ) (a : Answer) → RefusesProgram text a → a.status ≡ 0 → ⊥
+refused_is_not_zero text a (too_long past is) z = three_is_not_zero a.status (ap (λ (b : Answer). b.status) is) z
+refused_is_not_zero text a (no_program f l r is) z = three_is_not_zero a.status (ap (λ (b : Answer). b.status) is) z
+
 safe_by_check : (words : List (List ℕ)) (texts : List (List ℕ × List ℕ)) (program second text : List ℕ) (a : Answer) → AskCheck words program second →
     text_named program texts ≡ Some text → ReportsCheck text (text_named second texts) a → a.status ≡ 0 → ProgramIsSafe words texts
-safe_by_check words texts program second text a asked found (program_too_long past is) zero_status = absurd (let e : 3 ≡ 0 = sym (ap (λ (b : Answer). b.status) is) ∙ zero_status in omega arith)
-safe_by_check words texts program second text a asked found (no_first_form l none is) zero_status = absurd (let e : 3 ≡ 0 = sym (ap (λ (b : Answer). b.status) is) ∙ zero_status in omega arith)
-safe_by_check words texts program second text a asked found (second_too_long p other l f e past is) zero_status = absurd (let e : 3 ≡ 0 = sym (ap (λ (b : Answer). b.status) is) ∙ zero_status in omega arith)
-safe_by_check words texts program second text a asked found (judged p other verdict l f e m j is) zero_status =
+safe_by_check words texts program second text a asked found (refused_check r) zero_status = absurd (refused_is_not_zero text a r zero_status)
+safe_by_check words texts program second text a asked found (no_first_form ds l w none is) zero_status = absurd (let e : 3 ≡ 0 = sym (ap (λ (b : Answer). b.status) is) ∙ zero_status in omega arith)
+safe_by_check words texts program second text a asked found (second_too_long ds p other l w f e past is) zero_status = absurd (let e : 3 ≡ 0 = sym (ap (λ (b : Answer). b.status) is) ∙ zero_status in omega arith)
+safe_by_check words texts program second text a asked found (judged ds p other verdict l w f e m j is) zero_status =
     by_verdict verdict j (sym (ap (λ (b : Answer). b.status) is) ∙ zero_status)
   where
     by_verdict : (v : Verdict) → Judges p other v → (verdict_answer v).status ≡ 0 → ProgramIsSafe words texts
     by_verdict accepted (leaves, lines, refuted) z =
-        (program, second, text, p, record { asked = asked; found = found; read = f; safe = refuted_is_safe p leaves (well_formed text p f) refuted })
+        (program, second, text, p, record { asked = asked; found = found; tree = ds; spelled = w; read = f; safe = refuted_is_safe p leaves (well_formed ds p f) refuted })
     by_verdict (syntax line) k z = absurd (omega arith)
     by_verdict (bad_triple line) k z = absurd (omega arith)
 
-pub reports_safe : (words : List (List ℕ)) (texts : List (List ℕ × List ℕ)) (a : Answer) → Reports words texts a → a.status ≡ 0 → ProgramIsSafe words texts
-reports_safe words texts a (usage none is) zero_status = absurd (let e : 4 ≡ 0 = sym (ap (λ (b : Answer). b.status) is) ∙ zero_status in omega arith)
-reports_safe words texts a (checked program second text asked found check) zero_status = safe_by_check words texts program second text a asked found check zero_status
+printed_by : (words : List (List ℕ)) (texts : List (List ℕ × List ℕ)) (program text : List ℕ) (a : Answer) → AskPrint words program →
+    text_named program texts ≡ Some text → ReportsPrint text a → a.status ≡ 0 → PrintsProgram words texts
+printed_by words texts program text a asked found (refused_print r) zero_status = absurd (refused_is_not_zero text a r zero_status)
+printed_by words texts program text a asked found (printed ds l w is) zero_status = (program, text, ds, asked, found, w)
 
--- an answer that begins as `accepted` does has the status 0
-abbrev first_of : Answer → ℕ
-first_of a = get_or a.bytes 0 0
+-- an answer of status 0 is a printed program, or is safe
+reports_safe : (words : List (List ℕ)) (texts : List (List ℕ × List ℕ)) (a : Answer) → Reports words texts a → a.status ≡ 0 → PrintsProgram words texts ⊎ ProgramIsSafe words texts
+reports_safe words texts a (usage none no_print is) zero_status = absurd (let e : 4 ≡ 0 = sym (ap (λ (b : Answer). b.status) is) ∙ zero_status in omega arith)
+reports_safe words texts a (printing program text asked found print) zero_status = inl (printed_by words texts program text a asked found print zero_status)
+reports_safe words texts a (checked program second text asked found check) zero_status = inr (safe_by_check words texts program second text a asked found check zero_status)
 
-check_begins : (text : List ℕ) (second : Option (List ℕ)) (a : Answer) → ReportsCheck text second a → first_of a ≡ 97 → a.status ≡ 0
-check_begins text second a (program_too_long past is) begin = absurd (let e : 114 ≡ 97 = sym (ap first_of is) ∙ begin in omega arith)
-check_begins text second a (no_first_form l none is) begin = absurd (let e : 114 ≡ 97 = sym (ap first_of is) ∙ begin in omega arith)
-check_begins text second a (second_too_long p other l f e past is) begin = absurd (let e : 114 ≡ 97 = sym (ap first_of is) ∙ begin in omega arith)
-check_begins text second a (judged p other verdict l f e m j is) begin = ap (λ (b : Answer). b.status) is ∙ by_verdict verdict (sym (ap first_of is) ∙ begin)
+-- `accepted` has `c` as its second byte, and no other answer has
+abbrev second_of : Answer → ℕ
+second_of a = get_or a.bytes 1 0
+
+e_is_not_c : (n : ℕ) → n ≡ 101 → n ≡ 99 → ⊥
+e_is_not_c n d e = omega arith
+
+refused_begins : (text : List ℕ) (a : Answer) → RefusesProgram text a → second_of a ≡ 99 → ⊥
+refused_begins text a (too_long past is) begin = e_is_not_c (second_of a) (ap second_of is) begin
+refused_begins text a (no_program f l r is) begin = by_fault f (sym (ap second_of is) ∙ begin)
   where
-    by_verdict : (v : Verdict) → first_of (verdict_answer v) ≡ 97 → (verdict_answer v).status ≡ 0
+    by_fault : (f : Fault) → get_or (refusal f) 1 0 ≡ 99 → ⊥
+    by_fault (faults.Syntax line col) b = omega arith
+    by_fault (faults.Unsupported what line col) b = omega arith
+    by_fault (faults.Limit which line col) b = omega arith
+    by_fault faults.Memory b = omega arith
+
+check_begins : (text : List ℕ) (second : Option (List ℕ)) (a : Answer) → ReportsCheck text second a → second_of a ≡ 99 → a.status ≡ 0
+check_begins text second a (refused_check r) begin = absurd (refused_begins text a r begin)
+check_begins text second a (no_first_form ds l w none is) begin = absurd (let e : 101 ≡ 99 = sym (ap second_of is) ∙ begin in omega arith)
+check_begins text second a (second_too_long ds p other l w f e past is) begin = absurd (let e : 101 ≡ 99 = sym (ap second_of is) ∙ begin in omega arith)
+check_begins text second a (judged ds p other verdict l w f e m j is) begin = ap (λ (b : Answer). b.status) is ∙ by_verdict verdict (sym (ap second_of is) ∙ begin)
+  where
+    by_verdict : (v : Verdict) → second_of (verdict_answer v) ≡ 99 → (verdict_answer v).status ≡ 0
     by_verdict accepted b = refl
     by_verdict (syntax line) b = absurd (omega arith)
     by_verdict (bad_triple line) b = absurd (omega arith)
 
-reports_begin : (words : List (List ℕ)) (texts : List (List ℕ × List ℕ)) (a : Answer) → Reports words texts a → first_of a ≡ 97 → a.status ≡ 0
-reports_begin words texts a (usage none is) begin = absurd (let e : 117 ≡ 97 = sym (ap first_of is) ∙ begin in omega arith)
-reports_begin words texts a (checked program second text asked found check) begin = check_begins text (text_named second texts) a check begin
+print_begins : (text : List ℕ) (a : Answer) → ReportsPrint text a → second_of a ≡ 99 → ⊥
+print_begins text a (refused_print r) begin = refused_begins text a r begin
+print_begins text a (printed ds l w is) begin = begins_otherwise ds (sym (ap second_of is) ∙ begin)
 
-seam : (b xs : List ℕ) → get_or (b ++ xs) (length b) 0 ≡ get_or xs 0 0
+-- an answer that begins as `accepted` does is safe
+reports_begin : (words : List (List ℕ)) (texts : List (List ℕ × List ℕ)) (a : Answer) → Reports words texts a → second_of a ≡ 99 → ProgramIsSafe words texts
+reports_begin words texts a (usage none no_print is) begin = absurd (let e : 115 ≡ 99 = sym (ap second_of is) ∙ begin in omega arith)
+reports_begin words texts a (printing program text asked found print) begin = absurd (print_begins text a print begin)
+reports_begin words texts a (checked program second text asked found check) begin =
+    safe_by_check words texts program second text a asked found check (check_begins text (text_named second texts) a check begin)
+
+seam : (b xs : List ℕ) → get_or (b ++ xs) (suc (length b)) 0 ≡ get_or xs 1 0
 seam [] xs = refl
 seam (x ∷ b) xs = seam b xs
 
-first_taken : (k : ℕ) (xs : List ℕ) → get_or (take k xs) 0 0 ≡ 97 → get_or xs 0 0 ≡ 97
-first_taken zero xs h = absurd (omega arith)
-first_taken (suc k) [] h = h
-first_taken (suc k) (x ∷ xs) h = h
+second_taken : (k : ℕ) (xs : List ℕ) → get_or (take k xs) 1 0 ≡ 99 → get_or xs 1 0 ≡ 99
+second_taken zero xs h = absurd (omega arith)
+second_taken (suc k) [] h = h
+second_taken (suc zero) (x ∷ xs) h = absurd (omega arith)
+second_taken (suc (suc k)) (x ∷ []) h = h
+second_taken (suc (suc k)) (x ∷ y ∷ xs) h = h
 
 same_Some : (xs ys : List ℕ) → Some xs ≡ Some ys → xs ≡ ys
 same_Some xs ys e = cc
 
 -- bytes after which the sink has gained `accepted` begin so
-begins : (before bytes : List ℕ) → Some (before ++ bytes) ≡ Some (before ++ codes "accepted\n") → get_or bytes 0 0 ≡ 97
+begins : (before bytes : List ℕ) → Some (before ++ bytes) ≡ Some (before ++ codes "accepted\n") → get_or bytes 1 0 ≡ 99
 begins before bytes e =
     let same : before ++ bytes ≡ before ++ codes "accepted\n" = same_Some (before ++ bytes) (before ++ codes "accepted\n") e in
-    sym (seam before bytes) ∙ ap (λ (xs : List ℕ). get_or xs (length before) 0) same ∙ seam before (codes "accepted\n")
+    sym (seam before bytes) ∙ ap (λ (xs : List ℕ). get_or xs (suc (length before)) 0) same ∙ seam before (codes "accepted\n")
 
 -- where nothing was taken, `accepted` was not
 pub nothing_is_safe : (words : List (List ℕ)) (texts : Option (List (List ℕ × List ℕ))) (taken : Option (List ℕ)) →
@@ -123,7 +236,7 @@ pub front_is_safe : (words : List (List ℕ)) (texts : Option (List (List ℕ ×
 front_is_safe words None old new a r g = tt
 front_is_safe words (Some shown) None new a r g = tt
 front_is_safe words (Some shown) (Some before) new a r (k, l, taken) = λ e.
-    reports_safe words shown a r (reports_begin words shown a r (first_taken k a.bytes (begins before (take k a.bytes) (sym taken ∙ e))))
+    reports_begin words shown a r (second_taken k a.bytes (begins before (take k a.bytes) (sym taken ∙ e)))
 
 -- and where all of it was
 pub whole_is_safe : (words : List (List ℕ)) (texts : Option (List (List ℕ × List ℕ))) (old new : Option (List ℕ)) (a : Answer) →
@@ -132,10 +245,10 @@ pub whole_is_safe : (words : List (List ℕ)) (texts : Option (List (List ℕ ×
 whole_is_safe words None old new a r g = tt
 whole_is_safe words (Some shown) None new a r g = tt
 whole_is_safe words (Some shown) (Some before) new a r taken = λ e.
-    reports_safe words shown a r (reports_begin words shown a r (begins before a.bytes (sym taken ∙ e)))
+    reports_begin words shown a r (begins before a.bytes (sym taken ∙ e))
 
--- an answer of status 0 is safe
+-- an answer of status 0 is a printed program, or is safe
 pub zero_is_safe : (words : List (List ℕ)) (texts : Option (List (List ℕ × List ℕ))) (a : Answer) → IfSome texts (λ shown. Reports words shown a) → a.status ≡ 0 →
-    IfSome texts (ProgramIsSafe words)
+    IfSome texts (λ shown. PrintsProgram words shown ⊎ ProgramIsSafe words shown)
 zero_is_safe words None a r z = tt
 zero_is_safe words (Some shown) a r z = reports_safe words shown a r z

@@ -1,15 +1,20 @@
 -- The report allows one answer at most: its cases exclude each other.
-use Rattle.std.proofs.Common.{◌≡◌, ℕ, ◌+◌, ◌^◌, ◌<◌, ◌≤◌, List, [], ◌∷◌, ◌++◌, map, length, Option, Some, ap, refl, sym, ◌∙◌, subst, arith, ⊎_elim, append_assoc}
+use Rattle.std.proofs.Common.{◌≡◌, ℕ, ◌+◌, ◌^◌, ◌<◌, ◌≤◌, List, [], ◌∷◌, ◌++◌, map, length, Option, Some, Ok, Err, ap, refl, sym, ◌∙◌, subst, arith, ⊎_elim, append_assoc}
 use Rattle.std.specs.Prelude.{codes}
 use Rattle.std.specs.List.{AllByRecursion}
 use Rattle.std.specs.Fmt.{decimal}
-use Rattle.std.proofs.lemmas.Option.{some_pair_parts}
+use Rattle.std.proofs.lemmas.Option.{same_Some, some_pair_parts}
 use Rattle.lin_rows.specs.Rows.{LinearRow}
 use Rattle.outer_io.specs.Texts.{text_named}
+use Rattle.boogie_tree.specs.Tree.{Declaration}
+use Rattle.boogie_tree.specs.Printing.{program_text}
+use Rattle.boogie_parse.specs.declared.fault.Fault.{Fault}
+use Rattle.boogie_parse.specs.GrammarLimits.{IsProgram}
+use Rattle.boogie_parse.specs.WholeText.{read_text}
 use Rattle.boogie_parse.specs.Straight.{Program}
 use Rattle.boogie_parse.specs.FirstForm.{IsFirstForm}
-use Rattle.boogie_parse.proofs.WellFormedLaw.{steps_within}
-use Rattle.boogie_parse.proofs.ProgramUnique.{program_unique}
+use Rattle.boogie_parse.proofs.WholeText.{program_is_read, one_program}
+use Rattle.boogie_parse.proofs.FirstFormLengths.{first_form_is_short}
 use Rattle.automizer_top.specs.declared.proof_text.LeafPart.{LeafPart}
 use Rattle.automizer_top.specs.StraightRows.{Obligation, obligations}
 use Rattle.automizer_top.specs.ProofText.{Part, IsPart, leaf_text, IsLeafLine, Expected, exactly, leaf, Fits, LinesAre, FirstDiffers, proof_lines, label_of, lines_of}
@@ -17,7 +22,8 @@ use Rattle.automizer_top.specs.ProofPieces.{part_at}
 use Rattle.automizer_top.specs.ProofReading.{leaf_part}
 use Rattle.automizer_top.specs.StraightCheck.{LeafRefutes, AllRefuted, FirstUnrefuted, Verdict, accepted, syntax, bad_triple, Judges}
 use Rattle.automizer_top.specs.LeafTest.{PartsRefute}
-use Rattle.automizer_top.specs.Report.{Answer, program_limit, verdict_answer, ReportsCheck, program_too_long, no_first_form, second_too_long, judged, Reports, usage, checked}
+use Rattle.automizer_top.specs.Refusals.{refusal}
+use Rattle.automizer_top.specs.Report.{Answer, answer, program_limit, verdict_answer, RefusesProgram, too_long, no_program, ReportsPrint, refused_print, printed, ReportsCheck, refused_check, no_first_form, second_too_long, judged, AskCheck, AskPrint, Reports, usage, printing, checked}
 use Rattle.automizer_top.proofs.ProofTextLeaves.{to_end, first_part_read, no_part_at_end}
 use Rattle.automizer_top.proofs.VerdictLaws.{FewRows, AllParts, read_refutes, text_refutes}
 use Rattle.automizer_top.proofs.JudgedLaws.{few_rows, leaves_are}
@@ -153,36 +159,67 @@ same_text a b o h k = unwrapped a b (sym h ∙ k)
     unwrapped : (a b : List ℕ) → Some a ≡ Some b → a ≡ b
     unwrapped a b e = cc
 
-few_obligations : (text : List ℕ) (p : Program) → length text ≤ program_limit → IsFirstForm text p → FewRows (obligations p)
-few_obligations text p l f = let within : length p.steps ≤ length text = steps_within text p f in few_rows p (omega arith)
+few_obligations : (text : List ℕ) (ds : List Declaration) (p : Program) → length text ≤ program_limit → IsProgram text ds → IsFirstForm ds p → FewRows (obligations p)
+few_obligations text ds p l w f = let within : length p.steps ≤ length text = first_form_is_short text ds p w f in few_rows p (omega arith)
+
+-- declarations are one straight-line program at most
+program_unique : (ds : List Declaration) (p q : Program) → IsFirstForm ds p → IsFirstForm ds q → p ≡ q
+program_unique ds p q f g = same_Some p q (sym f.means ∙ g.means)
+
+-- a text is one program at most, so what is in the first form of one of them is so of the other
+same_form : (text : List ℕ) (ds es : List Declaration) (p : Program) → IsProgram text ds → IsProgram text es → IsFirstForm es p → IsFirstForm ds p
+same_form text ds es p w w' f = subst (λ (x : List Declaration). IsFirstForm x p) (one_program text es ds w' w) f
+
+-- the fault that is read of a text
+same_fault : (text : List ℕ) (f g : Fault) → read_text text ≡ Err f → read_text text ≡ Err g → f ≡ g
+same_fault text f g r s = cc
+
+refused_once : (text : List ℕ) (a b : Answer) → RefusesProgram text a → RefusesProgram text b → a ≡ b
+refused_once text a b (too_long past is) (too_long past' is') = is ∙ sym is'
+refused_once text a b (too_long past is) (no_program f l r is') = absurd (omega arith)
+refused_once text a b (no_program f l r is) (too_long past is') = absurd (omega arith)
+refused_once text a b (no_program f l r is) (no_program g l' r' is') =
+    is ∙ ap (λ (h : Fault). answer (refusal h) 3) (same_fault text f g r r') ∙ sym is'
+
+-- a program of the language is not refused
+program_not_refused : (text : List ℕ) (ds : List Declaration) (a : Answer) → length text ≤ program_limit → IsProgram text ds → RefusesProgram text a → ⊥
+program_not_refused text ds a l w (too_long past is) = omega arith
+program_not_refused text ds a l w (no_program f l' r is) = let read : read_text text ≡ Ok ds = program_is_read text ds w in cc
+
+print_once : (text : List ℕ) (a b : Answer) → ReportsPrint text a → ReportsPrint text b → a ≡ b
+print_once text a b (refused_print r) (refused_print r') = refused_once text a b r r'
+print_once text a b (refused_print r) (printed ds l w is) = absurd (program_not_refused text ds a l w r)
+print_once text a b (printed ds l w is) (refused_print r) = absurd (program_not_refused text ds b l w r)
+print_once text a b (printed ds l w is) (printed es l' w' is') =
+    is ∙ ap (λ (x : List Declaration). answer (program_text x) 0) (one_program text ds es w w') ∙ sym is'
 
 check_once : (text : List ℕ) (second : Option (List ℕ)) (a b : Answer) → ReportsCheck text second a → ReportsCheck text second b → a ≡ b
-check_once text second a b (program_too_long past is) (program_too_long past' is') = is ∙ sym is'
-check_once text second a b (program_too_long past is) (no_first_form l none is') = absurd (omega arith)
-check_once text second a b (program_too_long past is) (second_too_long p t l f e long is') = absurd (omega arith)
-check_once text second a b (program_too_long past is) (judged p t v l f e m j is') = absurd (omega arith)
-check_once text second a b (no_first_form l none is) (program_too_long past is') = absurd (omega arith)
-check_once text second a b (no_first_form l none is) (no_first_form l' none' is') = is ∙ sym is'
-check_once text second a b (no_first_form l none is) (second_too_long p t l' f e long is') = absurd (none p f)
-check_once text second a b (no_first_form l none is) (judged p t v l' f e m j is') = absurd (none p f)
-check_once text second a b (second_too_long p t l f e long is) (program_too_long past is') = absurd (omega arith)
-check_once text second a b (second_too_long p t l f e long is) (no_first_form l' none is') = absurd (none p f)
-check_once text second a b (second_too_long p t l f e long is) (second_too_long q u l' f' e' long' is') = is ∙ sym is'
-check_once text second a b (second_too_long p t l f e long is) (judged q u v l' f' e' m j is') =
+check_once text second a b (refused_check r) (refused_check r') = refused_once text a b r r'
+check_once text second a b (refused_check r) (no_first_form ds l w none is) = absurd (program_not_refused text ds a l w r)
+check_once text second a b (refused_check r) (second_too_long ds p t l w f e long is) = absurd (program_not_refused text ds a l w r)
+check_once text second a b (refused_check r) (judged ds p t v l w f e m j is) = absurd (program_not_refused text ds a l w r)
+check_once text second a b (no_first_form ds l w none is) (refused_check r) = absurd (program_not_refused text ds b l w r)
+check_once text second a b (no_first_form ds l w none is) (no_first_form es l' w' none' is') = is ∙ sym is'
+check_once text second a b (no_first_form ds l w none is) (second_too_long es p t l' w' f e long is') = absurd (none p (same_form text ds es p w w' f))
+check_once text second a b (no_first_form ds l w none is) (judged es p t v l' w' f e m j is') = absurd (none p (same_form text ds es p w w' f))
+check_once text second a b (second_too_long ds p t l w f e long is) (refused_check r) = absurd (program_not_refused text ds b l w r)
+check_once text second a b (second_too_long ds p t l w f e long is) (no_first_form es l' w' none is') = absurd (none p (same_form text es ds p w' w f))
+check_once text second a b (second_too_long ds p t l w f e long is) (second_too_long es q u l' w' f' e' long' is') = is ∙ sym is'
+check_once text second a b (second_too_long ds p t l w f e long is) (judged es q u v l' w' f' e' m j is') =
     let same : t ≡ u = same_text t u second e e' in
     let lengths : length t ≡ length u = ap (λ (xs : List ℕ). length xs) same in
     absurd (omega arith)
-check_once text second a b (judged p t v l f e m j is) (program_too_long past is') = absurd (omega arith)
-check_once text second a b (judged p t v l f e m j is) (no_first_form l' none is') = absurd (none p f)
-check_once text second a b (judged p t v l f e m j is) (second_too_long q u l' f' e' long is') =
+check_once text second a b (judged ds p t v l w f e m j is) (refused_check r) = absurd (program_not_refused text ds b l w r)
+check_once text second a b (judged ds p t v l w f e m j is) (no_first_form es l' w' none is') = absurd (none p (same_form text es ds p w' w f))
+check_once text second a b (judged ds p t v l w f e m j is) (second_too_long es q u l' w' f' e' long is') =
     let same : t ≡ u = same_text t u second e e' in
     let lengths : length t ≡ length u = ap (λ (xs : List ℕ). length xs) same in
     absurd (omega arith)
-check_once text second a b (judged p t v l f e m j is) (judged q u w l' f' e' m' k is') =
-    let programs : q ≡ p = program_unique text q p f' f in
+check_once text second a b (judged ds p t v l w f e m j is) (judged es q u x l' w' f' e' m' k is') =
+    let programs : q ≡ p = program_unique ds q p (same_form text ds es q w w' f') f in
     let texts : u ≡ t = same_text u t second e' e in
-    let mine : Judges p t w = subst (λ (x : List ℕ). Judges p x w) texts (subst (λ (r : Program). Judges r u w) programs k) in
-    is ∙ ap verdict_answer (verdict_once p t v w (few_obligations text p l f) j mine) ∙ sym is'
+    let mine : Judges p t x = subst (λ (y : List ℕ). Judges p y x) texts (subst (λ (r : Program). Judges r u x) programs k) in
+    is ∙ ap verdict_answer (verdict_once p t v x (few_obligations text ds p l w f) j mine) ∙ sym is'
 
 abbrev second_of : List (List ℕ) → List ℕ
 second_of [] = []
@@ -193,11 +230,28 @@ abbrev third_of : List (List ℕ) → List ℕ
 third_of [] = []
 third_of (x ∷ xs) = second_of xs
 
+three_is_not_two : (n : ℕ) → n ≡ 3 → n ≡ 2 → ⊥
+three_is_not_two n d e = omega arith
+
+-- words do not ask for a check and for printing
+not_both_asked : (words : List (List ℕ)) (p q r : List ℕ) → AskCheck words p q → AskPrint words r → ⊥
+not_both_asked words p q r c d =
+    three_is_not_two (length words) (ap (λ (xs : List (List ℕ)). length xs) c) (ap (λ (xs : List (List ℕ)). length xs) d)
+
 -- The report allows one answer at most.
 pub report_once : (words : List (List ℕ)) (texts : List (List ℕ × List ℕ)) (a b : Answer) → Reports words texts a → Reports words texts b → a ≡ b
-report_once words texts a b (usage none is) (usage none' is') = is ∙ sym is'
-report_once words texts a b (usage none is) (checked p s t asked found check) = absurd (none p s asked)
-report_once words texts a b (checked p s t asked found check) (usage none is) = absurd (none p s asked)
+report_once words texts a b (usage none no_print is) (usage none' no_print' is') = is ∙ sym is'
+report_once words texts a b (usage none no_print is) (printing p t asked found print) = absurd (no_print p asked)
+report_once words texts a b (usage none no_print is) (checked p s t asked found check) = absurd (none p s asked)
+report_once words texts a b (printing p t asked found print) (usage none no_print is) = absurd (no_print p asked)
+report_once words texts a b (printing p t asked found print) (printing q u asked' found' print') =
+    let words_same : codes "print" ∷ p ∷ [] ≡ codes "print" ∷ q ∷ [] = sym asked ∙ asked' in
+    let name : p ≡ q = ap second_of words_same in
+    let text : u ≡ t = same_text u t (text_named p texts) (subst (λ (n : List ℕ). text_named n texts ≡ Some u) (sym name) found') found in
+    print_once t a b print (subst (λ (x : List ℕ). ReportsPrint x b) text print')
+report_once words texts a b (printing p t asked found print) (checked q s u asked' found' check) = absurd (not_both_asked words q s p asked' asked)
+report_once words texts a b (checked p s t asked found check) (usage none no_print is) = absurd (none p s asked)
+report_once words texts a b (checked p s t asked found check) (printing q u asked' found' print) = absurd (not_both_asked words p s q asked asked')
 report_once words texts a b (checked p s t asked found check) (checked q r u asked' found' check') =
     let words_same : codes "check" ∷ p ∷ s ∷ [] ≡ codes "check" ∷ q ∷ r ∷ [] = sym asked ∙ asked' in
     let names : (p ≡ q) × (s ≡ r) = members p s q r words_same in

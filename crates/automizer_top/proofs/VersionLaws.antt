@@ -10,7 +10,7 @@ use Rattle.math_facts.specs.Terms.{coefficient, opposite, IsBelow}
 use Rattle.math_facts.proofs.TermLaws.{coefficient-append, coefficient-opposite, IsBelow-append, IsBelow-opposite}
 use Rattle.lin_rows.specs.Sums.{SumsFit}
 use Rattle.boogie_parse.specs.Straight.{Linear}
-use Rattle.boogie_parse.specs.Meaning.{all_differ, same_local}
+use Rattle.boogie_parse.specs.Differ.{all_differ, same_local}
 use Rattle.boogie_parse.specs.WellFormed.{IsLine}
 use Rattle.automizer_top.specs.StraightRows.{versioned}
 use Rattle.automizer_top.specs.Walk.{VersionsDiffer, AreVersions}

@@ -2,6 +2,7 @@ pub mod StraightRun
 pub mod StraightRows
 pub mod ProofText
 pub mod StraightCheck
+pub mod Refusals
 pub mod Report
 pub mod ProofReading
 pub mod LeafTest

@@ -1,9 +1,15 @@
 -- What the program answers to its words and the texts that they name.
-use Rattle.std.specs.Prelude.{◌≡◌, ℕ, ◌-◌, ◌^◌, ◌<◌, ◌≤◌, List, [], ◌∷◌, ◌++◌, length, Option, Some, codes, IfSome, ◌⊎◌}
+use Rattle.std.specs.Prelude.{◌≡◌, ℕ, ◌-◌, ◌^◌, ◌<◌, ◌≤◌, List, [], ◌∷◌, ◌++◌, length, Option, Some, Err, codes, IfSome, ◌⊎◌}
 use Rattle.std.specs.Fmt.{decimal}
 use Rattle.outer_io.specs.Texts.{text_named, GainsFront}
+use Rattle.boogie_tree.specs.Tree.{Declaration}
+use Rattle.boogie_tree.specs.Printing.{program_text}
+use Rattle.boogie_parse.specs.declared.fault.Fault.{Fault}
+use Rattle.boogie_parse.specs.GrammarLimits.{IsProgram}
+use Rattle.boogie_parse.specs.WholeText.{read_text}
 use Rattle.boogie_parse.specs.Straight.{Program}
 use Rattle.boogie_parse.specs.FirstForm.{IsFirstForm}
+use Rattle.automizer_top.specs.Refusals.{refusal}
 use Rattle.automizer_top.specs.StraightRun.{IsSafe}
 use Rattle.automizer_top.specs.StraightCheck.{Verdict, accepted, syntax, bad_triple, Judges}
 
@@ -26,6 +32,10 @@ second_limit = 2 ^ 63 - 1
 abbrev pub AskCheck : List (List ℕ) → List ℕ → List ℕ → Type 0
 AskCheck words program second = words ≡ codes "check" ∷ program ∷ second ∷ []
 
+-- the words ask for the printing of the program of that name
+abbrev pub AskPrint : List (List ℕ) → List ℕ → Type 0
+AskPrint words program = words ≡ codes "print" ∷ program ∷ []
+
 abbrev pub answer : List ℕ → ℕ → Answer
 answer bytes status = record { bytes = bytes; status = status }
 
@@ -37,28 +47,50 @@ verdict_answer accepted = answer (codes "accepted\n") 0
 verdict_answer (syntax line) = answer (rejected_line line (codes "Syntax")) 1
 verdict_answer (bad_triple line) = answer (rejected_line line (codes "BadTriple")) 1
 
+-- What is answered to a program text that is refused: it is too long, or no program; the first fault decides.
+pub data RefusesProgram (program : List ℕ) (a : Answer) : Type 0 where
+  too_long : program_limit < length program → a ≡ answer (codes "refused TooLong\n") 3 → RefusesProgram program a
+  no_program : (f : Fault) → length program ≤ program_limit → read_text program ≡ Err f → a ≡ answer (refusal f) 3 → RefusesProgram program a
+
+-- What is answered to a program text that is to be printed. The cases exclude each other.
+pub data ReportsPrint (program : List ℕ) (a : Answer) : Type 0 where
+  refused_print : RefusesProgram program a → ReportsPrint program a
+  printed : (ds : List Declaration) → length program ≤ program_limit → IsProgram program ds → a ≡ answer (program_text ds) 0 →
+      ReportsPrint program a
+
 -- What is answered to a program text and to what the second name stands for. The cases exclude each other.
 pub data ReportsCheck (program : List ℕ) (second : Option (List ℕ)) (a : Answer) : Type 0 where
-  program_too_long : program_limit < length program → a ≡ answer (codes "refused TooLong\n") 3 → ReportsCheck program second a
-  no_first_form : length program ≤ program_limit → ((p : Program) → IsFirstForm program p → ⊥) →
-      a ≡ answer (codes "refused Form\n") 3 → ReportsCheck program second a
-  second_too_long : (p : Program) (text : List ℕ) → length program ≤ program_limit → IsFirstForm program p →
-      second ≡ Some text → second_limit < length text → a ≡ answer (codes "refused TooLong\n") 3 → ReportsCheck program second a
-  judged : (p : Program) (text : List ℕ) (verdict : Verdict) → length program ≤ program_limit → IsFirstForm program p →
-      second ≡ Some text → length text ≤ second_limit → Judges p text verdict →
+  refused_check : RefusesProgram program a → ReportsCheck program second a
+  no_first_form : (ds : List Declaration) → length program ≤ program_limit → IsProgram program ds →
+      ((p : Program) → IsFirstForm ds p → ⊥) → a ≡ answer (codes "refused Form\n") 3 → ReportsCheck program second a
+  second_too_long : (ds : List Declaration) (p : Program) (text : List ℕ) → length program ≤ program_limit → IsProgram program ds →
+      IsFirstForm ds p → second ≡ Some text → second_limit < length text → a ≡ answer (codes "refused TooLong\n") 3 →
+      ReportsCheck program second a
+  judged : (ds : List Declaration) (p : Program) (text : List ℕ) (verdict : Verdict) → length program ≤ program_limit →
+      IsProgram program ds → IsFirstForm ds p → second ≡ Some text → length text ≤ second_limit → Judges p text verdict →
       a ≡ verdict_answer verdict → ReportsCheck program second a
 
--- The report: to words that ask for no check the usage line, to others what the named texts give.
+-- The report: to words that ask for neither the usage line, to others what the named texts give.
 pub data Reports (words : List (List ℕ)) (texts : List (List ℕ × List ℕ)) (a : Answer) : Type 0 where
-  usage : ((program second : List ℕ) → AskCheck words program second → ⊥) → a ≡ answer usage_line 4 → Reports words texts a
+  usage : ((program second : List ℕ) → AskCheck words program second → ⊥) → ((program : List ℕ) → AskPrint words program → ⊥) →
+      a ≡ answer usage_line 4 → Reports words texts a
+  printing : (program text : List ℕ) → AskPrint words program → text_named program texts ≡ Some text → ReportsPrint text a →
+      Reports words texts a
   checked : (program second text : List ℕ) → AskCheck words program second →
       text_named program texts ≡ Some text → ReportsCheck text (text_named second texts) a → Reports words texts a
+
+-- The words ask for the printing of a program that stands in the texts.
+abbrev pub PrintsProgram : List (List ℕ) → List (List ℕ × List ℕ) → Type 0
+PrintsProgram words texts = (program text : List ℕ) × (ds : List Declaration) × AskPrint words program
+    × (text_named program texts ≡ Some text) × IsProgram text ds
 
 -- The words ask for a check of a program that stands in the texts, is in the first form, and is safe.
 pub record AsksForSafe (words : List (List ℕ)) (texts : List (List ℕ × List ℕ)) (program second text : List ℕ) (p : Program) : Type 0 where
   pub asked : AskCheck words program second
   pub found : text_named program texts ≡ Some text
-  pub read : IsFirstForm text p
+  pub tree : List Declaration
+  pub spelled : IsProgram text tree
+  pub read : IsFirstForm tree p
   pub safe : IsSafe p
 
 abbrev pub ProgramIsSafe : List (List ℕ) → List (List ℕ × List ℕ) → Type 0

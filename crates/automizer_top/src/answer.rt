@@ -1,51 +1,105 @@
 ghost use Rattle.std.specs.Prelude.{◌≡◌, IfOk};
 ghost use Rattle.std.specs.String.{string_bytes};
 ghost use Rattle.automizer_top.specs.Answers.{answered};
+ghost use Rattle.automizer_top.specs.Refusals.{what_name, which_name, refusal};
 ghost use Rattle.automizer_top.specs.Report.{verdict_answer};
 ghost use Rattle.automizer_top.specs.Verdicts.{verdict as pure_verdict};
 
 use crate::check::Verdict;
+use boogie_parse::{Fault, What, Which};
 use std::alloc::{AllocError, Global};
 
 /// What the program answers, before it is written.
-#[derive(Clone, Copy, Debug, PartialEq, Eq)]
+#[derive(Debug, Drop)]
 pub(crate) enum Answer {
     /// The words are faulty.
     Usage,
     /// A text is past its limit.
     TooLong,
+    /// The program text is no program: its first fault.
+    Refused(Fault),
     /// The program is not in the first form.
     Form,
+    /// The text of the program.
+    Printed(Vec<u8>),
     /// What the proof text gets.
     Judged(Verdict),
 }
 
 impl Answer {
-    /// The line that is written.
-    pub fn text(&self, alloc: Global) -> Result<String, AllocError>
-        ensures { IfOk result (λ text. string_bytes text ≡ (answered self.now).bytes) }
+    /// The bytes that are written.
+    pub fn text(self, alloc: Global) -> Result<Vec<u8>, AllocError>
+        ensures { IfOk result (λ text. text.items ≡ (answered self).bytes) }
     {
-        match *self {
+        let line = match self {
             Answer::Usage => String::from_str(
                 alloc,
                 "usage: automizer MODE PROGRAM [SECOND] [--entry NAME] [--rounds N] [--workers N] [--depth N]\n",
-            ),
-            Answer::TooLong => String::from_str(alloc, "refused TooLong\n"),
-            Answer::Form => String::from_str(alloc, "refused Form\n"),
-            Answer::Judged(verdict) => verdict_text(alloc, verdict),
-        }
+            )?,
+            Answer::TooLong => String::from_str(alloc, "refused TooLong\n")?,
+            Answer::Refused(fault) => refusal_text(alloc, &fault)?,
+            Answer::Form => String::from_str(alloc, "refused Form\n")?,
+            Answer::Printed(text) => return Ok(text),
+            Answer::Judged(verdict) => verdict_text(alloc, verdict)?,
+        };
+        Ok(line.into_bytes())
     }
 
     /// The status of the program.
     pub fn status(&self) -> u8
         ensures { result ≡ (answered self.now).status }
     {
-        match *self {
+        match self {
             Answer::Usage => 4,
-            Answer::TooLong | Answer::Form => 3,
-            Answer::Judged(Verdict::Accepted) => 0,
+            Answer::TooLong | Answer::Refused(_) | Answer::Form => 3,
+            Answer::Printed(_) | Answer::Judged(Verdict::Accepted) => 0,
             Answer::Judged(Verdict::Syntax(_) | Verdict::BadTriple(_)) => 1,
         }
+    }
+}
+
+/// The name of a part of Boogie that is left out.
+fn what_name(what: What) -> &'static str
+    ensures { result.now ≡ what_name what }
+{
+    match what {
+        What::Map => "map",
+        What::Quantifier => "quantifier",
+        What::Declaration => "declaration",
+        What::Operator => "operator",
+        What::Conditional => "conditional",
+        What::Concurrency => "concurrency",
+        What::Real => "real",
+    }
+}
+
+/// The name of a limit.
+fn which_name(which: Which) -> &'static str
+    ensures { result.now ≡ which_name which }
+{
+    match which {
+        Which::Literal => "literal",
+        Which::Nesting => "nesting",
+        Which::Procedures => "procedures",
+        Which::Variables => "variables",
+    }
+}
+
+/// The line of a refused program; empty for want of memory, which no refused program has.
+fn refusal_text(alloc: Global, fault: &Fault) -> Result<String, AllocError>
+    ensures { IfOk result (λ text. string_bytes text ≡ refusal fault.now) }
+{
+    match fault {
+        Fault::Syntax { line, col } => format!(in alloc; "refused Syntax {line} {col}\n"),
+        Fault::Unsupported { what, line, col } => {
+            let name = what_name(*what);
+            format!(in alloc; "refused Unsupported {name} {line} {col}\n")
+        }
+        Fault::Limit { which, line, col } => {
+            let name = which_name(*which);
+            format!(in alloc; "refused Limit {name} {line} {col}\n")
+        }
+        Fault::Memory => Ok(String::new(alloc)),
     }
 }
 

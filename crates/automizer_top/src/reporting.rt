@@ -1,18 +1,17 @@
-ghost use Rattle.std.specs.Prelude.{◌≡◌, ◌≢◌, ◌≤◌, ◌<◌, ◌^◌, ◌-◌, ℕ, List, length, map, Some, Err, IfOk, OnOk, IfSome, IfNone, IsSome, MatchOption, vec_len};
+ghost use Rattle.std.specs.Prelude.{◌≡◌, ◌≢◌, ◌≤◌, ◌<◌, length, map, Some, Err, IfOk, IfSome, IsSome, MatchOption, vec_len};
 ghost use Rattle.std.specs.String.{string_bytes};
 ghost use Rattle.outer_io.specs.Faults.{Rose};
 ghost use Rattle.outer_io.specs.Texts.{text_named};
-ghost use Rattle.boogie_parse.specs.Straight.{Program, program as meant};
-ghost use Rattle.boogie_parse.specs.FirstForm.{IsFirstForm};
-ghost use Rattle.boogie_parse.specs.WellFormed.{IsWellFormed};
 ghost use Rattle.automizer_top.specs.declared.reporting.Halt.TheVariants.{Fault, Memory};
 ghost use Rattle.automizer_top.specs.Answers.{answered};
-ghost use Rattle.automizer_top.specs.Report.{Reports, ReportsCheck, AskCheck};
+ghost use Rattle.automizer_top.specs.Refusals.{refusal};
+ghost use Rattle.automizer_top.specs.Report.{answer, Reports, ReportsPrint, ReportsCheck};
 
 use crate::answer::Answer;
 use crate::check::judged;
-use crate::words::asked;
-use boogie_parse::{Straight, StraightFault, straight};
+use crate::words::{Mode, asked};
+use boogie_parse::{Fault, parse, straight_of};
+use boogie_tree::print;
 use outer_io::{ReadFault, Shelf, read_all};
 use std::alloc::{AllocError, Global};
 
@@ -63,21 +62,29 @@ fn text_within<H: Shelf>(
     }
 }
 
-/// The program of a text; none where the text is not in the first form.
-fn parsed(alloc: Global, text: &[u8]) -> Result<Option<Straight>, AllocError>
-    ensures found { IfOk result (λ found. IfSome found (λ s. IsFirstForm text.now (meant s))) }
-    ensures none { IfOk result (λ found. IfNone found ((p : Program) → IsFirstForm text.now p → ⊥)) }
-    ensures well_formed { IfOk result (λ found. IfSome found (λ s. IsWellFormed (meant s))) }
-    ensures short { IfOk result (λ found. IfSome found (λ s. vec_len s.steps ≤ length text.now)) }
+/// What is answered to a program text with this fault.
+fn refused(fault: Fault) -> Result<Answer, AllocError>
+    ensures answer { IfOk result (λ a. answered a ≡ answer (refusal fault) 3) }
+    ensures no_memory { IfOk result (λ a. fault ≢ Fault.Memory) }
 {
-    match straight(alloc, text) {
-        Ok(program) => Ok(Some(program)),
-        Err(StraightFault::Form) => Ok(None),
-        Err(StraightFault::Memory) => Err(AllocError),
+    match fault {
+        Fault::Memory => Err(AllocError),
+        fault => Ok(Answer::Refused(fault)),
     }
 }
 
-/// What a program text gets by the text of that name.
+/// What is answered to a program text that is to be printed.
+fn printed(alloc: Global, text: &[u8]) -> Result<Answer, AllocError>
+    requires { length text.now ≤ PROGRAM_LIMIT }
+    ensures { IfOk result (λ a. ReportsPrint text.now (answered a)) }
+{
+    match parse(alloc, text) {
+        Ok(program) => Ok(Answer::Printed(print(alloc, &program)?)),
+        Err(fault) => refused(fault),
+    }
+}
+
+/// What is answered to a program text and to the text of that name.
 fn checked<H: Shelf>(
     alloc: Global,
     shelf: &mut H,
@@ -92,13 +99,17 @@ fn checked<H: Shelf>(
     ensures no_fault { result ≢ Err Halt.Fault → H.faults shelf.new ≡ H.faults shelf.old }
     ensures never_falls { H.faults shelf.old ≤ H.faults shelf.new }
 {
-    let Some(program) = parsed(alloc, text)? else {
+    let program = match parse(alloc, text) {
+        Ok(program) => program,
+        Err(fault) => return Ok(refused(fault)?),
+    };
+    let Some(straight) = straight_of(alloc, &program)? else {
         return Ok(Answer::Form);
     };
     let Some(proof) = text_within(alloc, shelf, second, SECOND_LIMIT)? else {
         return Ok(Answer::TooLong);
     };
-    Ok(Answer::Judged(judged(alloc, &program, &proof)?))
+    Ok(Answer::Judged(judged(alloc, &straight, &proof)?))
 }
 
 /// What the program answers to its words: its report.
@@ -114,12 +125,14 @@ pub(crate) fn reported<H: Shelf>(
     ensures no_fault { result ≢ Err Halt.Fault → H.faults shelf.new ≡ H.faults shelf.old }
     ensures never_falls { H.faults shelf.old ≤ H.faults shelf.new }
 {
-    let Some((program, second)) = asked(words) else {
+    let Some(mode) = asked(words) else {
         return Ok(Answer::Usage);
     };
-    let Some(text) = text_within(alloc, shelf, program, PROGRAM_LIMIT)? else {
+    let Some(text) = text_within(alloc, shelf, mode.program(), PROGRAM_LIMIT)? else {
         return Ok(Answer::TooLong);
     };
-    let answer = checked(alloc, shelf, &text, second)?;
-    Ok(answer)
+    match mode {
+        Mode::Print { program: _ } => Ok(printed(alloc, &text)?),
+        Mode::Check { program: _, second } => checked(alloc, shelf, &text, second),
+    }
 }

@@ -1,7 +1,7 @@
 ghost use Rattle.std.specs.Prelude.{◌≡◌, ◌≢◌, ◌<◌, ◌++◌, ℕ, List, ◌⊎◌, Some, map, codes, IfSome};
 ghost use Rattle.std.specs.String.{string_bytes};
 ghost use Rattle.outer_io.specs.Faults.{Rose};
-ghost use Rattle.automizer_top.specs.Report.{Answer, Answers, Reports, WhereTold, TookFront, ProgramIsSafe};
+ghost use Rattle.automizer_top.specs.Report.{Answer, Answers, Reports, WhereTold, TookFront, PrintsProgram, ProgramIsSafe};
 
 use crate::reporting::{Halt, reported};
 use outer_io::{Shelf, Sink, write_all};
@@ -27,8 +27,9 @@ pub fn run<R, H: Shelf, K: Sink>(
         WhereTold (H.texts shelf.old) (K.taken sink.old) (λ shown before. (a : Answer) ×
         Answers (map string_bytes words.now) shown before (K.taken sink.new) result a) }
 
-    // Nothing is accepted whose program has a run that fails an assertion.
-    ensures accepted_is_safe { result ≡ 0 → IfSome (H.texts shelf.old) (ProgramIsSafe (map string_bytes words.now)) }
+    // Status 0 says that a program was printed, or that none of its runs fails an assertion. `accepted` says the latter.
+    ensures accepted_is_safe { result ≡ 0 → IfSome (H.texts shelf.old) (λ shown.
+        PrintsProgram (map string_bytes words.now) shown ⊎ ProgramIsSafe (map string_bytes words.now) shown) }
     ensures accepted_text_is_safe { WhereTold (H.texts shelf.old) (K.taken sink.old) (λ shown before.
         K.taken sink.new ≡ Some (before ++ codes "accepted\n") → ProgramIsSafe (map string_bytes words.now) shown) }
 
@@ -48,11 +49,12 @@ pub fn run<R, H: Shelf, K: Sink>(
         Err(Halt::Fault) => return DEVICE,
         Err(Halt::Memory) => return NO_MEMORY,
     };
+    let status = answer.status();
     let Ok(text) = answer.text(alloc) else {
         return NO_MEMORY;
     };
-    match write_all(sink, text.as_bytes()) {
-        Ok(()) => answer.status(),
+    match write_all(sink, &text) {
+        Ok(()) => status,
         Err(_) => DEVICE,
     }
 }

@@ -69,8 +69,16 @@ fn proofs_of_straight_lines(rt: HostRuntime) -> Result<(), Fail> {
             0,
         ),
         (equal, PROOF, "rejected 3 Syntax\n", 1),
+        // Row 0 is x = -2, row 1 the way to fail, x = 3.
+        (
+            "procedure main() { var x: int; x := -(2); assert x != 3; }",
+            "straight 1\nassertion 1 1 (leaf 0:1 1:-1)\nend\n",
+            "accepted\n",
+            0,
+        ),
         ("", PROOF, "refused Form\n", 3),
         ("", "", "refused Form\n", 3),
+        ("procedure main() { x }", PROOF, "refused Syntax 1 22\n", 3),
         ("procedure main() { }", "straight 1\nend\n", "accepted\n", 0),
         ("procedure main() { }", "", "rejected 1 Syntax\n", 1),
         (INCREMENT, "", "rejected 1 Syntax\n", 1),
@@ -142,28 +150,45 @@ fn words_and_devices(rt: HostRuntime) -> Result<(), Fail> {
         assert_eq!(rt; sink.taken(), output.as_bytes(), "{words:?}");
         assert_eq!(rt; given, status, "{words:?}");
     }
-    let words = all_words(alloc, &["check", "p"])?;
-    let mut shelf = MemShelf::new(Vec::new(alloc), 7, Vec::new(alloc));
-    let mut sink = MemSink::new(alloc, 100, Vec::new(alloc));
-    assert_eq!(rt; run(&(), alloc, &words, &mut shelf, &mut sink), 4);
-    assert_eq!(rt; sink.taken(), usage.as_bytes());
+    for (words, output, status) in [
+        (["check", "p"].as_slice(), usage, 4),
+        (["print"].as_slice(), usage, 4),
+        (["print", "p", "q"].as_slice(), usage, 4),
+        (["verify", "p"].as_slice(), usage, 4),
+        (["print", "p"].as_slice(), "", 5),
+    ] {
+        let words = all_words(alloc, words)?;
+        let mut shelf = MemShelf::new(Vec::new(alloc), 7, Vec::new(alloc));
+        let mut sink = MemSink::new(alloc, 100, Vec::new(alloc));
+        assert_eq!(rt;
+            run(&(), alloc, &words, &mut shelf, &mut sink),
+            status,
+            "{words:?}"
+        );
+        assert_eq!(rt; sink.taken(), output.as_bytes(), "{words:?}");
+    }
     Ok(())
+}
+
+/// So many spaces.
+fn spaces(alloc: Global, count: usize) -> Result<Vec<u8>, AllocError> {
+    vec![in alloc; b' '; count]
 }
 
 #[test]
 fn texts_past_the_limit_and_odd_bytes(rt: HostRuntime) -> Result<(), Fail> {
     let alloc = rt.alloc();
-    let blanks = vec![in alloc; b' '; 1_048_576]?;
-    let one_more = vec![in alloc; b' '; 1_048_577]?;
+    let most = spaces(alloc, 1_048_576)?;
+    let one_more = spaces(alloc, 1_048_577)?;
     let proof = PROOF.as_bytes();
     for (program, proof, output) in [
-        (blanks.as_slice(), proof, "refused Form\n"),
+        (most.as_slice(), proof, "refused Form\n"),
         (one_more.as_slice(), proof, "refused TooLong\n"),
-        (b"\xff\xfe".as_slice(), proof, "refused Form\n"),
+        (b"\xff\xfe".as_slice(), proof, "refused Syntax 1 1\n"),
         (
             b"procedure main() { \x80 }".as_slice(),
             proof,
-            "refused Form\n",
+            "refused Syntax 1 20\n",
         ),
         (
             INCREMENT.as_bytes(),
@@ -190,19 +215,20 @@ fn front(text: &[u8], length: usize) -> &[u8] {
     text.get(..length).unwrap_or(text)
 }
 
-// The program is whole without its last newline; the proof is not, and the line in which it ends is the wrong one.
+// An empty text is a program, but not of the first form. The program is whole without its last newline; the proof is not,
+// and the line in which it ends is the wrong one.
 #[test]
 fn texts_cut_off(rt: HostRuntime) -> Result<(), Fail> {
     let alloc = rt.alloc();
     let program = INCREMENT.as_bytes();
     let last = program.len().saturating_sub(1);
-    for length in 0..last {
-        let (written, _status) = check(alloc, front(program, length), PROOF.as_bytes())?;
-        assert_eq!(rt;
-            written.as_str(),
-            "refused Form\n",
+    for length in 1..last {
+        let (written, status) = check(alloc, front(program, length), PROOF.as_bytes())?;
+        assert!(rt;
+            written.starts_with("refused Syntax "),
             "the first {length} bytes"
         );
+        assert_eq!(rt; status, 3, "the first {length} bytes");
     }
     let (written, _status) = check(alloc, front(program, last), PROOF.as_bytes())?;
     assert_eq!(rt; written.as_str(), "accepted\n");
@@ -216,6 +242,138 @@ fn texts_cut_off(rt: HostRuntime) -> Result<(), Fail> {
         if byte == b'\n' {
             line = line.saturating_add(1);
         }
+    }
+    Ok(())
+}
+
+/// What `print p` writes and its status.
+fn printed(alloc: Global, program: &[u8]) -> Result<(String, u8), Fail> {
+    let words = all_words(alloc, &["print", "p"])?;
+    let mut shelf = MemShelf::new(texts(alloc, program, b"")?, 65_536, Vec::new(alloc));
+    let mut sink = MemSink::new(alloc, 100, Vec::new(alloc));
+    let status = run(&(), alloc, &words, &mut shelf, &mut sink);
+    Ok((String::from_utf8(sink.taken().to_vec(alloc)?)?, status))
+}
+
+const COUNTER: &str = "// a counter with a flag
+const limit: int;
+axiom 0 <= limit;
+var {:tracked} count: int;
+procedure {:inline 1} advance(up: bool) returns (done: bool)
+  requires 0 <= count && count <= limit;
+  modifies count;
+  ensures 0 <= count && count <= limit;
+  ensures done <==> count == limit;
+{
+  if (*) { goto skip; }
+  if (up && count < limit) { count := count + 1; }
+ skip:
+  done := count == limit;
+}
+procedure main() modifies count; {
+  var stop: bool;
+  count, stop := 0, false;
+  while (!stop)
+    invariant 0 <= count && count <= limit;
+  { call stop := advance(true); /* again */ }
+  assert count >= 0 && (count == limit ==> stop);
+}
+";
+
+const COUNTER_PRINTED: &str = "const limit: int;
+axiom 0 <= limit;
+var count: int;
+procedure advance(up: bool) returns (done: bool)
+  requires 0 <= count && count <= limit;
+  modifies count;
+  ensures 0 <= count && count <= limit;
+  ensures done <==> count == limit;
+{
+  if (*) {
+    goto skip;
+  }
+  if (up && count < limit) {
+    count := count + 1;
+  }
+  skip:
+  done := count == limit;
+}
+procedure main()
+  modifies count;
+{
+  var stop: bool;
+  count, stop := 0, false;
+  while (!stop)
+    invariant 0 <= count && count <= limit;
+  {
+    call stop := advance(true);
+  }
+  assert count >= 0 && (count == limit ==> stop);
+}
+";
+
+#[test]
+fn programs_are_printed(rt: HostRuntime) -> Result<(), Fail> {
+    for (program, output, status) in [
+        ("", "", 0),
+        (
+            "procedure main(){var x,y:int; x:=1 ;assert {:msg \"m\"} (x>=1)&&true; /* c */ }",
+            "procedure main()\n{\n  var x: int;\n  var y: int;\n  x := 1;\n  assert x >= 1 && true;\n}\n",
+            0,
+        ),
+        (COUNTER, COUNTER_PRINTED, 0),
+        (COUNTER_PRINTED, COUNTER_PRINTED, 0),
+        (
+            "procedure main() { assert 170141183460469231731687303715884105727 > 0; }",
+            "procedure main()\n{\n  assert 170141183460469231731687303715884105727 > 0;\n}\n",
+            0,
+        ),
+        (
+            "procedure main() { assert 170141183460469231731687303715884105728 > 0; }",
+            "refused Limit literal 1 27\n",
+            3,
+        ),
+        (
+            "procedure main() { var a, b, c: bool; assert a && b || c; }",
+            "refused Syntax 1 53\n",
+            3,
+        ),
+        ("var m: [int]int;", "refused Unsupported map 1 8\n", 3),
+        ("\n\n const c: real;", "refused Unsupported real 3 11\n", 3),
+    ] {
+        let (written, given) = printed(rt.alloc(), program.as_bytes())?;
+        assert_eq!(rt; written.as_str(), output, "{program}");
+        assert_eq!(rt; given, status, "{program}");
+    }
+    Ok(())
+}
+
+/// An assertion of `true` in so many parentheses.
+fn nested(alloc: Global, depth: usize) -> Result<Vec<u8>, AllocError> {
+    let mut text = b"procedure main() { assert ".to_vec(alloc)?;
+    text.extend_from_slice(&vec![in alloc; b'('; depth]?)?;
+    text.extend_from_slice(b"true")?;
+    text.extend_from_slice(&vec![in alloc; b')'; depth]?)?;
+    text.extend_from_slice(b"; }")?;
+    Ok(text)
+}
+
+#[test]
+fn long_programs_are_printed_or_refused(rt: HostRuntime) -> Result<(), Fail> {
+    let alloc = rt.alloc();
+    for (program, output, status) in [
+        (spaces(alloc, 1_048_576)?, "", 0),
+        (spaces(alloc, 1_048_577)?, "refused TooLong\n", 3),
+        (
+            nested(alloc, 200)?,
+            "procedure main()\n{\n  assert true;\n}\n",
+            0,
+        ),
+        (nested(alloc, 201)?, "refused Limit nesting 1 227\n", 3),
+    ] {
+        let (written, given) = printed(alloc, &program)?;
+        assert_eq!(rt; written.as_str(), output);
+        assert_eq!(rt; given, status, "{output}");
     }
     Ok(())
 }

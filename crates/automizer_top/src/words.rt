@@ -1,17 +1,41 @@
-ghost use Rattle.std.specs.Prelude.{ℕ, List, map, MatchOption};
+ghost use Rattle.std.specs.Prelude.{◌≡◌, ℕ, List, map, MatchOption};
 ghost use Rattle.std.specs.String.{string_bytes};
-ghost use Rattle.automizer_top.specs.Report.{AskCheck};
+ghost use Rattle.automizer_top.specs.Answers.{Asks, AsksNothing, program_name};
 
-/// The names of the program and of its proof, where the words ask for a check: `check PROGRAM SECOND`.
-pub(crate) fn asked(words: &[String]) -> Option<(&str, &str)>
+/// What the words ask for, with the names of the texts.
+#[derive(Clone, Copy)]
+pub(crate) enum Mode<'a> {
+    /// `check PROGRAM SECOND`
+    Check { program: &'a str, second: &'a str },
+    /// `print PROGRAM`
+    Print { program: &'a str },
+}
+
+impl<'a> Mode<'a> {
+    /// The name of the program text.
+    pub fn program(&self) -> &'a str
+        ensures { result.now ≡ program_name self.now }
+    {
+        match self {
+            Mode::Check { program, second: _ } | Mode::Print { program } => program,
+        }
+    }
+}
+
+/// What the words ask for; none where they are faulty.
+pub(crate) fn asked(words: &[String]) -> Option<Mode<'_>>
     ensures { MatchOption result
-        ((program second : List ℕ) → AskCheck (map string_bytes words.now) program second → ⊥)
-        (λ names. AskCheck (map string_bytes words.now) names.0.now names.1.now) }
+        (AsksNothing (map string_bytes words.now))
+        (λ mode. Asks (map string_bytes words.now) mode) }
 {
     match words {
-        [mode, program, second] if mode.as_str() == "check" => {
-            Some((program.as_str(), second.as_str()))
-        }
+        [mode, program, second] if mode.as_str() == "check" => Some(Mode::Check {
+            program: program.as_str(),
+            second: second.as_str(),
+        }),
+        [mode, program] if mode.as_str() == "print" => Some(Mode::Print {
+            program: program.as_str(),
+        }),
         _ => None,
     }
 }

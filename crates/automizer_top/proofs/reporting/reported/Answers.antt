@@ -1,19 +1,24 @@
 use Rattle.std.proofs.Common.{map}
 use Rattle.std.specs.String.{string_bytes}
 use Rattle.automizer_top.specs.Answers.{answered}
-use Rattle.automizer_top.specs.Report.{AskCheck}
-use Rattle.automizer_top.proofs.ReportLaws.{program_reported, check_reported}
+use Rattle.automizer_top.proofs.ReportLaws.{program_reported, check_answered, print_reported}
 use Rattle.automizer_top.proofs.reporting.reported.Goals as goal
 
 pub returns-in_default-2-clause-reported : goal.returns-in_default-2-clause-reported
 returns-in_default-2-clause-reported g c =
-    let ask : AskCheck (map string_bytes c.args.words.now) c.in-Some.program.now c.in-Some.second.now = c.in-Some.ensures in
-    program_reported (map string_bytes c.args.words.now) c.in-Some.program.now c.in-Some.second.now (g.H.Shelf.texts c.args.shelf.now) ask
+    program_reported (map string_bytes c.args.words.now) c.in-Some.mode c.program.result.now (g.H.Shelf.texts c.args.shelf.now) c.in-Some.ensures c.program.ensures
     (rw c.in_default-2.is at c.in_ok-text.ensures.found)
+
+pub returns-in-Print-clause-reported : goal.returns-in-Print-clause-reported
+returns-in-Print-clause-reported g c =
+    print_reported (map string_bytes c.args.words.now) c.in-Some.mode c.in-Print.program c.program.result.now c.in-Some-2.text.items (answered c.in_ok-printed-in-Print.field-0)
+    (g.H.Shelf.texts c.args.shelf.now) c.in-Some.ensures c.in-Print.is c.program.ensures
+    (rw c.in-Some-2.is at c.in_ok-text.ensures.found)
+    (rw (← c.deref.ensures.value) c.in_ok-printed-in-Print.ensures)
 
 pub returns-clause-reported : goal.returns-clause-reported
 returns-clause-reported g c =
-    let ask : AskCheck (map string_bytes c.args.words.now) c.in-Some.program.now c.in-Some.second.now = c.in-Some.ensures in
-    check_reported (map string_bytes c.args.words.now) c.in-Some.program.now c.in-Some.second.now c.in-Some-2.text.items (answered c.in_ok-answer.answer) (g.H.Shelf.texts c.args.shelf.now) ask
+    check_answered (map string_bytes c.args.words.now) c.in-Some.mode c.in-Check.program c.in-Check.second c.program.result.now c.in-Some-2.text.items c.checked.result
+    (g.H.Shelf.texts c.args.shelf.now) c.in-Some.ensures c.in-Check.is c.program.ensures
     (rw c.in-Some-2.is at c.in_ok-text.ensures.found)
-    (rw (← c.in_ok-text.ensures.texts, ← c.deref.ensures.value) c.in_ok-answer.ensures.reported)
+    (rw (← c.in_ok-text.ensures.texts, ← c.deref-in-Check.ensures.value) c.checked.ensures.reported)
