@@ -1,3 +1,4 @@
+// Assertions that need an assumption and an assignment together. By bounds.proof: accepted.
 procedure main() {
   var low, high, middle: int;
   assume low < high;
