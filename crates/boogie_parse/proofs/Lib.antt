@@ -7,7 +7,7 @@ pub mod NameLaws
 mod FormLaws
 mod FormValue
 mod FormRowLaws
-mod FirstFormLaws
+pub mod FirstFormLaws
 mod StepLaws
 pub mod LiteralLaws
 pub mod ColumnLaws

@@ -15,7 +15,10 @@ mod whole_text;
 pub use fault::{Fault, What, Which};
 pub use lexer::{Token, lex};
 pub use statements::{Line, Plain, Straight, Test, TestOp};
-pub use straight::laws::{forms_have_the_value, one_program, straight_programs_are_short};
+pub use straight::laws::{
+    forms_have_the_value, one_program, straight_programs_are_short,
+    straight_programs_are_well_formed,
+};
 pub use straight::straight_of;
 pub use token::TokenKind;
 pub use whole_text::{

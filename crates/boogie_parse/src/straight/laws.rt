@@ -7,6 +7,7 @@ ghost use Rattle.boogie_parse.specs.Straight.{Linear, Program};
 ghost use Rattle.boogie_parse.specs.Forms.{form, value};
 ghost use Rattle.boogie_parse.specs.FirstForm.{IsFirstForm};
 ghost use Rattle.boogie_parse.specs.GrammarLimits.{IsProgram};
+ghost use Rattle.boogie_parse.specs.WellFormed.{IsWellFormed};
 
 /// What a form is worth: the value of the expression, where each local has a whole number.
 pub fn forms_have_the_value()
@@ -23,4 +24,9 @@ pub fn one_program()
 pub fn straight_programs_are_short()
     ensures { (text : List ℕ) (ds : List Declaration) (p : Program) → IsProgram text ds → IsFirstForm ds p →
         length p.steps ≤ length text }
+{}
+
+/// What every straight-line program keeps: few locals, sums over these alone, and rows whose numbers fit.
+pub fn straight_programs_are_well_formed()
+    ensures { (ds : List Declaration) (p : Program) → IsFirstForm ds p → IsWellFormed p }
 {}
