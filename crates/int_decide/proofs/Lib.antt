@@ -18,4 +18,4 @@ pub mod TaskLists
 pub mod WholePoints
 pub mod Coming
 pub mod Closing
-pub mod Measuring
+pub mod SizeLaws

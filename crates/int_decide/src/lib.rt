@@ -4,6 +4,7 @@
 
 mod deciding;
 mod laws;
+mod measuring;
 mod search;
 #[cfg(test)]
 mod tests;
@@ -15,4 +16,5 @@ pub use laws::{
     decisions_are_sound, group_count_is_enough, refuted_systems_have_no_whole_point,
     rows_are_refuted_exactly,
 };
+pub use measuring::measure;
 pub use types::{Answer, DecideFault};

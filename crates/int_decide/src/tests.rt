@@ -1,9 +1,3 @@
-ghost use Rattle.std.specs.Prelude.{◌≤◌, ◌<◌, suc, IsTrue, IfSome};
-ghost use Rattle.std.specs.List.{AllByRecursion};
-ghost use Rattle.math_facts.specs.Terms.{IsBelow};
-ghost use Rattle.fm_elim.specs.Worth.{ColumnsBelow};
-ghost use Rattle.int_decide.specs.Sizes.{total, extent, SystemBelow};
-
 use super::*;
 use farkas_check::Node;
 use lin_rows::{Row, RowKind, System, row};
@@ -207,63 +201,10 @@ fn system_of(alloc: Global, text: &str) -> Result<System, Fail> {
     Ok(System { rows, groups })
 }
 
-/// Whether all columns of the rows are below the number given.
-fn are_below(rows: &[Row], columns: u32) -> bool
-    ensures { IsTrue result → ColumnsBelow columns rows.now }
-{
-    for row in rows {
-        if !is_below(row, columns) {
-            return false;
-        }
-    }
-    true
-}
-
-/// Whether all columns of the row are below the number given.
-fn is_below(row: &Row, columns: u32) -> bool
-    ensures { IsTrue result → IsBelow columns row.now.terms }
-{
-    for (column, _) in row.terms() {
-        if *column >= columns {
-            return false;
-        }
-    }
-    true
-}
-
-/// How many rows and members the system has, those of its members counted, where all columns are below the number given.
-#[cycle(measuring)]
-fn measured(system: &System, columns: u32) -> Option<u64>
-    ensures below { IfSome result (λ _. SystemBelow columns system.now) }
-    ensures size { IfSome result (λ n. extent system.now ≤ n) }
-{
-    if !are_below(&system.rows, columns) {
-        return None;
-    }
-    let mut sum = system.rows.len() as u64;
-    for group in &system.groups {
-        sum = sum.checked_add(measured_members(group, columns)?)?;
-    }
-    Some(sum)
-}
-
-/// The same of the members of a group, which count themselves, too.
-#[cycle(measuring)]
-fn measured_members(members: &Vec<System>, columns: u32) -> Option<u64>
-    ensures below { IfSome result (λ _. AllByRecursion (SystemBelow columns) members.now.items) }
-    ensures size { IfSome result (λ n. total (λ m. suc (extent m)) members.now.items ≤ n) }
-{
-    let mut sum = 0u64;
-    for member in members {
-        sum = sum.checked_add(measured(member, columns)?)?.checked_add(1)?;
-    }
-    Some(sum)
-}
-
 /// What `plain` answers of a system, in short.
 fn decided(alloc: Global, system: &System, columns: u32, depth: u32) -> Result<String, Fail> {
     let mut text = String::new(alloc);
-    let Some(size) = measured(system, columns) else {
+    let Some(size) = measure(system, columns) else {
         return Ok(text);
     };
     if size > 1000 || depth > 1000 {
@@ -325,6 +266,52 @@ fn systems_are_decided(rt: HostRuntime) -> Result<(), Fail> {
             let found = decided(alloc, &system, columns, depth)?;
             assert_eq!(rt; found.as_str(), wanted, "{text} at {depth}");
         }
+    }
+    Ok(())
+}
+
+// A number of columns, a system and how many rows and members it has, if its columns are below the number.
+// A member counts itself and its rows.
+const MEASURED: [(u32, &str, Option<u32>); 8] = [
+    (0, "", Some(0)),
+    (2, "1 -1 <= 3", Some(1)),
+    (1, "1 -1 <= 3", None),
+    // 2 rows, then a member with 1 row and one with 2
+    (1, "1 = 5,-1 = 2{1 <= 2|1 <= 3,-1 <= 0}", Some(7)),
+    // a member without rows
+    (1, "1 = 1{1 = 1|}", Some(4)),
+    // 2 groups: 1 row, a member with 1, and two with 1 each
+    (1, "1 = 1{1 = 1}{1 = 2|1 = 3}", Some(7)),
+    // column 1 stands in a member alone
+    (2, "1 = 0{1 1 = 2}", Some(3)),
+    (1, "1 = 0{1 1 = 2}", None),
+];
+
+/// The system with no rows and one group, whose only member is the system given.
+fn inside(alloc: Global, member: System) -> Result<System, Fail> {
+    let mut members = Vec::new(alloc);
+    members.push(member)?;
+    let mut groups = Vec::new(alloc);
+    groups.push(members)?;
+    Ok(System {
+        rows: Vec::new(alloc),
+        groups,
+    })
+}
+
+#[test]
+fn systems_are_measured(rt: HostRuntime) -> Result<(), Fail> {
+    let alloc = rt.alloc();
+    for (columns, text, wanted) in MEASURED {
+        let system = system_of(alloc, text)?;
+        assert_eq!(rt; measure(&system, columns), wanted, "{text} below {columns}");
+        let nested = inside(alloc, system)?;
+        let one_more = wanted.and_then(|size| size.checked_add(1));
+        assert_eq!(rt;
+            measure(&nested, columns),
+            one_more,
+            "{text} as a member, below {columns}"
+        );
     }
     Ok(())
 }
