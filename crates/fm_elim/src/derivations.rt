@@ -19,7 +19,7 @@ pub fn plus_times(alloc: Global, a: &Derived, m: i128, b: &Derived) -> Result<De
 {
     let row = add_scaled(alloc, a.row(), m, b.row())?;
     let by = add_scaled(alloc, a.by(), m, b.by())?;
-    Ok(Derived::new(row, by))
+    Ok(Derived::new(alloc, row, by)?)
 }
 
 /// `0 <= 0`, from no row.
@@ -28,7 +28,7 @@ pub fn nothing(alloc: Global) -> Result<Derived, ElimFault>
 {
     let inequality = row(alloc, &[], RowKind::Le, 0)?;
     let by = row(alloc, &[], RowKind::Eq, 0)?;
-    Ok(Derived::new(inequality, by))
+    Ok(Derived::new(alloc, inequality, by)?)
 }
 
 /// The row of that number, tightened, taken once.
@@ -38,7 +38,7 @@ fn input(alloc: Global, number: u32, given: &Row) -> Result<Derived, ElimFault>
 {
     let tight = tighten(alloc, given)?;
     let by = row(alloc, &[(number, 1)], RowKind::Eq, 0)?;
-    Ok(Derived::new(tight, by))
+    Ok(Derived::new(alloc, tight, by)?)
 }
 
 /// The rows, tightened, with their numbers.

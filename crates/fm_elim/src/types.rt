@@ -1,6 +1,6 @@
 use frac::Frac;
 use lin_rows::{Row, RowFault};
-use std::alloc::{AllocError, AllocFailed};
+use std::alloc::{AllocError, AllocFailed, Global};
 use std::marker::Model;
 use thiserror::Error;
 
@@ -73,8 +73,15 @@ impl<T: Drop> From<AllocFailed<T>> for ElimFault {
 }
 
 /// A row with the multipliers that make it from the tightened input rows. The multipliers are an equation over row numbers.
+/// Both stand in one box, since every eliminated column moves every row, and a row is a few hundred bytes.
 #[derive(Drop)]
 pub(crate) struct Derived {
+    parts: Box<Parts>,
+}
+
+/// The row and its multipliers.
+#[derive(Drop)]
+struct Parts {
     row: Row,
     by: Row,
 }
@@ -86,28 +93,29 @@ impl Model for Derived {
 
     ghost Value = { DerivedRow };
 
-    ghost view = { λ a. record { row = a.row; by = a.by } };
+    ghost view = { λ a. record { row = a.parts.value.row; by = a.parts.value.by } };
 
-    ghost invariant = { λ a. a.by.kind ≡ Eq };
+    ghost invariant = { λ a. a.parts.value.by.kind ≡ Eq };
 }
 
 impl Derived {
-    ghost use Rattle.std.specs.Prelude.{◌≡◌};
+    ghost use Rattle.std.specs.Prelude.{◌≡◌, IfOk};
     ghost use Rattle.lin_rows.specs.declared.types.RowKind.TheVariants.{Eq};
 
     /// The row with its multipliers.
-    pub(crate) fn new(row: Row, by: Row) -> Self
+    pub(crate) fn new(alloc: Global, row: Row, by: Row) -> Result<Self, AllocError>
         requires { by.kind ≡ Eq }
-        ensures { result ≡ record { row = row; by = by } }
+        ensures { IfOk result (λ r. r ≡ record { row = row; by = by }) }
     {
-        Derived { row, by }
+        let parts = Box::new(alloc, Parts { row, by })?;
+        Ok(Derived { parts })
     }
 
     /// The row.
     pub(crate) fn row(&self) -> &Row
         ensures { result.now ≡ self.now.row }
     {
-        &self.row
+        &self.parts.row
     }
 
     /// Its multipliers.
@@ -115,7 +123,7 @@ impl Derived {
         ensures value { result.now ≡ self.now.by }
         ensures valid { self.now.by.kind ≡ Eq }
     {
-        &self.by
+        &self.parts.by
     }
 }
 

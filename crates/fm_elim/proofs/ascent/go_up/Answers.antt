@@ -31,16 +31,6 @@ loop-aside-preserved-in_ok-push c =
       column = length_more c.loop-aside.column c.loop-aside.values.items c.push.new.self.items c.in_ok-value.value c.loop-aside.invariant.column c.in_ok-push.ensures.items;
     }
 
-pub loop-aside-preserved-in_ok-push-2 : goal.loop-aside-preserved-in_ok-push-2
-loop-aside-preserved-in_ok-push-2 c =
-    record {
-      up = loop_more c.args.columns c.loop-aside.column (map aside_of c.args.asides.items) c.loop-aside.asides.items c.pop.new.self.items c.in-Some.aside c.loop-aside.values.items
-          c.deref.result.now c.loop-aside.invariant.up c.loop-aside.invariant.column c.in-Some.ensures.items c.deref.ensures.value
-          c.in_ok-value.value c.push.new.self.items c.in_ok-value.ensures c.in_ok-push.ensures.items;
-      values = values_more c.loop-aside.values.items c.push.new.self.items c.in_ok-value.value c.loop-aside.invariant.values c.in_ok-value.ensures.1.0 c.in_ok-push.ensures.items;
-      column = length_more c.loop-aside.column c.loop-aside.values.items c.push.new.self.items c.in_ok-value.value c.loop-aside.invariant.column c.in_ok-push.ensures.items;
-    }
-
 pub loop-aside-preserved : goal.loop-aside-preserved
 loop-aside-preserved c =
     record {

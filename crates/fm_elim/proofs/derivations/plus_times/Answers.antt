@@ -10,4 +10,4 @@ returns c =
     let v = rw (c.row.ensures, c.row-2.ensures) at (simp to_z-of_z at c.in_ok-row.ensures.value) in
     let b = rw (c.by.ensures.value, c.by-2.ensures.value) at (simp to_z-of_z at c.in_ok-by.ensures.fits) in
     let w = rw (c.by.ensures.value, c.by-2.ensures.value) at (simp to_z-of_z at c.in_ok-by.ensures.value) in
-    ((a, b), c.new.ensures ∙ (λ i. record { row = v i; by = w i }))
+    ((a, b), c.in_ok-new.ensures ∙ (λ i. record { row = v i; by = w i }))
