@@ -20,3 +20,4 @@ pub mod Outcomes
 pub mod ValueLemmas
 pub mod FoldLaws
 pub mod FreeColumns
+pub mod Written

@@ -1,5 +1,5 @@
 -- The code of one step gives what the step is defined to be.
-use Rattle.std.proofs.Common.{◌≡◌, ℕ, ◌<◌, ℤ, pos, negsuc, ◌<ℤ◌, Bool, true, List, Result, Ok, Err, Option, None, Some, map, sym, subst, arith, if◌then◌else◌}
+use Rattle.std.proofs.Common.{◌≡◌, ℕ, ◌<◌, ℤ, pos, negsuc, ◌<ℤ◌, Bool, true, List, Result, Ok, Err, Option, None, Some, map, sym, subst, arith}
 use Rattle.std.specs.Prelude.{unsigned_abs, MatchOption}
 use Rattle.std.specs.List.{AllByRecursion, flat_map}
 use Rattle.std.proofs.Math.Nat.{pos_of_dvd_of_pos}
@@ -8,19 +8,13 @@ use Rattle.fm_elim.specs.declared.types.ElimFault.{ElimFault}
 use Rattle.fm_elim.specs.declared.types.ElimFault.TheVariants.{Past, Memory}
 use Rattle.fm_elim.specs.Answers.{Exactly}
 use Rattle.fm_elim.specs.Quotients.{common}
-use Rattle.fm_elim.specs.Folds.{first, others, Where}
-use Rattle.fm_elim.specs.Derivations.{DerivedRow, nothing, plus_times, PlusTimesFits, at, has, is_upper}
-use Rattle.fm_elim.specs.Columns.{forced, Eliminated, is_pivot, clearing, cleared, ClearedFits, halves, HalvesFit, share, other_share, pair, PairFits, combined, CombinedFits, step_by, StepByFits, step, StepFits}
+use Rattle.fm_elim.specs.Folds.{first, others}
+use Rattle.fm_elim.specs.Derivations.{DerivedRow, nothing, plus_times, PlusTimesFits, at, is_upper}
+use Rattle.fm_elim.specs.Columns.{forced, Eliminated, is_pivot, cleared, ClearedFits, halves, HalvesFit, share, other_share, pair, PairFits, combined, CombinedFits, step_by, StepByFits, step, StepFits}
 use Rattle.fm_elim.proofs.Lists.{all_always, all_first}
 use Rattle.fm_elim.proofs.FractionLaws.{common_is}
 use Rattle.fm_elim.proofs.Points.{Anything}
 use Rattle.fm_elim.proofs.Multipliers.{less_is}
-
-pub cleared_exact : (k : ℕ) (e r : DerivedRow) (m : ℤ) (result : Result DerivedRow ElimFault) → has k r ≡ true → m ≡ clearing k e r →
-    Exactly result (λ q. q ≡ plus_times r m e) (PlusTimesFits r m e) → Exactly result (λ q. q ≡ cleared k e r) (ClearedFits k e r)
-cleared_exact k e r m result h f x =
-    subst (λ (b : Bool). Exactly result (λ q. q ≡ (if b then plus_times r (clearing k e r) e else r)) (Where b (PlusTimesFits r (clearing k e r) e))) (sym h)
-    (subst (λ (z : ℤ). Exactly result (λ q. q ≡ plus_times r z e) (PlusTimesFits r z e)) f x)
 
 pub divisor_positive : (k : ℕ) (u : DerivedRow) (b : ℕ) → is_upper k u ≡ true → 0 < common (unsigned_abs (at k u)) b
 divisor_positive k u b e =

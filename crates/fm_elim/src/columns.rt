@@ -18,24 +18,20 @@ use std::alloc::{AllocError, Global};
 
 // ---- by an equality
 
-/// The row without the column, by an equality in which the column has the coefficient 1 or -1.
-fn cleared(
-    alloc: Global,
-    column: u32,
-    equality: &Derived,
-    row: Derived,
-) -> Result<Derived, ElimFault>
+/// Makes the row one without the column, by an equality in which the column has the coefficient 1 or -1.
+fn clear(alloc: Global, column: u32, equality: &Derived, row: &mut Derived) -> Result<(), ElimFault>
     requires { IsTrue (is_pivot column equality.now) }
-    ensures { Exactly result (λ r. r ≡ cleared column equality.now row) (ClearedFits column equality.now row) }
+    ensures { Exactly result (λ _. row.new ≡ cleared column equality.now row.old) (ClearedFits column equality.now row.old) }
 {
-    if !has(&row, column) {
-        return Ok(row);
+    if !has(row, column) {
+        return Ok(());
     }
     let m = clearing(
         coefficient(row.row(), column),
         coefficient(equality.row(), column),
     );
-    plus_times(alloc, &row, m, equality)
+    *row = plus_times(alloc, row, m, equality)?;
+    Ok(())
 }
 
 /// The multiplier of an equality with the coefficient 1 or -1 that takes a coefficient away.
@@ -47,22 +43,21 @@ fn clearing(coefficient: i128, unit: i128) -> i128
     if unit == 1 { -coefficient } else { coefficient }
 }
 
-/// Each row without the column.
+/// Each row without the column. The rows that lack it are not touched.
 fn all_cleared(
     alloc: Global,
     column: u32,
     equality: &Derived,
-    rows: Vec<Derived>,
+    mut rows: Vec<Derived>,
 ) -> Result<Vec<Derived>, ElimFault>
     requires { IsTrue (is_pivot column equality.now) }
     ensures { Exactly result (λ list. list.items ≡ map (cleared column equality.now) rows.items)
         (AllByRecursion (ClearedFits column equality.now) rows.items) }
 {
-    let mut list = Vec::with_capacity(alloc, rows.len())?;
-    for row in rows {
-        list.push(cleared(alloc, column, equality, row)?)?;
+    for row in rows.iter_mut() {
+        clear(alloc, column, equality, row)?;
     }
-    Ok(list)
+    Ok(rows)
 }
 
 /// The column is eliminated by an equality.
