@@ -15,5 +15,6 @@ pub use printing::print;
 pub use span::Span;
 pub use text::Text;
 pub use tree::{
-    Body, Decl, Expr, ExprKind, Guard, Inv, Name, Op, Proc, Program, Spec, Stmt, Ty, Vary,
+    Body, Column, Decl, Expr, ExprKind, Guard, Inv, Name, Op, Proc, Program, Spec, Stmt, Ty,
+    VarInfo, Vary,
 };

@@ -1,5 +1,6 @@
 use crate::span::Span;
 use crate::text::Text;
+use std::alloc::AllocError;
 
 /// The type of a value.
 #[derive(Clone, Copy, Debug, PartialEq, Eq)]
@@ -155,4 +156,39 @@ pub enum Decl {
 #[derive(Drop)]
 pub struct Program {
     pub decls: Vec<Decl>,
+}
+
+/// A variable of a typed program, by its number in its set.
+#[derive(Clone, Copy, Debug, PartialEq, Eq)]
+pub enum Column {
+    /// A constant or global, in order of declaration.
+    Global(u32),
+    /// What that global had at the procedure's entry.
+    Old(u32),
+    /// A parameter, result or local of the procedure.
+    Local(u32),
+}
+
+/// What is known of a variable of a typed program.
+#[derive(Drop)]
+pub struct VarInfo {
+    pub name: Text,
+    pub ty: Ty,
+    /// True exactly for constants and parameters.
+    pub constant: bool,
+}
+
+impl VarInfo {
+    ghost use Rattle.std.specs.Prelude.{◌≡◌, IfOk};
+
+    /// An equal one.
+    pub fn copy(&self) -> Result<Self, AllocError>
+        ensures { IfOk result (λ copied. copied ≡ self.now) }
+    {
+        Ok(VarInfo {
+            name: self.name.copy()?,
+            ty: self.ty,
+            constant: self.constant,
+        })
+    }
 }
