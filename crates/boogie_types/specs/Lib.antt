@@ -1,0 +1,5 @@
+pub mod Meanings
+pub mod Naming
+pub mod Sorted
+pub mod Resolved
+pub mod BrokenNames
