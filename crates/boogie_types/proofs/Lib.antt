@@ -1,3 +1,4 @@
 pub mod Differ
 pub mod NameLaws
 pub mod SeenNames
+pub mod FaultLaws

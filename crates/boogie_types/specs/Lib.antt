@@ -5,3 +5,4 @@ pub mod Resolved
 pub mod BrokenNames
 pub mod Numbers
 pub mod Referred
+pub mod NamingFaults

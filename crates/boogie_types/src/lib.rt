@@ -1,6 +1,7 @@
 //! Resolves the names of Boogie programs, and tests the typing rules.
 #![tactic(auto)]
 
+mod expressions;
 mod names;
 mod numbered;
 mod sorted;
