@@ -1,1 +1,2 @@
 pub mod ShapeLists
+pub mod ShapeNames
