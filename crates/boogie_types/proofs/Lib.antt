@@ -1,2 +1,3 @@
 pub mod ShapeLists
 pub mod ShapeNames
+pub mod ShapeHidden
