@@ -1,3 +1,5 @@
 pub mod ShapeLists
 pub mod ShapeNames
 pub mod ShapeHidden
+pub mod ShapeArguments
+pub mod ShapeStatements

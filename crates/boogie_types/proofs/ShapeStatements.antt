@@ -1,0 +1,139 @@
+-- A body with its names replaced: its labels are the numbers of the labels of the body, in order, and the boolean arguments of its calls are simple.
+use Rattle.std.proofs.Common.{◌≡◌, ℕ, ◌+◌, Bool, true, false, ◌&&◌, List, [], ◌∷◌, ◌++◌, map, Option, None, Some, slice_get, option_map, option_and_then, refl, ap, sym, ◌∙◌, subst, append_assoc, append-nil}
+use Rattle.std.specs.List.{list_all}
+use Rattle.std.proofs.lemmas.Bool.{and_parts, and_from}
+use Rattle.boogie_tree.specs.declared.span.Span.{Span}
+use Rattle.boogie_tree.specs.declared.tree.Name.{Name}
+use Rattle.boogie_tree.specs.declared.tree.Vary.{Vary}
+use Rattle.boogie_tree.specs.declared.tree.Column.{Column}
+use Rattle.boogie_tree.specs.Tree as tree
+use Rattle.typed_tree.specs.TypedTree as typed
+use Rattle.typed_tree.specs.TypedTree.{TypedExpression, TypedGuard, TypedInvariant, TypedStatement, TypedBlock, TypedProcedure}
+use Rattle.typing_rules.specs.Shape as shape
+use Rattle.typing_rules.specs.Shape.{is_shaped, is_shaped_block, statement_labels, block_labels, are_arguments}
+use Rattle.boogie_types.specs.Meanings.{variable_info}
+use Rattle.boogie_types.specs.Sorted as sorted
+use Rattle.boogie_types.specs.Sorted.{labels_in}
+use Rattle.boogie_types.specs.Naming.{each, both, named, named_guard, named_invariant, columns_of, label_number, levels, procedure_number, params_if_any, params_named, hidden_arguments, hidden_in, hidden_in_block, hidden_column, put_aside, named_arguments, named_call, label_of, in_loop, alone, in_front, named_statement, named_block, Place}
+use Rattle.boogie_types.proofs.ShapeLists.{option_map_some, option_and_then_some, both_some, each_cons, each_append, all_append}
+use Rattle.boogie_types.proofs.ShapeArguments.{arguments_shaped}
+
+-- all labels of statements
+abbrev pub list_labels : List TypedStatement → List ℕ
+list_labels [] = []
+list_labels (t ∷ ts) = statement_labels t ++ list_labels ts
+
+-- the parameters of each typed procedure are those of the procedure with its number
+abbrev pub AreCallees : List TypedProcedure → List tree.Procedure → Type 0
+AreCallees procs ps = (n : ℕ) → shape.params_if_any (slice_get procs n) ≡ map (variable_info true) (params_if_any (slice_get ps n))
+
+-- what holds of the statements that a statement with those labels becomes
+pub record FineList (procs : List TypedProcedure) (p : Place) (xs : List Name) (ts : List TypedStatement) : Type 0 where
+  pub labels : each (label_number p) xs ≡ Some (list_labels ts)
+  pub shaped : list_all (is_shaped procs) ts ≡ true
+
+-- what holds of the list that a list with those labels becomes
+pub record FineBlock (procs : List TypedProcedure) (p : Place) (xs : List Name) (b : TypedBlock) : Type 0 where
+  pub labels : each (label_number p) xs ≡ Some (block_labels b)
+  pub shaped : is_shaped_block procs b ≡ true
+
+-- ---- statements in a row
+
+front_labels : (ts : List TypedStatement) (b : TypedBlock) → block_labels (in_front ts b) ≡ list_labels ts ++ block_labels b
+front_labels [] b = refl
+front_labels (t ∷ ts) b =
+    ap (λ (ns : List ℕ). statement_labels t ++ ns) (front_labels ts b) ∙ sym (append_assoc (statement_labels t) (list_labels ts) (block_labels b))
+
+front_shaped : (procs : List TypedProcedure) (ts : List TypedStatement) (b : TypedBlock) → list_all (is_shaped procs) ts ≡ true → is_shaped_block procs b ≡ true →
+    is_shaped_block procs (in_front ts b) ≡ true
+front_shaped procs [] b h k = k
+front_shaped procs (t ∷ ts) b h k =
+    let a = and_parts (is_shaped procs t) (list_all (is_shaped procs) ts) h in
+    and_from (is_shaped procs t) (is_shaped_block procs (in_front ts b)) a.0 (front_shaped procs ts b a.1 k)
+
+labels_append : (ts us : List TypedStatement) → list_labels (ts ++ us) ≡ list_labels ts ++ list_labels us
+labels_append [] us = refl
+labels_append (t ∷ ts) us =
+    ap (λ (ns : List ℕ). statement_labels t ++ ns) (labels_append ts us) ∙ sym (append_assoc (statement_labels t) (list_labels ts) (list_labels us))
+
+-- a statement before a list
+in_row : (procs : List TypedProcedure) (p : Place) (xs ys : List Name) (ts : List TypedStatement) (b c : TypedBlock) → FineList procs p xs ts → FineBlock procs p ys b →
+    in_front ts b ≡ c → FineBlock procs p (xs ++ ys) c
+in_row procs p xs ys ts b c f g e =
+    subst (FineBlock procs p (xs ++ ys)) e (record {
+      labels = each_append (label_number p) xs ys (list_labels ts) (block_labels b) f.labels g.labels ∙ ap (λ (ns : List ℕ). Some ns) (sym (front_labels ts b));
+      shaped = front_shaped procs ts b f.shaped g.shaped;
+    })
+
+-- ---- one statement
+
+one : (procs : List TypedProcedure) (p : Place) (xs : List Name) (o : Option TypedStatement) (ts : List TypedStatement) →
+    ((t : TypedStatement) → o ≡ Some t → FineList procs p xs (t ∷ [])) → alone o ≡ Some ts → FineList procs p xs ts
+one procs p xs o ts h e =
+    let a = option_map_some (λ (t : TypedStatement). t ∷ []) o ts e in
+    subst (FineList procs p xs) a.2 (h a.0 a.1)
+
+one_of : {X : Type 0} (procs : List TypedProcedure) (p : Place) (xs : List Name) (make : X → TypedStatement) (o : Option X) (ts : List TypedStatement) →
+    ((x : X) → o ≡ Some x → FineList procs p xs (make x ∷ [])) → alone (option_map make o) ≡ Some ts → FineList procs p xs ts
+one_of procs p xs make o ts h e =
+    one procs p xs (option_map make o) ts
+    (λ t f. let a = option_map_some make o t f in subst (λ (u : TypedStatement). FineList procs p xs (u ∷ [])) a.2 (h a.0 a.1)) e
+
+two_of : {X Y : Type 0} (procs : List TypedProcedure) (p : Place) (xs : List Name) (make : X → Y → TypedStatement) (x : Option X) (y : Option Y) (t : TypedStatement) →
+    ((a : X) (b : Y) → x ≡ Some a → y ≡ Some b → FineList procs p xs (make a b ∷ [])) → both make x y ≡ Some t → FineList procs p xs (t ∷ [])
+two_of procs p xs make x y t h e =
+    let a = both_some make x y t e in
+    subst (λ (u : TypedStatement). FineList procs p xs (u ∷ [])) a.4 (h a.0 a.1 a.2 a.3)
+
+-- ---- a call
+
+aside_fine : (procs : List TypedProcedure) (p : Place) (n : ℕ) (at : Span) (es : List tree.Expression) (ts : List TypedStatement) → put_aside p n at es ≡ Some ts →
+    FineList procs p [] ts
+aside_fine procs p n at [] ts e = let f : ts ≡ [] = cc in rw f (record { labels = refl; shaped = refl })
+aside_fine procs p n at (x ∷ es) ts e =
+    let a = both_some (λ t us. typed.Assign at (hidden_column p n ∷ []) (t ∷ []) ∷ us) (named p.scope x) (put_aside p (n + 1) at es) ts e in
+    let r = aside_fine procs p (n + 1) at es a.1 a.3 in
+    subst (FineList procs p []) a.4 (record { labels = r.labels; shaped = r.shaped })
+
+call_fine : (procs : List TypedProcedure) (p : Place) → AreCallees procs p.procs → (n : ℕ) (at : Span) (xs : List Name) (f : Name) (es : List tree.Expression) (ts : List TypedStatement) →
+    named_call p n at xs f es ≡ Some ts → FineList procs p [] ts
+call_fine procs p callees n at xs f es ts e =
+    let a = both_some (λ (before : List TypedStatement) (call : TypedStatement). before ++ (call ∷ [])) (put_aside p n at (hidden_arguments (params_named p f) es)) (made) ts e in
+    let b = option_and_then_some (λ cs. both (typed.Call at cs) (procedure_number p f) (named_arguments p n (params_named p f) es)) (columns_of p.scope xs) a.1 a.3 in
+    let c = both_some (typed.Call at b.0) (procedure_number p f) (named_arguments p n (params_named p f) es) a.1 b.2 in
+    let before = aside_fine procs p n at (hidden_arguments (params_named p f) es) a.0 a.2 in
+    let same : params_named p f ≡ params_if_any (slice_get p.procs c.0) = ap (λ (o : Option ℕ). params_if_any (option_and_then (slice_get p.procs) o)) c.2 in
+    let all : are_arguments (map (variable_info true) (params_named p f)) c.1 ≡ true = arguments_shaped p n (params_named p f) es c.1 c.3 in
+    let callee : are_arguments (shape.params_if_any (slice_get procs c.0)) c.1 ≡ true =
+    ap (λ vs. are_arguments vs c.1) (callees c.0 ∙ sym (ap (λ (vs : List Vary). map (variable_info true) vs) same)) ∙ all in
+    let call : FineList procs p [] (typed.Call at b.0 c.0 c.1 ∷ []) = record { labels = refl; shaped = and_from (is_shaped procs (typed.Call at b.0 c.0 c.1)) true callee refl } in
+    let last : FineList procs p [] (a.1 ∷ []) = subst (λ (u : TypedStatement). FineList procs p [] (u ∷ [])) c.4 call in
+    subst (FineList procs p []) a.4 (record {
+      labels = each_append (label_number p) [] [] (list_labels a.0) (list_labels (a.1 ∷ [])) before.labels last.labels ∙ ap (λ (ns : List ℕ). Some ns) (sym (labels_append a.0 (a.1 ∷ [])));
+      shaped = all_append (is_shaped procs) a.0 (a.1 ∷ []) before.shaped last.shaped;
+    })
+  where
+    made : Option TypedStatement
+    made = option_and_then (λ cs. both (typed.Call at cs) (procedure_number p f) (named_arguments p n (params_named p f) es)) (columns_of p.scope xs)
+
+-- ---- statements with lists inside
+
+if_fine : (procs : List TypedProcedure) (p : Place) (at : Span) (xs ys : List Name) (g : Option TypedGuard) (a b : Option TypedBlock) (ts : List TypedStatement) →
+    ((c : TypedBlock) → a ≡ Some c → FineBlock procs p xs c) → ((c : TypedBlock) → b ≡ Some c → FineBlock procs p ys c) →
+    alone (option_and_then (λ guard. both (typed.If at guard) a b) g) ≡ Some ts → FineList procs p (xs ++ ys) ts
+if_fine procs p at xs ys g a b ts h k e =
+    one procs p (xs ++ ys) (option_and_then (λ guard. both (typed.If at guard) a b) g) ts
+    (λ t f.
+    let c = option_and_then_some (λ guard. both (typed.If at guard) a b) g t f in
+    two_of procs p (xs ++ ys) (typed.If at c.0) a b t (λ l r u v.
+    let left = h l u in
+    let right = k r v in record {
+      labels = each_append (label_number p) xs ys (block_labels l) (block_labels r) left.labels right.labels ∙ ap (λ (ns : List ℕ). Some ns) (sym (append-nil (block_labels l ++ block_labels r)));
+      shaped = and_from (is_shaped_block procs l && is_shaped_block procs r) true (and_from (is_shaped_block procs l) (is_shaped_block procs r) left.shaped right.shaped) refl;
+    }) c.2)
+    e
+
+while_fine : (procs : List TypedProcedure) (p : Place) (at : Span) (xs : List Name) (g : Option TypedGuard) (is : Option (List TypedInvariant)) (b : Option TypedBlock) (ts : List TypedStatement) →
+    ((c : TypedBlock) → b ≡ Some c → FineBlock procs p xs c) →
+    alone (option_and_then (λ guard. both (typed.While at guard) is b) g) ≡ Some ts → FineList procs p xs ts
+while_fine procs p at xs g is b ts h e = ?later
