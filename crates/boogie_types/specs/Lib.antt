@@ -3,3 +3,4 @@ pub mod Naming
 pub mod Sorted
 pub mod Resolved
 pub mod BrokenNames
+pub mod Numbers

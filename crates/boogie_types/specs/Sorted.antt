@@ -1,9 +1,9 @@
 -- The declarations of a program, sorted by what they declare.
-use Rattle.std.specs.Prelude.{ℕ, pos, true, false, ◌+◌, nat_eq, List, [], ◌∷◌, ◌++◌, map, codes, Option, None, Some, option_and_then, if◌then◌else◌, zero, suc}
+use Rattle.std.specs.Prelude.{ℕ, true, false, ◌+◌, nat_eq, List, [], ◌∷◌, ◌++◌, map, codes, Option, None, Some, option_and_then, if◌then◌else◌, zero, suc}
 use Rattle.std.specs.Option.{option_or}
 use Rattle.std.specs.List.{list_any}
 use Rattle.std.specs.Str.{bytes_eq}
-use Rattle.std.specs.Fmt.{signed_decimal}
+use Rattle.std.specs.Int.Digits.{digits_of}
 use Rattle.boogie_tree.specs.declared.tree.Name.{Name}
 use Rattle.boogie_tree.specs.declared.tree.Ty.TheVariants as types
 use Rattle.boogie_tree.specs.declared.tree.Vary.{Vary}
@@ -62,11 +62,15 @@ locals_of p b =
 abbrev pub variable_names : Procedure → Option ProcedureBody → List Name
 variable_names p b = map (λ v. v.name) (p.params ++ (p.results ++ body_locals b))
 
+-- a number above 0 in decimal digits
+abbrev pub decimal_of : ℕ → List ℕ
+decimal_of n = map (λ d. 48 + d) (digits_of 10 n)
+
 -- n hidden locals, numbered from that number on
 abbrev pub hidden_locals : ℕ → ℕ → List VarInfo
 hidden_locals from zero = []
 hidden_locals from (suc n) =
-    record { name = codes "h:" ++ signed_decimal (pos from); ty = types.Bool; constant = false } ∷ hidden_locals (from + 1) n
+    record { name = codes "h:" ++ decimal_of from; ty = types.Bool; constant = false } ∷ hidden_locals (from + 1) n
 
 abbrev mutual
   -- the labels of a statement, in text order

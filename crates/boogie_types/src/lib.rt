@@ -1,6 +1,8 @@
 //! Resolves the names of Boogie programs, and tests the typing rules.
 #![tactic(auto)]
 
+mod numbered;
+
 pub use typed_tree::{
     Affine, AffineFault, Column, Op, Scope, Span, TExpr, TExprKind, TGuard, TInv, TProc, TSpec,
     TStmt, Text, Ty, TypeFault, VarInfo,
