@@ -136,4 +136,72 @@ if_fine procs p at xs ys g a b ts h k e =
 while_fine : (procs : List TypedProcedure) (p : Place) (at : Span) (xs : List Name) (g : Option TypedGuard) (is : Option (List TypedInvariant)) (b : Option TypedBlock) (ts : List TypedStatement) →
     ((c : TypedBlock) → b ≡ Some c → FineBlock procs p xs c) →
     alone (option_and_then (λ guard. both (typed.While at guard) is b) g) ≡ Some ts → FineList procs p xs ts
-while_fine procs p at xs g is b ts h e = ?later
+while_fine procs p at xs g is b ts h e =
+    one procs p xs (option_and_then (λ guard. both (typed.While at guard) is b) g) ts
+    (λ t f.
+    let c = option_and_then_some (λ guard. both (typed.While at guard) is b) g t f in
+    two_of procs p xs (typed.While at c.0) is b t (λ l r u v.
+    let inner = h r v in record {
+      labels = inner.labels ∙ ap (λ (ns : List ℕ). Some ns) (sym (append-nil (block_labels r)));
+      shaped = and_from (is_shaped_block procs r) true inner.shaped refl;
+    }) c.2)
+    e
+
+-- a loop changes nothing but which breaks it takes
+looped : (procs : List TypedProcedure) (p : Place) (before : Option (List ℕ)) (xs : List Name) (b : TypedBlock) → FineBlock procs (in_loop p before) xs b → FineBlock procs p xs b
+looped procs p before xs b f = record { labels = f.labels; shaped = f.shaped }
+
+label_fine : (procs : List TypedProcedure) (p : Place) (x : Name) (ts : List TypedStatement) → alone (option_map typed.Label (label_number p x)) ≡ Some ts → FineList procs p (x ∷ []) ts
+label_fine procs p x ts e =
+    one_of procs p (x ∷ []) typed.Label (label_number p x) ts
+    (λ n f. record { labels = each_cons (label_number p) x [] n [] f refl; shaped = refl }) e
+
+empty_fine : (procs : List TypedProcedure) (p : Place) (c : TypedBlock) → Some typed.Empty ≡ Some c → FineBlock procs p [] c
+empty_fine procs p c e = let f : typed.Empty ≡ c = cc in subst (FineBlock procs p []) f (record { labels = refl; shaped = refl })
+
+return_fine : (procs : List TypedProcedure) (p : Place) (at : Span) (ts : List TypedStatement) → Some (typed.Return at ∷ []) ≡ Some ts → FineList procs p [] ts
+return_fine procs p at ts e = let f : typed.Return at ∷ [] ≡ ts = cc in subst (FineList procs p []) f (record { labels = refl; shaped = refl })
+
+assign_fine : (procs : List TypedProcedure) (p : Place) (at : Span) (cs : Option (List Column)) (es : Option (List TypedExpression)) (ts : List TypedStatement) →
+    alone (both (typed.Assign at) cs es) ≡ Some ts → FineList procs p [] ts
+assign_fine procs p at cs es ts e =
+    one procs p [] (both (typed.Assign at) cs es) ts
+    (λ t f. two_of procs p [] (typed.Assign at) cs es t (λ a b u v. record { labels = refl; shaped = refl }) f) e
+
+then_fine : (procs : List TypedProcedure) (p : Place) (xs ys : List Name) (s : Option (List TypedStatement)) (b : Option TypedBlock) (c : TypedBlock) →
+    ((ts : List TypedStatement) → s ≡ Some ts → FineList procs p xs ts) → ((d : TypedBlock) → b ≡ Some d → FineBlock procs p ys d) →
+    both in_front s b ≡ Some c → FineBlock procs p (xs ++ ys) c
+then_fine procs p xs ys s b c h k e =
+    let a = both_some in_front s b c e in
+    in_row procs p xs ys a.0 a.1 c (h a.0 a.2) (k a.1 a.3) a.4
+
+mutual
+  pub statement_fine : (procs : List TypedProcedure) (p : Place) → AreCallees procs p.procs → (before : Option (List ℕ)) (n : ℕ) (s : tree.Statement) (ts : List TypedStatement) →
+      named_statement p before n s ≡ Some ts → FineList procs p (labels_in s) ts
+  statement_fine procs p callees before n (tree.Assert at e) ts is =
+      one_of procs p [] (typed.Assert at) (named p.scope e) ts (λ x f. record { labels = refl; shaped = refl }) is
+  statement_fine procs p callees before n (tree.Assume at e) ts is =
+      one_of procs p [] (typed.Assume at) (named p.scope e) ts (λ x f. record { labels = refl; shaped = refl }) is
+  statement_fine procs p callees before n (tree.Havoc at xs) ts is =
+      one_of procs p [] (typed.Havoc at) (columns_of p.scope xs) ts (λ x f. record { labels = refl; shaped = refl }) is
+  statement_fine procs p callees before n (tree.Assign at xs es) ts is = assign_fine procs p at (columns_of p.scope xs) (each (named p.scope) es) ts is
+  statement_fine procs p callees before n (tree.Call at xs f es) ts is = call_fine procs p callees n at xs f es ts is
+  statement_fine procs p callees before n (tree.If at g a b) ts is =
+      if_fine procs p at (sorted.block_labels a) (sorted.block_labels b) (named_guard p.scope g) (named_block p None n a) (named_block p None (n + hidden_in_block p a) b) ts
+      (block_fine procs p callees None n a) (block_fine procs p callees None (n + hidden_in_block p a) b) is
+  statement_fine procs p callees before n (tree.While at g is b) ts e =
+      while_fine procs p at (sorted.block_labels b) (named_guard p.scope g) (each (named_invariant p.scope) is) (named_block (in_loop p before) None n b) ts
+      (λ c f. looped procs p before (sorted.block_labels b) c (block_fine procs (in_loop p before) callees None n b c f)) e
+  statement_fine procs p callees before n (tree.Break at x) ts is =
+      one_of procs p [] (typed.Break at) (levels p x) ts (λ x f. record { labels = refl; shaped = refl }) is
+  statement_fine procs p callees before n (tree.Goto at xs) ts is =
+      one_of procs p [] (typed.Goto at) (each (label_number p) xs) ts (λ x f. record { labels = refl; shaped = refl }) is
+  statement_fine procs p callees before n (tree.Return at) ts is = return_fine procs p at ts is
+  statement_fine procs p callees before n (tree.Label x) ts is = label_fine procs p x ts is
+
+  pub block_fine : (procs : List TypedProcedure) (p : Place) → AreCallees procs p.procs → (before : Option (List ℕ)) (n : ℕ) (b : tree.Block) (c : TypedBlock) →
+      named_block p before n b ≡ Some c → FineBlock procs p (sorted.block_labels b) c
+  block_fine procs p callees before n tree.Empty c is = empty_fine procs p c is
+  block_fine procs p callees before n (tree.Then s b) c is =
+      then_fine procs p (labels_in s) (sorted.block_labels b) (named_statement p before n s) (named_block p (label_of s) (n + hidden_in p s) b) c
+      (statement_fine procs p callees before n s) (block_fine procs p callees (label_of s) (n + hidden_in p s) b) is
