@@ -5,3 +5,7 @@ pub mod ShapeArguments
 pub mod ShapeStatements
 pub mod Differ
 pub mod NameLaws
+pub mod ShapeLabels
+pub mod ShapeModifies
+pub mod ShapeProcedures
+pub mod Shape

@@ -6,6 +6,7 @@ use Rattle.std.proofs.lemmas.List.Folds.{list_all-append, list_any-append}
 use Rattle.std.proofs.lemmas.Option.{same_Some}
 use Rattle.typing_rules.specs.Rules.{all_differ}
 use Rattle.boogie_types.specs.Naming.{each, both}
+use Rattle.boogie_types.proofs.Differ.{all_differ-head}
 
 -- ---- what a result says of the parts that it was made from
 
@@ -80,6 +81,13 @@ each_append {X} {Y} f (x ∷ xs) vs ys ws e d =
     subst (λ (zs : List Y). each f (x ∷ (xs ++ vs)) ≡ Some (zs ++ ws)) (sym p.4)
     (each_cons f x (xs ++ vs) p.0 (p.1 ++ ws) p.2 (each_append f xs vs p.1 ws p.3 d))
 
+-- the same of each that the test tells from x
+pub each_apart : {X Y : Type 0} (f g : X → Option Y) (t : X → Bool) → ((x : X) → t x ≡ false → f x ≡ g x) → (xs : List X) → list_any t xs ≡ false → each f xs ≡ each g xs
+each_apart f g t h [] n = refl
+each_apart {X} {Y} f g t h (x ∷ xs) n =
+    let p = or_parts (t x) (list_any t xs) n in
+    ap₂ (λ (o : Option Y) (r : Option (List Y)). option_and_then (λ y. option_map (λ ys. y ∷ ys) r) o) (h x p.0) (each_apart f g t h xs p.1)
+
 -- ---- all that pass a test
 
 pub all_weaker : {X : Type 0} (q t : X → Bool) → ((x : X) → q x ≡ true → t x ≡ true) → (xs : List X) → list_all q xs ≡ true → list_all t xs ≡ true
@@ -112,12 +120,6 @@ all_differ-map same g [] = refl
 all_differ-map same g (x ∷ xs) =
     ap₂ (λ (a b : Bool). not a && b) (list_any-map (same (g x)) g xs) (all_differ-map same g xs)
 
-pub all_differ-head : {X : Type 0} (same : X → X → Bool) (x : X) (xs : List X) → all_differ same (x ∷ xs) ≡ true →
-    (list_any (same x) xs ≡ false) × (all_differ same xs ≡ true)
-all_differ-head same x xs h =
-    let p = and_parts (not (list_any (same x) xs)) (all_differ same xs) h in
-    (not-true (list_any (same x) xs) p.0, p.1)
-
 pub all_differ_cons : {X : Type 0} (same : X → X → Bool) (x : X) (xs : List X) → list_any (same x) xs ≡ false → all_differ same xs ≡ true → all_differ same (x ∷ xs) ≡ true
 all_differ_cons same x xs n h = and_from (not (list_any (same x) xs)) (all_differ same xs) (not_from_false (list_any (same x) xs) n) h
 
@@ -131,3 +133,9 @@ all_differ_append same q (x ∷ xs) ys apart a d e =
     all_differ_cons same x (xs ++ ys)
     (list_any-append (same x) xs ys ∙ or_from (list_any (same x) xs) (list_any (same x) ys) p.0 (apart x b.0))
     (all_differ_append same q xs ys apart b.1 p.1 e)
+
+-- ---- two changes, one after the other
+
+pub map-map : {X Y Z : Type 0} (g : Y → Z) (f : X → Y) (xs : List X) → map g (map f xs) ≡ map (λ x. g (f x)) xs
+map-map g f [] = refl
+map-map {X} {Y} {Z} g f (x ∷ xs) = ap (λ (zs : List Z). g (f x) ∷ zs) (map-map g f xs)

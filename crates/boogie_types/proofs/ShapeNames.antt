@@ -15,14 +15,12 @@ use Rattle.typing_rules.specs.Shape.{are_names}
 use Rattle.boogie_types.specs.Meanings.{variable_info}
 use Rattle.boogie_types.specs.Sorted.{globals_of, global_names, procedures_of, implementations_of, first_named, body_of, body_locals, locals_of, variable_names, procedure_names, declared_names}
 use Rattle.boogie_types.specs.Resolved.{is_set, are_named}
+use Rattle.boogie_types.specs.Numbers.{text_of}
 use Rattle.boogie_types.proofs.ShapeLists.{all_weaker, all_both, all_append_parts, all_append, all_differ-map}
 
 -- a name that is spelled as a name
 abbrev pub is_proper : Name → Bool
 is_proper x = is_name x.text
-
-abbrev pub text_of : Name → List ℕ
-text_of x = x.text
 
 pub texts_proper : (xs : List Name) → list_all is_proper xs ≡ true → list_all is_name (map text_of xs) ≡ true
 texts_proper xs h = list_all-map is_name text_of xs ∙ h
