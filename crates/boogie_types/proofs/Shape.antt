@@ -1,15 +1,14 @@
 -- A program with its names replaced has the shape of a typed program.
-use Rattle.std.proofs.Common.{◌≡◌, Bool, true, ◌&&◌, List, map, Option, Some, refl, ap, sym, ◌∙◌, subst}
+use Rattle.std.proofs.Common.{◌≡◌, true, ◌&&◌, List, map, Some, ap, sym, ◌∙◌, subst}
 use Rattle.std.specs.List.{list_all}
 use Rattle.std.proofs.lemmas.Bool.{and_parts, and_from}
-use Rattle.boogie_tree.specs.declared.tree.Name.{Name}
 use Rattle.boogie_tree.specs.Tree.{Declaration, Procedure}
 use Rattle.typed_tree.specs.TypedTree.{TypedProcedure, TypedProgram}
 use Rattle.typed_tree.specs.Scope.{axiom_scope}
 use Rattle.typing_rules.specs.Shape.{are_names, is_procedure_shaped, has_shape}
 use Rattle.boogie_types.specs.Naming.{each, named}
 use Rattle.boogie_types.specs.Numbers.{text_of}
-use Rattle.boogie_types.specs.Sorted.{globals_of, global_names, axioms_of, procedures_of, implementations_of, body_of}
+use Rattle.boogie_types.specs.Sorted.{globals_of, global_names, axioms_of, procedures_of, body_of}
 use Rattle.boogie_types.specs.Resolved.{is_set, has_sets, are_sets, are_named, named_procedure, program_of, named_program}
 use Rattle.boogie_types.proofs.ShapeLists.{both_some, each_all, each_map, all_both, map-map}
 use Rattle.boogie_types.proofs.ShapeNames.{is_well_named, WellNamed, named_parts, are_names_from_set, global_texts, procedures_proper}

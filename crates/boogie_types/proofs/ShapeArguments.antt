@@ -1,5 +1,5 @@
 -- The arguments of a call with its names replaced: simple where the parameter is boolean.
-use Rattle.std.proofs.Common.{◌≡◌, ℕ, ◌+◌, Bool, true, false, cond, ◌&&◌, List, [], ◌∷◌, map, Option, None, Some, slice_get, option_map, if◌then◌else◌, refl, ap, sym, ◌∙◌, subst}
+use Rattle.std.proofs.Common.{◌≡◌, ℕ, ◌+◌, Bool, true, false, List, [], ◌∷◌, map, Option, Some, option_map, if◌then◌else◌, refl, subst}
 use Rattle.std.proofs.lemmas.Bool.{and_from, cond_both, true≢false, false≢true}
 use Rattle.boogie_tree.specs.declared.span.Span.{Span}
 use Rattle.boogie_tree.specs.declared.tree.Ty.{Ty}

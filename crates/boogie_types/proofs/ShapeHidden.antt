@@ -1,13 +1,12 @@
 -- The names of hidden locals: spelled as made names are, and different from all names and from each other.
-use Rattle.std.proofs.Common.{◌≡◌, ℕ, zero, suc, ◌+◌, ◌-◌, ◌<◌, ◌≤◌, Bool, true, false, not, ◌&&◌, ◌||◌, List, [], ◌∷◌, ◌++◌, map, length, get_or, codes, bytes_eq, refl, ap, ap₂, sym, ◌∙◌, subst, arith, Decides}
+use Rattle.std.proofs.Common.{◌≡◌, ℕ, zero, suc, ◌+◌, ◌-◌, ◌<◌, true, false, not, List, [], ◌∷◌, ◌++◌, map, length, get_or, codes, bytes_eq, refl, ap, ap₂, sym, ◌∙◌, arith}
 use Rattle.std.specs.Int.Digits.{digits_of, AllBelowBase}
 use Rattle.std.specs.List.{list_all, list_any}
-use Rattle.std.proofs.lemmas.Bool.{and_parts, and_from, or_left, or_from, false_from_ne_true, false≢true}
+use Rattle.std.proofs.lemmas.Bool.{and_from, or_left, or_from, false_from_ne_true, false≢true}
 use Rattle.std.proofs.lemmas.Bool.Decides.{nat_tests}
 use Rattle.std.proofs.lemmas.Int.Digits.{all_below_base_digits_of, first_digits_of, same_from_digits_of}
-use Rattle.std.proofs.lemmas.List.{length-map}
 use Rattle.std.proofs.lemmas.Slice.Eq.{bytes_eq-Decides}
-use Rattle.typing_rules.specs.Names.{is_digit, is_name, is_name_or_number, is_spelled}
+use Rattle.typing_rules.specs.Names.{is_digit, is_name, is_spelled}
 use Rattle.typing_rules.specs.Rules.{all_differ}
 use Rattle.boogie_types.specs.Sorted.{decimal_of, hidden_locals}
 use Rattle.boogie_types.proofs.ShapeLists.{all_differ_cons}
@@ -28,7 +27,7 @@ some_digit : (ds : List ℕ) → 0 < get_or ds 0 0 → 0 < length (map (λ d. 48
 some_digit [] h = absurd (omega arith)
 some_digit (d ∷ ds) h = omega arith
 
--- a digit below another number
+-- the numbers of digits
 digits_back : List ℕ → List ℕ
 digits_back [] = []
 digits_back (c ∷ cs) = (c - 48) ∷ digits_back cs
@@ -107,7 +106,3 @@ all_hidden_spelled from (suc n) some =
 pub hidden_vary : (from n : ℕ) → list_all (λ v. not v.constant) (hidden_locals from n) ≡ true
 hidden_vary from zero = refl
 hidden_vary from (suc n) = hidden_vary (from + 1) n
-
-pub hidden_length : (from n : ℕ) → length (hidden_locals from n) ≡ n
-hidden_length from zero = refl
-hidden_length from (suc n) = ap suc (hidden_length (from + 1) n)

@@ -1,11 +1,10 @@
 -- The number of a member of a list without repetition is its place, so the labels of a body count up from 0.
-use Rattle.std.proofs.Common.{◌≡◌, ℕ, ◌+◌, Bool, true, false, cond, nat_eq, List, [], ◌∷◌, map, Option, None, Some, bytes_eq, refl, ap, sym, ◌∙◌, subst, eq-eqb}
+use Rattle.std.proofs.Common.{◌≡◌, ℕ, ◌+◌, true, false, nat_eq, List, [], ◌∷◌, map, Option, Some, bytes_eq, refl, sym, ◌∙◌, subst, eq-eqb}
 use Rattle.std.specs.List.{position_from}
 use Rattle.std.proofs.lemmas.Bool.{and_from, cond-true, cond-false}
 use Rattle.std.proofs.lemmas.Option.{same_Some}
 use Rattle.std.proofs.lemmas.Slice.Eq.{bytes_eq-Decides}
 use Rattle.boogie_tree.specs.declared.tree.Name.{Name}
-use Rattle.typing_rules.specs.Rules.{all_differ}
 use Rattle.typing_rules.specs.Shape.{counts_from}
 use Rattle.boogie_types.specs.Resolved.{is_set}
 use Rattle.boogie_types.specs.Naming.{each}

@@ -1,5 +1,5 @@
 -- The modified globals of a procedure: each exists, is no constant, and stands once.
-use Rattle.std.proofs.Common.{◌≡◌, ℕ, ◌+◌, Bool, true, false, not, cond, ◌&&◌, nat_eq, List, [], ◌∷◌, map, Option, None, Some, slice_get, option_map, option_and_then, if◌then◌else◌, refl, ap, sym, ◌∙◌, subst, eqb-true, eq-eqb}
+use Rattle.std.proofs.Common.{◌≡◌, ℕ, Bool, true, false, not, nat_eq, List, [], ◌∷◌, Option, None, Some, slice_get, option_and_then, if◌then◌else◌, refl, sym, ◌∙◌, subst, eqb-true, eq-eqb}
 use Rattle.std.specs.List.{list_all, list_any}
 use Rattle.std.proofs.lemmas.Bool.{and_parts, and_from, or_from, or_left, or_right, cond_both, false_from_ne_true, false≢true}
 use Rattle.boogie_tree.specs.declared.tree.Name.{Name}

@@ -1,8 +1,8 @@
 -- The names of a program's constants, globals and procedures, and of the declared variables of a procedure: spelled as names, and different.
-use Rattle.std.proofs.Common.{◌≡◌, ℕ, Bool, true, false, ◌&&◌, ◌||◌, List, [], ◌∷◌, ◌++◌, map, Option, None, Some, option_and_then, bytes_eq, refl, ap, ap₂, sym, ◌∙◌, subst}
+use Rattle.std.proofs.Common.{◌≡◌, ℕ, Bool, true, false, ◌&&◌, List, [], ◌∷◌, ◌++◌, map, Option, None, Some, option_and_then, bytes_eq, refl, ap, ap₂, sym, ◌∙◌, subst}
 use Rattle.std.specs.List.{list_all}
 use Rattle.std.specs.Option.{option_or}
-use Rattle.std.proofs.lemmas.Bool.{and_parts, and_from, or_left, cases_Bool, cond_both}
+use Rattle.std.proofs.lemmas.Bool.{and_parts, and_from, or_left, cond_both}
 use Rattle.std.proofs.lemmas.List.{map-append}
 use Rattle.std.proofs.lemmas.List.Folds.{list_all-map}
 use Rattle.boogie_tree.specs.declared.tree.Name.{Name}
@@ -13,10 +13,10 @@ use Rattle.typing_rules.specs.Names.{is_name, is_made, is_spelled}
 use Rattle.typing_rules.specs.Rules.{all_differ}
 use Rattle.typing_rules.specs.Shape.{are_names}
 use Rattle.boogie_types.specs.Meanings.{variable_info}
-use Rattle.boogie_types.specs.Sorted.{globals_of, global_names, procedures_of, implementations_of, first_named, body_of, body_locals, locals_of, variable_names, procedure_names, declared_names}
+use Rattle.boogie_types.specs.Sorted.{globals_of, global_names, procedures_of, implementations_of, first_named, body_of, body_locals, locals_of, variable_names, procedure_names}
 use Rattle.boogie_types.specs.Resolved.{is_set, are_named}
 use Rattle.boogie_types.specs.Numbers.{text_of}
-use Rattle.boogie_types.proofs.ShapeLists.{all_weaker, all_both, all_append_parts, all_append, all_differ-map}
+use Rattle.boogie_types.proofs.ShapeLists.{all_weaker, all_append_parts, all_append, all_differ-map}
 
 -- a name that is spelled as a name
 abbrev pub is_proper : Name → Bool

@@ -1,10 +1,9 @@
 -- A procedure with its names replaced has the shape that a procedure of a typed program has.
-use Rattle.std.proofs.Common.{◌≡◌, ℕ, ◌+◌, ◌≤◌, Bool, true, false, not, ◌&&◌, nat_le, List, [], ◌∷◌, ◌++◌, map, take, drop, length, Option, None, Some, slice_get, option_map, bytes_eq, refl, ap, ap₂, sym, ◌∙◌, subst, arith, append_assoc, length-append}
+use Rattle.std.proofs.Common.{◌≡◌, ℕ, ◌+◌, ◌≤◌, true, false, not, ◌&&◌, nat_le, List, [], ◌∷◌, ◌++◌, map, take, drop, length, Option, None, Some, bytes_eq, refl, ap, ap₂, sym, ◌∙◌, subst, arith, append_assoc, length-append}
 use Rattle.std.specs.List.{list_all}
 use Rattle.std.proofs.Math.Seq.{take-append_seam, drop-append_seam}
 use Rattle.std.proofs.lemmas.Bool.{and_parts, and_from, le-leb}
 use Rattle.std.proofs.lemmas.List.{map-append, length-map}
-use Rattle.boogie_tree.specs.declared.tree.Name.{Name}
 use Rattle.boogie_tree.specs.declared.tree.Vary.{Vary}
 use Rattle.boogie_tree.specs.declared.tree.VarInfo.{VarInfo}
 use Rattle.boogie_tree.specs.Tree.{Declaration, Procedure, ProcedureBody}
@@ -62,10 +61,6 @@ drop_front : {X : Type 0} (n : ℕ) (xs ys zs : List X) → length xs ≡ n → 
 drop_front {X} n xs ys zs e =
     ap₂ (λ (k : ℕ) (l : List X). drop k l) (sym e) (append_assoc xs ys zs) ∙ drop-append_seam xs (ys ++ zs)
 
--- the locals behind the parameters
-others : Procedure → Option ProcedureBody → List VarInfo
-others p b = map (variable_info false) p.results ++ map (variable_info false) (body_locals b)
-
 params_kept : (p : Procedure) (b : Option ProcedureBody) (hs : List VarInfo) → take (length p.params) (locals_of p b ++ hs) ≡ map (variable_info true) p.params
 params_kept p b hs =
     take_front (length p.params) (map (variable_info true) p.params) (map (variable_info false) p.results ++ map (variable_info false) (body_locals b)) hs (length-map p.params (variable_info true))
@@ -92,7 +87,6 @@ locals_shaped : (ds : List Declaration) (p : Procedure) (modifies : List ℕ) (s
 locals_shaped ds p modifies specs body =
     let b = body_of ds p in
     let hs = hidden_locals 1 (hidden_count ds p (body_of ds p)) in
-    let q = procedure_of ds p modifies specs body in
     let rs = map (variable_info false) p.results in
     let ls = map (variable_info false) (body_locals b) in
     let params : list_all (λ v. v.constant) (take (length p.params) (locals_of p b ++ hs)) ≡ true =

@@ -1,11 +1,12 @@
 -- A body with its names replaced: its labels are the numbers of the labels of the body, in order, and the boolean arguments of its calls are simple.
-use Rattle.std.proofs.Common.{◌≡◌, ℕ, ◌+◌, Bool, true, false, ◌&&◌, List, [], ◌∷◌, ◌++◌, map, Option, None, Some, slice_get, option_map, option_and_then, refl, ap, sym, ◌∙◌, subst, append_assoc, append-nil}
+use Rattle.std.proofs.Common.{◌≡◌, ℕ, ◌+◌, true, ◌&&◌, List, [], ◌∷◌, ◌++◌, map, Option, None, Some, slice_get, option_map, option_and_then, refl, ap, sym, ◌∙◌, subst, append_assoc, append-nil}
 use Rattle.std.specs.List.{list_all}
 use Rattle.std.proofs.lemmas.Bool.{and_parts, and_from}
 use Rattle.boogie_tree.specs.declared.span.Span.{Span}
 use Rattle.boogie_tree.specs.declared.tree.Name.{Name}
 use Rattle.boogie_tree.specs.declared.tree.Vary.{Vary}
 use Rattle.boogie_tree.specs.declared.tree.Column.{Column}
+use Rattle.boogie_tree.specs.declared.tree.VarInfo.{VarInfo}
 use Rattle.boogie_tree.specs.Tree as tree
 use Rattle.typed_tree.specs.TypedTree as typed
 use Rattle.typed_tree.specs.TypedTree.{TypedExpression, TypedGuard, TypedInvariant, TypedStatement, TypedBlock, TypedProcedure}
@@ -95,26 +96,41 @@ aside_fine procs p n at (x ∷ es) ts e =
     let r = aside_fine procs p (n + 1) at es a.1 a.3 in
     subst (FineList procs p []) a.4 (record { labels = r.labels; shaped = r.shaped })
 
+-- a call whose callee and arguments are known
+callee_fine : (procs : List TypedProcedure) (p : Place) → AreCallees procs p.procs → (at : Span) (f : Name) (cs : List Column) (k : ℕ) (ts : List TypedExpression) →
+    procedure_number p f ≡ Some k → are_arguments (map (variable_info true) (params_named p f)) ts ≡ true → FineList procs p [] (typed.Call at cs k ts ∷ [])
+callee_fine procs p callees at f cs k ts is simple =
+    let same : params_named p f ≡ params_if_any (slice_get p.procs k) = ap (λ (o : Option ℕ). params_if_any (option_and_then (slice_get p.procs) o)) is in
+    let callee : are_arguments (shape.params_if_any (slice_get procs k)) ts ≡ true =
+    ap (λ (vs : List VarInfo). are_arguments vs ts) (callees k ∙ sym (ap (λ (vs : List Vary). map (variable_info true) vs) same)) ∙ simple in
+    record { labels = refl; shaped = and_from (is_shaped procs (typed.Call at cs k ts)) true callee refl }
+
+-- a call behind what is put aside for it
+behind_aside : (procs : List TypedProcedure) (p : Place) (before : List TypedStatement) (call : TypedStatement) → FineList procs p [] before → FineList procs p [] (call ∷ []) →
+    FineList procs p [] (before ++ (call ∷ []))
+behind_aside procs p before call f g =
+    record {
+      labels = each_append (label_number p) [] [] (list_labels before) (list_labels (call ∷ [])) f.labels g.labels ∙ ap (λ (ns : List ℕ). Some ns) (sym (labels_append before (call ∷ [])));
+      shaped = all_append (is_shaped procs) before (call ∷ []) f.shaped g.shaped;
+    }
+
+made_fine : (procs : List TypedProcedure) (p : Place) → AreCallees procs p.procs → (n : ℕ) (at : Span) (f : Name) (es : List tree.Expression) (cs : Option (List Column)) (call : TypedStatement) →
+    option_and_then (λ xs. both (typed.Call at xs) (procedure_number p f) (named_arguments p n (params_named p f) es)) cs ≡ Some call → FineList procs p [] (call ∷ [])
+made_fine procs p callees n at f es cs call e =
+    let b = option_and_then_some (λ xs. both (typed.Call at xs) (procedure_number p f) (named_arguments p n (params_named p f) es)) cs call e in
+    two_of procs p [] (typed.Call at b.0) (procedure_number p f) (named_arguments p n (params_named p f) es) call
+    (λ k ts is args. callee_fine procs p callees at f b.0 k ts is (arguments_shaped p n (params_named p f) es ts args)) b.2
+
 call_fine : (procs : List TypedProcedure) (p : Place) → AreCallees procs p.procs → (n : ℕ) (at : Span) (xs : List Name) (f : Name) (es : List tree.Expression) (ts : List TypedStatement) →
     named_call p n at xs f es ≡ Some ts → FineList procs p [] ts
 call_fine procs p callees n at xs f es ts e =
-    let a = both_some (λ (before : List TypedStatement) (call : TypedStatement). before ++ (call ∷ [])) (put_aside p n at (hidden_arguments (params_named p f) es)) (made) ts e in
-    let b = option_and_then_some (λ cs. both (typed.Call at cs) (procedure_number p f) (named_arguments p n (params_named p f) es)) (columns_of p.scope xs) a.1 a.3 in
-    let c = both_some (typed.Call at b.0) (procedure_number p f) (named_arguments p n (params_named p f) es) a.1 b.2 in
-    let before = aside_fine procs p n at (hidden_arguments (params_named p f) es) a.0 a.2 in
-    let same : params_named p f ≡ params_if_any (slice_get p.procs c.0) = ap (λ (o : Option ℕ). params_if_any (option_and_then (slice_get p.procs) o)) c.2 in
-    let all : are_arguments (map (variable_info true) (params_named p f)) c.1 ≡ true = arguments_shaped p n (params_named p f) es c.1 c.3 in
-    let callee : are_arguments (shape.params_if_any (slice_get procs c.0)) c.1 ≡ true =
-    ap (λ vs. are_arguments vs c.1) (callees c.0 ∙ sym (ap (λ (vs : List Vary). map (variable_info true) vs) same)) ∙ all in
-    let call : FineList procs p [] (typed.Call at b.0 c.0 c.1 ∷ []) = record { labels = refl; shaped = and_from (is_shaped procs (typed.Call at b.0 c.0 c.1)) true callee refl } in
-    let last : FineList procs p [] (a.1 ∷ []) = subst (λ (u : TypedStatement). FineList procs p [] (u ∷ [])) c.4 call in
-    subst (FineList procs p []) a.4 (record {
-      labels = each_append (label_number p) [] [] (list_labels a.0) (list_labels (a.1 ∷ [])) before.labels last.labels ∙ ap (λ (ns : List ℕ). Some ns) (sym (labels_append a.0 (a.1 ∷ [])));
-      shaped = all_append (is_shaped procs) a.0 (a.1 ∷ []) before.shaped last.shaped;
-    })
+    let hidden = hidden_arguments (params_named p f) es in
+    let a = both_some (λ (before : List TypedStatement) (call : TypedStatement). before ++ (call ∷ [])) (put_aside p n at hidden) (made (columns_of p.scope xs)) ts e in
+    subst (FineList procs p []) a.4
+    (behind_aside procs p a.0 a.1 (aside_fine procs p n at hidden a.0 a.2) (made_fine procs p callees n at f es (columns_of p.scope xs) a.1 a.3))
   where
-    made : Option TypedStatement
-    made = option_and_then (λ cs. both (typed.Call at cs) (procedure_number p f) (named_arguments p n (params_named p f) es)) (columns_of p.scope xs)
+    made : Option (List Column) → Option TypedStatement
+    made cs = option_and_then (λ ys. both (typed.Call at ys) (procedure_number p f) (named_arguments p n (params_named p f) es)) cs
 
 -- ---- statements with lists inside
 
