@@ -1,10 +1,11 @@
+pub mod Differ
+pub mod NameLaws
+pub mod SeenNames
 pub mod ShapeLists
 pub mod ShapeNames
 pub mod ShapeHidden
 pub mod ShapeArguments
 pub mod ShapeStatements
-pub mod Differ
-pub mod NameLaws
 pub mod ShapeLabels
 pub mod ShapeModifies
 pub mod ShapeProcedures

@@ -4,3 +4,4 @@ pub mod Sorted
 pub mod Resolved
 pub mod BrokenNames
 pub mod Numbers
+pub mod Referred

@@ -20,8 +20,12 @@ number_from n name (v ∷ vs) = if bytes_eq name v.name then Some n else number_
 abbrev pub if_seen : Scope → Column → Option Column
 if_seen s c = option_map (λ v. c) (variable_at s c)
 
+-- the column of a constant or global, where it is seen
+abbrev pub if_visible : Scope → ℕ → Option Column
+if_visible s n = if_seen s (columns.Global n)
+
 -- the column that a name means: a local that is seen hides a global
 abbrev pub column_of : Scope → List ℕ → Option Column
 column_of s name =
     option_or (option_map columns.Local (number_from 0 name s.locals))
-    (option_and_then (λ n. if_seen s (columns.Global n)) (number_from 0 name s.globals))
+    (option_and_then (if_visible s) (number_from 0 name s.globals))

@@ -1,7 +1,9 @@
 //! Resolves the names of Boogie programs, and tests the typing rules.
 #![tactic(auto)]
 
+mod names;
 mod numbered;
+mod sorted;
 
 pub use typed_tree::{
     Affine, AffineFault, Column, Op, Scope, Span, TExpr, TExprKind, TGuard, TInv, TProc, TSpec,
