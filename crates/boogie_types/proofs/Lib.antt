@@ -11,3 +11,4 @@ pub mod ShapeLabels
 pub mod ShapeModifies
 pub mod ShapeProcedures
 pub mod Shape
+pub mod EachLaws

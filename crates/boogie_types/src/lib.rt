@@ -2,6 +2,7 @@
 #![tactic(auto)]
 
 mod expressions;
+mod lists;
 mod names;
 mod numbered;
 mod sorted;
