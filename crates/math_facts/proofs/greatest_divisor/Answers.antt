@@ -1,5 +1,5 @@
 use Rattle.std.proofs.lemmas.Nat.Gcd.{IsGcd-from_mod, IsGcd-from_zero}
-use Rattle.frac.proofs.numbers.greatest_divisor.Goals as goal
+use Rattle.math_facts.proofs.greatest_divisor.Goals as goal
 
 pub loop-y-preserved : goal.loop-y-preserved
 loop-y-preserved c = λ g h. c.loop-y.invariant g (IsGcd-from_mod c.loop-y.x c.loop-y.y g h)
