@@ -23,6 +23,7 @@ ghost use Rattle.lin_rows.specs.Divisors.{MagnitudesHaveOneDivisor, RenamedTerms
 
 pub use make::{row, system};
 pub use negating::negate;
+pub use numbers::plus_times;
 pub use points::holds;
 pub use sums::add_scaled;
 pub use systems::System;

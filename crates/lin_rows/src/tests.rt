@@ -214,6 +214,13 @@ fn rows_hold_at_points(rt: HostRuntime) -> Result<(), Fail> {
 }
 
 #[test]
+fn products_are_added(rt: HostRuntime) {
+    assert_eq!(rt; plus_times(5, -2, 3), Some(-1));
+    assert_eq!(rt; plus_times(1, 2, 1 << 126), None);
+    assert_eq!(rt; plus_times(-1, 1, -MOST), None);
+}
+
+#[test]
 fn systems_are_copied(rt: HostRuntime) -> Result<(), Fail> {
     let alloc = rt.alloc();
     let inner = vec![in alloc; row(alloc, &[(0, 1)], LE, 2)?]?;
