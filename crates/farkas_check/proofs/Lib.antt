@@ -4,3 +4,4 @@ pub mod LeafSteps
 pub mod WalkLaws
 pub mod TreeLaws
 pub mod AlikeLaws
+mod SumLaws

@@ -5,6 +5,7 @@
 mod checking;
 mod leaves;
 mod refutations;
+mod sums;
 #[cfg(test)]
 mod tests;
 mod walk;
