@@ -6,20 +6,18 @@ use Rattle.std.proofs.lemmas.List.{drop_more, drop_all}
 use Rattle.math_facts.specs.Terms.{coefficient}
 use Rattle.lin_rows.specs.declared.types.RowKind.{RowKind}
 use Rattle.lin_rows.specs.declared.types.RowKind.TheVariants.{Le, Eq}
-use Rattle.lin_rows.specs.Rows.{LinearRow, AscendsFrom, IsCoefficient, IsRow}
-use Rattle.lin_rows.specs.Sums.{ScaledFits, CanScale}
+use Rattle.lin_rows.specs.Rows.{LinearRow, AscendsFrom}
 use Rattle.lin_rows.specs.Combinations.{row_at, Multiplies, IsPart, combined, RunFits, Contradicts}
-use Rattle.lin_rows.proofs.Ascending.{coefficient_first}
-use Rattle.farkas_check.specs.Leaves.{zero_row, MayFollow, AddsRow, CanAdd, AddsPart, IsContradiction}
+use Rattle.farkas_check.specs.Leaves.{PartSum, columns_of, MayFollow, RowFits, AddsRow, CanAdd, AddsPart, IsContradiction}
 
 -- The sum so far with these parts says `0 <= c` with `c < 0`, and each number on the way fits. The parts ascend by row, from
 -- the number next on.
-pub record ContradictsFrom (rows : List LinearRow) (next : ℕ) (sum : LinearRow) (parts : List (ℕ × ℤ)) : Type 0 where
+pub record ContradictsFrom (rows : List LinearRow) (next : ℕ) (sum : PartSum) (parts : List (ℕ × ℤ)) : Type 0 where
   pub ascends : AscendsFrom next parts
   pub each : AllByRecursion (IsPart rows) parts
-  pub columns_fit : (c : ℕ) → RunFits (λ r. coefficient c r.terms) rows (coefficient c sum.terms) parts
+  pub columns_fit : (c : ℕ) → RunFits (λ r. coefficient c r.terms) rows (columns_of sum c) parts
   pub bound_fits : RunFits (λ r. r.bound) rows sum.bound parts
-  pub columns_vanish : (c : ℕ) → coefficient c sum.terms +ℤ combined (λ r. coefficient c r.terms) rows parts ≡ pos 0
+  pub columns_vanish : (c : ℕ) → columns_of sum c +ℤ combined (λ r. coefficient c r.terms) rows parts ≡ pos 0
   pub bound_negative : (sum.bound +ℤ combined (λ r. r.bound) rows parts) <ℤ pos 0
 
 -- the row that was read at a number
@@ -44,18 +42,8 @@ pub MayFollow-multiplies : (rows : List LinearRow) (next n : ℕ) (m : ℤ) (row
 MayFollow-multiplies rows next n m row kind r k f =
     subst (Multiplies m) (sym k) (subst (λ (v : LinearRow). Multiplies m v.kind) (sym (row_at_read rows n row f.is_part.exists r)) f.is_part.multiplies)
 
--- then its row can be taken that often
-pub MayFollow-scales : (rows : List LinearRow) (next n : ℕ) (m : ℤ) (row : LinearRow) →
-    row ≡ get_or rows n row → MayFollow rows next (n, m) → CanScale m row.kind
-MayFollow-scales rows next n m row r f =
-    subst (λ (v : LinearRow). CanScale m v.kind) (sym (row_at_read rows n row f.is_part.exists r)) (by_kind (row_at rows n).kind f.is_part.multiplies)
-  where
-    by_kind : (kind : RowKind) → Multiplies m kind → CanScale m kind
-    by_kind Le p = inl (omega (arith, ints))
-    by_kind Eq p = inr refl
-
 -- its row added to the sum, that part is added
-pub AddsPart-read : (rows : List LinearRow) (next : ℕ) (sum : LinearRow) (n : ℕ) (m : ℤ) (row new : LinearRow) →
+pub AddsPart-read : (rows : List LinearRow) (next : ℕ) (sum : PartSum) (n : ℕ) (m : ℤ) (row : LinearRow) (new : PartSum) →
     row ≡ get_or rows n row → MayFollow rows next (n, m) → AddsRow sum m row new → AddsPart rows next sum (n, m) (n + 1) new
 AddsPart-read rows next sum n m row new r f a = record {
   follows = f;
@@ -64,15 +52,15 @@ AddsPart-read rows next sum n m row new r f a = record {
 }
 
 -- a row that cannot be added to the sum
-pub CanAdd_not : (rows : List LinearRow) (next : ℕ) (sum : LinearRow) (n : ℕ) (m : ℤ) (row : LinearRow) →
-    row ≡ get_or rows n row → (ScaledFits sum m row → ⊥) → CanAdd rows next sum (n, m) → ⊥
+pub CanAdd_not : (rows : List LinearRow) (next : ℕ) (sum : PartSum) (n : ℕ) (m : ℤ) (row : LinearRow) →
+    row ≡ get_or rows n row → (RowFits sum m row → ⊥) → CanAdd rows next sum (n, m) → ⊥
 CanAdd_not rows next sum n m row r none a =
-    none (subst (λ (v : LinearRow). ScaledFits sum m v) (sym (row_at_read rows n row a.follows.is_part.exists r)) a.fits)
+    none (subst (λ (v : LinearRow). RowFits sum m v) (sym (row_at_read rows n row a.follows.is_part.exists r)) a.fits)
 
 -- ---- the parts that are left
 
 -- after a part that was added, the rest contradicts exactly where it did with the part
-ContradictsFrom_more : (rows : List LinearRow) (next : ℕ) (sum : LinearRow) (t : ℕ × ℤ) (after : ℕ) (new : LinearRow) (rest : List (ℕ × ℤ)) →
+ContradictsFrom_more : (rows : List LinearRow) (next : ℕ) (sum : PartSum) (t : ℕ × ℤ) (after : ℕ) (new : PartSum) (rest : List (ℕ × ℤ)) →
     AddsPart rows next sum t after new → ContradictsFrom rows after new rest ↔ ContradictsFrom rows next sum (t ∷ rest)
 ContradictsFrom_more rows next sum t after new rest a = (to, from)
   where
@@ -81,9 +69,9 @@ ContradictsFrom_more rows next sum t after new rest a = (to, from)
       ascends = (a.follows.ascends, subst (λ (n : ℕ). AscendsFrom n rest) a.after_is b.ascends);
       each = (a.follows.is_part, b.each);
       columns_fit = λ c. (
-        a.adds.fits.products c,
-        a.adds.fits.sums c,
-        subst (λ (z : ℤ). RunFits (λ r. coefficient c r.terms) rows z rest) (a.adds.coefficients c) (b.columns_fit c),
+        a.adds.fits.terms.products c,
+        a.adds.fits.terms.sums c,
+        subst (λ (z : ℤ). RunFits (λ r. coefficient c r.terms) rows z rest) (a.adds.columns c) (b.columns_fit c),
       );
       bound_fits = (
         a.adds.fits.bound_product,
@@ -91,7 +79,7 @@ ContradictsFrom_more rows next sum t after new rest a = (to, from)
         subst (λ (z : ℤ). RunFits (λ r. r.bound) rows z rest) a.adds.bound b.bound_fits,
       );
       columns_vanish = λ c.
-          let e = a.adds.coefficients c in
+          let e = a.adds.columns c in
           let f = b.columns_vanish c in
           omega (arith, ints);
       bound_negative = let e = a.adds.bound in let f = b.bound_negative in omega (arith, ints);
@@ -101,51 +89,51 @@ ContradictsFrom_more rows next sum t after new rest a = (to, from)
     from b = record {
       ascends = subst (λ (n : ℕ). AscendsFrom n rest) (sym a.after_is) b.ascends.1;
       each = b.each.1;
-      columns_fit = λ c. subst (λ (z : ℤ). RunFits (λ r. coefficient c r.terms) rows z rest) (sym (a.adds.coefficients c)) (b.columns_fit c).2;
+      columns_fit = λ c. subst (λ (z : ℤ). RunFits (λ r. coefficient c r.terms) rows z rest) (sym (a.adds.columns c)) (b.columns_fit c).2;
       bound_fits = subst (λ (z : ℤ). RunFits (λ r. r.bound) rows z rest) (sym a.adds.bound) b.bound_fits.2;
       columns_vanish = λ c.
-          let e = a.adds.coefficients c in
+          let e = a.adds.columns c in
           let f = b.columns_vanish c in
           omega (arith, ints);
       bound_negative = let e = a.adds.bound in let f = b.bound_negative in omega (arith, ints);
     }
 
 -- a part that cannot be added is part of no contradiction
-ContradictsFrom_none : (rows : List LinearRow) (next : ℕ) (sum : LinearRow) (t : ℕ × ℤ) (rest : List (ℕ × ℤ)) →
+ContradictsFrom_none : (rows : List LinearRow) (next : ℕ) (sum : PartSum) (t : ℕ × ℤ) (rest : List (ℕ × ℤ)) →
     (CanAdd rows next sum t → ⊥) → ContradictsFrom rows next sum (t ∷ rest) → ⊥
 ContradictsFrom_none rows next sum t rest none b = none (record {
   follows = record { ascends = b.ascends.0; is_part = b.each.0 };
   fits = record {
-    products = λ c. (b.columns_fit c).0;
-    sums = λ c. (b.columns_fit c).1;
+    terms = record { products = λ c. (b.columns_fit c).0; sums = λ c. (b.columns_fit c).1 };
     bound_product = b.bound_fits.0;
     bound_sum = b.bound_fits.1;
   };
 })
 
 -- before the first part, all parts are left
-pub ContradictsFrom_start : (rows : List LinearRow) (parts : List (ℕ × ℤ)) → ContradictsFrom rows 0 zero_row parts ↔ Contradicts rows parts
-ContradictsFrom_start rows parts = (
+pub ContradictsFrom_start : (rows : List LinearRow) (parts : List (ℕ × ℤ)) (sum : PartSum) → ((c : ℕ) → columns_of sum c ≡ pos 0) → sum.bound ≡ pos 0 →
+    ContradictsFrom rows 0 sum parts ↔ Contradicts rows parts
+ContradictsFrom_start rows parts sum none nought = (
   λ b. record {
     ascends = b.ascends;
     each = b.each;
-    columns_fit = b.columns_fit;
-    bound_fits = b.bound_fits;
-    columns_vanish = λ c. let e = b.columns_vanish c in omega (arith, ints);
+    columns_fit = λ c. subst (λ (z : ℤ). RunFits (λ r. coefficient c r.terms) rows z parts) (none c) (b.columns_fit c);
+    bound_fits = subst (λ (z : ℤ). RunFits (λ r. r.bound) rows z parts) nought b.bound_fits;
+    columns_vanish = λ c. let e = b.columns_vanish c in let f = none c in omega (arith, ints);
     bound_negative = let e = b.bound_negative in omega (arith, ints);
   },
   λ b. record {
     ascends = b.ascends;
     each = b.each;
-    columns_fit = b.columns_fit;
-    bound_fits = b.bound_fits;
-    columns_vanish = λ c. let e = b.columns_vanish c in omega (arith, ints);
+    columns_fit = λ c. subst (λ (z : ℤ). RunFits (λ r. coefficient c r.terms) rows z parts) (sym (none c)) (b.columns_fit c);
+    bound_fits = subst (λ (z : ℤ). RunFits (λ r. r.bound) rows z parts) (sym nought) b.bound_fits;
+    columns_vanish = λ c. let e = b.columns_vanish c in let f = none c in omega (arith, ints);
     bound_negative = let e = b.bound_negative in omega (arith, ints);
   },
 )
 
 -- after the last part, the sum itself has to be a contradiction
-ContradictsFrom_end : (rows : List LinearRow) (next : ℕ) (sum : LinearRow) → ContradictsFrom rows next sum [] ↔ IsContradiction sum
+ContradictsFrom_end : (rows : List LinearRow) (next : ℕ) (sum : PartSum) → ContradictsFrom rows next sum [] ↔ IsContradiction sum
 ContradictsFrom_end rows next sum = (
   λ b. record {
     columns_vanish = λ c. let f = b.columns_vanish c in omega (arith, ints);
@@ -164,32 +152,19 @@ ContradictsFrom_end rows next sum = (
 -- ---- the parts from a place on
 
 -- the same three, of the parts from the place i on
-pub ContradictsFrom-drop_more : (rows : List LinearRow) (next : ℕ) (sum : LinearRow) (parts : List (ℕ × ℤ)) (i : ℕ) (d : ℕ × ℤ) (after : ℕ) (new : LinearRow) →
+pub ContradictsFrom-drop_more : (rows : List LinearRow) (next : ℕ) (sum : PartSum) (parts : List (ℕ × ℤ)) (i : ℕ) (d : ℕ × ℤ) (after : ℕ) (new : PartSum) →
     i < length parts → AddsPart rows next sum (get_or parts i d) after new →
     ContradictsFrom rows after new (drop (i + 1) parts) ↔ ContradictsFrom rows next sum (drop i parts)
 ContradictsFrom-drop_more rows next sum parts i d after new l a =
     subst (λ (rest : List (ℕ × ℤ)). ContradictsFrom rows after new (drop (i + 1) parts) ↔ ContradictsFrom rows next sum rest) (sym (drop_more parts i d l))
     (ContradictsFrom_more rows next sum (get_or parts i d) after new (drop (i + 1) parts) a)
 
-pub ContradictsFrom-drop_none : (rows : List LinearRow) (next : ℕ) (sum : LinearRow) (parts : List (ℕ × ℤ)) (i : ℕ) (d : ℕ × ℤ) →
+pub ContradictsFrom-drop_none : (rows : List LinearRow) (next : ℕ) (sum : PartSum) (parts : List (ℕ × ℤ)) (i : ℕ) (d : ℕ × ℤ) →
     i < length parts → (CanAdd rows next sum (get_or parts i d) → ⊥) → ContradictsFrom rows next sum (drop i parts) → ⊥
 ContradictsFrom-drop_none rows next sum parts i d l none w =
     ContradictsFrom_none rows next sum (get_or parts i d) (drop (i + 1) parts) none (subst (ContradictsFrom rows next sum) (drop_more parts i d l) w)
 
-pub ContradictsFrom-drop_all : (rows : List LinearRow) (next : ℕ) (sum : LinearRow) (parts : List (ℕ × ℤ)) (i : ℕ) →
+pub ContradictsFrom-drop_all : (rows : List LinearRow) (next : ℕ) (sum : PartSum) (parts : List (ℕ × ℤ)) (i : ℕ) →
     length parts ≤ i → ContradictsFrom rows next sum (drop i parts) ↔ IsContradiction sum
 ContradictsFrom-drop_all rows next sum parts i l =
     subst (λ (rest : List (ℕ × ℤ)). ContradictsFrom rows next sum rest ↔ IsContradiction sum) (sym (drop_all i parts l)) (ContradictsFrom_end rows next sum)
-
--- ---- no terms
-
--- a row whose coefficients are all 0 has no terms
-pub no_terms : (r : LinearRow) → IsRow r → ((c : ℕ) → coefficient c r.terms ≡ pos 0) → r.terms ≡ []
-no_terms r v z = from r.terms v.ascends v.coefficients z
-  where
-    from : (ts : List (ℕ × ℤ)) → AscendsFrom 0 ts → AllByRecursion IsCoefficient ts → ((c : ℕ) → coefficient c ts ≡ pos 0) → ts ≡ []
-    from [] a k z = refl
-    from (t ∷ ts) a k z =
-        let e : coefficient t.0 (t ∷ ts) ≡ t.1 = coefficient_first t.0 t ts a.1 refl in
-        let f : coefficient t.0 (t ∷ ts) ≡ pos 0 = z t.0 in
-        absurd (k.0.is_not_zero (sym e ∙ f))

@@ -3,3 +3,5 @@ pub mod NodeLaws
 pub mod LeafSteps
 pub mod WalkLaws
 pub mod TreeLaws
+pub mod AlikeLaws
+mod SumLaws

@@ -37,6 +37,16 @@ front-takes (Some whole) left next text piece n most front moves within =
     let moved : MovesPiece n piece next front.0 = rw front.1 at moves in
     (length text + n, within, moved.2 ∙ ap (λ rest. Some rest) (sym (drop-append-add text front.0 n) ∙ ap (λ all. drop (length text + n) all) (sym front.2)))
 
+-- nothing has moved
+nothing_moves : (left next : Option (List ℕ)) → next ≡ left → IfSome left (MovesPiece 0 [] next)
+nothing_moves None next same = tt
+nothing_moves (Some rest) next same = (omega arith, refl, same)
+
+pub front-stays : (start left next : Option (List ℕ)) (text : List ℕ) (most : ℕ) → IfSome start (IsFront text left)
+    → next ≡ left → length text ≤ most → IfSome start (λ whole. TakesAtMost most whole next)
+front-stays start left next text most front same within =
+    front-takes start left next text [] 0 most front (nothing_moves left next same) (omega arith)
+
 pub front-longer : (start left next : Option (List ℕ)) (text piece : List ℕ) (n most : ℕ) → IfSome start (IsFront text left)
     → IfSome left (MovesPiece n piece next) → most < length text + n → IfSome start (λ whole. most < length whole)
 front-longer None left next text piece n most front moves above = tt

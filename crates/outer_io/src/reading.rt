@@ -1,4 +1,4 @@
-ghost use Rattle.std.specs.Prelude.{◌≡◌, ℕ, ◌+◌, ◌<◌, ◌≤◌, ◌≢◌, min, length, Option, Some, Err, IfOk, OnOk, OnErr, IfSome, IsSome, vec_len};
+ghost use Rattle.std.specs.Prelude.{◌≡◌, ℕ, ◌+◌, ◌<◌, ◌≤◌, ◌≢◌, ◌⊎◌, min, length, Option, Some, Err, IfOk, OnOk, OnErr, IfSome, IsSome, vec_len};
 ghost use Rattle.outer_io.specs.declared.reading.ReadFault.TheVariants.{Memory, Read};
 ghost use Rattle.outer_io.specs.Faults.{Rose};
 ghost use Rattle.outer_io.specs.Texts.{text_named, TakesAtMost};
@@ -59,8 +59,10 @@ pub fn read_all<H: Shelf>(
         (λ shown. IfSome (text_named name.now shown) (λ text. limit < length text)) }
     ensures named { result ≢ Err ReadFault.Read → IfSome (H.texts shelf.old)
         (λ shown. IsSome (text_named name.now shown)) }
-    ensures takes { result ≢ Err ReadFault.Read → IfSome (H.texts shelf.old)
-        (λ shown. IfSome (text_named name.now shown) (λ text. TakesAtMost (limit + 1) text (H.left shelf.new))) }
+    // A text that could not be begun leaves what was left before.
+    ensures takes { IfSome (H.texts shelf.old) (λ shown. IfSome (text_named name.now shown) (λ text.
+        TakesAtMost (limit + 1) text (H.left shelf.new)
+        ⊎ (result ≡ Err ReadFault.Read) × (H.left shelf.new ≡ H.left shelf.old))) }
     // A text that is too long is not said to want memory.
     ensures out_of_memory { result ≡ Err ReadFault.Memory → IfSome (H.texts shelf.old)
         (λ shown. IfSome (text_named name.now shown) (λ text. TakesAtMost limit text (H.left shelf.new))) }
@@ -79,8 +81,7 @@ fn read_rest<H: Shelf>(alloc: Global, shelf: &mut H, limit: u64) -> Result<Vec<u
     ensures within { IfOk result (λ text. vec_len text ≤ limit) }
     ensures too_long { (l : ℕ) → result ≡ Err (ReadFault.TooLong l) →
         (l ≡ limit) × IfSome (H.left shelf.old) (λ rest. limit < length rest) }
-    ensures takes { result ≢ Err ReadFault.Read → IfSome (H.left shelf.old)
-        (λ rest. TakesAtMost (limit + 1) rest (H.left shelf.new)) }
+    ensures takes { IfSome (H.left shelf.old) (λ rest. TakesAtMost (limit + 1) rest (H.left shelf.new)) }
     ensures out_of_memory { result ≡ Err ReadFault.Memory → IfSome (H.left shelf.old)
         (λ rest. TakesAtMost limit rest (H.left shelf.new)) }
     ensures fault { result ≡ Err ReadFault.Read → Rose (H.faults shelf.old) (H.faults shelf.new) }

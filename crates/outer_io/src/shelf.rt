@@ -28,19 +28,21 @@ pub trait Shelf {
     /// How many calls failed so far.
     ghost faults: { Self → ℕ };
 
-    /// Begins the text of that name. A name that is not among the texts is a fault.
+    /// Begins the text of that name. A name that is not among the texts is a fault. A call that fails begins nothing.
     fn begin(&mut self, name: &str) -> Result<(), Failed>
         ensures texts { texts self.new ≡ texts self.old }
         ensures begun { OnOk result (IfSome (texts self.old)
             (λ shown. IfSome (text_named name.now shown) (λ text. left self.new ≡ Some text))) }
         ensures missing { IfSome (texts self.old)
             (λ shown. IfNone (text_named name.now shown) (OnOk result ⊥)) }
+        ensures stays { OnErr result (left self.new ≡ left self.old) }
         ensures kept { OnOk result (faults self.new ≡ faults self.old) }
         ensures counted { OnErr result (Rose (faults self.old) (faults self.new)) }
         ensures never_falls { faults self.old ≤ faults self.new }
         ensures count_fits { faults self.new < 2 ^ 64 };
 
-    /// Moves some first bytes of what is left to the front of `buf`, and answers how many. 0 says that nothing is left.
+    /// Moves some first bytes of what is left to the front of `buf`, and answers how many. 0 says that nothing is left. A
+    /// call that fails moves nothing.
     fn read(&mut self, buf: &mut [u8]) -> Result<usize, Failed>
         requires { 0 < length buf.old }
         ensures texts { texts self.new ≡ texts self.old }
@@ -48,6 +50,7 @@ pub trait Shelf {
         ensures moved { IfOk result (λ n. IfSome (left self.old) (λ rest. (n ≤ length rest)
             × (take n buf.new ≡ take n rest) × (left self.new ≡ Some (drop n rest)))) }
         ensures ended { IfOk result (λ n. n ≡ 0 → IfSome (left self.old) (λ rest. rest ≡ [])) }
+        ensures stays { OnErr result (left self.new ≡ left self.old) }
         ensures kept { OnOk result (faults self.new ≡ faults self.old) }
         ensures counted { OnErr result (Rose (faults self.old) (faults self.new)) }
         ensures never_falls { faults self.old ≤ faults self.new }

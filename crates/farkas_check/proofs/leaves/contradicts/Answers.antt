@@ -8,9 +8,7 @@ use Rattle.farkas_check.proofs.LeafSteps.{ContradictsFrom, ContradictsFrom_start
 use Rattle.farkas_check.proofs.leaves.contradicts.Goals as goal
 
 pub loop-number-init : goal.loop-number-init
-loop-number-init c =
-    subst (λ (sum : LinearRow). ContradictsFrom c.args.rows.now 0 sum c.args.parts.now ↔ Contradicts c.args.rows.now c.args.parts.now) (sym c.in_ok-sum.ensures)
-    (ContradictsFrom_start c.args.rows.now c.args.parts.now)
+loop-number-init c = ContradictsFrom_start c.args.rows.now c.args.parts.now _ c.new-sum.ensures.columns c.new-sum.ensures.bound
 
 pub returns-in_default : goal.returns-in_default
 returns-in_default c =
@@ -26,7 +24,7 @@ loop-number-preserved c =
     let l = c.loop-number in
     let f : FitsSigned w128 (get_or c.args.parts.now c.loop-number.number-index (0, pos 0)).1 = search rules in
     let a = simp to_z-of_z at (rw c.in-Some.is at c.in_ok-after.ensures) in
-    let more = ContradictsFrom-drop_more c.args.rows.now l.next l.sum c.args.parts.now l.number-index (0, pos 0) c.in-Some.after c.in-Some.more c.loop-number-test.true a in
+    let more = ContradictsFrom-drop_more c.args.rows.now l.next l.sum c.args.parts.now l.number-index (0, pos 0) c.in-Some.after _ c.loop-number-test.true a in
     (λ w. l.invariant.0 (more.0 w), λ w. more.1 (l.invariant.1 w))
 
 pub returns : goal.returns
