@@ -28,6 +28,31 @@ pub end_is_taken : (end : Option End) (version base : ℕ) →
 end_is_taken None version base = grind arith
 end_is_taken (Some e) version base = grind arith
 
+module _ {E : Type 0} where
+  published_stays : (o : Option Why) (r : Race E) (entry : Entry E) (kept : Automaton) →
+      ((published o r entry kept).program ≡ r.program) × ((published o r entry kept).limit ≡ r.limit)
+  published_stays None r entry kept = (refl, refl)
+  published_stays (Some why) r entry kept = (refl, refl)
+
+  finished_stays : (o : Option Why) (r : Race E) (end : End) →
+      ((finished o r end).program ≡ r.program) × ((finished o r end).limit ≡ r.limit)
+  finished_stays None r end = (refl, refl)
+  finished_stays (Some why) r end = (refl, refl)
+
+  -- no event changes the program
+  pub program_stays : (r : Race E) (x : Event E) → (after r x).program ≡ r.program
+  program_stays r (Read worker) = refl
+  program_stays r (Publish worker base entry kept) =
+      (published_stays (publish_refusal r.end (length r.history) r.limit base) r entry (arc_value kept)).0
+  program_stays r (Finish worker base end) = (finished_stays (finish_refusal r.end (length r.history) base) r end).0
+
+  -- no event changes the limit
+  pub limit_stays : (r : Race E) (x : Event E) → (after r x).limit ≡ r.limit
+  limit_stays r (Read worker) = refl
+  limit_stays r (Publish worker base entry kept) =
+      (published_stays (publish_refusal r.end (length r.history) r.limit base) r entry (arc_value kept)).1
+  limit_stays r (Finish worker base end) = (finished_stays (finish_refusal r.end (length r.history) base) r end).1
+
 module _ {E : Type 0} (automaton : E → Automaton) where
   -- what is accepted after a publication, by the words before it
   pub own_word_is_removed : (r : Race E) (base : ℕ) (entry : Entry E) (kept : Automaton) → length r.history ≤ base →

@@ -3,3 +3,4 @@ pub mod Histories
 pub mod Races
 pub mod Steps
 pub mod Interleavings
+pub mod Samples

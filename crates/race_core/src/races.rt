@@ -53,9 +53,11 @@ impl<E: Evidence> Shared<E> {
 
     /// Takes one event, or refuses it: a publication first as `Ended`, then as `Full`, then as `Stale`, an end first as
     /// `Ended`, then as `Stale`. What is refused is handed back. This takes no memory.
+    #[tactic(auto, using(crate::proofs::Interleaved::program_stays, crate::proofs::Interleaved::limit_stays))]
     pub fn apply(&mut self, event: Event<E>) -> Outcome<E>
         requires { IsFairEvent E.automaton self.old event }
         ensures state { self.new ≡ after self.old event }
+        ensures same { (self.new.program ≡ self.old.program) × (self.new.limit ≡ self.old.limit) }
         ensures answer { result ≡ outcome self.old event }
     {
         match event {
@@ -142,10 +144,7 @@ impl<E: Evidence> Shared<E> {
         ensures value { result ≡ publish_refusal self.now.end (length self.now.history) self.now.limit base }
         ensures room { length self.now.history ≤ self.now.limit }
     {
-        if let Some(end) = &self.end {
-            return Some(Why::Ended(end.kind()));
-        }
-        if self.limit <= self.version() {
+        if self.end.is_none() && self.limit <= self.version() {
             return Some(Why::Full { limit: self.limit });
         }
         self.finish_refusal(base)
