@@ -42,6 +42,14 @@ pub fn machine_goes_both()
         Goes (edges m) (states_in before) x.0 w (states_in after) y.0 × Goes (meaning al) (situations_in before) x.1 w (situations_in after) y.1 }
 {}
 
+/// Ways of the automaton and of the meaning through one word are a way of the stack machine.
+pub fn machine_goes_together()
+    ensures { (m : Automaton) (al : Alphabet) (w : List Letter) (before : List (ℕ × Situation)) (states : List ℕ) (situations : List Situation)
+        (q e : ℕ) (s t : Situation) →
+        Goes (edges m) (states_in before) q w states e → Goes (meaning al) (situations_in before) s w situations t →
+        (after : List (ℕ × Situation)) × (states_in after ≡ states) × (situations_in after ≡ situations) × Goes (machine m al) before (q, s) w after (e, t) }
+{}
+
 /// A way through a word is a way through its front and one through its rest: of the meaning.
 pub fn meaning_cut()
     ensures { (al : Alphabet) (u v : List Letter) (before after : List Situation) (x y : Situation) →
