@@ -1,2 +1,6 @@
 pub mod WayLemmas
 pub mod MachineLemmas
+pub mod ListLemmas
+pub mod PointLemmas
+pub mod FrameLemmas
+pub mod ReadingLemmas
