@@ -1,8 +1,10 @@
 ghost use Rattle.std.specs.Prelude.{◌≡◌, IfOk};
 ghost use Rattle.letter_acts.specs.Acts.{plain_acts, plain_frames};
+ghost use Rattle.letter_acts.specs.Parts.{graph_of};
 
 use crate::acts::Act;
 use crate::frames::Frame;
+use crate::parts::Parts;
 use crate::sites::Site;
 use boogie_tree::Text;
 use nwa_base::Nwa;
@@ -13,39 +15,39 @@ use std::marker::Model;
 /// and a name for each procedure, the procedure of each place, entry and exit places, and the places where assertions fail.
 #[derive(Drop)]
 pub struct Icfg {
-    nwa: Nwa,
-    acts: Vec<Act>,
-    frames: Vec<Frame>,
-    names: Vec<Text>,
-    place_procs: Vec<u32>,
-    entries: Vec<Option<u32>>,
-    exits: Vec<Option<u32>>,
-    sites: Vec<Site>,
+    parts: Parts,
 }
 
 impl Model for Icfg {
-    ghost use Rattle.letter_acts.specs.Acts.{plain_acts, plain_frames};
     ghost use Rattle.letter_acts.specs.Invariant.{Graph, IsGraph};
+    ghost use Rattle.letter_acts.specs.Parts.{graph_of};
 
     ghost Value = { Graph };
 
-    ghost view = { λ i. record { automaton = i.nwa; acts = plain_acts i.acts.items; frames = plain_frames i.frames.items; names = i.names.items;
-        place_procs = i.place_procs.items; entries = i.entries.items; exits = i.exits.items; sites = i.sites.items } };
+    ghost view = { λ i. graph_of i.parts };
 
-    ghost invariant = { λ i. IsGraph (record { automaton = i.nwa; acts = plain_acts i.acts.items; frames = plain_frames i.frames.items; names = i.names.items;
-        place_procs = i.place_procs.items; entries = i.entries.items; exits = i.exits.items; sites = i.sites.items }) };
+    ghost invariant = { λ i. IsGraph (graph_of i.parts) };
 }
 
 impl Icfg {
     ghost use Rattle.letter_acts.specs.Acts.{plain_acts, plain_frames};
     ghost use Rattle.letter_acts.specs.Invariant.{IsGraph};
+    ghost use Rattle.letter_acts.specs.Parts.{graph_of};
+
+    /// The graph of parts that make one.
+    pub(crate) fn new(parts: Parts) -> Self
+        requires { IsGraph (graph_of parts) }
+        ensures { result ≡ graph_of parts }
+    {
+        Icfg { parts }
+    }
 
     /// The automaton, whose states are the places.
     pub fn nwa(&self) -> &Nwa
         ensures value { result.now ≡ self.now.automaton }
         ensures valid { IsGraph self.now }
     {
-        &self.nwa
+        &self.parts.nwa
     }
 
     /// The act of each letter, by its number.
@@ -53,7 +55,7 @@ impl Icfg {
         ensures value { plain_acts result.now ≡ self.now.acts }
         ensures valid { IsGraph self.now }
     {
-        self.acts.as_slice()
+        self.parts.acts.as_slice()
     }
 
     /// The frame of each procedure.
@@ -61,7 +63,7 @@ impl Icfg {
         ensures value { plain_frames result.now ≡ self.now.frames }
         ensures valid { IsGraph self.now }
     {
-        self.frames.as_slice()
+        self.parts.frames.as_slice()
     }
 
     /// The name of each procedure.
@@ -69,7 +71,7 @@ impl Icfg {
         ensures value { result.now ≡ self.now.names }
         ensures valid { IsGraph self.now }
     {
-        self.names.as_slice()
+        self.parts.names.as_slice()
     }
 
     /// The procedure of each place.
@@ -77,7 +79,7 @@ impl Icfg {
         ensures value { result.now ≡ self.now.place_procs }
         ensures valid { IsGraph self.now }
     {
-        self.place_procs.as_slice()
+        self.parts.place_procs.as_slice()
     }
 
     /// The place where the body of each procedure begins, `None` where it has no body.
@@ -85,7 +87,7 @@ impl Icfg {
         ensures value { result.now ≡ self.now.entries }
         ensures valid { IsGraph self.now }
     {
-        self.entries.as_slice()
+        self.parts.entries.as_slice()
     }
 
     /// The place from which each procedure returns, `None` where it has no body.
@@ -93,7 +95,7 @@ impl Icfg {
         ensures value { result.now ≡ self.now.exits }
         ensures valid { IsGraph self.now }
     {
-        self.exits.as_slice()
+        self.parts.exits.as_slice()
     }
 
     /// The assertions in order, each with the place that its failures lead to.
@@ -101,24 +103,32 @@ impl Icfg {
         ensures value { result.now ≡ self.now.sites }
         ensures valid { IsGraph self.now }
     {
-        self.sites.as_slice()
+        self.parts.sites.as_slice()
     }
 
     /// An equal graph.
     pub fn copy(&self) -> Result<Icfg, AllocError>
         ensures { IfOk result (λ i. i ≡ self.now) }
     {
-        Ok(Icfg {
-            nwa: self.nwa.copy()?,
-            acts: copied_acts(&self.acts)?,
-            frames: copied_frames(&self.frames)?,
-            names: copied_names(&self.names)?,
-            place_procs: self.place_procs.clone()?,
-            entries: self.entries.clone()?,
-            exits: self.exits.clone()?,
-            sites: self.sites.clone()?,
-        })
+        let parts = copied_parts(&self.parts)?;
+        Ok(Icfg { parts })
     }
+}
+
+/// Equal parts.
+fn copied_parts(parts: &Parts) -> Result<Parts, AllocError>
+    ensures { IfOk result (λ copied. graph_of copied ≡ graph_of parts.now) }
+{
+    Ok(Parts {
+        nwa: parts.nwa.copy()?,
+        acts: copied_acts(&parts.acts)?,
+        frames: copied_frames(&parts.frames)?,
+        names: copied_names(&parts.names)?,
+        place_procs: Vec::from_slice(*parts.place_procs.allocator(), &parts.place_procs)?,
+        entries: Vec::from_slice(*parts.entries.allocator(), &parts.entries)?,
+        exits: Vec::from_slice(*parts.exits.allocator(), &parts.exits)?,
+        sites: Vec::from_slice(*parts.sites.allocator(), &parts.sites)?,
+    })
 }
 
 /// A copy of each act.

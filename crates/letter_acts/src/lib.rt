@@ -6,6 +6,7 @@ mod acts;
 mod frames;
 mod graphs;
 pub mod laws;
+mod parts;
 mod sites;
 
 pub use acts::Act;
