@@ -4,3 +4,4 @@ pub mod ListLemmas
 pub mod PointLemmas
 pub mod FrameLemmas
 pub mod ReadingLemmas
+pub mod KnownLemmas

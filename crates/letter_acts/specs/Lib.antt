@@ -8,3 +8,4 @@ pub mod Feasible
 pub mod Names
 pub mod Invariant
 pub mod Parts
+pub mod Known

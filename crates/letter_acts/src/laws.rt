@@ -1,10 +1,11 @@
 //! Laws of feasible words and of what letters allow, over the definitions that contracts cite.
 
-ghost use Rattle.std.specs.Prelude.{◌≡◌, ◌↔◌, ◌+◌, ◌++◌, [], ◌∷◌, ℕ, ℤ, List, None, IsTrue, length};
+ghost use Rattle.std.specs.Prelude.{◌≡◌, ◌↔◌, ◌+◌, ◌<◌, ◌++◌, [], ◌∷◌, ℕ, ℤ, List, None, IsTrue, length};
 ghost use Rattle.std.specs.List.{AllByRecursion};
 ghost use Rattle.math_facts.specs.Terms.{IsBelow};
 ghost use Rattle.lin_rows.specs.Rows.{LinearRow};
 ghost use Rattle.boogie_tree.specs.declared.tree.VarInfo.{VarInfo};
+ghost use Rattle.nwa_base.specs.declared.letters.Kind.TheVariants.{Back};
 ghost use Rattle.nwa_base.specs.declared.letters.Letter.{Letter};
 ghost use Rattle.nwa_base.specs.Members.{Member};
 ghost use Rattle.nwa_base.specs.Words.{are_matched};
@@ -17,7 +18,8 @@ ghost use Rattle.letter_acts.specs.Meaning.{Situation, InsideLeads, CallLeads, B
 ghost use Rattle.letter_acts.specs.Reading.{InsideReads, CallReads, BackReads};
 ghost use Rattle.letter_acts.specs.Ways.{Goes, GoesAlong, GoesThrough};
 ghost use Rattle.letter_acts.specs.Feasible.{IsSituation, meaning, IsFeasible, edges, machine, MachineRun, states_in, situations_in, AllowSame, FeasibleWay};
-ghost use Rattle.letter_acts.specs.Invariant.{Graph, alphabet_of, InsideIsActed, BackIsActed};
+ghost use Rattle.letter_acts.specs.Invariant.{Graph, IsGraph, alphabet_of, InsideIsActed, BackIsActed};
+ghost use Rattle.letter_acts.specs.Known.{FramesAgree, InsideKnown, CallKnown, BackKnown};
 
 /// A word is accepted and feasible exactly where the stack machine, whose stack are the open calls, has a run over it.
 pub fn machine_runs()
@@ -123,4 +125,30 @@ pub fn unknown_letter_is_infeasible()
 /// The empty word is feasible exactly where some frame has a state.
 pub fn empty_word_is_feasible()
     ensures { (al : Alphabet) → IsFeasible al [] ↔ ((s : Situation) × IsSituation al s) }
+{}
+
+/// Frames with the same globals agree on where these and their old columns stand.
+pub fn frames_agree()
+    ensures { (globals : List VarInfo) (a b : Columns) → IsFrame globals a → IsFrame globals b → FramesAgree a b }
+{}
+
+/// All frames of a graph have the same globals.
+pub fn frames_laid_out()
+    ensures { (g : Graph) → IsGraph g →
+        (globals : List VarInfo) × ((p : ℕ) → p < length g.frames → IsFrame globals (frame_of (alphabet_of g) p)) }
+{}
+
+/// What is known of the letter of an inside edge.
+pub fn inside_edge_known()
+    ensures { (g : Graph) → IsGraph g → (q e : ℕ) (a : Letter) → Member g.automaton.insides (q, a, e) → InsideKnown g q a e }
+{}
+
+/// What is known of the letter of a call edge.
+pub fn call_edge_known()
+    ensures { (g : Graph) → IsGraph g → (q e : ℕ) (a : Letter) → Member g.automaton.calls (q, a, e) → CallKnown g q a e }
+{}
+
+/// What is known of the letter of a return edge.
+pub fn back_edge_known()
+    ensures { (g : Graph) → IsGraph g → (q p e : ℕ) (r : Letter) → r.kind ≡ Back → Member g.automaton.backs (q, p, r, e) → BackKnown g q p r e }
 {}
