@@ -7,5 +7,4 @@ pub mod Ways
 pub mod Feasible
 pub mod Names
 pub mod Invariant
-pub mod Parts
 pub mod Known

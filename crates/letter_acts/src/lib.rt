@@ -1,15 +1,12 @@
-//! Letters and what they mean: the acts of letters as rows over frames, feasible words, and the graph of all procedures
-//! of a program with its alphabet.
+//! Letters and what they mean: the acts of letters as rows over frames, feasible words, and what a graph of all
+//! procedures of a program keeps. The laws that other crates build on stand in [`laws`].
 #![tactic(auto)]
 
 mod acts;
 mod frames;
-mod graphs;
 pub mod laws;
-mod parts;
 mod sites;
 
 pub use acts::Act;
 pub use frames::Frame;
-pub use graphs::Icfg;
 pub use sites::{AssertId, Site};
