@@ -35,7 +35,7 @@ places_of_globals test t globals frame f =
     ap (places test 0) f.columns ∙
     places-append test (globals_from 0 globals) rest 0 m refl ∙
     ap (λ (l : List ℕ). places test 0 (globals_from 0 globals) ++ l)
-        (places_none test rest m (all_append (λ c. test c ≡ false) (old_columns 0 globals) (locals_from 0 f.locals) (olds_fail test t 0 globals) (locals_fail test t 0 f.locals))) ∙
+    (places_none test rest m (all_append (λ c. test c ≡ false) (old_columns 0 globals) (locals_from 0 f.locals) (olds_fail test t 0 globals) (locals_fail test t 0 f.locals))) ∙
     append-nil (places test 0 (globals_from 0 globals))
 
 of_global : OfGlobals is_global
@@ -81,28 +81,28 @@ either_from : (n : ℕ) (vs : List VarInfo) (c : ℕ) → Member (counted_up n (
     Member (places is_variable n (globals_from n vs)) c ⊎ Member (places is_constant n (globals_from n vs)) c
 either_from n [] c m = absurd m
 either_from n (v ∷ vs) c m = elim m [
-      inl e ↦ either_here v.constant n c (places is_variable (suc n) (globals_from (suc n) vs)) (places is_constant (suc n) (globals_from (suc n) vs)) e
-    | inr h ↦
-        elim (either_from (suc n) vs c h) [
-          inl i ↦ inl (added_member (not v.constant) n (places is_variable (suc n) (globals_from (suc n) vs)) c i)
+  | inl e ↦ either_here v.constant n c (places is_variable (suc n) (globals_from (suc n) vs)) (places is_constant (suc n) (globals_from (suc n) vs)) e
+  | inr h ↦
+      elim (either_from (suc n) vs c h) [
+        | inl i ↦ inl (added_member (not v.constant) n (places is_variable (suc n) (globals_from (suc n) vs)) c i)
         | inr i ↦ inr (added_member v.constant n (places is_constant (suc n) (globals_from (suc n) vs)) c i)
-        ]
-    ]
+      ]
+]
 
 pub variable_or_constant : (globals : List VarInfo) (frame other : Columns) → IsFrame globals frame → IsFrame globals other → (c : ℕ) → c < length globals →
     Member (variables_of frame) c ⊎ Member (constants_of other) c
 variable_or_constant globals frame other f o c l =
     elim (either_from 0 globals c (counted_up_member 0 (length globals) c (omega arith) (omega arith))) [
-      inl h ↦ inl (subst (λ (xs : List ℕ). Member xs c) (sym (variables_are globals frame f)) h)
-    | inr h ↦ inr (subst (λ (xs : List ℕ). Member xs c) (sym (constants_are globals other o)) h)
+      | inl h ↦ inl (subst (λ (xs : List ℕ). Member xs c) (sym (variables_are globals frame f)) h)
+      | inr h ↦ inr (subst (λ (xs : List ℕ). Member xs c) (sym (constants_are globals other o)) h)
     ]
 
 variable_counted : (n : ℕ) (vs : List VarInfo) (c : ℕ) → Member (places is_variable n (globals_from n vs)) c → Member (counted_up n (length vs)) c
 variable_counted n [] c m = absurd m
 variable_counted n (v ∷ vs) c m = elim (member_added (not v.constant) n (places is_variable (suc n) (globals_from (suc n) vs)) c m) [
-      inl e ↦ inl e
-    | inr h ↦ inr (variable_counted (suc n) vs c h)
-    ]
+  | inl e ↦ inl e
+  | inr h ↦ inr (variable_counted (suc n) vs c h)
+]
 
 pub variable_below : (globals : List VarInfo) (frame : Columns) → IsFrame globals frame → (c : ℕ) → Member (variables_of frame) c → c < length globals
 variable_below globals frame f c m =

@@ -20,9 +20,9 @@ same_or_not (suc a) (suc b) = elim (same_or_not a b) [ inl e ↦ inl (ap suc e) 
 pub member_or_not : (xs : List ℕ) (x : ℕ) → Member xs x ⊎ (Member xs x → ⊥)
 member_or_not [] x = inr (λ m. m)
 member_or_not (y ∷ ys) x = elim (same_or_not y x) [
-      inl e ↦ inl (inl e)
-    | inr n ↦ elim (member_or_not ys x) [ inl m ↦ inl (inr m) | inr k ↦ inr (λ m. elim m [ inl e ↦ n e | inr i ↦ k i ]) ]
-    ]
+  | inl e ↦ inl (inl e)
+  | inr n ↦ elim (member_or_not ys x) [ inl m ↦ inl (inr m) | inr k ↦ inr (λ m. elim m [ inl e ↦ n e | inr i ↦ k i ]) ]
+]
 
 pub all_weaker : {X : Type 0} (P Q : X → Type 0) → ((x : X) → P x → Q x) → (xs : List X) → AllByRecursion P xs → AllByRecursion Q xs
 all_weaker P Q f [] h = tt

@@ -38,7 +38,7 @@ goes_together {X} {Y} s t (a ∷ w) before xs ys x y u v h g =
     let k = leads_stack t a.kind a (seconds before) u g.0 (λ l. Goes t l g.0 w ys v) g.1 in
     let n = together_step s t a.kind a before x h.0 u g.0 f.0 k.0 f.1 k.1 in
     let r = goes_together s t w n.0 xs ys h.0 y g.0 v
-            (subst (λ (l : List X). Goes s l h.0 w xs y) (sym n.1) f.2) (subst (λ (l : List Y). Goes t l g.0 w ys v) (sym n.2) k.2) in
+    (subst (λ (l : List X). Goes s l h.0 w xs y) (sym n.1) f.2) (subst (λ (l : List Y). Goes t l g.0 w ys v) (sym n.2) k.2) in
     (r.0, r.1, r.2, ((h.0, g.0), leads_with (both s t) a.kind a before (x, u) (h.0, g.0) n.0 (λ l. Goes (both s t) l (h.0, g.0) w r.0 (y, v)) n.3 r.3))
 
 apart_step : {X Y : Type 0} (s : Steps X) (t : Steps Y) (kind : Kind) (a : Letter) (before : List (X × Y)) (x y : X × Y) (stack : List (X × Y)) →
@@ -148,8 +148,8 @@ unknown_goes al [] a before after s t n e h = n
 unknown_goes al (b ∷ w) a before after s t n e h =
     let f = leads_stack (meaning al) b.kind b before s h.0 (λ l. Goes (meaning al) l h.0 w after t) h.1 in
     elim n [
-      inl i ↦ unknown_leads al b.kind b before s h.0 (λ l. l ≡ f.0) (ap (act_of al) i ∙ e) f.1
-    | inr i ↦ unknown_goes al w a f.0 after h.0 t i e f.2
+      | inl i ↦ unknown_leads al b.kind b before s h.0 (λ l. l ≡ f.0) (ap (act_of al) i ∙ e) f.1
+      | inr i ↦ unknown_goes al w a f.0 after h.0 t i e f.2
     ]
 
 -- a letter that is none of the alphabet makes a word infeasible

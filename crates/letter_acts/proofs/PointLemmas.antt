@@ -130,12 +130,12 @@ point_of-values_from point n (suc k) (suc i) c l e = point_of-values_from point 
 joined_point : (values : List ℤ) (point : ℕ → ℤ) (count c : ℕ) → c < length values + count → ((k : ℕ) → k < length values → point k ≡ point_of values k) →
     point c ≡ point_of (values ++ values_from point (length values) count) c
 joined_point values point count c l h = elim (below_or_from c (length values)) [
-      inl b ↦ h c b ∙ sym (point_of-left values (values_from point (length values) count) c b)
-    | inr g ↦
-        (let e = g.1 in
-        sym (point_of-right values (values_from point (length values) count) c g.0 e ∙
-            point_of-values_from point (length values) count g.0 c (omega (arith, e)) e))
-    ]
+  | inl b ↦ h c b ∙ sym (point_of-left values (values_from point (length values) count) c b)
+  | inr g ↦
+      (let e = g.1 in
+      sym (point_of-right values (values_from point (length values) count) c g.0 e ∙
+      point_of-values_from point (length values) count g.0 c (omega (arith, e)) e))
+]
 
 -- helpers as a list and as another point
 pub helpers_as_point : (values : List ℤ) (count : ℕ) (rows : List LinearRow) → AllByRecursion (λ r. IsBelow (length values + count) r.terms) rows →

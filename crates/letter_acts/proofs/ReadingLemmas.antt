@@ -28,8 +28,8 @@ pub inside_read : (al : Alphabet) (p : ℕ) (written : List ℕ) (helpers : ℕ)
 inside_read al p written helpers rows s t act = (
   λ h.
       let n : picked t written ≡ h.news =
-          ap (λ (l : List ℤ). picked l written) h.put ∙
-          picked_put s written h.news act.distinct (written_within (frame_of al p) s written h.before act.may_write) h.as_many in
+      ap (λ (l : List ℤ). picked l written) h.put ∙
+      picked_put s written h.news act.distinct (written_within (frame_of al p) s written h.before act.may_write) h.as_many in
       record {
         before = h.before;
         after = h.after;
@@ -110,13 +110,13 @@ call_read globals caller callee helpers rows s t f g = (
         after = h.after;
         globals = subst (AllByRecursion (λ c. point_of t c ≡ point_of s c)) (sym (globals_are globals callee g))
             (all_from_members (λ c. point_of t c ≡ point_of s c) (counted_up 0 (length globals))
-                (λ c m.
-                    let b : c < length globals = let k = counted_up_below 0 (length globals) c m in omega (arith, k) in
-                    ap (λ (l : List ℤ). point_of l c) e ∙ point_of-left (take (length globals) s) rest c (omega (arith, front, b)) ∙
-                    point_of-take (length globals) s c b));
+            (λ c m.
+            let b : c < length globals = let k = counted_up_below 0 (length globals) c m in omega (arith, k) in
+            ap (λ (l : List ℤ). point_of l c) e ∙ point_of-left (take (length globals) s) rest c (omega (arith, front, b)) ∙
+            point_of-take (length globals) s c b));
         olds = olds_read s t (length globals) (olds_of callee) h.locals (olds_consecutive globals callee g)
             (ap (drop (length globals)) e ∙ drop_at (take (length globals) s) rest (length globals) front ∙
-                ap (λ (l : List ℤ). l ++ h.locals) (sym (olds_picked globals callee s g)));
+            ap (λ (l : List ℤ). l ++ h.locals) (sym (olds_picked globals callee s g)));
         rows_hold = h.rows_hold;
       },
   λ h.
@@ -125,9 +125,9 @@ call_read globals caller callee helpers rows s t f g = (
       let within : length globals + length (olds_of callee) ≤ length t = let w = olds_within globals callee g in let l = state_length callee t h.after in omega (arith, w, l) in
       let locals : List ℤ = drop (length globals + length (olds_of callee)) t in
       let same : take (length globals) t ≡ take (length globals) s =
-          take_same (length globals) t s (omega (arith, within)) long
-          (λ c b. all_member (λ c. point_of t c ≡ point_of s c) (globals_of callee) c
-              (subst (λ (l : List ℕ). Member l c) (sym (globals_are globals callee g)) (counted_up_member 0 (length globals) c (omega arith) (omega (arith, b)))) h.globals) in
+      take_same (length globals) t s (omega (arith, within)) long
+      (λ c b. all_member (λ c. point_of t c ≡ point_of s c) (globals_of callee) c
+      (subst (λ (l : List ℕ). Member l c) (sym (globals_are globals callee g)) (counted_up_member 0 (length globals) c (omega arith) (omega (arith, b)))) h.globals) in
       record {
         before = h.before;
         after = h.after;
@@ -135,8 +135,8 @@ call_read globals caller callee helpers rows s t f g = (
         entered = sym (take-append-drop (length globals) t) ∙
             ap (λ (l : List ℤ). l ++ drop (length globals) t) same ∙
             ap (λ (l : List ℤ). take (length globals) s ++ l)
-                (olds_put s t (length globals) (olds_of callee) (olds_consecutive globals callee g) within h.olds ∙
-                    ap (λ (l : List ℤ). l ++ locals) (olds_picked globals callee s g)) ∙
+            (olds_put s t (length globals) (olds_of callee) (olds_consecutive globals callee g) within h.olds ∙
+            ap (λ (l : List ℤ). l ++ locals) (olds_picked globals callee s g)) ∙
             ap (λ (k : ℕ). take k s ++ (picked s (variables_of callee) ++ locals)) (sym n);
         rows_hold = h.rows_hold;
       },
@@ -207,14 +207,14 @@ not_written : (globals : List VarInfo) (caller callee : Columns) (exit before : 
     AllByRecursion (λ c. point_of exit c ≡ point_of before c) (constants_of callee) → (c : ℕ) → (Member (variables_of caller) c → ⊥) →
     point_of (take (length globals) exit ++ drop (length globals) before) c ≡ point_of before c
 not_written globals caller callee exit before f g r h c n = elim (below_or_from c (length globals)) [
-      inl b ↦
-        joined_front (length globals) exit before c r.in_exit b ∙
-        elim (variable_or_constant globals caller callee f g c b) [
-          inl v ↦ absurd (n v)
+  | inl b ↦
+      joined_front (length globals) exit before c r.in_exit b ∙
+      elim (variable_or_constant globals caller callee f g c b) [
+        | inl v ↦ absurd (n v)
         | inr k ↦ all_member (λ c. point_of exit c ≡ point_of before c) (constants_of callee) c k h
-        ]
-    | inr k ↦ joined_back (length globals) exit before c k.0 r.in_exit k.1
-    ]
+      ]
+  | inr k ↦ joined_back (length globals) exit before c k.0 r.in_exit k.1
+]
 
 back_reads : (globals : List VarInfo) (caller callee : Columns) (helpers : ℕ) (rows : List LinearRow) (targets : List ℕ) (exit before after : List ℤ) →
     IsFrame globals caller → IsFrame globals callee → BackIsActed caller callee helpers targets →
@@ -237,7 +237,7 @@ back_reads globals caller callee helpers rows targets exit before after f g act 
       rows_hold = h.rows_hold;
       globals = all_from_members (λ c. (Member targets c → ⊥) → point_of after c ≡ point_of exit c) (variables_of caller)
           (λ c m k. ap (λ (l : List ℤ). point_of l c) e ∙ put_all_other base targets news c k ∙
-              joined_front n exit before c r.in_exit (variable_below globals caller f c m));
+          joined_front n exit before c r.in_exit (variable_below globals caller f c m));
       results = subst (λ (l : List ℤ). AllByRecursion (λ p. point_of l p.0 ≡ point_of exit p.1) (taken targets (results_of callee))) (sym e)
           (put_taken base exit targets (results_of callee) act.distinct (targets_within caller base targets long act.may_target));
       others = λ c v k. ap (λ (l : List ℤ). point_of l c) e ∙ put_all_other base targets news c k ∙
@@ -253,12 +253,12 @@ reads_back globals caller callee helpers rows targets exit before after f g act 
     let base : List ℤ = take n exit ++ drop n before in
     let long : length base ≡ length after = joined_length n exit before r.in_exit r.in_before ∙ r.before_long ∙ sym (state_length caller after h.at_end) in
     let same : (c : ℕ) → (Member targets c → ⊥) → point_of after c ≡ point_of base c =
-        λ c k. elim (member_or_not (variables_of caller) c) [
-          inl v ↦
-            all_member (λ c. (Member targets c → ⊥) → point_of after c ≡ point_of exit c) (variables_of caller) c v h.globals k ∙
-            sym (joined_front n exit before c r.in_exit (variable_below globals caller f c v))
-        | inr v ↦ h.others c v k ∙ sym (not_written globals caller callee exit before f g r h.constants c v)
-        ] in
+    λ c k. elim (member_or_not (variables_of caller) c) [
+      | inl v ↦
+          all_member (λ c. (Member targets c → ⊥) → point_of after c ≡ point_of exit c) (variables_of caller) c v h.globals k ∙
+          sym (joined_front n exit before c r.in_exit (variable_below globals caller f c v))
+      | inr v ↦ h.others c v k ∙ sym (not_written globals caller callee exit before f g r h.constants c v)
+    ] in
     record {
       at_exit = h.at_exit;
       at_call = h.at_call;

@@ -6,6 +6,8 @@ mod acts;
 mod frames;
 pub mod laws;
 mod sites;
+#[cfg(test)]
+mod tests;
 
 pub use acts::Act;
 pub use frames::Frame;
