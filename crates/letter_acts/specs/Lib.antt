@@ -1,0 +1,10 @@
+pub mod Frames
+pub mod Acts
+pub mod Values
+pub mod Meaning
+pub mod Reading
+pub mod Ways
+pub mod Feasible
+pub mod Names
+pub mod Invariant
+pub mod Known

@@ -1,0 +1,85 @@
+ghost use Rattle.std.specs.Prelude.{◌≡◌, IfOk};
+ghost use Rattle.lin_rows.specs.Rows.{LinearRow};
+
+use lin_rows::Row;
+use std::alloc::AllocError;
+
+/// What a letter does. Rows number their columns from 0: those of the frames, then those written, then the helpers.
+#[derive(Drop)]
+pub enum Act {
+    /// A step inside a procedure.
+    Inside {
+        proc: u32,
+        /// The columns of the frame that are written.
+        written: Vec<u32>,
+        /// How many helper columns the rows have.
+        helpers: u32,
+        /// Over the frame before the step, the written columns after it, and the helpers.
+        rows: Vec<Row>,
+    },
+    /// A call.
+    Call {
+        caller: u32,
+        callee: u32,
+        /// How many helper columns the rows have.
+        helpers: u32,
+        /// Over the caller's frame, the callee's frame, and the helpers.
+        rows: Vec<Row>,
+    },
+    /// A return.
+    Back {
+        /// The number of the call letter.
+        call: u32,
+        /// The columns of the caller's frame that take the results, in order.
+        targets: Vec<u32>,
+    },
+}
+
+impl Act {
+    ghost use Rattle.letter_acts.specs.Acts.{plain_act};
+
+    /// An equal act.
+    pub fn copy(&self) -> Result<Self, AllocError>
+        ensures { IfOk result (λ a. plain_act a ≡ plain_act self.now) }
+    {
+        match self {
+            Act::Inside {
+                proc,
+                written,
+                helpers,
+                rows,
+            } => Ok(Act::Inside {
+                proc: *proc,
+                written: written.clone()?,
+                helpers: *helpers,
+                rows: copied_rows(rows)?,
+            }),
+            Act::Call {
+                caller,
+                callee,
+                helpers,
+                rows,
+            } => Ok(Act::Call {
+                caller: *caller,
+                callee: *callee,
+                helpers: *helpers,
+                rows: copied_rows(rows)?,
+            }),
+            Act::Back { call, targets } => Ok(Act::Back {
+                call: *call,
+                targets: targets.clone()?,
+            }),
+        }
+    }
+}
+
+/// Equal rows.
+fn copied_rows(rows: &Vec<Row>) -> Result<Vec<Row>, AllocError>
+    ensures { IfOk result (λ copies. copies.items ≡ rows.now.items) }
+{
+    let mut copies = Vec::with_capacity(*rows.allocator(), rows.len())?;
+    for row in rows {
+        copies.push(row.copy()?)?;
+    }
+    Ok(copies)
+}

@@ -1,0 +1,14 @@
+//! Letters and what they mean: the acts of letters as rows over frames, feasible words, and what a graph of all
+//! procedures of a program keeps. The laws that other crates build on stand in [`laws`].
+#![tactic(auto)]
+
+mod acts;
+mod frames;
+pub mod laws;
+mod sites;
+#[cfg(test)]
+mod tests;
+
+pub use acts::Act;
+pub use frames::Frame;
+pub use sites::{AssertId, Site};
