@@ -18,6 +18,25 @@ struct Line {
     value: Frac,
 }
 
+impl Line {
+    /// Moves the value.
+    fn move_by(&mut self, step: &Frac) -> Result<(), Stop> {
+        self.value = add(&self.value, step)?;
+        Ok(())
+    }
+
+    /// Takes away so many times a form that is 0.
+    fn subtract(&mut self, alloc: Global, times: &Frac, zero: &[Term]) -> Result<(), Stop> {
+        let (own, less) = (den(times), product(-1, num(times))?);
+        self.form = combined(alloc, own, self.form.as_slice(), less, zero)?;
+        self.denominator = product(own, self.denominator)?;
+        if own != 1 {
+            reduce(&mut self.form, &mut self.denominator);
+        }
+        Ok(())
+    }
+}
+
 /// A column that was solved for, by a form that is 0.
 #[derive(Drop)]
 struct Solved {
@@ -162,15 +181,9 @@ impl<'a> Tableau<'a> {
         for line in &mut self.lines {
             let other = coefficient_of(line.form.as_slice(), variable);
             if other != 0 {
-                let step = mul(&ratio(other, line.denominator)?, moved)?;
-                line.value = add(&line.value, &step)?;
                 let times = ratio(other, coefficient)?;
-                let (own, less) = (den(&times), num(&times));
-                line.form = combined(self.alloc, own, line.form.as_slice(), -less, zero)?;
-                line.denominator = product(own, line.denominator)?;
-                if own != 1 {
-                    reduce(&mut line.form, &mut line.denominator);
-                }
+                line.move_by(&mul(&ratio(other, line.denominator)?, moved)?)?;
+                line.subtract(self.alloc, &times, zero)?;
             }
         }
         Ok(())
