@@ -1,5 +1,5 @@
 -- The elimination finds the picked point of the tightened rows, and there is one such point.
-use Rattle.std.proofs.Common.{◌≡◌, ℕ, zero, suc, ℤ, pos, ◌<ℤ◌, List, [], ◌∷◌, ◌++◌, length, map, append_assoc, refl, sym, ap, ◌∙◌, subst, arith}
+use Rattle.std.proofs.Common.{◌≡◌, ℕ, zero, suc, ℤ, pos, ◌<ℤ◌, List, [], ◌∷◌, ◌++◌, length, map, append_assoc, refl, sym, ap, ◌∙◌, arith}
 use Rattle.std.specs.List.{AllByRecursion}
 use Rattle.std.proofs.lemmas.Int.{ints}
 use Rattle.frac.specs.Fractions.{Fraction, IsLowest}
@@ -10,7 +10,7 @@ use Rattle.fm_elim.specs.Derivations.{inputs}
 use Rattle.fm_elim.specs.Values.{value_at}
 use Rattle.fm_elim.specs.Elimination.{Outcome, refuted, point, elimination}
 use Rattle.fm_elim.specs.Worth.{HoldsAt, IsWorth, ColumnsBelow}
-use Rattle.fm_elim.specs.Slices.{IsPick, InSlice, IsPicked, IsPoint, IsPickedOutcome}
+use Rattle.fm_elim.specs.Slices.{InSlice, IsPicked, IsPoint, IsPickedOutcome}
 use Rattle.fm_elim.proofs.Lists.{all_weaker, all_parts}
 use Rattle.fm_elim.proofs.Inputs.{inputs_are_clear, inputs_are_ordered}
 use Rattle.fm_elim.proofs.Points.{RowHolds, IfPoint}

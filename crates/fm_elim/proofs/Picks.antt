@@ -1,5 +1,5 @@
 -- The nearest value between two ends is the pick of what lies between them, and a pick is one.
-use Rattle.std.proofs.Common.{◌≡◌, ◌≢◌, ℤ, pos, negsuc, neg_ℤ, ◌*ℤ◌, ◌≤ℤ◌, ◌<ℤ◌, Bool, true, false, Option, None, Some, refl, sym, ap, ◌∙◌, subst, inl, inr, ◌⊎◌, arith, if◌then◌else◌}
+use Rattle.std.proofs.Common.{◌≡◌, ℤ, pos, negsuc, neg_ℤ, ◌*ℤ◌, ◌≤ℤ◌, ◌<ℤ◌, Bool, true, false, Option, None, Some, refl, sym, ap, ◌∙◌, subst, inl, inr, ◌⊎◌, arith, if◌then◌else◌}
 use Rattle.std.specs.Prelude.{int_le}
 use Rattle.std.specs.Int.{int_div_euclid, int_max, int_min}
 use Rattle.std.proofs.lemmas.Int.{ints, clamps}
@@ -53,7 +53,7 @@ at_least_ceiling l j h =
     let k : neg_ℤ j ≤ℤ int_div_euclid (neg_ℤ l.num) l.den = floor_from (neg_ℤ l.num) l.den (neg_ℤ j) h.left (omega (arith, ints)) in
     (let q : neg_ℤ (int_div_euclid (neg_ℤ l.num) l.den) ≤ℤ j = omega (arith, ints) in q)
 
-zero_on_way : (j : ℤ) → IsOnTheWay (pos 0) j
+pub zero_on_way : (j : ℤ) → IsOnTheWay (pos 0) j
 zero_on_way (pos n) = inl (omega (arith, ints), omega (arith, ints))
 zero_on_way (negsuc n) = inr (omega (arith, ints), omega (arith, ints))
 
@@ -96,8 +96,7 @@ nearest_is_pick P (Some l) (Some u) f m = by_test (int_le (ceiling l) (floor u))
     by_test true e m = record {
       member = m;
       nearest = λ j i.
-          let k = f (whole j) i in
-          (
+          let k = f (whole j) i in (
             int_max (ceiling l) (int_min (pos 0) (floor u)),
             (refl, between_on_way (ceiling l) (floor u) j (at_least_ceiling l j k.0) (at_most_floor u j k.1)),
           );

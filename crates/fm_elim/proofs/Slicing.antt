@@ -1,5 +1,5 @@
 -- The elimination finds the point each of whose values is picked from what the values before it leave.
-use Rattle.std.proofs.Common.{◌≡◌, ◌≢◌, ℕ, zero, suc, ◌+◌, ◌%◌, ◌<◌, ◌≤◌, ℤ, pos, neg_ℤ, ◌+ℤ◌, ◌-ℤ◌, ◌*ℤ◌, ◌≤ℤ◌, ◌<ℤ◌, Bool, true, false, ◌&&◌, not, List, [], ◌∷◌, ◌++◌, Option, None, Some, length, map, nat_eq, append_assoc, refl, sym, ap, ◌∙◌, subst, inl, inr, ◌⊎◌, arith, if◌then◌else◌}
+use Rattle.std.proofs.Common.{◌≡◌, ◌≢◌, ℕ, zero, suc, ◌+◌, ◌%◌, ◌<◌, ◌≤◌, ℤ, pos, neg_ℤ, ◌+ℤ◌, ◌*ℤ◌, ◌≤ℤ◌, ◌<ℤ◌, Bool, true, false, List, [], ◌∷◌, ◌++◌, Option, None, Some, length, nat_eq, append_assoc, refl, sym, ap, ◌∙◌, subst, inl, inr, ◌⊎◌, arith, if◌then◌else◌}
 use Rattle.std.specs.Prelude.{MatchOption, IfSome, unsigned_abs, int_le}
 use Rattle.std.specs.Int.{int_max, int_min}
 use Rattle.std.proofs.lemmas.Nat.Gcd.{IsGcd-from_zero, IsGcd-from_mod}
@@ -7,21 +7,21 @@ use Rattle.std.specs.List.{AllByRecursion, filter, flat_map, fold}
 use Rattle.std.proofs.lemmas.Bool.{cases_eq, and_parts}
 use Rattle.std.proofs.lemmas.Int.{ints}
 use Rattle.std.proofs.lemmas.List.{length-append}
-use Rattle.math_facts.specs.Terms.{coefficient, dot, with_value}
+use Rattle.math_facts.specs.Terms.{dot, with_value}
 use Rattle.math_facts.proofs.Whole.{product_comm, product_assoc, product_monotone, product_cancel, product_nonzero, product_zero_left, product_zero_right, distrib_right, product_neg_left, cancel_order}
 use Rattle.math_facts.proofs.TermLaws.{dot-with_value_at, with_value_here, with_value_other}
 use Rattle.frac.specs.Fractions.{Fraction, IsLowest}
 use Rattle.frac.proofs.LowestTerms.{same_lowest}
 use Rattle.lin_rows.specs.declared.types.RowKind.{RowKind}
-use Rattle.lin_rows.specs.declared.types.RowKind.TheVariants.{Le, Eq}
+use Rattle.lin_rows.specs.declared.types.RowKind.TheVariants.{Eq}
 use Rattle.lin_rows.specs.Rows.{LinearRow, Stands}
 use Rattle.lin_rows.specs.Sums.{sum_kind, CanScale}
 use Rattle.lin_rows.proofs.HoldsLaws.{holds-scaled_sum, stands_as_inequality}
 use Rattle.fm_elim.specs.Quotients.{whole, minus, is_less, floor, ceiling, nearest}
 use Rattle.fm_elim.specs.Folds.{first}
-use Rattle.fm_elim.specs.Derivations.{DerivedRow, nothing, plus_times, at, has, is_upper, is_lower, is_equality, is_false}
-use Rattle.fm_elim.specs.Columns.{is_pivot, halves, combined, step_by, step}
-use Rattle.fm_elim.specs.Values.{value_at, sum_of, end_of, greater_end, less_end, raised, lowered, lower_end, upper_end, value_of}
+use Rattle.fm_elim.specs.Derivations.{DerivedRow, nothing, plus_times, at, is_upper, is_lower, is_equality, is_false}
+use Rattle.fm_elim.specs.Columns.{is_pivot, halves, step_by, step}
+use Rattle.fm_elim.specs.Values.{value_at, sum_of, end_of, greater_end, less_end, raised, lower_end, upper_end, value_of}
 use Rattle.fm_elim.specs.Elimination.{Outcome, refuted, point, extended, solve}
 use Rattle.fm_elim.specs.Slices.{IsPick, InSlice, IsPicked}
 use Rattle.fm_elim.proofs.Lists.{all_append, all_parts, all_weaker, all_both, all_always, all_flat_map, all_filter, all_first}
@@ -33,7 +33,7 @@ use Rattle.fm_elim.proofs.Clearing.{Lacks, pivot_is_unit, step_lacks, step_is_cl
 use Rattle.fm_elim.proofs.Ends.{AreValues, room, sum_is, end_is}
 use Rattle.fm_elim.proofs.Between.{AtMost, AtLeast, IsBest, Lies}
 use Rattle.fm_elim.proofs.Extending.{at_end, past_end, not_at_end, none_at_end}
-use Rattle.fm_elim.proofs.Points.{RowHolds, IsInequality, Anything, passing, halves_are_inequalities, best_low, best_up, negative_nonzero, positive_nonzero, unit_nonzero, MeetsRows, IfPoint, step_meets, unless_false_meets, none_meets}
+use Rattle.fm_elim.proofs.Points.{RowHolds, Anything, passing, best_low, best_up, negative_nonzero, positive_nonzero, unit_nonzero, MeetsRows, IfPoint, step_meets, unless_false_meets, none_meets}
 use Rattle.fm_elim.proofs.Picks.{pick_of_same, only_is_pick, nearest_is_pick}
 
 -- a point of derived rows, in lowest terms
@@ -178,10 +178,10 @@ end_lowest : (k : ℕ) (values : List Fraction) (d : ℤ) (p : ℕ → ℤ) (r :
 end_lowest k values d p r v z n =
     let x : Fraction = minus (whole r.row.bound) (sum_of k values r.row.terms) in
     let i : Is x (room d p r) d =
-        minus_is (whole r.row.bound) (sum_of k values r.row.terms) (r.row.bound *ℤ d) (dot p r.row.terms) d (whole_is r.row.bound d) (sum_is k values d p r.row.terms v z) in
+    minus_is (whole r.row.bound) (sum_of k values r.row.terms) (r.row.bound *ℤ d) (dot p r.row.terms) d (whole_is r.row.bound d) (sum_is k values d p r.row.terms v z) in
     lowest (x.num *ℤ pos 1) (x.den *ℤ at k r) (product_nonzero x.den (at k r) (positive_is_not_zero x.den i.positive) n)
 
-whole_lowest : (z : ℤ) → IsLowest (whole z)
+pub whole_lowest : (z : ℤ) → IsLowest (whole z)
 whole_lowest z = record { positive = omega (arith, ints); coprime = IsGcd-from_mod (unsigned_abs z) 1 1 (IsGcd-from_zero 1 (unsigned_abs z % 1) (let e : unsigned_abs z % 1 ≡ 0 = omega arith in e)) }
 
 greater_lowest : (best : Option Fraction) (e : Fraction) → IfSome best IsLowest → IsLowest e → IsLowest (greater_end best e)
@@ -268,21 +268,21 @@ bounded_lies k rows values w m =
     let z : without p k k ≡ pos 0 = with_value_here p k (pos 0) in
     let i : Is w (p k) d = last_value k values w d p e m.are_values in
     let held : AllByRecursion (RowHolds d p) all =
-        all_flat_map (RowHolds d p) (RowHolds d p) (halves k) rows (λ r h. halves_keep (RowHolds d p) (nothing_holds d p) (sum_holds d p) k r h) m.holds in
+    all_flat_map (RowHolds d p) (RowHolds d p) (halves k) rows (λ r h. halves_keep (RowHolds d p) (nothing_holds d p) (sum_holds d p) k r h) m.holds in
     let low_ends : AllByRecursion (λ r. AtMost (f r) w) lows =
-        all_weaker (λ r. RowHolds d p r × (is_lower k r ≡ true)) (λ r. AtMost (f r) w) lows
-        (λ r h.
-            let l : at k r <ℤ pos 0 = less_is (at k r) (pos 0) h.1 in
-            above_lower (at k r) d (p k) (room d (without p k) r) w (f r) l a.positive i (end_is k values d (without p k) r a z (negative_nonzero (at k r) l))
-            (takes_room d p k r (stands_as_inequality r.row.kind (dot p r.row.terms) (r.row.bound *ℤ d) h.0)))
-        (all_filter (RowHolds d p) (is_lower k) all held) in
+    all_weaker (λ r. RowHolds d p r × (is_lower k r ≡ true)) (λ r. AtMost (f r) w) lows
+    (λ r h.
+    let l : at k r <ℤ pos 0 = less_is (at k r) (pos 0) h.1 in
+    above_lower (at k r) d (p k) (room d (without p k) r) w (f r) l a.positive i (end_is k values d (without p k) r a z (negative_nonzero (at k r) l))
+    (takes_room d p k r (stands_as_inequality r.row.kind (dot p r.row.terms) (r.row.bound *ℤ d) h.0)))
+    (all_filter (RowHolds d p) (is_lower k) all held) in
     let up_ends : AllByRecursion (λ r. AtMost w (f r)) ups =
-        all_weaker (λ r. RowHolds d p r × (is_upper k r ≡ true)) (λ r. AtMost w (f r)) ups
-        (λ r h.
-            let l : pos 0 <ℤ at k r = less_is (pos 0) (at k r) h.1 in
-            below_upper (at k r) d (p k) (room d (without p k) r) w (f r) l a.positive i (end_is k values d (without p k) r a z (positive_nonzero (at k r) l))
-            (takes_room d p k r (stands_as_inequality r.row.kind (dot p r.row.terms) (r.row.bound *ℤ d) h.0)))
-        (all_filter (RowHolds d p) (is_upper k) all held) in
+    all_weaker (λ r. RowHolds d p r × (is_upper k r ≡ true)) (λ r. AtMost w (f r)) ups
+    (λ r h.
+    let l : pos 0 <ℤ at k r = less_is (pos 0) (at k r) h.1 in
+    below_upper (at k r) d (p k) (room d (without p k) r) w (f r) l a.positive i (end_is k values d (without p k) r a z (positive_nonzero (at k r) l))
+    (takes_room d p k r (stands_as_inequality r.row.kind (dot p r.row.terms) (r.row.bound *ℤ d) h.0)))
+    (all_filter (RowHolds d p) (is_upper k) all held) in
     lies_from f (lower_end k values lows) (upper_end k values ups) w lows ups i.positive
     (best_low k values lows (all_weaker (λ r. AtMost (f r) w) (λ r. pos 0 <ℤ (f r).den) lows (λ r h. h.left) low_ends))
     (best_up k values ups (all_weaker (λ r. AtMost w (f r)) (λ r. pos 0 <ℤ (f r).den) ups (λ r h. h.right) up_ends))
@@ -299,8 +299,8 @@ forced_is k rows values w e g t q =
     let z : without p k k ≡ pos 0 = with_value_here p k (pos 0) in
     let n : at k e ≢ pos 0 = unit_nonzero (at k e) (pivot_is_unit k e t) in
     let h : RowHolds d p e =
-        (subst (λ (o : Option DerivedRow). MatchOption o (Unit {0}) (λ r. RowHolds d p r × (is_pivot k r ≡ true))) g
-        (all_first (RowHolds d p) (is_pivot k) rows m.holds)).0 in
+    (subst (λ (o : Option DerivedRow). MatchOption o (Unit {0}) (λ r. RowHolds d p r × (is_pivot k r ≡ true))) g
+    (all_first (RowHolds d p) (is_pivot k) rows m.holds)).0 in
     let c : e.row.kind ≡ Eq = equality_is e.row.kind (and_parts (is_equality e.row.kind) (nat_eq (unsigned_abs (at k e)) 1) t).0 in
     let o : dot p e.row.terms ≡ e.row.bound *ℤ d = subst (λ (kind : RowKind). Stands kind (dot p e.row.terms) (e.row.bound *ℤ d)) c h in
     at_forced (at k e) d (p k) (room d (without p k) e) w (end_of k values e) n a.positive (last_value k values w d p s m.are_values)
@@ -381,7 +381,7 @@ slice_shorter k rows before u l s = by_rest s.0 s.1
     by_rest (x ∷ xs) q =
         let r = last_of x xs in
         let e : before ++ u ∷ x ∷ xs ≡ (before ++ u ∷ r.0) ++ r.1.0 ∷ [] =
-            ap (λ (ys : List Fraction). before ++ u ∷ ys) r.1.1 ∙ sym (append_assoc before (u ∷ r.0) (r.1.0 ∷ [])) in
+        ap (λ (ys : List Fraction). before ++ u ∷ ys) r.1.1 ∙ sym (append_assoc before (u ∷ r.0) (r.1.0 ∷ [])) in
         (r.0, shorter_one k rows (before ++ u ∷ r.0) r.1.0 (subst (IsOne (suc k) rows) e q))
 
 extended_picked : (k : ℕ) (rows : List DerivedRow) (o : Outcome) → IfPoint o (IsPicked (IsOne k (step k rows).rows)) →
