@@ -3,3 +3,4 @@ pub mod NodeLaws
 pub mod LeafSteps
 pub mod WalkLaws
 pub mod TreeLaws
+pub mod AlikeLaws

@@ -11,7 +11,7 @@ mod walk;
 
 ghost use Rattle.std.specs.Prelude.{ℕ, ℤ, ◌↔◌, IsTrue, List};
 ghost use Rattle.lin_rows.specs.declared.systems.System.{System};
-ghost use Rattle.lin_rows.specs.Systems.{Meets};
+ghost use Rattle.lin_rows.specs.Systems.{Meets, SaysSame};
 ghost use Rattle.farkas_check.specs.Nodes.{PlainNode, is_tree};
 ghost use Rattle.farkas_check.specs.Refutes.{goal_of, Refutes};
 ghost use Rattle.farkas_check.specs.Trees.{Tree, prefix_of, TreeRefutes, IsPrefixList};
@@ -34,4 +34,9 @@ pub fn prefix_list_refutes_as_tree()
 /// A list is the prefix list of a tree exactly where the trees that its nodes ask for are all there.
 pub fn prefix_lists_are_counted()
     ensures { (nodes : List PlainNode) → IsTrue (is_tree nodes) ↔ IsPrefixList nodes }
+{}
+
+/// Systems that say the same have the same refutations: equal rows, and groups whose members say the same in order.
+pub fn alike_systems_are_refuted_alike()
+    ensures { (nodes : List PlainNode) (a b : System) → SaysSame a b → Refutes nodes a ↔ Refutes nodes b }
 {}

@@ -1,8 +1,9 @@
 ghost use Rattle.std.specs.Prelude.{◌≢◌, pos, IfOk, OnErr};
 ghost use Rattle.frac.specs.Fractions.{IsFraction, IsRatio, IsTooLarge};
 
-use crate::numbers::{differ_in_sign, greatest_divisor, signed};
+use crate::numbers::{differ_in_sign, signed};
 use crate::types::{Frac, Past};
+use math_facts::greatest_divisor;
 
 /// The fraction `n/d`. Past comes exactly where a part does not fit in lowest terms.
 pub fn of(n: i128, d: i128) -> Result<Frac, Past>

@@ -8,20 +8,7 @@ ghost use Rattle.frac.specs.Reduced.{Reduces};
 ghost use Rattle.frac.specs.Signs.{differ_in_sign, with_sign};
 
 use crate::types::Past;
-
-/// The greatest common divisor (Euclid).
-pub fn greatest_divisor(a: u128, b: u128) -> u128
-    ensures { IsGcd a b result }
-{
-    let mut x = a;
-    let mut y = b;
-    while y != 0 {
-        let rest = x % y;
-        x = y;
-        y = rest;
-    }
-    x
-}
+use math_facts::greatest_divisor;
 
 /// The greatest common divisor of a number and a positive one.
 pub fn common_divisor(a: i128, b: i128) -> i128

@@ -10,3 +10,4 @@ mod MakingLemmas
 pub mod PointLemmas
 pub mod NegatingLemmas
 pub mod SystemLaws
+pub mod DivisorLaws

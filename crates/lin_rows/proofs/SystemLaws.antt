@@ -58,6 +58,9 @@ same_opened a b =
     (λ X is same a b. (a.rows.items ≡ rows_of b) × RelatedInPairs (RelatedInPairs same) (members_of a.groups.items) (groups_of b))
     (λ X f R a i b. (a.rows.items ≡ rows_of b) × RelatedInPairs-mapped R f a.groups.items (groups_of b) i) (out-System a))
 
+pub same_open : (a b : System) → SaysSame a b → (rows_of a ≡ rows_of b) × RelatedInPairs (RelatedInPairs SaysSame) (groups_of a) (groups_of b)
+same_open a b h = subst (λ (T : Type 0). T) (same_opened a b) h
+
 -- ---- copies
 
 -- a relation that follows from another

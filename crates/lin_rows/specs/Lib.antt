@@ -7,3 +7,4 @@ pub mod Combinations
 pub mod Negating
 pub mod Points
 pub mod Systems
+pub mod Divisors

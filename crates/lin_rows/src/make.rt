@@ -3,8 +3,10 @@ ghost use Rattle.math_facts.specs.Terms.{coefficient, dot};
 ghost use Rattle.lin_rows.specs.Rows.{AscendsFrom, IsRow, Stands, Holds};
 ghost use Rattle.lin_rows.specs.Sums.{row_of, SumsFit};
 ghost use Rattle.lin_rows.specs.Making.{AreSummed, TermsFit};
+ghost use Rattle.lin_rows.specs.Systems.{groups_of, members_of, rows_of};
 
 use crate::merging::merged;
+use crate::systems::System;
 use crate::types::{Col, Row, RowFault, RowKind, Terms};
 use std::alloc::{AllocError, Global};
 
@@ -62,4 +64,12 @@ fn ascending_len(terms: &[(Col, i128)]) -> usize
         end += 1;
     }
     end
+}
+
+/// The system of these rows and groups.
+pub fn system(rows: Vec<Row>, groups: Vec<Vec<System>>) -> System
+    ensures rows { rows_of result ≡ rows.items }
+    ensures groups { groups_of result ≡ members_of groups.items }
+{
+    System { rows, groups }
 }

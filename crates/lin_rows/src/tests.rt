@@ -216,15 +216,11 @@ fn rows_hold_at_points(rt: HostRuntime) -> Result<(), Fail> {
 #[test]
 fn systems_are_copied(rt: HostRuntime) -> Result<(), Fail> {
     let alloc = rt.alloc();
-    let member = System {
-        rows: vec![in alloc; row(alloc, &[(0, 1)], LE, 2)?]?,
-        groups: vec![in alloc; Vec::new(alloc)]?,
-    };
-    let system = System {
-        rows: vec![in alloc; row(alloc, &[(1, 3)], EQ, 4)?, row(alloc, &[], LE, 0)?]?,
-        groups: vec![in alloc; vec![in alloc; member]?]?,
-    };
-    let copy = system.copy()?;
+    let inner = vec![in alloc; row(alloc, &[(0, 1)], LE, 2)?]?;
+    let member = system(inner, vec![in alloc; Vec::new(alloc)]?);
+    let rows = vec![in alloc; row(alloc, &[(1, 3)], EQ, 4)?, row(alloc, &[], LE, 0)?]?;
+    let whole = system(rows, vec![in alloc; vec![in alloc; member]?]?);
+    let copy = whole.copy()?;
     shared(&copy);
     assert_eq!(rt; copy.rows.len(), 2);
     assert_eq!(rt; copy.rows[0].terms(), [(1, 3)].as_slice());

@@ -1,10 +1,10 @@
 ghost use Rattle.std.specs.Prelude.{◌≡◌, ◌↔◌, ℕ, ℤ, pos, ◌<ℤ◌, unsigned_abs, IsTrue, IfOk, OnOk};
 ghost use Rattle.std.specs.List.{AllByRecursion};
-ghost use Rattle.std.specs.Int.{IsGcd};
 ghost use Rattle.lin_rows.specs.Rows.{IsCoefficient, IsRow, Holds};
 ghost use Rattle.lin_rows.specs.Tightening.{all_divisible, content, divided, tightened};
 
 use crate::types::{Col, Row, RowKind, Terms};
+use math_facts::greatest_divisor;
 use std::alloc::{AllocError, Global};
 
 /// The row divided by the greatest common divisor of its coefficients, its bound rounded down. An equality whose
@@ -40,20 +40,6 @@ fn content(terms: &[(Col, i128)]) -> u128
         }
     }
     divisor
-}
-
-/// The greatest common divisor (Euclid).
-fn greatest_divisor(a: u128, b: u128) -> u128
-    ensures { IsGcd a b result }
-{
-    let mut x = a;
-    let mut y = b;
-    while y != 0 {
-        let rest = x % y;
-        x = y;
-        y = rest;
-    }
-    x
 }
 
 /// Each coefficient divided.

@@ -1,0 +1,11 @@
+//! Boogie programs with their names replaced by numbers: their trees, the values and affine forms of expressions, and the typing rules of expressions.
+#![tactic(auto)]
+
+mod fault;
+mod scope;
+mod types;
+
+pub use boogie_tree::{Column, Op, Span, Text, Ty, VarInfo};
+pub use fault::{AffineFault, TypeFault};
+pub use scope::Scope;
+pub use types::{Affine, TExpr, TExprKind, TGuard, TInv, TProc, TSpec, TStmt};

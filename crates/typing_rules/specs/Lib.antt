@@ -1,0 +1,7 @@
+pub mod Names
+pub mod TypedParts
+pub mod Rules
+pub mod Shape
+pub mod Counts
+pub mod ValidProgram
+pub mod BrokenTyping

@@ -1,0 +1,36 @@
+-- How names are spelled.
+use Rattle.std.specs.Prelude.{ℕ, Bool, false, not, ◌&&◌, ◌||◌, nat_le, nat_eq, List, [], ◌∷◌, codes}
+use Rattle.std.specs.List.{list_all, list_any}
+
+abbrev pub is_digit : ℕ → Bool
+is_digit b = nat_le 48 b && nat_le b 57
+
+abbrev pub is_letter : ℕ → Bool
+is_letter b = (nat_le 65 b && nat_le b 90) || (nat_le 97 b && nat_le b 122)
+
+-- a byte of a name
+abbrev pub is_name_byte : ℕ → Bool
+is_name_byte b = is_letter b || (is_digit b || list_any (nat_eq b) (codes "_.$#'`~^?\\"))
+
+-- bytes of a name, of which the first is no digit
+abbrev pub is_name : List ℕ → Bool
+is_name [] = false
+is_name (b ∷ bs) = not (is_digit b) && list_all is_name_byte (b ∷ bs)
+
+-- digits, or a name
+abbrev pub is_name_or_number : List ℕ → Bool
+is_name_or_number [] = false
+is_name_or_number (b ∷ bs) = list_all is_digit (b ∷ bs) || is_name (b ∷ bs)
+
+-- the letter of a name that the program makes: `h` of a hidden local, `m` of a part
+abbrev pub is_mark : ℕ → Bool
+is_mark b = nat_eq b 104 || nat_eq b 109
+
+-- `h:` or `m:`, followed by digits or a name
+abbrev pub is_made : List ℕ → Bool
+is_made (a ∷ b ∷ bs) = is_mark a && (nat_eq b 58 && is_name_or_number bs)
+is_made bs = false
+
+-- a name as it may stand in a typed program
+abbrev pub is_spelled : List ℕ → Bool
+is_spelled bs = is_name bs || is_made bs
