@@ -25,15 +25,15 @@ wider d p k v = with_value (λ c. p c *ℤ v.den) k (v.num *ℤ d)
 
 -- ---- the values
 
-at_end : (values : List Fraction) (v : Fraction) (c : ℕ) → length values ≡ c → value_at (values ++ v ∷ []) c ≡ v
+pub at_end : (values : List Fraction) (v : Fraction) (c : ℕ) → length values ≡ c → value_at (values ++ v ∷ []) c ≡ v
 at_end values v c e = subst (λ (n : ℕ). get_or (values ++ v ∷ []) n (whole (pos 0)) ≡ v) e (get_or-append_seam values v [] (whole (pos 0)))
 
-past_end : (values : List Fraction) (c : ℕ) → length values ≤ c → value_at values c ≡ whole (pos 0)
+pub past_end : (values : List Fraction) (c : ℕ) → length values ≤ c → value_at values c ≡ whole (pos 0)
 past_end [] c l = refl
 past_end (x ∷ values) zero l = absurd (omega arith)
 past_end (x ∷ values) (suc c) l = past_end values c (omega arith)
 
-not_at_end : (values : List Fraction) (v : Fraction) (c : ℕ) → (length values ≡ c → ⊥) → value_at (values ++ v ∷ []) c ≡ value_at values c
+pub not_at_end : (values : List Fraction) (v : Fraction) (c : ℕ) → (length values ≡ c → ⊥) → value_at (values ++ v ∷ []) c ≡ value_at values c
 not_at_end [] v zero n = absurd (n refl)
 not_at_end [] v (suc c) n = refl
 not_at_end (x ∷ values) v zero n = refl

@@ -10,6 +10,9 @@ pub mod Between
 pub mod Extending
 pub mod Points
 pub mod Soundness
+pub mod Picks
+pub mod Slicing
+pub mod PickedPoints
 pub mod Exits
 pub mod Coefficients
 pub mod StepLemmas

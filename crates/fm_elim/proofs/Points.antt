@@ -121,10 +121,10 @@ ends_in_order al au d rl ru el eu p q s h i j =
       order = cancel_order mu (el.num *ℤ eu.den) (eu.num *ℤ el.den) (positive_product au d q s) (omega (arith, ints));
     }
 
-negative_nonzero : (z : ℤ) → z <ℤ pos 0 → z ≢ pos 0
+pub negative_nonzero : (z : ℤ) → z <ℤ pos 0 → z ≢ pos 0
 negative_nonzero z p e = omega (arith, ints)
 
-positive_nonzero : (z : ℤ) → pos 0 <ℤ z → z ≢ pos 0
+pub positive_nonzero : (z : ℤ) → pos 0 <ℤ z → z ≢ pos 0
 positive_nonzero z p e = omega (arith, ints)
 
 pair_in_order : (d : ℤ) (p : ℕ → ℤ) (k : ℕ) (values : List Fraction) (u l : DerivedRow) → AreValues values d p → p k ≡ pos 0 →
@@ -149,7 +149,7 @@ le_sum Eq = refl
 abbrev pub IsInequality : ℕ → DerivedRow → Type 0
 IsInequality k r = has k r ≡ true → r.row.kind ≡ Le
 
-halves_are_inequalities : (k : ℕ) (r : DerivedRow) → AllByRecursion (IsInequality k) (halves k r)
+pub halves_are_inequalities : (k : ℕ) (r : DerivedRow) → AllByRecursion (IsInequality k) (halves k r)
 halves_are_inequalities k r = by_test (is_equality r.row.kind && has k r) refl
   where
     by_kind : (kind : RowKind) (b : Bool) → (is_equality kind && b) ≡ false → b ≡ true → kind ≡ Le
@@ -212,12 +212,12 @@ pub passing : (f : DerivedRow → Bool) (rows : List DerivedRow) → AllByRecurs
 passing f rows =
     all_weaker (λ r. Anything r × (f r ≡ true)) (λ r. f r ≡ true) (filter f rows) (λ r i. i.1) (all_filter Anything f rows (all_always Anything rows (λ r. tt)))
 
-best_low : (k : ℕ) (values : List Fraction) (rows : List DerivedRow) → AllByRecursion (λ r. pos 0 <ℤ (end_of k values r).den) rows →
+pub best_low : (k : ℕ) (values : List Fraction) (rows : List DerivedRow) → AllByRecursion (λ r. pos 0 <ℤ (end_of k values r).den) rows →
     IsBest AtMost (end_of k values) (lower_end k values rows) rows
 best_low k values rows h =
     best_is AtMost at_most_refl at_most_trans (λ a b i. i.right) greater greater_left greater_right greater_least (end_of k values) (raised k values) (λ r. refl) (λ m r. refl) rows h
 
-best_up : (k : ℕ) (values : List Fraction) (rows : List DerivedRow) → AllByRecursion (λ r. pos 0 <ℤ (end_of k values r).den) rows →
+pub best_up : (k : ℕ) (values : List Fraction) (rows : List DerivedRow) → AllByRecursion (λ r. pos 0 <ℤ (end_of k values r).den) rows →
     IsBest AtLeast (end_of k values) (upper_end k values rows) rows
 best_up k values rows h =
     best_is AtLeast at_most_refl (λ a b c i j. at_most_trans c b a j i) (λ a b i. i.left) less less_left less_right less_greatest (end_of k values) (lowered k values) (λ r. refl) (λ m r. refl) rows h
@@ -317,7 +317,7 @@ uncleared d p k e r q i h = by_test (has k r) h
         (subst (λ (kind : RowKind). Stands (sum_kind r.row.kind kind) (dot p r.row.terms +ℤ (m *ℤ dot p e.row.terms)) ((r.row.bound +ℤ (m *ℤ e.row.bound)) *ℤ d)) q s)
     by_test false j = j
 
-unit_nonzero : (z : ℤ) → unsigned_abs z ≡ 1 → z ≢ pos 0
+pub unit_nonzero : (z : ℤ) → unsigned_abs z ≡ 1 → z ≢ pos 0
 unit_nonzero z e h = omega (arith, ints)
 
 forced_all : (d : ℤ) (p : ℕ → ℤ) (k : ℕ) (values : List Fraction) (e : DerivedRow) (rows : List DerivedRow) → AreValues values d p → p k ≡ pos 0 →
@@ -371,7 +371,7 @@ abbrev pub IfPoint : Outcome → (List Fraction → Type 0) → Type 0
 IfPoint (refuted parts) P = Unit {0}
 IfPoint (point values) P = P values
 
-step_meets : (k : ℕ) (rows : List DerivedRow) (values : List Fraction) → MeetsRows k (step k rows).rows values →
+pub step_meets : (k : ℕ) (rows : List DerivedRow) (values : List Fraction) → MeetsRows k (step k rows).rows values →
     MeetsRows (suc k) rows (values ++ value_of k values (step k rows).aside ∷ [])
 step_meets k rows values m =
     let v : Fraction = value_of k values (step k rows).aside in
@@ -394,7 +394,7 @@ extended_meets : (k : ℕ) (rows : List DerivedRow) (o : Outcome) → IfPoint o 
 extended_meets k rows (refuted parts) h = tt
 extended_meets k rows (point values) h = step_meets k rows values h
 
-unless_false_meets : (o : Option DerivedRow) (rest : Outcome) (P : List Fraction → Type 0) → (o ≡ None → IfPoint rest P) → IfPoint (unless_false o rest) P
+pub unless_false_meets : (o : Option DerivedRow) (rest : Outcome) (P : List Fraction → Type 0) → (o ≡ None → IfPoint rest P) → IfPoint (unless_false o rest) P
 unless_false_meets None rest P h = h refl
 unless_false_meets (Some r) rest P h = tt
 
@@ -411,7 +411,7 @@ no_columns [] Eq bound a n c e = by_test (is_zero bound) refl e
     by_test false f g = absurd (cc)
 no_columns (t ∷ ts) kind bound a n c e = absurd (n.0 (sym (coefficient_first t.0 t ts a.1 refl) ∙ c t.0))
 
-none_meets : (rows : List DerivedRow) → AllByRecursion (IsClear 0) rows → AllByRecursion IsOrdered rows → first is_false rows ≡ None → MeetsRows 0 rows []
+pub none_meets : (rows : List DerivedRow) → AllByRecursion (IsClear 0) rows → AllByRecursion IsOrdered rows → first is_false rows ≡ None → MeetsRows 0 rows []
 none_meets rows c o e = record {
   columns = refl;
   d = pos 1;

@@ -16,7 +16,7 @@ use Rattle.fm_elim.proofs.Multipliers.{IfRefuted, solve_refutes}
 use Rattle.fm_elim.proofs.Inputs.{inputs_are_made, inputs_are_clear, inputs_are_ordered}
 use Rattle.fm_elim.proofs.Points.{RowHolds, MeetsRows, IfPoint, solve_meets}
 
-inputs_hold : (d : ℤ) (p : ℕ → ℤ) (n : ℕ) (rows : List LinearRow) → AllByRecursion (RowHolds d p) (inputs n rows) → AllByRecursion (HoldsAt d p) (map tightened rows)
+pub inputs_hold : (d : ℤ) (p : ℕ → ℤ) (n : ℕ) (rows : List LinearRow) → AllByRecursion (RowHolds d p) (inputs n rows) → AllByRecursion (HoldsAt d p) (map tightened rows)
 inputs_hold d p n [] h = tt
 inputs_hold d p n (r ∷ rs) h = (h.0, inputs_hold d p (suc n) rs h.1)
 

@@ -7,3 +7,4 @@ pub mod Values
 pub mod Elimination
 pub mod Climb
 pub mod Worth
+pub mod Slices

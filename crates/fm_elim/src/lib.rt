@@ -15,12 +15,14 @@ mod tests;
 mod types;
 mod values;
 
-ghost use Rattle.std.specs.Prelude.{ℕ, ℤ, List, map};
+ghost use Rattle.std.specs.Prelude.{◌≡◌, ℕ, ℤ, List, map};
 ghost use Rattle.std.specs.List.{AllByRecursion};
 ghost use Rattle.lin_rows.specs.Rows.{LinearRow, IsRow};
 ghost use Rattle.lin_rows.specs.Tightening.{tightened};
 ghost use Rattle.fm_elim.specs.Worth.{Combines, IsSolvable, IsWorth, ColumnsBelow};
 ghost use Rattle.fm_elim.specs.Elimination.{elimination};
+ghost use Rattle.fm_elim.specs.Slices.{IsPicked, IsPoint, IsPickedOutcome};
+ghost use Rattle.frac.specs.Fractions.{Fraction};
 
 pub use solving::eliminate;
 pub use types::{Elim, ElimFault};
@@ -35,4 +37,18 @@ pub fn combination_is_sound()
 pub fn elimination_is_sound()
     ensures { (columns : ℕ) (rows : List LinearRow) → AllByRecursion IsRow rows → ColumnsBelow columns rows →
         IsWorth columns (map tightened rows) (elimination columns rows) }
+{}
+
+/// The elimination refutes exactly where the tightened rows have no rational point, and else its point is the picked one:
+/// column by column, of the values with which a point of the rows begins, after the values before it, the whole number nearest
+/// 0, or the least where none is whole.
+pub fn the_point_is_picked()
+    ensures { (columns : ℕ) (rows : List LinearRow) → AllByRecursion IsRow rows → ColumnsBelow columns rows →
+        IsPickedOutcome columns (map tightened rows) (elimination columns rows) }
+{}
+
+/// Rows have one picked point at most, so a point that is picked is that of the elimination.
+pub fn picked_points_are_one()
+    ensures { (columns : ℕ) (rows : List LinearRow) (x y : List Fraction) →
+        IsPicked (IsPoint columns rows) x → IsPicked (IsPoint columns rows) y → x ≡ y }
 {}

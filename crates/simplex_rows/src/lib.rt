@@ -1,0 +1,14 @@
+//! A simplex over rows with exact fractions: rows that no rational point meets are mostly refuted by multipliers after a few
+//! pivots, and others are mostly met by a point. What it finds is a proposal, to be checked by whoever takes it.
+#![tactic(auto)]
+
+mod forms;
+mod numbers;
+mod solving;
+mod tableau;
+#[cfg(test)]
+mod tests;
+mod types;
+
+pub use solving::try_solve;
+pub use types::Found;

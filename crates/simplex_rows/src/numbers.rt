@@ -1,0 +1,50 @@
+//! Whole numbers that fit.
+
+use crate::types::Stop;
+use frac::{Frac, den, of};
+
+/// A whole number as a fraction.
+pub fn whole(n: i128) -> Result<Frac, Stop> {
+    Ok(of(n, 1)?)
+}
+
+/// The fraction `n/d`.
+pub fn ratio(n: i128, d: i128) -> Result<Frac, Stop> {
+    if d == 0 {
+        return Err(Stop::Past);
+    }
+    Ok(of(n, d)?)
+}
+
+/// `n*a + m*b`.
+pub fn combination(n: i128, a: i128, m: i128, b: i128) -> Result<i128, Stop> {
+    let (Some(left), Some(right)) = (n.checked_mul(a), m.checked_mul(b)) else {
+        return Err(Stop::Past);
+    };
+    left.checked_add(right).ok_or(Stop::Past)
+}
+
+/// `n*a`.
+pub fn product(n: i128, a: i128) -> Result<i128, Stop> {
+    n.checked_mul(a).ok_or(Stop::Past)
+}
+
+/// A common divisor of a positive number and another, the greatest where both fit.
+pub fn common_divisor(positive: i128, other: i128) -> i128 {
+    if positive == 0 {
+        return 1;
+    }
+    match of(other, positive) {
+        Ok(lowest) => quotient(positive, den(&lowest)),
+        Err(_) => 1,
+    }
+}
+
+/// The number divided by a positive one.
+pub fn quotient(number: i128, positive: i128) -> i128 {
+    if positive > 1 {
+        number / positive
+    } else {
+        number
+    }
+}
