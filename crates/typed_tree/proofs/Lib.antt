@@ -4,3 +4,4 @@ pub mod Scaled
 pub mod Divisors
 pub mod Parts
 pub mod Broken
+pub mod FormParts

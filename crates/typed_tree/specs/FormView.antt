@@ -1,7 +1,9 @@
 -- The forms of the code, and the typed parts of expressions, as contracts see them.
-use Rattle.std.specs.Prelude.{◌≡◌, Bool, true, Some, ◌⊎◌, Result, MatchResult}
+use Rattle.std.specs.Prelude.{◌≡◌, Bool, true, false, Some, ◌⊎◌, Result, MatchResult}
 use Rattle.boogie_tree.specs.declared.tree.Ty.{Ty}
 use Rattle.typed_tree.specs.declared.form.Form as code
+use Rattle.typed_tree.specs.declared.fault.AffineFault.{AffineFault}
+use Rattle.typed_tree.specs.declared.fault.AffineFault.TheVariants as affine
 use Rattle.typed_tree.specs.declared.fault.TypeFault.{TypeFault}
 use Rattle.typed_tree.specs.declared.fault.TypeFault.TheVariants as fault
 use Rattle.typed_tree.specs.declared.typing.Part.{Part}
@@ -41,3 +43,12 @@ IsNegAnswer at p r = (s : Scope) (old : Bool) (e : TypedExpression) → IsPart s
 abbrev pub IsOperationAnswer : Span → Op → TypedExpression → Part → Part → Result Part TypeFault → Type 0
 IsOperationAnswer at op b p q r =
     (s : Scope) (old : Bool) (a : TypedExpression) → IsPart s old a p → IsPart s old b q → IsAnswer s old (Bin at op a b) r
+
+-- the form of an expression each part of which fits
+pub record IsForm (old : Bool) (e : TypedExpression) (f : code.Form) : Type 0 where
+  pub seen : form_of f ≡ form old e
+  pub fit : forms_fit old e ≡ true
+
+-- the form, or the fault that a part does not fit
+abbrev pub IsFormAnswer : Bool → TypedExpression → Result code.Form AffineFault → Type 0
+IsFormAnswer old e r = MatchResult r (IsForm old e) (λ f. f ≡ affine.TooBig → forms_fit old e ≡ false)

@@ -10,3 +10,4 @@ pub mod FormOrder
 pub mod FormView
 pub mod BrokenOperation
 pub mod Merging
+pub mod Laws

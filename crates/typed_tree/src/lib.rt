@@ -5,6 +5,8 @@ mod columns;
 mod copying;
 mod fault;
 mod form;
+mod forms;
+pub mod laws;
 mod merging;
 mod numbers;
 mod operations;
@@ -14,6 +16,7 @@ mod typing;
 
 pub use boogie_tree::{Column, Op, Span, Text, Ty, VarInfo};
 pub use fault::{AffineFault, TypeFault};
+pub use forms::affine;
 pub use scope::Scope;
 pub use types::{Affine, TExpr, TExprKind, TGuard, TInv, TProc, TSpec, TStmt};
 pub use typing::expression_type;
