@@ -1,0 +1,65 @@
+-- The forms of affine expressions have no quotients.
+use Rattle.std.proofs.Common.{◌≡◌, Bool, true, false, ◌&&◌, ◌||◌, ℤ, negsuc, pos, List, [], ◌++◌, ◌*ℤ◌, map, Result, Ok, Err, IfOk, if◌then◌else◌, refl, ap, sym, ◌∙◌}
+use Rattle.std.specs.List.{list_all}
+use Rattle.std.proofs.lemmas.Bool.{and_parts, and_from, and_left, and_right, false≢true}
+use Rattle.boogie_tree.specs.declared.span.Span.{Span}
+use Rattle.boogie_tree.specs.declared.tree.Op.{Op}
+use Rattle.boogie_tree.specs.declared.tree.Op.TheVariants.{Iff, Implies, And, Or, Eq, Ne, Lt, Le, Gt, Ge, Add, Sub, Mul, Div, Mod}
+use Rattle.typed_tree.specs.declared.form.Form as code
+use Rattle.typed_tree.specs.declared.fault.AffineFault.{AffineFault}
+use Rattle.typed_tree.specs.declared.fault.AffineFault.TheVariants as affine
+use Rattle.typed_tree.specs.TypedTree.{TypedExpression, Lit, Truth, Var, Old, Not, Neg, Bin}
+use Rattle.typed_tree.specs.AffineForm.{Form, form, forms_fit, form_fits, fits, times, scaled, number, plus, product, operation, is_zero, is_constant, is_affine, is_affine_operator}
+use Rattle.typed_tree.specs.FormOrder.{terms_fit}
+use Rattle.typed_tree.specs.FormView.{form_of, IsForm, IsFormAnswer}
+
+-- ---- no quotient stands in an affine form
+
+times_plain : (m : ℤ) (b : Form) → b.quotients ≡ [] → (times m b).quotients ≡ []
+times_plain m b h = by_test (is_zero m)
+  where
+    by_test : (z : Bool) → (if z then number (pos 0) else scaled m b).quotients ≡ []
+    by_test true = refl
+    by_test false = ap (map (λ q. m *ℤ q)) h
+
+product_plain : (a b : Form) → a.quotients ≡ [] → b.quotients ≡ [] → (product a b).quotients ≡ []
+product_plain a b h k = by_test (is_constant a)
+  where
+    by_test : (z : Bool) → (if z then times a.constant b else times b.constant a).quotients ≡ []
+    by_test true = times_plain a.constant b k
+    by_test false = times_plain b.constant a h
+
+operation_plain : (op : Op) (a b : Form) → is_affine_operator op ≡ true → a.quotients ≡ [] → b.quotients ≡ [] → (operation op a b).quotients ≡ []
+operation_plain Add a b e h k = rw (h, k) refl
+operation_plain Sub a b e h k = rw (h, times_plain (negsuc 0) b k) refl
+operation_plain Mul a b e h k = product_plain a b h k
+operation_plain Div a b e h k = absurd (false≢true e)
+operation_plain Mod a b e h k = absurd (false≢true e)
+operation_plain Iff a b e h k = refl
+operation_plain Implies a b e h k = refl
+operation_plain And a b e h k = refl
+operation_plain Or a b e h k = refl
+operation_plain Eq a b e h k = refl
+operation_plain Ne a b e h k = refl
+operation_plain Lt a b e h k = refl
+operation_plain Le a b e h k = refl
+operation_plain Gt a b e h k = refl
+operation_plain Ge a b e h k = refl
+
+pub affine_plain : (old : Bool) (e : TypedExpression) → is_affine e ≡ true → (form old e).quotients ≡ []
+affine_plain old (Lit at n) h = refl
+affine_plain old (Truth at b) h = refl
+affine_plain old (Var at c) h = refl
+affine_plain old (Old at e) h = affine_plain true e h
+affine_plain old (Not at e) h = refl
+affine_plain old (Neg at e) h = times_plain (negsuc 0) (form old e) (affine_plain old e h)
+affine_plain old (Bin at op a b) h =
+    let p = and_parts (is_affine_operator op) (is_affine a && is_affine b) h in
+    let q = and_parts (is_affine a) (is_affine b) p.1 in
+    operation_plain op (form old a) (form old b) p.0 (affine_plain old a q.0) (affine_plain old b q.1)
+
+pub affine_form : (e : TypedExpression) (f : code.Form) → is_affine e ≡ true → IsForm false e f →
+    ◌≡◌ {A = Form} (form false e) (record { terms = f.terms.items; quotients = []; constant = f.constant })
+affine_form e f h k =
+    let q : f.quotients.items ≡ [] = ap (λ (a : Form). a.quotients) k.seen ∙ affine_plain false e h in
+    sym k.seen ∙ (λ i. record { terms = f.terms.items; quotients = q i; constant = f.constant })

@@ -1,0 +1,60 @@
+//! The affine forms of whole-number expressions.
+
+ghost use Rattle.std.specs.Prelude.{◌≡◌, true, false, [], Err, IfOk, IsOk};
+ghost use Rattle.typed_tree.specs.TypedView.{expression};
+ghost use Rattle.typed_tree.specs.AffineForm.{form, is_affine, is_linear, forms_fit};
+ghost use Rattle.typed_tree.specs.FormView.{IsFormAnswer};
+
+use crate::columns::read_at;
+use crate::fault::AffineFault;
+use crate::form::Form;
+use crate::operations::{operation, times};
+use crate::types::{Affine, TExpr, TExprKind};
+use std::alloc::Global;
+
+/// The affine form of a whole-number expression without `div` and `mod`: exact, its columns ascending, no coefficient 0.
+/// `TooBig` comes exactly where a coefficient or constant of the form of a part does not fit.
+pub fn affine(alloc: Global, expr: &TExpr) -> Result<Affine, AffineFault>
+    requires kind { is_affine (expression expr.now) ≡ true }
+    requires products { is_linear false (expression expr.now) ≡ true }
+    ensures form { IfOk result (λ a. form false (expression expr.now) ≡ record { terms = a.terms.items; quotients = []; constant = a.constant }) }
+    ensures fits { IsOk result → forms_fit false (expression expr.now) ≡ true }
+    ensures too_big { result ≡ Err AffineFault.TooBig → forms_fit false (expression expr.now) ≡ false }
+{
+    let Form {
+        terms,
+        quotients: _,
+        constant,
+    } = form_of(alloc, false, expr)?;
+    Ok(Affine { terms, constant })
+}
+
+/// The form of an expression that is read at the procedure's entry or now; 0 of what is no whole number.
+fn form_of(alloc: Global, old: bool, expr: &TExpr) -> Result<Form, AffineFault>
+    ensures { IsFormAnswer old (expression expr.now) result }
+{
+    match &expr.kind {
+        TExprKind::Lit(n) => {
+            if *n == i128::MIN {
+                return Err(AffineFault::TooBig);
+            }
+            Ok(Form::number(alloc, *n))
+        }
+        TExprKind::Truth(_) => Ok(Form::number(alloc, 0)),
+        TExprKind::Var(column) => Ok(Form::once(alloc, read_at(old, *column))?),
+        TExprKind::Old(inner) => form_of(alloc, true, inner),
+        TExprKind::Not(inner) => {
+            let _form = form_of(alloc, old, inner)?;
+            Ok(Form::number(alloc, 0))
+        }
+        TExprKind::Neg(inner) => {
+            let form = form_of(alloc, old, inner)?;
+            times(alloc, -1, &form)
+        }
+        TExprKind::Bin(op, left, right) => {
+            let first = form_of(alloc, old, left)?;
+            let second = form_of(alloc, old, right)?;
+            operation(alloc, *op, &first, &second)
+        }
+    }
+}
