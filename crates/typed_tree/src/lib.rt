@@ -1,6 +1,7 @@
 //! Boogie programs with their names replaced by numbers: their trees, the values and affine forms of expressions, and the typing rules of expressions.
 #![tactic(auto)]
 
+mod copying;
 mod fault;
 mod scope;
 mod types;
