@@ -1,10 +1,14 @@
 //! Boogie programs with their names replaced by numbers: their trees, the values and affine forms of expressions, and the typing rules of expressions.
 #![tactic(auto)]
 
+mod columns;
 mod copying;
 mod fault;
+mod form;
+mod numbers;
 mod scope;
 mod types;
+mod typing;
 
 pub use boogie_tree::{Column, Op, Span, Text, Ty, VarInfo};
 pub use fault::{AffineFault, TypeFault};
