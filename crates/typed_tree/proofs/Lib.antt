@@ -1,0 +1,4 @@
+pub mod ColumnOrder
+pub mod Merged
+pub mod Scaled
+pub mod Divisors

@@ -8,3 +8,5 @@ pub mod KeptRules
 pub mod BrokenRules
 pub mod FormOrder
 pub mod FormView
+pub mod BrokenOperation
+pub mod Merging
