@@ -1,5 +1,7 @@
 -- Divisors: what their literal says.
-use Rattle.std.proofs.Common.{◌≡◌, Bool, true, false, zero, suc, ℤ, pos, negsuc, neg_ℤ, Option, None, Some, refl, ap, sym, ◌∙◌, nat_eq}
+use Rattle.std.proofs.Common.{◌≡◌, Bool, true, false, zero, suc, ℤ, pos, negsuc, neg_ℤ, Option, None, Some, refl, ap, sym, ◌∙◌, ◌^◌, of_z, arith}
+use Rattle.std.specs.Int.{w128}
+use Rattle.std.proofs.lemmas.Bool.{le-ltb}
 use Rattle.std.specs.Option.{option_map}
 use Rattle.boogie_tree.specs.declared.span.Span.{Span}
 use Rattle.typed_tree.specs.declared.fault.TypeFault.{TypeFault}
@@ -9,7 +11,7 @@ use Rattle.typed_tree.specs.declared.types.TExprKind.{TExprKind}
 use Rattle.typed_tree.specs.declared.types.TExprKind.TheVariants as kinds
 use Rattle.typed_tree.specs.TypedTree.{TypedExpression}
 use Rattle.typed_tree.specs.TypedView.{kind_view, expression}
-use Rattle.typed_tree.specs.AffineForm.{is_zero, divisor_of, is_divisor}
+use Rattle.typed_tree.specs.AffineForm.{is_zero, divisor_of, is_divisor, fits}
 use Rattle.typed_tree.specs.BrokenRules.{place_of}
 use Rattle.typed_tree.specs.BrokenOperation.{zero_literal, divisor_fault}
 
@@ -57,3 +59,8 @@ zero_fault e r k f = rw (sym k ∙ f, place_seen e) refl
 
 pub no_literal_fault : (e : TExpr) (r : Option Bool) → r ≡ zero_literal (expression e) → r ≡ None → fault.NonLinear e.span ≡ divisor_fault (zero_literal (expression e)) (expression e)
 no_literal_fault e r k f = rw (sym k ∙ f, place_seen e) refl
+
+-- the number whose opposite has no place in 128 bits does not fit
+pub least_is_big : (z : ℤ) → of_z w128 z ≡ 2 ^ 127 → fits z ≡ false
+least_is_big (pos n) e = le-ltb n (2 ^ 127) (omega arith)
+least_is_big (negsuc n) e = le-ltb (suc n) (2 ^ 127) (omega arith)

@@ -16,3 +16,4 @@ pub use boogie_tree::{Column, Op, Span, Text, Ty, VarInfo};
 pub use fault::{AffineFault, TypeFault};
 pub use scope::Scope;
 pub use types::{Affine, TExpr, TExprKind, TGuard, TInv, TProc, TSpec, TStmt};
+pub use typing::expression_type;

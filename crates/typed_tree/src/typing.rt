@@ -2,13 +2,13 @@
 
 ghost use Rattle.std.specs.Prelude.{◌≡◌, ◌⊎◌, Bool, true, false, Some, Err, IfOk, IfErr, IsOk, IsErr};
 ghost use Rattle.std.specs.Option.{option_copied, option_map};
-ghost use Rattle.typed_tree.specs.TypedTree.{Bin};
+ghost use Rattle.typed_tree.specs.TypedTree.{Lit, Var};
 ghost use Rattle.typed_tree.specs.TypedView.{expression};
 ghost use Rattle.typed_tree.specs.Scope.{seen, variable_at};
 ghost use Rattle.typed_tree.specs.Typing.{type_of, operand_type, result_type, operation_type};
 ghost use Rattle.typed_tree.specs.KeptRules.{is_arithmetic, keeps_rules};
 ghost use Rattle.typed_tree.specs.BrokenRules.{IsFault};
-ghost use Rattle.typed_tree.specs.FormView.{form_of, IsPart, IsPartFault};
+ghost use Rattle.typed_tree.specs.FormView.{form_of, IsAnswer, IsNotAnswer, IsNegAnswer, IsOperationAnswer};
 ghost use Rattle.typed_tree.specs.AffineForm.{divisor_of, is_divisor};
 ghost use Rattle.typed_tree.specs.BrokenOperation.{zero_literal, keeps_operator, divisor_fault, operator_fault};
 
@@ -36,82 +36,117 @@ pub fn expression_type(alloc: Global, scope: &Scope<'_>, expr: &TExpr) -> Result
     ensures fault { IfErr result (λ f. IsFault (seen scope.now) (expression expr.now) f) }
     ensures only { IsErr result → (result ≡ Err TypeFault.Memory) ⊎ (keeps_rules (seen scope.now) false (expression expr.now) ≡ false) }
 {
-    Ok(part_of(alloc, scope, false, expr)?.ty)
+    let part = part_of(alloc, scope, false, expr)?;
+    Ok(part.ty)
 }
 
 /// An expression that is read at the procedure's entry or now.
-#[cycle(parts)]
 fn part_of(alloc: Global, scope: &Scope<'_>, old: bool, expr: &TExpr) -> Result<Part, TypeFault>
-    ensures part { IfOk result (λ p. IsPart (seen scope.now) old (expression expr.now) p) }
-    ensures fault { IfErr result (λ f. IsPartFault (seen scope.now) old (expression expr.now) f) }
+    ensures { IsAnswer (seen scope.now) old (expression expr.now) result }
 {
     match &expr.kind {
-        TExprKind::Lit(n) => {
-            if *n == i128::MIN {
-                return Err(TypeFault::TooBig(expr.span));
-            }
-            let form = Form::number(alloc, *n);
-            Ok(Part { ty: Ty::Int, form })
-        }
+        TExprKind::Lit(n) => literal(alloc, scope, old, expr.span, n),
         TExprKind::Truth(_) => {
             let form = Form::number(alloc, 0);
             Ok(Part { ty: Ty::Bool, form })
         }
-        TExprKind::Var(column) => {
-            let Some(variable) = variable_at(scope, *column) else {
-                return Err(TypeFault::Unknown(expr.span));
-            };
-            let form = Form::once(alloc, read_at(old, *column))?;
-            let ty = variable.ty;
-            Ok(Part { ty, form })
-        }
+        TExprKind::Var(column) => variable(alloc, scope, old, expr.span, *column),
         TExprKind::Old(inner) => {
-            if !scope.old {
-                return Err(TypeFault::Mismatch(expr.span));
+            if scope.old {
+                part_of(alloc, scope, true, inner)
+            } else {
+                Err(TypeFault::Mismatch(expr.span))
             }
-            part_of(alloc, scope, true, inner)
         }
         TExprKind::Not(inner) => {
             let part = part_of(alloc, scope, old, inner)?;
-            if part.ty != Ty::Bool {
-                return Err(TypeFault::Mismatch(expr.span));
-            }
-            let form = Form::number(alloc, 0);
-            Ok(Part { ty: Ty::Bool, form })
+            negation(alloc, expr.span, &part)
         }
         TExprKind::Neg(inner) => {
             let part = part_of(alloc, scope, old, inner)?;
-            if part.ty != Ty::Int {
-                return Err(TypeFault::Mismatch(expr.span));
-            }
-            match times(alloc, -1, &part.form) {
-                Ok(form) => Ok(Part { ty: Ty::Int, form }),
-                Err(AffineFault::TooBig) => Err(TypeFault::TooBig(expr.span)),
-                Err(AffineFault::Memory) => Err(TypeFault::Memory),
-            }
+            opposite(alloc, expr.span, &part)
         }
         TExprKind::Bin(op, left, right) => {
-            operation_part(alloc, scope, old, expr.span, *op, left, right)
+            let first = part_of(alloc, scope, old, left)?;
+            let second = part_of(alloc, scope, old, right)?;
+            operated(alloc, expr.span, *op, &first, &second, right)
         }
     }
 }
 
-/// An operation that stands at that place.
-#[cycle(parts)]
-fn operation_part(
+/// A number.
+fn literal(
     alloc: Global,
     scope: &Scope<'_>,
     old: bool,
     at: Span,
+    n: &i128,
+) -> Result<Part, TypeFault>
+    ensures { IsAnswer (seen scope.now) old (Lit at n.now) result }
+{
+    if *n == i128::MIN {
+        return Err(TypeFault::TooBig(at));
+    }
+    let form = Form::number(alloc, *n);
+    Ok(Part { ty: Ty::Int, form })
+}
+
+/// A variable.
+fn variable(
+    alloc: Global,
+    scope: &Scope<'_>,
+    old: bool,
+    at: Span,
+    column: Column,
+) -> Result<Part, TypeFault>
+    ensures { IsAnswer (seen scope.now) old (Var at column) result }
+{
+    let Some(variable) = variable_at(scope, column) else {
+        return Err(TypeFault::Unknown(at));
+    };
+    let ty = variable.ty;
+    let form = Form::once(alloc, read_at(old, column))?;
+    Ok(Part { ty, form })
+}
+
+/// `!` at that place.
+fn negation(alloc: Global, at: Span, part: &Part) -> Result<Part, TypeFault>
+    ensures { IsNotAnswer at part.now result }
+{
+    match part.ty {
+        Ty::Int => Err(TypeFault::Mismatch(at)),
+        Ty::Bool => {
+            let form = Form::number(alloc, 0);
+            Ok(Part { ty: Ty::Bool, form })
+        }
+    }
+}
+
+/// A `-` before one operand, at that place.
+fn opposite(alloc: Global, at: Span, part: &Part) -> Result<Part, TypeFault>
+    ensures { IsNegAnswer at part.now result }
+{
+    match part.ty {
+        Ty::Int => match times(alloc, -1, &part.form) {
+            Ok(form) => Ok(Part { ty: Ty::Int, form }),
+            Err(AffineFault::TooBig) => Err(TypeFault::TooBig(at)),
+            Err(AffineFault::Memory) => Err(TypeFault::Memory),
+        },
+        Ty::Bool => Err(TypeFault::Mismatch(at)),
+    }
+}
+
+/// An operation at that place, whose second operand may be a divisor.
+fn operated(
+    alloc: Global,
+    at: Span,
     op: Op,
-    left: &TExpr,
+    first: &Part,
+    second: &Part,
     right: &TExpr,
 ) -> Result<Part, TypeFault>
-    ensures part { IfOk result (λ p. IsPart (seen scope.now) old (Bin at op (expression left.now) (expression right.now)) p) }
-    ensures fault { IfErr result (λ f. IsPartFault (seen scope.now) old (Bin at op (expression left.now) (expression right.now)) f) }
+    ensures { IsOperationAnswer at op (expression right.now) first.now second.now result }
 {
-    let first = part_of(alloc, scope, old, left)?;
-    let second = part_of(alloc, scope, old, right)?;
     let Some(ty) = operation_type(op, first.ty, second.ty) else {
         return Err(TypeFault::Mismatch(at));
     };
