@@ -169,6 +169,18 @@ pub enum Column {
     Local(u32),
 }
 
+/// The first global. Lists that keep a few columns in place fill free places with it.
+impl Default for Column {
+    ghost use Rattle.std.specs.Prelude.{◌≡◌};
+    ghost use Rattle.boogie_tree.specs.declared.tree.Column.TheVariants.{Global};
+
+    ghost is_default = { λ c. c ≡ Global 0 };
+
+    fn default() -> Column {
+        Column::Global(0)
+    }
+}
+
 /// What is known of a variable of a typed program.
 #[derive(Drop)]
 pub struct VarInfo {

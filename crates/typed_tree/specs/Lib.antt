@@ -6,3 +6,7 @@ pub mod AffineForm
 pub mod Values
 pub mod KeptRules
 pub mod BrokenRules
+pub mod FormOrder
+pub mod FormView
+pub mod BrokenOperation
+pub mod Merging

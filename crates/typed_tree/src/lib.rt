@@ -1,11 +1,19 @@
 //! Boogie programs with their names replaced by numbers: their trees, the values and affine forms of expressions, and the typing rules of expressions.
 #![tactic(auto)]
 
+mod columns;
+mod copying;
 mod fault;
+mod form;
+mod merging;
+mod numbers;
+mod operations;
 mod scope;
 mod types;
+mod typing;
 
 pub use boogie_tree::{Column, Op, Span, Text, Ty, VarInfo};
 pub use fault::{AffineFault, TypeFault};
 pub use scope::Scope;
 pub use types::{Affine, TExpr, TExprKind, TGuard, TInv, TProc, TSpec, TStmt};
+pub use typing::expression_type;

@@ -1,0 +1,181 @@
+-- The parts of expressions, and where a rule is broken.
+use Rattle.std.proofs.Common.{◌≡◌, ◌⊎◌, inl, inr, Bool, true, false, ◌&&◌, ◌||◌, ℤ, negsuc, Option, None, Some, Result, Ok, Err, refl, ap, sym, ◌∙◌, subst}
+use Rattle.std.specs.List.{list_all}
+use Rattle.std.specs.Option.{option_map}
+use Rattle.std.proofs.lemmas.Bool.{and_from, not-false, true≢false}
+use Rattle.boogie_tree.specs.declared.span.Span.{Span}
+use Rattle.boogie_tree.specs.declared.tree.Column.{Column}
+use Rattle.boogie_tree.specs.declared.tree.Ty.{Ty}
+use Rattle.boogie_tree.specs.declared.tree.Ty.TheVariants as types
+use Rattle.boogie_tree.specs.declared.tree.Op.{Op}
+use Rattle.boogie_tree.specs.declared.tree.Op.TheVariants.{Iff, Implies, And, Or, Eq, Ne, Lt, Le, Gt, Ge, Add, Sub, Mul, Div, Mod}
+use Rattle.typed_tree.specs.declared.fault.TypeFault.{TypeFault}
+use Rattle.typed_tree.specs.declared.fault.TypeFault.TheVariants as fault
+use Rattle.typed_tree.specs.declared.typing.Part.{Part}
+use Rattle.typed_tree.specs.TypedTree.{TypedExpression, Lit, Truth, Var, Old, Not, Neg, Bin}
+use Rattle.typed_tree.specs.Scope.{Scope, variable_at}
+use Rattle.typed_tree.specs.Typing.{type_of, operation_type, only}
+use Rattle.typed_tree.specs.AffineForm.{Form, form, is_linear, is_linear_operation, forms_fit, form_fits, fits, is_constant, is_zero, divisor_of, is_divisor, times, operation}
+use Rattle.typed_tree.specs.BrokenRules.{IsBroken, in_old, in_not, in_neg, in_left, in_right, unseen, misplaced, no_truth, no_number, ill_typed, zero_divisor, no_literal, no_factor, big_literal, big_opposite, big_operation, IsFault, is_division}
+use Rattle.typed_tree.specs.FormOrder.{terms_fit}
+use Rattle.typed_tree.specs.FormView.{form_of, IsPart, IsPartFault, IsAnswer}
+use Rattle.typed_tree.specs.BrokenOperation.{keeps_operator, operator_fault, divisor_fault, zero_literal}
+
+-- ---- faults of operands
+
+pub old_fault : (s : Scope) (old : Bool) (at : Span) (e : TypedExpression) (f : TypeFault) → IsPartFault s true e f → IsPartFault s old (Old at e) f
+old_fault s old at e f (inl m) = inl m
+old_fault s old at e f (inr b) = inr (in_old old at e f b)
+
+pub not_fault : (s : Scope) (old : Bool) (at : Span) (e : TypedExpression) (f : TypeFault) → IsPartFault s old e f → IsPartFault s old (Not at e) f
+not_fault s old at e f (inl m) = inl m
+not_fault s old at e f (inr b) = inr (in_not old at e f b)
+
+pub neg_fault : (s : Scope) (old : Bool) (at : Span) (e : TypedExpression) (f : TypeFault) → IsPartFault s old e f → IsPartFault s old (Neg at e) f
+neg_fault s old at e f (inl m) = inl m
+neg_fault s old at e f (inr b) = inr (in_neg old at e f b)
+
+pub left_fault : (s : Scope) (old : Bool) (at : Span) (op : Op) (a b : TypedExpression) (f : TypeFault) → IsPartFault s old a f → IsPartFault s old (Bin at op a b) f
+left_fault s old at op a b f (inl m) = inl m
+left_fault s old at op a b f (inr h) = inr (in_left old at op a b f h)
+
+pub right_fault : (s : Scope) (old : Bool) (at : Span) (op : Op) (a b : TypedExpression) (f : TypeFault) → IsPartFault s old b f → IsPartFault s old (Bin at op a b) f
+right_fault s old at op a b f (inl m) = inl m
+right_fault s old at op a b f (inr h) = inr (in_right old at op a b f h)
+
+-- ---- `old`
+
+pub old_answer : (s : Scope) (old : Bool) (at : Span) (e : TypedExpression) (r : Result Part TypeFault) → s.old ≡ true → IsAnswer s true e r → IsAnswer s old (Old at e) r
+old_answer s old at e (Ok p) h a = record { typed = rw h a.typed; linear = a.linear; fit = a.fit; seen = a.seen }
+old_answer s old at e (Err f) h a = old_fault s old at e f a
+
+-- ---- operations
+
+same_rule : (old : Bool) (op : Op) (a b : TypedExpression) → is_linear_operation old op a b ≡ keeps_operator op (form old a) (form old b) b
+same_rule old Iff a b = refl
+same_rule old Implies a b = refl
+same_rule old And a b = refl
+same_rule old Or a b = refl
+same_rule old Eq a b = refl
+same_rule old Ne a b = refl
+same_rule old Lt a b = refl
+same_rule old Le a b = refl
+same_rule old Gt a b = refl
+same_rule old Ge a b = refl
+same_rule old Add a b = refl
+same_rule old Sub a b = refl
+same_rule old Mul a b = refl
+same_rule old Div a b = refl
+same_rule old Mod a b = refl
+
+-- the forms of the operands in place of what the code has
+rule_of_parts : (s : Scope) (old : Bool) (op : Op) (a b : TypedExpression) (p q : Part) (z : Bool) → IsPart s old a p → IsPart s old b q →
+    keeps_operator op (form_of p.form) (form_of q.form) b ≡ z → keeps_operator op (form old a) (form old b) b ≡ z
+rule_of_parts s old op a b p q z h k e = rw (← h.seen, ← k.seen) e
+
+form_of_parts : (s : Scope) (old : Bool) (op : Op) (a b : TypedExpression) (p q : Part) → IsPart s old a p → IsPart s old b q →
+    operation op (form_of p.form) (form_of q.form) ≡ operation op (form old a) (form old b)
+form_of_parts s old op a b p q h k = rw (h.seen, k.seen) refl
+
+part_fits : (p : Part) → form_fits (form_of p.form) ≡ true
+part_fits p = and_from (terms_fit p.form.terms.items) (list_all fits p.form.quotients.items && fits p.form.constant) p.form.terms_fit (and_from (list_all fits p.form.quotients.items) (fits p.form.constant) p.form.quotients_fit p.form.constant_fits)
+
+pub operation_part : (s : Scope) (old : Bool) (at : Span) (op : Op) (a b : TypedExpression) (p q r : Part) → IsPart s old a p → IsPart s old b q →
+    operation_type op p.ty q.ty ≡ Some r.ty → keeps_operator op (form_of p.form) (form_of q.form) b ≡ true → form_of r.form ≡ operation op (form_of p.form) (form_of q.form) →
+    IsPart s old (Bin at op a b) r
+operation_part s old at op a b p q r h k t l e =
+    let g : form_of r.form ≡ operation op (form old a) (form old b) = e ∙ form_of_parts s old op a b p q h k in
+    record {
+      typed = rw (h.typed, k.typed) t;
+      linear = and_from (is_linear old a) (is_linear old b && is_linear_operation old op a b) h.linear
+          (and_from (is_linear old b) (is_linear_operation old op a b) k.linear (same_rule old op a b ∙ rule_of_parts s old op a b p q true h k l));
+      fit = and_from (forms_fit old a) (forms_fit old b && form_fits (operation op (form old a) (form old b))) h.fit
+          (and_from (forms_fit old b) (form_fits (operation op (form old a) (form old b))) k.fit (ap form_fits (sym g) ∙ part_fits r));
+      seen = g;
+    }
+
+pub mismatched : (s : Scope) (old : Bool) (at : Span) (op : Op) (a b : TypedExpression) (p q : Part) → IsPart s old a p → IsPart s old b q →
+    operation_type op p.ty q.ty ≡ None → IsPartFault s old (Bin at op a b) (fault.Mismatch at)
+mismatched s old at op a b p q h k e = inr (ill_typed old at op a b p.ty q.ty h.typed k.typed e)
+
+pub operation_big : (s : Scope) (old : Bool) (at : Span) (op : Op) (a b : TypedExpression) (p q : Part) → IsPart s old a p → IsPart s old b q →
+    form_fits (operation op (form_of p.form) (form_of q.form)) ≡ false → IsPartFault s old (Bin at op a b) (fault.TooBig at)
+operation_big s old at op a b p q h k e = inr (big_operation old at op a b (ap form_fits (sym (form_of_parts s old op a b p q h k)) ∙ e))
+
+or_parts : (x y : Bool) → (x || y) ≡ false → (x ≡ false) × (y ≡ false)
+or_parts true y e = absurd (cc)
+or_parts false y e = (refl, e)
+
+division_broken : (s : Scope) (old : Bool) (at : Span) (op : Op) (a b : TypedExpression) (o : Option ℤ) → is_division op ≡ true → divisor_of b ≡ o → is_divisor o ≡ false →
+    IsBroken s old (Bin at op a b) (divisor_fault (option_map is_zero o) b)
+division_broken s old at op a b None d e h = no_literal old at op a b d e
+division_broken s old at op a b (Some k) d e h = zero_divisor old at op a b k d e (not-false (is_zero k) h)
+
+operator_broken : (s : Scope) (old : Bool) (at : Span) (op : Op) (a b : TypedExpression) → keeps_operator op (form old a) (form old b) b ≡ false →
+    IsBroken s old (Bin at op a b) (operator_fault op at b)
+operator_broken s old at Mul a b h = let p = or_parts (is_constant (form old a)) (is_constant (form old b)) h in no_factor old at a b p.0 p.1
+operator_broken s old at Div a b h = division_broken s old at Div a b (divisor_of b) refl refl h
+operator_broken s old at Mod a b h = division_broken s old at Mod a b (divisor_of b) refl refl h
+operator_broken s old at Iff a b h = absurd (true≢false h)
+operator_broken s old at Implies a b h = absurd (true≢false h)
+operator_broken s old at And a b h = absurd (true≢false h)
+operator_broken s old at Or a b h = absurd (true≢false h)
+operator_broken s old at Eq a b h = absurd (true≢false h)
+operator_broken s old at Ne a b h = absurd (true≢false h)
+operator_broken s old at Lt a b h = absurd (true≢false h)
+operator_broken s old at Le a b h = absurd (true≢false h)
+operator_broken s old at Gt a b h = absurd (true≢false h)
+operator_broken s old at Ge a b h = absurd (true≢false h)
+operator_broken s old at Add a b h = absurd (true≢false h)
+operator_broken s old at Sub a b h = absurd (true≢false h)
+
+pub rule_broken : (s : Scope) (old : Bool) (at : Span) (op : Op) (a b : TypedExpression) (p q : Part) (f : TypeFault) → IsPart s old a p → IsPart s old b q →
+    keeps_operator op (form_of p.form) (form_of q.form) b ≡ false → f ≡ operator_fault op at b → IsPartFault s old (Bin at op a b) f
+rule_broken s old at op a b p q f h k e g =
+    inr (subst (IsBroken s old (Bin at op a b)) (sym g) (operator_broken s old at op a b (rule_of_parts s old op a b p q false h k e)))
+
+-- ---- `!` and `-`
+
+pub no_truth_part : (s : Scope) (old : Bool) (at : Span) (e : TypedExpression) (p : Part) → IsPart s old e p → p.ty ≡ types.Int → IsPartFault s old (Not at e) (fault.Mismatch at)
+no_truth_part s old at e p h t = inr (no_truth old at e (h.typed ∙ ap Some t))
+
+pub no_number_part : (s : Scope) (old : Bool) (at : Span) (e : TypedExpression) (p : Part) → IsPart s old e p → p.ty ≡ types.Bool → IsPartFault s old (Neg at e) (fault.Mismatch at)
+no_number_part s old at e p h t = inr (no_number old at e (h.typed ∙ ap Some t))
+
+pub negation_part : (s : Scope) (old : Bool) (at : Span) (e : TypedExpression) (p r : Part) → IsPart s old e p → p.ty ≡ types.Bool → r.ty ≡ types.Bool →
+    form_of r.form ≡ form old (Not at e) → IsPart s old (Not at e) r
+negation_part s old at e p r h t u f = record { typed = rw (h.typed, t, u) refl; linear = h.linear; fit = h.fit; seen = f }
+
+pub opposite_part : (s : Scope) (old : Bool) (at : Span) (e : TypedExpression) (p r : Part) → IsPart s old e p → p.ty ≡ types.Int → r.ty ≡ types.Int →
+    form_of r.form ≡ times (negsuc 0) (form_of p.form) → IsPart s old (Neg at e) r
+opposite_part s old at e p r h t u f =
+    let g : form_of r.form ≡ times (negsuc 0) (form old e) = f ∙ ap (times (negsuc 0)) h.seen in
+    record {
+      typed = rw (h.typed, t, u) refl;
+      linear = h.linear;
+      fit = and_from (forms_fit old e) (form_fits (times (negsuc 0) (form old e))) h.fit (ap form_fits (sym g) ∙ part_fits r);
+      seen = g;
+    }
+
+pub opposite_big : (s : Scope) (old : Bool) (at : Span) (e : TypedExpression) (p : Part) → IsPart s old e p → form_fits (times (negsuc 0) (form_of p.form)) ≡ false →
+    IsPartFault s old (Neg at e) (fault.TooBig at)
+opposite_big s old at e p h f = inr (big_opposite old at e (ap (λ (a : Form). form_fits (times (negsuc 0) a)) (sym h.seen) ∙ f))
+
+-- ---- the whole
+
+broken_of : (s : Scope) (e : TypedExpression) (f : TypeFault) → IsPartFault s false e f → (f ≡ fault.Memory → ⊥) → IsBroken s false e f
+broken_of s e f (inl m) n = absurd (n m)
+broken_of s e f (inr b) n = b
+
+pub whole_fault : (s : Scope) (e : TypedExpression) (f : TypeFault) → IsPartFault s false e f → IsFault s e f
+whole_fault s e fault.Memory h = tt
+whole_fault s e (fault.Unknown at) h = broken_of s e (fault.Unknown at) h (λ m. cc)
+whole_fault s e (fault.Twice at) h = broken_of s e (fault.Twice at) h (λ m. cc)
+whole_fault s e (fault.Mismatch at) h = broken_of s e (fault.Mismatch at) h (λ m. cc)
+whole_fault s e (fault.NotAssignable at) h = broken_of s e (fault.NotAssignable at) h (λ m. cc)
+whole_fault s e (fault.NotModified at) h = broken_of s e (fault.NotModified at) h (λ m. cc)
+whole_fault s e fault.NoEntry h = broken_of s e fault.NoEntry h (λ m. cc)
+whole_fault s e (fault.ZeroDivisor at) h = broken_of s e (fault.ZeroDivisor at) h (λ m. cc)
+whole_fault s e (fault.NonLinear at) h = broken_of s e (fault.NonLinear at) h (λ m. cc)
+whole_fault s e (fault.BadGoto at) h = broken_of s e (fault.BadGoto at) h (λ m. cc)
+whole_fault s e (fault.TooBig at) h = broken_of s e (fault.TooBig at) h (λ m. cc)

@@ -1,0 +1,43 @@
+-- The forms of the code, and the typed parts of expressions, as contracts see them.
+use Rattle.std.specs.Prelude.{◌≡◌, Bool, true, Some, ◌⊎◌, Result, MatchResult}
+use Rattle.boogie_tree.specs.declared.tree.Ty.{Ty}
+use Rattle.typed_tree.specs.declared.form.Form as code
+use Rattle.typed_tree.specs.declared.fault.TypeFault.{TypeFault}
+use Rattle.typed_tree.specs.declared.fault.TypeFault.TheVariants as fault
+use Rattle.typed_tree.specs.declared.typing.Part.{Part}
+use Rattle.boogie_tree.specs.declared.span.Span.{Span}
+use Rattle.boogie_tree.specs.declared.tree.Op.{Op}
+use Rattle.typed_tree.specs.TypedTree.{TypedExpression, Not, Neg, Bin}
+use Rattle.typed_tree.specs.Scope.{Scope}
+use Rattle.typed_tree.specs.Typing.{type_of}
+use Rattle.typed_tree.specs.AffineForm.{Form, form, is_linear, forms_fit}
+use Rattle.typed_tree.specs.BrokenRules.{IsBroken}
+
+abbrev pub form_of : code.Form → Form
+form_of a = record { terms = a.terms.items; quotients = a.quotients.items; constant = a.constant }
+
+-- the type and the form of an expression that keeps the rules
+pub record IsPart (s : Scope) (old : Bool) (e : TypedExpression) (p : Part) : Type 0 where
+  pub typed : type_of s e ≡ Some p.ty
+  pub linear : is_linear old e ≡ true
+  pub fit : forms_fit old e ≡ true
+  pub seen : form_of p.form ≡ form old e
+
+-- a broken rule of the expression, read at the procedure's entry or now, or want of memory
+abbrev pub IsPartFault : Scope → Bool → TypedExpression → TypeFault → Type 0
+IsPartFault s old e f = (f ≡ fault.Memory) ⊎ IsBroken s old e f
+
+-- what is answered for an expression: its part, or a fault
+abbrev pub IsAnswer : Scope → Bool → TypedExpression → Result Part TypeFault → Type 0
+IsAnswer s old e r = MatchResult r (IsPart s old e) (IsPartFault s old e)
+
+-- The same for `!`, `-` and the other operators, given the parts of the operands, whatever expressions these are.
+abbrev pub IsNotAnswer : Span → Part → Result Part TypeFault → Type 0
+IsNotAnswer at p r = (s : Scope) (old : Bool) (e : TypedExpression) → IsPart s old e p → IsAnswer s old (Not at e) r
+
+abbrev pub IsNegAnswer : Span → Part → Result Part TypeFault → Type 0
+IsNegAnswer at p r = (s : Scope) (old : Bool) (e : TypedExpression) → IsPart s old e p → IsAnswer s old (Neg at e) r
+
+abbrev pub IsOperationAnswer : Span → Op → TypedExpression → Part → Part → Result Part TypeFault → Type 0
+IsOperationAnswer at op b p q r =
+    (s : Scope) (old : Bool) (a : TypedExpression) → IsPart s old a p → IsPart s old b q → IsAnswer s old (Bin at op a b) r
