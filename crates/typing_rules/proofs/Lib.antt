@@ -1,0 +1,9 @@
+pub mod Differ
+pub mod Counted
+pub mod Faults
+pub mod Columns
+pub mod Agreed
+pub mod StatementParts
+pub mod ProcedureParts
+pub mod BrokenLaws
+pub mod Answered

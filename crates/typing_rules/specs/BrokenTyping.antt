@@ -90,3 +90,8 @@ pub data IsProcedureBroken (globals : List VarInfo) (procs : List TypedProcedure
 pub data IsProgramBroken (t : TypedProgram) : TypeFault → Type 0 where
   axiomatic : (e : TypedExpression) (f : TypeFault) → Contains t.axioms e → IsConditionBroken (axiom_scope t.globals) e f → IsProgramBroken t f
   in_procedure : (p : TypedProcedure) (f : TypeFault) → Contains t.procs p → IsProcedureBroken t.globals t.procs p f → IsProgramBroken t f
+
+-- The fault of a program: a broken rule, or want of memory.
+abbrev pub IsTypingFault : TypedProgram → TypeFault → Type 0
+IsTypingFault t fault.Memory = Unit {0}
+IsTypingFault t f = IsProgramBroken t f

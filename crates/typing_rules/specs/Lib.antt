@@ -5,3 +5,6 @@ pub mod Shape
 pub mod Counts
 pub mod ValidProgram
 pub mod BrokenTyping
+pub mod LabelNumber
+pub mod ColumnKey
+pub mod Judged

@@ -15,3 +15,7 @@ pub record TypedParts : Type 0 where
 -- without places in memory
 abbrev pub typed_program : TypedParts → TypedProgram
 typed_program t = record { globals = t.globals; axioms = map expression t.axioms; procs = map procedure t.procs; entry = t.entry }
+
+-- the program of these parts, with the entry 0
+abbrev pub program_of : List VarInfo → List TExpr → List TProc → TypedProgram
+program_of globals axioms procs = record { globals = globals; axioms = map expression axioms; procs = map procedure procs; entry = 0 }

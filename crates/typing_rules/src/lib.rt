@@ -1,6 +1,16 @@
 //! Typed programs: the typing rules of statements, procedures and programs, and the programs that keep them.
 #![tactic(auto)]
 
+mod calls;
+mod frame;
+mod labels;
+pub mod laws;
+mod numbers;
+mod procedures;
+mod statements;
+mod targets;
 mod typed;
+mod values;
 
+pub use procedures::check_typing;
 pub use typed::Typed;

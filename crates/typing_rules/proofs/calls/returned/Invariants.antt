@@ -1,0 +1,8 @@
+use Rattle.std.proofs.Common.{◌≡◌, ◌≤◌, map, drop, length}
+use Rattle.typed_tree.specs.Scope.{seen}
+use Rattle.typed_tree.specs.TypedView as view
+use Rattle.typing_rules.specs.Rules.{results_agree, results_of}
+use Rattle.typing_rules.proofs.calls.returned.Given as goal
+
+abbrev pub invariant-loop-index : goal.invariant-loop-index
+invariant-loop-index l = results_agree (seen l.frame.scope) (drop l.index l.results) (drop l.index l.columns) ≡ results_agree (seen l.frame.scope) l.results l.columns

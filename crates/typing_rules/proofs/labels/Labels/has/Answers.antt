@@ -1,0 +1,10 @@
+use Rattle.std.proofs.Common.{arith, ◌≡◌, ap, sym, ◌∙◌}
+use Rattle.std.proofs.lemmas.Grind.{common_steps}
+use Rattle.typing_rules.proofs.Counted.{member_counted}
+use Rattle.typing_rules.proofs.labels.Labels.has.Goals as goal
+
+pub returns : goal.returns
+returns c =
+    let counted = member_counted c.args.label c.self.inside.stack.items in
+    let number = c.self.invariant c.args.label in
+    grind (arith, common_steps, counted, number, c.self.view_is)

@@ -1,0 +1,46 @@
+use Rattle.std.proofs.Common.{ap, map, ◌∙◌}
+use Rattle.std.proofs.lemmas.Result.{err_from_is_err_and}
+use Rattle.typed_tree.specs.TypedView as view
+use Rattle.typing_rules.specs.Judged.{context}
+use Rattle.typing_rules.proofs.StatementParts.{if_seen, while_seen, then_fault, if_judged, while_judged, each_fault, each_step, each_out}
+use Rattle.typing_rules.proofs.statements.+statements.Goals as goal
+
+pub each-returns-in_err-frame : goal.each-returns-in_err-frame
+each-returns-in_err-frame t c =
+    let p = err_from_is_err_and c.from_residual.result c.from_residual.ensures.1 in
+    rw (p.1, p.2)
+    (each_fault c.args.frame c.loop-checked.frame c.args.listed.now c.loop-checked.checked-index c.checked-item.result _
+    c.loop-checked.invariant.same c.loop-checked-test.true c.checked-item.is c.loop-checked.invariant.broken c.in_err-frame.ensures)
+
+pub each-loop-checked-preserved : goal.each-loop-checked-preserved
+each-loop-checked-preserved t c = record {
+  same = c.in_ok-frame.ensures.0 ∙ c.loop-checked.invariant.same;
+  kept = each_step c.args.frame c.loop-checked.frame c.args.listed.now c.loop-checked.checked-index c.checked-item.result _
+      c.loop-checked.invariant.same c.loop-checked-test.true c.checked-item.is c.loop-checked.invariant.kept c.in_ok-frame.ensures.1;
+  broken = each_out c.args.frame c.args.listed.now c.loop-checked.checked-index c.checked-item.result
+      c.loop-checked-test.true c.checked-item.is c.loop-checked.invariant.broken;
+}
+
+pub statement-returns-in_err-frame-in-If : goal.statement-returns-in_err-frame-in-If
+statement-returns-in_err-frame-in-If t c =
+    let p = err_from_is_err_and c.from_residual-in_err-frame-in-If.result c.from_residual-in_err-frame-in-If.ensures.1 in
+    rw (p.1, p.2)
+    (then_fault (context c.args.frame) (view.statement c.args.checked.now) c.in-If.field-0 (view.guard c.in-If.field-1)
+    (view.statements c.in-If.then.items) (view.statements c.deref.result.now) (view.statements c.in-If.otherwise.items) _
+    (ap view.statement c.in-If.is ∙ if_seen c.in-If.field-0 c.in-If.field-1 c.in-If.then c.in-If.otherwise)
+    (ap view.statements c.deref.ensures.value) c.in_err-frame-in-If.ensures)
+
+pub statement-returns-in_ok-frame-in-If : goal.statement-returns-in_ok-frame-in-If
+statement-returns-in_ok-frame-in-If t c =
+    if_judged c.args.frame c.in_ok-frame-in-If.frame c.block-in-If.result (view.statement c.args.checked.now) c.in-If.field-0 (view.guard c.in-If.field-1)
+    (view.statements c.in-If.then.items) (view.statements c.deref.result.now) (view.statements c.in-If.otherwise.items) (view.statements c.deref-in-If.result.now)
+    (ap view.statement c.in-If.is ∙ if_seen c.in-If.field-0 c.in-If.field-1 c.in-If.then c.in-If.otherwise)
+    (ap view.statements c.deref.ensures.value) (ap view.statements c.deref-in-If.ensures.value)
+    c.in_ok-head.ensures c.in_ok-frame-in-If.ensures.0 c.in_ok-frame-in-If.ensures.1 c.block-in-If.ensures
+
+pub statement-returns-in-While : goal.statement-returns-in-While
+statement-returns-in-While t c =
+    while_judged c.args.frame c.round.result (view.statement c.args.checked.now) c.in-While.field-0 (view.guard c.in-While.field-1)
+    (map view.invariant c.in-While.field-2.items) (view.statements c.in-While.body.items) (view.statements c.deref-in-While.result.now)
+    (ap view.statement c.in-While.is ∙ while_seen c.in-While.field-0 c.in-While.field-1 c.in-While.field-2 c.in-While.body)
+    (ap view.statements c.deref-in-While.ensures.value) c.in_ok-head.ensures c.round.ensures

@@ -1,0 +1,118 @@
+//! The labels that a goto may name: those of the lists around it.
+
+ghost use Rattle.std.specs.Prelude.{◌≡◌, ◌++◌, ◌∷◌, ◌-◌, [], List, length, drop, map, IfOk, Option};
+ghost use Rattle.typed_tree.specs.TypedView as view;
+ghost use Rattle.typing_rules.specs.Rules.{is_member, own_labels};
+ghost use Rattle.typing_rules.specs.LabelNumber.{label_number};
+
+use std::alloc::{AllocError, Global};
+use std::collections::HashMap;
+use std::marker::Model;
+use typed_tree::TStmt;
+
+/// Labels, those of the innermost list first, with how often each stands there.
+#[derive(Drop)]
+pub(crate) struct Labels {
+    stack: Vec<u32>,
+    counts: HashMap<u32, usize>,
+}
+
+impl Model for Labels {
+    ghost use Rattle.std.specs.Prelude.{◌≡◌, ◌==◌, ℕ, List, nat_eq, count_by, reverse};
+    ghost use Rattle.std.specs.Option.{unwrap_or};
+    ghost use Rattle.std.specs.HashMap as hash;
+
+    ghost Value = { List ℕ };
+
+    ghost view = { λ l. reverse l.stack.items };
+
+    ghost invariant = { λ l. (q : ℕ) → unwrap_or (hash.get nat_eq l.counts q) 0 ≡ count_by (λ x. x == q) l.stack.items };
+}
+
+impl Labels {
+    pub(crate) fn none(alloc: Global) -> Labels
+        ensures { result ≡ [] }
+    {
+        Labels {
+            stack: Vec::new(alloc),
+            counts: HashMap::new(alloc),
+        }
+    }
+
+    /// How many there are.
+    pub(crate) fn count(&self) -> usize
+        ensures { result ≡ length self.now }
+    {
+        self.stack.len()
+    }
+
+    pub(crate) fn has(&self, label: u32) -> bool
+        ensures { result ≡ is_member label self.now }
+    {
+        self.counts.get(&label).copied().unwrap_or(0) > 0
+    }
+
+    /// One more in front.
+    fn push(self, label: u32) -> Result<Labels, AllocError>
+        ensures { IfOk result (λ l. l ≡ label ∷ self) }
+    {
+        let mut stack = self.stack;
+        let mut counts = self.counts;
+        stack.push(label)?;
+        let count = counts.get(&label).copied().unwrap_or(0);
+        counts.insert(label, count + 1)?;
+        Ok(Labels { stack, counts })
+    }
+
+    /// Without the first one.
+    fn pop(self) -> Result<Labels, AllocError>
+        ensures { IfOk result (λ l. l ≡ drop 1 self) }
+    {
+        let mut stack = self.stack;
+        let mut counts = self.counts;
+        if let Some(label) = stack.pop() {
+            let count = counts.get(&label).copied().unwrap_or(0);
+            counts.insert(label, count - 1)?;
+        }
+        Ok(Labels { stack, counts })
+    }
+
+    /// With those of one more list.
+    pub(crate) fn enter(self, statements: &[TStmt]) -> Result<Labels, AllocError>
+        ensures { IfOk result (λ l. l ≡ own_labels (view.statements statements.now) ++ self) }
+    {
+        let mut labels = self;
+        let mut left = statements.len();
+        while left > 0 {
+            left -= 1;
+            if let Some(label) = label_of(&statements[left]) {
+                labels = labels.push(label)?;
+            }
+        }
+        Ok(labels)
+    }
+
+    /// The last ones, so many.
+    pub(crate) fn leave(self, count: usize) -> Result<Labels, AllocError>
+        ensures { IfOk result (λ l. l ≡ drop (length self - count) self) }
+    {
+        let mut labels = self;
+        for _more in count..labels.count() {
+            labels = labels.pop()?;
+        }
+        Ok(labels)
+    }
+}
+
+/// The number of a label.
+fn label_of(statement: &TStmt) -> Option<u32>
+    ensures { result ≡ label_number (view.statement statement.now) }
+{
+    match statement {
+        TStmt::Label(label) => Some(*label),
+        TStmt::Assert(_, _) | TStmt::Assume(_, _) | TStmt::Havoc(_, _) => None,
+        TStmt::Assign(_, _, _) | TStmt::Call(_, _, _, _) => None,
+        TStmt::If(_, _, _, _) | TStmt::While(_, _, _, _) => None,
+        TStmt::Break(_, _) | TStmt::Goto(_, _) | TStmt::Return(_) => None,
+    }
+}
