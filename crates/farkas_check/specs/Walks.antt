@@ -58,6 +58,16 @@ pub record HoldsSame (old new : Walk) : Type 0 where
   pub groups : new.groups.items ≡ old.groups.items
   pub first : new.first ≡ old.first
 
+-- the goal at hand and the goals that wait are the same
+pub record HasSameGoals (old new : Walk) : Type 0 where
+  pub at_hand : goal_at_hand new ≡ goal_at_hand old
+  pub left : goals_left new ≡ goals_left old
+
+-- the goal at hand has no row and no group, and no goal waits
+pub record HoldsNothing (w : Walk) : Type 0 where
+  pub at_hand : goal_at_hand w ≡ record { rows = []; groups = [] }
+  pub left : goals_left w ≡ []
+
 -- the first group of the goal has n members, and is taken away: a goal for each of them waits in front of the others
 pub record OpensGroup (goal : Goal) (left : List Goal) (n : ℕ) (new_left : List Goal) : Type 0 where
   pub members : List System

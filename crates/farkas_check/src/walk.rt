@@ -1,6 +1,6 @@
 //! The walk along a prefix list: the goal at hand, and the goals that wait.
 
-ghost use Rattle.std.specs.Prelude.{◌≡◌, ◌≤◌, ◌∷◌, [], ◌++◌, ◌↔◌, IfOk, OnOk, IsSome, IfSome, MatchBool, MatchOption, length, map};
+ghost use Rattle.std.specs.Prelude.{◌≡◌, ◌≤◌, ◌∷◌, [], ◌++◌, ◌↔◌, IfOk, OnOk, OnErr, IsSome, IfSome, MatchBool, MatchOption, length, map};
 ghost use Rattle.math_facts.specs.Fits.{Fits};
 ghost use Rattle.lin_rows.specs.Negating.{below_opposite};
 ghost use Rattle.lin_rows.specs.Tightening.{tightened};
@@ -105,7 +105,7 @@ pub struct Walk<'a> {
 }
 
 impl<'a> Walk<'a> {
-    ghost use Rattle.farkas_check.specs.Walks.{goals_of, goal_of_lengths, waiting_of_lengths, frame_at, HoldsSame, goal_at_hand, goals_left, goals_with, OpensGroup, HasNoGroup, LeavesGoals, LeavesNone};
+    ghost use Rattle.farkas_check.specs.Walks.{goals_of, goal_of_lengths, waiting_of_lengths, frame_at, HoldsSame, HasSameGoals, HoldsNothing, goal_at_hand, goals_left, goals_with, OpensGroup, HasNoGroup, LeavesGoals, LeavesNone};
     ghost use Rattle.farkas_check.specs.Nodes.{cut, cases};
     ghost use Rattle.farkas_check.specs.Refutes.{with_row, with_member};
 
@@ -130,7 +130,8 @@ impl<'a> Walk<'a> {
             (goals_left self.new ≡ goals_of rest.entry (goal_at_hand self.old) ++ goals_left self.old) }
         ensures frames { OnOk result
             (self.new.frames.items ≡ self.old.frames.items ++ frame_at self.old rest.entry ∷ []) }
-        ensures same_goal { OnOk result (HoldsSame self.old self.new) }
+        ensures same_goal { HoldsSame self.old self.new }
+        ensures kept { OnErr result (self.new.frames.items ≡ self.old.frames.items) }
     {
         self.frames.push(Frame {
             rest,
@@ -154,8 +155,34 @@ impl<'a> Walk<'a> {
         }
     }
 
-    /// Takes up the next goal. False where none waits.
+    /// Takes up the next goal. False where none waits. After want of memory no goal is at hand, and none waits.
     pub fn take_goal(&mut self) -> Result<bool, AllocError>
+        ensures takes { IfOk result (λ more. MatchBool more
+            (goals_left self.old ≡ goal_at_hand self.new ∷ goals_left self.new)
+            (goals_left self.old ≡ [])) }
+        ensures lost { OnErr result (HoldsNothing self.new) }
+    {
+        match self.next_goal() {
+            Ok(more) => Ok(more),
+            Err(error) => {
+                self.forget();
+                Err(error)
+            }
+        }
+    }
+
+    /// Lets go all that is held.
+    fn forget(&mut self)
+        ensures { HoldsNothing self.new }
+    {
+        self.rows.clear();
+        self.groups.clear();
+        self.first = 0;
+        self.frames.clear();
+    }
+
+    /// Goes back to the next goal that waits. False where none waits.
+    fn next_goal(&mut self) -> Result<bool, AllocError>
         ensures { IfOk result (λ more. MatchBool more
             (goals_left self.old ≡ goal_at_hand self.new ∷ goals_left self.new)
             (goals_left self.old ≡ [])) }
@@ -176,28 +203,37 @@ impl<'a> Walk<'a> {
     }
 
     /// Takes the first group of the goal at hand away: a goal for each of its members waits, in order, before those that
-    /// waited. Says how many members there are. `None` where no group is left, and then nothing changes.
+    /// waited. Says how many members there are. `None` where no group is left, and then nothing changes, as after want of
+    /// memory.
     pub fn open_group(&mut self) -> Result<Option<usize>, AllocError>
-        ensures { IfOk result (λ o. MatchOption o
+        ensures opens { IfOk result (λ o. MatchOption o
             (HasNoGroup (goal_at_hand self.old) (goals_left self.old) (goal_at_hand self.new) (goals_left self.new))
             (λ n. OpensGroup (goal_at_hand self.old) (goals_left self.old) n (goals_left self.new))) }
+        ensures kept { OnErr result (HasSameGoals self.old self.new) }
     {
         if self.first >= self.groups.len() {
             return Ok(None);
         }
         let members = self.groups[self.first];
         self.first += 1;
-        self.wait(Rest::Members(members))?;
-        Ok(Some(members.len()))
+        match self.wait(Rest::Members(members)) {
+            Ok(()) => Ok(Some(members.len())),
+            Err(error) => {
+                self.first -= 1;
+                Err(error)
+            }
+        }
     }
 
     /// Cuts the goal at hand: a goal with `column <= k` waits, then one with `-column <= -k-1`, before those that waited.
+    /// After want of memory nothing changes.
     pub fn open_cut(&mut self, column: Col, k: i128) -> Result<(), AllocError>
         requires fits { Fits k }
         requires opposite_fits { Fits (below_opposite k) }
-        ensures { OnOk result
+        ensures cuts { OnOk result
             (goals_left self.new ≡ with_row (goal_at_hand self.old) (at_most column k)
             ∷ with_row (goal_at_hand self.old) (above column k) ∷ goals_left self.old) }
+        ensures kept { OnErr result (HasSameGoals self.old self.new) }
     {
         let Some(sides) = Cut::new(column, k) else {
             unreachable!();

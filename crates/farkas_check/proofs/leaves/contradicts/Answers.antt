@@ -1,10 +1,8 @@
-use Rattle.std.proofs.Common.{◌↔◌, pos, FitsSigned, get_or, sym, subst, rules}
+use Rattle.std.proofs.Common.{pos, FitsSigned, get_or, rules}
 use Rattle.std.specs.Int.{w128}
 use Rattle.std.proofs.lemmas.Bool.{false≢true}
 use Rattle.std.proofs.lemmas.Int.{to_z-of_z}
-use Rattle.lin_rows.specs.Rows.{LinearRow}
-use Rattle.lin_rows.specs.Combinations.{Contradicts}
-use Rattle.farkas_check.proofs.LeafSteps.{ContradictsFrom, ContradictsFrom_start, ContradictsFrom-drop_more, ContradictsFrom-drop_none, ContradictsFrom-drop_all}
+use Rattle.farkas_check.proofs.LeafSteps.{ContradictsFrom_start, ContradictsFrom-drop_more, ContradictsFrom-drop_none, ContradictsFrom-drop_all}
 use Rattle.farkas_check.proofs.leaves.contradicts.Goals as goal
 
 pub loop-number-init : goal.loop-number-init

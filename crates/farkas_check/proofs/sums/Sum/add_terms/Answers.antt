@@ -1,11 +1,8 @@
-use Rattle.std.proofs.Common.{rules, ◌≡◌, ◌↔◌, ℕ, ℤ, pos, ◌+ℤ◌, ◌*ℤ◌, FitsSigned, to_z, of_z, get_or, take, length, refl, ◌∙◌, List}
+use Rattle.std.proofs.Common.{rules, pos, FitsSigned, get_or, refl, ◌∙◌}
 use Rattle.std.specs.Int.{w128}
 use Rattle.std.proofs.lemmas.Int.{to_z-of_z}
-use Rattle.math_facts.specs.Fits.{Fits}
-use Rattle.math_facts.specs.Terms.{with_value}
-use Rattle.lin_rows.specs.Rows.{AscendsFrom}
-use Rattle.farkas_check.specs.Leaves.{columns_of, TermsFit, AddsTerms}
-use Rattle.farkas_check.proofs.SumLaws.{AddsTerms_start, AddsTerms_more, AddsTerms_none, AddsTerms_end}
+use Rattle.farkas_check.specs.Leaves.{columns_of}
+use Rattle.farkas_check.proofs.SumLaws.{AddsTerms_start, AddsTerms_more, AddsTerms_none}
 use Rattle.farkas_check.proofs.sums.Sum.add_terms.Goals as goal
 
 pub loop-column-init : goal.loop-column-init

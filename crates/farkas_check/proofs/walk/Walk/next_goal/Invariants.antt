@@ -1,6 +1,6 @@
 use Rattle.std.proofs.Common.{◌≡◌, length}
 use Rattle.farkas_check.specs.Walks.{goals_left}
-use Rattle.farkas_check.proofs.walk.Walk.take_goal.Given as goal
+use Rattle.farkas_check.proofs.walk.Walk.next_goal.Given as goal
 
 abbrev pub invariant-loop-frame : goal.invariant-loop-frame
 invariant-loop-frame l = goals_left l.self ≡ goals_left l.initial.self
