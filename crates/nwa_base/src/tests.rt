@@ -169,6 +169,19 @@ fn assert_run(
     Ok(())
 }
 
+fn assert_runs(
+    rt: &impl Abort,
+    alloc: Global,
+    built: Built,
+    words: &[(&[Letter], &[u32])],
+) -> Result<(), Fail> {
+    let nwa = automaton(alloc, built)?.copy()?;
+    for &(letters, run) in words {
+        assert_run(rt, alloc, &nwa, letters, run)?;
+    }
+    Ok(())
+}
+
 /// The automata, with words for each.
 const ACCEPTED: [(Built, &[(&[Letter], &[u32])]); 4] = [
     (CALLS_ONCE, &CALLED_ONCE),
@@ -192,10 +205,7 @@ fn words_have_no_pending_return(rt: HostRuntime) -> Result<(), Fail> {
 #[test]
 fn words_have_their_runs(rt: HostRuntime) -> Result<(), Fail> {
     for (built, words) in ACCEPTED {
-        let nwa = automaton(rt.alloc(), built)?.copy()?;
-        for &(letters, run) in words {
-            assert_run(&rt, rt.alloc(), &nwa, letters, run)?;
-        }
+        assert_runs(&rt, rt.alloc(), built, words)?;
     }
     Ok(())
 }
