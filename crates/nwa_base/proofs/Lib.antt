@@ -7,3 +7,4 @@ pub mod RunLemmas
 pub mod WayLemmas
 pub mod ReadingLemmas
 pub mod TracingLemmas
+pub mod StateLemmas

@@ -1,6 +1,7 @@
-ghost use Rattle.std.specs.Prelude.{◌≡◌, [], ◌∷◌, ◌++◌, ◌<◌, ◌↔◌, IsTrue, IfOk, OnOk, OnErr};
+ghost use Rattle.std.specs.Prelude.{◌≡◌, ◌+◌, ◌^◌, [], ◌∷◌, ◌++◌, ◌<◌, ◌↔◌, IsTrue, IsErr, IfOk, OnOk, OnErr};
 
 use crate::back_edges::BackEdges;
+use crate::calls::Calls;
 use crate::edges::Edges;
 use crate::finals::Finals;
 use crate::letters::Letter;
@@ -16,7 +17,7 @@ pub struct Nwa {
     start: u32,
     finals: Finals,
     insides: Edges,
-    calls: Edges,
+    calls: Calls,
     backs: BackEdges,
 }
 
@@ -33,7 +34,7 @@ impl Model for Nwa {
 impl Nwa {
     ghost use Rattle.nwa_base.specs.declared.letters.Kind.TheVariants.{Inside, Call};
     ghost use Rattle.nwa_base.specs.Members.{Member};
-    ghost use Rattle.nwa_base.specs.Edges.{leaving, ends, backs_leaving, back_ends};
+    ghost use Rattle.nwa_base.specs.Edges.{leaving, entering, ends, backs_leaving, backs_between, back_ends};
     ghost use Rattle.nwa_base.specs.Automata.{IsAutomaton, IsEdge, IsBackEdge};
 
     /// The automaton of so many states without final states or edges.
@@ -47,7 +48,7 @@ impl Nwa {
             start,
             finals: Finals::new(alloc),
             insides: Edges::new(alloc),
-            calls: Edges::new(alloc),
+            calls: Calls::new(alloc),
             backs: BackEdges::new(alloc),
         }
     }
@@ -131,11 +132,25 @@ impl Nwa {
         self.calls.leaving(q)
     }
 
+    /// The edges by call letters that lead to `q`.
+    pub fn calls_entering(&self, q: u32) -> &[(u32, Letter, u32)]
+        ensures { result.now ≡ entering q self.now.calls }
+    {
+        self.calls.entering(q)
+    }
+
     /// The edges by returns that leave `q`.
     pub fn backs_leaving(&self, q: u32) -> &[(u32, u32, Letter, u32)]
         ensures { result.now ≡ backs_leaving q self.now.backs }
     {
         self.backs.leaving(q)
+    }
+
+    /// The edges by returns that leave `q`, where `p` was the state before the matching call.
+    pub fn backs_between(&self, q: u32, p: u32) -> &[(u32, u32, Letter, u32)]
+        ensures { result.now ≡ backs_between q p self.now.backs }
+    {
+        self.backs.between(q, p)
     }
 
     /// Where the edges lead that leave `q` by the inside letter `a`.
@@ -171,6 +186,22 @@ impl Nwa {
         ensures { IsTrue result ↔ Member self.now.backs (q, p, a, to) }
     {
         self.back_ends(q, p, a).contains(&to)
+    }
+
+    /// Adds a state, which gets the number that follows the others. No memory is left for it exactly where there are as many
+    /// states as a number counts.
+    pub fn add_state(&mut self) -> Result<u32, AllocError>
+        ensures number { IfOk result (λ q. q ≡ self.old.states) }
+        ensures ok { OnOk result (self.new ≡ record self.old { states = self.old.states + 1 }) }
+        ensures err { OnErr result (self.new ≡ self.old) }
+        ensures full { IsErr result ↔ (self.old.states + 1 ≡ 2 ^ 32) }
+    {
+        if self.states == u32::MAX {
+            return Err(AllocError);
+        }
+        let state = self.states;
+        self.states += 1;
+        Ok(state)
     }
 
     /// Adds a final state at the end.

@@ -13,6 +13,7 @@ use std::marker::Model;
 pub struct BackEdges {
     list: Vec<(u32, u32, Letter, u32)>,
     by_state: Groups<u32, (u32, u32, Letter, u32)>,
+    by_pair: Groups<(u32, u32), (u32, u32, Letter, u32)>,
     by_letter: Groups<(u32, u32, Letter), u32>,
 }
 
@@ -29,11 +30,12 @@ impl Model for BackEdges {
 
     ghost invariant = { λ e. IsBackIndexed e.list.items
         (λ q. grouped (get ⟦<u32 as PartialEq>⟧.eq e.by_state.by_key q))
+        (λ q p. grouped (get ⟦<(u32, u32) as PartialEq>⟧.eq e.by_pair.by_key (q, p)))
         (λ q p a. grouped (get ⟦<(u32, u32, Letter) as PartialEq>⟧.eq e.by_letter.by_key (q, p, a))) };
 }
 
 impl BackEdges {
-    ghost use Rattle.nwa_base.specs.Edges.{backs_leaving, back_ends};
+    ghost use Rattle.nwa_base.specs.Edges.{backs_leaving, backs_between, back_ends};
 
     /// No edges.
     pub fn new(alloc: Global) -> Self
@@ -42,6 +44,7 @@ impl BackEdges {
         BackEdges {
             list: Vec::new(alloc),
             by_state: Groups::new(alloc),
+            by_pair: Groups::new(alloc),
             by_letter: Groups::new(alloc),
         }
     }
@@ -60,6 +63,13 @@ impl BackEdges {
         self.by_state.of(&q)
     }
 
+    /// The edges that leave `q` where `p` was the state before the call.
+    pub fn between(&self, q: u32, p: u32) -> &[(u32, u32, Letter, u32)]
+        ensures { result.now ≡ backs_between q p self.now }
+    {
+        self.by_pair.of(&(q, p))
+    }
+
     /// Where the edges lead that leave `q` by `a`, where `p` was the state before the call.
     pub fn ends(&self, q: u32, p: u32, a: Letter) -> &[u32]
         ensures { result.now ≡ back_ends q p a self.now }
@@ -74,8 +84,13 @@ impl BackEdges {
     {
         self.list.reserve(1)?;
         self.by_state.add(edge.0, edge)?;
+        if let Err(fault) = self.by_pair.add((edge.0, edge.1), edge) {
+            self.by_state.drop_last(&edge.0);
+            return Err(fault);
+        }
         if let Err(fault) = self.by_letter.add((edge.0, edge.1, edge.2), edge.3) {
             self.by_state.drop_last(&edge.0);
+            self.by_pair.drop_last(&(edge.0, edge.1));
             return Err(fault);
         }
         self.list.push(edge)?;

@@ -6,6 +6,7 @@
 mod automata;
 mod back_edges;
 mod building;
+mod calls;
 mod edges;
 mod faults;
 mod finals;
@@ -21,6 +22,7 @@ mod words;
 pub use automata::Nwa;
 pub use building::empty;
 pub use faults::NwaFault;
+pub use groups::Groups;
 pub use letters::{Kind, Letter};
 pub use pairs::{Pair, on_back, on_call, on_inside};
 pub use reading::{accepts, has_final};

@@ -146,11 +146,6 @@ fn automaton(alloc: Global, built: Built) -> Result<Nwa, NwaFault> {
     Ok(nwa)
 }
 
-fn is_accepted(alloc: Global, nwa: &Nwa, letters: &[Letter]) -> Result<bool, Fail> {
-    let word = spelled(alloc, letters)?.ok_or("a return is pending")?;
-    Ok(accepts(alloc, nwa, &word)?)
-}
-
 fn found_run(alloc: Global, nwa: &Nwa, letters: &[Letter]) -> Result<Vec<u32>, Fail> {
     let word = spelled(alloc, letters)?.ok_or("a return is pending")?;
     Ok(run_of(alloc, nwa, &word)?.unwrap_or(Vec::new(alloc)))
@@ -163,73 +158,44 @@ fn assert_run(
     letters: &[Letter],
     wanted: &[u32],
 ) -> Result<(), Fail> {
-    let yes = is_accepted(alloc, nwa, letters)?;
-    assert!(rt; yes != wanted.is_empty());
-    let run = found_run(alloc, nwa, letters)?;
-    assert_eq!(rt; run.as_slice(), wanted);
+    let word = spelled(alloc, letters)?.ok_or("a return is pending")?;
+    shared(&word);
+    let yes = accepts(alloc, nwa, &word)?;
+    let run = run_of(alloc, nwa, &word)?.unwrap_or(Vec::new(alloc));
+    assert!(rt;
+        (yes != wanted.is_empty()) & (run.as_slice() == wanted),
+        "{letters:?}"
+    );
     Ok(())
 }
+
+/// The automata, with words for each.
+const ACCEPTED: [(Built, &[(&[Letter], &[u32])]); 4] = [
+    (CALLS_ONCE, &CALLED_ONCE),
+    (REMEMBERS, &REMEMBERED),
+    (FAILS_THREE_CALLS_DEEP, &FAILURES),
+    (GUESSES, &GUESSED),
+];
 
 #[test]
 fn words_have_no_pending_return(rt: HostRuntime) -> Result<(), Fail> {
     for (letters, wanted) in SPELLED {
-        assert_eq!(rt;
-            spelled(rt.alloc(), letters)?.is_some(),
-            wanted,
-            "{letters:?}"
-        );
+        let copied = match spelled(rt.alloc(), letters)? {
+            Some(word) => word.copy()?.letters() == letters,
+            None => false,
+        };
+        assert!(rt; copied == wanted, "{letters:?}");
     }
     Ok(())
 }
 
 #[test]
-fn words_of_one_call(rt: HostRuntime) -> Result<(), Fail> {
-    let nwa = automaton(rt.alloc(), CALLS_ONCE)?;
-    for (letters, run) in CALLED_ONCE {
-        assert_run(&rt, rt.alloc(), &nwa, letters, run)?;
-    }
-    Ok(())
-}
-
-#[test]
-fn states_are_refused_before_letters(rt: HostRuntime) -> Result<(), Fail> {
-    let mut nwa = automaton(rt.alloc(), CALLS_ONCE)?;
-    assert_refused(&rt, nwa.add_inside(9, C, 0), true);
-    assert_refused(&rt, nwa.add_inside(0, C, 1), false);
-    Ok(())
-}
-
-#[test]
-fn the_start_is_a_state(rt: HostRuntime) {
-    match empty(rt.alloc(), 2, 2) {
-        Err(NwaFault::BadState) => {}
-        _ => panic!(rt; "not refused"),
-    }
-}
-
-#[test]
-fn returns_read_the_state_before_their_call(rt: HostRuntime) -> Result<(), Fail> {
-    let nwa = automaton(rt.alloc(), REMEMBERS)?;
-    for (letters, run) in REMEMBERED {
-        assert_run(&rt, rt.alloc(), &nwa, letters, run)?;
-    }
-    Ok(())
-}
-
-#[test]
-fn failure_three_calls_deep(rt: HostRuntime) -> Result<(), Fail> {
-    let nwa = automaton(rt.alloc(), FAILS_THREE_CALLS_DEEP)?;
-    for (letters, run) in FAILURES {
-        assert_run(&rt, rt.alloc(), &nwa, letters, run)?;
-    }
-    Ok(())
-}
-
-#[test]
-fn runs_are_found_among_several_edges(rt: HostRuntime) -> Result<(), Fail> {
-    let nwa = automaton(rt.alloc(), GUESSES)?;
-    for (letters, run) in GUESSED {
-        assert_run(&rt, rt.alloc(), &nwa, letters, run)?;
+fn words_have_their_runs(rt: HostRuntime) -> Result<(), Fail> {
+    for (built, words) in ACCEPTED {
+        let nwa = automaton(rt.alloc(), built)?.copy()?;
+        for &(letters, run) in words {
+            assert_run(&rt, rt.alloc(), &nwa, letters, run)?;
+        }
     }
     Ok(())
 }
@@ -256,79 +222,85 @@ const NESTS: Built = Built {
     backs: &[(1, 1, R, 1)],
 };
 
+/// Calls that nest, how many of them are pending, and how many states the run has.
+const DEPTHS: [(u32, u32, usize); 2] = [(2000, 1000, 3001), (1000, 0, 0)];
+
 #[test]
 fn calls_nest_a_thousand_deep(rt: HostRuntime) -> Result<(), Fail> {
     let nwa = automaton(rt.alloc(), NESTS)?;
-    let nest = nested(rt.alloc(), 2000, 1000)?;
-    let run = found_run(rt.alloc(), &nwa, nest.as_slice())?;
-    assert_eq!(rt; run.len(), 3001);
+    for (depth, pending, states) in DEPTHS {
+        let nest = nested(rt.alloc(), depth, pending)?;
+        let run = found_run(rt.alloc(), &nwa, nest.as_slice())?;
+        assert_eq!(rt; run.len(), states);
+    }
     Ok(())
 }
 
-#[test]
-fn the_outermost_call_does_not_return(rt: HostRuntime) -> Result<(), Fail> {
-    let nwa = automaton(rt.alloc(), NESTS)?;
-    let nest = nested(rt.alloc(), 1000, 0)?;
-    let yes = is_accepted(rt.alloc(), &nwa, nest.as_slice())?;
-    assert!(rt; !yes);
-    Ok(())
-}
-
-/// Edges that are refused, and whether for a state that is out of range.
+/// Edges that are refused, by a letter of another kind: their ends, and whether one of these is out of range.
 const REFUSED: [(u32, u32, bool); 3] = [(2, 0, true), (0, 2, true), (0, 1, false)];
 
-fn assert_refused(rt: &impl Abort, answer: Result<(), NwaFault>, bad_state: bool) {
+/// Whether the call was refused, for a state or else for a letter.
+fn is_refused(answer: Result<(), NwaFault>, bad_state: bool) -> bool {
     match answer {
-        Err(NwaFault::BadState) => assert!(rt; bad_state),
-        Err(NwaFault::BadLetter) => assert!(rt; !bad_state),
-        _ => panic!(rt; "not refused"),
+        Err(NwaFault::BadState) => bad_state,
+        Err(NwaFault::BadLetter) => !bad_state,
+        _ => false,
     }
 }
 
 #[test]
-fn inside_edges_are_refused_by_state_and_then_by_letter(rt: HostRuntime) -> Result<(), Fail> {
-    let mut nwa = empty(rt.alloc(), 2, 1)?;
+fn states_are_refused_before_letters(rt: HostRuntime) -> Result<(), Fail> {
+    let mut nwa = empty(rt.alloc(), 1, 0)?;
+    let added = nwa.add_state()?;
     for (q, to, bad_state) in REFUSED {
-        assert_refused(&rt, nwa.add_inside(q, C, to), bad_state);
+        let inside = is_refused(nwa.add_inside(q, C, to), bad_state);
+        let call = is_refused(nwa.add_call(q, R, to), bad_state);
+        let back = is_refused(nwa.add_back(q, to, A, 0), bad_state);
+        assert!(rt; inside & call & back);
     }
-    assert!(rt; nwa.insides().is_empty());
+    let out_of_range = is_refused(nwa.set_final(2), true) & empty(rt.alloc(), 2, 2).is_err();
+    assert!(rt; out_of_range & (added == 1) & (nwa.states() == 2));
     Ok(())
 }
 
+/// What the readers answer: edges by state and by state and letter, in the order in which they were added.
 #[test]
-fn call_edges_are_refused_by_state_and_then_by_letter(rt: HostRuntime) -> Result<(), Fail> {
-    let mut nwa = empty(rt.alloc(), 2, 1)?;
-    for (q, to, bad_state) in REFUSED {
-        assert_refused(&rt, nwa.add_call(q, R, to), bad_state);
-    }
-    assert!(rt; nwa.calls().is_empty());
-    Ok(())
-}
-
-#[test]
-fn return_edges_are_refused_by_state_and_then_by_letter(rt: HostRuntime) -> Result<(), Fail> {
-    let mut nwa = empty(rt.alloc(), 2, 1)?;
-    for (q, p, bad_state) in REFUSED {
-        assert_refused(&rt, nwa.add_back(q, p, A, 0), bad_state);
-    }
-    assert!(rt; nwa.backs().is_empty());
-    Ok(())
-}
-
-#[test]
-fn readers_answer_in_the_order_of_addition(rt: HostRuntime) -> Result<(), Fail> {
+fn edges_are_found(rt: HostRuntime) -> Result<(), Fail> {
     let nwa = automaton(rt.alloc(), GUESSES)?;
     shared(&nwa);
-    let copy = nwa.copy()?;
-    assert_eq!(rt; copy.inside_ends(0, A), [1, 2].as_slice());
-    assert_eq!(rt; copy.back_ends(3, 2, R), [2].as_slice());
+    let found = [
+        nwa.finals() == [5].as_slice(),
+        nwa.insides_leaving(0) == [(0, A, 1), (0, A, 2)].as_slice(),
+        nwa.calls_leaving(2) == [(2, C, 3)].as_slice(),
+        nwa.calls_entering(3) == [(2, C, 3)].as_slice(),
+        nwa.backs_leaving(3) == [(3, 2, R, 2)].as_slice(),
+        nwa.backs_between(3, 2) == [(3, 2, R, 2)].as_slice(),
+        nwa.inside_ends(0, A) == [1, 2].as_slice(),
+        nwa.call_ends(0, C) == [0].as_slice(),
+        nwa.back_ends(3, 2, R) == [2].as_slice(),
+        nwa.has_inside(0, A, 2) & !nwa.has_inside(0, B, 2),
+        nwa.has_back(3, 2, R, 2) & !nwa.has_back(3, 0, R, 2),
+        nwa.is_final(5) & !nwa.is_final(2),
+    ];
+    assert!(rt; !found.contains(&false), "{found:?}");
     Ok(())
 }
 
+/// The steps by which `C A C R B` is read, from the start paired with itself.
 #[test]
-fn words_are_copied(rt: HostRuntime) -> Result<(), Fail> {
-    let word = spelled(rt.alloc(), &[C, A])?.ok_or("a return is pending")?;
-    shared(&word);
-    assert_eq!(rt; word.copy()?.letters().len(), 2);
+fn letters_lead_from_pairs_to_pairs(rt: HostRuntime) -> Result<(), Fail> {
+    let alloc = rt.alloc();
+    let nwa = automaton(alloc, GUESSES)?;
+    let guessed = on_inside(alloc, &nwa, &[(0, 0)], A)?;
+    let inner = on_call(alloc, &nwa, guessed.as_slice(), C)?;
+    let back = on_back(alloc, &nwa, guessed.as_slice(), inner.as_slice(), R)?;
+    let last = on_inside(alloc, &nwa, back.as_slice(), B)?;
+    let led = [
+        guessed.as_slice() == [(0, 1), (0, 2)].as_slice(),
+        inner.as_slice() == [(2, 3)].as_slice(),
+        back.as_slice() == [(0, 2)].as_slice(),
+        has_final(&nwa, last.as_slice()) & !has_final(&nwa, back.as_slice()),
+    ];
+    assert!(rt; !led.contains(&false), "{led:?}");
     Ok(())
 }
