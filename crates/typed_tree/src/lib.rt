@@ -11,6 +11,8 @@ mod merging;
 mod numbers;
 mod operations;
 mod scope;
+#[cfg(test)]
+mod tests;
 mod types;
 mod typing;
 
