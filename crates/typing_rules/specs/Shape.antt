@@ -5,12 +5,13 @@ use Rattle.std.specs.Str.{bytes_eq}
 use Rattle.boogie_tree.specs.declared.tree.Ty.{Ty}
 use Rattle.boogie_tree.specs.declared.tree.Ty.TheVariants as types
 use Rattle.boogie_tree.specs.declared.tree.VarInfo.{VarInfo}
-use Rattle.typed_tree.specs.TypedTree.{TypedExpression, Truth, Var, Not, TypedStatement, Call, If, While, Label, TypedBlock, Empty, Then, TypedProcedure, TypedProgram}
+use Rattle.typed_tree.specs.TypedTree.{TypedExpression, Lit, Truth, Var, Not, TypedStatement, Call, If, While, Label, TypedBlock, Empty, Then, TypedProcedure, TypedProgram}
 use Rattle.typing_rules.specs.Names.{is_spelled}
 use Rattle.typing_rules.specs.Rules.{all_differ, meets, params_of}
 
 -- a literal, a variable, or `!` before a variable
 abbrev pub is_simple : TypedExpression → Bool
+is_simple (Lit at n) = true
 is_simple (Truth at b) = true
 is_simple (Var at c) = true
 is_simple (Not at (Var at1 c)) = true

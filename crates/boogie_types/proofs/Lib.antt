@@ -1,0 +1,14 @@
+pub mod Differ
+pub mod NameLaws
+pub mod SeenNames
+pub mod FaultLaws
+pub mod ShapeLists
+pub mod ShapeNames
+pub mod ShapeHidden
+pub mod ShapeArguments
+pub mod ShapeStatements
+pub mod ShapeLabels
+pub mod ShapeModifies
+pub mod ShapeProcedures
+pub mod Shape
+pub mod EachLaws

@@ -1,0 +1,8 @@
+pub mod Meanings
+pub mod Naming
+pub mod Sorted
+pub mod Resolved
+pub mod BrokenNames
+pub mod Numbers
+pub mod Referred
+pub mod NamingFaults

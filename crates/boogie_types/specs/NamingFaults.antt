@@ -1,0 +1,42 @@
+-- The faults of names: a broken rule, or want of memory.
+use Rattle.std.specs.Prelude.{ℕ, List, Option, Contains}
+use Rattle.boogie_tree.specs.declared.tree.Name.{Name}
+use Rattle.boogie_tree.specs.Tree.{Expression, Guard, Invariant, Statement, Block, Procedure, Declaration}
+use Rattle.typed_tree.specs.declared.fault.TypeFault.{TypeFault}
+use Rattle.typed_tree.specs.declared.fault.TypeFault.TheVariants as fault
+use Rattle.typed_tree.specs.Scope.{Scope}
+use Rattle.boogie_types.specs.Naming.{Place}
+use Rattle.boogie_types.specs.BrokenNames.{IsUnknownIn, AreUnknownIn, IsTargetUnknown, IsGuardUnknown, IsMisnamed, IsMisnamedIn, IsProcedureMisnamed, IsRuleBroken}
+
+-- the fault is want of memory, or the rule is broken
+abbrev pub OrMemory : TypeFault → Type 0 → Type 0
+OrMemory fault.Memory broken = Unit {0}
+OrMemory f broken = broken
+
+abbrev pub IsExpressionFault : Scope → Expression → TypeFault → Type 0
+IsExpressionFault s e f = OrMemory f (IsUnknownIn s e f)
+
+abbrev pub AreExpressionsFault : Scope → List Expression → TypeFault → Type 0
+AreExpressionsFault s es f = OrMemory f (AreUnknownIn s es f)
+
+abbrev pub IsTargetsFault : Scope → List Name → TypeFault → Type 0
+IsTargetsFault s xs f = OrMemory f (IsTargetUnknown s xs f)
+
+abbrev pub IsGuardFault : Scope → Guard → TypeFault → Type 0
+IsGuardFault s g f = OrMemory f (IsGuardUnknown s g f)
+
+-- a condition of these has a name that means nothing there
+abbrev pub IsInvariantUnknown : Scope → List Invariant → TypeFault → Type 0
+IsInvariantUnknown s is f = (i : Invariant) × Contains is i × IsUnknownIn s i.cond f
+
+abbrev pub IsInvariantsFault : Scope → List Invariant → TypeFault → Type 0
+IsInvariantsFault s is f = OrMemory f (IsInvariantUnknown s is f)
+
+abbrev pub IsStatementFault : Place → Option (List ℕ) → Statement → TypeFault → Type 0
+IsStatementFault p before s f = OrMemory f (IsMisnamed p before s f)
+
+abbrev pub IsBlockFault : Place → Option (List ℕ) → Block → TypeFault → Type 0
+IsBlockFault p before b f = OrMemory f (IsMisnamedIn p before b f)
+
+abbrev pub IsProcedureFault : List Declaration → Procedure → TypeFault → Type 0
+IsProcedureFault ds p f = OrMemory f (IsProcedureMisnamed ds p f)

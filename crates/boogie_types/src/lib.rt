@@ -1,0 +1,14 @@
+//! Resolves the names of Boogie programs, and tests the typing rules.
+#![tactic(auto)]
+
+mod expressions;
+mod lists;
+mod names;
+mod numbered;
+mod sorted;
+
+pub use typed_tree::{
+    Affine, AffineFault, Column, Op, Scope, Span, TExpr, TExprKind, TGuard, TInv, TProc, TSpec,
+    TStmt, Text, Ty, TypeFault, VarInfo,
+};
+pub use typing_rules::Typed;
