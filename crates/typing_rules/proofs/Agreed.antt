@@ -1,5 +1,5 @@
 -- Two lists that are read side by side.
-use Rattle.std.proofs.Common.{◌≡◌, ℕ, ◌+◌, ◌<◌, ◌≤◌, min, Bool, true, false, ◌&&◌, List, [], ◌∷◌, length, take, drop, get_or, map, nat_eq, Option, None, Some, refl, ap, sym, ◌∙◌, subst, arith, inl, inr, Contains}
+use Rattle.std.proofs.Common.{◌≡◌, ℕ, ◌+◌, ◌<◌, ◌≤◌, Bool, true, false, List, ◌∷◌, length, drop, get_or, map, nat_eq, None, Some, refl, ap, sym, ◌∙◌, subst, arith, inl, inr, Contains}
 use Rattle.std.specs.List.{zip}
 use Rattle.std.proofs.lemmas.List.{get_or-map, length-map, drop_more, drop_all}
 use Rattle.std.proofs.lemmas.Option.{same_Some, slice_get-get_or}

@@ -1,5 +1,5 @@
 -- Where a fault stands, the rules are not kept.
-use Rattle.std.proofs.Common.{◌≡◌, ℕ, zero, suc, ◌+◌, ◌<◌, Bool, true, false, not, ◌&&◌, List, [], ◌∷◌, ◌++◌, length, get_or, nat_eq, nat_lt, slice_get, Option, None, Some, refl, ap, sym, ◌∙◌, subst, arith, Contains}
+use Rattle.std.proofs.Common.{◌≡◌, ℕ, zero, suc, ◌+◌, Bool, true, false, not, ◌&&◌, List, [], ◌∷◌, length, nat_eq, slice_get, Option, None, Some, refl, ap, sym, ◌∙◌, subst, arith, Contains}
 use Rattle.std.specs.List.{list_all, zip}
 use Rattle.std.specs.Option.{is_some, option_and_then}
 use Rattle.std.proofs.lemmas.Bool.{and_left, and_right, false≢true}
@@ -11,12 +11,12 @@ use Rattle.boogie_tree.specs.declared.tree.Column.{Column}
 use Rattle.boogie_tree.specs.declared.tree.Column.TheVariants as columns
 use Rattle.boogie_tree.specs.declared.tree.VarInfo.{VarInfo}
 use Rattle.typed_tree.specs.declared.fault.TypeFault.{TypeFault}
-use Rattle.typed_tree.specs.TypedTree.{TypedExpression, TypedGuard, Cond, TypedInvariant, TypedStatement, Assert, Assume, Havoc, Assign, Call, If, While, Break, Goto, TypedBlock, Then, TypedSpecification, Requires, Ensures, TypedProcedure, TypedProgram}
+use Rattle.typed_tree.specs.TypedTree.{TypedExpression, TypedGuard, TypedInvariant, TypedStatement, Havoc, Assign, Goto, TypedBlock, TypedSpecification, TypedProcedure, TypedProgram}
 use Rattle.typed_tree.specs.Scope.{Scope, axiom_scope, variable_at, unless_hidden}
 use Rattle.typed_tree.specs.Typing.{type_of, same_type, has_type, is_some_of}
-use Rattle.typed_tree.specs.KeptRules.{is_right, is_arithmetic, keeps_rules}
+use Rattle.typed_tree.specs.KeptRules.{is_right, is_arithmetic}
 use Rattle.typed_tree.proofs.Broken.{not_kept}
-use Rattle.typing_rules.specs.Rules.{Context, all_differ, is_member, same_column, meets, is_condition, is_guard, is_invariant, is_writable, are_targets, column_has, values_agree, arguments_agree, results_agree, params_of, results_of, is_call, within, looped, context_of, is_statement, is_block, is_body, is_body_if_any, is_specification, is_procedure, keeps_typing}
+use Rattle.typing_rules.specs.Rules.{Context, all_differ, is_member, same_column, meets, is_condition, is_guard, is_invariant, is_writable, are_targets, column_has, values_agree, arguments_agree, results_agree, params_of, results_of, is_call, within, looped, context_of, is_statement, is_block, is_body_if_any, is_specification, is_procedure, keeps_typing}
 use Rattle.typing_rules.specs.BrokenTyping as b
 
 -- ---- lists

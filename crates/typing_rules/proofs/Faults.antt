@@ -1,5 +1,5 @@
 -- Faults of parts are faults of the whole.
-use Rattle.std.proofs.Common.{◌≡◌, ℕ, ◌<◌, length, get_or, map, ap, sym, ◌∙◌, arith, Bool, true, false, List, [], ◌∷◌, ◌⊎◌, inl, inr, Option, None, Some, Result, Ok, Err, ◌&&◌, slice_get, subst, Contains, refl}
+use Rattle.std.proofs.Common.{◌≡◌, ℕ, ◌<◌, length, get_or, map, ap, sym, ◌∙◌, arith, true, false, List, inl, inr, None, Some, Result, Ok, Err, slice_get, subst, Contains, refl}
 use Rattle.std.proofs.lemmas.List.{get_or-map, length-map}
 use Rattle.boogie_tree.specs.declared.tree.Ty.{Ty}
 use Rattle.typed_tree.specs.declared.fault.TypeFault.{TypeFault}
@@ -12,14 +12,14 @@ use Rattle.typed_tree.specs.TypedView.{expression, kind_view}
 use Rattle.typed_tree.specs.Typing.{type_of, same_type}
 use Rattle.typed_tree.specs.BrokenRules.{place_of}
 use Rattle.typed_tree.specs.KeptRules.{is_right, is_arithmetic}
-use Rattle.typed_tree.specs.TypedTree.{TypedExpression, TypedGuard, Cond, TypedProcedure, Call}
+use Rattle.typed_tree.specs.TypedTree.{TypedExpression, Cond, TypedProcedure, Call}
 use Rattle.typed_tree.specs.Scope.{Scope, variable_at}
 use Rattle.typed_tree.specs.BrokenRules.{IsFault, IsBroken}
 use Rattle.boogie_tree.specs.declared.tree.Column.{Column}
 use Rattle.boogie_tree.specs.declared.tree.Column.TheVariants as columns
 use Rattle.boogie_tree.specs.declared.tree.VarInfo.{VarInfo}
 use Rattle.std.specs.List.{list_all}
-use Rattle.typing_rules.specs.Rules.{Context, all_differ, same_column, is_member, are_targets, is_call, is_statement, meets}
+use Rattle.typing_rules.specs.Rules.{Context, all_differ, same_column, is_member, are_targets, is_call, is_statement}
 use Rattle.typing_rules.specs.BrokenTyping.{IsValueBroken, inside, of_other_type, IsConditionBroken, IsGuardBroken, decided, IsTargetBroken, AreTargetsBroken, at_target, repeated, unlisted, IsCallBroken, modifies_more, IsStatementBroken, unknown_callee, returned, called}
 use Rattle.typing_rules.specs.Judged.{IsFaultOf, IsOneBroken, one, Judges}
 

@@ -1,9 +1,9 @@
 -- Procedures and programs, from their parts.
-use Rattle.std.proofs.Common.{◌≡◌, Bool, true, false, ◌&&◌, List, Option, None, Some, map, take, ◌+◌, refl, ap, sym, ◌∙◌, subst, inl, inr, Result, Ok, Err, Contains}
+use Rattle.std.proofs.Common.{◌≡◌, Bool, true, ◌&&◌, List, Option, Some, take, ◌+◌, ap, sym, ◌∙◌, subst, inl, inr, Result, Ok, Err}
 use Rattle.std.specs.List.{list_all}
 use Rattle.boogie_tree.specs.declared.tree.VarInfo.{VarInfo}
 use Rattle.typed_tree.specs.declared.fault.TypeFault.{TypeFault}
-use Rattle.typed_tree.specs.TypedTree.{TypedExpression, TypedInvariant, TypedBlock, TypedSpecification, Requires, Ensures, TypedProcedure, TypedProgram}
+use Rattle.typed_tree.specs.TypedTree.{TypedInvariant, TypedBlock, TypedSpecification, Requires, Ensures, TypedProcedure, TypedProgram}
 use Rattle.typed_tree.specs.Scope.{Scope, axiom_scope, requires_scope, body_scope}
 use Rattle.typing_rules.specs.Rules.{Context, is_condition, params_of, is_specification, is_block, within, is_body_if_any, is_procedure, context_of, keeps_typing}
 use Rattle.typing_rules.specs.BrokenTyping.{IsConditionBroken, IsSpecificationBroken, required, ensured, IsBlockBroken, IsProcedureBroken, specified, in_body, IsProgramBroken, axiomatic, in_procedure}

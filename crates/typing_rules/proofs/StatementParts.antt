@@ -12,12 +12,12 @@ use Rattle.typed_tree.specs.declared.types.TGuard.{TGuard}
 use Rattle.typed_tree.specs.declared.types.TInv.{TInv}
 use Rattle.typed_tree.specs.declared.types.TStmt.{TStmt, the_lemmas}
 use Rattle.typed_tree.specs.declared.types.TStmt.TheVariants as code
-use Rattle.typed_tree.specs.TypedTree.{TypedExpression, TypedGuard, TypedInvariant, TypedStatement, Assert, Assume, Havoc, Assign, If, While, Break, Goto, TypedBlock, Then}
+use Rattle.typed_tree.specs.TypedTree.{TypedExpression, TypedGuard, TypedInvariant, TypedStatement, Assert, Assume, Havoc, Assign, If, While, Break, Goto, TypedBlock}
 use Rattle.typed_tree.specs.TypedView as view
 use Rattle.typing_rules.specs.declared.frame.Frame.{Frame}
 use Rattle.typing_rules.specs.Rules.{Context, is_condition, is_guard, is_invariant, are_targets, values_agree, is_member, is_statement, is_block, within, looped}
 use Rattle.typing_rules.specs.BrokenTyping.{IsConditionBroken, IsGuardBroken, AreTargetsBroken, IsStatementBroken, asserted, assumed, nothing_chosen, chosen, nothing_assigned, assigned, branched, in_then, in_else, looping, in_invariant, in_loop, no_loop, nowhere, unreachable, IsBlockBroken, first, later}
-use Rattle.typing_rules.specs.Judged.{IsFaultOf, Judges, JudgesIn, IsOneBroken, one, IsInvariantBroken, IsLoopHeadBroken, context, is_head}
+use Rattle.typing_rules.specs.Judged.{IsFaultOf, Judges, JudgesIn, one, IsLoopHeadBroken, context, is_head}
 
 -- ---- empty lists
 

@@ -17,12 +17,7 @@ use boogie_tree::{Column, Span};
 use typed_tree::{TExpr, TGuard, TInv, TStmt, TypeFault};
 
 /// Whether there is one value for each target, of its type.
-fn values(
-    frame: &Frame,
-    at: Span,
-    columns: &[Column],
-    values: &[TExpr],
-) -> Result<(), TypeFault>
+fn values(frame: &Frame, at: Span, columns: &[Column], values: &[TExpr]) -> Result<(), TypeFault>
     ensures { Judges result (values_agree (seen frame.now.scope) columns.now (map view.expression values.now)) (IsStatementBroken (context frame.now) (Assign at columns.now (map view.expression values.now))) }
 {
     if columns.len() != values.len() {
@@ -37,12 +32,7 @@ fn values(
     Ok(())
 }
 
-fn assign(
-    frame: &Frame,
-    at: Span,
-    columns: &[Column],
-    assigned: &[TExpr],
-) -> Result<(), TypeFault>
+fn assign(frame: &Frame, at: Span, columns: &[Column], assigned: &[TExpr]) -> Result<(), TypeFault>
     ensures { Judges result (is_statement (context frame.now) (Assign at columns.now (map view.expression assigned.now))) (IsStatementBroken (context frame.now) (Assign at columns.now (map view.expression assigned.now))) }
 {
     if columns.is_empty() {
@@ -112,7 +102,9 @@ fn head(frame: &Frame, statement: &TStmt) -> Result<(), TypeFault>
         TStmt::Assume(_, claim) => condition(frame.alloc, &frame.scope, claim),
         TStmt::Havoc(at, columns) => havoc(frame, *at, columns),
         TStmt::Assign(at, columns, assigned) => assign(frame, *at, columns, assigned),
-        TStmt::Call(at, columns, callee, arguments) => call(frame, *at, columns, *callee, arguments),
+        TStmt::Call(at, columns, callee, arguments) => call(
+            frame, *at, columns, *callee, arguments,
+        ),
         TStmt::If(_, decided, _, _) => guard(frame.alloc, &frame.scope, decided),
         TStmt::While(_, decided, conditions, _) => loop_head(frame, decided, conditions),
         TStmt::Break(at, further) => leave(frame, *at, *further),

@@ -57,11 +57,7 @@ pub(crate) fn guard(alloc: Global, scope: &Scope, guard: &TGuard) -> Result<(), 
     }
 }
 
-pub(crate) fn invariants(
-    alloc: Global,
-    scope: &Scope,
-    invariants: &[TInv],
-) -> Result<(), TypeFault>
+pub(crate) fn invariants(alloc: Global, scope: &Scope, invariants: &[TInv]) -> Result<(), TypeFault>
     ensures { Judges result (list_all (is_invariant (seen scope.now)) (map view.invariant invariants.now)) (IsOneBroken (map view.invariant invariants.now) (IsInvariantBroken (seen scope.now))) }
 {
     for invariant in invariants {

@@ -1,7 +1,7 @@
-use Rattle.std.proofs.Common.{◌≡◌, ◌≤◌, map, drop, length}
+use Rattle.std.proofs.Common.{◌≡◌, map, drop}
 use Rattle.typed_tree.specs.Scope.{seen}
 use Rattle.typed_tree.specs.TypedView as view
-use Rattle.typing_rules.specs.Rules.{arguments_agree, params_of}
+use Rattle.typing_rules.specs.Rules.{arguments_agree}
 use Rattle.typing_rules.proofs.calls.arguments.Given as goal
 
 abbrev pub invariant-loop-index : goal.invariant-loop-index

@@ -1,7 +1,6 @@
-use Rattle.std.proofs.Common.{◌≡◌, ◌≤◌, map, drop, length}
+use Rattle.std.proofs.Common.{◌≡◌, drop}
 use Rattle.typed_tree.specs.Scope.{seen}
-use Rattle.typed_tree.specs.TypedView as view
-use Rattle.typing_rules.specs.Rules.{results_agree, results_of}
+use Rattle.typing_rules.specs.Rules.{results_agree}
 use Rattle.typing_rules.proofs.calls.returned.Given as goal
 
 abbrev pub invariant-loop-index : goal.invariant-loop-index

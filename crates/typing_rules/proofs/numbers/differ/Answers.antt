@@ -8,7 +8,7 @@ pub loop-number-preserved : goal.loop-number-preserved
 loop-number-preserved c = record {
   found = λ q. grind (arith, common_steps, list_any_more, c.loop-number.invariant.found q);
   differ = numbers_differ_more c.args.numbers.now c.loop-number.number-index c.loop-number-test.true c.loop-number.invariant.differ
-    (grind (arith, common_steps, c.loop-number.invariant.found (get_or c.args.numbers.now c.loop-number.number-index 0), c.in_ok-insert.ensures.added));
+      (grind (arith, common_steps, c.loop-number.invariant.found (get_or c.args.numbers.now c.loop-number.number-index 0), c.in_ok-insert.ensures.added));
 }
 
 pub returns-then-not-branch : goal.returns-then-not-branch

@@ -1,4 +1,4 @@
-use Rattle.std.proofs.Common.{ap, map, Some}
+use Rattle.std.proofs.Common.{ap, map}
 use Rattle.std.specs.Option.{option_map}
 use Rattle.std.proofs.lemmas.Result.{err_from_is_err_and}
 use Rattle.typed_tree.specs.TypedView as view

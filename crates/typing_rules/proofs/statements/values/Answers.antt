@@ -1,5 +1,5 @@
 use Rattle.std.proofs.Common.{rules}
-use Rattle.typing_rules.proofs.Agreed.{value_count_fault, value_at_fault, unseen_value_fault, values_step, values_end}
+use Rattle.typing_rules.proofs.Agreed.{value_count_fault, value_at_fault, unseen_value_fault}
 use Rattle.typing_rules.proofs.statements.values.Goals as goal
 
 pub returns-then-columns-values : goal.returns-then-columns-values

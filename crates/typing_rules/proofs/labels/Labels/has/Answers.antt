@@ -1,4 +1,4 @@
-use Rattle.std.proofs.Common.{arith, ◌≡◌, ap, sym, ◌∙◌}
+use Rattle.std.proofs.Common.{arith}
 use Rattle.std.proofs.lemmas.Grind.{common_steps}
 use Rattle.typing_rules.proofs.Counted.{member_counted}
 use Rattle.typing_rules.proofs.labels.Labels.has.Goals as goal
