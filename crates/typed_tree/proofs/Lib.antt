@@ -5,3 +5,5 @@ pub mod Divisors
 pub mod Parts
 pub mod Broken
 pub mod FormParts
+pub mod FormValues
+pub mod Truths

@@ -1,4 +1,4 @@
-use Rattle.std.proofs.Common.{rules, ℤ, pos, ◌*ℤ◌, get_or, ap, ◌∙◌, map, take, ◌≡◌, FitsSigned}
+use Rattle.std.proofs.Common.{rules, ℤ, pos, ◌*ℤ◌, get_or, ap, ◌∙◌, map, FitsSigned}
 use Rattle.std.specs.Int.{w128}
 use Rattle.std.proofs.lemmas.Int.{to_z-of_z}
 use Rattle.std.proofs.lemmas.List.{take_all}
