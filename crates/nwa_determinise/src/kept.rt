@@ -1,6 +1,6 @@
 //! Sets of pairs, kept under numbers.
 
-ghost use Rattle.std.specs.Prelude.{◌≡◌, ◌<◌, ◌≤◌, ◌↔◌, ◌∷◌, [], List, IsTrue, IfOk, length};
+ghost use Rattle.std.specs.Prelude.{◌≡◌, ◌<◌, ◌≤◌, ◌↔◌, ◌∷◌, [], List, IsTrue, IfOk, OnErr, length};
 
 use indexmap::IndexSet;
 use nwa_base::{Letter, Nwa, Pair, has_final};
@@ -46,6 +46,7 @@ impl<'a> Det<'a> {
     pub fn start(&mut self) -> Result<u32, AllocError>
         ensures grows { Grows self.old self.new }
         ensures more { length self.old.sets ≤ length self.new.sets }
+        ensures unchanged { OnErr result (self.new ≡ self.old) }
         ensures number { IfOk result (λ s. s < length self.new.sets) }
         ensures set { IfOk result (λ s. set_at self.new s ≡ (self.old.nwa.start, self.old.nwa.start) ∷ []) }
     {
@@ -59,6 +60,7 @@ impl<'a> Det<'a> {
         requires { s < length self.old.sets }
         ensures grows { Grows self.old self.new }
         ensures more { length self.old.sets ≤ length self.new.sets }
+        ensures unchanged { OnErr result (self.new ≡ self.old) }
         ensures number { IfOk result (λ t. t < length self.new.sets) }
         ensures set { IfOk result (λ t. IsInsideOf self.old.nwa a (set_at self.old s) (set_at self.new t)) }
     {
@@ -71,6 +73,7 @@ impl<'a> Det<'a> {
         requires { s < length self.old.sets }
         ensures grows { Grows self.old self.new }
         ensures more { length self.old.sets ≤ length self.new.sets }
+        ensures unchanged { OnErr result (self.new ≡ self.old) }
         ensures number { IfOk result (λ t. t < length self.new.sets) }
         ensures set { IfOk result (λ t. IsCallOf self.old.nwa c (set_at self.old s) (set_at self.new t)) }
     {
@@ -84,6 +87,7 @@ impl<'a> Det<'a> {
         requires before { before < length self.old.sets }
         ensures grows { Grows self.old self.new }
         ensures more { length self.old.sets ≤ length self.new.sets }
+        ensures unchanged { OnErr result (self.new ≡ self.old) }
         ensures number { IfOk result (λ t. t < length self.new.sets) }
         ensures set { IfOk result (λ t. IsBackOf self.old.nwa r (set_at self.old before) (set_at self.old s) (set_at self.new t)) }
     {
@@ -116,13 +120,15 @@ impl<'a> Det<'a> {
     fn intern(&mut self, set: Vec<Pair>) -> Result<u32, AllocError>
         ensures grows { Grows self.old self.new }
         ensures more { length self.old.sets ≤ length self.new.sets }
+        ensures unchanged { OnErr result (self.new ≡ self.old) }
         ensures number { IfOk result (λ s. s < length self.new.sets) }
         ensures set { IfOk result (λ s. set_at self.new s ≡ set.items) }
     {
-        let (place, _) = self.sets.insert_full(set)?;
-        if place > u32::MAX as usize {
+        // numbers have 32 bits, so there is room for one set more below that
+        if self.sets.len() > u32::MAX as usize {
             return Err(AllocError);
         }
+        let (place, _) = self.sets.insert_full(set)?;
         Ok(place as u32)
     }
 }
