@@ -23,6 +23,7 @@ def build(work: pathlib.Path, name: str, needs: str) -> str:
     (crate / "args").write_text("none\n0\n")
     with open(work / "crates.txt", "a", encoding="utf-8") as crates:
         crates.write(f"bench_{name}: {needs}\n")
+    print(f"proving and building the program {name}, which takes minutes", file=sys.stderr, flush=True)
     built = subprocess.run(["rt", "run"], cwd=crate, capture_output=True, text=True)
     program = crate / "out" / f"bench_{name}"
     if not program.exists():

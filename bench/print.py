@@ -72,4 +72,5 @@ def main() -> None:
                 last = took
 
 
-main()
+if __name__ == "__main__":
+    main()
