@@ -1,16 +1,15 @@
 -- Two live views as one.
-use Rattle.std.proofs.Common.{◌≡◌, ◌≢◌, ℕ, ◌+◌, ◌<◌, ◌≤◌, ◌⊎◌, inl, inr, Bool, true, false, nat_le, if◌then◌else◌, List, [], ◌∷◌, ◌++◌, length, sym, ap, ◌∙◌, subst, refl, Option, None, Some, arith, ⊎_elim}
+use Rattle.std.proofs.Common.{◌≡◌, ℕ, ◌+◌, ◌<◌, ◌≤◌, ◌⊎◌, inl, inr, Bool, true, false, if◌then◌else◌, List, ◌++◌, length, sym, ◌∙◌, refl, Option, None, Some, arith, ⊎_elim}
 use Rattle.nwa_base.specs.Automata.{Automaton}
 use Rattle.race_core.specs.declared.ends.End.{End}
 use Rattle.race_core.specs.declared.ends.EndKind.{EndKind}
 use Rattle.race_core.specs.declared.events.Entry.{Entry}
-use Rattle.race_core.specs.Ends.{kind_in}
 use Rattle.version_cell.specs.declared.board.Sight.{Sight}
 use Rattle.version_cell.specs.Counts.{times, count, Begins}
 use Rattle.version_cell.specs.Views.{first_of, picks_first, both_of}
 use Rattle.version_cell.specs.Rule.{IsLive}
-use Rattle.version_cell.proofs.Sums.{times_either, none_some, some_is}
-use Rattle.version_cell.proofs.Beginnings.{begins_none, begins_same, begins_along, begins_length, one_begins}
+use Rattle.version_cell.proofs.Sums.{times_either, none_some}
+use Rattle.version_cell.proofs.Beginnings.{begins_same, begins_along, begins_length, one_begins}
 
 module _ {E : Type 0} where
   -- what the first view has seen begins what the second has, and a kind of end that the first has seen the second has seen,

@@ -5,3 +5,4 @@ pub mod Joined
 pub mod Seats
 pub mod Steps
 pub mod Passing
+pub mod Sampled

@@ -1,5 +1,5 @@
 -- Live views after the steps.
-use Rattle.std.proofs.Common.{◌≡◌, ◌≢◌, ℕ, ◌+◌, ◌-◌, ◌<◌, ◌≤◌, ◌⊎◌, List, [], ◌∷◌, ◌++◌, length, sym, ap, ◌∙◌, subst, refl, Option, None, Some, arith, ⊎_elim, length-append}
+use Rattle.std.proofs.Common.{◌≡◌, ℕ, List, [], ◌∷◌, ◌++◌, length, sym, ap, ◌∙◌, refl, Option, None, Some, arith, ⊎_elim, length-append}
 use Rattle.nwa_base.specs.Automata.{Automaton}
 use Rattle.race_core.specs.declared.ends.End.{End}
 use Rattle.race_core.specs.declared.ends.EndKind.{EndKind}
@@ -8,7 +8,6 @@ use Rattle.race_core.specs.Ends.{kind_in}
 use Rattle.race_core.specs.Races.{Race}
 use Rattle.version_cell.specs.declared.board.Held.{Held}
 use Rattle.version_cell.specs.declared.board.Sight.{Sight}
-use Rattle.version_cell.specs.Counts.{times, Begins}
 use Rattle.version_cell.specs.Views.{holding, held_of, with_entry, informed, with_end, lessened, part_of}
 use Rattle.version_cell.specs.Rule.{IsLive, IsAt}
 use Rattle.version_cell.proofs.Sums.{times_last, none_some, some_is}

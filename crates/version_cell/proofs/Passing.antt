@@ -1,9 +1,8 @@
 -- What a pass keeps when it has seen more.
-use Rattle.std.proofs.Common.{◌≡◌, ℕ, ◌+◌, ◌<◌, ◌≤◌, ◌⊎◌, Bool, true, false, nat_eq, nat_le, if◌then◌else◌, List, [], ◌∷◌, ◌++◌, length, sym, ap, ◌∙◌, subst, refl, Option, None, Some, arith, ⊎_elim, length-append}
+use Rattle.std.proofs.Common.{◌≡◌, ℕ, ◌+◌, ◌<◌, ◌≤◌, Bool, true, false, nat_eq, nat_le, if◌then◌else◌, List, [], ◌∷◌, ◌++◌, length, sym, ap, ◌∙◌, subst, refl, Option, None, Some, arith, ⊎_elim, length-append}
 use Rattle.nwa_base.specs.declared.letters.Letter.{Letter}
 use Rattle.nwa_base.specs.Automata.{Automaton}
 use Rattle.race_core.specs.declared.ends.End.{End}
-use Rattle.race_core.specs.declared.ends.EndKind.{EndKind}
 use Rattle.race_core.specs.declared.events.Entry.{Entry}
 use Rattle.race_core.specs.declared.events.Why.{Why}
 use Rattle.race_core.specs.declared.events.Why.TheVariants.{Ended, Full, Stale}
@@ -16,7 +15,7 @@ use Rattle.version_cell.specs.Counts.{times, Begins}
 use Rattle.version_cell.specs.Plays.{IsIdle, GoesOn, Grows, Closes}
 use Rattle.version_cell.specs.Views.{holding, informed, with_entry, with_end}
 use Rattle.version_cell.specs.Passes.{Known, known, IsTable, IsValid, WasAt, shown, owning, ending, Names}
-use Rattle.version_cell.proofs.Sums.{times_last, some_is, none_some}
+use Rattle.version_cell.proofs.Sums.{times_last, times_once, some_is, none_some}
 use Rattle.version_cell.proofs.Beginnings.{begins_length, begins_take}
 use Rattle.atomic_table.specs.Seated.{TableId}
 use Rattle.atomic_table.specs.Table.{Me}
@@ -65,11 +64,11 @@ module _ {E : Type 0} (automaton : E → Automaton) (feasible : E → List Lette
 
   pub valid_shown : (p : Known E) (h : List (Entry E)) (e : Option End) → IsValid automaton feasible p → Begins p.seen h →
       IsLegal automaton feasible p.program h → IsValid automaton feasible (shown p h e)
-  valid_shown p h e v s l = record { shares = v.shares; legal = l; below = still_below p h v s }
+  valid_shown p h e v s l = record { shares = v.shares; legal = l; below = still_below p h v s; once = v.once }
 
   pub valid_ending : (p : Known E) (h : List (Entry E)) (end : End) → IsValid automaton feasible p → Begins p.seen h →
       IsLegal automaton feasible p.program h → IsValid automaton feasible (ending p h end)
-  valid_ending p h end v s l = record { shares = v.shares; legal = l; below = still_below p h v s }
+  valid_ending p h end v s l = record { shares = v.shares; legal = l; below = still_below p h v s; once = v.once }
 
   pub valid_owning : (p : Known E) (h : List (Entry E)) (entry : Entry E) (place : ℕ) → IsValid automaton feasible p → Begins p.seen h →
       length h ≡ place → IsLegal automaton feasible p.program (h ++ entry ∷ []) → IsValid automaton feasible (owning p h entry place)
@@ -80,6 +79,7 @@ module _ {E : Type 0} (automaton : E → Automaton) (feasible : E → List Lette
         legal = l;
         below = λ q there.
             ⊎_elim (λ o. let a = still_below p h v s q o in omega (arith, a, n)) (λ o. omega (arith, o, at, n)) (times_last q place p.own there);
+        once = λ q. times_once q place p.own (v.once q) (λ there. let a = still_below p h v s place there in omega (arith, a, at));
       }
 
 module _ {E : Type 0} where
@@ -214,4 +214,5 @@ module _ {E : Type 0} (automaton : E → Automaton) (feasible : E → List Lette
         legal = subst L (program ∙ g.program) legal;
         below = λ q there.
             ⊎_elim (λ o. let a = valid.below q o in omega (arith, a, s, size, more)) (λ o. omega (arith, o, at)) (times_last q n v.own there);
+        once = λ q. times_once q n v.own (valid.once q) (λ there. let a = valid.below n there in omega (arith, a, s, size, more, at));
       }

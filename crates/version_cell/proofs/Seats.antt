@@ -1,5 +1,5 @@
 -- The rule's part on views when the view of one seat changes.
-use Rattle.std.proofs.Common.{◌≡◌, ◌≢◌, ℕ, zero, suc, ◌+◌, ◌-◌, ◌<◌, ◌≤◌, ◌⊎◌, List, [], ◌∷◌, ◌++◌, length, set, sym, ap, ◌∙◌, subst, refl, Option, None, Some, arith, ⊎_elim}
+use Rattle.std.proofs.Common.{◌≡◌, ◌≢◌, ℕ, ◌+◌, ◌<◌, ◌≤◌, List, [], ◌∷◌, ◌++◌, length, set, sym, ap, ◌∙◌, subst, refl, Option, None, Some, arith, ⊎_elim}
 use mathlib.Core.Option as maybe
 use lib.ListN.{get_elem?}
 use Rattle.nwa_base.specs.Automata.{Automaton}

@@ -1,26 +1,24 @@
 -- Each kind of step keeps the rule.
-use Rattle.std.proofs.Common.{◌≡◌, ◌≢◌, ℕ, zero, suc, ◌+◌, ◌*◌, ◌%◌, ◌^◌, ◌<◌, ◌≤◌, ◌⊎◌, ◌==◌, eqb, List, [], ◌∷◌, ◌++◌, length, set, get_or, slice_index, slice_set, sym, ap, ◌∙◌, subst, refl, Option, None, Some, arith, length-append}
+use Rattle.std.proofs.Common.{◌≡◌, ℕ, zero, suc, ◌+◌, ◌*◌, ◌%◌, ◌^◌, ◌<◌, ◌≤◌, ◌==◌, List, [], ◌∷◌, ◌++◌, length, slice_index, slice_set, sym, ap, ◌∙◌, subst, refl, Option, None, Some, arith, length-append}
 use Rattle.std.proofs.lemmas.Nat.{mod-mul-add}
 use mathlib.Core.Option as maybe
 use lib.ListN.{get_elem?}
 use prog.Atomic.{either}
 use Rattle.nwa_base.specs.Automata.{Automaton}
 use Rattle.race_core.specs.declared.ends.End.{End}
-use Rattle.race_core.specs.declared.ends.EndKind.{EndKind}
 use Rattle.race_core.specs.declared.events.Entry.{Entry}
 use Rattle.race_core.specs.Ends.{kind_in}
 use Rattle.race_core.specs.Races.{Race}
-use Rattle.atomic_table.specs.Table.{State, Me, Step, Act, keeps, takes, gives, Valid, homes_after, carried_after, Allows, Splits, Joins, Seen, Final}
+use Rattle.atomic_table.specs.Table.{State, Me, Step, Act, keeps, takes, gives, Valid, homes_after, carried_after, Allows, Splits, Joins}
 use Rattle.atomic_table.proofs.Lists.{set_again}
-use Rattle.version_cell.specs.declared.board.Held.{Held}
 use Rattle.version_cell.specs.declared.board.Sight.{Sight}
-use Rattle.version_cell.specs.Counts.{total, times, once_below, count, Begins}
+use Rattle.version_cell.specs.Counts.{times, once_below, count}
 use Rattle.version_cell.specs.Views.{nobody, held_of, holding, with_entry, informed, with_end, lessened, part_of, both_of}
-use Rattle.version_cell.specs.Rule.{IsLive, Fits, Views, IsAt, Slot, IsKept}
-use Rattle.version_cell.specs.Plays.{IsIdle, GoesOn, Holds, Grows, Closes, out, won, bumped, released, finished, looked}
+use Rattle.version_cell.specs.Rule.{IsLive, Views, IsAt, Slot, IsKept}
+use Rattle.version_cell.specs.Plays.{IsIdle, GoesOn, Holds, Grows, Closes, won, bumped, released, finished, looked}
 use Rattle.atomic_table.specs.Seated.{TableId}
 use Rattle.version_cell.specs.Passes.{known, IsClosed}
-use Rattle.version_cell.proofs.Sums.{own_more, count_one, count_none, none_some, some_is}
+use Rattle.version_cell.proofs.Sums.{total_one, once_most, own_more, count_one, count_none, some_is}
 use Rattle.version_cell.proofs.Lives.{live_holding, live_informed, live_entry, live_end, live_longer, live_ended}
 use Rattle.version_cell.proofs.Seats.{live_of, views_set, other_is_free, turn_is_held, no_finish, views_split, views_join, whole_only}
 
@@ -246,6 +244,14 @@ module _ {E : Type 0} (program : Automaton) (limit all : ℕ) where
       subst P (sym is)
       (allows slots id (v, (0, Some c) ∷ []) 1 (λ n. (n + 1) % 2 ^ 64) (bumped st (v, (0, Some c) ∷ [])) (bumped_turn st id v c grows small))
 
+  -- each place is one of the seat's own once at most
+  once_there : (turn : ℕ) (h : List (Entry E)) (e : Option End) (id : ℕ) (v : Sight E) (vs : List (Sight E)) →
+      Views program limit all h e turn vs → get_elem? vs id ≡ maybe.some v → (p : ℕ) → times p v.own ≤ 1
+  once_there turn h e id v vs k at p =
+      let a = total_one (λ (u : Sight E). times p u.own) vs id v at in
+      let b = k.own p in
+      let d = once_most p (length h) in omega (arith, a, b, d)
+
   looked_turn : (st : Step (Option (Race E))) (id : ℕ) (m : Me (Option (Race E)) (Sight E)) → 0 < m.0.shares →
       (turn : ℕ) (h : List (Entry E)) (e : Option End) (hs : List (maybe.Option (Option (Race E)))) (vs : List (Sight E)) →
       Views program limit all h e turn vs → Slot program limit all turn h e hs → get_elem? vs id ≡ maybe.some m.0 →
@@ -263,7 +269,7 @@ module _ {E : Type 0} (program : Automaton) (limit all : ℕ) where
           views = let P : List (Sight E) → Type 0 = λ x. Views program limit all h e turn x in subst P (sym (set_again vs id m.0 at)) k;
           slot = slot;
         },
-        (refl, l.told, l.told_ended, l.below),
+        (refl, l.told, l.told_ended, l.below, once_there turn h e id m.0 vs k at),
       )
 
   pub looks : (st : Step (Option (Race E))) (slots id : ℕ) (m : Me (Option (Race E)) (Sight E)) → 0 < m.0.shares →

@@ -1,5 +1,5 @@
 -- Sums over lists when one member changes.
-use Rattle.std.proofs.Common.{◌≡◌, ◌≢◌, ℕ, zero, suc, ◌+◌, ◌<◌, ◌≤◌, ◌⊎◌, inl, inr, nat_eq, nat_lt, if◌then◌else◌, List, [], ◌∷◌, ◌++◌, length, set, sym, ap, ◌∙◌, subst, refl, Option, None, Some, arith, add_assoc, length-append}
+use Rattle.std.proofs.Common.{◌≡◌, ◌≢◌, ℕ, zero, suc, ◌+◌, ◌<◌, ◌≤◌, ◌⊎◌, inl, inr, ⊎_elim, Bool, true, false, nat_eq, if◌then◌else◌, List, [], ◌∷◌, ◌++◌, set, sym, ap, subst, refl, Option, None, Some, arith}
 use mathlib.Core.Option as maybe
 use mathlib.Core.Option.{some-injective, some-ne-none}
 use lib.ListN.{get_elem?}
@@ -62,6 +62,28 @@ pub own_more : (p n m : ℕ) (xs : List ℕ) → m ≡ n + 1 → times p (xs ++ 
 own_more p n m xs e =
     let q = times_append p xs (n ∷ []) in
     let q' : times p (xs ++ n ∷ []) ≡ times p xs + ((if nat_eq n p then 1 else 0) + 0) = q in grind arith
+
+pub once_most : (p n : ℕ) → once_below p n ≤ 1
+once_most p n = grind arith
+
+le_or_more : (n : ℕ) → (n ≤ 0) ⊎ (0 < n)
+le_or_more zero = inl (omega arith)
+le_or_more (suc n) = inr (omega arith)
+
+once_or_new : (p n : ℕ) (xs : List ℕ) → times p xs ≤ 1 → (0 < times n xs → ⊥) → (b : Bool) → nat_eq n p ≡ b →
+    times p (xs ++ n ∷ []) ≡ times p xs + ((if b then 1 else 0) + 0) → times p (xs ++ n ∷ []) ≤ 1
+once_or_new p n xs once fresh false e q = omega (arith, once, q)
+once_or_new p n xs once fresh true e q =
+    let same : n ≡ p = grind arith in
+    let none : 0 < times p xs → ⊥ = λ there. fresh (let P : ℕ → Type 0 = λ m. 0 < times m xs in subst P (sym same) there) in
+    let zero_ : times p xs ≤ 0 = ⊎_elim (λ z. z) (λ m. absurd (none m)) (le_or_more (times p xs)) in omega (arith, zero_, q)
+
+-- a place that is new stands once
+pub times_once : (p n : ℕ) (xs : List ℕ) → times p xs ≤ 1 → (0 < times n xs → ⊥) → times p (xs ++ n ∷ []) ≤ 1
+times_once p n xs once fresh =
+    let q = times_append p xs (n ∷ []) in
+    let q' : times p (xs ++ n ∷ []) ≡ times p xs + ((if nat_eq n p then 1 else 0) + 0) = q in
+    once_or_new p n xs once fresh (nat_eq n p) refl q'
 
 pub count_one : {X : Type 0} (o : Option X) (x : X) → o ≡ Some x → count o ≡ 1
 count_one o x e = ap count e

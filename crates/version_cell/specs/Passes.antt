@@ -77,11 +77,13 @@ module _ {E : Type 0} where
         finish = None;
       }
 
-  -- What every pass keeps: it has a share, the history that it has seen is legal, and its own places lie below its length.
+  -- What every pass keeps: it has a share, the history that it has seen is legal, and its own places lie below its length, each
+  -- listed once.
   pub record IsValid (automaton : E → Automaton) (feasible : E → List Letter → Type 0) (p : Known E) : Type 0 where
     pub shares : 0 < p.shares
     pub legal : IsLegal automaton feasible p.program p.seen
     pub below : (place : ℕ) → 0 < times place p.own → place < length p.seen
+    pub once : (place : ℕ) → times place p.own ≤ 1
 
   -- At one moment the cell had this history, which begins with what the pass had seen, and this end, of the kind that the pass
   -- had seen. Where it had seen one, the history is what it had seen.

@@ -1,5 +1,5 @@
 -- What each step tells the seat that makes it: the number that was found, and the seat after.
-use Rattle.std.specs.Prelude.{◌≡◌, ◌≢◌, ℕ, ◌+◌, ◌<◌, List, [], ◌∷◌, ◌++◌, length, Option, None, Some}
+use Rattle.std.specs.Prelude.{◌≡◌, ◌≢◌, ℕ, ◌+◌, ◌<◌, ◌≤◌, List, [], ◌∷◌, ◌++◌, length, Option, None, Some}
 use Rattle.race_core.specs.declared.ends.End.{End}
 use Rattle.race_core.specs.declared.ends.EndKind.{EndKind}
 use Rattle.race_core.specs.declared.events.Entry.{Entry}
@@ -84,4 +84,4 @@ module _ {E : Type 0} where
   looked st m n m' =
       (m' ≡ m) × Begins m.0.told m.0.seen
       × ((k : EndKind) → m.0.told_ended ≡ Some k → (m.0.told ≡ m.0.seen) × (m.0.ended ≡ Some k))
-      × ((p : ℕ) → 0 < times p m.0.own → p < length m.0.seen)
+      × ((p : ℕ) → 0 < times p m.0.own → p < length m.0.seen) × ((p : ℕ) → times p m.0.own ≤ 1)

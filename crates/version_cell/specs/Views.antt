@@ -1,9 +1,6 @@
 -- What a seat at the cell's table knows, and how the steps change it.
-use Rattle.std.specs.Prelude.{ℕ, ◌+◌, ◌-◌, Bool, true, false, nat_le, if◌then◌else◌, List, [], ◌∷◌, ◌++◌, length, Option, None, Some}
+use Rattle.std.specs.Prelude.{ℕ, ◌+◌, ◌-◌, Bool, true, false, nat_le, if◌then◌else◌, [], ◌∷◌, ◌++◌, length, Option, None, Some}
 use Rattle.nwa_base.specs.Automata.{Automaton}
-use Rattle.race_core.specs.declared.ends.End.{End}
-use Rattle.race_core.specs.declared.ends.EndKind.{EndKind}
-use Rattle.race_core.specs.declared.events.Entry.{Entry}
 use Rattle.race_core.specs.Ends.{kind_in}
 use Rattle.race_core.specs.Races.{Race}
 use Rattle.version_cell.specs.declared.board.Held.{Held}

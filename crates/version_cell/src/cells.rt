@@ -49,6 +49,7 @@ impl<E: Evidence> VersionCell<E> {
         requires shares { 2 ≤ pass.old.shares }
         ensures given { pass.new ≡ lessened_pass pass.old }
         ensures part { result ≡ part_of_pass pass.old }
+        ensures of_cell { IsPassOf self.now pass.new × IsPassOf self.now result }
         ensures valid { IsValid E.automaton E.feasible result }
     {
         Pass {
@@ -63,6 +64,7 @@ impl<E: Evidence> VersionCell<E> {
         ensures both { pass.new ≡ joined pass.old other }
         ensures first { Continues pass.old pass.new }
         ensures second { Continues other pass.new }
+        ensures of_cell { IsPassOf self.now pass.new }
         ensures valid { IsValid E.automaton E.feasible pass.new }
     {
         let Pass { seat } = other;
@@ -75,6 +77,7 @@ impl<E: Evidence> VersionCell<E> {
         requires cell { IsPassOf self.now pass.old }
         ensures moment { (h : List (Entry E)) × (e : Option End) × WasAt pass.old h e × (pass.new ≡ shown pass.old h e) }
         ensures snapshot { IfOk result (λ s. (s.version ≡ length pass.new.seen) × (s.ended ≡ pass.new.ended) × Keeps E.automaton pass.new.program pass.new.seen (arc_value s.kept)) }
+        ensures of_cell { IsPassOf self.now pass.new }
         ensures valid { IsValid E.automaton E.feasible pass.new }
     {
         let top = &self.table.shared;
@@ -108,6 +111,7 @@ impl<E: Evidence> VersionCell<E> {
             (λ v. (publish_refusal e (length h) pass.old.limit base ≡ None) × (v ≡ base + 1) × (length h ≡ base) × (pass.new ≡ owning pass.old h entry base))
             (λ r. (publish_refusal e (length h) pass.old.limit base ≡ Some r.why) × (r.entry ≡ entry) × (r.kept ≡ kept) × (pass.new ≡ shown pass.old h e)) }
         ensures names { IfErr result (λ r. Names pass.new r.why) }
+        ensures of_cell { IsPassOf self.now pass.new }
         ensures valid { IsValid E.automaton E.feasible pass.new }
     {
         let top = &self.table.shared;
@@ -138,6 +142,7 @@ impl<E: Evidence> VersionCell<E> {
             (λ _. (finish_refusal e (length h) base ≡ None) × (length h ≡ base) × (pass.new ≡ ending pass.old h end))
             (λ r. (finish_refusal e (length h) base ≡ Some r.why) × (r.end ≡ end) × (pass.new ≡ shown pass.old h e)) }
         ensures names { IfErr result (λ r. Names pass.new r.why) }
+        ensures of_cell { IsPassOf self.now pass.new }
         ensures valid { IsValid E.automaton E.feasible pass.new }
     {
         let top = &self.table.shared;

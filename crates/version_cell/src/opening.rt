@@ -2,7 +2,7 @@
 
 ghost use Rattle.std.specs.Prelude.{◌≡◌, ◌≤◌, IfOk};
 ghost use Rattle.std.specs.Arc.{arc_value};
-ghost use Rattle.version_cell.specs.Passes.{newcomer};
+ghost use Rattle.version_cell.specs.Passes.{newcomer, IsPassOf};
 
 use crate::board::Terms;
 use crate::cells::VersionCell;
@@ -26,6 +26,7 @@ pub fn create<E: Evidence>(
     requires shares { 1 ≤ shares }
     ensures cell { IfOk result (λ t. (t.0.program ≡ arc_value program) × (t.0.limit ≡ limit) × (t.0.shares ≡ shares)) }
     ensures pass { IfOk result (λ t. t.1 ≡ newcomer t.0) }
+    ensures of_cell { IfOk result (λ t. IsPassOf t.0 t.1) }
 {
     let terms = Terms {
         program: Snapshot::of(&*program),

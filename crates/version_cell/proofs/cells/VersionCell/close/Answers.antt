@@ -1,8 +1,8 @@
-use Rattle.std.proofs.Common.{◌≡◌, ℕ, ◌+◌, ◌<◌, ◌≤◌, arith, sym, ap, ◌∙◌, subst, refl, List, [], ◌∷◌, length, Option, Some, None}
+use Rattle.std.proofs.Common.{◌≡◌, sym, ◌∙◌, subst, refl, Option, Some}
 use Rattle.std.proofs.Common.{IsSome}
-use mathlib.Core.Option.{some, some-injective}
+use mathlib.Core.Option.{some-injective}
 use Rattle.race_core.specs.Races.{Race}
-use Rattle.version_cell.specs.Passes.{Known, Cell, IsClosed}
+use Rattle.version_cell.specs.Passes.{Known, IsClosed}
 use Rattle.version_cell.proofs.Sums.{some_is}
 use Rattle.version_cell.proofs.Steps.{closes}
 use Rattle.version_cell.proofs.cells.VersionCell.close.Goals as goal

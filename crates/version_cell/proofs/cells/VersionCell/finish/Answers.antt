@@ -1,11 +1,4 @@
-use Rattle.std.proofs.Common.{◌≡◌, ℕ, ◌+◌, ◌<◌, ◌≤◌, arith, sym, ap, ◌∙◌, subst, refl, List, [], ◌∷◌, ◌++◌, length, length-append, Option, Some, None}
-use Rattle.std.specs.Arc.{arc_value}
-use Rattle.race_core.specs.Races.{Race}
-use Rattle.race_core.specs.Steps.{publish_refusal}
-use Rattle.atomic_table.specs.Table.{Me}
-use Rattle.version_cell.specs.declared.board.Sight.{Sight}
-use Rattle.version_cell.specs.Views.{holding, informed, with_entry}
-use Rattle.version_cell.specs.Passes.{Known, shown, owning, IsValid}
+use Rattle.std.proofs.Common.{[], ◌∷◌, None}
 use Rattle.version_cell.proofs.Passing.{closes_of}
 use Rattle.version_cell.proofs.cells.VersionCell.finish.Goals as goal
 

@@ -1,4 +1,4 @@
-use Rattle.std.proofs.Common.{◌≡◌, ℕ, ◌+◌, ◌<◌, ◌≤◌, arith, sym, ap, ◌∙◌, subst, refl, List, [], ◌∷◌, length, Option, Some, None}
+use Rattle.std.proofs.Common.{arith, sym, ap, ◌∙◌, Option}
 use mathlib.Core.Option.{none}
 use Rattle.race_core.specs.Races.{Race}
 use Rattle.atomic_table.specs.Table.{step, Me}

@@ -1,11 +1,11 @@
-use Rattle.std.proofs.Common.{◌≡◌, ℕ, ◌+◌, ◌<◌, ◌≤◌, arith, sym, ap, ◌∙◌, subst, refl, List, [], ◌∷◌, ◌++◌, length, length-append, Option, Some, None}
+use Rattle.std.proofs.Common.{◌≡◌, ℕ, arith, sym, ap, ◌∙◌, subst, refl, [], ◌∷◌, length, length-append, Option, Some, None}
 use Rattle.std.specs.Arc.{arc_value}
 use Rattle.race_core.specs.Races.{Race}
 use Rattle.race_core.specs.Steps.{publish_refusal}
 use Rattle.atomic_table.specs.Table.{Me}
 use Rattle.version_cell.specs.declared.board.Sight.{Sight}
 use Rattle.version_cell.specs.Views.{holding, informed, with_entry}
-use Rattle.version_cell.specs.Passes.{Known, shown, owning, IsValid}
+use Rattle.version_cell.specs.Passes.{Known, owning}
 use Rattle.version_cell.proofs.Passing.{moment_of, owning_is, fair_won, grows_of, valid_entry, keeps_pass, publish_open, publish_base}
 use Rattle.version_cell.proofs.cells.VersionCell.publish.Goals as goal
 

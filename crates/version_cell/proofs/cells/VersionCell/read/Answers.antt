@@ -1,11 +1,10 @@
-use Rattle.std.proofs.Common.{◌≡◌, ℕ, ◌+◌, ◌<◌, ◌≤◌, arith, sym, ap, ◌∙◌, subst, refl, List, [], ◌∷◌, ◌++◌, length, length-append, Option, Some, None}
+use Rattle.std.proofs.Common.{sym, ap, ◌∙◌, [], length, Option, Some}
 use Rattle.std.specs.Arc.{arc_value}
 use Rattle.race_core.specs.Races.{Race}
-use Rattle.race_core.specs.Steps.{publish_refusal}
 use Rattle.atomic_table.specs.Table.{Me}
 use Rattle.version_cell.specs.declared.board.Sight.{Sight}
-use Rattle.version_cell.specs.Views.{holding, informed, with_entry}
-use Rattle.version_cell.specs.Passes.{Known, shown, owning, IsValid}
+use Rattle.version_cell.specs.Views.{informed}
+use Rattle.version_cell.specs.Passes.{Known, shown}
 use Rattle.version_cell.proofs.Passing.{moment_of, shown_is, keeps_seen}
 use Rattle.version_cell.proofs.cells.VersionCell.read.Goals as goal
 

@@ -1,4 +1,4 @@
-use Rattle.std.proofs.Common.{◌≡◌, ℕ, ◌+◌, ◌<◌, ◌≤◌, arith, sym, ap, ◌∙◌, subst, refl, List, [], ◌∷◌, length, Option, Some, None}
+use Rattle.std.proofs.Common.{arith, sym, ap, ◌∙◌}
 use Rattle.version_cell.specs.Passes.{Known, Cell}
 use Rattle.version_cell.proofs.Steps.{splits}
 use Rattle.version_cell.proofs.cells.VersionCell.split.Goals as goal
