@@ -1,0 +1,12 @@
+pub mod Meanings
+pub mod Naming
+pub mod Sorted
+pub mod Resolved
+pub mod BrokenNames
+pub mod Numbers
+pub mod Referred
+pub mod NamingFaults
+pub mod Places
+pub mod PlaceViews
+pub mod Making
+pub mod ProcedureFaults

@@ -1,0 +1,19 @@
+//! Resolves the names of Boogie programs, and tests the typing rules.
+#![tactic(auto)]
+
+mod calls;
+mod declared;
+mod expressions;
+mod lists;
+mod names;
+mod numbered;
+mod places;
+mod procedures;
+mod sorted;
+mod statements;
+
+pub use typed_tree::{
+    Affine, AffineFault, Column, Op, Scope, Span, TExpr, TExprKind, TGuard, TInv, TProc, TSpec,
+    TStmt, Text, Ty, TypeFault, VarInfo,
+};
+pub use typing_rules::Typed;
