@@ -23,3 +23,5 @@ pub mod Seen
 pub mod BlockLaws
 pub mod ArgumentLaws
 pub mod CallLaws
+pub mod ListedLaws
+pub mod ImplementationLaws

@@ -10,3 +10,4 @@ pub mod Places
 pub mod PlaceViews
 pub mod Making
 pub mod ProcedureFaults
+pub mod DeclarationFaults

@@ -4,6 +4,8 @@
 mod calls;
 mod declared;
 mod expressions;
+mod implementations;
+mod listed;
 mod lists;
 mod names;
 mod numbered;
