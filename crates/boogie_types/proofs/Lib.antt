@@ -25,3 +25,5 @@ pub mod ArgumentLaws
 pub mod CallLaws
 pub mod ListedLaws
 pub mod ImplementationLaws
+pub mod OtherFaults
+pub mod Refusals

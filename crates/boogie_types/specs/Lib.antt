@@ -11,3 +11,4 @@ pub mod PlaceViews
 pub mod Making
 pub mod ProcedureFaults
 pub mod DeclarationFaults
+pub mod Replaced

@@ -2,6 +2,7 @@
 #![tactic(auto)]
 
 mod calls;
+mod declarations;
 mod declared;
 mod expressions;
 mod implementations;
