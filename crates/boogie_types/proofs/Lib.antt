@@ -27,3 +27,4 @@ pub mod ListedLaws
 pub mod ImplementationLaws
 pub mod OtherFaults
 pub mod Refusals
+pub mod ResolvedLaws

@@ -12,9 +12,11 @@ mod names;
 mod numbered;
 mod places;
 mod procedures;
+mod resolving;
 mod sorted;
 mod statements;
 
+pub use resolving::resolve;
 pub use typed_tree::{
     Affine, AffineFault, Column, Op, Scope, Span, TExpr, TExprKind, TGuard, TInv, TProc, TSpec,
     TStmt, Text, Ty, TypeFault, VarInfo,
