@@ -24,11 +24,7 @@ use typed_tree::TypeFault;
 use typing_rules::{Typed, check_typing, numbers_fit};
 
 /// The declarations with their names replaced, where they keep the typing rules.
-fn checked<'a>(
-    alloc: Global,
-    decls: &'a [Decl],
-    procs: &Listed<'a>,
-) -> Result<Replaced, TypeFault>
+fn checked<'a>(alloc: Global, decls: &'a [Decl], procs: &Listed<'a>) -> Result<Replaced, TypeFault>
     requires procs_are { procedures_by procs.now.procs.items ≡ procedures_of (map view.declaration decls.now) }
     requires procs_differ { is_set (map (λ p. p.name) (procedures_of (map view.declaration decls.now))) ≡ true }
     ensures ok { IfOk result (λ r. IsReplaced (map view.declaration decls.entry.now) (program_by r)) }
