@@ -23,3 +23,8 @@ pub mod Seen
 pub mod BlockLaws
 pub mod ArgumentLaws
 pub mod CallLaws
+pub mod VariableLaws
+pub mod HiddenLaws
+pub mod ModifiedLaws
+pub mod SpecificationLaws
+pub mod ProcedureLaws

@@ -10,3 +10,6 @@ pub mod Places
 pub mod PlaceViews
 pub mod Making
 pub mod ProcedureFaults
+pub mod Bodies
+pub mod Specifications
+pub mod Modified

@@ -1,16 +1,22 @@
 //! Resolves the names of Boogie programs, and tests the typing rules.
 #![tactic(auto)]
 
+mod bodies;
 mod calls;
 mod declared;
 mod expressions;
+mod hidden;
+mod label_names;
 mod lists;
+mod modifies;
 mod names;
 mod numbered;
 mod places;
 mod procedures;
 mod sorted;
+mod specifications;
 mod statements;
+mod variables;
 
 pub use typed_tree::{
     Affine, AffineFault, Column, Op, Scope, Span, TExpr, TExprKind, TGuard, TInv, TProc, TSpec,
