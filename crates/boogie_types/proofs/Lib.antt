@@ -23,6 +23,11 @@ pub mod Seen
 pub mod BlockLaws
 pub mod ArgumentLaws
 pub mod CallLaws
+pub mod VariableLaws
+pub mod HiddenLaws
+pub mod ModifiedLaws
+pub mod SpecificationLaws
+pub mod ProcedureLaws
 pub mod ListedLaws
 pub mod ImplementationLaws
 pub mod OtherFaults

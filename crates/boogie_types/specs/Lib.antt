@@ -10,5 +10,8 @@ pub mod Places
 pub mod PlaceViews
 pub mod Making
 pub mod ProcedureFaults
+pub mod Bodies
+pub mod Specifications
+pub mod Modified
 pub mod DeclarationFaults
 pub mod Replaced

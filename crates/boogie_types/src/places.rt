@@ -14,6 +14,7 @@ use std::alloc::Global;
 use typed_tree::TypeFault;
 
 /// What the names of a body's statements may mean.
+#[derive(Clone, Copy)]
 pub(crate) struct Placed<'a, 'b> {
     pub(crate) names: Names<'a, 'b>,
     /// The procedures, and their numbers.

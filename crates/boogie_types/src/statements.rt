@@ -23,6 +23,7 @@ use std::alloc::Global;
 use typed_tree::{TStmt, TypeFault};
 
 /// What changes along the statements of a body.
+#[derive(Drop)]
 pub(crate) struct Walk<'a> {
     /// The label directly before each loop around the statement, innermost first.
     pub(crate) loops: Vec<Option<&'a [u8]>>,
