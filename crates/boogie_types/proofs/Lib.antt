@@ -33,3 +33,4 @@ pub mod ImplementationLaws
 pub mod OtherFaults
 pub mod Refusals
 pub mod ResolvedLaws
+pub mod SpelledLaws
