@@ -13,3 +13,4 @@ pub mod ProcedureFaults
 pub mod Bodies
 pub mod Specifications
 pub mod Modified
+pub mod DeclaredView
