@@ -1,22 +1,20 @@
 -- The faults of the parts of a procedure are faults of the procedure.
-use Rattle.std.proofs.Common.{◌≡◌, ℕ, true, List, [], ◌++◌, map, length, Option, None, Some, option_map, option_and_then, refl, ap, ap₂, sym, ◌∙◌, subst}
-use Rattle.std.proofs.lemmas.Bool.{and_from}
+use Rattle.std.proofs.Common.{◌≡◌, ℕ, true, List, map, Option, None, ap₂, sym, ◌∙◌, subst}
 use Rattle.boogie_tree.specs.declared.tree.VarInfo.{VarInfo}
 use Rattle.boogie_tree.specs.Tree.{Declaration, Procedure, ProcedureBody}
 use Rattle.typed_tree.specs.declared.fault.TypeFault.{TypeFault}
 use Rattle.typed_tree.specs.declared.fault.TypeFault.TheVariants as fault
 use Rattle.typed_tree.specs.Scope.{Scope, requires_scope, body_scope}
-use Rattle.typed_tree.specs.TypedTree.{TypedBlock, TypedSpecification, TypedProcedure}
+use Rattle.typed_tree.specs.TypedTree.{TypedSpecification}
 use Rattle.boogie_types.specs.Meanings.{variable_info}
-use Rattle.boogie_types.specs.Naming.{both}
-use Rattle.boogie_types.specs.Numbers.{texts, IsTwiceFault, IsMemoryFault}
-use Rattle.boogie_types.specs.Sorted.{globals_of, procedures_of, body_of, locals_of, variable_names, labels_if_any, modified_in, hidden_locals, firsts}
+use Rattle.boogie_types.specs.Numbers.{texts, IsTwiceFault}
+use Rattle.boogie_types.specs.Sorted.{globals_of, procedures_of, body_of, locals_of, variable_names, labels_if_any, modified_in}
 use Rattle.boogie_types.specs.BrokenNames.{IsMisnamedIn, IsProcedureMisnamed, unknown_modified, constant_modified, in_body}
 use Rattle.boogie_types.specs.NamingFaults.{IsProcedureFault}
-use Rattle.boogie_types.specs.Resolved.{is_set, has_sets, named_specifications, named_modifies, named_body, hidden_count, procedure_of, named_procedure}
-use Rattle.boogie_types.specs.Modified.{modified_numbers, AreModifiedWrong, unknown_name, constant_name, AreModifiedFault}
+use Rattle.boogie_types.specs.Resolved.{named_specifications}
+use Rattle.boogie_types.specs.Modified.{AreModifiedWrong, unknown_name, constant_name, AreModifiedFault}
 use Rattle.boogie_types.specs.Specifications.{specifications_in, AreSpecificationsFault}
-use Rattle.boogie_types.specs.Bodies.{body_at, hidden_at, place_among, first_place, IsBodyFault}
+use Rattle.boogie_types.specs.Bodies.{place_among, first_place, IsBodyFault}
 use Rattle.boogie_types.specs.ProcedureFaults.{IsProcedureBroken, second_variable, second_label, misnamed, IsProcedureRefused}
 use Rattle.boogie_types.proofs.FaultLaws.{or_memory_to}
 use Rattle.boogie_types.proofs.SpecificationLaws.{before_of, after_of, specifications_are, fault_of_specifications}
