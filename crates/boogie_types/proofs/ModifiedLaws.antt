@@ -1,15 +1,13 @@
 -- The numbers of modified globals.
-use Rattle.std.proofs.Common.{◌≡◌, ℕ, ◌+◌, ◌<◌, Bool, true, false, not, cond, nat_eq, eqb-true, ◌||◌, List, [], ◌∷◌, ◌++◌, map, length, drop, reverse, get_or, zero, suc, Option, None, Some, if◌then◌else◌, Contains, Vec, Global, ⊎_elim, refl, ap, sym, ◌∙◌, subst, append_assoc, append-nil, arith}
-use Rattle.std.specs.Prelude.{slice_get, option_and_then}
+use Rattle.std.proofs.Common.{◌≡◌, ℕ, ◌+◌, ◌<◌, Bool, true, false, cond, nat_eq, eqb-true, ◌||◌, List, [], ◌∷◌, ◌++◌, map, length, drop, reverse, get_or, zero, suc, Option, None, Some, if◌then◌else◌, Contains, Vec, Global, ⊎_elim, refl, ap, sym, ◌∙◌, subst, append_assoc, append-nil, arith}
+use Rattle.std.specs.Prelude.{option_and_then}
 use Rattle.std.specs.List.{list_any}
-use Rattle.std.specs.Option.{option_map}
 use Rattle.std.specs.Ordering.{nat_cmp}
 use Rattle.std.specs.BTreeMap.{is_at}
 use Rattle.std.proofs.lemmas.Bool.Decides.{nat_tests}
 use Rattle.std.proofs.lemmas.Option.{same_Some}
 use Rattle.std.proofs.lemmas.List.Elements.{Contains-append_left, Contains-append_right}
-use Rattle.std.proofs.lemmas.List.{drop_more, reverse-append, map-append}
-use Rattle.std.proofs.lemmas.Bool.{false≢true}
+use Rattle.std.proofs.lemmas.List.{drop_more, reverse-append}
 use Rattle.boogie_tree.specs.declared.tree.Name.{Name}
 use Rattle.boogie_tree.specs.declared.tree.Spec.{Spec}
 use Rattle.boogie_tree.specs.declared.tree.Spec.TheVariants as specs
@@ -62,7 +60,7 @@ wrong_more globals xs ys h _ (unknown_name x m e) = unknown_name x (h x m) e
 wrong_more globals xs ys h _ (constant_name x n m e g) = constant_name x n (h x m) e g
 
 -- a fault of some of the names is one of all
-pub fault_of_some : (globals : List VarInfo) (xs ys : List Name) → ((x : Name) → Contains xs x → Contains ys x) → (f : TypeFault) → AreModifiedFault globals xs f → AreModifiedFault globals ys f
+fault_of_some : (globals : List VarInfo) (xs ys : List Name) → ((x : Name) → Contains xs x → Contains ys x) → (f : TypeFault) → AreModifiedFault globals xs f → AreModifiedFault globals ys f
 fault_of_some globals xs ys h f = or_memory_to f (wrong_more globals xs ys h f)
 
 -- the one member of a list that stands at a place of another
@@ -189,7 +187,7 @@ module _ (xs : List ℕ) (i n : ℕ) (l : i < length xs) (here : n ≡ get_or xs
       ∙ ap (λ (ys : List ℕ). (out ++ n ∷ []) ++ firsts ys (drop (i + 1) xs)) (reverse-push out)
       ∙ append_assoc out (n ∷ []) (firsts (n ∷ reverse out) (drop (i + 1) xs))
       ∙ ap (λ (ys : List ℕ). out ++ ys)
-        (sym (ap (firsts (reverse out)) numbers-drop ∙ ap (λ (b : Bool). if b then firsts (reverse out) (drop (i + 1) xs) else n ∷ firsts (n ∷ reverse out) (drop (i + 1) xs)) h))
+      (sym (ap (firsts (reverse out)) numbers-drop ∙ ap (λ (b : Bool). if b then firsts (reverse out) (drop (i + 1) xs) else n ∷ firsts (n ∷ reverse out) (drop (i + 1) xs)) h))
       ∙ w
 
   -- and seen from then on

@@ -1,23 +1,20 @@
--- A procedure of its parts, and the faults of a part as those of the procedure.
-use Rattle.std.proofs.Common.{◌≡◌, ℕ, true, ◌&&◌, List, [], ◌++◌, map, length, Option, None, Some, option_map, option_and_then, refl, ap, ap₂, sym, ◌∙◌, subst}
-use Rattle.std.proofs.lemmas.Bool.{and_from}
-use Rattle.boogie_tree.specs.declared.tree.Name.{Name}
+-- The faults of the parts of a procedure are faults of the procedure.
+use Rattle.std.proofs.Common.{◌≡◌, ℕ, true, List, map, Option, None, ap₂, sym, ◌∙◌, subst}
 use Rattle.boogie_tree.specs.declared.tree.VarInfo.{VarInfo}
 use Rattle.boogie_tree.specs.Tree.{Declaration, Procedure, ProcedureBody}
 use Rattle.typed_tree.specs.declared.fault.TypeFault.{TypeFault}
 use Rattle.typed_tree.specs.declared.fault.TypeFault.TheVariants as fault
 use Rattle.typed_tree.specs.Scope.{Scope, requires_scope, body_scope}
-use Rattle.typed_tree.specs.TypedTree.{TypedBlock, TypedSpecification, TypedProcedure}
+use Rattle.typed_tree.specs.TypedTree.{TypedSpecification}
 use Rattle.boogie_types.specs.Meanings.{variable_info}
-use Rattle.boogie_types.specs.Naming.{both}
-use Rattle.boogie_types.specs.Numbers.{texts, IsTwiceFault, IsMemoryFault}
-use Rattle.boogie_types.specs.Sorted.{globals_of, procedures_of, body_of, locals_of, variable_names, labels_if_any, modified_in, hidden_locals, firsts}
-use Rattle.boogie_types.specs.BrokenNames.{IsSecond, IsMisnamedIn, IsProcedureMisnamed, unknown_modified, constant_modified, in_body}
-use Rattle.boogie_types.specs.NamingFaults.{OrMemory, IsProcedureFault}
-use Rattle.boogie_types.specs.Resolved.{is_set, has_sets, named_specifications, named_modifies, named_body, hidden_count, procedure_of, named_procedure}
-use Rattle.boogie_types.specs.Modified.{modified_numbers, AreModifiedWrong, unknown_name, constant_name, AreModifiedFault}
+use Rattle.boogie_types.specs.Numbers.{texts, IsTwiceFault}
+use Rattle.boogie_types.specs.Sorted.{globals_of, procedures_of, body_of, locals_of, variable_names, labels_if_any, modified_in}
+use Rattle.boogie_types.specs.BrokenNames.{IsMisnamedIn, IsProcedureMisnamed, unknown_modified, constant_modified, in_body}
+use Rattle.boogie_types.specs.NamingFaults.{IsProcedureFault}
+use Rattle.boogie_types.specs.Resolved.{named_specifications}
+use Rattle.boogie_types.specs.Modified.{AreModifiedWrong, unknown_name, constant_name, AreModifiedFault}
 use Rattle.boogie_types.specs.Specifications.{specifications_in, AreSpecificationsFault}
-use Rattle.boogie_types.specs.Bodies.{body_at, hidden_at, place_among, first_place, IsBodyMisnamed, IsBodyFault}
+use Rattle.boogie_types.specs.Bodies.{place_among, first_place, IsBodyFault}
 use Rattle.boogie_types.specs.ProcedureFaults.{IsProcedureBroken, second_variable, second_label, misnamed, IsProcedureRefused}
 use Rattle.boogie_types.proofs.FaultLaws.{or_memory_to}
 use Rattle.boogie_types.proofs.SpecificationLaws.{before_of, after_of, specifications_are, fault_of_specifications}
@@ -32,9 +29,6 @@ module _ (ds : List Declaration) (p : Procedure) where
   pub modifies_fault : (globals : List VarInfo) (f : TypeFault) → globals ≡ globals_of ds → AreModifiedFault globals (modified_in p.specs) f → IsProcedureFault ds p f
   modifies_fault globals f e h =
       or_memory_to f (wrong_modified f) (subst (λ (vs : List VarInfo). AreModifiedFault vs (modified_in p.specs) f) e h)
-
-  pub modifies_are : (globals : List VarInfo) (o : Option (List ℕ)) → globals ≡ globals_of ds → option_map (firsts []) (modified_numbers globals (modified_in p.specs)) ≡ o → named_modifies ds p ≡ o
-  modifies_are globals o e h = ap (λ (vs : List VarInfo). option_map (firsts []) (modified_numbers vs (modified_in p.specs))) (sym e) ∙ h
 
   -- ---- specifications, by what they see
 
@@ -59,14 +53,6 @@ module _ (ds : List Declaration) (p : Procedure) where
 
   -- ---- the body, at its place
 
-  body_here : (b : Option ProcedureBody) → named_body ds p b ≡ body_at (first_place ds p b) b
-  body_here None = refl
-  body_here (Some b) = refl
-
-  hidden_here : (b : Option ProcedureBody) → hidden_count ds p b ≡ hidden_at (first_place ds p b) b
-  hidden_here None = refl
-  hidden_here (Some b) = refl
-
   fault_here : (b : Option ProcedureBody) (f : TypeFault) → b ≡ body_of ds p → IsBodyFault (first_place ds p b) b f → IsProcedureFault ds p f
   fault_here b f e =
       or_memory_to f
@@ -79,33 +65,8 @@ module _ (ds : List Declaration) (p : Procedure) where
         ap₂ (λ (gs : List VarInfo) (ps : List Procedure). place_among gs ps locals labels) known procs_are
         ∙ ap₂ (place_among (globals_of ds) (procedures_of ds)) locals_are labels_are
 
-    pub body_seen : (o : Option (Option TypedBlock)) → body_at (place_among globals procs locals labels) b ≡ o → named_body ds p b ≡ o
-    body_seen o h = body_here b ∙ ap (λ q. body_at q b) (sym place_is) ∙ h
-
-    pub hidden_seen : (n : ℕ) → n ≡ hidden_at (place_among globals procs locals labels) b → n ≡ hidden_count ds p b
-    hidden_seen n h = h ∙ ap (λ q. hidden_at q b) place_is ∙ sym (hidden_here b)
-
     pub body_fault : (f : TypeFault) → b ≡ body_of ds p → IsBodyFault (place_among globals procs locals labels) b f → IsProcedureFault ds p f
     body_fault f e h = fault_here b f e (subst (λ q. IsBodyFault q b f) place_is h)
-
-  -- ---- the whole
-
-  pub procedure_made : (b : Option ProcedureBody) (t : TypedProcedure) (locals : List VarInfo) (n : ℕ) (ms : List ℕ) (ss : List TypedSpecification) (o : Option TypedBlock) →
-      b ≡ body_of ds p → locals ≡ locals_of p b → n ≡ hidden_count ds p b → named_modifies ds p ≡ Some ms → named_specifications ds p p.specs ≡ Some ss → named_body ds p b ≡ Some o →
-      t ≡ record { name = p.name.text; params = length p.params; results = length p.results; locals = locals ++ hidden_locals 1 n; modifies = ms; specs = ss; body = o } →
-      named_procedure ds p ≡ Some t
-  procedure_made b t locals n ms ss o e l h m s k is =
-      let body : named_body ds p (body_of ds p) ≡ Some o = ap (named_body ds p) (sym e) ∙ k in
-      let all : locals ++ hidden_locals 1 n ≡ locals_of p (body_of ds p) ++ hidden_locals 1 (hidden_count ds p (body_of ds p)) =
-          ap₂ (λ (vs : List VarInfo) (c : ℕ). vs ++ hidden_locals 1 c) (l ∙ ap (locals_of p) e) (h ∙ ap (hidden_count ds p) e) in
-      ap (λ r. option_and_then (λ (modifies : List ℕ). both (procedure_of ds p modifies) (named_specifications ds p p.specs) (named_body ds p (body_of ds p))) r) m
-      ∙ ap₂ (both (procedure_of ds p ms)) s body
-      ∙ ap (λ (vs : List VarInfo). Some (record { name = p.name.text; params = length p.params; results = length p.results; locals = vs; modifies = ms; specs = ss; body = o })) (sym all)
-      ∙ ap (λ (u : TypedProcedure). Some u) (sym is)
-
-  pub sets_made : (b : Option ProcedureBody) → b ≡ body_of ds p → is_set (variable_names p b) ≡ true → is_set (labels_if_any b) ≡ true → has_sets p (body_of ds p) ≡ true
-  sets_made b e v l =
-      ap (has_sets p) (sym e) ∙ and_from (is_set (variable_names p b)) (is_set (labels_if_any b)) v l
 
   -- ---- faults
 
@@ -143,16 +104,3 @@ module _ (ds : List Declaration) (p : Procedure) where
 
   pub refused_part : (f : TypeFault) → IsProcedureFault ds p f → IsProcedureRefused ds p f
   refused_part f = or_memory_to f (misnamed f)
-
-  pub refused_memory : (f : TypeFault) → IsMemoryFault f → IsProcedureRefused ds p f
-  refused_memory fault.Memory h = tt
-  refused_memory (fault.Twice s) h = absurd h
-  refused_memory (fault.Unknown s) h = absurd h
-  refused_memory (fault.Mismatch s) h = absurd h
-  refused_memory (fault.NotAssignable s) h = absurd h
-  refused_memory (fault.NotModified s) h = absurd h
-  refused_memory fault.NoEntry h = absurd h
-  refused_memory (fault.ZeroDivisor s) h = absurd h
-  refused_memory (fault.NonLinear s) h = absurd h
-  refused_memory (fault.BadGoto s) h = absurd h
-  refused_memory (fault.TooBig s) h = absurd h

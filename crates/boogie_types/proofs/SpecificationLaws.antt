@@ -1,5 +1,5 @@
 -- Specifications that are made one by one.
-use Rattle.std.proofs.Common.{◌≡◌, ℕ, ◌+◌, ◌<◌, false, true, List, [], ◌∷◌, ◌++◌, map, length, drop, get_or, zero, suc, Option, None, Some, Contains, ⊎_elim, refl, ap, sym, ◌∙◌, subst, append_assoc, append-nil, arith}
+use Rattle.std.proofs.Common.{◌≡◌, ℕ, ◌+◌, ◌<◌, false, true, List, [], ◌∷◌, ◌++◌, map, length, drop, get_or, Option, None, Some, Contains, ⊎_elim, refl, ap, sym, ◌∙◌, subst, append_assoc, append-nil, arith}
 use Rattle.std.proofs.Math.ListN.{get_or-map}
 use Rattle.std.proofs.lemmas.List.{drop_more, length-map}
 use Rattle.std.proofs.lemmas.Bool.{false≢true}
@@ -17,7 +17,7 @@ use Rattle.boogie_types.specs.Meanings.{variable_info}
 use Rattle.boogie_types.specs.Naming.{both, named_invariant}
 use Rattle.boogie_types.specs.Sorted.{globals_of, locals_of}
 use Rattle.boogie_types.specs.Resolved.{named_specifications}
-use Rattle.boogie_types.specs.BrokenNames.{IsUnknownIn, IsProcedureMisnamed, required, ensured}
+use Rattle.boogie_types.specs.BrokenNames.{IsProcedureMisnamed, required, ensured}
 use Rattle.boogie_types.specs.NamingFaults.{IsExpressionFault, IsProcedureFault}
 use Rattle.boogie_types.specs.Specifications.{specifications_in, AreSpecificationsUnknown, in_requires, in_ensures, AreSpecificationsFault}
 use Rattle.boogie_types.proofs.FaultLaws.{or_memory_to}

@@ -1,8 +1,7 @@
 -- The variables of a procedure, put together list by list.
-use Rattle.std.proofs.Common.{◌≡◌, ℕ, ◌+◌, ◌≤◌, true, false, List, [], ◌∷◌, ◌++◌, map, take, length, Option, None, Some, append_assoc, append-nil, length-append, refl, ap, sym, ◌∙◌, arith}
+use Rattle.std.proofs.Common.{◌≡◌, ℕ, ◌≤◌, true, false, List, ◌++◌, map, take, length, Option, append_assoc, ap, sym, ◌∙◌}
 use Rattle.std.specs.List.{take-map}
-use Rattle.std.proofs.Math.Seq.{take-append_seam, take-append-add, take-length}
-use Rattle.std.proofs.lemmas.List.{map-append, length-map, length-take-le}
+use Rattle.std.proofs.lemmas.List.{map-append, length-take-le}
 use Rattle.boogie_tree.specs.declared.tree.Name.{Name}
 use Rattle.boogie_tree.specs.declared.tree.Vary.{Vary}
 use Rattle.boogie_tree.specs.declared.tree.VarInfo.{VarInfo}
@@ -37,41 +36,8 @@ names_of_locals p b = sym (local_texts p b)
 
 -- ---- the first of the locals
 
-pub params_first : (p : Procedure) (b : Option ProcedureBody) → take (length p.params) (locals_of p b) ≡ map (variable_info true) p.params
-params_first p b =
-    let ps = map (variable_info true) p.params in
-    let rest = map (variable_info false) p.results ++ map (variable_info false) (body_locals b) in
-    ap (λ (n : ℕ). take n (ps ++ rest)) (sym (length-map p.params (variable_info true))) ∙ take-append_seam ps rest
-
-pub results_first : (p : Procedure) (b : Option ProcedureBody) → take (length p.params + length p.results) (locals_of p b) ≡ locals_of p None
-results_first p b =
-    let ps = map (variable_info true) p.params in
-    let rs = map (variable_info false) p.results in
-    let ls = map (variable_info false) (body_locals b) in
-    let e1 : length ps ≡ length p.params = length-map p.params (variable_info true) in
-    let e2 : length rs ≡ length p.results = length-map p.results (variable_info false) in
-    let n : length p.params + length p.results ≡ length ps + length rs = omega arith in
-    ap (λ (k : ℕ). take k (ps ++ (rs ++ ls))) n ∙ take-append-add ps (rs ++ ls) (length rs)
-    ∙ ap (λ (xs : List VarInfo). ps ++ xs) (take-append_seam rs ls ∙ sym (append-nil rs))
-
-pub enough_first : (p : Procedure) (b : Option ProcedureBody) → length p.params + length p.results ≤ length (locals_of p b)
-enough_first p b =
-    let ps = map (variable_info true) p.params in
-    let rs = map (variable_info false) p.results in
-    let ls = map (variable_info false) (body_locals b) in
-    let e1 : length ps ≡ length p.params = length-map p.params (variable_info true) in
-    let e2 : length rs ≡ length p.results = length-map p.results (variable_info false) in
-    let e3 : length (ps ++ (rs ++ ls)) ≡ length ps + length (rs ++ ls) = length-append ps (rs ++ ls) in
-    let e4 : length (rs ++ ls) ≡ length rs + length ls = length-append rs ls in omega arith
-
--- all of them are the first of themselves
-pub all_first : (ns : List (List ℕ)) (vs : List VarInfo) → ns ≡ info_names vs → take (length vs) ns ≡ info_names vs
-all_first ns vs e =
-    let n : length (info_names vs) ≡ length vs = length-map vs (λ v. v.name) in
-    ap (take (length vs)) e ∙ ap (λ (k : ℕ). take k (info_names vs)) (sym n) ∙ take-length (info_names vs)
-
 -- the names of the first are the first of the names
-pub names_first : (k : ℕ) (ns : List (List ℕ)) (vs : List VarInfo) → ns ≡ info_names vs → take k ns ≡ info_names (take k vs)
+names_first : (k : ℕ) (ns : List (List ℕ)) (vs : List VarInfo) → ns ≡ info_names vs → take k ns ≡ info_names (take k vs)
 names_first k ns vs e = ap (take k) e ∙ take-map (λ v. v.name) k vs
 
 -- the names of the first locals are the first of the names

@@ -13,5 +13,6 @@ pub mod ProcedureFaults
 pub mod Bodies
 pub mod Specifications
 pub mod Modified
+pub mod DeclaredView
 pub mod DeclarationFaults
 pub mod Replaced

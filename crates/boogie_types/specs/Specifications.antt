@@ -1,5 +1,5 @@
 -- Specifications with their names replaced, by what requires and ensures see.
-use Rattle.std.specs.Prelude.{List, [], ◌∷◌, Option, None, Some, Contains}
+use Rattle.std.specs.Prelude.{List, [], ◌∷◌, Option, Some, Contains}
 use Rattle.boogie_tree.specs.Tree as tree
 use Rattle.boogie_tree.specs.Tree.{Invariant, Specification}
 use Rattle.typed_tree.specs.declared.fault.TypeFault.{TypeFault}

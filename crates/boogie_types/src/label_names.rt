@@ -50,10 +50,7 @@ fn add_labels<'a>(names: &mut Vec<&'a Name>, statements: &'a [Stmt]) -> Result<(
 }
 
 /// The labels of a body, in text order.
-fn names_of_labels<'a>(
-    alloc: Global,
-    body: Option<&'a Body>,
-) -> Result<Vec<&'a Name>, AllocError>
+fn names_of_labels<'a>(alloc: Global, body: Option<&'a Body>) -> Result<Vec<&'a Name>, AllocError>
     ensures { IfOk result (λ v. named_by v.items ≡ labels_if_any (body_by body.entry)) }
 {
     let mut names = Vec::new(alloc);

@@ -12,7 +12,8 @@ ghost use Rattle.boogie_types.specs.NamingFaults.{IsProcedureFault};
 ghost use Rattle.boogie_types.specs.Referred.{procedures_by};
 ghost use Rattle.boogie_types.specs.Resolved as resolved;
 ghost use Rattle.boogie_types.specs.Resolved.{named_procedure, has_sets, named_specifications, named_modifies, hidden_count};
-ghost use Rattle.boogie_types.specs.Bodies.{body_by, body_at, hidden_at, place_among, IsBodyFault};
+ghost use Rattle.boogie_types.specs.DeclaredView.{declarations_of, place_in};
+ghost use Rattle.boogie_types.specs.Bodies.{body_by, body_at, hidden_at, IsBodyFault};
 ghost use Rattle.boogie_types.specs.ProcedureFaults.{IsProcedureRefused};
 
 use crate::bodies::{NamedBody, named_body};
@@ -63,8 +64,8 @@ fn specifications_inside<'a>(
     requires enough { length (view.procedure procedure.now).params + length (view.procedure procedure.now).results ≤ length locals.now }
     requires params_are { take (length (view.procedure procedure.now).params) locals.now ≡ map (variable_info true) (view.procedure procedure.now).params }
     requires results_are { take (length (view.procedure procedure.now).params + length (view.procedure procedure.now).results) locals.now ≡ locals_of (view.procedure procedure.now) None }
-    ensures ok { IfOk result (λ v. named_specifications (map view.declaration declared.now.decls.now) (view.procedure procedure.now) (view.procedure procedure.now).specs ≡ Some (map typed.specification v.items)) }
-    ensures fault { IfErr result (λ f. IsProcedureFault (map view.declaration declared.now.decls.now) (view.procedure procedure.now) f) }
+    ensures ok { IfOk result (λ v. named_specifications (declarations_of declared.now) (view.procedure procedure.now) (view.procedure procedure.now).specs ≡ Some (map typed.specification v.items)) }
+    ensures fault { IfErr result (λ f. IsProcedureFault (declarations_of declared.now) (view.procedure procedure.now) f) }
 {
     let params = procedure.params.len();
     let results = procedure.results.len();
@@ -83,9 +84,9 @@ fn body_inside<'a, 'b>(
     body: Option<&'a Body>,
 ) -> Result<NamedBody, TypeFault>
     requires { variables.now ≡ info_names locals.now }
-    ensures ok { IfOk result (λ n. body_at (place_among declared.now.globals.now (procedures_by declared.now.procs.now) locals.now labels.now) (body_by body.entry) ≡ Some (option_map (λ b. typed.statements b.items) n.stmts)) }
-    ensures hidden { IfOk result (λ n. n.hidden ≡ hidden_at (place_among declared.now.globals.now (procedures_by declared.now.procs.now) locals.now labels.now) (body_by body.entry)) }
-    ensures fault { IfErr result (λ f. IsBodyFault (place_among declared.now.globals.now (procedures_by declared.now.procs.now) locals.now labels.now) (body_by body.entry) f) }
+    ensures ok { IfOk result (λ n. body_at (place_in declared.now locals.now labels.now) (body_by body.entry) ≡ Some (option_map (λ b. typed.statements b.items) n.stmts)) }
+    ensures hidden { IfOk result (λ n. n.hidden ≡ hidden_at (place_in declared.now locals.now labels.now) (body_by body.entry)) }
+    ensures fault { IfErr result (λ f. IsBodyFault (place_in declared.now locals.now labels.now) (body_by body.entry) f) }
 {
     let count = number_of(locals.len())?;
     let place = Placed {
@@ -116,16 +117,16 @@ fn make_parts<'a>(
     labels: &Numbered<'a>,
     locals: &[VarInfo],
 ) -> Result<Parts, TypeFault>
-    requires procs_are { procedures_by declared.now.procs.now ≡ procedures_of (map view.declaration declared.now.decls.now) }
-    requires body_is { body_by body ≡ body_of (map view.declaration declared.now.decls.now) (view.procedure procedure.now) }
+    requires procs_are { procedures_by declared.now.procs.now ≡ procedures_of (declarations_of declared.now) }
+    requires body_is { body_by body ≡ body_of (declarations_of declared.now) (view.procedure procedure.now) }
     requires locals_are { locals.now ≡ locals_of (view.procedure procedure.now) (body_by body) }
     requires variables_are { variables.now ≡ info_names locals.now }
     requires labels_are { labels.now ≡ texts (labels_if_any (body_by body)) }
-    ensures modifies { IfOk result (λ r. named_modifies (map view.declaration declared.now.decls.now) (view.procedure procedure.now) ≡ Some r.modifies.items) }
-    ensures specs { IfOk result (λ r. named_specifications (map view.declaration declared.now.decls.now) (view.procedure procedure.now) (view.procedure procedure.now).specs ≡ Some (map typed.specification r.specs.items)) }
-    ensures body { IfOk result (λ r. resolved.named_body (map view.declaration declared.now.decls.now) (view.procedure procedure.now) (body_by body.entry) ≡ Some (option_map (λ b. typed.statements b.items) r.body.stmts)) }
-    ensures hidden { IfOk result (λ r. r.body.hidden ≡ hidden_count (map view.declaration declared.now.decls.now) (view.procedure procedure.now) (body_by body.entry)) }
-    ensures fault { IfErr result (λ f. IsProcedureFault (map view.declaration declared.now.decls.now) (view.procedure procedure.now) f) }
+    ensures modifies { IfOk result (λ r. named_modifies (declarations_of declared.now) (view.procedure procedure.now) ≡ Some r.modifies.items) }
+    ensures specs { IfOk result (λ r. named_specifications (declarations_of declared.now) (view.procedure procedure.now) (view.procedure procedure.now).specs ≡ Some (map typed.specification r.specs.items)) }
+    ensures body { IfOk result (λ r. resolved.named_body (declarations_of declared.now) (view.procedure procedure.now) (body_by body.entry) ≡ Some (option_map (λ b. typed.statements b.items) r.body.stmts)) }
+    ensures hidden { IfOk result (λ r. r.body.hidden ≡ hidden_count (declarations_of declared.now) (view.procedure procedure.now) (body_by body.entry)) }
+    ensures fault { IfErr result (λ f. IsProcedureFault (declarations_of declared.now) (view.procedure procedure.now) f) }
 {
     let modifies = modifies(alloc, declared, &procedure.specs)?;
     let specs = specifications_inside(alloc, declared, procedure, variables, locals)?;
@@ -145,13 +146,13 @@ fn joined(
     mut locals: Vec<VarInfo>,
 ) -> Result<TProc, TypeFault>
     ensures ok { IfOk result (λ t. typed.procedure t ≡ record {
-        name = (view.procedure procedure.now).name.text;
-        params = length (view.procedure procedure.now).params;
-        results = length (view.procedure procedure.now).results;
-        locals = locals.items ++ hidden_locals 1 parts.body.hidden;
-        modifies = parts.modifies.items;
-        specs = map typed.specification parts.specs.items;
-        body = option_map (λ b. typed.statements b.items) parts.body.stmts;
+      name = (view.procedure procedure.now).name.text;
+      params = length (view.procedure procedure.now).params;
+      results = length (view.procedure procedure.now).results;
+      locals = locals.items ++ hidden_locals 1 parts.body.hidden;
+      modifies = parts.modifies.items;
+      specs = map typed.specification parts.specs.items;
+      body = option_map (λ b. typed.statements b.items) parts.body.stmts;
     }) }
     ensures fault { IfErr result IsMemoryFault }
 {

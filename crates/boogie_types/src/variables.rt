@@ -35,11 +35,7 @@ fn add_names<'a>(names: &mut Vec<&'a Name>, variables: &'a [Vary]) -> Result<(),
 }
 
 /// Puts what is known of variables behind the others.
-fn add_infos(
-    infos: &mut Vec<VarInfo>,
-    variables: &[Vary],
-    constant: bool,
-) -> Result<(), AllocError>
+fn add_infos(infos: &mut Vec<VarInfo>, variables: &[Vary], constant: bool) -> Result<(), AllocError>
     ensures { OnOk result (infos.new.items ≡ infos.old.items ++ map (variable_info constant) variables.now) }
 {
     for variable in variables {

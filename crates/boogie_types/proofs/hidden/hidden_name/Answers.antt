@@ -1,4 +1,4 @@
-use Rattle.std.proofs.Common.{◌≡◌, ℕ, ◌∷◌, ap, sym, ◌∙◌, ◌<◌, ◌^◌, arith, List}
+use Rattle.std.proofs.Common.{ℕ, ◌∷◌, ap, ◌∙◌, ◌<◌, ◌^◌, arith, List}
 use Rattle.std.proofs.lemmas.Fmt.{decimal-digits_of}
 use Rattle.boogie_types.proofs.hidden.hidden_name.Goals as goal
 

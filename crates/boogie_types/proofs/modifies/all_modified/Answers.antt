@@ -1,4 +1,4 @@
-use Rattle.std.proofs.Common.{◌≡◌, ℕ, ◌+◌, List, map, drop, Option, Some, Vec, Global, subst, ap, sym, ◌∙◌}
+use Rattle.std.proofs.Common.{ℕ, ◌+◌, map, drop, Some, Vec, Global, subst, ap, sym, ◌∙◌}
 use Rattle.std.proofs.lemmas.Result.{err_from_is_err_and}
 use Rattle.boogie_tree.specs.View as view
 use Rattle.boogie_types.specs.Sorted.{modified_in}
@@ -23,11 +23,11 @@ loop-spec-preserved c =
     let i = c.loop-spec.spec-index in
     let s = c.spec-item.result in
     elim c.match-spec.branch [
-      in-Modifies+in_ok-add_modified w ↦
-      list_turn globals ss i s c.loop-spec-test.true c.spec-item.is w.in-Modifies.names.items c.loop-spec.numbers.items c.match-spec.numbers.items _ (ap view.specification w.in-Modifies.is)
-      (ap (λ xs. made c.loop-spec.numbers.items (modified_numbers globals xs)) (sym w.deref.ensures.value) ∙ w.in_ok-add_modified.ensures.ok ∙ ap (λ (v : Vec ℕ Global). Some v.items) (sym w.numbers-is))
-      c.loop-spec.invariant
-    | in_default w ↦
-      ap (λ (v : Vec ℕ Global). made v.items (modified_numbers globals (modified_in (map view.specification (drop (i + 1) ss))))) w.numbers-is
-      ∙ other_turn globals ss i s c.loop-spec-test.true c.spec-item.is c.loop-spec.numbers.items _ (no_list s w.in_default.not-Modifies) c.loop-spec.invariant
+      | in-Modifies+in_ok-add_modified w ↦
+          list_turn globals ss i s c.loop-spec-test.true c.spec-item.is w.in-Modifies.names.items c.loop-spec.numbers.items c.match-spec.numbers.items _ (ap view.specification w.in-Modifies.is)
+          (ap (λ xs. made c.loop-spec.numbers.items (modified_numbers globals xs)) (sym w.deref.ensures.value) ∙ w.in_ok-add_modified.ensures.ok ∙ ap (λ (v : Vec ℕ Global). Some v.items) (sym w.numbers-is))
+          c.loop-spec.invariant
+      | in_default w ↦
+          ap (λ (v : Vec ℕ Global). made v.items (modified_numbers globals (modified_in (map view.specification (drop (i + 1) ss))))) w.numbers-is
+          ∙ other_turn globals ss i s c.loop-spec-test.true c.spec-item.is c.loop-spec.numbers.items _ (no_list s w.in_default.not-Modifies) c.loop-spec.invariant
     ]

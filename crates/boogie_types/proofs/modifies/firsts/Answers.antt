@@ -27,18 +27,18 @@ loop-number-preserved c =
     let added = c.in_ok-insert.ensures.added in
     let updates = c.in_ok-insert.ensures.updates.0 in
     elim c.if-branch.branch [
-      then-branch+in_ok-push w ↦
-      let h : list_any (nat_eq n) (reverse old) ≡ false = sym (seen n) ∙ was (contains nat_cmp c.loop-number.seen n) c.in_ok-insert.field-0 added w.if-branch.true in
-      let p : c.if-branch.firsts.items ≡ old ++ n ∷ [] = ap (λ (v : Vec ℕ Global). v.items) w.firsts-is ∙ w.in_ok-push.ensures.items in
-      record {
-        kept = kept_turn xs i n c.loop-number-test.true here old c.if-branch.firsts.items _ h p c.loop-number.invariant.kept;
-        seen = seen_turn xs i n c.loop-number-test.true here old c.if-branch.firsts.items (contains nat_cmp c.loop-number.seen) (contains nat_cmp c.insert.new.self) p seen updates;
-      }
-    | else-branch w ↦
-      let h : list_any (nat_eq n) (reverse old) ≡ true = sym (seen n) ∙ had (contains nat_cmp c.loop-number.seen n) c.in_ok-insert.field-0 added w.if-branch.false in
-      let p : c.if-branch.firsts ≡ c.loop-number.firsts = w.firsts-is in
-      record {
-        kept = ap (λ (v : Vec ℕ Global). v.items ++ firsts (reverse v.items) (drop (i + 1) xs)) p ∙ passed_turn xs i n c.loop-number-test.true here old _ h c.loop-number.invariant.kept;
-        seen = λ k. unseen_turn xs i n c.loop-number-test.true here old (contains nat_cmp c.loop-number.seen) (contains nat_cmp c.insert.new.self) h seen updates k ∙ ap (λ (v : Vec ℕ Global). list_any (nat_eq k) (reverse v.items)) (sym p);
-      }
+      | then-branch+in_ok-push w ↦
+          let h : list_any (nat_eq n) (reverse old) ≡ false = sym (seen n) ∙ was (contains nat_cmp c.loop-number.seen n) c.in_ok-insert.field-0 added w.if-branch.true in
+          let p : c.if-branch.firsts.items ≡ old ++ n ∷ [] = ap (λ (v : Vec ℕ Global). v.items) w.firsts-is ∙ w.in_ok-push.ensures.items in
+          record {
+            kept = kept_turn xs i n c.loop-number-test.true here old c.if-branch.firsts.items _ h p c.loop-number.invariant.kept;
+            seen = seen_turn xs i n c.loop-number-test.true here old c.if-branch.firsts.items (contains nat_cmp c.loop-number.seen) (contains nat_cmp c.insert.new.self) p seen updates;
+          }
+      | else-branch w ↦
+          let h : list_any (nat_eq n) (reverse old) ≡ true = sym (seen n) ∙ had (contains nat_cmp c.loop-number.seen n) c.in_ok-insert.field-0 added w.if-branch.false in
+          let p : c.if-branch.firsts ≡ c.loop-number.firsts = w.firsts-is in
+          record {
+            kept = ap (λ (v : Vec ℕ Global). v.items ++ firsts (reverse v.items) (drop (i + 1) xs)) p ∙ passed_turn xs i n c.loop-number-test.true here old _ h c.loop-number.invariant.kept;
+            seen = λ k. unseen_turn xs i n c.loop-number-test.true here old (contains nat_cmp c.loop-number.seen) (contains nat_cmp c.insert.new.self) h seen updates k ∙ ap (λ (v : Vec ℕ Global). list_any (nat_eq k) (reverse v.items)) (sym p);
+          }
     ]

@@ -1,4 +1,4 @@
-use Rattle.std.proofs.Common.{◌≡◌, ℕ, List, Option, ap, sym, ◌∙◌}
+use Rattle.std.proofs.Common.{ap, sym, ◌∙◌}
 use Rattle.boogie_types.specs.Numbers.{place_of}
 use Rattle.boogie_types.proofs.ModifiedLaws.{unknown_modified_fault, constant_modified_fault, modified_is}
 use Rattle.boogie_types.proofs.modifies.modified.Goals as goal

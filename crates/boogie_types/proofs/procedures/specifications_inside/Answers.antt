@@ -1,7 +1,7 @@
 use Rattle.std.proofs.Common.{◌≡◌, ℕ, ◌+◌, ◌≤◌, take, map, length, ap, ap₂, sym, ◌∙◌, subst, arith}
 use Rattle.std.proofs.lemmas.Result.{MatchResult-weaker}
 use Rattle.boogie_tree.specs.View as view
-use Rattle.typed_tree.specs.Scope.{Scope, seen, requires_scope, body_scope}
+use Rattle.typed_tree.specs.Scope.{seen}
 use Rattle.boogie_types.specs.Specifications.{specifications_in, AreSpecificationsFault}
 use Rattle.boogie_types.proofs.VariableLaws.{first_seen}
 use Rattle.boogie_types.proofs.ProcedureLaws.{specifications_seen, specifications_fault}
