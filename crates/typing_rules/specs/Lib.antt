@@ -3,6 +3,7 @@ pub mod TypedParts
 pub mod Rules
 pub mod Shape
 pub mod Counts
+pub mod CappedCounts
 pub mod ValidProgram
 pub mod BrokenTyping
 pub mod LabelNumber

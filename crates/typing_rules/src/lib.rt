@@ -2,6 +2,7 @@
 #![tactic(auto)]
 
 mod calls;
+mod counts;
 mod frame;
 mod labels;
 pub mod laws;
@@ -12,5 +13,6 @@ mod targets;
 mod typed;
 mod values;
 
+pub use counts::numbers_fit;
 pub use procedures::check_typing;
 pub use typed::Typed;

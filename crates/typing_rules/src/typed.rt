@@ -35,6 +35,19 @@ impl Typed {
     ghost use Rattle.typing_rules.specs.TypedParts.{typed_program};
     ghost use Rattle.typing_rules.specs.ValidProgram.{is_valid};
 
+    /// The program of these parts.
+    pub fn new(globals: Vec<VarInfo>, axioms: Vec<TExpr>, procs: Vec<TProc>, entry: u32) -> Typed
+        requires { IsTrue (is_valid (typed_program (record { globals = globals.items; axioms = axioms.items; procs = procs.items; entry = entry }))) }
+        ensures { result ≡ record { globals = globals.items; axioms = axioms.items; procs = procs.items; entry = entry } }
+    {
+        Typed {
+            globals,
+            axioms,
+            procs,
+            entry,
+        }
+    }
+
     /// The constants and globals, in order of declaration.
     pub fn globals(&self) -> &[VarInfo]
         ensures value { result.now ≡ self.now.globals }
