@@ -7,3 +7,5 @@ pub mod StatementParts
 pub mod ProcedureParts
 pub mod BrokenLaws
 pub mod Answered
+pub mod NameLaws
+pub mod LabelLaws

@@ -2,6 +2,8 @@ pub mod Names
 pub mod TypedParts
 pub mod Rules
 pub mod Shape
+pub mod Texts
+pub mod LabelOrder
 pub mod Counts
 pub mod CappedCounts
 pub mod ValidProgram

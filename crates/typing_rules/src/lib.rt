@@ -1,13 +1,18 @@
 //! Typed programs: the typing rules of statements, procedures and programs, and the programs that keep them.
 #![tactic(auto)]
 
+mod arguments;
 mod calls;
 mod counts;
 mod frame;
+mod label_order;
 mod labels;
 pub mod laws;
+mod names;
 mod numbers;
 mod procedures;
+mod shape;
+mod spelling;
 mod statements;
 mod targets;
 mod typed;
