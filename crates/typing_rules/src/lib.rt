@@ -3,6 +3,7 @@
 
 mod arguments;
 mod calls;
+mod copying;
 mod counts;
 mod frame;
 mod label_order;
@@ -11,13 +12,15 @@ pub mod laws;
 mod names;
 mod numbers;
 mod procedures;
+mod program;
 mod shape;
 mod spelling;
 mod statements;
 mod targets;
-mod typed;
+mod validity;
 mod values;
 
 pub use counts::numbers_fit;
 pub use procedures::check_typing;
-pub use typed::Typed;
+pub use program::Typed;
+pub use validity::typed;

@@ -3,6 +3,7 @@
 ghost use Rattle.std.specs.Prelude.{◌≡◌, map, IfOk};
 ghost use Rattle.std.specs.List.{list_all};
 ghost use Rattle.std.specs.Str.{bytes_eq};
+ghost use Rattle.typed_tree.specs.TypedView as view;
 ghost use Rattle.typing_rules.specs.Names as spec;
 ghost use Rattle.typing_rules.specs.Rules.{all_differ};
 ghost use Rattle.typing_rules.specs.Shape.{are_names};
@@ -62,7 +63,7 @@ pub(crate) fn variables_named(alloc: Global, variables: &[VarInfo]) -> Result<bo
 
 /// Whether the names of the procedures differ, each spelled as a name may be.
 pub(crate) fn procedures_named(alloc: Global, procs: &[TProc]) -> Result<bool, AllocError>
-    ensures { IfOk result (λ named. named ≡ are_names (map (λ p. p.name) procs.now)) }
+    ensures { IfOk result (λ named. named ≡ are_names (map (λ p. p.name) (map view.procedure procs.now))) }
 {
     let mut names = Vec::with_capacity(alloc, procs.len())?;
     for listed in procs {

@@ -1,11 +1,12 @@
 //! The shape of a program: what holds of it beside the typing rules.
 
-ghost use Rattle.std.specs.Prelude.{◌≡◌, ◌&&◌, not, map, nat_eq, slice_get, IfOk};
+ghost use Rattle.std.specs.Prelude.{◌≡◌, [], not, map, nat_eq, slice_get, IfOk};
 ghost use Rattle.std.specs.List.{list_all};
 ghost use Rattle.std.specs.Option.{option_map};
 ghost use Rattle.typed_tree.specs.TypedView as view;
 ghost use Rattle.typing_rules.specs.Rules.{all_differ, meets};
 ghost use Rattle.typing_rules.specs.Shape as shape;
+ghost use Rattle.typing_rules.specs.TypedParts.{program_of};
 
 use crate::arguments::is_shaped_block;
 use crate::calls::params;
@@ -148,7 +149,7 @@ pub(crate) fn has_shape(
     globals: &[VarInfo],
     procs: &[TProc],
 ) -> Result<bool, AllocError>
-    ensures { IfOk result (λ b. b ≡ (shape.are_names (map (λ v. v.name) globals.now) && (shape.are_names (map (λ p. p.name) procs.now) && list_all (shape.is_procedure_shaped globals.now (map view.procedure procs.now)) (map view.procedure procs.now)))) }
+    ensures { IfOk result (λ b. b ≡ shape.has_shape (program_of globals.now [] procs.now)) }
 {
     if !variables_named(alloc, globals)? {
         return Ok(false);

@@ -1,5 +1,4 @@
-use Rattle.std.proofs.Common.{◌≡◌, ◌++◌, ℕ, List, map, drop}
-use Rattle.boogie_tree.specs.declared.tree.VarInfo.{VarInfo}
+use Rattle.std.proofs.Common.{◌≡◌, ◌++◌, map, drop}
 use Rattle.typing_rules.specs.Texts.{texts}
 use Rattle.typing_rules.proofs.names.variables_named.Given as goal
 

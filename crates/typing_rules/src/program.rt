@@ -1,6 +1,8 @@
-ghost use Rattle.std.specs.Prelude.{◌≡◌};
+ghost use Rattle.std.specs.Prelude.{◌≡◌, IfOk};
 
+use crate::copying::{expressions, procedures, variables};
 use boogie_tree::VarInfo;
+use std::alloc::AllocError;
 use std::marker::Model;
 use typed_tree::{TExpr, TProc};
 
@@ -75,5 +77,20 @@ impl Typed {
         ensures { result ≡ self.now.entry }
     {
         self.entry
+    }
+
+    /// A program that says the same.
+    pub fn copy(&self) -> Result<Self, AllocError>
+        ensures { IfOk result (λ copied. typed_program copied ≡ typed_program self.now) }
+    {
+        let globals = variables(&self.globals)?;
+        let axioms = expressions(&self.axioms)?;
+        let procs = procedures(&self.procs)?;
+        Ok(Typed {
+            globals,
+            axioms,
+            procs,
+            entry: self.entry,
+        })
     }
 }
