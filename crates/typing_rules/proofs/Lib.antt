@@ -9,3 +9,5 @@ pub mod BrokenLaws
 pub mod Answered
 pub mod NameLaws
 pub mod LabelLaws
+pub mod ValidLaws
+pub mod SeenLaws

@@ -8,6 +8,7 @@ pub mod Counts
 pub mod CappedCounts
 pub mod ValidProgram
 pub mod BrokenTyping
+pub mod Laws
 pub mod LabelNumber
 pub mod ColumnKey
 pub mod Judged
