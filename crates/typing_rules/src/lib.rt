@@ -17,6 +17,8 @@ mod shape;
 mod spelling;
 mod statements;
 mod targets;
+#[cfg(test)]
+mod tests;
 mod validity;
 mod values;
 
