@@ -11,3 +11,4 @@ pub mod NameLaws
 pub mod LabelLaws
 pub mod ValidLaws
 pub mod SeenLaws
+pub mod GotoLaws

@@ -19,7 +19,7 @@ use Rattle.typing_rules.specs.Laws as law
 
 -- ---- lists and tests
 
-all_member : {X : Type 0} (p : X → Bool) (xs : List X) (x : X) → Contains xs x → list_all p xs ≡ true → p x ≡ true
+pub all_member : {X : Type 0} (p : X → Bool) (xs : List X) (x : X) → Contains xs x → list_all p xs ≡ true → p x ≡ true
 all_member p [] x (n, l, e) h = absurd (omega arith)
 all_member p (y ∷ xs) x (zero, l, e) h = sym (ap p e) ∙ (and_parts (p y) (list_all p xs) h).0
 all_member p (y ∷ xs) x (suc n, l, e) h = all_member p xs x (n, omega arith, e) (and_parts (p y) (list_all p xs) h).1

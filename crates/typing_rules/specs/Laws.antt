@@ -6,7 +6,7 @@ use Rattle.boogie_tree.specs.declared.tree.Ty.{Ty}
 use Rattle.boogie_tree.specs.declared.tree.Column.{Column}
 use Rattle.boogie_tree.specs.declared.tree.Column.TheVariants as columns
 use Rattle.boogie_tree.specs.declared.tree.VarInfo.{VarInfo}
-use Rattle.typed_tree.specs.TypedTree.{TypedExpression, Lit, Truth, Var, Old, Not, Neg, Bin, TypedGuard, TypedInvariant, TypedStatement, Havoc, Call, If, While, TypedBlock, Then, TypedSpecification, TypedProcedure, TypedProgram}
+use Rattle.typed_tree.specs.TypedTree.{TypedExpression, Lit, Truth, Var, Old, Not, Neg, Bin, TypedGuard, TypedInvariant, TypedStatement, Havoc, Call, If, While, Goto, TypedBlock, Then, TypedSpecification, TypedProcedure, TypedProgram}
 use Rattle.typed_tree.specs.Scope.{Scope, axiom_scope, body_scope, variable_at}
 use Rattle.typed_tree.specs.Typing.{type_of}
 use Rattle.typed_tree.specs.KeptRules.{is_right, is_arithmetic}
@@ -89,6 +89,11 @@ HavocsChoose = (t : TypedProgram) (p : TypedProcedure) (k : Context) (at : Span)
 -- A procedure has its parameters and results among its locals.
 abbrev pub LocalsAreEnough : Type 0
 LocalsAreEnough = (t : TypedProgram) (p : TypedProcedure) → IsTrue (is_valid t) → Contains t.procs p → p.params + p.results ≤ length p.locals
+
+-- A goto names labels of its body.
+abbrev pub GotosNameLabels : Type 0
+GotosNameLabels = (t : TypedProgram) (p : TypedProcedure) (k : Context) (at : Span) (ns : List ℕ) (n : ℕ) → IsTrue (is_valid t) → IsStatementOf t p k (Goto at ns) → Contains ns n →
+    (b : TypedBlock) × (p.body ≡ Some b) × (is_member n (block_labels b) ≡ true)
 
 -- The labels of a body count up from 0.
 abbrev pub LabelsCount : Type 0

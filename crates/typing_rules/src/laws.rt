@@ -20,6 +20,7 @@ pub fn typed_programs_are_typed()
     ensures calls { law.CallsAgree }
     ensures havocs { law.HavocsChoose }
     ensures locals { law.LocalsAreEnough }
+    ensures gotos { law.GotosNameLabels }
     ensures labels { law.LabelsCount }
     ensures entry { law.EntryHasBody }
     ensures numbers { law.NumbersFit }

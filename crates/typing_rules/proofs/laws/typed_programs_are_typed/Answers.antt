@@ -1,3 +1,4 @@
+use Rattle.typing_rules.proofs.GotoLaws.{gotos}
 use Rattle.typing_rules.proofs.ValidLaws as valid
 use Rattle.typing_rules.proofs.laws.typed_programs_are_typed.Goals as goal
 
@@ -11,6 +12,7 @@ returns c = record {
   calls = valid.calls;
   havocs = valid.havocs;
   locals = valid.locals;
+  gotos = gotos;
   labels = valid.labels;
   entry = valid.entry;
   numbers = valid.numbers;
