@@ -223,11 +223,17 @@ const PROGRAMS: [(&str, &str, u32, bool); 10] = [
     ("Ap", "f", 3, false),
 ];
 
-/// Whether they make a typed program, with a copy that has as many procedures.
+/// Whether it has the parts of the table, and that entry.
+fn has_parts(program: &Typed, entry: u32) -> bool {
+    let listed = program.globals().len() == 4 && program.axioms().is_empty();
+    listed && program.procs().len() == 3 && program.entry() == entry
+}
+
+/// Whether they make a typed program, with a copy of it that has all its parts.
 fn is_program(alloc: Global, words: &str, name: &str, entry: u32) -> Result<bool, Fail> {
     let procs = procs(alloc, words, name)?;
     match typed(alloc, globals(alloc)?, Vec::new(alloc), procs, entry)? {
-        Some(program) => Ok(program.copy()?.procs().len() == 3),
+        Some(program) => Ok(has_parts(&program.copy()?, entry)),
         None => Ok(false),
     }
 }
