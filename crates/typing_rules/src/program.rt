@@ -1,6 +1,8 @@
-ghost use Rattle.std.specs.Prelude.{◌≡◌};
+ghost use Rattle.std.specs.Prelude.{◌≡◌, IfOk};
 
+use crate::copying::{expressions, procedures, variables};
 use boogie_tree::VarInfo;
+use std::alloc::AllocError;
 use std::marker::Model;
 use typed_tree::{TExpr, TProc};
 
@@ -35,6 +37,19 @@ impl Typed {
     ghost use Rattle.typing_rules.specs.TypedParts.{typed_program};
     ghost use Rattle.typing_rules.specs.ValidProgram.{is_valid};
 
+    /// The program of these parts.
+    pub fn new(globals: Vec<VarInfo>, axioms: Vec<TExpr>, procs: Vec<TProc>, entry: u32) -> Typed
+        requires { IsTrue (is_valid (typed_program (record { globals = globals.items; axioms = axioms.items; procs = procs.items; entry = entry }))) }
+        ensures { result ≡ record { globals = globals.items; axioms = axioms.items; procs = procs.items; entry = entry } }
+    {
+        Typed {
+            globals,
+            axioms,
+            procs,
+            entry,
+        }
+    }
+
     /// The constants and globals, in order of declaration.
     pub fn globals(&self) -> &[VarInfo]
         ensures value { result.now ≡ self.now.globals }
@@ -62,5 +77,20 @@ impl Typed {
         ensures { result ≡ self.now.entry }
     {
         self.entry
+    }
+
+    /// A program that says the same.
+    pub fn copy(&self) -> Result<Self, AllocError>
+        ensures { IfOk result (λ copied. typed_program copied ≡ typed_program self.now) }
+    {
+        let globals = variables(&self.globals)?;
+        let axioms = expressions(&self.axioms)?;
+        let procs = procedures(&self.procs)?;
+        Ok(Typed {
+            globals,
+            axioms,
+            procs,
+            entry: self.entry,
+        })
     }
 }
