@@ -1,0 +1,11 @@
+use Rattle.std.proofs.Common.{◌≡◌, map, drop}
+use Rattle.boogie_tree.specs.View as view
+use Rattle.typed_tree.specs.TypedView as typed
+use Rattle.typed_tree.specs.Scope.{seen}
+use Rattle.boogie_types.specs.Meanings.{column_of}
+use Rattle.boogie_types.specs.Naming.{each, named, named_invariant, columns_of}
+use Rattle.boogie_types.specs.Making.{made}
+use Rattle.boogie_types.proofs.lists.targets.Given as goal
+
+abbrev pub invariant-loop-target : goal.invariant-loop-target
+invariant-loop-target l = made l.columns.items (columns_of (seen l.names.scope) (drop l.target-index l.targets)) ≡ columns_of (seen l.names.scope) l.targets

@@ -1,0 +1,8 @@
+use Rattle.std.proofs.lemmas.Result.{err_from_is_err_and}
+use Rattle.boogie_types.proofs.ModifiedLaws.{fault_of_one}
+use Rattle.boogie_types.proofs.modifies.add_modified.Goals as goal
+
+pub returns-in_err-number-clause-fault : goal.returns-in_err-number-clause-fault
+returns-in_err-number-clause-fault c =
+    let p = err_from_is_err_and c.from_residual.result c.from_residual.ensures.1 in
+    rw (p.1, p.2) (fault_of_one _ _ _ _ _ c.loop-name-test.true c.name-item.is c.in_err-number.ensures.fault)

@@ -1,0 +1,159 @@
+use Rattle.std.proofs.Common.{◌≡◌, ℕ, ◌+◌, ap, sym, subst, ◌∙◌, ◌++◌, ◌∷◌, [], map, drop, None, Some, arith}
+use Rattle.std.proofs.lemmas.List.{drop_all}
+use Rattle.std.proofs.lemmas.Result.{err_from_is_err_and, MatchResult-weaker, on_ok_weaker}
+use Rattle.boogie_tree.specs.View as view
+use Rattle.typed_tree.specs.TypedView as typed
+use Rattle.boogie_types.specs.Numbers.{place_of}
+use Rattle.boogie_types.specs.Places.{loops_by, label_by}
+use Rattle.boogie_types.specs.PlaceViews.{place_at}
+use Rattle.boogie_types.specs.Naming.{named_statement, named_block, hidden_in}
+use Rattle.boogie_types.specs.Making.{made, block_made}
+use Rattle.boogie_types.specs.BrokenNames.{IsMisnamedIn}
+use Rattle.boogie_types.specs.NamingFaults.{IsStatementFault, IsBlockFault}
+use Rattle.boogie_types.proofs.BlockLaws.{block_anywhere, block_turn, block_end, hidden_turn, faults_turn, fault_turn}
+use Rattle.boogie_types.proofs.Weights.{member_weight}
+use Rattle.boogie_types.proofs.Seen.{assert_seen, assume_seen, havoc_seen, assign_seen, call_seen, if_seen, while_seen, break_seen, goto_seen, label_seen, goto_typed}
+use Rattle.boogie_types.proofs.FaultLaws.{or_memory_to, fault_in_assert, fault_in_assume, fault_in_havoc, fault_in_assigned, fault_in_value, fault_in_call, fault_in_branch, fault_in_then, fault_in_else, fault_in_loop, fault_in_invariant, fault_in_body, fault_in_break, fault_in_goto, fault_in_label}
+use Rattle.boogie_types.proofs.statements.+statements.Goals as goal
+
+pub statement-returns-in_err-claim-in-Assert-clause-fault : goal.statement-returns-in_err-claim-in-Assert-clause-fault
+statement-returns-in_err-claim-in-Assert-clause-fault t c =
+    let p = err_from_is_err_and c.from_residual.result c.from_residual.ensures.1 in
+    let v = ap view.statement c.in-Assert.is ∙ assert_seen c.in-Assert.span c.in-Assert.claim in
+    rw (p.1, p.2, v) (fault_in_assert _ _ _ _ _ c.in_err-claim-in-Assert.ensures.fault)
+
+pub statement-returns-in_err-claim-in-Assume-clause-fault : goal.statement-returns-in_err-claim-in-Assume-clause-fault
+statement-returns-in_err-claim-in-Assume-clause-fault t c =
+    let p = err_from_is_err_and c.from_residual-in_err-claim-in-Assume.result c.from_residual-in_err-claim-in-Assume.ensures.1 in
+    let v = ap view.statement c.in-Assume.is ∙ assume_seen c.in-Assume.span c.in-Assume.claim in
+    rw (p.1, p.2, v) (fault_in_assume _ _ _ _ _ c.in_err-claim-in-Assume.ensures.fault)
+
+pub statement-returns-in_err-columns-in-Havoc-clause-fault : goal.statement-returns-in_err-columns-in-Havoc-clause-fault
+statement-returns-in_err-columns-in-Havoc-clause-fault t c =
+    let p = err_from_is_err_and c.from_residual-in_err-columns-in-Havoc.result c.from_residual-in_err-columns-in-Havoc.ensures.1 in
+    let v = ap view.statement c.in-Havoc.is ∙ havoc_seen c.in-Havoc.span c.in-Havoc.names in
+    rw (p.1, p.2, v) (rw (← c.deref.ensures.value) (fault_in_havoc _ _ _ _ _ c.in_err-columns-in-Havoc.ensures.fault))
+
+pub statement-returns-in_err-columns-in-Assign-clause-fault : goal.statement-returns-in_err-columns-in-Assign-clause-fault
+statement-returns-in_err-columns-in-Assign-clause-fault t c =
+    let p = err_from_is_err_and c.from_residual-in_err-columns-in-Assign.result c.from_residual-in_err-columns-in-Assign.ensures.1 in
+    let v = ap view.statement c.in-Assign.is ∙ assign_seen c.in-Assign.span c.in-Assign.names c.in-Assign.values in
+    rw (p.1, p.2, v) (rw (← c.deref-in-Assign.ensures.value) (fault_in_assigned _ _ _ _ _ _ c.in_err-columns-in-Assign.ensures.fault))
+
+pub statement-returns-in_err-values-in-Assign-clause-fault : goal.statement-returns-in_err-values-in-Assign-clause-fault
+statement-returns-in_err-values-in-Assign-clause-fault t c =
+    let p = err_from_is_err_and c.from_residual-in_err-values-in-Assign.result c.from_residual-in_err-values-in-Assign.ensures.1 in
+    let v = ap view.statement c.in-Assign.is ∙ assign_seen c.in-Assign.span c.in-Assign.names c.in-Assign.values in
+    rw (p.1, p.2, v) (rw (← c.deref-in-Assign-2.ensures.value) (fault_in_value _ _ _ _ _ _ c.in_err-values-in-Assign.ensures.fault))
+
+pub statement-returns-in_err-cond-in-If-clause-fault : goal.statement-returns-in_err-cond-in-If-clause-fault
+statement-returns-in_err-cond-in-If-clause-fault t c =
+    let p = err_from_is_err_and c.from_residual-in_err-cond-in-If.result c.from_residual-in_err-cond-in-If.ensures.1 in
+    let v = ap view.statement c.in-If.is ∙ if_seen c.in-If.span c.in-If.cond c.in-If.then c.in-If.otherwise in
+    rw (p.1, p.2, v) (fault_in_branch _ _ _ _ _ _ _ c.in_err-cond-in-If.ensures.fault)
+
+pub statement-returns-in_err-then-in-If-clause-fault : goal.statement-returns-in_err-then-in-If-clause-fault
+statement-returns-in_err-then-in-If-clause-fault t c =
+    let p = err_from_is_err_and c.from_residual-in_err-then-in-If.result c.from_residual-in_err-then-in-If.ensures.1 in
+    let v = ap view.statement c.in-If.is ∙ if_seen c.in-If.span c.in-If.cond c.in-If.then c.in-If.otherwise in
+    rw (p.1, p.2, v) (rw (← c.deref-in-If.ensures.value) (fault_in_then _ _ _ _ _ _ _ c.in_err-then-in-If.ensures.fault))
+
+pub statement-returns-in_err-otherwise-in-If-clause-fault : goal.statement-returns-in_err-otherwise-in-If-clause-fault
+statement-returns-in_err-otherwise-in-If-clause-fault t c =
+    let p = err_from_is_err_and c.from_residual-in_err-otherwise-in-If.result c.from_residual-in_err-otherwise-in-If.ensures.1 in
+    let v = ap view.statement c.in-If.is ∙ if_seen c.in-If.span c.in-If.cond c.in-If.then c.in-If.otherwise in
+    rw (p.1, p.2, v) (rw (← c.deref-in-If-2.ensures.value) (fault_in_else _ _ _ _ _ _ _ (subst (λ ls. IsBlockFault (place_at c.args.place.now ls) None (view.statements c.deref-in-If-2.result.now) c.in_err-otherwise-in-If.field-0.0) c.in_ok-then-in-If.ensures.loops c.in_err-otherwise-in-If.ensures.fault)))
+
+pub statement-returns-in_err-cond-in-While-clause-fault : goal.statement-returns-in_err-cond-in-While-clause-fault
+statement-returns-in_err-cond-in-While-clause-fault t c =
+    let p = err_from_is_err_and c.from_residual-in_err-cond-in-While.result c.from_residual-in_err-cond-in-While.ensures.1 in
+    let v = ap view.statement c.in-While.is ∙ while_seen c.in-While.span c.in-While.cond c.in-While.conditions c.in-While.body in
+    rw (p.1, p.2, v) (fault_in_loop _ _ _ _ _ _ _ c.in_err-cond-in-While.ensures.fault)
+
+pub statement-returns-in_err-conditions-in-While-clause-fault : goal.statement-returns-in_err-conditions-in-While-clause-fault
+statement-returns-in_err-conditions-in-While-clause-fault t c =
+    let p = err_from_is_err_and c.from_residual-in_err-conditions-in-While.result c.from_residual-in_err-conditions-in-While.ensures.1 in
+    let v = ap view.statement c.in-While.is ∙ while_seen c.in-While.span c.in-While.cond c.in-While.conditions c.in-While.body in
+    rw (p.1, p.2, v) (rw (← c.deref-in-While.ensures.value) (fault_in_invariant _ _ _ _ _ _ _ c.in_err-conditions-in-While.ensures.fault))
+
+pub statement-returns-in_err-body-in-While-clause-fault : goal.statement-returns-in_err-body-in-While-clause-fault
+statement-returns-in_err-body-in-While-clause-fault t c =
+    let p = err_from_is_err_and c.from_residual-in_err-body-in-While.result c.from_residual-in_err-body-in-While.ensures.1 in
+    let v = ap view.statement c.in-While.is ∙ while_seen c.in-While.span c.in-While.cond c.in-While.conditions c.in-While.body in
+    rw (p.1, p.2, v) (rw (← c.deref-in-While-2.ensures.value) (fault_in_body _ _ _ _ _ _ _ (subst (λ ls. IsBlockFault (place_at c.args.place.now ls) None (view.statements c.deref-in-While-2.result.now) c.in_err-body-in-While.field-0.0) c.in_ok-enter-in-While.ensures.ok c.in_err-body-in-While.ensures.fault)))
+
+pub statement-returns-in_err-leaving-in-Break-clause-fault : goal.statement-returns-in_err-leaving-in-Break-clause-fault
+statement-returns-in_err-leaving-in-Break-clause-fault t c =
+    let p = err_from_is_err_and c.from_residual-in_err-leaving-in-Break.result c.from_residual-in_err-leaving-in-Break.ensures.1 in
+    let v = ap view.statement c.in-Break.is ∙ break_seen c.in-Break.span c.in-Break.label in
+    rw (p.1, p.2, v) (let f = c.in_err-leaving-in-Break.ensures.fault in fault_in_break _ _ _ _ _ (rw (← c.deref-in-Break.ensures.value) f))
+
+pub statement-returns-in_err-numbers-in-Goto-clause-fault : goal.statement-returns-in_err-numbers-in-Goto-clause-fault
+statement-returns-in_err-numbers-in-Goto-clause-fault t c =
+    let p = err_from_is_err_and c.from_residual-in_err-numbers-in-Goto.result c.from_residual-in_err-numbers-in-Goto.ensures.1 in
+    let v = ap view.statement c.in-Goto.is ∙ goto_seen c.in-Goto.span c.in-Goto.names in
+    rw (p.1, p.2, v) (rw (← c.deref-in-Goto.ensures.value) (fault_in_goto _ _ _ _ _ c.in_err-numbers-in-Goto.ensures.fault))
+
+pub statement-returns-in-Call-clause-fault : goal.statement-returns-in-Call-clause-fault
+statement-returns-in-Call-clause-fault t c =
+    let v = ap view.statement c.in-Call.is ∙ call_seen c.in-Call.span c.in-Call.names c.in-Call.callee c.in-Call.arguments in
+    rw (v, ← c.deref-in-Call.ensures.value, ← c.deref-in-Call-2.ensures.value)
+    (MatchResult-weaker c.call_inside.result c.call_inside.ensures.fault (λ x h. h) (λ f h. fault_in_call _ _ _ _ _ _ f h))
+
+pub statement-returns-in-None-clause-fault : goal.statement-returns-in-None-clause-fault
+statement-returns-in-None-clause-fault t c =
+    let v = ap view.statement c.in-Label.is ∙ label_seen c.in-Label.name in
+    rw v (fault_in_label _ _ _ (ap (place_of c.args.place.now.labels.now) (sym c.bytes.ensures) ∙ sym c.place.ensures ∙ c.in-None.is))
+
+pub block-statement-requires : goal.block-statement-requires
+block-statement-requires t c =
+    let w = member_weight c.args.statements.now _ _ c.loop-each-test.true c.each-item.is in let d = c.decreases in (omega arith, tt)
+
+pub statement-returns-in_ok-body-in-While-clause-hidden : goal.statement-returns-in_ok-body-in-While-clause-hidden
+statement-returns-in_ok-body-in-While-clause-hidden t c =
+    let v = ap view.statement c.in-While.is ∙ while_seen c.in-While.span c.in-While.cond c.in-While.conditions c.in-While.body in
+    let h = c.in_ok-body-in-While.ensures.hidden in
+    let a = block_anywhere (place_at c.args.place.now c.args.walk.now.loops.items) (loops_by c.enter.new.loops.items) (view.statements c.deref-in-While-2.result.now) in
+    rw (v, ← c.deref-in-While-2.ensures.value) (on_ok_weaker c.put-in-While.result (λ u. h ∙ ap (λ (k : ℕ). c.args.walk.now.hidden + k) a) c.put-in-While.ensures.ok)
+
+pub statement-returns-in_ok-numbers-in-Goto-clause-ok : goal.statement-returns-in_ok-numbers-in-Goto-clause-ok
+statement-returns-in_ok-numbers-in-Goto-clause-ok t c =
+    let v = ap view.statement c.in-Goto.is ∙ goto_seen c.in-Goto.span c.in-Goto.names in
+    let h = c.in_ok-numbers-in-Goto.ensures.ok in
+    let g = goto_typed c.in-Goto.span c.in_ok-numbers-in-Goto.numbers in
+    rw (v, ← c.deref-in-Goto.ensures.value, h) (on_ok_weaker c.put-in-Goto.result (λ e. ap (λ ss. Some ss) (sym (e ∙ ap (λ s. map typed.statement c.args.out.now.items ++ s ∷ []) g))) c.put-in-Goto.ensures.ok)
+
+pub block-returns-in_err-statement-clause-fault : goal.block-returns-in_err-statement-clause-fault
+block-returns-in_err-statement-clause-fault t c =
+    let p = err_from_is_err_and c.from_residual.result c.from_residual.ensures.1 in
+    let place = place_at c.args.place.now c.args.walk.now.loops.items in
+    rw (p.1, p.2)
+    (or_memory_to c.in_err-statement.field-0.0
+    (fault_turn place c.args.statements.now c.loop-each.each-index c.each-item.result c.loop-each-test.true c.each-item.is (label_by c.loop-each.before)
+    (λ f. IsMisnamedIn place None (view.statements c.args.statements.now) f) c.loop-each.invariant.faults c.in_err-statement.field-0.0)
+    (subst (λ ls. IsStatementFault (place_at c.args.place.now ls) (label_by c.loop-each.before) (view.statement c.each-item.result) c.in_err-statement.field-0.0)
+    c.loop-each.invariant.loops c.in_err-statement.ensures.fault))
+
+pub block-loop-each-preserved : goal.block-loop-each-preserved
+block-loop-each-preserved t c =
+    let place = place_at c.args.place.now c.args.walk.now.loops.items in
+    let stmts = c.args.statements.now in
+    let i = c.loop-each.each-index in
+    let x = c.each-item.result in
+    let made = subst (λ ls. made (map typed.statement c.loop-each.out.items) (named_statement (place_at c.args.place.now ls) (label_by c.loop-each.before) c.loop-each.walk.hidden (view.statement x)) ≡ Some (map typed.statement c.statement.new.out.items))
+        c.loop-each.invariant.loops c.in_ok-statement.ensures.ok in
+    let hidden = subst (λ ls. c.statement.new.walk.hidden ≡ c.loop-each.walk.hidden + hidden_in (place_at c.args.place.now ls) (view.statement x)) c.loop-each.invariant.loops c.in_ok-statement.ensures.hidden in
+    record {
+      made = block_turn place stmts i x c.loop-each-test.true c.each-item.is _ _ _ _ _ _ _ made hidden c.label_before-before.ensures c.loop-each.invariant.made;
+      hidden = hidden_turn place stmts i x c.loop-each-test.true c.each-item.is _ _ _ hidden c.loop-each.invariant.hidden;
+      loops = c.in_ok-statement.ensures.loops ∙ c.loop-each.invariant.loops;
+      faults = faults_turn place stmts i x c.loop-each-test.true c.each-item.is _ _ (λ f. IsMisnamedIn place None (view.statements stmts) f) c.label_before-before.ensures c.loop-each.invariant.faults;
+    }
+
+pub block-returns-clause-ok : goal.block-returns-clause-ok
+block-returns-clause-ok t c =
+    let place = place_at c.args.place.now c.args.walk.now.loops.items in
+    let e : drop c.loop-each.each-index c.args.statements.now ≡ [] = drop_all c.loop-each.each-index c.args.statements.now c.loop-each-test.false in
+    sym c.loop-each.invariant.made
+    ∙ ap (λ ss. block_made (map typed.statement c.loop-each.out.items) (named_block place (label_by c.loop-each.before) c.loop-each.walk.hidden (view.statements ss))) e
+    ∙ block_end (map typed.statement c.loop-each.out.items)
