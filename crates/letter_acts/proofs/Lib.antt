@@ -5,3 +5,4 @@ pub mod PointLemmas
 pub mod FrameLemmas
 pub mod ReadingLemmas
 pub mod KnownLemmas
+pub mod GraphLemmas

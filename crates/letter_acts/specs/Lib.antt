@@ -8,3 +8,5 @@ pub mod Feasible
 pub mod Names
 pub mod Invariant
 pub mod Known
+pub mod Kept
+pub mod Parts

@@ -4,11 +4,14 @@
 
 mod acts;
 mod frames;
+mod graphs;
 pub mod laws;
+mod parts;
 mod sites;
 #[cfg(test)]
 mod tests;
 
 pub use acts::Act;
 pub use frames::Frame;
+pub use graphs::Icfg;
 pub use sites::{AssertId, Site};
