@@ -10,3 +10,4 @@ pub mod Invariant
 pub mod Known
 pub mod Kept
 pub mod Parts
+pub mod Checks
