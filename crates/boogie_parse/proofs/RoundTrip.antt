@@ -7,12 +7,16 @@ use Rattle.boogie_tree.specs.Printing.{program_text}
 use Rattle.boogie_parse.specs.declared.fault.Fault.{Fault}
 use Rattle.boogie_parse.specs.GrammarProgram.{joined}
 use Rattle.boogie_parse.specs.GrammarLimits.{IsProgram}
-use Rattle.boogie_parse.specs.PrintedTokens.{HasSigns}
+use Rattle.boogie_parse.specs.PrintedTokens.{HasSigns, IsSpellableProgram}
 use Rattle.boogie_parse.specs.Respelled.{IsProgramAgain}
 use Rattle.boogie_parse.proofs.SpellableTokens.{lexed_spellable}
 use Rattle.boogie_parse.proofs.SpellableTrees.{program_of}
 use Rattle.boogie_parse.proofs.PrintedPrograms.{program_has_signs}
 use Rattle.boogie_parse.proofs.RespelledLimits.{text-again}
+
+-- the names of a program of a text are names, and its literals are in range
+pub program_is_spellable : (text : List ℕ) (ds : List Declaration) → IsProgram text ds → IsSpellableProgram ds
+program_is_spellable text ds h = subst IsSpellableProgram (sym h.declarations) (program_of h.spelled (lexed_spellable text h.tokens h.lexical))
 
 pub printed_again : (text : List ℕ) (ds : List Declaration) → IsProgram text ds → IsProgramAgain (program_text ds) ds
 printed_again text ds h =
@@ -24,3 +28,8 @@ pub found_again : (text : List ℕ) (r : Result Program Fault) → IfOk r (λ p.
     IfOk r (λ p. IsProgramAgain (program_text (program p)) (program p))
 found_again text (Ok p) h = printed_again text (program p) h
 found_again text (Err f) h = tt
+
+pub spellable_program : (text : List ℕ) (r : Result Program Fault) → IfOk r (λ p. IsProgram text (program p)) →
+    IfOk r (λ p. IsSpellableProgram (program p))
+spellable_program text (Ok p) h = program_is_spellable text (program p) h
+spellable_program text (Err f) h = tt

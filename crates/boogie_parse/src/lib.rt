@@ -22,5 +22,6 @@ pub use straight::laws::{
 pub use straight::straight_of;
 pub use token::TokenKind;
 pub use whole_text::{
-    bodies_are_short, one_program_tree, parse, printed_programs_are_read_again, texts_are_read,
+    bodies_are_short, one_program_tree, parse, printed_programs_are_read_again,
+    programs_are_spellable, texts_are_read,
 };

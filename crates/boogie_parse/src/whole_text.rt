@@ -7,6 +7,7 @@ ghost use Rattle.boogie_tree.specs.View.{program};
 ghost use Rattle.boogie_parse.specs.Lexed.{lexed};
 ghost use Rattle.boogie_parse.specs.GrammarLimits.{IsProgram};
 ghost use Rattle.boogie_parse.specs.ListViews.{Gives};
+ghost use Rattle.boogie_parse.specs.PrintedTokens.{IsSpellableProgram};
 ghost use Rattle.boogie_parse.specs.Respelled.{IsProgramAgain};
 ghost use Rattle.boogie_tree.specs.Printing.{program_text};
 ghost use Rattle.boogie_parse.specs.BodyLengths.{body_length};
@@ -44,6 +45,7 @@ pub fn parse(alloc: Global, text: &[u8]) -> Result<Program, Fault>
     ensures limits { IfErr result (λ f. IfLimit f (IsLimitAt text.now)) }
     ensures tokens { IfErr result (λ f. IfTokenFault f (lexed text.now ≡ Err f)) }
     ensures again { IfOk result (λ p. IsProgramAgain (program_text (program p)) (program p)) }
+    ensures spellable { IfOk result (λ p. IsSpellableProgram (program p)) }
 {
     let tokens = lex(alloc, text)?;
     let symbols = symbols(alloc, tokens)?;
@@ -55,6 +57,11 @@ pub fn parse(alloc: Global, text: &[u8]) -> Result<Program, Fault>
 /// of a program that was parsed gives that program, apart from places, where it is short enough and memory is found.
 pub fn printed_programs_are_read_again()
     ensures { (text : List ℕ) (ds : List Declaration) → IsProgram text ds → IsProgramAgain (program_text ds) ds }
+{}
+
+/// The names of a program that a text spells are names of the language, no keyword among them, and its literals are in range.
+pub fn programs_are_spellable()
+    ensures { (text : List ℕ) (ds : List Declaration) → IsProgram text ds → IsSpellableProgram ds }
 {}
 
 /// A text spells one program at most.

@@ -3,7 +3,7 @@ use Rattle.boogie_tree.specs.View.{program}
 use Rattle.boogie_parse.specs.ListViews.{Gives}
 use Rattle.boogie_parse.specs.WholeText.{read_text}
 use Rattle.boogie_parse.proofs.WholeText.{given_is_program, program_is_given, syntax_is_outside, limit_is_past, fault_is_of_tokens}
-use Rattle.boogie_parse.proofs.RoundTrip.{found_again}
+use Rattle.boogie_parse.proofs.RoundTrip.{found_again, spellable_program}
 use Rattle.boogie_parse.proofs.whole_text.parse.Goals as goal
 
 pub returns-clause-found : goal.returns-clause-found
@@ -41,3 +41,8 @@ pub returns-in_err-tokens-clause-limits : goal.returns-in_err-tokens-clause-limi
 returns-in_err-tokens-clause-limits c =
     let given : Gives program c.from_residual.result (read_text c.args.text.now) = search rules in
     limit_is_past c.args.text.now c.from_residual.result given
+
+pub returns-clause-spellable : goal.returns-clause-spellable
+returns-clause-spellable c =
+    let given : Gives program c.program.result (read_text c.args.text.now) = search rules in
+    spellable_program c.args.text.now c.program.result (given_is_program c.args.text.now c.program.result given)
