@@ -60,10 +60,10 @@ arguments_turn p n (v ∷ vs) e es = by_hidden (is_hidden v.ty e)
   where
     by_hidden : (b : Bool) →
         (if b then option_map (λ ts. typed.Var (place_of e) (hidden_column p n) ∷ ts) (named_arguments p (n + 1) vs es)
-          else both (λ t ts. t ∷ ts) (named p.scope e) (named_arguments p n vs es))
+        else both (λ t ts. t ∷ ts) (named p.scope e) (named_arguments p n vs es))
         ≡ together
-            (if b then option_map (λ ts. typed.Var (place_of e) (hidden_column p n) ∷ ts) (Some []) else both (λ t ts. t ∷ ts) (named p.scope e) (Some []))
-            (named_arguments p (n + length (if b then e ∷ [] else [])) vs es)
+        (if b then option_map (λ ts. typed.Var (place_of e) (hidden_column p n) ∷ ts) (Some []) else both (λ t ts. t ∷ ts) (named p.scope e) (Some []))
+        (named_arguments p (n + length (if b then e ∷ [] else [])) vs es)
     by_hidden true = sym (one_left (typed.Var (place_of e) (hidden_column p n)) (named_arguments p (n + 1) vs es))
     by_hidden false =
         made_left (λ t. t) (named p.scope e) (named_arguments p n vs es)

@@ -82,7 +82,7 @@ module _ (p : Place) (at : Span) (params : List Vary) (exprs : List Expr) (i : �
       ap (λ vs. made (done ++ v ∷ []) (named_arguments p m vs es)) (drop_behind params i)
       ∙ ap (λ k. made (done ++ v ∷ []) (named_arguments p k (behind (drop i params)) es)) moved-front
       ∙ sym (made_joined done (done ++ v ∷ []) (named_arguments p n (front (drop i params)) (view.expression x ∷ []))
-        (named_arguments p (n + needed (drop i params) (view.expression x)) (behind (drop i params)) es) (ap (made done) e'))
+      (named_arguments p (n + needed (drop i params) (view.expression x)) (behind (drop i params)) es) (ap (made done) e'))
       ∙ ap (made done) (sym (arguments_turn p n (drop i params) (view.expression x) es))
       ∙ ap (λ ys. made done (named_arguments p n (drop i params) ys)) (sym exprs-drop) ∙ w
 
@@ -98,7 +98,7 @@ module _ (p : Place) (at : Span) (params : List Vary) (exprs : List Expr) (i : �
       ap (λ vs. made new (put_aside p m at (hidden_arguments vs es))) (drop_behind params i)
       ∙ ap (λ k. made new (put_aside p k at (hidden_arguments (behind (drop i params)) es))) moved-front
       ∙ sym (made_joined done new (put_aside p n at (hidden_arguments (front (drop i params)) (view.expression x ∷ [])))
-        (put_aside p (n + needed (drop i params) (view.expression x)) at (hidden_arguments (behind (drop i params)) es)) e')
+      (put_aside p (n + needed (drop i params) (view.expression x)) at (hidden_arguments (behind (drop i params)) es)) e')
       ∙ ap (made done) (sym (aside_turn p n at (drop i params) (view.expression x) es))
       ∙ ap (λ ys. made done (put_aside p n at (hidden_arguments (drop i params) ys))) (sym exprs-drop) ∙ w
 

@@ -1,8 +1,8 @@
 -- Faults of the parts of a program are faults of the program.
-use Rattle.std.proofs.Common.{◌≡◌, ℕ, ◌+◌, ◌<◌, Bool, true, false, ◌&&◌, List, [], ◌∷◌, map, length, drop, get_or, Option, None, Some, Contains, refl, ap, sym, ◌∙◌, subst, arith}
+use Rattle.std.proofs.Common.{◌≡◌, ℕ, ◌+◌, ◌<◌, Bool, true, false, ◌&&◌, List, map, length, drop, get_or, Some, Contains, ap, sym, ◌∙◌, subst, arith}
 use Rattle.std.specs.Borrow.{Bor}
 use Rattle.std.specs.List.{list_all}
-use Rattle.std.proofs.lemmas.Bool.{false≢true, and_from}
+use Rattle.std.proofs.lemmas.Bool.{false≢true}
 use Rattle.std.proofs.lemmas.List.{length-map, drop_more}
 use Rattle.std.proofs.Math.ListN.{get_or-map}
 use Rattle.boogie_tree.specs.declared.tree.Name.{Name}
@@ -17,7 +17,7 @@ use Rattle.typed_tree.specs.TypedTree.{TypedProgram}
 use Rattle.typed_tree.specs.Scope.{Scope, axiom_scope}
 use Rattle.typing_rules.specs.BrokenTyping.{IsProgramBroken, IsTypingFault}
 use Rattle.boogie_types.specs.BrokenNames as broken
-use Rattle.boogie_types.specs.BrokenNames.{IsUnknownIn, one_of, IsSecond, IsRuleBroken, in_typing}
+use Rattle.boogie_types.specs.BrokenNames.{one_of, IsSecond, IsRuleBroken, in_typing}
 use Rattle.boogie_types.specs.DeclarationFaults.{IsImplementationBroken, no_procedure, other_body, other_variables, AreImplementationsBroken, AreProceduresRefused, IsRefused}
 use Rattle.boogie_types.specs.NamingFaults.{OrMemory, IsExpressionFault, AreExpressionsFault}
 use Rattle.boogie_types.specs.Numbers.{IsTwiceFault}

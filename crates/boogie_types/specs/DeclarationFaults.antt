@@ -1,5 +1,5 @@
 -- The faults of implementations, of procedures in a list, and of all declarations.
-use Rattle.std.specs.Prelude.{◌≡◌, false, List, Option, None, Some, Contains}
+use Rattle.std.specs.Prelude.{◌≡◌, false, List, None, Some, Contains}
 use Rattle.std.specs.Option.{is_none}
 use Rattle.boogie_tree.specs.Tree.{Procedure, Declaration}
 use Rattle.typed_tree.specs.declared.fault.TypeFault.{TypeFault}

@@ -57,10 +57,7 @@ fn is_before(label: &[u8], before: &Option<&[u8]>) -> bool
 }
 
 /// How many loops a break to that label leaves beyond the innermost; the loops stand innermost first.
-pub(crate) fn levels(
-    loops: &[Option<&[u8]>],
-    label: &[u8],
-) -> Result<Option<u32>, TypeFault>
+pub(crate) fn levels(loops: &[Option<&[u8]>], label: &[u8]) -> Result<Option<u32>, TypeFault>
     ensures ok { IfOk result (λ o. o ≡ position_from (is_before_loop label.now) 0 (loops_by loops.now)) }
     ensures fault { IfErr result IsMemoryFault }
 {

@@ -13,10 +13,9 @@ ghost use Rattle.boogie_types.specs.Making.{made};
 ghost use Rattle.boogie_types.specs.NamingFaults.{IsStatementFault, IsBlockFault, IsLeavingFault, IsCallFault};
 ghost use Rattle.boogie_types.specs.Numbers.{IsMemoryFault};
 
-
 use crate::calls::call;
-use crate::lists::{all_named, guard, invariants, targets};
 use crate::expressions::named;
+use crate::lists::{all_named, guard, invariants, targets};
 use crate::places::{Placed, label_numbers, levels};
 use boogie_tree::{Expr, Name, Span, Stmt};
 use std::alloc::Global;
@@ -65,10 +64,7 @@ pub(crate) fn put(out: &mut Vec<TStmt>, statement: TStmt) -> Result<(), TypeFaul
 }
 
 /// Enters a loop with that label directly before it.
-fn enter<'a>(
-    loops: &mut Vec<Option<&'a [u8]>>,
-    before: Option<&'a [u8]>,
-) -> Result<(), TypeFault>
+fn enter<'a>(loops: &mut Vec<Option<&'a [u8]>>, before: Option<&'a [u8]>) -> Result<(), TypeFault>
     ensures ok { OnOk result (loops.new.items ≡ before.entry ∷ loops.old.items) }
     ensures fault { IfErr result IsMemoryFault }
 {

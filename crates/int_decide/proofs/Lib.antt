@@ -1,4 +1,5 @@
 pub mod DecisionLaws
+pub mod CutLaws
 pub mod CutNumbers
 pub mod Opening
 pub mod Enough

@@ -5,3 +5,4 @@ pub mod Numbers
 pub mod Worth
 pub mod Answers
 pub mod Searching
+pub mod CutCounts

@@ -11,6 +11,7 @@ ghost use Rattle.int_decide.specs.Numbers.{DecideFits};
 ghost use Rattle.int_decide.specs.Searching.{EliminationsFit, Ends};
 ghost use Rattle.int_decide.specs.Sizes.{extent, SystemBelow};
 
+use crate::proposing::proposed;
 use crate::search::Search;
 use crate::types::{Answer, DecideFault};
 use farkas_check::{Node, check, tree};
@@ -99,8 +100,9 @@ fn searched(alloc: Global, system: &System, columns: u32, depth: u32) -> Result<
     }
 }
 
-/// Decide of a system, as `plain` answers it: a refutation that `farkas_check::check` accepts, with at most `depth` cuts on a
-/// branch, or Decide's own whole point. The refutation need not be Decide's own. Its time may be exponential.
+/// Decide of a system: a refutation that `farkas_check::check` accepts, with at most `depth` cuts on a branch, or Decide's own
+/// whole point. A simplex is asked for refutations first, and what it proposes is checked; the rest is answered by `plain`. So
+/// the refutation need not be Decide's own, and its time may be exponential.
 ///
 /// # Errors
 ///
@@ -120,5 +122,8 @@ pub fn decide(
     ensures gap { result ≡ Err DecideFault.Gap → decide columns depth system.now ≡ gap }
     ensures past { result ≡ Err DecideFault.Past → DecideFits columns depth system.now → ⊥ }
 {
+    if let Some(proof) = proposed(alloc, system, columns, depth)? {
+        return Ok(Answer::Refuted(proof));
+    }
     plain(alloc, system, columns, depth)
 }

@@ -5,6 +5,7 @@
 mod deciding;
 mod laws;
 mod measuring;
+mod proposing;
 mod search;
 #[cfg(test)]
 mod tests;

@@ -150,7 +150,11 @@ impl<'a> Search<'a> {
 }
 
 /// Adds a number at the end, so many times.
-fn push_copies(numbers: &mut Vec<u32>, number: u32, times: usize) -> Result<(), AllocError>
+pub(crate) fn push_copies(
+    numbers: &mut Vec<u32>,
+    number: u32,
+    times: usize,
+) -> Result<(), AllocError>
     ensures { OnOk result (numbers.new.items ≡ numbers.old.items ++ replicate times number) }
 {
     for _time in 0..times {

@@ -201,22 +201,43 @@ fn system_of(alloc: Global, text: &str) -> Result<System, Fail> {
     Ok(System { rows, groups })
 }
 
-/// What `plain` answers of a system, in short.
-fn decided(alloc: Global, system: &System, columns: u32, depth: u32) -> Result<String, Fail> {
-    let mut text = String::new(alloc);
+/// What `plain` and `decide` answer of a system, in short.
+fn decided(
+    alloc: Global,
+    system: &System,
+    columns: u32,
+    depth: u32,
+) -> Result<Option<(String, String)>, Fail> {
     let Some(size) = measure(system, columns) else {
-        return Ok(text);
+        return Ok(None);
     };
     if size > 1000 || depth > 1000 {
-        return Ok(text);
+        return Ok(None);
     }
-    match plain(alloc, system, columns, depth) {
-        Ok(answer) => show(&mut text, &answer)?,
+    let own = shown(alloc, &plain(alloc, system, columns, depth))?;
+    let other = shown(alloc, &decide(alloc, system, columns, depth))?;
+    Ok(Some((own, other)))
+}
+
+/// An answer in short.
+fn shown(alloc: Global, answer: &Result<Answer, DecideFault>) -> Result<String, AllocError> {
+    let mut text = String::new(alloc);
+    match answer {
+        Ok(answer) => show(&mut text, answer)?,
         Err(DecideFault::Gap) => text.push_str("G")?,
         Err(DecideFault::Past) => text.push_str("P")?,
         Err(DecideFault::Memory) => text.push_str("M")?,
     }
     Ok(text)
+}
+
+/// The kind of an answer in short: all of it, unless it is a refutation.
+fn kind(text: &str) -> &str {
+    if text.starts_with(['A', 'C', 'L']) {
+        "refuted"
+    } else {
+        text
+    }
 }
 
 /// Writes an answer in short.
@@ -264,9 +285,28 @@ fn systems_are_decided(rt: HostRuntime) -> Result<(), Fail> {
         for depth in 0..3 {
             wanted = answers.get(depth as usize).copied().unwrap_or(wanted);
             let found = decided(alloc, &system, columns, depth)?;
-            assert_eq!(rt; found.as_str(), wanted, "{text} at {depth}");
+            let (own, other) = found.ok_or("too large")?;
+            assert_eq!(rt; own.as_str(), wanted, "{text} at {depth}");
+            let kinds = (kind(wanted), kind(other.as_str()));
+            // Where Decide leaves a gap, a proposal with other cuts may refute.
+            let alike = kinds.0 == kinds.1 || kinds == ("G", "refuted");
+            assert!(rt; alike, "{text} at {depth}: {other}");
         }
     }
+    Ok(())
+}
+
+// With N = 2^100-1, eliminating y forms N * N, which does not fit. The simplex refutes by the first two rows.
+const PAST_FOR_PLAIN: &str =
+    "1 0 <= 0,-1 0 <= -1,1267650600228229401496703205375 1267650600228229401496703205376 <= 0,1 -1267650600228229401496703205375 <= 0";
+
+#[test]
+fn simplex_refutes_first(rt: HostRuntime) -> Result<(), Fail> {
+    let alloc = rt.alloc();
+    let found = decided(alloc, &system_of(alloc, PAST_FOR_PLAIN)?, 2, 0)?;
+    let (own, other) = found.ok_or("too large")?;
+    assert_eq!(rt; own.as_str(), "P");
+    assert_eq!(rt; other.as_str(), "L 0:1 1:1");
     Ok(())
 }
 

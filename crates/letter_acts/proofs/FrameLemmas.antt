@@ -1,5 +1,5 @@
 -- Where the columns of frames stand: frames with the same globals have their constants, globals and old columns at the same places.
-use Rattle.std.proofs.Common.{◌≡◌, ◌∙◌, ◌⊎◌, ℕ, zero, suc, ◌+◌, ◌<◌, ◌≤◌, Bool, true, false, List, [], ◌∷◌, ◌++◌, length, refl, sym, ap, subst, inl, inr, arith, length-append, append-nil}
+use Rattle.std.proofs.Common.{◌≡◌, ◌∙◌, ◌⊎◌, ℕ, suc, ◌+◌, ◌<◌, ◌≤◌, Bool, true, false, List, [], ◌∷◌, ◌++◌, length, refl, sym, ap, subst, inl, inr, arith, length-append, append-nil}
 use Rattle.std.specs.Prelude.{map, not}
 use Rattle.std.specs.List.{AllByRecursion}
 use Rattle.boogie_tree.specs.declared.tree.Column.{Column}
@@ -7,7 +7,7 @@ use Rattle.boogie_tree.specs.declared.tree.Column.TheVariants.{Global, Old, Loca
 use Rattle.boogie_tree.specs.declared.tree.VarInfo.{VarInfo}
 use Rattle.nwa_base.specs.Members.{Member}
 use Rattle.letter_acts.specs.Frames.{Columns, IsFrame, added, globals_from, old_columns, locals_from, is_global, is_constant, is_variable, places, globals_of, constants_of, variables_of, old_at, olds_from, olds_of}
-use Rattle.letter_acts.proofs.ListLemmas.{added-append, all_append, places-append, places_none, counted_up, length-counted_up, counted_up_member, counted_up_below}
+use Rattle.letter_acts.proofs.ListLemmas.{all_append, places-append, places_none, counted_up, length-counted_up, counted_up_member, counted_up_below}
 
 -- a test that old columns and locals fail
 pub record OfGlobals (test : Column × VarInfo → Bool) : Type 0 where

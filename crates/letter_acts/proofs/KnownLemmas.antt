@@ -1,18 +1,17 @@
 -- What the invariant of a graph gives of its frames and of the letters on its edges.
 use Rattle.std.proofs.Common.{◌≡◌, ◌∙◌, ℕ, zero, suc, ◌<◌, Bool, true, false, List, [], ◌∷◌, length, Option, None, Some, refl, sym, ap, subst, arith}
-use Rattle.std.specs.Prelude.{map, slice_get, unwrap_or, is_some, if◌then◌else◌}
+use Rattle.std.specs.Prelude.{slice_get, unwrap_or, is_some, if◌then◌else◌}
 use Rattle.std.specs.List.{AllByRecursion}
 use Rattle.std.proofs.lemmas.Bool.{false≢true}
 use Rattle.boogie_tree.specs.declared.tree.VarInfo.{VarInfo}
-use Rattle.nwa_base.specs.declared.letters.Kind.{Kind}
 use Rattle.nwa_base.specs.declared.letters.Kind.TheVariants as kinds
 use Rattle.nwa_base.specs.declared.letters.Letter.{Letter}
 use Rattle.nwa_base.specs.Letters.{same_letter}
 use Rattle.nwa_base.specs.Members.{Member}
 use Rattle.nwa_base.proofs.LetterLemmas.{same_letter-true}
 use Rattle.letter_acts.specs.Frames.{Columns, IsFrame}
-use Rattle.letter_acts.specs.Acts.{PlainAct, inside_act, call_act, back_act, Alphabet, frame_of, kind_of, call_of, letter_of, named_act, act_of}
-use Rattle.letter_acts.specs.Invariant.{Graph, alphabet_of, IsGraph, IsActed, CallIsActed, BackIsActedFrom, InsideStays, InsideFollows, CallEnters, CallFollows, BackLeaves, BackFollows}
+use Rattle.letter_acts.specs.Acts.{PlainAct, inside_act, call_act, back_act, Alphabet, frame_of, letter_of, named_act, act_of}
+use Rattle.letter_acts.specs.Invariant.{Graph, alphabet_of, IsGraph, IsActed, BackIsActedFrom, InsideStays, InsideFollows, CallEnters, CallFollows, BackLeaves, BackFollows}
 use Rattle.letter_acts.specs.Known.{FramesAgree, InsideKnown, CallKnown, BackKnown}
 use Rattle.letter_acts.proofs.ListLemmas.{all_member}
 use Rattle.letter_acts.proofs.FrameLemmas.{globals_are, constants_are, variables_are, olds_are, olds_of_variables}

@@ -5,3 +5,15 @@ pub mod PointLemmas
 pub mod FrameLemmas
 pub mod ReadingLemmas
 pub mod KnownLemmas
+pub mod CheckLemmas
+pub mod GraphLemmas
+pub mod LoopLemmas
+pub mod BodyLemmas
+pub mod CountLemmas
+pub mod WidthLemmas
+pub mod TakeLemmas
+pub mod OneCallLemmas
+pub mod SiteLemmas
+pub mod NamingLemmas
+pub mod LayoutLemmas
+pub mod FramesLemmas

@@ -1,5 +1,5 @@
 -- Ways of two notions of step at once, and the stack machine of an automaton and its letters.
-use Rattle.std.proofs.Common.{◌≡◌, ◌↔◌, ◌∙◌, ℕ, List, [], ◌∷◌, ◌++◌, Option, None, Some, refl, sym, ap, subst, inl, inr}
+use Rattle.std.proofs.Common.{◌≡◌, ◌↔◌, ◌∙◌, ℕ, List, [], ◌∷◌, Option, None, Some, refl, sym, ap, subst, inl, inr}
 use Rattle.std.specs.Prelude.{map}
 use Rattle.nwa_base.specs.declared.letters.Kind.{Kind}
 use Rattle.nwa_base.specs.declared.letters.Kind.TheVariants.{Inside, Call, Back}
@@ -9,8 +9,8 @@ use Rattle.nwa_base.specs.Automata.{Automaton}
 use Rattle.nwa_base.specs.Acceptance.{Follows, AcceptsFrom, Accepts}
 use Rattle.letter_acts.specs.Acts.{PlainAct, Alphabet, act_of}
 use Rattle.letter_acts.specs.Meaning.{Situation, ActInside, ActCalls, ActReturns}
-use Rattle.letter_acts.specs.Ways.{Steps, both, Leads, Goes, GoesAlong, GoesThrough}
-use Rattle.letter_acts.specs.Feasible.{IsSituation, meaning, Obeys, IsFeasible, edges, machine, MachineRun, FeasibleWay, states_in, situations_in}
+use Rattle.letter_acts.specs.Ways.{Steps, both, Leads, Goes}
+use Rattle.letter_acts.specs.Feasible.{meaning, IsFeasible, edges, MachineRun, FeasibleWay}
 use Rattle.letter_acts.proofs.WayLemmas.{leads_stack, leads_with, through_goes, goes_through, along_by_stack}
 
 abbrev pub firsts : {X Y : Type 0} → List (X × Y) → List X

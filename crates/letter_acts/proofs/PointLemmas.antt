@@ -1,9 +1,9 @@
 -- Values read as points: written, joined, taken and dropped.
-use Rattle.std.proofs.Common.{◌≡◌, ◌↔◌, ◌∙◌, ◌⊎◌, ℕ, zero, suc, ◌+◌, ◌<◌, ◌≤◌, ℤ, pos, List, [], ◌∷◌, ◌++◌, length, take, drop, refl, sym, ap, subst, inl, inr, arith, length-append}
-use Rattle.std.specs.Prelude.{map, slice_set}
+use Rattle.std.proofs.Common.{◌≡◌, ◌↔◌, ◌∙◌, ℕ, zero, suc, ◌+◌, ◌<◌, ℤ, List, [], ◌∷◌, ◌++◌, length, take, drop, refl, sym, ap, subst, inl, inr, arith}
+use Rattle.std.specs.Prelude.{slice_set}
 use Rattle.std.specs.List.{AllByRecursion}
 use Rattle.std.proofs.Math.ListN.{length-set}
-use Rattle.math_facts.specs.Terms.{dot, IsBelow}
+use Rattle.math_facts.specs.Terms.{IsBelow}
 use Rattle.math_facts.proofs.TermLaws.{dot_same_points}
 use Rattle.lin_rows.specs.Rows.{LinearRow, Stands, Holds}
 use Rattle.lin_rows.specs.Points.{point_of}

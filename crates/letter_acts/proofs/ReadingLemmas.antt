@@ -1,8 +1,8 @@
 -- What letters allow, by construction and column by column.
-use Rattle.std.proofs.Common.{◌≡◌, ◌↔◌, ◌∙◌, ◌⊎◌, ℕ, zero, suc, ◌+◌, ◌-◌, ◌<◌, ◌≤◌, ℤ, List, [], ◌∷◌, ◌++◌, length, take, drop, refl, sym, ap, subst, inl, inr, arith, append_assoc, take-append-drop, length-append, length-drop}
+use Rattle.std.proofs.Common.{◌≡◌, ◌↔◌, ◌∙◌, ℕ, zero, suc, ◌+◌, ◌<◌, ◌≤◌, ℤ, List, [], ◌∷◌, ◌++◌, length, take, drop, refl, sym, ap, subst, inl, inr, arith, take-append-drop, length-append, length-drop}
 use Rattle.std.specs.Prelude.{map, false, slice_set}
 use Rattle.std.specs.List.{AllByRecursion}
-use Rattle.std.proofs.lemmas.List.{drop-drop, length-take-le, drop_at, take_at}
+use Rattle.std.proofs.lemmas.List.{length-take-le, drop_at}
 use Rattle.boogie_tree.specs.declared.tree.VarInfo.{VarInfo}
 use Rattle.lin_rows.specs.Rows.{LinearRow}
 use Rattle.lin_rows.specs.Points.{point_of}
@@ -10,12 +10,12 @@ use Rattle.nwa_base.specs.Members.{Member}
 use Rattle.letter_acts.specs.Frames.{Columns, IsFrame, IsState, is_old_column, globals_of, constants_of, variables_of, results_of, olds_of}
 use Rattle.letter_acts.specs.Acts.{Alphabet, frame_of}
 use Rattle.letter_acts.specs.Values.{picked, put_all, RowsHold}
-use Rattle.letter_acts.specs.Meaning.{InsideLeads, CallLeads, BackLeads, entry_values, returned_values}
+use Rattle.letter_acts.specs.Meaning.{InsideLeads, CallLeads, BackLeads}
 use Rattle.letter_acts.specs.Reading.{InsideReads, CallReads, BackReads, taken}
 use Rattle.letter_acts.specs.Invariant.{AreDistinct, MayWrite, MayTarget, InsideIsActed, BackIsActed, Take}
 use Rattle.letter_acts.proofs.ListLemmas.{below_or_from, member_or_not, all_weaker, all_member, all_from_members, some_within, maps_equal, map_map, counted_up, counted_up_member, counted_up_below}
-use Rattle.letter_acts.proofs.PointLemmas.{point_of-left, point_of-right, point_of-take, point_of-drop, same_points, state_length, set_here, within_set, put_all_other, picked_put, put_picked}
-use Rattle.letter_acts.proofs.FrameLemmas.{globals_are, global_count, variables_are, constants_are, variable_or_constant, variable_below, IsConsecutive, olds_consecutive, olds_of_variables, olds_within}
+use Rattle.letter_acts.proofs.PointLemmas.{point_of-left, point_of-right, point_of-take, point_of-drop, state_length, set_here, within_set, put_all_other, picked_put, put_picked}
+use Rattle.letter_acts.proofs.FrameLemmas.{globals_are, global_count, variable_or_constant, variable_below, IsConsecutive, olds_consecutive, olds_of_variables, olds_within}
 
 -- columns that an act may write are within the values
 written_within : (frame : Columns) (s : List ℤ) (written : List ℕ) → IsState frame s → AllByRecursion (MayWrite frame) written → AllByRecursion (λ c. c < length s) written

@@ -1,7 +1,5 @@
 -- Acts and the alphabet: what the letters stand for.
-use Rattle.std.specs.Prelude.{ℕ, Bool, true, false, List, [], map, Option, None, Some, unwrap_or, slice_get, if◌then◌else◌}
-use Rattle.boogie_tree.specs.declared.tree.Column.{Column}
-use Rattle.boogie_tree.specs.declared.tree.VarInfo.{VarInfo}
+use Rattle.std.specs.Prelude.{ℕ, List, [], map, Option, None, Some, unwrap_or, slice_get, if◌then◌else◌}
 use Rattle.lin_rows.specs.Rows.{LinearRow}
 use Rattle.nwa_base.specs.declared.letters.Kind.{Kind}
 use Rattle.nwa_base.specs.declared.letters.Kind.TheVariants as kinds

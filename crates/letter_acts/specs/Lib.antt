@@ -8,3 +8,6 @@ pub mod Feasible
 pub mod Names
 pub mod Invariant
 pub mod Known
+pub mod Kept
+pub mod Parts
+pub mod Checks

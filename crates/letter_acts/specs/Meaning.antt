@@ -1,9 +1,8 @@
 -- What letters allow: which states of frames may stand before and after an inside act, a call and a return.
-use Rattle.std.specs.Prelude.{◌≡◌, ℕ, ◌<◌, ℤ, List, [], ◌∷◌, ◌++◌, map, length, take, drop, Option, None, Some, slice_get}
+use Rattle.std.specs.Prelude.{◌≡◌, ℕ, ◌<◌, ℤ, List, ◌++◌, map, length, take, drop, Option, None, Some, slice_get}
 use Rattle.lin_rows.specs.Rows.{LinearRow}
-use Rattle.nwa_base.specs.declared.letters.Letter.{Letter}
 use Rattle.letter_acts.specs.Frames.{Columns, IsState, globals_of, constants_of, variables_of, results_of, olds_of}
-use Rattle.letter_acts.specs.Acts.{PlainAct, inside_act, call_act, back_act, Alphabet, frame_of, act_of}
+use Rattle.letter_acts.specs.Acts.{PlainAct, inside_act, call_act, back_act, Alphabet, frame_of}
 use Rattle.letter_acts.specs.Values.{picked, put_all, RowsHold}
 
 -- An inside act leads from s to t: new values are written into the written columns, and with them and some helpers

@@ -19,6 +19,7 @@ ghost use Rattle.letter_acts.specs.Reading.{InsideReads, CallReads, BackReads};
 ghost use Rattle.letter_acts.specs.Ways.{Goes, GoesAlong, GoesThrough};
 ghost use Rattle.letter_acts.specs.Feasible.{IsSituation, meaning, IsFeasible, edges, machine, MachineRun, states_in, situations_in, AllowSame, FeasibleWay};
 ghost use Rattle.letter_acts.specs.Invariant.{Graph, IsGraph, alphabet_of, InsideIsActed, BackIsActed};
+ghost use Rattle.letter_acts.specs.Kept.{Keeps};
 ghost use Rattle.letter_acts.specs.Known.{FramesAgree, InsideKnown, CallKnown, BackKnown};
 
 /// A word is accepted and feasible exactly where the stack machine, whose stack are the open calls, has a run over it.
@@ -151,4 +152,9 @@ pub fn call_edge_known()
 /// What is known of the letter of a return edge.
 pub fn back_edge_known()
     ensures { (g : Graph) → IsGraph g → (q p e : ℕ) (r : Letter) → r.kind ≡ Back → Member g.automaton.backs (q, p, r, e) → BackKnown g q p r e }
+{}
+
+/// What an `Icfg` keeps is the invariant of graphs.
+pub fn kept_is_graph()
+    ensures { (g : Graph) → Keeps g → IsGraph g }
 {}

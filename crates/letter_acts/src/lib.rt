@@ -3,12 +3,18 @@
 #![tactic(auto)]
 
 mod acts;
+mod checks;
 mod frames;
+mod graphs;
 pub mod laws;
+mod making;
+mod parts;
 mod sites;
 #[cfg(test)]
 mod tests;
 
 pub use acts::Act;
 pub use frames::Frame;
+pub use graphs::Icfg;
+pub use making::icfg;
 pub use sites::{AssertId, Site};

@@ -127,7 +127,3 @@ longer (x ∷ xs) ys = let i = longer xs ys in omega arith
 -- no fewer sets are kept
 pub kept_longer : (d e : Kept) → Grows d e → length d.sets ≤ length e.sets
 kept_longer d e g = subst (λ (s : List (List (ℕ × ℕ))). length d.sets ≤ length s) (sym g.sets) (longer d.sets g.more)
-
-pub kept_no_fewer : (m : Automaton) (old new : List (Vec (ℕ × ℕ))) (set : Vec (ℕ × ℕ)) (b : Bool) → new ≡ cond b old (old ++ set ∷ []) →
-    length (lists_of old) ≤ length (lists_of new)
-kept_no_fewer m old new set b e = kept_longer _ _ (kept_more m old new set b e)

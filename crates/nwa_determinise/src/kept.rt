@@ -1,6 +1,6 @@
 //! Sets of pairs, kept under numbers.
 
-ghost use Rattle.std.specs.Prelude.{◌≡◌, ◌<◌, ◌≤◌, ◌↔◌, ◌∷◌, [], List, IsTrue, IfOk, OnErr, length};
+ghost use Rattle.std.specs.Prelude.{◌≡◌, ◌<◌, ◌↔◌, ◌∷◌, [], List, IsTrue, IfOk, OnErr, length};
 
 use indexmap::IndexSet;
 use nwa_base::{Letter, Nwa, Pair, has_final};
@@ -28,7 +28,7 @@ impl<'a> Det<'a> {
     ghost use Rattle.nwa_base.specs.declared.letters.Letter.{Letter};
     ghost use Rattle.nwa_base.specs.Acceptance.{Accepts};
     ghost use Rattle.nwa_base.specs.Pairs.{HasFinal, IsInsideOf, IsCallOf, IsBackOf};
-    ghost use Rattle.nwa_determinise.specs.Kept.{set_at, Grows};
+    ghost use Rattle.nwa_determinise.specs.Kept.{set_at, Grows, HasOneNumber};
     ghost use Rattle.nwa_determinise.specs.Reads.{ReadsFromStart};
 
     /// No set is kept yet.
@@ -45,9 +45,9 @@ impl<'a> Det<'a> {
     /// The set before any letter: the start state paired with itself.
     pub fn start(&mut self) -> Result<u32, AllocError>
         ensures grows { Grows self.old self.new }
-        ensures more { length self.old.sets ≤ length self.new.sets }
         ensures unchanged { OnErr result (self.new ≡ self.old) }
         ensures number { IfOk result (λ s. s < length self.new.sets) }
+        ensures once { IfOk result (HasOneNumber self.old self.new) }
         ensures set { IfOk result (λ s. set_at self.new s ≡ (self.old.nwa.start, self.old.nwa.start) ∷ []) }
     {
         let start = self.nwa.start();
@@ -59,9 +59,9 @@ impl<'a> Det<'a> {
     pub fn on_inside(&mut self, s: u32, a: Letter) -> Result<u32, AllocError>
         requires { s < length self.old.sets }
         ensures grows { Grows self.old self.new }
-        ensures more { length self.old.sets ≤ length self.new.sets }
         ensures unchanged { OnErr result (self.new ≡ self.old) }
         ensures number { IfOk result (λ t. t < length self.new.sets) }
+        ensures once { IfOk result (HasOneNumber self.old self.new) }
         ensures set { IfOk result (λ t. IsInsideOf self.old.nwa a (set_at self.old s) (set_at self.new t)) }
     {
         let set = nwa_base::on_inside(self.alloc, self.nwa, self.pairs(s), a)?;
@@ -72,9 +72,9 @@ impl<'a> Det<'a> {
     pub fn on_call(&mut self, s: u32, c: Letter) -> Result<u32, AllocError>
         requires { s < length self.old.sets }
         ensures grows { Grows self.old self.new }
-        ensures more { length self.old.sets ≤ length self.new.sets }
         ensures unchanged { OnErr result (self.new ≡ self.old) }
         ensures number { IfOk result (λ t. t < length self.new.sets) }
+        ensures once { IfOk result (HasOneNumber self.old self.new) }
         ensures set { IfOk result (λ t. IsCallOf self.old.nwa c (set_at self.old s) (set_at self.new t)) }
     {
         let set = nwa_base::on_call(self.alloc, self.nwa, self.pairs(s), c)?;
@@ -86,9 +86,9 @@ impl<'a> Det<'a> {
         requires set { s < length self.old.sets }
         requires before { before < length self.old.sets }
         ensures grows { Grows self.old self.new }
-        ensures more { length self.old.sets ≤ length self.new.sets }
         ensures unchanged { OnErr result (self.new ≡ self.old) }
         ensures number { IfOk result (λ t. t < length self.new.sets) }
+        ensures once { IfOk result (HasOneNumber self.old self.new) }
         ensures set { IfOk result (λ t. IsBackOf self.old.nwa r (set_at self.old before) (set_at self.old s) (set_at self.new t)) }
     {
         let set = nwa_base::on_back(self.alloc, self.nwa, self.pairs(before), self.pairs(s), r)?;
@@ -119,9 +119,9 @@ impl<'a> Det<'a> {
     /// The number of a set, which is kept from now on.
     fn intern(&mut self, set: Vec<Pair>) -> Result<u32, AllocError>
         ensures grows { Grows self.old self.new }
-        ensures more { length self.old.sets ≤ length self.new.sets }
         ensures unchanged { OnErr result (self.new ≡ self.old) }
         ensures number { IfOk result (λ s. s < length self.new.sets) }
+        ensures once { IfOk result (HasOneNumber self.old self.new) }
         ensures set { IfOk result (λ s. set_at self.new s ≡ set.items) }
     {
         // numbers have 32 bits, so there is room for one set more below that

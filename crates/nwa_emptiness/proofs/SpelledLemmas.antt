@@ -64,7 +64,7 @@ call_reached m p n q u v c i h d g =
     let inner : Moves m (p ∷ h.0) n v (p ∷ h.0) q = moves_below m v [] [] (p ∷ h.0) n q g in
     (p ∷ h.0, moves_join m (u ++ c ∷ []) v [] (p ∷ h.0) (p ∷ h.0) m.start n q called inner)
 
-no_call_reached : (m : Automaton) (q : ℕ) (w : List Letter) → Spells m None q w → Reaches m q w
+pub no_call_reached : (m : Automaton) (q : ℕ) (w : List Letter) → Spells m None q w → Reaches m q w
 no_call_reached m q w h = ([], h)
 
 without_end : (w : List Letter) → w ++ [] ≡ w

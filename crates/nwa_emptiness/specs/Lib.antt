@@ -1,2 +1,7 @@
 pub mod Closed
 pub mod Spelled
+pub mod Search
+pub mod Seen
+pub mod Steps
+pub mod Tasks
+pub mod Found

@@ -1,7 +1,8 @@
 //! Whole numbers that fit.
 
 use crate::types::Stop;
-use frac::{Frac, den, of};
+use frac::{Frac, of};
+use math_facts::greatest_divisor;
 
 /// A whole number as a fraction.
 pub fn whole(n: i128) -> Result<Frac, Stop> {
@@ -29,15 +30,10 @@ pub fn product(n: i128, a: i128) -> Result<i128, Stop> {
     n.checked_mul(a).ok_or(Stop::Past)
 }
 
-/// A common divisor of a positive number and another, the greatest where both fit.
-pub fn common_divisor(positive: i128, other: i128) -> i128 {
-    if positive == 0 {
-        return 1;
-    }
-    match of(other, positive) {
-        Ok(lowest) => quotient(positive, den(&lowest)),
-        Err(_) => 1,
-    }
+/// The greatest common divisor of two numbers, which is 0 where both are; 1 where it does not fit.
+pub fn common_divisor(a: i128, b: i128) -> i128 {
+    let divisor = greatest_divisor(a.unsigned_abs(), b.unsigned_abs());
+    i128::try_from(divisor).unwrap_or(1)
 }
 
 /// The number divided by a positive one.

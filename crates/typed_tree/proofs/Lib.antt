@@ -7,3 +7,4 @@ pub mod Broken
 pub mod FormParts
 pub mod FormValues
 pub mod Truths
+pub mod Euclidean

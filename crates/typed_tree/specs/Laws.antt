@@ -1,5 +1,5 @@
 -- What the definitions are worth.
-use Rattle.std.specs.Prelude.{◌≡◌, ◌⊎◌, ℤ, pos, ◌+ℤ◌, ◌*ℤ◌, Bool, true, false, List, [], ◌∷◌, Some}
+use Rattle.std.specs.Prelude.{◌≡◌, ◌⊎◌, ℤ, pos, ◌+ℤ◌, ◌*ℤ◌, ◌≤ℤ◌, ◌<ℤ◌, unsigned_abs, Bool, true, false, List, [], ◌∷◌, Some}
 use Rattle.boogie_tree.specs.declared.tree.Column.{Column}
 use Rattle.boogie_tree.specs.declared.tree.Ty.TheVariants as types
 use Rattle.boogie_tree.specs.declared.tree.VarInfo.{VarInfo}
@@ -7,7 +7,7 @@ use Rattle.typed_tree.specs.declared.fault.TypeFault.{TypeFault}
 use Rattle.typed_tree.specs.TypedTree.{TypedExpression}
 use Rattle.typed_tree.specs.Scope.{Scope, variable_at}
 use Rattle.typed_tree.specs.Typing.{type_of}
-use Rattle.typed_tree.specs.Values.{State, column_value, at_entry, value}
+use Rattle.typed_tree.specs.Values.{State, column_value, at_entry, value, is_zero, div_of, mod_of}
 use Rattle.typed_tree.specs.AffineForm.{Form, form, is_affine, is_linear}
 use Rattle.typed_tree.specs.KeptRules.{keeps_rules}
 use Rattle.typed_tree.specs.BrokenRules.{IsBroken}
@@ -44,3 +44,7 @@ BooleansHold c s = (d : Column) (v : VarInfo) → variable_at c d ≡ Some v →
 -- A boolean expression has a truth value.
 abbrev pub TruthValues : Type 0
 TruthValues = (c : Scope) (s : State) (e : TypedExpression) → BooleansHold c s → type_of c e ≡ Some types.Bool → IsTruth (value s e)
+
+-- Division is Euclidean: a is k times the quotient and the remainder, which is from 0 to below the magnitude of k.
+abbrev pub DivAndMod : Type 0
+DivAndMod = (a k : ℤ) → is_zero k ≡ false → (a ≡ ((k *ℤ div_of a k) +ℤ mod_of a k)) × (pos 0 ≤ℤ mod_of a k) × (mod_of a k <ℤ pos (unsigned_abs k))

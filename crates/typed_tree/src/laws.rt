@@ -1,6 +1,6 @@
 //! What the definitions are worth.
 
-ghost use Rattle.typed_tree.specs.Laws.{BrokenIsNotKept, FormIsValue, TruthValues};
+ghost use Rattle.typed_tree.specs.Laws.{BrokenIsNotKept, FormIsValue, TruthValues, DivAndMod};
 
 /// An expression with a broken rule does not keep the rules.
 pub fn broken_rules_are_broken()
@@ -15,4 +15,9 @@ pub fn form_is_value()
 /// A boolean expression is 0 or 1 where its boolean variables are.
 pub fn truth_values()
     ensures { TruthValues }
+{}
+
+/// The values of `div` and `mod` are the Euclidean quotient and remainder.
+pub fn div_and_mod()
+    ensures { DivAndMod }
 {}

@@ -7,3 +7,8 @@ pub mod StatementParts
 pub mod ProcedureParts
 pub mod BrokenLaws
 pub mod Answered
+pub mod NameLaws
+pub mod LabelLaws
+pub mod ValidLaws
+pub mod SeenLaws
+pub mod GotoLaws

@@ -2,10 +2,13 @@ pub mod Names
 pub mod TypedParts
 pub mod Rules
 pub mod Shape
+pub mod Texts
+pub mod LabelOrder
 pub mod Counts
 pub mod CappedCounts
 pub mod ValidProgram
 pub mod BrokenTyping
+pub mod Laws
 pub mod LabelNumber
 pub mod ColumnKey
 pub mod Judged

@@ -8,9 +8,12 @@ is_digit b = nat_le 48 b && nat_le b 57
 abbrev pub is_letter : ℕ → Bool
 is_letter b = (nat_le 65 b && nat_le b 90) || (nat_le 97 b && nat_le b 122)
 
+abbrev pub is_sign : ℕ → Bool
+is_sign b = list_any (nat_eq b) (codes "_.$#'`~^?\\")
+
 -- a byte of a name
 abbrev pub is_name_byte : ℕ → Bool
-is_name_byte b = is_letter b || (is_digit b || list_any (nat_eq b) (codes "_.$#'`~^?\\"))
+is_name_byte b = is_letter b || (is_digit b || is_sign b)
 
 -- bytes of a name, of which the first is no digit
 abbrev pub is_name : List ℕ → Bool

@@ -1,18 +1,28 @@
 //! Typed programs: the typing rules of statements, procedures and programs, and the programs that keep them.
 #![tactic(auto)]
 
+mod arguments;
 mod calls;
+mod copying;
 mod counts;
 mod frame;
+mod label_order;
 mod labels;
 pub mod laws;
+mod names;
 mod numbers;
 mod procedures;
+mod program;
+mod shape;
+mod spelling;
 mod statements;
 mod targets;
-mod typed;
+#[cfg(test)]
+mod tests;
+mod validity;
 mod values;
 
 pub use counts::numbers_fit;
 pub use procedures::check_typing;
-pub use typed::Typed;
+pub use program::Typed;
+pub use validity::typed;

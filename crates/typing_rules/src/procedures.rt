@@ -45,17 +45,24 @@ fn requires_scope<'a>(globals: &'a [VarInfo], checked: &'a TProc) -> Scope<'a>
     }
 }
 
+/// Bodies see all locals, and ensures the first ones. Both may read the past.
+fn body_scope<'a>(globals: &'a [VarInfo], locals: &'a [VarInfo]) -> Scope<'a>
+    ensures { seen result ≡ scopes.body_scope globals.now locals.now }
+{
+    Scope {
+        globals,
+        variables: true,
+        locals,
+        old: true,
+    }
+}
+
 /// Ensures see the results too.
 fn ensures_scope<'a>(globals: &'a [VarInfo], checked: &'a TProc) -> Scope<'a>
     ensures { seen result ≡ scopes.body_scope globals.now (take (checked.now.params + checked.now.results) checked.now.locals.items) }
 {
     let count = checked.params as usize + checked.results as usize;
-    Scope {
-        globals,
-        variables: true,
-        locals: front(&checked.locals, count),
-        old: true,
-    }
+    body_scope(globals, front(&checked.locals, count))
 }
 
 fn specification(
@@ -94,15 +101,9 @@ fn frame_of<'a>(
 ) -> Result<Frame<'a>, AllocError>
     ensures { IfOk result (λ k. context k ≡ context_of globals.now (map view.procedure procs.now) (view.procedure checked.now)) }
 {
-    let scope = Scope {
-        globals,
-        variables: true,
-        locals: &checked.locals,
-        old: true,
-    };
     Ok(Frame {
         alloc,
-        scope,
+        scope: body_scope(globals, &checked.locals),
         procs,
         modifies: Numbers::new(alloc, &checked.modifies)?,
         labels: Labels::none(alloc),

@@ -46,9 +46,10 @@ fn havoc(frame: &Frame, at: Span, columns: &[Column]) -> Result<(), TypeFault>
     ensures { Judges result (is_statement (context frame.now) (Havoc at columns.now)) (IsStatementBroken (context frame.now) (Havoc at columns.now)) }
 {
     if columns.is_empty() {
-        return Err(TypeFault::Mismatch(at));
+        Err(TypeFault::Mismatch(at))
+    } else {
+        targets(frame, at, columns)
     }
-    targets(frame, at, columns)
 }
 
 /// Whether a goto there may name the labels.

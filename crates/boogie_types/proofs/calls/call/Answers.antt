@@ -28,7 +28,7 @@ returns-clause-ok c =
     let number = sym c.callee_number.ensures ∙ c.in-Some.is in
     let params = params_numbered p c.args.callee.now k number ∙ sym c.callee_params-params.ensures in
     let made = call_made p c.args.hidden.now c.args.span c.args.names.now c.args.callee.now (map view.expression c.args.exprs.now) k c.in_ok-columns.columns.items (map typed.expression c.in_ok-values.values.items) c.callee_params-params.result.now
-        (map typed.statement c.args.out.now.items) (map typed.statement c.arguments.new.out.items) number params c.in_ok-columns.ensures.ok c.in_ok-values.ensures.ok c.in_ok-values.ensures.aside in
+    (map typed.statement c.args.out.now.items) (map typed.statement c.arguments.new.out.items) number params c.in_ok-columns.ensures.ok c.in_ok-values.ensures.ok c.in_ok-values.ensures.aside in
     let last = call_typed c.args.span c.in_ok-columns.columns k c.in_ok-values.values in
     on_ok_weaker c.put.result
     (λ e. made ∙ ap (λ s. Some (map typed.statement c.arguments.new.out.items ++ s ∷ [])) (sym last) ∙ ap (λ ss. Some ss) (sym e)) c.put.ensures.ok

@@ -1,4 +1,4 @@
-use Rattle.std.proofs.Common.{◌≡◌, subst, map, List}
+use Rattle.std.proofs.Common.{subst, map, List}
 use Rattle.std.proofs.lemmas.Result.{IfErr-weaker}
 use Rattle.boogie_tree.specs.View as view
 use Rattle.boogie_tree.specs.Tree.{Procedure}

@@ -1,4 +1,4 @@
-use Rattle.std.proofs.Common.{◌≡◌, ◌∙◌, ap, sym, Option, Bor}
+use Rattle.std.proofs.Common.{◌∙◌, ap, sym, Option, Bor}
 use Rattle.std.specs.Option.{option_map}
 use Rattle.boogie_tree.specs.declared.tree.Proc.{Proc}
 use Rattle.boogie_tree.specs.View as view

@@ -1,4 +1,4 @@
-use Rattle.std.proofs.Common.{◌≡◌, ◌∙◌, map, subst, List}
+use Rattle.std.proofs.Common.{map, subst, List}
 use Rattle.std.proofs.lemmas.Result.{err_from_is_err_and}
 use Rattle.boogie_tree.specs.View as view
 use Rattle.boogie_tree.specs.declared.tree.VarInfo.{VarInfo}

@@ -141,7 +141,7 @@ block-loop-each-preserved t c =
     let i = c.loop-each.each-index in
     let x = c.each-item.result in
     let made = subst (λ ls. made (map typed.statement c.loop-each.out.items) (named_statement (place_at c.args.place.now ls) (label_by c.loop-each.before) c.loop-each.walk.hidden (view.statement x)) ≡ Some (map typed.statement c.statement.new.out.items))
-        c.loop-each.invariant.loops c.in_ok-statement.ensures.ok in
+    c.loop-each.invariant.loops c.in_ok-statement.ensures.ok in
     let hidden = subst (λ ls. c.statement.new.walk.hidden ≡ c.loop-each.walk.hidden + hidden_in (place_at c.args.place.now ls) (view.statement x)) c.loop-each.invariant.loops c.in_ok-statement.ensures.hidden in
     record {
       made = block_turn place stmts i x c.loop-each-test.true c.each-item.is _ _ _ _ _ _ _ made hidden c.label_before-before.ensures c.loop-each.invariant.made;

@@ -1,4 +1,4 @@
-use Rattle.std.proofs.Common.{◌≡◌, ◌∙◌, ap, sym, slice_get, Option}
+use Rattle.std.proofs.Common.{◌∙◌, ap, sym, slice_get, Option}
 use Rattle.std.specs.Borrow.{Bor}
 use Rattle.std.specs.Option.{option_map}
 use Rattle.boogie_tree.specs.declared.tree.Proc.{Proc}

@@ -1,0 +1,84 @@
+-- Trees whose cuts are counted along their prefix list have few cuts on each branch.
+use Rattle.std.proofs.Common.{◌≡◌, ◌<◌, ◌≤◌, ◌+◌, ℕ, zero, suc, true, false, List, [], ◌∷◌, ◌++◌, Option, None, Some, drop, get_or, length, reverse, replicate, append_assoc, refl, ap, ◌∙◌, subst, sym, arith}
+use Rattle.std.proofs.lemmas.Bool.{false≢true}
+use Rattle.std.proofs.lemmas.List.{append-nil, reverse-append}
+use Rattle.lin_rows.specs.declared.systems.System.{System}
+use Rattle.farkas_check.specs.declared.refutations.Node.{Node}
+use Rattle.farkas_check.specs.Nodes.{PlainNode, cases, plain, plain_nodes}
+use Rattle.farkas_check.proofs.NodeLaws.{plain_from, plain_none}
+use Rattle.farkas_check.specs.Refutes.{Refutes}
+use Rattle.farkas_check.specs.Trees.{Tree, leaf_tree, cut_tree, cases_tree, Trees, no_tree, one_more, tree_count, prefix_of, prefixes_of, IsPrefixList}
+use Rattle.int_decide.specs.Answers.{RefutesWithin}
+use Rattle.int_decide.specs.CutCounts.{after_node, is_no_tree, goes_on, have_few_cuts}
+use Rattle.int_decide.specs.Worth.{cuts_of, most_cuts}
+
+mutual
+  tree_cuts : (t : Tree) (l : ℕ) (ls : List ℕ) (ns : List PlainNode) → have_few_cuts (l ∷ ls) (prefix_of t ++ ns) ≡ true →
+      (cuts_of t ≤ l) × (have_few_cuts ls ns ≡ true)
+  tree_cuts (leaf_tree parts) l ls ns h = (omega arith, h)
+  tree_cuts (cut_tree c k t u) zero ls ns h = absurd (false≢true h)
+  tree_cuts (cut_tree c k t u) (suc l) ls ns h =
+      let a : (prefix_of t ++ prefix_of u) ++ ns ≡ prefix_of t ++ (prefix_of u ++ ns) = append_assoc (prefix_of t) (prefix_of u) ns in
+      let first = tree_cuts t l (l ∷ ls) (prefix_of u ++ ns) (subst (λ (x : List PlainNode). have_few_cuts (l ∷ l ∷ ls) x ≡ true) a h) in
+      let second = tree_cuts u l ls ns first.1 in
+      let p : cuts_of t ≤ l = first.0 in
+      let q : cuts_of u ≤ l = second.0 in
+      (omega (arith, p, q), second.1)
+  tree_cuts (cases_tree ts) l ls ns h = trees_cuts ts l ls ns h
+
+  trees_cuts : (ts : Trees) (l : ℕ) (ls : List ℕ) (ns : List PlainNode) →
+      have_few_cuts (replicate (tree_count ts) l ++ ls) (prefixes_of ts ++ ns) ≡ true → (most_cuts ts ≤ l) × (have_few_cuts ls ns ≡ true)
+  trees_cuts no_tree l ls ns h = (omega arith, h)
+  trees_cuts (one_more t ts) l ls ns h =
+      let a : (prefix_of t ++ prefixes_of ts) ++ ns ≡ prefix_of t ++ (prefixes_of ts ++ ns) = append_assoc (prefix_of t) (prefixes_of ts) ns in
+      let first = tree_cuts t l (replicate (tree_count ts) l ++ ls) (prefixes_of ts ++ ns)
+      (subst (λ (x : List PlainNode). have_few_cuts (l ∷ replicate (tree_count ts) l ++ ls) x ≡ true) a h) in
+      let others = trees_cuts ts l ls ns first.1 in
+      let p : cuts_of t ≤ l = first.0 in
+      let q : most_cuts ts ≤ l = others.0 in
+      (omega (arith, p, q), others.1)
+
+-- a refutation whose cuts are counted
+pub refutes_within : (d : ℕ) (s : System) (ns : List PlainNode) → have_few_cuts (d ∷ []) ns ≡ true → IsPrefixList ns → Refutes ns s → RefutesWithin d s ns
+refutes_within d s ns h (t, e) r =
+    let k : have_few_cuts (d ∷ []) (prefix_of t ++ []) ≡ true =
+    subst (λ (x : List PlainNode). have_few_cuts (d ∷ []) x ≡ true) (sym (subst (λ (x : List PlainNode). prefix_of t ++ [] ≡ x) e (append-nil (prefix_of t)))) h in
+    record {
+      refutes = r;
+      tree = record { tree = t; prefix = e; few_cuts = (tree_cuts t d [] [] k).0 };
+    }
+
+-- ---- along the nodes
+
+replicated : (n left : ℕ) → reverse (replicate n left) ≡ replicate n left
+replicated zero left = refl
+replicated (suc n) left =
+    reverse-append (left ∷ []) (replicate n left) ∙ ap (λ (l : List ℕ). l ++ left ∷ []) (replicated n left) ∙ turned n
+  where
+    turned : (k : ℕ) → replicate k left ++ left ∷ [] ≡ left ∷ replicate k left
+    turned zero = refl
+    turned (suc k) = ap (λ (l : List ℕ). left ∷ l) (turned k)
+
+-- a node of cases
+pub pass_cases : (n left : ℕ) (old popped new : List ℕ) → old ≡ popped ++ left ∷ [] → new ≡ popped ++ replicate n left →
+    after_node (reverse old) (cases n) ≡ Some (reverse new)
+pass_cases n left old popped new e f =
+    let a : reverse old ≡ left ∷ reverse popped = ap reverse e ∙ reverse-append popped (left ∷ []) in
+    let b : reverse new ≡ replicate n left ++ reverse popped =
+    ap reverse f ∙ reverse-append popped (replicate n left) ∙ ap (λ (l : List ℕ). l ++ reverse popped) (replicated n left) in
+    ap (λ (ls : List ℕ). after_node ls (cases n)) a ∙ ap (λ (ls : List ℕ). let o : Option (List ℕ) = Some ls in o) (sym b)
+
+pub few_go : (nodes : List Node) (i : ℕ) (d : Node) (old new : List ℕ) → i < length nodes → after_node (reverse old) (plain (get_or nodes i d)) ≡ Some (reverse new) →
+    have_few_cuts (reverse old) (drop i (plain_nodes nodes)) ≡ have_few_cuts (reverse new) (drop (i + 1) (plain_nodes nodes))
+few_go nodes i d old new l e =
+    ap (λ (ns : List PlainNode). have_few_cuts (reverse old) ns) (plain_from nodes i d l) ∙
+    ap (λ (o : Option (List ℕ)). goes_on (λ rest. have_few_cuts rest (drop (i + 1) (plain_nodes nodes))) o) e
+
+pub few_stop : (nodes : List Node) (i : ℕ) (d : Node) (old : List ℕ) → i < length nodes → after_node (reverse old) (plain (get_or nodes i d)) ≡ None →
+    have_few_cuts (reverse old) (drop i (plain_nodes nodes)) ≡ false
+few_stop nodes i d old l e =
+    ap (λ (ns : List PlainNode). have_few_cuts (reverse old) ns) (plain_from nodes i d l) ∙
+    ap (λ (o : Option (List ℕ)). goes_on (λ rest. have_few_cuts rest (drop (i + 1) (plain_nodes nodes))) o) e
+
+pub few_end : (nodes : List Node) (i : ℕ) (old : List ℕ) → length nodes ≤ i → have_few_cuts (reverse old) (drop i (plain_nodes nodes)) ≡ is_no_tree (reverse old)
+few_end nodes i old l = ap (λ (ns : List PlainNode). have_few_cuts (reverse old) ns) (plain_none nodes i l)

@@ -1,0 +1,182 @@
+//! Refutations from proposals, which are checked before they are taken.
+
+ghost use Rattle.std.specs.Prelude.{◌≡◌, [], ◌∷◌, ◌++◌, IfOk, IfSome, MatchBool, None, Some, reverse};
+ghost use Rattle.farkas_check.specs.Nodes.{plain, plain_nodes};
+ghost use Rattle.int_decide.specs.Answers.{RefutesWithin};
+ghost use Rattle.int_decide.specs.CutCounts.{after_node, have_few_cuts};
+
+use crate::search::push_copies;
+use crate::values::first_broken;
+use farkas_check::{Node, Refutation, Walk, check, tree};
+use frac::Frac;
+use lin_rows::{Row, System};
+use simplex_rows::{Found, try_solve};
+use std::alloc::{AllocError, Global};
+
+/// How many goals are looked at before the search is given up.
+const MOST_GOALS: u32 = 16_384;
+
+/// How many pivots the simplex may make for each row and each column.
+const PIVOTS: u32 = 10;
+
+/// A refutation of the system, with at most `depth` cuts on a branch, where the simplex proposes one.
+pub fn proposed(
+    alloc: Global,
+    system: &System,
+    columns: u32,
+    depth: u32,
+) -> Result<Option<Refutation>, AllocError>
+    ensures { IfOk result (λ o. IfSome o (RefutesWithin depth system.now)) }
+{
+    match proposed_nodes(alloc, system, columns, depth)? {
+        Some(nodes) => accepted(alloc, system, depth, nodes),
+        None => Ok(None),
+    }
+}
+
+/// The refutation with these nodes, where it is one and has at most `depth` cuts on a branch.
+fn accepted(
+    alloc: Global,
+    system: &System,
+    depth: u32,
+    nodes: Vec<Node>,
+) -> Result<Option<Refutation>, AllocError>
+    ensures { IfOk result (λ o. IfSome o (RefutesWithin depth system.now)) }
+{
+    if !have_few_cuts(alloc, &nodes, depth)? {
+        return Ok(None);
+    }
+    let Some(proof) = tree(nodes) else {
+        return Ok(None);
+    };
+    if check(alloc, system, &proof)? {
+        Ok(Some(proof))
+    } else {
+        Ok(None)
+    }
+}
+
+/// Whether the nodes are trees with at most so many cuts on a branch, one after another: one tree, with `depth`.
+fn have_few_cuts(alloc: Global, nodes: &[Node], depth: u32) -> Result<bool, AllocError>
+    ensures { IfOk result (λ yes. yes ≡ have_few_cuts (depth ∷ []) (plain_nodes nodes.now)) }
+{
+    let mut lefts = Vec::new(alloc);
+    lefts.push(depth)?;
+    for node in nodes {
+        let passes = pass_node(&mut lefts, node)?;
+        if !passes {
+            return Ok(false);
+        }
+    }
+    Ok(lefts.is_empty())
+}
+
+/// Passes a node: the numbers of cuts that are left for the trees to come, the next one's last. False where no tree is to
+/// come, or the node is a cut and none is left.
+fn pass_node(lefts: &mut Vec<u32>, node: &Node) -> Result<bool, AllocError>
+    ensures { IfOk result (λ yes. MatchBool yes
+        (after_node (reverse lefts.old.items) (plain node.now) ≡ Some (reverse lefts.new.items))
+        (after_node (reverse lefts.old.items) (plain node.now) ≡ None)) }
+{
+    let Some(left) = lefts.pop() else {
+        return Ok(false);
+    };
+    match node {
+        Node::Leaf(_) => {}
+        Node::Cut { .. } => {
+            if left == 0 {
+                return Ok(false);
+            }
+            lefts.push(left - 1)?;
+            lefts.push(left - 1)?;
+        }
+        Node::Cases(members) => push_copies(lefts, left, *members as usize)?,
+    }
+    Ok(true)
+}
+
+/// How many pivots the simplex may make.
+pub fn pivots_for(rows: &[Row], columns: u32) -> Option<u32> {
+    let count = u32::try_from(rows.len()).ok()?;
+    Some(count.saturating_add(columns).saturating_mul(PIVOTS))
+}
+
+/// The nodes of what is to be a refutation.
+fn proposed_nodes(
+    alloc: Global,
+    system: &System,
+    columns: u32,
+    depth: u32,
+) -> Result<Option<Vec<Node>>, AllocError> {
+    let mut proposal = Proposal::new(alloc, system, depth)?;
+    for _goal in 0..MOST_GOALS {
+        let Some(left) = proposal.lefts.pop() else {
+            return Ok(Some(proposal.nodes));
+        };
+        if !proposal.walk.take_goal()? || !proposal.meet(alloc, columns, left)? {
+            return Ok(None);
+        }
+    }
+    Ok(None)
+}
+
+/// The goals that are still to be refuted, with the cuts that are left for each, and the nodes of what was refuted before them.
+#[derive(Drop)]
+struct Proposal<'a> {
+    walk: Walk<'a>,
+    lefts: Vec<u32>,
+    nodes: Vec<Node>,
+}
+
+impl<'a> Proposal<'a> {
+    /// The goal of the system.
+    fn new(alloc: Global, system: &'a System, depth: u32) -> Result<Self, AllocError> {
+        let walk = Walk::new(alloc, system)?;
+        let mut lefts = Vec::new(alloc);
+        lefts.push(depth)?;
+        Ok(Proposal {
+            walk,
+            lefts,
+            nodes: Vec::new(alloc),
+        })
+    }
+
+    /// Meets the goal at hand with a node. False where none is found.
+    fn meet(&mut self, alloc: Global, columns: u32, left: u32) -> Result<bool, AllocError> {
+        if let Some(members) = self.walk.open_group()? {
+            let Ok(count) = u32::try_from(members) else {
+                return Ok(false);
+            };
+            self.nodes.push(Node::Cases(count))?;
+            push_copies(&mut self.lefts, left, members)?;
+            return Ok(true);
+        }
+        let rows = self.walk.rows();
+        let Some(pivots) = pivots_for(rows, columns) else {
+            return Ok(false);
+        };
+        match try_solve(alloc, rows, columns, pivots)? {
+            None => Ok(false),
+            Some(Found::Refuted(parts)) => {
+                self.nodes.push(Node::Leaf(parts))?;
+                Ok(true)
+            }
+            Some(Found::Point(values)) => self.cut(&values, left),
+        }
+    }
+
+    /// Cuts the goal at hand at the first of the values that is not whole. False where all are whole, or no cut is left.
+    fn cut(&mut self, values: &[Frac], left: u32) -> Result<bool, AllocError> {
+        if left == 0 || u32::try_from(values.len()).is_err() {
+            return Ok(false);
+        }
+        let Some((column, k)) = first_broken(values) else {
+            return Ok(false);
+        };
+        self.walk.open_cut(column, k)?;
+        self.nodes.push(Node::Cut { col: column, k })?;
+        self.lefts.push(left - 1)?;
+        self.lefts.push(left - 1)?;
+        Ok(true)
+    }
+}

@@ -1,0 +1,9 @@
+use Rattle.std.proofs.Common.{rules}
+use Rattle.std.proofs.lemmas.Iterator.{YieldsList-from_slice}
+use borrow.Author.Tests.{tests}
+use Rattle.letter_acts.specs.Invariant.{IsOld}
+use Rattle.letter_acts.proofs.CheckLemmas.{all_said}
+use Rattle.letter_acts.proofs.checks.edges.write_no_old.Goals as goal
+
+pub returns : goal.returns
+returns c = all_said (λ k. IsOld c.args.frame.now k → ⊥) _ _ _ c.all.ensures.ran (YieldsList-from_slice c.args.written.now cc) (λ x q k. search (rules, tests)) (λ x q k p. search (rules, tests))

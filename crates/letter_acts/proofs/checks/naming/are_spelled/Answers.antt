@@ -1,0 +1,9 @@
+use Rattle.std.proofs.Common.{IsTrue, rules}
+use Rattle.std.proofs.lemmas.Iterator.{YieldsList-from_slice}
+use borrow.Author.Tests.{tests}
+use Rattle.letter_acts.specs.Names.{is_spelled}
+use Rattle.letter_acts.proofs.CheckLemmas.{all_said}
+use Rattle.letter_acts.proofs.checks.naming.are_spelled.Goals as goal
+
+pub returns : goal.returns
+returns c = all_said (λ n. IsTrue (is_spelled n)) _ _ _ c.all.ensures.ran (YieldsList-from_slice c.args.names.now cc) (λ x q k. search (rules, tests)) (λ x q k p. search (rules, tests))

@@ -1,0 +1,8 @@
+use Rattle.std.proofs.Common.{◌<◌, rules}
+use Rattle.std.proofs.lemmas.Iterator.{YieldsList-from_slice}
+use borrow.Author.Tests.{tests}
+use Rattle.letter_acts.proofs.CheckLemmas.{all_said}
+use Rattle.letter_acts.proofs.checks.procedures.procs_exist.Goals as goal
+
+pub returns : goal.returns
+returns c = all_said (λ p. p < c.args.count) _ _ _ c.all.ensures.ran (YieldsList-from_slice c.args.procs.now cc) (λ x q k. search (rules, tests)) (λ x q k p. search (rules, tests))

@@ -1,0 +1,64 @@
+//! Whether the members of a list differ. Numbers that ascend are read once, other members are compared pair by pair.
+
+ghost use Rattle.std.specs.Prelude.{◌≡◌, ◌↔◌, IsTrue, map};
+ghost use Rattle.nwa_base.specs.Members.{Member};
+ghost use Rattle.letter_acts.specs.Invariant.{AreDistinct};
+
+use boogie_tree::Text;
+
+/// Whether the number is one of the list.
+fn has_number(numbers: &[u32], number: u32) -> bool
+    ensures { IsTrue result ↔ Member numbers.now number }
+{
+    numbers.iter().any(|member| *member == number)
+}
+
+/// Whether each number is above the one before it.
+pub(super) fn ascend(numbers: &[u32]) -> bool
+    ensures { IsTrue result → AreDistinct numbers.now }
+{
+    for i in 1..numbers.len() {
+        if numbers[i - 1] >= numbers[i] {
+            return false;
+        }
+    }
+    true
+}
+
+/// Whether the numbers differ, compared pair by pair.
+fn pairs_differ(numbers: &[u32]) -> bool
+    ensures { IsTrue result ↔ AreDistinct numbers.now }
+{
+    for i in 0..numbers.len() {
+        if has_number(&numbers[i + 1..], numbers[i]) {
+            return false;
+        }
+    }
+    true
+}
+
+/// Whether the numbers differ.
+pub(super) fn numbers_differ(numbers: &[u32]) -> bool
+    ensures { IsTrue result ↔ AreDistinct numbers.now }
+{
+    ascend(numbers) || pairs_differ(numbers)
+}
+
+/// Whether the text is one of the list.
+fn has_text(texts: &[Text], text: &Text) -> bool
+    ensures { IsTrue result ↔ Member texts.now text.now }
+{
+    texts.iter().any(|member| member.bytes() == text.bytes())
+}
+
+/// Whether the texts differ.
+pub(super) fn texts_differ(texts: &[Text]) -> bool
+    ensures { IsTrue result ↔ AreDistinct texts.now }
+{
+    for i in 0..texts.len() {
+        if has_text(&texts[i + 1..], &texts[i]) {
+            return false;
+        }
+    }
+    true
+}

@@ -1,0 +1,166 @@
+ghost use Rattle.std.specs.Prelude.{◌≡◌, IfOk};
+ghost use Rattle.letter_acts.specs.Acts.{plain_acts, plain_frames};
+ghost use Rattle.letter_acts.specs.Parts.{graph_of};
+
+use crate::acts::Act;
+use crate::frames::Frame;
+use crate::parts::Parts;
+use crate::sites::Site;
+use boogie_tree::Text;
+use nwa_base::Nwa;
+use std::alloc::AllocError;
+use std::marker::Model;
+
+/// The graph of all procedures of a program: an automaton whose states are the places, the acts of its letters, a frame
+/// and a name for each procedure, the procedure of each place, entry and exit places, and the places where assertions fail.
+#[derive(Drop)]
+pub struct Icfg {
+    parts: Parts,
+}
+
+impl Model for Icfg {
+    ghost use Rattle.letter_acts.specs.Invariant.{Graph};
+    ghost use Rattle.letter_acts.specs.Kept.{Keeps};
+    ghost use Rattle.letter_acts.specs.Parts.{graph_of};
+
+    ghost Value = { Graph };
+
+    ghost view = { λ i. graph_of i.parts };
+
+    ghost invariant = { λ i. Keeps (graph_of i.parts) };
+}
+
+impl Icfg {
+    ghost use Rattle.letter_acts.specs.Acts.{plain_acts, plain_frames};
+    ghost use Rattle.letter_acts.specs.Kept.{Keeps};
+    ghost use Rattle.letter_acts.specs.Parts.{graph_of};
+
+    /// The graph of parts that make one.
+    pub(crate) fn new(parts: Parts) -> Self
+        requires { Keeps (graph_of parts) }
+        ensures { result ≡ graph_of parts }
+    {
+        Icfg { parts }
+    }
+
+    /// The automaton, whose states are the places.
+    pub fn nwa(&self) -> &Nwa
+        ensures value { result.now ≡ self.now.automaton }
+        ensures valid { Keeps self.now }
+    {
+        &self.parts.nwa
+    }
+
+    /// The act of each letter, by its number.
+    pub fn acts(&self) -> &[Act]
+        ensures value { plain_acts result.now ≡ self.now.acts }
+        ensures valid { Keeps self.now }
+    {
+        self.parts.acts.as_slice()
+    }
+
+    /// The frame of each procedure.
+    pub fn frames(&self) -> &[Frame]
+        ensures value { plain_frames result.now ≡ self.now.frames }
+        ensures valid { Keeps self.now }
+    {
+        self.parts.frames.as_slice()
+    }
+
+    /// The name of each procedure.
+    pub fn names(&self) -> &[Text]
+        ensures value { result.now ≡ self.now.names }
+        ensures valid { Keeps self.now }
+    {
+        self.parts.names.as_slice()
+    }
+
+    /// The procedure of each place.
+    pub fn place_procs(&self) -> &[u32]
+        ensures value { result.now ≡ self.now.place_procs }
+        ensures valid { Keeps self.now }
+    {
+        self.parts.place_procs.as_slice()
+    }
+
+    /// The place where the body of each procedure begins, `None` where it has no body.
+    pub fn entries(&self) -> &[Option<u32>]
+        ensures value { result.now ≡ self.now.entries }
+        ensures valid { Keeps self.now }
+    {
+        self.parts.entries.as_slice()
+    }
+
+    /// The place from which each procedure returns, `None` where it has no body.
+    pub fn exits(&self) -> &[Option<u32>]
+        ensures value { result.now ≡ self.now.exits }
+        ensures valid { Keeps self.now }
+    {
+        self.parts.exits.as_slice()
+    }
+
+    /// The assertions in order, each with the place that its failures lead to.
+    pub fn sites(&self) -> &[Site]
+        ensures value { result.now ≡ self.now.sites }
+        ensures valid { Keeps self.now }
+    {
+        self.parts.sites.as_slice()
+    }
+
+    /// An equal graph.
+    pub fn copy(&self) -> Result<Icfg, AllocError>
+        ensures { IfOk result (λ i. i ≡ self.now) }
+    {
+        let parts = copied_parts(&self.parts)?;
+        Ok(Icfg { parts })
+    }
+}
+
+/// Equal parts.
+fn copied_parts(parts: &Parts) -> Result<Parts, AllocError>
+    ensures { IfOk result (λ copied. graph_of copied ≡ graph_of parts.now) }
+{
+    Ok(Parts {
+        nwa: parts.nwa.copy()?,
+        acts: copied_acts(&parts.acts)?,
+        frames: copied_frames(&parts.frames)?,
+        names: copied_names(&parts.names)?,
+        place_procs: Vec::from_slice(*parts.place_procs.allocator(), &parts.place_procs)?,
+        entries: Vec::from_slice(*parts.entries.allocator(), &parts.entries)?,
+        exits: Vec::from_slice(*parts.exits.allocator(), &parts.exits)?,
+        sites: Vec::from_slice(*parts.sites.allocator(), &parts.sites)?,
+    })
+}
+
+/// A copy of each act.
+fn copied_acts(acts: &Vec<Act>) -> Result<Vec<Act>, AllocError>
+    ensures { IfOk result (λ copies. plain_acts copies.items ≡ plain_acts acts.now.items) }
+{
+    let mut copies = Vec::with_capacity(*acts.allocator(), acts.len())?;
+    for act in acts {
+        copies.push(act.copy()?)?;
+    }
+    Ok(copies)
+}
+
+/// A copy of each frame.
+fn copied_frames(frames: &Vec<Frame>) -> Result<Vec<Frame>, AllocError>
+    ensures { IfOk result (λ copies. plain_frames copies.items ≡ plain_frames frames.now.items) }
+{
+    let mut copies = Vec::with_capacity(*frames.allocator(), frames.len())?;
+    for frame in frames {
+        copies.push(frame.copy()?)?;
+    }
+    Ok(copies)
+}
+
+/// A copy of each name.
+fn copied_names(names: &Vec<Text>) -> Result<Vec<Text>, AllocError>
+    ensures { IfOk result (λ copies. copies.items ≡ names.now.items) }
+{
+    let mut copies = Vec::with_capacity(*names.allocator(), names.len())?;
+    for name in names {
+        copies.push(name.copy()?)?;
+    }
+    Ok(copies)
+}

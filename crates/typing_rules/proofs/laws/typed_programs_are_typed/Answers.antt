@@ -1,0 +1,19 @@
+use Rattle.typing_rules.proofs.GotoLaws.{gotos}
+use Rattle.typing_rules.proofs.ValidLaws as valid
+use Rattle.typing_rules.proofs.laws.typed_programs_are_typed.Goals as goal
+
+pub returns : goal.returns
+returns c = record {
+  axioms = valid.axioms;
+  specifications = valid.specifications;
+  statements = valid.statements;
+  scopes = valid.scopes;
+  targets = valid.targets;
+  calls = valid.calls;
+  havocs = valid.havocs;
+  locals = valid.locals;
+  gotos = gotos;
+  labels = valid.labels;
+  entry = valid.entry;
+  numbers = valid.numbers;
+}
