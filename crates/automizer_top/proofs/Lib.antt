@@ -22,3 +22,4 @@ pub mod ProofTextAfter
 pub mod ProofTextLeaves
 pub mod ProofTextReading
 pub mod ReportUnique
+pub mod ParsedNames

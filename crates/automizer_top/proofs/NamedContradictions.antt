@@ -7,7 +7,7 @@ use Rattle.math_facts.specs.Terms.{coefficient}
 use Rattle.lin_rows.specs.Rows.{LinearRow, AscendsFrom}
 use Rattle.lin_rows.specs.Tightening.{tightened}
 use Rattle.lin_rows.specs.Combinations.{row_at, Multiplies, IsPart, combined, RunFits, Contradicts}
-use Rattle.automizer_top.specs.NamedRows.{NamesRow, NamesRows, named_rows, renumbered}
+use Rattle.automizer_top.specs.NamedRows.{NamesRows, named_rows, renumbered}
 
 -- from the number k on, the rows of the second list are those that the leaf names in the first
 abbrev pub AreNamed : List LinearRow → List LinearRow → ℕ → List (ℕ × ℤ) → Type 0

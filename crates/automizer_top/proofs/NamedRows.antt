@@ -8,7 +8,6 @@ use Rattle.math_facts.specs.Fits.{Fits}
 use Rattle.lin_rows.specs.Rows.{LinearRow, AscendsFrom}
 use Rattle.lin_rows.specs.Tightening.{tightened}
 use Rattle.lin_rows.specs.Combinations.{row_at, IsPart, Contradicts}
-use Rattle.lin_rows.specs.declared.systems.System.{System}
 use Rattle.farkas_check.specs.Nodes.{PlainNode, leaf as leaf_node}
 use Rattle.farkas_check.specs.Refutes.{Goal, Refute}
 use Rattle.automizer_top.specs.declared.proof_text.LeafPart.{LeafPart}

@@ -1,5 +1,5 @@
 -- A program's text is empty or begins with a keyword, and the second letter of no such keyword is `c`.
-use Rattle.std.proofs.Common.{◌≡◌, ℕ, List, [], ◌∷◌, get_or, arith}
+use Rattle.std.proofs.Common.{◌≡◌, List, [], ◌∷◌, get_or, arith}
 use Rattle.boogie_tree.specs.Tree.{Declaration, Const, Global, Axiom, Declares, Implements}
 use Rattle.boogie_tree.specs.Printing.{program_text}
 

@@ -19,9 +19,12 @@ use Rattle.automizer_top.specs.declared.reporting.Halt.{Halt}
 use Rattle.automizer_top.specs.declared.words.Mode.{Mode}
 use Rattle.automizer_top.specs.declared.words.Mode.TheVariants.{Check, Print}
 use Rattle.automizer_top.specs.StraightCheck.{Verdict, accepted, syntax, bad_triple, Judges}
+use Rattle.typed_tree.specs.declared.fault.TypeFault.{TypeFault}
+use Rattle.typed_tree.specs.declared.fault.TypeFault.TheVariants as type_faults
 use Rattle.automizer_top.specs.Refusals.{refusal}
+use Rattle.automizer_top.specs.TypeRefusals.{type_refusal}
 use Rattle.automizer_top.specs.Answers.{answered, Asks, program_name}
-use Rattle.automizer_top.specs.Report.{Answer, answer, program_limit, second_limit, verdict_answer, RefusesProgram, too_long, no_program, ReportsPrint, refused_print, printed, ReportsCheck, refused_check, no_first_form, second_too_long, judged, AskCheck, AskPrint, Reports, usage, printing, checked, PrintsProgram, ProgramIsSafe, WhereTold}
+use Rattle.automizer_top.specs.Report.{Answer, answer, program_limit, second_limit, verdict_answer, RefusesProgram, too_long, no_program, ReportsPrint, refused_print, printed, ReportsCheck, refused_check, ill_typed, no_first_form, IsTyped, IsIllTyped, second_too_long, judged, AskCheck, AskPrint, Reports, usage, printing, checked, PrintsProgram, ProgramIsSafe, WhereTold}
 use Rattle.automizer_top.proofs.Safety.{refuted_is_safe}
 use Rattle.automizer_top.proofs.PrintedTexts.{begins_otherwise}
 
@@ -47,30 +50,36 @@ pub fault_reported : (program name : List ℕ) (f : Fault) (a : Answer) (texts :
 fault_reported program name f a None l e is = tt
 fault_reported program name f a (Some shown) l e is = refused_check (no_program f l e is)
 
+-- the program breaks a typing rule
+pub rule_reported : (program name : List ℕ) (ds : List Declaration) (f : TypeFault) (texts : Option (List (List ℕ × List ℕ))) → length program ≤ program_limit → IsProgram program ds →
+    IsIllTyped ds f → IfSome texts (λ shown. ReportsCheck program (text_named name shown) (answer (type_refusal f) 3))
+rule_reported program name ds f None l w broken = tt
+rule_reported program name ds f (Some shown) l w broken = ill_typed ds f l w broken refl
+
 -- the program is not in the first form
-pub form_reported : (program name : List ℕ) (ds : List Declaration) (texts : Option (List (List ℕ × List ℕ))) → length program ≤ program_limit → IsProgram program ds →
+pub form_reported : (program name : List ℕ) (ds : List Declaration) (texts : Option (List (List ℕ × List ℕ))) → length program ≤ program_limit → IsProgram program ds → IsTyped ds →
     ((p : Program) → IsFirstForm ds p → ⊥) → IfSome texts (λ shown. ReportsCheck program (text_named name shown) (answer (codes "refused Form\n") 3))
-form_reported program name ds None l w none = tt
-form_reported program name ds (Some shown) l w none = no_first_form ds l w none refl
+form_reported program name ds None l w t none = tt
+form_reported program name ds (Some shown) l w t none = no_first_form ds l w t none refl
 
 -- the second text is past its limit
-pub second_reported : (program name : List ℕ) (ds : List Declaration) (p : Program) (texts : Option (List (List ℕ × List ℕ))) → length program ≤ program_limit → IsProgram program ds → IsFirstForm ds p →
+pub second_reported : (program name : List ℕ) (ds : List Declaration) (p : Program) (texts : Option (List (List ℕ × List ℕ))) → length program ≤ program_limit → IsProgram program ds → IsTyped ds → IsFirstForm ds p →
     IfSome texts (λ shown. IsSome (text_named name shown) × IfSome (text_named name shown) (λ text. second_limit < length text)) →
     IfSome texts (λ shown. ReportsCheck program (text_named name shown) (answer (codes "refused TooLong\n") 3))
-second_reported program name ds p None l w f h = tt
-second_reported program name ds p (Some shown) l w f h = by_text (text_named name shown) refl h.0 h.1
+second_reported program name ds p None l w t f h = tt
+second_reported program name ds p (Some shown) l w t f h = by_text (text_named name shown) refl h.0 h.1
   where
     by_text : (found : Option (List ℕ)) → text_named name shown ≡ found → IsSome found → IfSome found (λ text. second_limit < length text) →
         ReportsCheck program (text_named name shown) (answer (codes "refused TooLong\n") 3)
     by_text None e some past = cc
-    by_text (Some text) e some past = second_too_long ds p text l w f e past refl
+    by_text (Some text) e some past = second_too_long ds p text l w t f e past refl
 
 -- the second text gets a verdict
-pub verdict_reported : (program name text : List ℕ) (ds : List Declaration) (p : Program) (verdict : Verdict) (texts : Option (List (List ℕ × List ℕ))) → length program ≤ program_limit → IsProgram program ds → IsFirstForm ds p →
+pub verdict_reported : (program name text : List ℕ) (ds : List Declaration) (p : Program) (verdict : Verdict) (texts : Option (List (List ℕ × List ℕ))) → length program ≤ program_limit → IsProgram program ds → IsTyped ds → IsFirstForm ds p →
     IfSome texts (λ shown. (text_named name shown ≡ Some text) × (length text ≤ second_limit)) → Judges p text verdict →
     IfSome texts (λ shown. ReportsCheck program (text_named name shown) (verdict_answer verdict))
-verdict_reported program name text ds p verdict None l w f h j = tt
-verdict_reported program name text ds p verdict (Some shown) l w f h j = judged ds p text verdict l w f h.0 h.1 j refl
+verdict_reported program name text ds p verdict None l w t f h j = tt
+verdict_reported program name text ds p verdict (Some shown) l w t f h j = judged ds p text verdict l w t f h.0 h.1 j refl
 
 -- ---- what is answered to words
 
@@ -137,9 +146,10 @@ refused_is_not_zero text a (no_program f l r is) z = three_is_not_zero a.status 
 safe_by_check : (words : List (List ℕ)) (texts : List (List ℕ × List ℕ)) (program second text : List ℕ) (a : Answer) → AskCheck words program second →
     text_named program texts ≡ Some text → ReportsCheck text (text_named second texts) a → a.status ≡ 0 → ProgramIsSafe words texts
 safe_by_check words texts program second text a asked found (refused_check r) zero_status = absurd (refused_is_not_zero text a r zero_status)
-safe_by_check words texts program second text a asked found (no_first_form ds l w none is) zero_status = absurd (let e : 3 ≡ 0 = sym (ap (λ (b : Answer). b.status) is) ∙ zero_status in omega arith)
-safe_by_check words texts program second text a asked found (second_too_long ds p other l w f e past is) zero_status = absurd (let e : 3 ≡ 0 = sym (ap (λ (b : Answer). b.status) is) ∙ zero_status in omega arith)
-safe_by_check words texts program second text a asked found (judged ds p other verdict l w f e m j is) zero_status =
+safe_by_check words texts program second text a asked found (ill_typed ds f l w broken is) zero_status = absurd (let e : 3 ≡ 0 = sym (ap (λ (b : Answer). b.status) is) ∙ zero_status in omega arith)
+safe_by_check words texts program second text a asked found (no_first_form ds l w t none is) zero_status = absurd (let e : 3 ≡ 0 = sym (ap (λ (b : Answer). b.status) is) ∙ zero_status in omega arith)
+safe_by_check words texts program second text a asked found (second_too_long ds p other l w t f e past is) zero_status = absurd (let e : 3 ≡ 0 = sym (ap (λ (b : Answer). b.status) is) ∙ zero_status in omega arith)
+safe_by_check words texts program second text a asked found (judged ds p other verdict l w t f e m j is) zero_status =
     by_verdict verdict j (sym (ap (λ (b : Answer). b.status) is) ∙ zero_status)
   where
     by_verdict : (v : Verdict) → Judges p other v → (verdict_answer v).status ≡ 0 → ProgramIsSafe words texts
@@ -176,11 +186,25 @@ refused_begins text a (no_program f l r is) begin = by_fault f (sym (ap second_o
     by_fault (faults.Limit which line col) b = omega arith
     by_fault faults.Memory b = omega arith
 
+rule_begins : (f : TypeFault) → get_or (type_refusal f) 1 0 ≡ 99 → ⊥
+rule_begins (type_faults.Unknown at) b = omega arith
+rule_begins (type_faults.Twice at) b = omega arith
+rule_begins (type_faults.Mismatch at) b = omega arith
+rule_begins (type_faults.NotAssignable at) b = omega arith
+rule_begins (type_faults.NotModified at) b = omega arith
+rule_begins type_faults.NoEntry b = omega arith
+rule_begins (type_faults.ZeroDivisor at) b = omega arith
+rule_begins (type_faults.NonLinear at) b = omega arith
+rule_begins (type_faults.BadGoto at) b = omega arith
+rule_begins (type_faults.TooBig at) b = omega arith
+rule_begins type_faults.Memory b = omega arith
+
 check_begins : (text : List ℕ) (second : Option (List ℕ)) (a : Answer) → ReportsCheck text second a → second_of a ≡ 99 → a.status ≡ 0
 check_begins text second a (refused_check r) begin = absurd (refused_begins text a r begin)
-check_begins text second a (no_first_form ds l w none is) begin = absurd (let e : 101 ≡ 99 = sym (ap second_of is) ∙ begin in omega arith)
-check_begins text second a (second_too_long ds p other l w f e past is) begin = absurd (let e : 101 ≡ 99 = sym (ap second_of is) ∙ begin in omega arith)
-check_begins text second a (judged ds p other verdict l w f e m j is) begin = ap (λ (b : Answer). b.status) is ∙ by_verdict verdict (sym (ap second_of is) ∙ begin)
+check_begins text second a (ill_typed ds f l w broken is) begin = absurd (rule_begins f (sym (ap second_of is) ∙ begin))
+check_begins text second a (no_first_form ds l w t none is) begin = absurd (let e : 101 ≡ 99 = sym (ap second_of is) ∙ begin in omega arith)
+check_begins text second a (second_too_long ds p other l w t f e past is) begin = absurd (let e : 101 ≡ 99 = sym (ap second_of is) ∙ begin in omega arith)
+check_begins text second a (judged ds p other verdict l w t f e m j is) begin = ap (λ (b : Answer). b.status) is ∙ by_verdict verdict (sym (ap second_of is) ∙ begin)
   where
     by_verdict : (v : Verdict) → second_of (verdict_answer v) ≡ 99 → (verdict_answer v).status ≡ 0
     by_verdict accepted b = refl

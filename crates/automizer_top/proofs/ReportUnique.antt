@@ -1,9 +1,9 @@
 -- The report allows one answer at most: its cases exclude each other.
-use Rattle.std.proofs.Common.{◌≡◌, ℕ, ◌+◌, ◌^◌, ◌<◌, ◌≤◌, List, [], ◌∷◌, ◌++◌, map, length, Option, Some, Ok, Err, ap, refl, sym, ◌∙◌, subst, arith, ⊎_elim, append_assoc}
+use Rattle.std.proofs.Common.{◌≡◌, ℕ, ◌+◌, ◌^◌, ◌<◌, ◌≤◌, List, [], ◌∷◌, ◌++◌, map, length, Option, Some, Ok, Err, inl, inr, ◌⊎◌, ap, refl, sym, ◌∙◌, subst, arith, ⊎_elim, append_assoc}
 use Rattle.std.specs.Prelude.{codes}
 use Rattle.std.specs.List.{AllByRecursion}
 use Rattle.std.specs.Fmt.{decimal}
-use Rattle.std.proofs.lemmas.Option.{same_Some, some_pair_parts}
+use Rattle.std.proofs.lemmas.Option.{same_Some, some_pair_parts, none-some}
 use Rattle.lin_rows.specs.Rows.{LinearRow}
 use Rattle.outer_io.specs.Texts.{text_named}
 use Rattle.boogie_tree.specs.Tree.{Declaration}
@@ -15,6 +15,9 @@ use Rattle.boogie_parse.specs.Straight.{Program}
 use Rattle.boogie_parse.specs.FirstForm.{IsFirstForm}
 use Rattle.boogie_parse.proofs.WholeText.{program_is_read, one_program}
 use Rattle.boogie_parse.proofs.FirstFormLengths.{first_form_is_short}
+use Rattle.typed_tree.specs.declared.fault.TypeFault.{TypeFault}
+use Rattle.typing_rules.proofs.BrokenLaws.{program_refuted}
+use Rattle.boogie_types.proofs.Excluded.{type_faults_exclude}
 use Rattle.automizer_top.specs.declared.proof_text.LeafPart.{LeafPart}
 use Rattle.automizer_top.specs.StraightRows.{Obligation, obligations}
 use Rattle.automizer_top.specs.ProofText.{Part, IsPart, leaf_text, IsLeafLine, Expected, exactly, leaf, Fits, LinesAre, FirstDiffers, proof_lines, label_of, lines_of}
@@ -23,7 +26,7 @@ use Rattle.automizer_top.specs.ProofReading.{leaf_part}
 use Rattle.automizer_top.specs.StraightCheck.{LeafRefutes, AllRefuted, FirstUnrefuted, Verdict, accepted, syntax, bad_triple, Judges}
 use Rattle.automizer_top.specs.LeafTest.{PartsRefute}
 use Rattle.automizer_top.specs.Refusals.{refusal}
-use Rattle.automizer_top.specs.Report.{Answer, answer, program_limit, verdict_answer, RefusesProgram, too_long, no_program, ReportsPrint, refused_print, printed, ReportsCheck, refused_check, no_first_form, second_too_long, judged, AskCheck, AskPrint, Reports, usage, printing, checked}
+use Rattle.automizer_top.specs.Report.{Answer, answer, program_limit, verdict_answer, RefusesProgram, too_long, no_program, ReportsPrint, refused_print, printed, ReportsCheck, refused_check, ill_typed, no_first_form, second_too_long, judged, entry, IsTyped, IsIllTyped, IsTypingRefusal, AskCheck, AskPrint, Reports, usage, printing, checked}
 use Rattle.automizer_top.proofs.ProofTextLeaves.{to_end, first_part_read, no_part_at_end}
 use Rattle.automizer_top.proofs.VerdictLaws.{FewRows, AllParts, read_refutes, text_refutes}
 use Rattle.automizer_top.proofs.JudgedLaws.{few_rows, leaves_are}
@@ -193,33 +196,51 @@ print_once text a b (printed ds l w is) (refused_print r) = absurd (program_not_
 print_once text a b (printed ds l w is) (printed es l' w' is') =
     is ∙ ap (λ (x : List Declaration). answer (program_text x) 0) (one_program text ds es w w') ∙ sym is'
 
-check_once : (text : List ℕ) (second : Option (List ℕ)) (a b : Answer) → ReportsCheck text second a → ReportsCheck text second b → a ≡ b
-check_once text second a b (refused_check r) (refused_check r') = refused_once text a b r r'
-check_once text second a b (refused_check r) (no_first_form ds l w none is) = absurd (program_not_refused text ds a l w r)
-check_once text second a b (refused_check r) (second_too_long ds p t l w f e long is) = absurd (program_not_refused text ds a l w r)
-check_once text second a b (refused_check r) (judged ds p t v l w f e m j is) = absurd (program_not_refused text ds a l w r)
-check_once text second a b (no_first_form ds l w none is) (refused_check r) = absurd (program_not_refused text ds b l w r)
-check_once text second a b (no_first_form ds l w none is) (no_first_form es l' w' none' is') = is ∙ sym is'
-check_once text second a b (no_first_form ds l w none is) (second_too_long es p t l' w' f e long is') = absurd (none p (same_form text ds es p w w' f))
-check_once text second a b (no_first_form ds l w none is) (judged es p t v l' w' f e m j is') = absurd (none p (same_form text ds es p w w' f))
-check_once text second a b (second_too_long ds p t l w f e long is) (refused_check r) = absurd (program_not_refused text ds b l w r)
-check_once text second a b (second_too_long ds p t l w f e long is) (no_first_form es l' w' none is') = absurd (none p (same_form text es ds p w' w f))
-check_once text second a b (second_too_long ds p t l w f e long is) (second_too_long es q u l' w' f' e' long' is') = is ∙ sym is'
-check_once text second a b (second_too_long ds p t l w f e long is) (judged es q u v l' w' f' e' m j is') =
+-- what is resolved breaks no typing rule
+not_both_typed : (text : List ℕ) (ds es : List Declaration) (f : TypeFault) → IsProgram text ds → IsProgram text es → IsIllTyped ds f → IsTyped es → ⊥
+not_both_typed text ds es f w w' broken t =
+    let typed : IsTyped ds = subst IsTyped (one_program text es ds w' w) t in
+    none-some typed.0 (sym (type_faults_exclude ds entry f program_refuted broken.1 broken.0) ∙ typed.1)
+
+abbrev BothIllTyped : Answer → Answer → Type 0
+BothIllTyped a b = IsTypingRefusal a × IsTypingRefusal b
+
+check_once : (text : List ℕ) (second : Option (List ℕ)) (a b : Answer) → ReportsCheck text second a → ReportsCheck text second b → (a ≡ b) ⊎ BothIllTyped a b
+check_once text second a b (refused_check r) (refused_check r') = inl (refused_once text a b r r')
+check_once text second a b (refused_check r) (no_first_form ds l w ty none is) = absurd (program_not_refused text ds a l w r)
+check_once text second a b (refused_check r) (second_too_long ds p t l w ty f e long is) = absurd (program_not_refused text ds a l w r)
+check_once text second a b (refused_check r) (judged ds p t v l w ty f e m j is) = absurd (program_not_refused text ds a l w r)
+check_once text second a b (no_first_form ds l w ty none is) (refused_check r) = absurd (program_not_refused text ds b l w r)
+check_once text second a b (no_first_form ds l w ty none is) (no_first_form es l' w' ty' none' is') = inl (is ∙ sym is')
+check_once text second a b (no_first_form ds l w ty none is) (second_too_long es p u l' w' ty' f e long is') = absurd (none p (same_form text ds es p w w' f))
+check_once text second a b (no_first_form ds l w ty none is) (judged es p u v l' w' ty' f e m j is') = absurd (none p (same_form text ds es p w w' f))
+check_once text second a b (second_too_long ds p t l w ty f e long is) (refused_check r) = absurd (program_not_refused text ds b l w r)
+check_once text second a b (second_too_long ds p t l w ty f e long is) (no_first_form es l' w' ty' none is') = absurd (none p (same_form text es ds p w' w f))
+check_once text second a b (second_too_long ds p t l w ty f e long is) (second_too_long es q u l' w' ty' f' e' long' is') = inl (is ∙ sym is')
+check_once text second a b (second_too_long ds p t l w ty f e long is) (judged es q u v l' w' ty' f' e' m j is') =
     let same : t ≡ u = same_text t u second e e' in
     let lengths : length t ≡ length u = ap (λ (xs : List ℕ). length xs) same in
     absurd (omega arith)
-check_once text second a b (judged ds p t v l w f e m j is) (refused_check r) = absurd (program_not_refused text ds b l w r)
-check_once text second a b (judged ds p t v l w f e m j is) (no_first_form es l' w' none is') = absurd (none p (same_form text es ds p w' w f))
-check_once text second a b (judged ds p t v l w f e m j is) (second_too_long es q u l' w' f' e' long is') =
+check_once text second a b (judged ds p t v l w ty f e m j is) (refused_check r) = absurd (program_not_refused text ds b l w r)
+check_once text second a b (judged ds p t v l w ty f e m j is) (no_first_form es l' w' ty' none is') = absurd (none p (same_form text es ds p w' w f))
+check_once text second a b (judged ds p t v l w ty f e m j is) (second_too_long es q u l' w' ty' f' e' long is') =
     let same : t ≡ u = same_text t u second e e' in
     let lengths : length t ≡ length u = ap (λ (xs : List ℕ). length xs) same in
     absurd (omega arith)
-check_once text second a b (judged ds p t v l w f e m j is) (judged es q u x l' w' f' e' m' k is') =
+check_once text second a b (judged ds p t v l w ty f e m j is) (judged es q u x l' w' ty' f' e' m' k is') =
     let programs : q ≡ p = program_unique ds q p (same_form text ds es q w w' f') f in
     let texts : u ≡ t = same_text u t second e' e in
     let mine : Judges p t x = subst (λ (y : List ℕ). Judges p y x) texts (subst (λ (r : Program). Judges r u x) programs k) in
-    is ∙ ap verdict_answer (verdict_once p t v x (few_obligations text ds p l w f) j mine) ∙ sym is'
+    inl (is ∙ ap verdict_answer (verdict_once p t v x (few_obligations text ds p l w f) j mine) ∙ sym is')
+check_once text second a b (ill_typed ds f l w broken is) (ill_typed es g l' w' broken' is') = inr ((f, is), (g, is'))
+check_once text second a b (ill_typed ds f l w broken is) (refused_check r) = absurd (program_not_refused text ds b l w r)
+check_once text second a b (ill_typed ds f l w broken is) (no_first_form es l' w' ty' none is') = absurd (not_both_typed text ds es f w w' broken ty')
+check_once text second a b (ill_typed ds f l w broken is) (second_too_long es p t l' w' ty g e long is') = absurd (not_both_typed text ds es f w w' broken ty)
+check_once text second a b (ill_typed ds f l w broken is) (judged es p t v l' w' ty g e m j is') = absurd (not_both_typed text ds es f w w' broken ty)
+check_once text second a b (refused_check r) (ill_typed ds f l w broken is) = absurd (program_not_refused text ds a l w r)
+check_once text second a b (no_first_form es l' w' ty' none is') (ill_typed ds f l w broken is) = absurd (not_both_typed text ds es f w w' broken ty')
+check_once text second a b (second_too_long es p t l' w' ty g e long is') (ill_typed ds f l w broken is) = absurd (not_both_typed text ds es f w w' broken ty)
+check_once text second a b (judged es p t v l' w' ty g e m j is') (ill_typed ds f l w broken is) = absurd (not_both_typed text ds es f w w' broken ty)
 
 abbrev second_of : List (List ℕ) → List ℕ
 second_of [] = []
@@ -238,9 +259,9 @@ not_both_asked : (words : List (List ℕ)) (p q r : List ℕ) → AskCheck words
 not_both_asked words p q r c d =
     three_is_not_two (length words) (ap (λ (xs : List (List ℕ)). length xs) c) (ap (λ (xs : List (List ℕ)). length xs) d)
 
--- The report allows one answer at most.
-pub report_once : (words : List (List ℕ)) (texts : List (List ℕ × List ℕ)) (a b : Answer) → Reports words texts a → Reports words texts b → a ≡ b
-report_once words texts a b (usage none no_print is) (usage none' no_print' is') = is ∙ sym is'
+-- The report allows one answer at most, but that any of several broken typing rules may be named.
+pub report_once : (words : List (List ℕ)) (texts : List (List ℕ × List ℕ)) (a b : Answer) → Reports words texts a → Reports words texts b → (a ≡ b) ⊎ (IsTypingRefusal a × IsTypingRefusal b)
+report_once words texts a b (usage none no_print is) (usage none' no_print' is') = inl (is ∙ sym is')
 report_once words texts a b (usage none no_print is) (printing p t asked found print) = absurd (no_print p asked)
 report_once words texts a b (usage none no_print is) (checked p s t asked found check) = absurd (none p s asked)
 report_once words texts a b (printing p t asked found print) (usage none no_print is) = absurd (no_print p asked)
@@ -248,7 +269,7 @@ report_once words texts a b (printing p t asked found print) (printing q u asked
     let words_same : codes "print" ∷ p ∷ [] ≡ codes "print" ∷ q ∷ [] = sym asked ∙ asked' in
     let name : p ≡ q = ap second_of words_same in
     let text : u ≡ t = same_text u t (text_named p texts) (subst (λ (n : List ℕ). text_named n texts ≡ Some u) (sym name) found') found in
-    print_once t a b print (subst (λ (x : List ℕ). ReportsPrint x b) text print')
+    inl (print_once t a b print (subst (λ (x : List ℕ). ReportsPrint x b) text print'))
 report_once words texts a b (printing p t asked found print) (checked q s u asked' found' check) = absurd (not_both_asked words q s p asked' asked)
 report_once words texts a b (checked p s t asked found check) (usage none no_print is) = absurd (none p s asked)
 report_once words texts a b (checked p s t asked found check) (printing q u asked' found' print) = absurd (not_both_asked words p s q asked asked')

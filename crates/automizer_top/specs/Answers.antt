@@ -1,10 +1,11 @@
 -- The code's answers and questions as contracts see them.
 use Rattle.std.specs.Prelude.{ℕ, List, codes}
 use Rattle.automizer_top.specs.declared.answer.Answer.{Answer}
-use Rattle.automizer_top.specs.declared.answer.Answer.TheVariants.{Usage, TooLong, Refused, Form, Printed, Judged}
+use Rattle.automizer_top.specs.declared.answer.Answer.TheVariants.{Usage, TooLong, Refused, IllTyped, Form, Printed, Judged}
 use Rattle.automizer_top.specs.declared.words.Mode.{Mode}
 use Rattle.automizer_top.specs.declared.words.Mode.TheVariants.{Check, Print}
 use Rattle.automizer_top.specs.Refusals.{refusal}
+use Rattle.automizer_top.specs.TypeRefusals.{type_refusal}
 use Rattle.automizer_top.specs.Verdicts.{verdict}
 use Rattle.automizer_top.specs.Report as report
 
@@ -12,6 +13,7 @@ abbrev pub answered : Answer → report.Answer
 answered Usage = report.answer report.usage_line 4
 answered TooLong = report.answer (codes "refused TooLong\n") 3
 answered (Refused f) = report.answer (refusal f) 3
+answered (IllTyped f) = report.answer (type_refusal f) 3
 answered Form = report.answer (codes "refused Form\n") 3
 answered (Printed text) = report.answer text.items 0
 answered (Judged v) = report.verdict_answer (verdict v)

@@ -3,6 +3,7 @@ pub mod StraightRows
 pub mod ProofText
 pub mod StraightCheck
 pub mod Refusals
+pub mod TypeRefusals
 pub mod Report
 pub mod ProofReading
 pub mod LeafTest

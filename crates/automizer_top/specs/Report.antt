@@ -9,7 +9,13 @@ use Rattle.boogie_parse.specs.GrammarLimits.{IsProgram}
 use Rattle.boogie_parse.specs.WholeText.{read_text}
 use Rattle.boogie_parse.specs.Straight.{Program}
 use Rattle.boogie_parse.specs.FirstForm.{IsFirstForm}
+use Rattle.typed_tree.specs.TypedTree.{TypedProgram}
+use Rattle.typed_tree.specs.declared.fault.TypeFault.{TypeFault}
+use Rattle.typed_tree.specs.declared.fault.TypeFault.TheVariants as type_faults
+use Rattle.boogie_types.specs.Resolved.{resolved_program}
+use Rattle.boogie_types.specs.BrokenNames.{IsTypeFault}
 use Rattle.automizer_top.specs.Refusals.{refusal}
+use Rattle.automizer_top.specs.TypeRefusals.{type_refusal}
 use Rattle.automizer_top.specs.StraightRun.{IsSafe}
 use Rattle.automizer_top.specs.StraightCheck.{Verdict, accepted, syntax, bad_triple, Judges}
 
@@ -47,6 +53,18 @@ verdict_answer accepted = answer (codes "accepted\n") 0
 verdict_answer (syntax line) = answer (rejected_line line (codes "Syntax")) 1
 verdict_answer (bad_triple line) = answer (rejected_line line (codes "BadTriple")) 1
 
+-- the procedure at which runs begin
+abbrev pub entry : List ℕ
+entry = codes "main"
+
+-- the typing rules hold
+abbrev pub IsTyped : List Declaration → Type 0
+IsTyped ds = (t : TypedProgram) × (resolved_program ds entry ≡ Some t)
+
+-- a typing rule is broken, and the fault names it
+abbrev pub IsIllTyped : List Declaration → TypeFault → Type 0
+IsIllTyped ds f = IsTypeFault ds entry f × (f ≡ type_faults.Memory → ⊥)
+
 -- What is answered to a program text that is refused: it is too long, or no program; the first fault decides.
 pub data RefusesProgram (program : List ℕ) (a : Answer) : Type 0 where
   too_long : program_limit < length program → a ≡ answer (codes "refused TooLong\n") 3 → RefusesProgram program a
@@ -58,16 +76,19 @@ pub data ReportsPrint (program : List ℕ) (a : Answer) : Type 0 where
   printed : (ds : List Declaration) → length program ≤ program_limit → IsProgram program ds → a ≡ answer (program_text ds) 0 →
       ReportsPrint program a
 
--- What is answered to a program text and to what the second name stands for. The cases exclude each other.
+-- What is answered to a program text and to what the second name stands for. The cases exclude each other. Of several typing
+-- rules that are broken any may be named.
 pub data ReportsCheck (program : List ℕ) (second : Option (List ℕ)) (a : Answer) : Type 0 where
   refused_check : RefusesProgram program a → ReportsCheck program second a
-  no_first_form : (ds : List Declaration) → length program ≤ program_limit → IsProgram program ds →
+  ill_typed : (ds : List Declaration) (f : TypeFault) → length program ≤ program_limit → IsProgram program ds → IsIllTyped ds f →
+      a ≡ answer (type_refusal f) 3 → ReportsCheck program second a
+  no_first_form : (ds : List Declaration) → length program ≤ program_limit → IsProgram program ds → IsTyped ds →
       ((p : Program) → IsFirstForm ds p → ⊥) → a ≡ answer (codes "refused Form\n") 3 → ReportsCheck program second a
   second_too_long : (ds : List Declaration) (p : Program) (text : List ℕ) → length program ≤ program_limit → IsProgram program ds →
-      IsFirstForm ds p → second ≡ Some text → second_limit < length text → a ≡ answer (codes "refused TooLong\n") 3 →
+      IsTyped ds → IsFirstForm ds p → second ≡ Some text → second_limit < length text → a ≡ answer (codes "refused TooLong\n") 3 →
       ReportsCheck program second a
   judged : (ds : List Declaration) (p : Program) (text : List ℕ) (verdict : Verdict) → length program ≤ program_limit →
-      IsProgram program ds → IsFirstForm ds p → second ≡ Some text → length text ≤ second_limit → Judges p text verdict →
+      IsProgram program ds → IsTyped ds → IsFirstForm ds p → second ≡ Some text → length text ≤ second_limit → Judges p text verdict →
       a ≡ verdict_answer verdict → ReportsCheck program second a
 
 -- The report: to words that ask for neither the usage line, to others what the named texts give.
@@ -78,6 +99,10 @@ pub data Reports (words : List (List ℕ)) (texts : List (List ℕ × List ℕ))
       Reports words texts a
   checked : (program second text : List ℕ) → AskCheck words program second →
       text_named program texts ≡ Some text → ReportsCheck text (text_named second texts) a → Reports words texts a
+
+-- the answer says that a typing rule is broken
+abbrev pub IsTypingRefusal : Answer → Type 0
+IsTypingRefusal a = (f : TypeFault) × (a ≡ answer (type_refusal f) 3)
 
 -- The words ask for the printing of a program that stands in the texts.
 abbrev pub PrintsProgram : List (List ℕ) → List (List ℕ × List ℕ) → Type 0

@@ -3,10 +3,12 @@ ghost use Rattle.std.specs.String.{string_bytes};
 ghost use Rattle.automizer_top.specs.Answers.{answered};
 ghost use Rattle.automizer_top.specs.Refusals.{what_name, which_name, refusal};
 ghost use Rattle.automizer_top.specs.Report.{verdict_answer};
+ghost use Rattle.automizer_top.specs.TypeRefusals.{rule_line, type_refusal};
 ghost use Rattle.automizer_top.specs.Verdicts.{verdict as pure_verdict};
 
 use crate::check::Verdict;
 use boogie_parse::{Fault, What, Which};
+use boogie_types::{Span, TypeFault};
 use std::alloc::{AllocError, Global};
 
 /// What the program answers, before it is written.
@@ -18,6 +20,8 @@ pub(crate) enum Answer {
     TooLong,
     /// The program text is no program: its first fault.
     Refused(Fault),
+    /// The program breaks this typing rule.
+    IllTyped(TypeFault),
     /// The program is not in the first form.
     Form,
     /// The text of the program.
@@ -38,6 +42,7 @@ impl Answer {
             )?,
             Answer::TooLong => String::from_str(alloc, "refused TooLong\n")?,
             Answer::Refused(fault) => refusal_text(alloc, &fault)?,
+            Answer::IllTyped(fault) => type_refusal_text(alloc, &fault)?,
             Answer::Form => String::from_str(alloc, "refused Form\n")?,
             Answer::Printed(text) => return Ok(text),
             Answer::Judged(verdict) => verdict_text(alloc, verdict)?,
@@ -51,7 +56,7 @@ impl Answer {
     {
         match self {
             Answer::Usage => 4,
-            Answer::TooLong | Answer::Refused(_) | Answer::Form => 3,
+            Answer::TooLong | Answer::Refused(_) | Answer::IllTyped(_) | Answer::Form => 3,
             Answer::Printed(_) | Answer::Judged(Verdict::Accepted) => 0,
             Answer::Judged(Verdict::Syntax(_) | Verdict::BadTriple(_)) => 1,
         }
@@ -100,6 +105,33 @@ fn refusal_text(alloc: Global, fault: &Fault) -> Result<String, AllocError>
             format!(in alloc; "refused Limit {name} {line} {col}\n")
         }
         Fault::Memory => Ok(String::new(alloc)),
+    }
+}
+
+/// The line of a program that breaks a typing rule there.
+fn rule_line(alloc: Global, rule: &str, at: Span) -> Result<String, AllocError>
+    ensures { IfOk result (λ text. string_bytes text ≡ rule_line rule.now at) }
+{
+    let Span { line, col } = at;
+    format!(in alloc; "refused {rule} {line} {col}\n")
+}
+
+/// The line of a program that breaks a typing rule; empty for want of memory, which breaks none.
+fn type_refusal_text(alloc: Global, fault: &TypeFault) -> Result<String, AllocError>
+    ensures { IfOk result (λ text. string_bytes text ≡ type_refusal fault.now) }
+{
+    match fault {
+        TypeFault::Unknown(at) => rule_line(alloc, "Unknown", *at),
+        TypeFault::Twice(at) => rule_line(alloc, "Twice", *at),
+        TypeFault::Mismatch(at) => rule_line(alloc, "Mismatch", *at),
+        TypeFault::NotAssignable(at) => rule_line(alloc, "NotAssignable", *at),
+        TypeFault::NotModified(at) => rule_line(alloc, "NotModified", *at),
+        TypeFault::NoEntry => rule_line(alloc, "NoEntry", Span { line: 1, col: 1 }),
+        TypeFault::ZeroDivisor(at) => rule_line(alloc, "ZeroDivisor", *at),
+        TypeFault::NonLinear(at) => rule_line(alloc, "NonLinear", *at),
+        TypeFault::BadGoto(at) => rule_line(alloc, "BadGoto", *at),
+        TypeFault::TooBig(at) => rule_line(alloc, "TooBig", *at),
+        TypeFault::Memory => Ok(String::new(alloc)),
     }
 }
 

@@ -3,15 +3,19 @@ ghost use Rattle.std.specs.String.{string_bytes};
 ghost use Rattle.outer_io.specs.Faults.{Rose};
 ghost use Rattle.outer_io.specs.Texts.{text_named};
 ghost use Rattle.automizer_top.specs.declared.reporting.Halt.TheVariants.{Fault, Memory};
+ghost use Rattle.typed_tree.specs.declared.fault.TypeFault.TheVariants as TypeFault;
 ghost use Rattle.automizer_top.specs.Answers.{answered};
 ghost use Rattle.automizer_top.specs.Refusals.{refusal};
-ghost use Rattle.automizer_top.specs.Report.{answer, Reports, ReportsPrint, ReportsCheck};
+ghost use Rattle.automizer_top.specs.Report.{answer, Reports, ReportsPrint, ReportsCheck, IsTyped, IsIllTyped};
+ghost use Rattle.boogie_tree.specs.View.{program as tree};
+ghost use Rattle.boogie_parse.specs.PrintedTokens.{IsSpellableProgram};
 
 use crate::answer::Answer;
 use crate::check::judged;
 use crate::words::{Mode, asked};
 use boogie_parse::{Fault, parse, straight_of};
-use boogie_tree::print;
+use boogie_tree::{Program, print};
+use boogie_types::{TypeFault, resolve};
 use outer_io::{ReadFault, Shelf, read_all};
 use std::alloc::{AllocError, Global};
 
@@ -20,6 +24,9 @@ const PROGRAM_LIMIT: u64 = 1_048_576;
 
 /// The most bytes of a second text: the greatest length of a list of bytes.
 const SECOND_LIMIT: u64 = 9_223_372_036_854_775_807;
+
+/// The name of the procedure at which runs begin.
+const ENTRY: &str = "main";
 
 /// Why there is no answer.
 #[derive(Clone, Copy, Debug, PartialEq, Eq)]
@@ -84,6 +91,27 @@ fn printed(alloc: Global, text: &[u8]) -> Result<Answer, AllocError>
     }
 }
 
+/// The fault, where it is one of the program.
+fn found(fault: TypeFault) -> Result<Option<TypeFault>, AllocError>
+    ensures { IfOk result (λ o. (o ≡ Some fault) × (fault ≢ TypeFault.Memory)) }
+{
+    match fault {
+        TypeFault::Memory => Err(AllocError),
+        fault => Ok(Some(fault)),
+    }
+}
+
+/// The typing rule that a program breaks; none where they hold.
+fn broken_rule(alloc: Global, program: Program) -> Result<Option<TypeFault>, AllocError>
+    requires { IsSpellableProgram (tree program) }
+    ensures { IfOk result (λ broken. MatchOption broken (IsTyped (tree program)) (IsIllTyped (tree program))) }
+{
+    match resolve(alloc, program, ENTRY) {
+        Ok(_typed) => Ok(None),
+        Err(fault) => found(fault),
+    }
+}
+
 /// What is answered to a program text and to the text of that name.
 fn checked<H: Shelf>(
     alloc: Global,
@@ -103,7 +131,11 @@ fn checked<H: Shelf>(
         Ok(program) => program,
         Err(fault) => return Ok(refused(fault)?),
     };
-    let Some(straight) = straight_of(alloc, &program)? else {
+    let straight = straight_of(alloc, &program)?;
+    if let Some(fault) = broken_rule(alloc, program)? {
+        return Ok(Answer::IllTyped(fault));
+    }
+    let Some(straight) = straight else {
         return Ok(Answer::Form);
     };
     let Some(proof) = text_within(alloc, shelf, second, SECOND_LIMIT)? else {

@@ -1,7 +1,7 @@
 ghost use Rattle.std.specs.Prelude.{◌≡◌, ◌≢◌, ◌<◌, ◌++◌, ℕ, List, ◌⊎◌, Some, map, codes, IfSome};
 ghost use Rattle.std.specs.String.{string_bytes};
 ghost use Rattle.outer_io.specs.Faults.{Rose};
-ghost use Rattle.automizer_top.specs.Report.{Answer, Answers, Reports, WhereTold, TookFront, PrintsProgram, ProgramIsSafe};
+ghost use Rattle.automizer_top.specs.Report.{Answer, Answers, Reports, WhereTold, TookFront, PrintsProgram, ProgramIsSafe, IsTypingRefusal};
 
 use crate::reporting::{Halt, reported};
 use outer_io::{Shelf, Sink, write_all};
@@ -59,8 +59,9 @@ pub fn run<R, H: Shelf, K: Sink>(
     }
 }
 
-/// The report allows one answer at most, so each output comes exactly where its case holds.
+/// The report allows one answer at most, so each output comes exactly where its case holds; but of several typing rules that a
+/// program breaks any may be named.
 pub fn one_report()
     ensures { (words : List (List ℕ)) (texts : List (List ℕ × List ℕ)) (a b : Answer) →
-        Reports words texts a → Reports words texts b → a ≡ b }
+        Reports words texts a → Reports words texts b → (a ≡ b) ⊎ (IsTypingRefusal a × IsTypingRefusal b) }
 {}

@@ -3,6 +3,8 @@ use outer_io::{MemShelf, MemSink};
 use std::alloc::{AllocError, Global};
 use std::test::Fail;
 
+mod typing;
+
 const INCREMENT: &str = "procedure main() {\n  var x: int;\n  x := 1;\n  assert x >= 1;\n}\n";
 
 const PROOF: &str = "straight 1\nassertion 1 1 (leaf 0:-1 1:1)\nend\n";
@@ -76,8 +78,8 @@ fn proofs_of_straight_lines(rt: HostRuntime) -> Result<(), Fail> {
             "accepted\n",
             0,
         ),
-        ("", PROOF, "refused Form\n", 3),
-        ("", "", "refused Form\n", 3),
+        ("", PROOF, "refused NoEntry 1 1\n", 3),
+        ("", "", "refused NoEntry 1 1\n", 3),
         ("procedure main() { x }", PROOF, "refused Syntax 1 22\n", 3),
         ("procedure main() { }", "straight 1\nend\n", "accepted\n", 0),
         ("procedure main() { }", "", "rejected 1 Syntax\n", 1),
@@ -182,7 +184,7 @@ fn texts_past_the_limit_and_odd_bytes(rt: HostRuntime) -> Result<(), Fail> {
     let one_more = spaces(alloc, 1_048_577)?;
     let proof = PROOF.as_bytes();
     for (program, proof, output) in [
-        (most.as_slice(), proof, "refused Form\n"),
+        (most.as_slice(), proof, "refused NoEntry 1 1\n"),
         (one_more.as_slice(), proof, "refused TooLong\n"),
         (b"\xff\xfe".as_slice(), proof, "refused Syntax 1 1\n"),
         (
