@@ -1,16 +1,14 @@
 -- Blocks that are made statement by statement.
-use Rattle.std.proofs.Common.{◌≡◌, ℕ, ◌+◌, ◌<◌, List, [], ◌∷◌, ◌++◌, map, length, drop, get_or, Option, None, Some, false, true, refl, ap, sym, subst, ◌∙◌, append_assoc, arith}
-use Rattle.std.specs.Option.{option_map}
+use Rattle.std.proofs.Common.{◌≡◌, ℕ, ◌+◌, ◌<◌, List, [], ◌∷◌, ◌++◌, length, drop, get_or, Option, None, Some, false, true, refl, ap, sym, subst, ◌∙◌, arith}
 use Rattle.std.proofs.lemmas.List.{drop_more}
 use Rattle.std.proofs.lemmas.Bool.{false≢true}
 use Rattle.boogie_tree.specs.declared.tree.Stmt.{Stmt}
 use Rattle.boogie_tree.specs.Tree as tree
 use Rattle.boogie_tree.specs.View as view
 use Rattle.typed_tree.specs.declared.fault.TypeFault.{TypeFault}
-use Rattle.typed_tree.specs.declared.types.TStmt.{TStmt}
 use Rattle.typed_tree.specs.TypedTree.{TypedStatement, TypedBlock, Empty, Then}
 use Rattle.typed_tree.specs.TypedView as typed
-use Rattle.boogie_types.specs.Naming.{Place, named_statement, named_block, hidden_in, hidden_in_block, label_of, both, in_front, in_loop}
+use Rattle.boogie_types.specs.Naming.{Place, named_statement, named_block, hidden_in, hidden_in_block, label_of, both, in_front}
 use Rattle.boogie_types.specs.Making.{made, block_made}
 use Rattle.boogie_types.specs.BrokenNames.{IsMisnamed, IsMisnamedIn, first, later}
 

@@ -10,11 +10,10 @@ use Rattle.std.proofs.lemmas.Slice.Eq.{bytes_eq-Decides}
 use Rattle.std.proofs.lemmas.List.Folds.{Any-from_list_any}
 use Rattle.std.proofs.lemmas.List.{take_more, map-append, length-map, take-append-drop, drop_more, length-take-le}
 use Rattle.boogie_tree.specs.declared.tree.Name.{Name}
-use Rattle.typing_rules.specs.Rules.{all_differ}
 use Rattle.boogie_types.specs.BrokenNames.{IsSecond}
 use Rattle.boogie_types.specs.Resolved.{is_set}
 use Rattle.boogie_types.specs.Numbers.{named_by, texts, place_of}
-use Rattle.boogie_types.proofs.Differ.{all_differ_push, all_differ_repeat}
+use Rattle.boogie_types.proofs.Differ.{all_differ_push}
 
 -- ---- whether two texts are the same
 

@@ -1,5 +1,5 @@
 -- How much is left of statements, for recursions over them.
-use Rattle.std.proofs.Common.{◌≡◌, ℕ, zero, suc, ◌+◌, ◌<◌, List, [], ◌∷◌, length, get_or, subst, sym, ap, arith}
+use Rattle.std.proofs.Common.{◌≡◌, ℕ, zero, suc, ◌+◌, ◌<◌, List, [], ◌∷◌, length, get_or, ap, arith}
 use Rattle.boogie_tree.specs.declared.tree.Stmt.{Stmt}
 use Rattle.boogie_tree.specs.Tree.{Statement, If, While, Block, Empty, Then}
 use Rattle.boogie_tree.specs.View as view

@@ -1,12 +1,11 @@
 -- Which rule on names a program breaks, and where.
-use Rattle.std.specs.Prelude.{◌≡◌, ℕ, Bool, true, false, ◌&&◌, List, [], ◌∷◌, ◌++◌, map, Option, None, Some, Contains}
+use Rattle.std.specs.Prelude.{◌≡◌, ℕ, true, false, ◌&&◌, List, ◌∷◌, ◌++◌, map, Option, None, Some, Contains}
 use Rattle.std.specs.Option.{is_none}
 use Rattle.std.specs.Str.{bytes_eq}
 use Rattle.boogie_tree.specs.declared.span.Span.{Span}
 use Rattle.boogie_tree.specs.declared.tree.Name.{Name}
 use Rattle.boogie_tree.specs.declared.tree.Op.{Op}
-use Rattle.boogie_tree.specs.declared.tree.VarInfo.{VarInfo}
-use Rattle.boogie_tree.specs.Tree.{Expression, Var, Old, Not, Neg, Bin, Guard, Any, Cond, Invariant, Statement, Assert, Assume, Havoc, Assign, Call, If, While, Break, Goto, Label, Block, Empty, Then, Specification, Requires, Ensures, Procedure, ProcedureBody, Declaration}
+use Rattle.boogie_tree.specs.Tree.{Expression, Var, Old, Not, Neg, Bin, Guard, Cond, Invariant, Statement, Assert, Assume, Havoc, Assign, Call, If, While, Break, Goto, Label, Block, Then, Requires, Ensures, Procedure, ProcedureBody, Declaration}
 use Rattle.typed_tree.specs.declared.fault.TypeFault.{TypeFault}
 use Rattle.typed_tree.specs.declared.fault.TypeFault.TheVariants as fault
 use Rattle.typed_tree.specs.TypedTree.{TypedProgram}
@@ -16,7 +15,7 @@ use Rattle.typing_rules.specs.BrokenTyping.{IsProgramBroken}
 use Rattle.boogie_types.specs.Meanings.{column_of, number_from, variable_info}
 use Rattle.boogie_types.specs.Naming.{Place, label_number, levels, procedure_number, in_loop, label_of}
 use Rattle.boogie_types.specs.Sorted.{globals_of, global_names, axioms_of, procedures_of, implementations_of, first_named, body_of, locals_of, variable_names, labels_if_any, modified_in}
-use Rattle.boogie_types.specs.Resolved.{are_sets, are_implementations, repeats, modified_number, body_place, named_program, resolved_program, entry_number}
+use Rattle.boogie_types.specs.Resolved.{are_sets, are_implementations, repeats, modified_number, body_place, named_program, entry_number}
 
 -- a name of an expression that means nothing there
 pub data IsUnknownIn (s : Scope) : Expression → TypeFault → Type 0 where

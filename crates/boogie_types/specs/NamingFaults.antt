@@ -7,7 +7,7 @@ use Rattle.typed_tree.specs.declared.fault.TypeFault.TheVariants as fault
 use Rattle.typed_tree.specs.Scope.{Scope}
 use Rattle.std.specs.List.{position_from}
 use Rattle.boogie_types.specs.Naming.{Place, is_before_loop, procedure_number}
-use Rattle.boogie_types.specs.BrokenNames.{IsUnknownIn, AreUnknownIn, IsTargetUnknown, IsGuardUnknown, IsMisnamed, IsMisnamedIn, IsProcedureMisnamed, IsRuleBroken}
+use Rattle.boogie_types.specs.BrokenNames.{IsUnknownIn, AreUnknownIn, IsTargetUnknown, IsGuardUnknown, IsMisnamed, IsMisnamedIn, IsProcedureMisnamed}
 
 -- the fault is want of memory, or the rule is broken
 abbrev pub OrMemory : TypeFault → Type 0 → Type 0

@@ -27,6 +27,6 @@ mod variables;
 pub use resolving::resolve;
 pub use typed_tree::{
     Affine, AffineFault, Column, Op, Scope, Span, TExpr, TExprKind, TGuard, TInv, TProc, TSpec,
-    TStmt, Text, Ty, TypeFault, VarInfo,
+    TStmt, Text, Ty, TypeFault, VarInfo, affine,
 };
-pub use typing_rules::Typed;
+pub use typing_rules::{Typed, typed};

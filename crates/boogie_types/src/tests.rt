@@ -1,3 +1,4 @@
+mod forms;
 mod spelled;
 mod trees;
 

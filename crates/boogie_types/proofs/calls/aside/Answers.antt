@@ -1,4 +1,4 @@
-use Rattle.std.proofs.Common.{◌≡◌, ap, sym, ◌∙◌}
+use Rattle.std.proofs.Common.{ap, sym, ◌∙◌}
 use Rattle.typed_tree.specs.TypedTree as typed
 use Rattle.boogie_types.specs.PlaceViews.{place_outside}
 use Rattle.boogie_types.specs.Naming.{hidden_column}

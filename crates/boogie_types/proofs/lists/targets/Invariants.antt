@@ -1,9 +1,6 @@
-use Rattle.std.proofs.Common.{◌≡◌, map, drop}
-use Rattle.boogie_tree.specs.View as view
-use Rattle.typed_tree.specs.TypedView as typed
+use Rattle.std.proofs.Common.{◌≡◌, drop}
 use Rattle.typed_tree.specs.Scope.{seen}
-use Rattle.boogie_types.specs.Meanings.{column_of}
-use Rattle.boogie_types.specs.Naming.{each, named, named_invariant, columns_of}
+use Rattle.boogie_types.specs.Naming.{columns_of}
 use Rattle.boogie_types.specs.Making.{made}
 use Rattle.boogie_types.proofs.lists.targets.Given as goal
 

@@ -1,5 +1,4 @@
 use Rattle.std.proofs.Common.{◌≡◌, ◌++◌, map, drop}
-use Rattle.boogie_tree.specs.View as view
 use Rattle.boogie_types.specs.Numbers.{named_by}
 use Rattle.boogie_types.specs.Referred.{procedures_by}
 use Rattle.boogie_types.proofs.sorted.names_of.Given as goal

@@ -5,7 +5,6 @@ use Rattle.std.specs.Ordering.{nat_cmp}
 use Rattle.std.specs.Map.{update}
 use Rattle.std.specs.Str.{bytes_eq}
 use Rattle.std.proofs.lemmas.Map.Text.{btree_map_updates_str}
-use Rattle.boogie_tree.specs.declared.tree.Name.{Name}
 use Rattle.boogie_types.specs.BrokenNames.{IsSecond}
 use Rattle.boogie_types.specs.Numbers.{named_by, texts, place_of}
 use Rattle.boogie_types.proofs.NameLaws.{name_repeated, names_differ_more, numbers_more}
