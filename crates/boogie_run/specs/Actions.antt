@@ -27,11 +27,11 @@ pub data Action : Type 0 where
   -- a procedure with a body is entered with these arguments
   Enter : ℕ → List TypedExpression → Action
   -- of a call without body: a value is chosen for a modified global, or for a result, and kept
-  Keep : ℕ → Column → Point → Action
+  Keep : ℕ → List TypedExpression → Column → Point → Action
   -- of a call without body: an ensures is assumed, over the arguments and what was chosen
   Grant : ℕ → List TypedExpression → TypedExpression → Point → Action
   -- of a call without body: what was chosen is written to the modified globals and the targets
-  Finish : ℕ → List Column → Point → Action
+  Finish : ℕ → List TypedExpression → List Column → Point → Action
   -- a procedure returns
   Leave : Action
 
@@ -77,9 +77,9 @@ chosen_columns q = map columns.Global q.modifies ++ results_from q.params q.resu
 
 -- A call of a procedure without body, behind its requires: first the choice, then the ensures, that is told, and else the writing.
 abbrev pub unseen_action : Option Column → Option TypedInvariant → ℕ → List Column → List TypedExpression → Point → Point → Action
-unseen_action (Some c) i f targets args here next = Keep f c (next_part here)
+unseen_action (Some c) i f targets args here next = Keep f args c (next_part here)
 unseen_action None (Some i) f targets args here next = Grant f args i.cond (next_part here)
-unseen_action None None f targets args here next = Finish f targets next
+unseen_action None None f targets args here next = Finish f args targets next
 
 -- a call behind its requires, with so many further parts done
 abbrev pub called_action : ℕ → TypedProcedure → Option TypedBlock → List Column → List TypedExpression → ℕ → Point → Point → Action

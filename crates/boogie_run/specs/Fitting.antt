@@ -1,8 +1,11 @@
 -- When each value that a step reads fits.
-use Rattle.std.specs.Prelude.{Bool, true, false, ◌||◌, List, length, nat_lt}
+use Rattle.std.specs.Prelude.{Bool, true, false, ◌||◌, neg_ℤ, List, length, Option, None, Some, slice_get, nat_lt}
 use Rattle.std.specs.List.{AllByRecursion}
-use Rattle.typed_tree.specs.TypedTree.{TypedExpression, TypedProgram}
-use Rattle.typed_tree.specs.Values.{State, PartsFit}
+use Rattle.math_facts.specs.Fits.{Fits}
+use Rattle.boogie_tree.specs.declared.tree.Column.{Column}
+use Rattle.boogie_tree.specs.declared.tree.Column.TheVariants as columns
+use Rattle.typed_tree.specs.TypedTree.{TypedExpression, Lit, Truth, Var, Old, Not, Neg, Bin, TypedProgram}
+use Rattle.typed_tree.specs.Values.{State, member, at_entry, value, operation_value, PartsFit}
 use Rattle.boogie_run.specs.Actions.{Action, Check, Suppose, Demand, Write, Guess, Test, Pick, Jump, Enter, Keep, Grant, Finish, Leave, action_at}
 use Rattle.boogie_run.specs.Configurations.{Config, state_of}
 use Rattle.boogie_run.specs.Needs.{locals_at}
@@ -12,20 +15,41 @@ use Rattle.boogie_run.specs.Steps.{passed_state, granted_state}
 abbrev pub AllFit : State → List TypedExpression → Type 0
 AllFit s es = AllByRecursion (PartsFit s) es
 
--- the values that an action reads fit, arguments among them
+-- the values of an argument's parts fit
+abbrev pub ArgumentFits : State → Option TypedExpression → Type 0
+ArgumentFits s None = Unit {0}
+ArgumentFits s (Some e) = PartsFit s e
+
+abbrev pub PassedColumnFits : State → List TypedExpression → Column → Type 0
+PassedColumnFits s args (columns.Global n) = Fits (member s.globals n)
+PassedColumnFits s args (columns.Old n) = Fits (member s.old n)
+PassedColumnFits s args (columns.Local n) = ArgumentFits s (slice_get args n)
+
+-- The value of each part of a requires fits, with the argument in place of each parameter that stands in it.
+abbrev pub PassedFit : State → List TypedExpression → TypedExpression → Type 0
+PassedFit s args (Lit at n) = Fits n
+PassedFit s args (Truth at b) = Unit {0}
+PassedFit s args (Var at x) = PassedColumnFits s args x
+PassedFit s args (Old at e) = PassedFit (at_entry s) args e
+PassedFit s args (Not at e) = PassedFit s args e
+PassedFit s args (Neg at e) = PassedFit s args e × Fits (neg_ℤ (value (passed_state s args) e))
+PassedFit s args (Bin at op a b) =
+    PassedFit s args a × PassedFit s args b × Fits (operation_value op (value (passed_state s args) a) (value (passed_state s args) b))
+
+-- The values that an action reads fit. Arguments are taken by the first step behind the requires; they do not change before the last.
 abbrev pub ActionFits : TypedProgram → Config → Action → Type 0
 ActionFits t c (Check id at e next) = PartsFit (state_of c) e
 ActionFits t c (Suppose e next) = PartsFit (state_of c) e
-ActionFits t c (Demand id at e args next) = AllFit (state_of c) args × PartsFit (passed_state (state_of c) args) e
+ActionFits t c (Demand id at e args next) = PassedFit (state_of c) args e
 ActionFits t c (Write cs es next) = AllFit (state_of c) es
 ActionFits t c (Guess x next) = Unit {0}
 ActionFits t c (Test e hit miss) = PartsFit (state_of c) e
 ActionFits t c (Pick ways) = Unit {0}
 ActionFits t c (Jump next) = Unit {0}
 ActionFits t c (Enter f args) = AllFit (state_of c) args
-ActionFits t c (Keep f x next) = Unit {0}
+ActionFits t c (Keep f args x next) = AllFit (state_of c) args
 ActionFits t c (Grant f args e next) = AllFit (state_of c) args × PartsFit (granted_state t c f args) e
-ActionFits t c (Finish f targets next) = Unit {0}
+ActionFits t c (Finish f args targets next) = AllFit (state_of c) args
 ActionFits t c Leave = Unit {0}
 
 -- a constant, a global or a local is still to be chosen

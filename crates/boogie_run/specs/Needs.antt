@@ -42,7 +42,7 @@ need_of_column globals locals (columns.Local n) = need_of (slice_get locals n)
 abbrev pub need_of_action : TypedProgram → ℕ → Action → Need
 need_of_action t n (Guess c next) = need_of_column t.globals (locals_at t n) c
 need_of_action t n (Pick ways) = Below (length ways)
-need_of_action t n (Keep f c next) = need_of_column t.globals (locals_at t f) c
+need_of_action t n (Keep f args c next) = need_of_column t.globals (locals_at t f) c
 need_of_action t n a = Nothing
 
 -- First the constants and globals are chosen, then the locals that the frame has not, and then each action takes what it needs.

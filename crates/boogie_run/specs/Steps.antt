@@ -137,9 +137,9 @@ act t c v (Test e hit miss) = Went (moved_to c (if is_true (value (state_of c) e
 act t c v (Pick ways) = went_if (slice_get ways (unsigned_abs v)) c
 act t c v (Jump next) = Went (moved_to c next)
 act t c v (Enter f args) = Went (entered t c f (values (state_of c) args))
-act t c v (Keep f x next) = Went (kept_to c v next)
+act t c v (Keep f args x next) = Went (kept_to c v next)
 act t c v (Grant f args e next) = if is_true (value (granted_state t c f args) e) then Went (kept_on c next) else Blocked
-act t c v (Finish f targets next) = Went (moved_to (finished t c f targets) next)
+act t c v (Finish f args targets next) = Went (moved_to (finished t c f targets) next)
 act t c v Leave = left t c c.below
 
 -- the first point of a run: the first condition that is assumed at the start, or else the first point of the entry
