@@ -13,7 +13,7 @@ use Rattle.boogie_tree.specs.declared.tree.Vary.{Vary}
 use Rattle.boogie_tree.specs.Tree.{Expression, Procedure}
 use Rattle.boogie_tree.specs.View as view
 use Rattle.typed_tree.specs.TypedTree.{TypedExpression, Var, TypedStatement, Assign, Call}
-use Rattle.boogie_types.specs.Naming.{Place, both, named, is_hidden, hidden_column, hidden_arguments, named_arguments, put_aside, named_call, procedure_number, params_named, params_if_any, columns_of}
+use Rattle.boogie_types.specs.Naming.{Place, both, named, is_hidden, hidden_column, hidden_arguments, named_arguments, put_aside, named_call, procedure_number, params_named, params_if_any, targets_of}
 use Rattle.boogie_types.specs.Naming.{place_of as expression_place}
 use Rattle.boogie_types.specs.NamingFaults.{IsCallUnknown, callee, target, argument, IsCallFault}
 use Rattle.boogie_types.proofs.FaultLaws.{or_memory_to}
@@ -126,7 +126,7 @@ call_behind done mid (Some ss) s e =
 
 -- a call behind what it puts aside
 pub call_made : (p : Place) (n : ℕ) (at : Span) (xs : List Name) (f : Name) (es : List Expression) (k : ℕ) (cs : List Column) (ts : List TypedExpression) (params : List Vary) (done mid : List TypedStatement) →
-    procedure_number p f ≡ Some k → params_named p f ≡ params → columns_of p.scope xs ≡ Some cs → named_arguments p n params es ≡ Some ts →
+    procedure_number p f ≡ Some k → params_named p f ≡ params → targets_of p.scope xs ≡ Some cs → named_arguments p n params es ≡ Some ts →
     made done (put_aside p n at (hidden_arguments params es)) ≡ Some mid →
     made done (named_call p n at xs f es) ≡ Some (mid ++ Call at cs k ts ∷ [])
 call_made p n at xs f es k cs ts params done mid ek ep ec et em =
@@ -156,8 +156,8 @@ module _ (p : Place) (loops : List (Option (List ℕ))) where
 
   pub call_anywhere : (n : ℕ) (at : Span) (xs : List Name) (f : Name) (es : List Expression) → named_call (record p { loops = loops }) n at xs f es ≡ named_call p n at xs f es
   call_anywhere n at xs f es =
-      ap (λ o. both (λ before last. before ++ (last ∷ [])) o (option_and_then (λ cs. both (Call at cs) (procedure_number p f) (named_arguments (record p { loops = loops }) n (params_named p f) es)) (columns_of p.scope xs))) (aside_anywhere n at (hidden_arguments (params_named p f) es))
-      ∙ ap (λ o. both (λ before last. before ++ (last ∷ [])) (put_aside p n at (hidden_arguments (params_named p f) es)) (option_and_then (λ cs. both (Call at cs) (procedure_number p f) o) (columns_of p.scope xs))) (arguments_anywhere n (params_named p f) es)
+      ap (λ o. both (λ before last. before ++ (last ∷ [])) o (option_and_then (λ cs. both (Call at cs) (procedure_number p f) (named_arguments (record p { loops = loops }) n (params_named p f) es)) (targets_of p.scope xs))) (aside_anywhere n at (hidden_arguments (params_named p f) es))
+      ∙ ap (λ o. both (λ before last. before ++ (last ∷ [])) (put_aside p n at (hidden_arguments (params_named p f) es)) (option_and_then (λ cs. both (Call at cs) (procedure_number p f) o) (targets_of p.scope xs))) (arguments_anywhere n (params_named p f) es)
 
   unknown_anywhere : (xs : List Name) (g : Name) (es : List Expression) (f : TypeFault) → IsCallUnknown p xs g es f → IsCallUnknown (record p { loops = loops }) xs g es f
   unknown_anywhere xs g es _ (callee e) = callee e

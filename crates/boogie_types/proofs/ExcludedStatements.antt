@@ -9,10 +9,10 @@ use Rattle.boogie_tree.specs.Tree.{Expression, Statement, Block}
 use Rattle.typed_tree.specs.declared.fault.TypeFault.{TypeFault}
 use Rattle.typed_tree.specs.TypedTree as typed
 use Rattle.typed_tree.specs.TypedTree.{TypedExpression, TypedGuard, TypedStatement, TypedInvariant, TypedBlock}
-use Rattle.boogie_types.specs.Naming.{Place, each, both, named, named_guard, named_invariant, columns_of, label_number, levels, procedure_number, params_named, is_hidden, hidden_arguments, hidden_in, hidden_in_block, hidden_column, put_aside, place_of, named_arguments, named_call, label_of, in_loop, alone, in_front, named_statement, named_block}
+use Rattle.boogie_types.specs.Naming.{Place, each, both, named, named_guard, named_invariant, targets_of, label_number, levels, procedure_number, params_named, is_hidden, hidden_arguments, hidden_in, hidden_in_block, hidden_column, put_aside, place_of, named_arguments, named_call, label_of, in_loop, alone, in_front, named_statement, named_block}
 use Rattle.boogie_types.specs.BrokenNames.{AreUnknownIn, one_of, IsMisnamed, asserted, assumed, chosen, assigned, valued, unknown_callee, returned, passed, branched, in_then, in_else, looping, in_invariant, in_loop_body, no_such_loop, no_such_label, unlisted_label, IsMisnamedIn, first, later}
 use Rattle.boogie_types.proofs.ExcludedLists.{option_map_none, and_then_none, and_then_nothing, both_left_none, both_right_none, no_member, member_cases, each_none}
-use Rattle.boogie_types.proofs.ExcludedNames.{unknown_is_unnamed, unknown_are_unnamed, unknown_has_no_columns, guard_is_unnamed, invariant_is_unnamed}
+use Rattle.boogie_types.proofs.ExcludedNames.{unknown_is_unnamed, unknown_are_unnamed, wrong_have_no_targets, guard_is_unnamed, invariant_is_unnamed}
 
 -- ---- calls
 
@@ -82,21 +82,21 @@ call_nothing at before k args cs h =
 callee_unnamed : (p : Place) (n : ℕ) (at : Span) (xs : List Name) (g : Name) (es : List Expression) → procedure_number p g ≡ None → named_call p n at xs g es ≡ None
 callee_unnamed p n at xs g es h =
     let args = named_arguments p n (params_named p g) es in
-    call_nothing at (put_aside p n at (hidden_arguments (params_named p g) es)) (procedure_number p g) args (columns_of p.scope xs)
+    call_nothing at (put_aside p n at (hidden_arguments (params_named p g) es)) (procedure_number p g) args (targets_of p.scope xs)
     (λ cs. both_left_none (typed.Call at cs) (procedure_number p g) args h)
 
-returned_unnamed : (p : Place) (n : ℕ) (at : Span) (xs : List Name) (g : Name) (es : List Expression) → columns_of p.scope xs ≡ None → named_call p n at xs g es ≡ None
+returned_unnamed : (p : Place) (n : ℕ) (at : Span) (xs : List Name) (g : Name) (es : List Expression) → targets_of p.scope xs ≡ None → named_call p n at xs g es ≡ None
 returned_unnamed p n at xs g es h =
     let call = call_to at (procedure_number p g) (named_arguments p n (params_named p g) es) in
-    both_right_none ahead (put_aside p n at (hidden_arguments (params_named p g) es)) (option_and_then call (columns_of p.scope xs)) (and_then_none call (columns_of p.scope xs) h)
+    both_right_none ahead (put_aside p n at (hidden_arguments (params_named p g) es)) (option_and_then call (targets_of p.scope xs)) (and_then_none call (targets_of p.scope xs) h)
 
 passed_unnamed : (p : Place) (n : ℕ) (at : Span) (xs : List Name) (g : Name) (es : List Expression) → IsArgumentLost p (params_named p g) es → named_call p n at xs g es ≡ None
 passed_unnamed p n at xs g es (inl h) =
     both_left_none ahead (put_aside p n at (hidden_arguments (params_named p g) es))
-    (option_and_then (call_to at (procedure_number p g) (named_arguments p n (params_named p g) es)) (columns_of p.scope xs)) (h n at)
+    (option_and_then (call_to at (procedure_number p g) (named_arguments p n (params_named p g) es)) (targets_of p.scope xs)) (h n at)
 passed_unnamed p n at xs g es (inr h) =
     let args = named_arguments p n (params_named p g) es in
-    call_nothing at (put_aside p n at (hidden_arguments (params_named p g) es)) (procedure_number p g) args (columns_of p.scope xs)
+    call_nothing at (put_aside p n at (hidden_arguments (params_named p g) es)) (procedure_number p g) args (targets_of p.scope xs)
     (λ cs. both_right_none (typed.Call at cs) (procedure_number p g) args (h n))
 
 -- ---- statements of parts
@@ -135,13 +135,13 @@ mutual
   pub misnamed_is_unnamed : (p : Place) (before : Option (List ℕ)) (s : Statement) (f : TypeFault) (n : ℕ) → IsMisnamed p before s f → named_statement p before n s ≡ None
   misnamed_is_unnamed p before s f n (asserted q l at e g h) = made_of_none (typed.Assert at) (named q.scope e) (unknown_is_unnamed q.scope e g h)
   misnamed_is_unnamed p before s f n (assumed q l at e g h) = made_of_none (typed.Assume at) (named q.scope e) (unknown_is_unnamed q.scope e g h)
-  misnamed_is_unnamed p before s f n (chosen q l at xs g h) = made_of_none (typed.Havoc at) (columns_of q.scope xs) (unknown_has_no_columns q.scope xs g h)
+  misnamed_is_unnamed p before s f n (chosen q l at xs g h) = made_of_none (typed.Havoc at) (targets_of q.scope xs) (wrong_have_no_targets q.scope xs g h)
   misnamed_is_unnamed p before s f n (assigned q l at xs es g h) =
-      left_missing (typed.Assign at) (columns_of q.scope xs) (each (named q.scope) es) (unknown_has_no_columns q.scope xs g h)
+      left_missing (typed.Assign at) (targets_of q.scope xs) (each (named q.scope) es) (wrong_have_no_targets q.scope xs g h)
   misnamed_is_unnamed p before s f n (valued q l at xs es g h) =
-      right_missing (typed.Assign at) (columns_of q.scope xs) (each (named q.scope) es) (unknown_are_unnamed q.scope es g h)
+      right_missing (typed.Assign at) (targets_of q.scope xs) (each (named q.scope) es) (unknown_are_unnamed q.scope es g h)
   misnamed_is_unnamed p before s f n (unknown_callee q l at xs x es h) = callee_unnamed q n at xs x es h
-  misnamed_is_unnamed p before s f n (returned q l at xs x es g h) = returned_unnamed q n at xs x es (unknown_has_no_columns q.scope xs g h)
+  misnamed_is_unnamed p before s f n (returned q l at xs x es g h) = returned_unnamed q n at xs x es (wrong_have_no_targets q.scope xs g h)
   misnamed_is_unnamed p before s f n (passed q l at xs x es g h) = passed_unnamed q n at xs x es (arguments_lost q (params_named q x) es g h)
   misnamed_is_unnamed p before s f n (branched q l at k a b g h) =
       guard_missing (typed.If at) (named_guard q.scope k) (named_block q None n a) (named_block q None (n + hidden_in_block q a) b) (guard_is_unnamed q.scope k g h)

@@ -34,3 +34,4 @@ pub mod OtherFaults
 pub mod Refusals
 pub mod ResolvedLaws
 pub mod SpelledLaws
+pub mod TargetLaws

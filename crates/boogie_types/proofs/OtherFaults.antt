@@ -35,8 +35,9 @@ unknown_other s _ _ (names.in_right at op a b f h) = unknown_other s b f h
 pub unknowns_other : (s : Scope) (es : List Expression) (f : TypeFault) → names.AreUnknownIn s es f → is_entry f ≡ false
 unknowns_other s _ _ (names.one_of es e f c h) = unknown_other s e f h
 
-target_other : (s : Scope) (xs : List Name) (f : TypeFault) → names.IsTargetUnknown s xs f → is_entry f ≡ false
+target_other : (s : Scope) (xs : List Name) (f : TypeFault) → names.IsTargetWrong s xs f → is_entry f ≡ false
 target_other s _ _ (names.unknown_target xs x c h) = refl
+target_other s _ _ (names.second_target xs x h) = refl
 
 guard_other : (s : Scope) (g : Guard) (f : TypeFault) → names.IsGuardUnknown s g f → is_entry f ≡ false
 guard_other s _ _ (names.in_guard e f h) = unknown_other s e f h

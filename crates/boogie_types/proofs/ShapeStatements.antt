@@ -15,7 +15,7 @@ use Rattle.typing_rules.specs.Shape.{is_shaped, is_shaped_block, statement_label
 use Rattle.boogie_types.specs.Meanings.{variable_info}
 use Rattle.boogie_types.specs.Sorted as sorted
 use Rattle.boogie_types.specs.Sorted.{labels_in}
-use Rattle.boogie_types.specs.Naming.{each, both, named, named_guard, named_invariant, columns_of, label_number, levels, procedure_number, params_if_any, params_named, hidden_arguments, hidden_in, hidden_in_block, hidden_column, put_aside, named_arguments, named_call, label_of, in_loop, alone, in_front, named_statement, named_block, Place}
+use Rattle.boogie_types.specs.Naming.{each, both, named, named_guard, named_invariant, targets_of, label_number, levels, procedure_number, params_if_any, params_named, hidden_arguments, hidden_in, hidden_in_block, hidden_column, put_aside, named_arguments, named_call, label_of, in_loop, alone, in_front, named_statement, named_block, Place}
 use Rattle.boogie_types.proofs.ShapeLists.{option_map_some, option_and_then_some, both_some, each_cons, each_append, all_append}
 use Rattle.boogie_types.proofs.ShapeArguments.{arguments_shaped}
 
@@ -125,9 +125,9 @@ call_fine : (procs : List TypedProcedure) (p : Place) → AreCallees procs p.pro
     named_call p n at xs f es ≡ Some ts → FineList procs p [] ts
 call_fine procs p callees n at xs f es ts e =
     let hidden = hidden_arguments (params_named p f) es in
-    let a = both_some (λ (before : List TypedStatement) (call : TypedStatement). before ++ (call ∷ [])) (put_aside p n at hidden) (made (columns_of p.scope xs)) ts e in
+    let a = both_some (λ (before : List TypedStatement) (call : TypedStatement). before ++ (call ∷ [])) (put_aside p n at hidden) (made (targets_of p.scope xs)) ts e in
     subst (FineList procs p []) a.4
-    (behind_aside procs p a.0 a.1 (aside_fine procs p n at hidden a.0 a.2) (made_fine procs p callees n at f es (columns_of p.scope xs) a.1 a.3))
+    (behind_aside procs p a.0 a.1 (aside_fine procs p n at hidden a.0 a.2) (made_fine procs p callees n at f es (targets_of p.scope xs) a.1 a.3))
   where
     made : Option (List Column) → Option TypedStatement
     made cs = option_and_then (λ ys. both (typed.Call at ys) (procedure_number p f) (named_arguments p n (params_named p f) es)) cs
@@ -199,8 +199,8 @@ mutual
   statement_fine procs p callees before n (tree.Assume at e) ts is =
       one_of procs p [] (typed.Assume at) (named p.scope e) ts (λ x f. record { labels = refl; shaped = refl }) is
   statement_fine procs p callees before n (tree.Havoc at xs) ts is =
-      one_of procs p [] (typed.Havoc at) (columns_of p.scope xs) ts (λ x f. record { labels = refl; shaped = refl }) is
-  statement_fine procs p callees before n (tree.Assign at xs es) ts is = assign_fine procs p at (columns_of p.scope xs) (each (named p.scope) es) ts is
+      one_of procs p [] (typed.Havoc at) (targets_of p.scope xs) ts (λ x f. record { labels = refl; shaped = refl }) is
+  statement_fine procs p callees before n (tree.Assign at xs es) ts is = assign_fine procs p at (targets_of p.scope xs) (each (named p.scope) es) ts is
   statement_fine procs p callees before n (tree.Call at xs f es) ts is = call_fine procs p callees n at xs f es ts is
   statement_fine procs p callees before n (tree.If at g a b) ts is =
       if_fine procs p at (sorted.block_labels a) (sorted.block_labels b) (named_guard p.scope g) (named_block p None n a) (named_block p None (n + hidden_in_block p a) b) ts

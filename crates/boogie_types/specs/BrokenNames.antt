@@ -30,9 +30,16 @@ pub data IsUnknownIn (s : Scope) : Expression → TypeFault → Type 0 where
 pub data AreUnknownIn (s : Scope) : List Expression → TypeFault → Type 0 where
   one_of : (es : List Expression) (e : Expression) (f : TypeFault) → Contains es e → IsUnknownIn s e f → AreUnknownIn s es f
 
--- a name of a list of targets that means nothing there
-pub data IsTargetUnknown (s : Scope) : List Name → TypeFault → Type 0 where
-  unknown_target : (xs : List Name) (x : Name) → Contains xs x → column_of s x.text ≡ None → IsTargetUnknown s xs (fault.Unknown x.span)
+-- a name of the list before it is the same
+abbrev pub IsSecond : List Name → Name → Type 0
+IsSecond xs x =
+    (before : List Name) × (after : List Name) × (y : Name)
+    × (xs ≡ before ++ (x ∷ after)) × Contains before y × (bytes_eq x.text y.text ≡ true)
+
+-- a name of a list of targets that means nothing there, or stands there a second time
+pub data IsTargetWrong (s : Scope) : List Name → TypeFault → Type 0 where
+  unknown_target : (xs : List Name) (x : Name) → Contains xs x → column_of s x.text ≡ None → IsTargetWrong s xs (fault.Unknown x.span)
+  second_target : (xs : List Name) (x : Name) → IsSecond xs x → IsTargetWrong s xs (fault.Twice x.span)
 
 pub data IsGuardUnknown (s : Scope) : Guard → TypeFault → Type 0 where
   in_guard : (e : Expression) (f : TypeFault) → IsUnknownIn s e f → IsGuardUnknown s (Cond e) f
@@ -42,11 +49,11 @@ mutual
   pub data IsMisnamed : Place → Option (List ℕ) → Statement → TypeFault → Type 0 where
     asserted : (p : Place) (before : Option (List ℕ)) (at : Span) (e : Expression) (f : TypeFault) → IsUnknownIn p.scope e f → IsMisnamed p before (Assert at e) f
     assumed : (p : Place) (before : Option (List ℕ)) (at : Span) (e : Expression) (f : TypeFault) → IsUnknownIn p.scope e f → IsMisnamed p before (Assume at e) f
-    chosen : (p : Place) (before : Option (List ℕ)) (at : Span) (xs : List Name) (f : TypeFault) → IsTargetUnknown p.scope xs f → IsMisnamed p before (Havoc at xs) f
-    assigned : (p : Place) (before : Option (List ℕ)) (at : Span) (xs : List Name) (es : List Expression) (f : TypeFault) → IsTargetUnknown p.scope xs f → IsMisnamed p before (Assign at xs es) f
+    chosen : (p : Place) (before : Option (List ℕ)) (at : Span) (xs : List Name) (f : TypeFault) → IsTargetWrong p.scope xs f → IsMisnamed p before (Havoc at xs) f
+    assigned : (p : Place) (before : Option (List ℕ)) (at : Span) (xs : List Name) (es : List Expression) (f : TypeFault) → IsTargetWrong p.scope xs f → IsMisnamed p before (Assign at xs es) f
     valued : (p : Place) (before : Option (List ℕ)) (at : Span) (xs : List Name) (es : List Expression) (f : TypeFault) → AreUnknownIn p.scope es f → IsMisnamed p before (Assign at xs es) f
     unknown_callee : (p : Place) (before : Option (List ℕ)) (at : Span) (xs : List Name) (g : Name) (es : List Expression) → procedure_number p g ≡ None → IsMisnamed p before (Call at xs g es) (fault.Unknown g.span)
-    returned : (p : Place) (before : Option (List ℕ)) (at : Span) (xs : List Name) (g : Name) (es : List Expression) (f : TypeFault) → IsTargetUnknown p.scope xs f → IsMisnamed p before (Call at xs g es) f
+    returned : (p : Place) (before : Option (List ℕ)) (at : Span) (xs : List Name) (g : Name) (es : List Expression) (f : TypeFault) → IsTargetWrong p.scope xs f → IsMisnamed p before (Call at xs g es) f
     passed : (p : Place) (before : Option (List ℕ)) (at : Span) (xs : List Name) (g : Name) (es : List Expression) (f : TypeFault) → AreUnknownIn p.scope es f → IsMisnamed p before (Call at xs g es) f
     branched : (p : Place) (before : Option (List ℕ)) (at : Span) (g : Guard) (a b : Block) (f : TypeFault) → IsGuardUnknown p.scope g f → IsMisnamed p before (If at g a b) f
     in_then : (p : Place) (before : Option (List ℕ)) (at : Span) (g : Guard) (a b : Block) (f : TypeFault) → IsMisnamedIn p None a f → IsMisnamed p before (If at g a b) f
@@ -70,12 +77,6 @@ pub data IsProcedureMisnamed (ds : List Declaration) (p : Procedure) : TypeFault
   required : (i : Invariant) (f : TypeFault) → Contains p.specs (Requires i) → IsUnknownIn (requires_scope (globals_of ds) (map (variable_info true) p.params)) i.cond f → IsProcedureMisnamed ds p f
   ensured : (i : Invariant) (f : TypeFault) → Contains p.specs (Ensures i) → IsUnknownIn (body_scope (globals_of ds) (locals_of p None)) i.cond f → IsProcedureMisnamed ds p f
   in_body : (b : ProcedureBody) (f : TypeFault) → body_of ds p ≡ Some b → IsMisnamedIn (body_place ds p b) None b.stmts f → IsProcedureMisnamed ds p f
-
--- a name of the list before it is the same
-abbrev pub IsSecond : List Name → Name → Type 0
-IsSecond xs x =
-    (before : List Name) × (after : List Name) × (y : Name)
-    × (xs ≡ before ++ (x ∷ after)) × Contains before y × (bytes_eq x.text y.text ≡ true)
 
 -- A rule is broken, and the fault names it and where.
 pub data IsRuleBroken (ds : List Declaration) : TypeFault → Type 0 where

@@ -14,6 +14,7 @@ use Rattle.boogie_tree.specs.declared.tree.Column.TheVariants as columns
 use Rattle.typed_tree.specs.TypedTree as typed
 use Rattle.typed_tree.specs.TypedTree.{TypedExpression, TypedGuard, TypedInvariant, TypedStatement, TypedBlock}
 use Rattle.typed_tree.specs.Scope.{Scope}
+use Rattle.typing_rules.specs.Rules.{all_differ}
 use Rattle.boogie_types.specs.Meanings.{column_of}
 
 -- each of them, where there is one for each
@@ -62,6 +63,10 @@ named_invariant s i = option_map (λ e. record { span = i.span; free = i.free; c
 
 abbrev pub columns_of : Scope → List Name → Option (List Column)
 columns_of s xs = each (λ x. column_of s x.text) xs
+
+-- the columns of targets, of which no two have one name
+abbrev pub targets_of : Scope → List Name → Option (List Column)
+targets_of s xs = if all_differ (λ x y. bytes_eq x.text y.text) xs then columns_of s xs else None
 
 abbrev pub label_number : Place → Name → Option ℕ
 label_number p x = position_from (bytes_eq x.text) 0 p.labels
@@ -144,7 +149,7 @@ abbrev pub named_call : Place → ℕ → Span → List Name → Name → List t
 named_call p n at xs f es =
     both (λ before call. before ++ (call ∷ [])) (put_aside p n at (hidden_arguments (params_named p f) es))
     (option_and_then (λ cs. both (typed.Call at cs) (procedure_number p f) (named_arguments p n (params_named p f) es))
-    (columns_of p.scope xs))
+    (targets_of p.scope xs))
 
 -- the label that a statement is
 abbrev pub label_of : tree.Statement → Option (List ℕ)
@@ -168,9 +173,9 @@ abbrev mutual
   pub named_statement : Place → Option (List ℕ) → ℕ → tree.Statement → Option (List TypedStatement)
   named_statement p before n (tree.Assert at e) = alone (option_map (typed.Assert at) (named p.scope e))
   named_statement p before n (tree.Assume at e) = alone (option_map (typed.Assume at) (named p.scope e))
-  named_statement p before n (tree.Havoc at xs) = alone (option_map (typed.Havoc at) (columns_of p.scope xs))
+  named_statement p before n (tree.Havoc at xs) = alone (option_map (typed.Havoc at) (targets_of p.scope xs))
   named_statement p before n (tree.Assign at xs es) =
-      alone (both (typed.Assign at) (columns_of p.scope xs) (each (named p.scope) es))
+      alone (both (typed.Assign at) (targets_of p.scope xs) (each (named p.scope) es))
   named_statement p before n (tree.Call at xs f es) = named_call p n at xs f es
   named_statement p before n (tree.If at g a b) =
       alone (option_and_then

@@ -7,7 +7,7 @@ use Rattle.typed_tree.specs.declared.fault.TypeFault.TheVariants as fault
 use Rattle.typed_tree.specs.Scope.{Scope}
 use Rattle.std.specs.List.{position_from}
 use Rattle.boogie_types.specs.Naming.{Place, is_before_loop, procedure_number}
-use Rattle.boogie_types.specs.BrokenNames.{IsUnknownIn, AreUnknownIn, IsTargetUnknown, IsGuardUnknown, IsMisnamed, IsMisnamedIn, IsProcedureMisnamed}
+use Rattle.boogie_types.specs.BrokenNames.{IsUnknownIn, AreUnknownIn, IsTargetWrong, IsGuardUnknown, IsMisnamed, IsMisnamedIn, IsProcedureMisnamed}
 
 -- the fault is want of memory, or the rule is broken
 abbrev pub OrMemory : TypeFault → Type 0 → Type 0
@@ -21,7 +21,7 @@ abbrev pub AreExpressionsFault : Scope → List Expression → TypeFault → Typ
 AreExpressionsFault s es f = OrMemory f (AreUnknownIn s es f)
 
 abbrev pub IsTargetsFault : Scope → List Name → TypeFault → Type 0
-IsTargetsFault s xs f = OrMemory f (IsTargetUnknown s xs f)
+IsTargetsFault s xs f = OrMemory f (IsTargetWrong s xs f)
 
 abbrev pub IsGuardFault : Scope → Guard → TypeFault → Type 0
 IsGuardFault s g f = OrMemory f (IsGuardUnknown s g f)
@@ -50,7 +50,7 @@ IsLeavingFault loops (Some x) f = OrMemory f ((position_from (is_before_loop x.t
 -- a name of a call that means nothing there: the procedure, a target, or one of an argument
 pub data IsCallUnknown (p : Place) (xs : List Name) (g : Name) (es : List Expression) : TypeFault → Type 0 where
   callee : procedure_number p g ≡ None → IsCallUnknown p xs g es (fault.Unknown g.span)
-  target : (f : TypeFault) → IsTargetUnknown p.scope xs f → IsCallUnknown p xs g es f
+  target : (f : TypeFault) → IsTargetWrong p.scope xs f → IsCallUnknown p xs g es f
   argument : (f : TypeFault) → AreUnknownIn p.scope es f → IsCallUnknown p xs g es f
 
 abbrev pub IsCallFault : Place → List Name → Name → List Expression → TypeFault → Type 0

@@ -1,25 +1,49 @@
 //! Lists of expressions, targets and conditions with their names replaced.
 
-ghost use Rattle.std.specs.Prelude.{◌≡◌, Some, map, IfOk, IfErr};
+ghost use Rattle.std.specs.Prelude.{◌≡◌, true, Some, map, IfOk, IfErr, IsOk};
+ghost use Rattle.boogie_types.specs.Numbers.{named_by, IsTwiceFault};
+ghost use Rattle.boogie_types.specs.Resolved.{is_set};
 ghost use Rattle.boogie_tree.specs.View as view;
 ghost use Rattle.typed_tree.specs.TypedView as typed;
 ghost use Rattle.typed_tree.specs.Scope.{seen};
-ghost use Rattle.boogie_types.specs.Naming.{each, columns_of, named_guard, named_invariant};
+ghost use Rattle.boogie_types.specs.Naming.{each, columns_of, targets_of, named_guard, named_invariant};
 ghost use Rattle.boogie_types.specs.Naming as naming;
 ghost use Rattle.boogie_types.specs.NamingFaults.{IsExpressionFault, AreExpressionsFault, IsTargetsFault, IsGuardFault, IsInvariantsFault};
 
 use crate::expressions::named;
 use crate::names::Names;
+use crate::numbered::Numbered;
 use boogie_tree::{Expr, Guard, Inv, Name};
-use std::alloc::Global;
+use std::alloc::{AllocError, Global};
 use typed_tree::{Column, TExpr, TGuard, TInv, TypeFault};
 
-/// The columns that names of targets mean.
-pub(crate) fn targets(
-    alloc: Global,
-    names: &Names<'_, '_>,
-    targets: &[Name],
-) -> Result<Vec<Column>, TypeFault>
+/// References to names.
+fn references(alloc: Global, names: &[Name]) -> Result<Vec<&Name>, AllocError>
+    ensures { IfOk result (λ v. named_by v.items ≡ names.now) }
+{
+    let mut references = Vec::with_capacity(alloc, names.len())?;
+    for name in names {
+        references.push(name)?;
+    }
+    Ok(references)
+}
+
+/// Tests that no name stands twice among targets; the first that does is the fault.
+fn differ(alloc: Global, targets: &[Name]) -> Result<(), TypeFault>
+    ensures set { IsOk result → is_set targets.now ≡ true }
+    ensures fault { IfErr result (λ f. IsTwiceFault targets.now f) }
+{
+    // one target needs no map
+    if targets.len() < 2 {
+        return Ok(());
+    }
+    let references = references(alloc, targets)?;
+    let _numbered = Numbered::new(alloc, references)?;
+    Ok(())
+}
+
+/// The columns that names mean.
+fn columns(alloc: Global, names: &Names<'_, '_>, targets: &[Name]) -> Result<Vec<Column>, TypeFault>
     ensures ok { IfOk result (λ v. columns_of (seen names.now.scope) targets.now ≡ Some v.items) }
     ensures fault { IfErr result (λ f. IsTargetsFault (seen names.now.scope) targets.now f) }
 {
@@ -31,6 +55,19 @@ pub(crate) fn targets(
         }
     }
     Ok(columns)
+}
+
+/// The columns that names of targets mean, of which no two have one name.
+pub(crate) fn targets(
+    alloc: Global,
+    names: &Names<'_, '_>,
+    targets: &[Name],
+) -> Result<Vec<Column>, TypeFault>
+    ensures ok { IfOk result (λ v. targets_of (seen names.now.scope) targets.now ≡ Some v.items) }
+    ensures fault { IfErr result (λ f. IsTargetsFault (seen names.now.scope) targets.now f) }
+{
+    differ(alloc, targets)?;
+    columns(alloc, names, targets)
 }
 
 /// Expressions with their names replaced.

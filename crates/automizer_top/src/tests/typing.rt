@@ -5,7 +5,7 @@ use std::alloc::{AllocError, Global};
 use std::test::Fail;
 
 // The rule that is broken, none where all hold, and a program of one line in which `@` stands where it is broken and is left
-// out: before the name, the expression, or the statement where the rule is on its targets. No program is in the first form.
+// out: before the name, the expression, or the statement where the rule is on what it writes. No program is in the first form.
 const PROGRAMS: [(&str, &str); 107] = [
     ("Twice", "var x: int; var @x: int; procedure main() { }"),
     ("Twice", "const c: int; var @c: bool; procedure main() { }"),
@@ -137,8 +137,8 @@ const PROGRAMS: [(&str, &str); 107] = [
         "Mismatch",
         "procedure main() { var x, y: int; @x, y := 1; }",
     ),
-    ("Twice", "procedure main() { var x: int; @x, x := 1, 2; }"),
-    ("Twice", "procedure main() { var x: int; @havoc x, x; }"),
+    ("Twice", "procedure main() { var x: int; x, @x := 1, 2; }"),
+    ("Twice", "procedure main() { var x: int; havoc x, @x; }"),
     (
         "NotAssignable",
         "const c: int; procedure main() { @c := 1; }",
@@ -177,7 +177,7 @@ const PROGRAMS: [(&str, &str); 107] = [
     ),
     (
         "Twice",
-        "procedure p() returns (r: int, s: int); procedure main() { var x: int; @call x, x := p(); }",
+        "procedure p() returns (r: int, s: int); procedure main() { var x: int; call x, @x := p(); }",
     ),
     (
         "NotAssignable",
