@@ -22,7 +22,8 @@ def procedures(count: int) -> str:
 
 
 def variables(count: int) -> str:
-    """Locals of one procedure, each assigned a sum of 150 of them."""
+    """Locals of one procedure, of which there are 1,000 at most, each assigned a sum of 150 of them."""
+    count = count - 1
     names = [f"v{each}" for each in range(count)]
     sums = "".join(
         f"v{target} := " + "+".join(names[(target * 31 + each * 17) % count] for each in range(150)) + ";\n" for target in range(count)
