@@ -4,9 +4,9 @@ use super::check;
 use std::alloc::{AllocError, Global};
 use std::test::Fail;
 
-// The rule that is broken, none where all hold, and a program of one line in which `@` stands where it is broken and is left
+// In each table: the rule that is broken, none where all hold, and a program of one line in which `@` stands where it is broken and is left
 // out: before the name, the expression, or the statement where the rule is on what it writes. No program is in the first form.
-const PROGRAMS: [(&str, &str); 107] = [
+const NAMES: [(&str, &str); 36] = [
     ("Twice", "var x: int; var @x: int; procedure main() { }"),
     ("Twice", "const c: int; var @c: bool; procedure main() { }"),
     ("Twice", "procedure main() { } procedure @main() { }"),
@@ -97,6 +97,9 @@ const PROGRAMS: [(&str, &str); 107] = [
         "",
         "var g: int; procedure main(a: int) requires g == a; { }",
     ),
+];
+
+const TYPES: [(&str, &str); 36] = [
     (
         "Mismatch",
         "const c: int; axiom @old(c) == 0; procedure main() { }",
@@ -175,6 +178,9 @@ const PROGRAMS: [(&str, &str); 107] = [
         "Mismatch",
         "procedure p() returns (r: int); procedure main() { var b: bool; @call b := p(); }",
     ),
+];
+
+const CALLS: [(&str, &str); 35] = [
     (
         "Twice",
         "procedure p() returns (r: int, s: int); procedure main() { var x: int; call x, @x := p(); }",
@@ -286,13 +292,35 @@ fn refused(alloc: Global, rule: &str, marked: &str) -> Result<(String, String), 
     Ok((program, line))
 }
 
-#[test]
-fn typing_faults_come_before_the_form(rt: HostRuntime) -> Result<(), Fail> {
-    for (rule, marked) in PROGRAMS {
-        let (program, line) = refused(rt.alloc(), rule, marked)?;
-        let (written, status) = check(rt.alloc(), program.as_bytes(), b"")?;
-        let right = written.as_str() == line.as_str() && status == 3;
-        assert!(rt; right, "{marked}: {written}");
+/// The first program of a table that `check` answers otherwise, with its answer.
+fn first_wrong(alloc: Global, table: &[(&str, &str)]) -> Result<Option<String>, Fail> {
+    for (rule, marked) in table {
+        let (program, line) = refused(alloc, rule, marked)?;
+        let (written, status) = check(alloc, program.as_bytes(), b"")?;
+        if written.as_str() != line.as_str() || status != 3 {
+            return Ok(Some(format!(in alloc; "{marked}: {written}")?));
+        }
     }
+    Ok(None)
+}
+
+#[test]
+fn names_and_scopes(rt: HostRuntime) -> Result<(), Fail> {
+    let wrong = first_wrong(rt.alloc(), &NAMES)?;
+    assert!(rt; wrong.is_none(), "{wrong:?}");
+    Ok(())
+}
+
+#[test]
+fn types_and_what_is_written(rt: HostRuntime) -> Result<(), Fail> {
+    let wrong = first_wrong(rt.alloc(), &TYPES)?;
+    assert!(rt; wrong.is_none(), "{wrong:?}");
+    Ok(())
+}
+
+#[test]
+fn calls_numbers_and_jumps(rt: HostRuntime) -> Result<(), Fail> {
+    let wrong = first_wrong(rt.alloc(), &CALLS)?;
+    assert!(rt; wrong.is_none(), "{wrong:?}");
     Ok(())
 }
