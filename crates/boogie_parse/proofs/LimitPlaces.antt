@@ -21,7 +21,7 @@ use Rattle.boogie_parse.proofs.LimitFaults.{limit_past}
 
 -- ---- the faults of tokens
 
-abbrev IsOfTokens : Fault → Type 0
+abbrev pub IsOfTokens : Fault → Type 0
 IsOfTokens (faults.Syntax line col) = Unit {0}
 IsOfTokens (faults.Unsupported what line col) = Unit {0}
 IsOfTokens (faults.Limit limits.Literal line col) = Unit {0}
@@ -74,7 +74,7 @@ first_fine (Ok t ∷ found) h = behind t (tokens_or_fault found) (first_fine fou
     behind t (Err f) h = h
 first_fine (Err f ∷ found) h = h.0
 
-lexed_fine : (text : List ℕ) → IfErr (lexed text) IsOfTokens
+pub lexed_fine : (text : List ℕ) → IfErr (lexed text) IsOfTokens
 lexed_fine text = first_fine (found_in 0 (pieces text)) (found_fine 0 (pieces text))
 
 -- ---- the place of a limit

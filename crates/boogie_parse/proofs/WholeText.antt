@@ -14,12 +14,14 @@ use Rattle.boogie_parse.specs.GrammarLimits.{IsInGrammar, IsProgram}
 use Rattle.boogie_parse.specs.ProgramSpelling.{Spells}
 use Rattle.boogie_parse.specs.ListReading.{expression_at}
 use Rattle.boogie_parse.specs.ListViews.{Gives}
-use Rattle.boogie_parse.specs.WholeText.{end_of, read_tokens, read_text, IsOrMemory, IsOutside, IfSyntax, IfLimit, IsLimitAt, IfTokenFault}
+use Rattle.boogie_parse.specs.WholeText.{end_of, read_tokens, read_text, IsOrMemory, IsOutside, IfSyntax, IfLimit, IsLimitAt, IfTokenFault, IsFaultOf}
 use Rattle.boogie_parse.proofs.ConditionSound.{expression_at-sound}
 use Rattle.boogie_parse.proofs.ProgramSound.{program-sound}
 use Rattle.boogie_parse.proofs.ProgramComplete.{program-complete}
 use Rattle.boogie_parse.proofs.SyntaxFaults.{syntax_outside}
-use Rattle.boogie_parse.proofs.LimitPlaces.{limit_at}
+use Rattle.boogie_parse.proofs.LimitPlaces.{IsOfTokens, lexed_fine, limit_at}
+use Rattle.boogie_parse.proofs.ExpressionRefusals.{IsRefusal}
+use Rattle.boogie_parse.proofs.ProgramRefusals.{IsOfPrograms, program_refusals}
 use Rattle.boogie_parse.proofs.TokenFaults.{token_fault}
 
 spelled_is : (text : List ℕ) (ts : List Token) (ds : List Declaration) → lexed text ≡ Ok ts → Spells 200 200 1000 1000 (map symbol ts) ds → IsProgram text ds
@@ -98,3 +100,28 @@ fault_is_of_tokens text (Err faults.Memory) given = tt
 fault_is_of_tokens text (Err (faults.Syntax line col)) given = tt
 fault_is_of_tokens text (Err (faults.Unsupported what line col)) given = token_fault text (faults.Unsupported what line col) (given (λ same. cc))
 fault_is_of_tokens text (Err (faults.Limit which line col)) given = token_fault text (faults.Limit which line col) (given (λ same. cc))
+
+-- ---- what a fault says
+
+reads_no_memory : (end : Span) (r : Result (List Token) Fault) → IfErr r IsOfTokens → read_tokens end r ≡ Err faults.Memory → ⊥
+reads_no_memory end (Ok ts) fine is = subst (λ r. IfErr r (IsRefusal IsOfPrograms)) is (program_refusals end 200 200 1000 1000 (map symbol ts))
+reads_no_memory end (Err f) fine is =
+    let one : f ≡ faults.Memory = cc in
+    subst IsOfTokens one fine
+
+is_no_memory : (text : List ℕ) (f : Fault) → read_text text ≡ Err f → f ≡ faults.Memory → ⊥
+is_no_memory text f is same =
+    let read_memory : read_text text ≡ Err faults.Memory = cc in
+    reads_no_memory (end_of text) (lexed text) (lexed_fine text) read_memory
+
+syntax_said : (text : List ℕ) (f : Fault) → read_text text ≡ Err f → IfSyntax f (IsOutside text)
+syntax_said text (faults.Syntax line col) is = syntax_outside text line col is
+syntax_said text f is = tt
+
+pub fault_says : (text : List ℕ) (f : Fault) → read_text text ≡ Err f → IsFaultOf text f
+fault_says text f is = record {
+  no_memory = is_no_memory text f is;
+  syntax = syntax_said text f is;
+  limits = limit_at text f is;
+  tokens = token_fault text f is;
+}

@@ -1,5 +1,5 @@
 -- Reading whole texts.
-use Rattle.std.specs.Prelude.{◌≡◌, ℕ, ◌<◌, ◌≤◌, List, ◌∷◌, ◌++◌, Result, Ok, Err, map}
+use Rattle.std.specs.Prelude.{◌≡◌, ◌≢◌, ℕ, ◌<◌, ◌≤◌, List, ◌∷◌, ◌++◌, Result, Ok, Err, map}
 use Rattle.std.specs.List.{AllByRecursion}
 use Rattle.boogie_tree.specs.declared.span.Span.{Span}
 use Rattle.boogie_tree.specs.declared.tree.Program.{Program}
@@ -78,3 +78,11 @@ abbrev pub IfTokenFault : Fault → Type 0 → Type 0
 IfTokenFault (faults.Unsupported what line col) P = P
 IfTokenFault (faults.Limit limits.Literal line col) P = P
 IfTokenFault f P = Unit {0}
+
+-- What a fault says that a text is read with: it is no want of memory; Syntax comes only outside the grammar, a limit that the grammar finds only
+-- where each program that begins so is past it, and any other fault only of the tokens.
+pub record IsFaultOf (text : List ℕ) (f : Fault) : Type 0 where
+  pub no_memory : f ≢ faults.Memory
+  pub syntax : IfSyntax f (IsOutside text)
+  pub limits : IfLimit f (IsLimitAt text)
+  pub tokens : IfTokenFault f (lexed text ≡ Err f)

@@ -4,6 +4,7 @@ ghost use Rattle.std.specs.Prelude.{◌≡◌, ℕ, ◌+◌, ◌<◌, ◌≤◌,
 ghost use Rattle.std.specs.List.{AllByRecursion};
 ghost use Rattle.boogie_tree.specs.Tree.{Declaration};
 ghost use Rattle.boogie_tree.specs.View.{program};
+ghost use Rattle.boogie_parse.specs.declared.fault.Fault.{Fault};
 ghost use Rattle.boogie_parse.specs.Lexed.{lexed};
 ghost use Rattle.boogie_parse.specs.GrammarLimits.{IsProgram};
 ghost use Rattle.boogie_parse.specs.ListViews.{Gives};
@@ -11,7 +12,7 @@ ghost use Rattle.boogie_parse.specs.PrintedTokens.{IsSpellableProgram};
 ghost use Rattle.boogie_parse.specs.Respelled.{IsProgramAgain};
 ghost use Rattle.boogie_tree.specs.Printing.{program_text};
 ghost use Rattle.boogie_parse.specs.BodyLengths.{body_length};
-ghost use Rattle.boogie_parse.specs.WholeText.{end_of, read_text, IsOrMemory, IsOutside, IfSyntax, IfLimit, IsLimitAt, IfTokenFault};
+ghost use Rattle.boogie_parse.specs.WholeText.{end_of, read_text, IsOrMemory, IsOutside, IfSyntax, IfLimit, IsLimitAt, IfTokenFault, IsFaultOf};
 
 #[cfg(test)]
 mod tests;
@@ -69,10 +70,12 @@ pub fn one_program_tree()
     ensures { (text : List ℕ) (a b : List Declaration) → IsProgram text a → IsProgram text b → a ≡ b }
 {}
 
-/// What a text is read as is its program by the grammar, within the limits, and the other way round.
+/// What a text is read as is its program by the grammar, within the limits, and the other way round; a fault that it is read with says
+/// why it is none.
 pub fn texts_are_read()
     ensures sound { (text : List ℕ) (ds : List Declaration) → read_text text ≡ Ok ds → IsProgram text ds }
     ensures complete { (text : List ℕ) (ds : List Declaration) → IsProgram text ds → read_text text ≡ Ok ds }
+    ensures faults { (text : List ℕ) (f : Fault) → read_text text ≡ Err f → IsFaultOf text f }
 {}
 
 /// A program has no more statements in a body than its text has bytes.
