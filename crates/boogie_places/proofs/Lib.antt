@@ -1,0 +1,5 @@
+mod Numbers
+mod Closed
+mod Bodies
+mod Numbering
+mod PlaceLaws
