@@ -1,0 +1,11 @@
+use Rattle.proof_form.specs.Refutations.{plain, head, parts}
+use Rattle.proof_form.proofs.PendingLaws.{begins, goes_on}
+use Rattle.proof_form.proofs.refutations.push_refutation.Goals as goal
+
+pub loop-node-init : goal.loop-node-init
+loop-node-init c = begins plain head parts c.args.out.now.items c.new-outer.result.items c.args.nodes.now c.new-outer.ensures.items c.requires
+
+pub loop-node-preserved : goal.loop-node-preserved
+loop-node-preserved c =
+    goes_on plain head parts _ _ _ _ _ _ _ _ _ _ _ _ _ c.loop-node-test.true c.node-item.is c.loop-node.invariant c.in_ok-push_head.ensures c.in_ok-push.ensures.items c.parts.ensures
+    c.in_ok-left.ensures.same c.in_ok-left.ensures.kept c.in_ok-left.ensures.ready

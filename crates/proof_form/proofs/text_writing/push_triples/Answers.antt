@@ -1,0 +1,14 @@
+use Rattle.std.proofs.Common.{ap, ◌++◌, ◌∙◌}
+use Rattle.proof_form.specs.Annotations.{ended}
+use Rattle.proof_form.specs.Lines.{triple, triple_text, is_triple}
+use Rattle.proof_form.proofs.ItemLaws.{item_passes, ended_texts}
+use Rattle.proof_form.proofs.WritingLaws.{all_written}
+use Rattle.proof_form.proofs.text_writing.push_triples.Goals as goal
+
+pub push_triple-requires : goal.push_triple-requires
+push_triple-requires c = item_passes triple is_triple c.args.triples.now c.loop-triple.triple-index c.triple-item.result c.requires c.loop-triple-test.true c.triple-item.is
+
+pub returns : goal.returns
+returns c =
+    all_written (λ t. ended (triple_text (triple t))) _ _ _ _ c.loop-triple-test.false c.loop-triple.invariant
+    ∙ ap (λ t. c.args.out.now.items ++ t) (ended_texts triple triple_text c.args.triples.now)
