@@ -1,1 +1,15 @@
 pub mod RunLaws
+pub mod TypedPoints
+pub mod TypedActions
+pub mod Constants
+pub mod TruthColumns
+pub mod TruthActions
+pub mod TruthRuns
+pub mod Members
+pub mod Puts
+pub mod Going
+pub mod NextLemmas
+pub mod Leaving
+pub mod FrameLemmas
+pub mod FitLemmas
+pub mod ToldLemmas

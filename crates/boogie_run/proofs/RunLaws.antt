@@ -1,5 +1,5 @@
 -- Runs cut at a position.
-use Rattle.std.proofs.Common.{◌≡◌, ℤ, List, [], ◌∷◌, ◌++◌, Option, refl}
+use Rattle.std.proofs.Common.{◌≡◌, ◌∙◌, ap, ℕ, ℤ, List, [], ◌∷◌, ◌++◌, Option, refl}
 use Rattle.typed_tree.specs.TypedTree.{TypedProgram}
 use Rattle.boogie_run.specs.Configurations.{Config}
 use Rattle.boogie_run.specs.Steps.{Outcome, Went, Blocked, Failed, Ended, Refused, step}
@@ -18,3 +18,7 @@ in_pieces Refused whole front rest h = refl
 pub run_cut : (t : TypedProgram) (c : Config) (xs ys : List (Option ℤ)) → run t c (xs ++ ys) ≡ then_goes_on (run t c xs) (λ d. run t d ys)
 run_cut t c [] ys = refl
 run_cut t c (x ∷ xs) ys = in_pieces (step t c x) (λ d. run t d (xs ++ ys)) (λ d. run t d xs) (λ d. run t d ys) (λ d. run_cut t d xs ys)
+
+-- a failed run goes on nowhere
+pub still_failed : (t : TypedProgram) (c : Config) (xs ys : List (Option ℤ)) (i : ℕ) → run t c xs ≡ Failed i → run t c (xs ++ ys) ≡ Failed i
+still_failed t c xs ys i h = run_cut t c xs ys ∙ ap (λ (o : Outcome). then_goes_on o (λ d. run t d ys)) h

@@ -6,7 +6,7 @@ use Rattle.boogie_tree.specs.declared.tree.Column.{Column}
 use Rattle.boogie_tree.specs.declared.tree.Column.TheVariants as columns
 use Rattle.typed_tree.specs.TypedTree.{TypedExpression, Lit, Truth, Var, Old, Not, Neg, Bin, TypedProgram}
 use Rattle.typed_tree.specs.Values.{State, member, at_entry, value, operation_value, PartsFit}
-use Rattle.boogie_run.specs.Actions.{Action, Check, Suppose, Demand, Write, Guess, Test, Pick, Jump, Enter, Keep, Grant, Finish, Leave, action_at}
+use Rattle.boogie_points.specs.Actions.{Action, Check, Suppose, Demand, Write, Guess, Test, Pick, Jump, Enter, Keep, Grant, Finish, Leave, action_at}
 use Rattle.boogie_run.specs.Configurations.{Config, state_of}
 use Rattle.boogie_run.specs.Needs.{locals_at}
 use Rattle.boogie_run.specs.Steps.{passed_state, granted_state}
@@ -20,21 +20,25 @@ abbrev pub ArgumentFits : State → Option TypedExpression → Type 0
 ArgumentFits s None = Unit {0}
 ArgumentFits s (Some e) = PartsFit s e
 
-abbrev pub PassedColumnFits : State → List TypedExpression → Column → Type 0
-PassedColumnFits s args (columns.Global n) = Fits (member s.globals n)
-PassedColumnFits s args (columns.Old n) = Fits (member s.old n)
-PassedColumnFits s args (columns.Local n) = ArgumentFits s (slice_get args n)
+abbrev pub PassedColumnFits : State → List TypedExpression → State → Column → Type 0
+PassedColumnFits s args p (columns.Global n) = Fits (member p.globals n)
+PassedColumnFits s args p (columns.Old n) = Fits (member p.old n)
+PassedColumnFits s args p (columns.Local n) = ArgumentFits s (slice_get args n)
 
--- The value of each part of a requires fits, with the argument in place of each parameter that stands in it.
+-- The value of each part fits, read in the state p, with the argument, read in the state s, in place of each parameter that stands in it.
+abbrev pub PassedPartsFit : State → List TypedExpression → State → TypedExpression → Type 0
+PassedPartsFit s args p (Lit at n) = Fits n
+PassedPartsFit s args p (Truth at b) = Unit {0}
+PassedPartsFit s args p (Var at x) = PassedColumnFits s args p x
+PassedPartsFit s args p (Old at e) = PassedPartsFit s args (at_entry p) e
+PassedPartsFit s args p (Not at e) = PassedPartsFit s args p e
+PassedPartsFit s args p (Neg at e) = PassedPartsFit s args p e × Fits (neg_ℤ (value p e))
+PassedPartsFit s args p (Bin at op a b) =
+    PassedPartsFit s args p a × PassedPartsFit s args p b × Fits (operation_value op (value p a) (value p b))
+
+-- The value of each part of a requires of a called procedure fits.
 abbrev pub PassedFit : State → List TypedExpression → TypedExpression → Type 0
-PassedFit s args (Lit at n) = Fits n
-PassedFit s args (Truth at b) = Unit {0}
-PassedFit s args (Var at x) = PassedColumnFits s args x
-PassedFit s args (Old at e) = PassedFit (at_entry s) args e
-PassedFit s args (Not at e) = PassedFit s args e
-PassedFit s args (Neg at e) = PassedFit s args e × Fits (neg_ℤ (value (passed_state s args) e))
-PassedFit s args (Bin at op a b) =
-    PassedFit s args a × PassedFit s args b × Fits (operation_value op (value (passed_state s args) a) (value (passed_state s args) b))
+PassedFit s args e = PassedPartsFit s args (passed_state s args) e
 
 -- The values that an action reads fit. Arguments are taken by the first step behind the requires; they do not change before the last.
 abbrev pub ActionFits : TypedProgram → Config → Action → Type 0

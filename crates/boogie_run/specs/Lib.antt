@@ -1,7 +1,11 @@
-pub mod Points
-pub mod Actions
 pub mod Configurations
 pub mod Needs
 pub mod Steps
 pub mod Fitting
 pub mod Runs
+pub mod Evaluated
+pub mod Environments
+pub mod RunView
+pub mod ToldActs
+pub mod StepView
+pub mod Laws

@@ -1,12 +1,12 @@
 -- What the next step of a configuration takes.
-use Rattle.std.specs.Prelude.{ℕ, ℤ, pos, negsuc, Bool, true, false, nat_lt, List, [], length, Option, None, Some, slice_get, if◌then◌else◌}
+use Rattle.std.specs.Prelude.{ℕ, ℤ, pos, negsuc, Bool, true, false, not, nat_lt, List, [], length, Option, None, Some, slice_get, if◌then◌else◌}
 use Rattle.boogie_tree.specs.declared.tree.Ty.{Ty}
 use Rattle.boogie_tree.specs.declared.tree.Ty.TheVariants as types
 use Rattle.boogie_tree.specs.declared.tree.Column.{Column}
 use Rattle.boogie_tree.specs.declared.tree.Column.TheVariants as columns
 use Rattle.boogie_tree.specs.declared.tree.VarInfo.{VarInfo}
 use Rattle.typed_tree.specs.TypedTree.{TypedProcedure, TypedProgram}
-use Rattle.boogie_run.specs.Actions.{Action, Guess, Pick, Keep, action_at}
+use Rattle.boogie_points.specs.Actions.{Action, Guess, Pick, Keep, action_at}
 use Rattle.boogie_run.specs.Configurations.{Config}
 
 -- nothing, a whole number, 0 or 1, or a number below n
@@ -62,3 +62,14 @@ is_taken Truth (Some (pos z)) = nat_lt z 2
 is_taken Truth (Some (negsuc z)) = false
 is_taken (Below n) (Some (pos z)) = nat_lt z n
 is_taken (Below n) (Some (negsuc z)) = false
+
+-- a choice is needed, and none is given
+abbrev pub is_missing : Need → Option ℤ → Bool
+is_missing Nothing choice = false
+is_missing n None = true
+is_missing n (Some z) = false
+
+-- a choice is given that the need does not take
+abbrev pub is_refused : Need → Option ℤ → Bool
+is_refused n None = false
+is_refused n (Some z) = not (is_taken n (Some z))

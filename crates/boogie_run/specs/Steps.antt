@@ -2,10 +2,11 @@
 use Rattle.std.specs.Prelude.{ℕ, zero, suc, ℤ, pos, Bool, not, nat_lt, unsigned_abs, List, [], ◌∷◌, ◌++◌, map, length, take, drop, Option, None, Some, slice_get, if◌then◌else◌}
 use Rattle.boogie_tree.specs.declared.tree.Column.{Column}
 use Rattle.boogie_tree.specs.declared.tree.Column.TheVariants as columns
-use Rattle.typed_tree.specs.TypedTree.{TypedExpression, Call, TypedBlock, Then, TypedProcedure, TypedProgram}
+use Rattle.typed_tree.specs.TypedTree.{TypedExpression, TypedProcedure, TypedProgram}
 use Rattle.typed_tree.specs.Values.{State, value, is_zero}
-use Rattle.boogie_run.specs.Points.{Todo, Start, Point, settled, past_first}
-use Rattle.boogie_run.specs.Actions.{Action, Check, Suppose, Demand, Write, Guess, Test, Pick, Jump, Enter, Keep, Grant, Finish, Leave, action_at, first_point, first_assertion, first_place, start_conditions}
+use Rattle.boogie_points.specs.Points.{Point, settled, past_first}
+use Rattle.boogie_points.specs.Actions.{Action, Check, Suppose, Demand, Write, Guess, Test, Pick, Jump, Enter, Keep, Grant, Finish, Leave, action_at}
+use Rattle.boogie_points.specs.Starts.{point_of_call, start_point_of, targets_at}
 use Rattle.boogie_run.specs.Configurations.{Frame, Config, state_of}
 use Rattle.boogie_run.specs.Needs.{need, is_taken, locals_at}
 
@@ -78,14 +79,6 @@ finished t c f targets =
     let ns = modifies_of (slice_get t.procs f) in
     all_written (record c { globals = all_put c.globals ns c.top.kept }) targets (drop (length ns) c.top.kept)
 
-abbrev pub point_of_procedure : TypedProgram → ℕ → TypedProcedure → Option TypedBlock → Point
-point_of_procedure t f q None = settled []
-point_of_procedure t f q (Some b) = first_point q b (first_assertion t.procs f) (first_place t f)
-
-abbrev pub point_of_call : TypedProgram → ℕ → Option TypedProcedure → Point
-point_of_call t f None = settled []
-point_of_call t f (Some q) = point_of_procedure t f q q.body
-
 -- a frame of the called procedure, with the arguments as its first locals
 abbrev pub entered : TypedProgram → Config → ℕ → List ℤ → Config
 entered t c f args =
@@ -94,15 +87,6 @@ entered t c f args =
       top = record { proc = f; locals = args; entry = c.globals; point = point_of_call t f (slice_get t.procs f); kept = [] };
       below = c.top ∷ c.below;
     }
-
--- the targets of the call at which a frame stands
-abbrev pub targets_of_statement : TypedBlock → List Column
-targets_of_statement (Then (Call at cs f es) b) = cs
-targets_of_statement b = []
-
-abbrev pub targets_at : List Todo → List Column
-targets_at [] = []
-targets_at (t ∷ ts) = targets_of_statement t.rest
 
 abbrev pub results_if_any : Option TypedProcedure → List ℤ → List ℤ
 results_if_any None locals = []
@@ -142,15 +126,6 @@ act t c v (Grant f args e next) = if is_true (value (granted_state t c f args) e
 act t c v (Finish f args targets next) = Went (moved_to (finished t c f targets) next)
 act t c v Leave = left t c c.below
 
--- the first point of a run: the first condition that is assumed at the start, or else the first point of the entry
-abbrev pub unless_none : List TypedExpression → Point → Point
-unless_none [] first = first
-unless_none (e ∷ es) first = record { stage = Start; todo = []; part = 0 }
-
-abbrev pub start_point_of : TypedProgram → Option TypedProcedure → Point
-start_point_of t None = settled []
-start_point_of t (Some q) = unless_none (start_conditions t q) (point_of_procedure t t.entry q q.body)
-
 -- the start of a run: nothing is chosen yet, and the entry procedure stands at its first point
 abbrev pub start : TypedProgram → Config
 start t =
@@ -166,7 +141,7 @@ number_of (Some z) = z
 
 -- one more constant or global, which is one at the entry, too
 abbrev pub with_global : Config → ℤ → Config
-with_global c v = record c { globals = c.globals ++ v ∷ []; top = record c.top { entry = c.globals ++ v ∷ [] } }
+with_global c v = record c { globals = c.globals ++ v ∷ []; top = record c.top { entry = c.top.entry ++ v ∷ [] } }
 
 -- one more local
 abbrev pub with_local : Config → ℤ → Config
