@@ -1,0 +1,20 @@
+//! Failures of programs: their texts, written and read, and their replay.
+#![tactic(auto)]
+
+mod causes;
+mod failure;
+pub mod laws;
+mod numerals;
+mod pieces;
+mod reading;
+mod replaying;
+#[cfg(test)]
+mod tests;
+mod writing;
+
+pub use boogie_run::{AssertId, Choice};
+pub use causes::{ReplayCause, ReplayFault};
+pub use failure::{Failure, FailureFault, Trail};
+pub use reading::read_failure;
+pub use replaying::replay;
+pub use writing::write_failure;
