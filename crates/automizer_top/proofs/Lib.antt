@@ -21,5 +21,6 @@ pub mod ProofTextMagnitude
 pub mod ProofTextAfter
 pub mod ProofTextLeaves
 pub mod ProofTextReading
+pub mod ReplayedOnce
 pub mod ReportUnique
 pub mod ParsedNames

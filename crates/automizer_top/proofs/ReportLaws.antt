@@ -17,14 +17,19 @@ use Rattle.boogie_parse.proofs.FirstFormLaws.{well_formed}
 use Rattle.automizer_top.specs.declared.answer.Answer as code
 use Rattle.automizer_top.specs.declared.reporting.Halt.{Halt}
 use Rattle.automizer_top.specs.declared.words.Mode.{Mode}
-use Rattle.automizer_top.specs.declared.words.Mode.TheVariants.{Check, Print}
+use Rattle.automizer_top.specs.declared.words.Mode.TheVariants.{Check, Replay, Print}
 use Rattle.automizer_top.specs.StraightCheck.{Verdict, accepted, syntax, bad_triple, Judges}
+use Rattle.typed_tree.specs.TypedTree.{TypedProgram}
+use Rattle.boogie_types.specs.Resolved.{resolved_program}
+use Rattle.trace_replay.specs.FailureText.{PlainFailure}
+use Rattle.trace_replay.specs.declared.causes.ReplayCause.{ReplayCause}
+use Rattle.trace_replay.specs.declared.causes.ReplayCause.TheVariants as causes
 use Rattle.typed_tree.specs.declared.fault.TypeFault.{TypeFault}
 use Rattle.typed_tree.specs.declared.fault.TypeFault.TheVariants as type_faults
 use Rattle.automizer_top.specs.Refusals.{refusal}
 use Rattle.automizer_top.specs.TypeRefusals.{type_refusal}
 use Rattle.automizer_top.specs.Answers.{answered, Asks, program_name}
-use Rattle.automizer_top.specs.Report.{Answer, answer, program_limit, second_limit, verdict_answer, RefusesProgram, too_long, no_program, ReportsPrint, refused_print, printed, ReportsCheck, refused_check, ill_typed, no_first_form, IsTyped, IsIllTyped, second_too_long, judged, AskCheck, AskPrint, Reports, usage, printing, checked, PrintsProgram, ProgramIsSafe, WhereTold}
+use Rattle.automizer_top.specs.Report.{Answer, answer, program_limit, second_limit, verdict_answer, RefusesProgram, too_long, no_program, ReportsPrint, refused_print, printed, ReportsCheck, refused_check, ill_typed, no_first_form, IsTyped, IsIllTyped, second_too_long, judged, entry, IsTypedText, IsFailureText, ReportsFailure, failure_too_long, no_failure, replayed, stopped, ReportsReplay, refused_replay, ill_typed_replay, of_typed, replayed_answer, stopped_answer, AskCheck, AskReplay, AskPrint, Reports, usage, printing, checked, replaying, PrintsProgram, ProgramIsSafe, ProgramFails, WhereTold}
 use Rattle.automizer_top.proofs.Safety.{refuted_is_safe}
 use Rattle.automizer_top.proofs.PrintedTexts.{begins_otherwise}
 
@@ -81,12 +86,50 @@ pub verdict_reported : (program name text : List ℕ) (ds : List Declaration) (p
 verdict_reported program name text ds p verdict None l w t f h j = tt
 verdict_reported program name text ds p verdict (Some shown) l w t f h j = judged ds p text verdict l w t f h.0 h.1 j refl
 
+-- ---- what is answered to a program text and to a failure
+
+-- the text is no program, whatever the second text
+pub fault_replayed : (program name : List ℕ) (f : Fault) (a : Answer) (texts : Option (List (List ℕ × List ℕ))) → length program ≤ program_limit → read_text program ≡ Err f →
+    a ≡ answer (refusal f) 3 → IfSome texts (λ shown. ReportsReplay program (text_named name shown) a)
+fault_replayed program name f a None l e is = tt
+fault_replayed program name f a (Some shown) l e is = refused_replay (no_program f l e is)
+
+-- the program breaks a typing rule
+pub rule_replayed : (program name : List ℕ) (ds : List Declaration) (f : TypeFault) (a : Answer) (texts : Option (List (List ℕ × List ℕ))) → length program ≤ program_limit → IsProgram program ds →
+    IsIllTyped ds f → a ≡ answer (type_refusal f) 3 → IfSome texts (λ shown. ReportsReplay program (text_named name shown) a)
+rule_replayed program name ds f a None l w broken is = tt
+rule_replayed program name ds f a (Some shown) l w broken is = ill_typed_replay ds f l w broken is
+
+typed_text : (program : List ℕ) (ds : List Declaration) (t : TypedProgram) → length program ≤ program_limit → IsProgram program ds → resolved_program ds entry ≡ Some t → IsTypedText program t
+typed_text program ds t l w e = record { short = l; tree = ds; spelled = w; typed = e }
+
+-- the failure is past its limit
+pub failure_refused : (program name : List ℕ) (ds : List Declaration) (t : TypedProgram) (texts : Option (List (List ℕ × List ℕ))) → length program ≤ program_limit → IsProgram program ds → resolved_program ds entry ≡ Some t →
+    IfSome texts (λ shown. IsSome (text_named name shown) × IfSome (text_named name shown) (λ text. second_limit < length text)) →
+    IfSome texts (λ shown. ReportsReplay program (text_named name shown) (answer (codes "refused TooLong\n") 3))
+failure_refused program name ds t None l w e h = tt
+failure_refused program name ds t (Some shown) l w e h = by_text (text_named name shown) refl h.0 h.1
+  where
+    by_text : (found : Option (List ℕ)) → text_named name shown ≡ found → IsSome found → IfSome found (λ text. second_limit < length text) →
+        ReportsReplay program (text_named name shown) (answer (codes "refused TooLong\n") 3)
+    by_text None d some past = cc
+    by_text (Some text) d some past = of_typed t (typed_text program ds t l w e) (failure_too_long text d past refl)
+
+-- the second text has this outcome
+pub outcome_reported : (program name text : List ℕ) (ds : List Declaration) (t : TypedProgram) (a : Answer) (texts : Option (List (List ℕ × List ℕ))) → length program ≤ program_limit → IsProgram program ds → resolved_program ds entry ≡ Some t →
+    IfSome texts (λ shown. (text_named name shown ≡ Some text) × (length text ≤ second_limit)) → ReportsFailure t (Some text) a →
+    IfSome texts (λ shown. ReportsReplay program (text_named name shown) a)
+outcome_reported program name text ds t a None l w e h r = tt
+outcome_reported program name text ds t a (Some shown) l w e h r =
+    of_typed t (typed_text program ds t l w e) (subst (λ (o : Option (List ℕ)). ReportsFailure t o a) (sym h.0) r)
+
 -- ---- what is answered to words
 
 -- a program text that is past its limit is refused, whatever the words ask for
 too_long_asked : (words : List (List ℕ)) (mode : Mode) (text : List ℕ) (shown : List (List ℕ × List ℕ)) → Asks words mode →
     text_named (program_name mode) shown ≡ Some text → program_limit < length text → Reports words shown (answer (codes "refused TooLong\n") 3)
 too_long_asked words (Check program second) text shown ask e past = checked program.now second.now text ask e (refused_check (too_long past refl))
+too_long_asked words (Replay program second) text shown ask e past = replaying program.now second.now text ask e (refused_replay (too_long past refl))
 too_long_asked words (Print program) text shown ask e past = printing program.now text ask e (refused_print (too_long past refl))
 
 -- the program text is past its limit
@@ -121,6 +164,25 @@ pub check_answered : (words : List (List ℕ)) (mode : Mode) (program second : B
     IfOk r (λ a. IfSome texts (λ shown. Reports words shown (answered a)))
 check_answered words mode program second name text (Ok a) texts ask is same h r = check_reported words mode program second name text (answered a) texts ask is same h r
 check_answered words mode program second name text (Err e) texts ask is same h r = tt
+
+-- the program text was read, and a failure is to be replayed
+replay_reported : (words : List (List ℕ)) (mode : Mode) (program second : Bor (List ℕ)) (name text : List ℕ) (a : Answer) (texts : Option (List (List ℕ × List ℕ))) →
+    Asks words mode → mode ≡ Replay program second → name ≡ program_name mode →
+    IfSome texts (λ shown. (text_named name shown ≡ Some text) × (length text ≤ program_limit)) →
+    IfSome texts (λ shown. ReportsReplay text (text_named second.now shown) a) → IfSome texts (λ shown. Reports words shown a)
+replay_reported words mode program second name text a None ask is same h r = tt
+replay_reported words mode program second name text a (Some shown) ask is same h r =
+    let asked : AskReplay words program.now second.now = subst (Asks words) is ask in
+    let named : name ≡ program.now = same ∙ ap program_name is in
+    replaying program.now second.now text asked (ap (λ (n : List ℕ). text_named n shown) (sym named) ∙ h.0) r
+
+pub replay_answered : (words : List (List ℕ)) (mode : Mode) (program second : Bor (List ℕ)) (name text : List ℕ) (r : Result code.Answer Halt) (texts : Option (List (List ℕ × List ℕ))) →
+    Asks words mode → mode ≡ Replay program second → name ≡ program_name mode →
+    IfSome texts (λ shown. (text_named name shown ≡ Some text) × (length text ≤ program_limit)) →
+    IfOk r (λ a. IfSome texts (λ shown. ReportsReplay text (text_named second.now shown) (answered a))) →
+    IfOk r (λ a. IfSome texts (λ shown. Reports words shown (answered a)))
+replay_answered words mode program second name text (Ok a) texts ask is same h r = replay_reported words mode program second name text (answered a) texts ask is same h r
+replay_answered words mode program second name text (Err e) texts ask is same h r = tt
 
 -- the program text was read, and is to be printed
 pub print_reported : (words : List (List ℕ)) (mode : Mode) (program : Bor (List ℕ)) (name text : List ℕ) (a : Answer) (texts : Option (List (List ℕ × List ℕ))) →
@@ -163,11 +225,26 @@ printed_by : (words : List (List ℕ)) (texts : List (List ℕ × List ℕ)) (pr
 printed_by words texts program text a asked found (refused_print r) zero_status = absurd (refused_is_not_zero text a r zero_status)
 printed_by words texts program text a asked found (printed ds l w is) zero_status = (program, text, ds, asked, found, w)
 
--- an answer of status 0 is a printed program, or is safe
-reports_safe : (words : List (List ℕ)) (texts : List (List ℕ × List ℕ)) (a : Answer) → Reports words texts a → a.status ≡ 0 → PrintsProgram words texts ⊎ ProgramIsSafe words texts
-reports_safe words texts a (usage none no_print is) zero_status = absurd (let e : 4 ≡ 0 = sym (ap (λ (b : Answer). b.status) is) ∙ zero_status in omega arith)
+fails_by : (words : List (List ℕ)) (texts : List (List ℕ × List ℕ)) (program second text : List ℕ) (t : TypedProgram) (a : Answer) → AskReplay words program second →
+    text_named program texts ≡ Some text → IsTypedText text t → ReportsFailure t (text_named second texts) a → a.status ≡ 0 → ProgramFails words texts
+fails_by words texts program second text t a asked found typed (failure_too_long x e past is) zero_status = absurd (let e : 3 ≡ 0 = sym (ap (λ (b : Answer). b.status) is) ∙ zero_status in omega arith)
+fails_by words texts program second text t a asked found typed (no_failure x line e l fault is) zero_status = absurd (let e : 1 ≡ 0 = sym (ap (λ (b : Answer). b.status) is) ∙ zero_status in omega arith)
+fails_by words texts program second text t a asked found typed (replayed x f id e l h r is) zero_status =
+    (program, second, text, x, t, f, id, record { asked = asked; found = found; typed = typed; told = e; read = h; replays = r })
+fails_by words texts program second text t a asked found typed (stopped x f step cause e l h s is) zero_status = absurd (let e : 1 ≡ 0 = sym (ap (λ (b : Answer). b.status) is) ∙ zero_status in omega arith)
+
+replayed_by : (words : List (List ℕ)) (texts : List (List ℕ × List ℕ)) (program second text : List ℕ) (a : Answer) → AskReplay words program second →
+    text_named program texts ≡ Some text → ReportsReplay text (text_named second texts) a → a.status ≡ 0 → ProgramFails words texts
+replayed_by words texts program second text a asked found (refused_replay r) zero_status = absurd (refused_is_not_zero text a r zero_status)
+replayed_by words texts program second text a asked found (ill_typed_replay ds f l w broken is) zero_status = absurd (let e : 3 ≡ 0 = sym (ap (λ (b : Answer). b.status) is) ∙ zero_status in omega arith)
+replayed_by words texts program second text a asked found (of_typed t h of) zero_status = fails_by words texts program second text t a asked found h of zero_status
+
+-- an answer of status 0 is a printed program, or is safe, or fails
+reports_safe : (words : List (List ℕ)) (texts : List (List ℕ × List ℕ)) (a : Answer) → Reports words texts a → a.status ≡ 0 → PrintsProgram words texts ⊎ (ProgramIsSafe words texts ⊎ ProgramFails words texts)
+reports_safe words texts a (usage none no_replay no_print is) zero_status = absurd (let e : 4 ≡ 0 = sym (ap (λ (b : Answer). b.status) is) ∙ zero_status in omega arith)
 reports_safe words texts a (printing program text asked found print) zero_status = inl (printed_by words texts program text a asked found print zero_status)
-reports_safe words texts a (checked program second text asked found check) zero_status = inr (safe_by_check words texts program second text a asked found check zero_status)
+reports_safe words texts a (checked program second text asked found check) zero_status = inr (inl (safe_by_check words texts program second text a asked found check zero_status))
+reports_safe words texts a (replaying program second text asked found replay) zero_status = inr (inr (replayed_by words texts program second text a asked found replay zero_status))
 
 -- `accepted` has `c` as its second byte, and no other answer has
 abbrev second_of : Answer → ℕ
@@ -215,12 +292,24 @@ print_begins : (text : List ℕ) (a : Answer) → ReportsPrint text a → second
 print_begins text a (refused_print r) begin = refused_begins text a r begin
 print_begins text a (printed ds l w is) begin = begins_otherwise ds (sym (ap second_of is) ∙ begin)
 
+failure_begins : (t : TypedProgram) (second : Option (List ℕ)) (a : Answer) → ReportsFailure t second a → second_of a ≡ 99 → ⊥
+failure_begins t second a (failure_too_long x e past is) begin = absurd (let same : 101 ≡ 99 = sym (ap second_of is) ∙ begin in omega arith)
+failure_begins t second a (no_failure x line e l fault is) begin = absurd (let same : 101 ≡ 99 = sym (ap second_of is) ∙ begin in omega arith)
+failure_begins t second a (replayed x f id e l h r is) begin = absurd (let same : 101 ≡ 99 = sym (ap second_of is) ∙ begin in omega arith)
+failure_begins t second a (stopped x f step cause e l h s is) begin = absurd (let same : 101 ≡ 99 = sym (ap second_of is) ∙ begin in omega arith)
+
+replay_begins : (text : List ℕ) (second : Option (List ℕ)) (a : Answer) → ReportsReplay text second a → second_of a ≡ 99 → ⊥
+replay_begins text second a (refused_replay r) begin = refused_begins text a r begin
+replay_begins text second a (ill_typed_replay ds f l w broken is) begin = rule_begins f (sym (ap second_of is) ∙ begin)
+replay_begins text second a (of_typed t h of) begin = failure_begins t second a of begin
+
 -- an answer that begins as `accepted` does is safe
 reports_begin : (words : List (List ℕ)) (texts : List (List ℕ × List ℕ)) (a : Answer) → Reports words texts a → second_of a ≡ 99 → ProgramIsSafe words texts
-reports_begin words texts a (usage none no_print is) begin = absurd (let e : 115 ≡ 99 = sym (ap second_of is) ∙ begin in omega arith)
+reports_begin words texts a (usage none no_replay no_print is) begin = absurd (let e : 115 ≡ 99 = sym (ap second_of is) ∙ begin in omega arith)
 reports_begin words texts a (printing program text asked found print) begin = absurd (print_begins text a print begin)
 reports_begin words texts a (checked program second text asked found check) begin =
     safe_by_check words texts program second text a asked found check (check_begins text (text_named second texts) a check begin)
+reports_begin words texts a (replaying program second text asked found replay) begin = absurd (replay_begins text (text_named second texts) a replay begin)
 
 seam : (b xs : List ℕ) → get_or (b ++ xs) (suc (length b)) 0 ≡ get_or xs 1 0
 seam [] xs = refl
@@ -271,8 +360,8 @@ whole_is_safe words (Some shown) None new a r g = tt
 whole_is_safe words (Some shown) (Some before) new a r taken = λ e.
     reports_begin words shown a r (begins before a.bytes (sym taken ∙ e))
 
--- an answer of status 0 is a printed program, or is safe
+-- an answer of status 0 is a printed program, or is safe, or fails
 pub zero_is_safe : (words : List (List ℕ)) (texts : Option (List (List ℕ × List ℕ))) (a : Answer) → IfSome texts (λ shown. Reports words shown a) → a.status ≡ 0 →
-    IfSome texts (λ shown. PrintsProgram words shown ⊎ ProgramIsSafe words shown)
+    IfSome texts (λ shown. PrintsProgram words shown ⊎ (ProgramIsSafe words shown ⊎ ProgramFails words shown))
 zero_is_safe words None a r z = tt
 zero_is_safe words (Some shown) a r z = reports_safe words shown a r z

@@ -15,8 +15,10 @@ use Rattle.boogie_parse.specs.Straight.{Program}
 use Rattle.boogie_parse.specs.FirstForm.{IsFirstForm}
 use Rattle.boogie_parse.proofs.WholeText.{program_is_read, one_program}
 use Rattle.boogie_parse.proofs.FirstFormLengths.{first_form_is_short}
+use Rattle.typed_tree.specs.TypedTree.{TypedProgram}
 use Rattle.typed_tree.specs.declared.fault.TypeFault.{TypeFault}
 use Rattle.typing_rules.proofs.BrokenLaws.{program_refuted}
+use Rattle.boogie_types.specs.Resolved.{resolved_program}
 use Rattle.boogie_types.proofs.Excluded.{type_faults_exclude}
 use Rattle.automizer_top.specs.declared.proof_text.LeafPart.{LeafPart}
 use Rattle.automizer_top.specs.StraightRows.{Obligation, obligations}
@@ -26,10 +28,11 @@ use Rattle.automizer_top.specs.ProofReading.{leaf_part}
 use Rattle.automizer_top.specs.StraightCheck.{LeafRefutes, AllRefuted, FirstUnrefuted, Verdict, accepted, syntax, bad_triple, Judges}
 use Rattle.automizer_top.specs.LeafTest.{PartsRefute}
 use Rattle.automizer_top.specs.Refusals.{refusal}
-use Rattle.automizer_top.specs.Report.{Answer, answer, program_limit, verdict_answer, RefusesProgram, too_long, no_program, ReportsPrint, refused_print, printed, ReportsCheck, refused_check, ill_typed, no_first_form, second_too_long, judged, entry, IsTyped, IsIllTyped, IsTypingRefusal, AskCheck, AskPrint, Reports, usage, printing, checked}
+use Rattle.automizer_top.specs.Report.{Answer, answer, program_limit, verdict_answer, RefusesProgram, too_long, no_program, ReportsPrint, refused_print, printed, ReportsCheck, refused_check, ill_typed, no_first_form, second_too_long, judged, entry, IsTyped, IsIllTyped, IsTypingRefusal, IsTypedText, ReportsFailure, ReportsReplay, refused_replay, ill_typed_replay, of_typed, AskCheck, AskReplay, AskPrint, Reports, usage, printing, checked, replaying}
 use Rattle.automizer_top.proofs.ProofTextLeaves.{to_end, first_part_read, no_part_at_end}
 use Rattle.automizer_top.proofs.VerdictLaws.{FewRows, AllParts, read_refutes, text_refutes}
 use Rattle.automizer_top.proofs.JudgedLaws.{few_rows, leaves_are}
+use Rattle.automizer_top.proofs.ReplayedOnce.{failure_once}
 
 -- ---- the parts of a line
 
@@ -242,6 +245,23 @@ check_once text second a b (no_first_form es l' w' ty' none is') (ill_typed ds f
 check_once text second a b (second_too_long es p t l' w' ty g e long is') (ill_typed ds f l w broken is) = absurd (not_both_typed text ds es f w w' broken ty)
 check_once text second a b (judged es p t v l' w' ty g e m j is') (ill_typed ds f l w broken is) = absurd (not_both_typed text ds es f w w' broken ty)
 
+-- a text means one typed program at most
+one_typed : (text : List ℕ) (t u : TypedProgram) → IsTypedText text t → IsTypedText text u → u ≡ t
+one_typed text t u h k =
+    same_Some u t (sym k.typed ∙ ap (λ (ds : List Declaration). resolved_program ds entry) (one_program text k.tree h.tree k.spelled h.spelled) ∙ h.typed)
+
+replay_once : (text : List ℕ) (second : Option (List ℕ)) (a b : Answer) → ReportsReplay text second a → ReportsReplay text second b → (a ≡ b) ⊎ BothIllTyped a b
+replay_once text second a b (refused_replay r) (refused_replay r') = inl (refused_once text a b r r')
+replay_once text second a b (refused_replay r) (ill_typed_replay ds f l w broken is) = absurd (program_not_refused text ds a l w r)
+replay_once text second a b (refused_replay r) (of_typed t h of) = absurd (program_not_refused text h.tree a h.short h.spelled r)
+replay_once text second a b (ill_typed_replay ds f l w broken is) (refused_replay r) = absurd (program_not_refused text ds b l w r)
+replay_once text second a b (ill_typed_replay ds f l w broken is) (ill_typed_replay es g l' w' broken' is') = inr ((f, is), (g, is'))
+replay_once text second a b (ill_typed_replay ds f l w broken is) (of_typed t h of) = absurd (not_both_typed text ds h.tree f w h.spelled broken (t, h.typed))
+replay_once text second a b (of_typed t h of) (refused_replay r) = absurd (program_not_refused text h.tree b h.short h.spelled r)
+replay_once text second a b (of_typed t h of) (ill_typed_replay ds f l w broken is) = absurd (not_both_typed text ds h.tree f w h.spelled broken (t, h.typed))
+replay_once text second a b (of_typed t h of) (of_typed u k of') =
+    inl (failure_once t second a b of (subst (λ (v : TypedProgram). ReportsFailure v second b) (one_typed text t u h k) of'))
+
 abbrev second_of : List (List ℕ) → List ℕ
 second_of [] = []
 second_of (x ∷ []) = []
@@ -259,27 +279,53 @@ not_both_asked : (words : List (List ℕ)) (p q r : List ℕ) → AskCheck words
 not_both_asked words p q r c d =
     three_is_not_two (length words) (ap (λ (xs : List (List ℕ)). length xs) c) (ap (λ (xs : List (List ℕ)). length xs) d)
 
+not_both_second : (words : List (List ℕ)) (p q r : List ℕ) → AskReplay words p q → AskPrint words r → ⊥
+not_both_second words p q r c d =
+    three_is_not_two (length words) (ap (λ (xs : List (List ℕ)). length xs) c) (ap (λ (xs : List (List ℕ)). length xs) d)
+
+abbrev first_of : List (List ℕ) → List ℕ
+first_of [] = []
+first_of (x ∷ xs) = x
+
+-- words do not ask for a check and for a replay
+not_checked_and_replayed : (words : List (List ℕ)) (p q r s : List ℕ) → AskCheck words p q → AskReplay words r s → ⊥
+not_checked_and_replayed words p q r s c d =
+    let five : length (first_of words) ≡ 5 = ap (λ (xs : List (List ℕ)). length (first_of xs)) c in
+    let six : length (first_of words) ≡ 6 = ap (λ (xs : List (List ℕ)). length (first_of xs)) d in
+    omega arith
+
+members : (mode p q r s : List ℕ) → mode ∷ p ∷ s ∷ [] ≡ mode ∷ q ∷ r ∷ [] → (p ≡ q) × (s ≡ r)
+members mode p q r s e = (ap second_of e, ap third_of e)
+
 -- The report allows one answer at most, but that any of several broken typing rules may be named.
 pub report_once : (words : List (List ℕ)) (texts : List (List ℕ × List ℕ)) (a b : Answer) → Reports words texts a → Reports words texts b → (a ≡ b) ⊎ (IsTypingRefusal a × IsTypingRefusal b)
-report_once words texts a b (usage none no_print is) (usage none' no_print' is') = inl (is ∙ sym is')
-report_once words texts a b (usage none no_print is) (printing p t asked found print) = absurd (no_print p asked)
-report_once words texts a b (usage none no_print is) (checked p s t asked found check) = absurd (none p s asked)
-report_once words texts a b (printing p t asked found print) (usage none no_print is) = absurd (no_print p asked)
+report_once words texts a b (usage none no_replay no_print is) (usage none' no_replay' no_print' is') = inl (is ∙ sym is')
+report_once words texts a b (usage none no_replay no_print is) (printing p t asked found print) = absurd (no_print p asked)
+report_once words texts a b (usage none no_replay no_print is) (checked p s t asked found check) = absurd (none p s asked)
+report_once words texts a b (usage none no_replay no_print is) (replaying p s t asked found replay) = absurd (no_replay p s asked)
+report_once words texts a b (printing p t asked found print) (usage none no_replay no_print is) = absurd (no_print p asked)
 report_once words texts a b (printing p t asked found print) (printing q u asked' found' print') =
     let words_same : codes "print" ∷ p ∷ [] ≡ codes "print" ∷ q ∷ [] = sym asked ∙ asked' in
     let name : p ≡ q = ap second_of words_same in
     let text : u ≡ t = same_text u t (text_named p texts) (subst (λ (n : List ℕ). text_named n texts ≡ Some u) (sym name) found') found in
     inl (print_once t a b print (subst (λ (x : List ℕ). ReportsPrint x b) text print'))
 report_once words texts a b (printing p t asked found print) (checked q s u asked' found' check) = absurd (not_both_asked words q s p asked' asked)
-report_once words texts a b (checked p s t asked found check) (usage none no_print is) = absurd (none p s asked)
+report_once words texts a b (printing p t asked found print) (replaying q s u asked' found' replay) = absurd (not_both_second words q s p asked' asked)
+report_once words texts a b (checked p s t asked found check) (usage none no_replay no_print is) = absurd (none p s asked)
 report_once words texts a b (checked p s t asked found check) (printing q u asked' found' print) = absurd (not_both_asked words p s q asked asked')
+report_once words texts a b (checked p s t asked found check) (replaying q r u asked' found' replay) = absurd (not_checked_and_replayed words p s q r asked asked')
 report_once words texts a b (checked p s t asked found check) (checked q r u asked' found' check') =
-    let words_same : codes "check" ∷ p ∷ s ∷ [] ≡ codes "check" ∷ q ∷ r ∷ [] = sym asked ∙ asked' in
-    let names : (p ≡ q) × (s ≡ r) = members p s q r words_same in
+    let names : (p ≡ q) × (s ≡ r) = members (codes "check") p q r s (sym asked ∙ asked') in
     let text : u ≡ t = same_text u t (text_named p texts) (subst (λ (n : List ℕ). text_named n texts ≡ Some u) (sym names.0) found') found in
     check_once t (text_named s texts) a b check
     (subst (λ (x : List ℕ). ReportsCheck x (text_named s texts) b) text
     (subst (λ (n : List ℕ). ReportsCheck u (text_named n texts) b) (sym names.1) check'))
-  where
-    members : (p s q r : List ℕ) → codes "check" ∷ p ∷ s ∷ [] ≡ codes "check" ∷ q ∷ r ∷ [] → (p ≡ q) × (s ≡ r)
-    members p s q r e = (ap second_of e, ap third_of e)
+report_once words texts a b (replaying p s t asked found replay) (usage none no_replay no_print is) = absurd (no_replay p s asked)
+report_once words texts a b (replaying p s t asked found replay) (printing q u asked' found' print) = absurd (not_both_second words p s q asked asked')
+report_once words texts a b (replaying p s t asked found replay) (checked q r u asked' found' check) = absurd (not_checked_and_replayed words q r p s asked' asked)
+report_once words texts a b (replaying p s t asked found replay) (replaying q r u asked' found' replay') =
+    let names : (p ≡ q) × (s ≡ r) = members (codes "replay") p q r s (sym asked ∙ asked') in
+    let text : u ≡ t = same_text u t (text_named p texts) (subst (λ (n : List ℕ). text_named n texts ≡ Some u) (sym names.0) found') found in
+    replay_once t (text_named s texts) a b replay
+    (subst (λ (x : List ℕ). ReportsReplay x (text_named s texts) b) text
+    (subst (λ (n : List ℕ). ReportsReplay u (text_named n texts) b) (sym names.1) replay'))

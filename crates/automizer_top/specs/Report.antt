@@ -14,6 +14,13 @@ use Rattle.typed_tree.specs.declared.fault.TypeFault.{TypeFault}
 use Rattle.typed_tree.specs.declared.fault.TypeFault.TheVariants as type_faults
 use Rattle.boogie_types.specs.Resolved.{resolved_program}
 use Rattle.boogie_types.specs.BrokenNames.{IsTypeFault}
+use Rattle.trace_replay.specs.FailureText.{PlainFailure, IsInBounds, failure_text}
+use Rattle.trace_replay.specs.FailureFaults.{IsFirstFault}
+use Rattle.trace_replay.specs.Replays.{IsReplayed}
+use Rattle.trace_replay.specs.ReplayCauses.{StopsAt}
+use Rattle.trace_replay.specs.declared.causes.ReplayCause.{ReplayCause}
+use Rattle.trace_replay.specs.declared.causes.ReplayCause.TheVariants as causes
+use Rattle.boogie_run.specs.declared.types.AssertId.{AssertId}
 use Rattle.automizer_top.specs.Refusals.{refusal}
 use Rattle.automizer_top.specs.TypeRefusals.{type_refusal}
 use Rattle.automizer_top.specs.StraightRun.{IsSafe}
@@ -38,6 +45,10 @@ second_limit = 2 ^ 63 - 1
 abbrev pub AskCheck : List (List ℕ) → List ℕ → List ℕ → Type 0
 AskCheck words program second = words ≡ codes "check" ∷ program ∷ second ∷ []
 
+-- the words ask for a replay of the program of that name with the failure of that name
+abbrev pub AskReplay : List (List ℕ) → List ℕ → List ℕ → Type 0
+AskReplay words program second = words ≡ codes "replay" ∷ program ∷ second ∷ []
+
 -- the words ask for the printing of the program of that name
 abbrev pub AskPrint : List (List ℕ) → List ℕ → Type 0
 AskPrint words program = words ≡ codes "print" ∷ program ∷ []
@@ -52,6 +63,21 @@ abbrev pub verdict_answer : Verdict → Answer
 verdict_answer accepted = answer (codes "accepted\n") 0
 verdict_answer (syntax line) = answer (rejected_line line (codes "Syntax")) 1
 verdict_answer (bad_triple line) = answer (rejected_line line (codes "BadTriple")) 1
+
+abbrev pub cause_name : ReplayCause → List ℕ
+cause_name causes.Blocked = codes "Blocked"
+cause_name causes.Ended = codes "Ended"
+cause_name causes.Short = codes "Short"
+cause_name causes.Number = codes "Number"
+cause_name causes.BadChoice = codes "BadChoice"
+
+-- an assertion fails as the values say
+abbrev pub replayed_answer : AssertId → Answer
+replayed_answer id = answer (codes "replayed assertion " ++ (decimal id.number ++ (codes " line " ++ (decimal id.line ++ 10 ∷ [])))) 0
+
+-- the values do not lead to a failure
+abbrev pub stopped_answer : ℕ → ReplayCause → Answer
+stopped_answer step cause = answer (rejected_line step (cause_name cause)) 1
 
 -- the procedure at which runs begin
 abbrev pub entry : List ℕ
@@ -91,14 +117,47 @@ pub data ReportsCheck (program : List ℕ) (second : Option (List ℕ)) (a : Ans
       IsProgram program ds → IsTyped ds → IsFirstForm ds p → second ≡ Some text → length text ≤ second_limit → Judges p text verdict →
       a ≡ verdict_answer verdict → ReportsCheck program second a
 
--- The report: to words that ask for neither the usage line, to others what the named texts give.
+-- The text is that of a program that keeps the typing rules; this is what it means.
+pub record IsTypedText (program : List ℕ) (t : TypedProgram) : Type 0 where
+  pub short : length program ≤ program_limit
+  pub tree : List Declaration
+  pub spelled : IsProgram program tree
+  pub typed : resolved_program tree entry ≡ Some t
+
+-- The text is that of a failure.
+pub record IsFailureText (text : List ℕ) (f : PlainFailure) : Type 0 where
+  pub bounds : IsInBounds f
+  pub spelled : text ≡ failure_text f
+
+-- What is answered to a program and to the failure that the second name stands for. The cases exclude each other.
+pub data ReportsFailure (t : TypedProgram) (second : Option (List ℕ)) (a : Answer) : Type 0 where
+  failure_too_long : (text : List ℕ) → second ≡ Some text → second_limit < length text → a ≡ answer (codes "refused TooLong\n") 3 →
+      ReportsFailure t second a
+  no_failure : (text : List ℕ) (line : ℕ) → second ≡ Some text → length text ≤ second_limit → IsFirstFault text line →
+      a ≡ answer (rejected_line line (codes "Syntax")) 1 → ReportsFailure t second a
+  replayed : (text : List ℕ) (f : PlainFailure) (id : AssertId) → second ≡ Some text → length text ≤ second_limit → IsFailureText text f →
+      IsReplayed t f.steps f.choices id → a ≡ replayed_answer id → ReportsFailure t second a
+  stopped : (text : List ℕ) (f : PlainFailure) (step : ℕ) (cause : ReplayCause) → second ≡ Some text → length text ≤ second_limit →
+      IsFailureText text f → StopsAt t f.steps f.choices step cause → a ≡ stopped_answer step cause → ReportsFailure t second a
+
+-- What is answered to a program text and to what the second name stands for, where it is to be replayed. The cases exclude each
+-- other. A program that is refused is so whatever the second name stands for.
+pub data ReportsReplay (program : List ℕ) (second : Option (List ℕ)) (a : Answer) : Type 0 where
+  refused_replay : RefusesProgram program a → ReportsReplay program second a
+  ill_typed_replay : (ds : List Declaration) (f : TypeFault) → length program ≤ program_limit → IsProgram program ds → IsIllTyped ds f →
+      a ≡ answer (type_refusal f) 3 → ReportsReplay program second a
+  of_typed : (t : TypedProgram) → IsTypedText program t → ReportsFailure t second a → ReportsReplay program second a
+
+-- The report: to words that ask for none of these the usage line, to others what the named texts give.
 pub data Reports (words : List (List ℕ)) (texts : List (List ℕ × List ℕ)) (a : Answer) : Type 0 where
-  usage : ((program second : List ℕ) → AskCheck words program second → ⊥) → ((program : List ℕ) → AskPrint words program → ⊥) →
-      a ≡ answer usage_line 4 → Reports words texts a
+  usage : ((program second : List ℕ) → AskCheck words program second → ⊥) → ((program second : List ℕ) → AskReplay words program second → ⊥) →
+      ((program : List ℕ) → AskPrint words program → ⊥) → a ≡ answer usage_line 4 → Reports words texts a
   printing : (program text : List ℕ) → AskPrint words program → text_named program texts ≡ Some text → ReportsPrint text a →
       Reports words texts a
   checked : (program second text : List ℕ) → AskCheck words program second →
       text_named program texts ≡ Some text → ReportsCheck text (text_named second texts) a → Reports words texts a
+  replaying : (program second text : List ℕ) → AskReplay words program second →
+      text_named program texts ≡ Some text → ReportsReplay text (text_named second texts) a → Reports words texts a
 
 -- the answer says that a typing rule is broken
 abbrev pub IsTypingRefusal : Answer → Type 0
@@ -121,15 +180,29 @@ pub record AsksForSafe (words : List (List ℕ)) (texts : List (List ℕ × List
 abbrev pub ProgramIsSafe : List (List ℕ) → List (List ℕ × List ℕ) → Type 0
 ProgramIsSafe words texts = (program second text : List ℕ) × (p : Program) × AsksForSafe words texts program second text p
 
+-- The words ask for the replay of a failure of a program, both of which stand in the texts, and its values lead to the failure of
+-- this assertion.
+pub record AsksForFailing (words : List (List ℕ)) (texts : List (List ℕ × List ℕ)) (program second text values : List ℕ) (t : TypedProgram) (f : PlainFailure) (id : AssertId) : Type 0 where
+  pub asked : AskReplay words program second
+  pub found : text_named program texts ≡ Some text
+  pub typed : IsTypedText text t
+  pub told : text_named second texts ≡ Some values
+  pub read : IsFailureText values f
+  pub replays : IsReplayed t f.steps f.choices id
+
+abbrev pub ProgramFails : List (List ℕ) → List (List ℕ × List ℕ) → Type 0
+ProgramFails words texts = (program second text values : List ℕ) × (t : TypedProgram) × (f : PlainFailure) × (id : AssertId)
+    × AsksForFailing words texts program second text values t f id
+
 -- What holds of the texts and of what was taken before, where the shelf and the sink tell these.
 abbrev pub WhereTold : Option (List (List ℕ × List ℕ)) → Option (List ℕ) → (List (List ℕ × List ℕ) → List ℕ → Type 0) → Type 0
 WhereTold texts taken P = IfSome texts (λ shown. IfSome taken (λ before. P shown before))
 
--- The sink has taken all bytes of an answer that the report allows, and the status is that of the answer.
-pub record Answers (words : List (List ℕ)) (texts : List (List ℕ × List ℕ)) (before : List ℕ) (after : Option (List ℕ)) (status : ℕ) (a : Answer) : Type 0 where
+-- The status is that of an answer that the report allows; a sink that tells what it takes has taken all its bytes.
+pub record Answers (words : List (List ℕ)) (texts : List (List ℕ × List ℕ)) (before after : Option (List ℕ)) (status : ℕ) (a : Answer) : Type 0 where
   pub reported : Reports words texts a
   pub status_is : status ≡ a.status
-  pub taken : after ≡ Some (before ++ a.bytes)
+  pub taken : IfSome before (λ bytes. after ≡ Some (bytes ++ a.bytes))
 
 -- The sink has taken nothing, or a front of the bytes of an answer that the report allows.
 abbrev pub TookFront : List (List ℕ) → List (List ℕ × List ℕ) → List ℕ → Option (List ℕ) → Type 0

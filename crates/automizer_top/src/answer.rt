@@ -2,7 +2,7 @@ ghost use Rattle.std.specs.Prelude.{◌≡◌, IfOk};
 ghost use Rattle.std.specs.String.{string_bytes};
 ghost use Rattle.automizer_top.specs.Answers.{answered};
 ghost use Rattle.automizer_top.specs.Refusals.{what_name, which_name, refusal};
-ghost use Rattle.automizer_top.specs.Report.{verdict_answer};
+ghost use Rattle.automizer_top.specs.Report.{cause_name, replayed_answer, verdict_answer};
 ghost use Rattle.automizer_top.specs.TypeRefusals.{rule_line, type_refusal};
 ghost use Rattle.automizer_top.specs.Verdicts.{verdict as pure_verdict};
 
@@ -10,6 +10,7 @@ use crate::check::Verdict;
 use boogie_parse::{Fault, What, Which};
 use boogie_types::{Span, TypeFault};
 use std::alloc::{AllocError, Global};
+use trace_replay::{AssertId, ReplayCause};
 
 /// What the program answers, before it is written.
 #[derive(Debug, Drop)]
@@ -28,6 +29,12 @@ pub(crate) enum Answer {
     Printed(Vec<u8>),
     /// What the proof text gets.
     Judged(Verdict),
+    /// The second text is that of no failure: its first wrong line.
+    NoFailure { line: u64 },
+    /// This assertion fails as the values say.
+    Replayed(AssertId),
+    /// The values do not lead to a failure.
+    Stopped { step: u64, cause: ReplayCause },
 }
 
 impl Answer {
@@ -46,6 +53,12 @@ impl Answer {
             Answer::Form => String::from_str(alloc, "refused Form\n")?,
             Answer::Printed(text) => return Ok(text),
             Answer::Judged(verdict) => verdict_text(alloc, verdict)?,
+            Answer::NoFailure { line } => format!(in alloc; "rejected {line} Syntax\n")?,
+            Answer::Replayed(id) => replayed_text(alloc, id)?,
+            Answer::Stopped { step, cause } => {
+                let name = cause_name(cause);
+                format!(in alloc; "rejected {step} {name}\n")?
+            }
         };
         Ok(line.into_bytes())
     }
@@ -57,8 +70,10 @@ impl Answer {
         match self {
             Answer::Usage => 4,
             Answer::TooLong | Answer::Refused(_) | Answer::IllTyped(_) | Answer::Form => 3,
-            Answer::Printed(_) | Answer::Judged(Verdict::Accepted) => 0,
-            Answer::Judged(Verdict::Syntax(_) | Verdict::BadTriple(_)) => 1,
+            Answer::Printed(_) | Answer::Judged(Verdict::Accepted) | Answer::Replayed(_) => 0,
+            Answer::Judged(Verdict::Syntax(_) | Verdict::BadTriple(_))
+            | Answer::NoFailure { line: _ }
+            | Answer::Stopped { step: _, cause: _ } => 1,
         }
     }
 }
@@ -143,4 +158,25 @@ fn verdict_text(alloc: Global, verdict: Verdict) -> Result<String, AllocError>
         Verdict::Syntax(line) => format!(in alloc; "rejected {line} Syntax\n"),
         Verdict::BadTriple(line) => format!(in alloc; "rejected {line} BadTriple\n"),
     }
+}
+
+/// The name of why a replay stops.
+fn cause_name(cause: ReplayCause) -> &'static str
+    ensures { result.now ≡ cause_name cause }
+{
+    match cause {
+        ReplayCause::Blocked => "Blocked",
+        ReplayCause::Ended => "Ended",
+        ReplayCause::Short => "Short",
+        ReplayCause::Number => "Number",
+        ReplayCause::BadChoice => "BadChoice",
+    }
+}
+
+/// The line of an assertion that fails as the values say.
+fn replayed_text(alloc: Global, id: AssertId) -> Result<String, AllocError>
+    ensures { IfOk result (λ text. string_bytes text ≡ (replayed_answer id).bytes) }
+{
+    let AssertId { number, line } = id;
+    format!(in alloc; "replayed assertion {number} line {line}\n")
 }

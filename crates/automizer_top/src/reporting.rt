@@ -6,7 +6,9 @@ ghost use Rattle.automizer_top.specs.declared.reporting.Halt.TheVariants.{Fault,
 ghost use Rattle.typed_tree.specs.declared.fault.TypeFault.TheVariants as TypeFault;
 ghost use Rattle.automizer_top.specs.Answers.{answered};
 ghost use Rattle.automizer_top.specs.Refusals.{refusal};
-ghost use Rattle.automizer_top.specs.Report.{answer, Reports, ReportsPrint, ReportsCheck, IsTyped, IsIllTyped};
+ghost use Rattle.automizer_top.specs.TypeRefusals.{type_refusal};
+ghost use Rattle.automizer_top.specs.Report.{answer, Reports, ReportsPrint, ReportsCheck, ReportsReplay, ReportsFailure, IsTyped, IsIllTyped};
+ghost use Rattle.typing_rules.specs.TypedParts.{typed_program};
 ghost use Rattle.boogie_tree.specs.View.{program as tree};
 ghost use Rattle.boogie_parse.specs.PrintedTokens.{IsSpellableProgram};
 
@@ -15,9 +17,10 @@ use crate::check::judged;
 use crate::words::{Mode, asked};
 use boogie_parse::{Fault, parse, straight_of};
 use boogie_tree::{Program, print};
-use boogie_types::{TypeFault, resolve};
+use boogie_types::{TypeFault, Typed, resolve};
 use outer_io::{ReadFault, Shelf, read_all};
 use std::alloc::{AllocError, Global};
+use trace_replay::{FailureFault, ReplayFault, read_failure, replay};
 
 /// The most bytes of a program text.
 const PROGRAM_LIMIT: u64 = 1_048_576;
@@ -101,6 +104,17 @@ fn found(fault: TypeFault) -> Result<Option<TypeFault>, AllocError>
     }
 }
 
+/// What is answered to a program that breaks a typing rule.
+fn ill_typed(fault: TypeFault) -> Result<Answer, AllocError>
+    ensures answer { IfOk result (λ a. answered a ≡ answer (type_refusal fault) 3) }
+    ensures no_memory { IfOk result (λ a. fault ≢ TypeFault.Memory) }
+{
+    match fault {
+        TypeFault::Memory => Err(AllocError),
+        fault => Ok(Answer::IllTyped(fault)),
+    }
+}
+
 /// The typing rule that a program breaks; none where they hold.
 fn broken_rule(alloc: Global, program: Program) -> Result<Option<TypeFault>, AllocError>
     requires { IsSpellableProgram (tree program) }
@@ -144,6 +158,52 @@ fn checked<H: Shelf>(
     Ok(Answer::Judged(judged(alloc, &straight, &proof)?))
 }
 
+/// What is answered to a program and to the text of a failure.
+fn outcome(alloc: Global, program: &Typed, text: &[u8]) -> Result<Answer, AllocError>
+    requires { length text.now ≤ SECOND_LIMIT }
+    ensures { IfOk result (λ a. ReportsFailure (typed_program program.now) (Some text.now) (answered a)) }
+{
+    let failure = match read_failure(alloc, text) {
+        Ok(failure) => failure,
+        Err(FailureFault::Syntax { line }) => return Ok(Answer::NoFailure { line }),
+        Err(FailureFault::Memory) => return Err(AllocError),
+    };
+    match replay(alloc, program, &failure.trail) {
+        Ok(id) => Ok(Answer::Replayed(id)),
+        Err(ReplayFault::At { step, cause }) => Ok(Answer::Stopped { step, cause }),
+        Err(ReplayFault::Memory) => Err(AllocError),
+    }
+}
+
+/// What is answered to a program text and to the failure in the text of that name.
+fn replayed<H: Shelf>(
+    alloc: Global,
+    shelf: &mut H,
+    text: &[u8],
+    second: &str,
+) -> Result<Answer, Halt>
+    requires { length text.now ≤ PROGRAM_LIMIT }
+    ensures texts { H.texts shelf.new ≡ H.texts shelf.old }
+    ensures reported { IfOk result (λ a. IfSome (H.texts shelf.old) (λ shown.
+        ReportsReplay text.now (text_named second.now shown) (answered a))) }
+    ensures fault { result ≡ Err Halt.Fault → Rose (H.faults shelf.old) (H.faults shelf.new) }
+    ensures no_fault { result ≢ Err Halt.Fault → H.faults shelf.new ≡ H.faults shelf.old }
+    ensures never_falls { H.faults shelf.old ≤ H.faults shelf.new }
+{
+    let program = match parse(alloc, text) {
+        Ok(program) => program,
+        Err(fault) => return Ok(refused(fault)?),
+    };
+    let typed = match resolve(alloc, program, ENTRY) {
+        Ok(typed) => typed,
+        Err(fault) => return Ok(ill_typed(fault)?),
+    };
+    let Some(failure) = text_within(alloc, shelf, second, SECOND_LIMIT)? else {
+        return Ok(Answer::TooLong);
+    };
+    Ok(outcome(alloc, &typed, &failure)?)
+}
+
 /// What the program answers to its words: its report.
 pub(crate) fn reported<H: Shelf>(
     alloc: Global,
@@ -166,5 +226,6 @@ pub(crate) fn reported<H: Shelf>(
     match mode {
         Mode::Print { program: _ } => Ok(printed(alloc, &text)?),
         Mode::Check { program: _, second } => checked(alloc, shelf, &text, second),
+        Mode::Replay { program: _, second } => replayed(alloc, shelf, &text, second),
     }
 }

@@ -1,7 +1,7 @@
 ghost use Rattle.std.specs.Prelude.{◌≡◌, ◌≢◌, ◌<◌, ◌++◌, ℕ, List, ◌⊎◌, Some, map, codes, IfSome};
 ghost use Rattle.std.specs.String.{string_bytes};
 ghost use Rattle.outer_io.specs.Faults.{Rose};
-ghost use Rattle.automizer_top.specs.Report.{Answer, Answers, Reports, WhereTold, TookFront, PrintsProgram, ProgramIsSafe, IsTypingRefusal};
+ghost use Rattle.automizer_top.specs.Report.{Answer, Answers, Reports, WhereTold, TookFront, PrintsProgram, ProgramIsSafe, ProgramFails, IsTypingRefusal};
 
 use crate::reporting::{Halt, reported};
 use outer_io::{Shelf, Sink, write_all};
@@ -22,14 +22,15 @@ pub fn run<R, H: Shelf, K: Sink>(
     shelf: &mut H,
     sink: &mut K,
 ) -> u8
-    // Where no call on the outside failed and memory did not run out, the bytes and the status are those of the report.
+    // Where no call on the outside failed and memory did not run out, the status is that of the report, and so are the bytes.
     ensures report { (Rose (H.faults shelf.old) (H.faults shelf.new) → ⊥) → (Rose (K.faults sink.old) (K.faults sink.new) → ⊥) → result ≢ 6 →
-        WhereTold (H.texts shelf.old) (K.taken sink.old) (λ shown before. (a : Answer) ×
-        Answers (map string_bytes words.now) shown before (K.taken sink.new) result a) }
+        IfSome (H.texts shelf.old) (λ shown. (a : Answer) ×
+        Answers (map string_bytes words.now) shown (K.taken sink.old) (K.taken sink.new) result a) }
 
-    // Status 0 says that a program was printed, or that none of its runs fails an assertion. `accepted` says the latter.
+    // Status 0 says that a program was printed, that none of its runs fails an assertion, or that one was replayed that does.
+    // `accepted` says the second.
     ensures accepted_is_safe { result ≡ 0 → IfSome (H.texts shelf.old) (λ shown.
-        PrintsProgram (map string_bytes words.now) shown ⊎ ProgramIsSafe (map string_bytes words.now) shown) }
+        PrintsProgram (map string_bytes words.now) shown ⊎ (ProgramIsSafe (map string_bytes words.now) shown ⊎ ProgramFails (map string_bytes words.now) shown)) }
     ensures accepted_text_is_safe { WhereTold (H.texts shelf.old) (K.taken sink.old) (λ shown before.
         K.taken sink.new ≡ Some (before ++ codes "accepted\n") → ProgramIsSafe (map string_bytes words.now) shown) }
 

@@ -3,6 +3,7 @@ use outer_io::{MemShelf, MemSink};
 use std::alloc::{AllocError, Global};
 use std::test::Fail;
 
+mod replaying;
 mod typing;
 
 const INCREMENT: &str = "procedure main() {\n  var x: int;\n  x := 1;\n  assert x >= 1;\n}\n";
@@ -31,13 +32,33 @@ fn all_words(alloc: Global, words: &[&str]) -> Result<Vec<String>, AllocError> {
     Ok(all)
 }
 
-/// What `check p q` writes, in pieces of at most 7 bytes, and its status.
-fn check(alloc: Global, program: &[u8], proof: &[u8]) -> Result<(String, u8), Fail> {
-    let words = all_words(alloc, &["check", "p", "q"])?;
-    let mut shelf = MemShelf::new(texts(alloc, program, proof)?, 7, Vec::new(alloc));
+/// What these words write where `p` and `q` are these texts, in pieces of at most 7 bytes, and the status.
+fn written(
+    alloc: Global,
+    words: &[String],
+    program: &[u8],
+    second: &[u8],
+) -> Result<(String, u8), Fail> {
+    let mut shelf = MemShelf::new(texts(alloc, program, second)?, 7, Vec::new(alloc));
     let mut sink = MemSink::new(alloc, 7, Vec::new(alloc));
-    let status = run(&(), alloc, &words, &mut shelf, &mut sink);
+    let status = run(&(), alloc, words, &mut shelf, &mut sink);
     Ok((String::from_utf8(sink.taken().to_vec(alloc)?)?, status))
+}
+
+/// What this mode writes of `p` and `q`, and its status.
+fn answered(
+    alloc: Global,
+    mode: &str,
+    program: &[u8],
+    second: &[u8],
+) -> Result<(String, u8), Fail> {
+    let words = all_words(alloc, &[mode, "p", "q"])?;
+    written(alloc, &words, program, second)
+}
+
+/// What `check p q` writes, and its status.
+fn check(alloc: Global, program: &[u8], proof: &[u8]) -> Result<(String, u8), Fail> {
+    answered(alloc, "check", program, proof)
 }
 
 #[test]
@@ -136,6 +157,11 @@ fn words_and_devices(rt: HostRuntime) -> Result<(), Fail> {
         ("check", "p", "", 0, 0, "", 5),
         ("check", "other", "q", 0, 0, "", 5),
         ("verify", "p", "q", 0, 0, usage, 4),
+        ("replay", "p", "q", 0, 0, "rejected 1 Syntax\n", 1),
+        ("replay", "p", "", 0, 0, "", 5),
+        ("replay", "other", "q", 0, 0, "", 5),
+        ("replay", "p", "q", 12, 0, "", 5),
+        ("replay", "p", "q", 0, 2, "rejecte", 5),
         ("p", "check", "q", 0, 0, usage, 4),
         ("check", "p", "q", 1, 0, "", 5),
         ("check", "p", "q", 2, 0, "", 5),
@@ -154,6 +180,7 @@ fn words_and_devices(rt: HostRuntime) -> Result<(), Fail> {
     }
     for (words, output, status) in [
         (["check", "p"].as_slice(), usage, 4),
+        (["replay", "p"].as_slice(), usage, 4),
         (["print"].as_slice(), usage, 4),
         (["print", "p", "q"].as_slice(), usage, 4),
         (["verify", "p"].as_slice(), usage, 4),

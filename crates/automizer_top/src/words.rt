@@ -1,4 +1,4 @@
-ghost use Rattle.std.specs.Prelude.{◌≡◌, ℕ, List, map, MatchOption};
+ghost use Rattle.std.specs.Prelude.{◌≡◌, ◌∷◌, [], ℕ, List, map, MatchOption};
 ghost use Rattle.std.specs.String.{string_bytes};
 ghost use Rattle.automizer_top.specs.Answers.{Asks, AsksNothing, program_name};
 
@@ -7,6 +7,8 @@ ghost use Rattle.automizer_top.specs.Answers.{Asks, AsksNothing, program_name};
 pub(crate) enum Mode<'a> {
     /// `check PROGRAM SECOND`
     Check { program: &'a str, second: &'a str },
+    /// `replay PROGRAM SECOND`
+    Replay { program: &'a str, second: &'a str },
     /// `print PROGRAM`
     Print { program: &'a str },
 }
@@ -17,8 +19,23 @@ impl<'a> Mode<'a> {
         ensures { result.now ≡ program_name self.now }
     {
         match self {
-            Mode::Check { program, second: _ } | Mode::Print { program } => program,
+            Mode::Check { program, second: _ }
+            | Mode::Replay { program, second: _ }
+            | Mode::Print { program } => program,
         }
+    }
+}
+
+/// What a mode with two names asks for.
+fn asked_of_two<'a>(mode: &str, program: &'a str, second: &'a str) -> Option<Mode<'a>>
+    ensures { MatchOption result
+        (AsksNothing (mode.now ∷ program.now ∷ second.now ∷ []))
+        (λ m. Asks (mode.now ∷ program.now ∷ second.now ∷ []) m) }
+{
+    match mode {
+        "check" => Some(Mode::Check { program, second }),
+        "replay" => Some(Mode::Replay { program, second }),
+        _ => None,
     }
 }
 
@@ -29,10 +46,7 @@ pub(crate) fn asked(words: &[String]) -> Option<Mode<'_>>
         (λ mode. Asks (map string_bytes words.now) mode) }
 {
     match words {
-        [mode, program, second] if mode.as_str() == "check" => Some(Mode::Check {
-            program: program.as_str(),
-            second: second.as_str(),
-        }),
+        [mode, program, second] => asked_of_two(mode.as_str(), program.as_str(), second.as_str()),
         [mode, program] if mode.as_str() == "print" => Some(Mode::Print {
             program: program.as_str(),
         }),

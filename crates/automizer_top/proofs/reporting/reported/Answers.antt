@@ -1,7 +1,7 @@
 use Rattle.std.proofs.Common.{map}
 use Rattle.std.specs.String.{string_bytes}
 use Rattle.automizer_top.specs.Answers.{answered}
-use Rattle.automizer_top.proofs.ReportLaws.{program_reported, check_answered, print_reported}
+use Rattle.automizer_top.proofs.ReportLaws.{program_reported, check_answered, replay_answered, print_reported}
 use Rattle.automizer_top.proofs.reporting.reported.Goals as goal
 
 pub returns-in_default-2-clause-reported : goal.returns-in_default-2-clause-reported
@@ -16,9 +16,16 @@ returns-in-Print-clause-reported g c =
     (rw c.in-Some-2.is at c.in_ok-text.ensures.found)
     (rw (← c.deref.ensures.value) c.in_ok-printed-in-Print.ensures)
 
-pub returns-clause-reported : goal.returns-clause-reported
-returns-clause-reported g c =
+pub returns-in-Check-clause-reported : goal.returns-in-Check-clause-reported
+returns-in-Check-clause-reported g c =
     check_answered (map string_bytes c.args.words.now) c.in-Some.mode c.in-Check.program c.in-Check.second c.program.result.now c.in-Some-2.text.items c.checked.result
     (g.H.Shelf.texts c.args.shelf.now) c.in-Some.ensures c.in-Check.is c.program.ensures
     (rw c.in-Some-2.is at c.in_ok-text.ensures.found)
     (rw (← c.in_ok-text.ensures.texts, ← c.deref-in-Check.ensures.value) c.checked.ensures.reported)
+
+pub returns-clause-reported : goal.returns-clause-reported
+returns-clause-reported g c =
+    replay_answered (map string_bytes c.args.words.now) c.in-Some.mode c.in-Replay.program c.in-Replay.second c.program.result.now c.in-Some-2.text.items c.replayed.result
+    (g.H.Shelf.texts c.args.shelf.now) c.in-Some.ensures c.in-Replay.is c.program.ensures
+    (rw c.in-Some-2.is at c.in_ok-text.ensures.found)
+    (rw (← c.in_ok-text.ensures.texts, ← c.deref-in-Replay.ensures.value) c.replayed.ensures.reported)

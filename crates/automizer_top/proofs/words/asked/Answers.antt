@@ -6,8 +6,7 @@ pub returns-in-len3 : goal.returns-in-len3
 returns-in-len3 c =
     let words : c.args.words.now ≡ c.mode-item-then-words-lt4.result ∷ c.program-item-then-words-lt4.result ∷ c.second-item.result ∷ [] =
     three_of c.args.words.now c.mode-item-then-words-lt4.result c.program-item-then-words-lt4.result c.second-item.result c.in-len3.len_at_least c.in-len3.len_below c.mode-item-then-words-lt4.is c.program-item-then-words-lt4.is c.second-item.is in
-    let mode : c.as_str-then-words-lt4.result.now ≡ 99 ∷ 104 ∷ 101 ∷ 99 ∷ 107 ∷ [] = search rules in
-    rw (words, ← c.as_str-then-words-lt4.ensures.value, mode, c.as_str-in-len3.ensures.value, c.as_str-in-len3-2.ensures.value) refl
+    rw (words, ← c.as_str-in-len3.ensures.value, ← c.as_str-in-len3-2.ensures.value, ← c.as_str-in-len3-3.ensures.value) c.asked_of_two.ensures
 
 pub returns-in-len2 : goal.returns-in-len2
 returns-in-len2 c =
