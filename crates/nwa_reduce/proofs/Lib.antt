@@ -1,0 +1,17 @@
+pub mod ListLemmas
+pub mod NameLemmas
+pub mod WayLemmas
+pub mod ImageLemmas
+pub mod SearchLemmas
+pub mod StepLemmas
+pub mod TrimLemmas
+pub mod CollectLemmas
+pub mod MadeLemmas
+pub mod MarkLemmas
+pub mod OrderLemmas
+pub mod TestLemmas
+pub mod NumberLemmas
+pub mod ClassLemmas
+pub mod VectorLemmas
+pub mod MergeLemmas
+pub mod ReduceLemmas

@@ -1,0 +1,141 @@
+-- Names of states.
+use Rattle.std.proofs.Common.{◌≡◌, ◌∙◌, ◌⊎◌, ◌↔◌, ◌<◌, ◌≤◌, ◌+◌, ℕ, Bool, true, false, cond, List, [], ◌∷◌, ◌++◌, Option, None, Some, length, take, get_or, slice_get, refl, sym, ap, subst, inl, inr, eqb, arith, length-append}
+use Rattle.std.specs.Prelude.{position}
+use Rattle.std.proofs.lemmas.Bool.{eqb-true}
+use Rattle.std.proofs.lemmas.List.{take_more, take_all}
+use Rattle.std.proofs.lemmas.List.Quantifiers.{position-Some}
+use Rattle.nwa_base.specs.Members.{Member}
+use Rattle.nwa_base.proofs.MemberLemmas.{member_front, member_rest, member_split}
+use Rattle.nwa_reduce.specs.Naming.{AreDistinct, name_at, named, IsOrder, IsIndex}
+use Rattle.nwa_reduce.proofs.ListLemmas.{get_push, get_at, past_end, same_some, only_member, distinct_insert, insert_old, insert_new, insert_either}
+
+-- of the first states those that are reached are kept
+pub record IsOrderTo (reached front kept : List ℕ) : Type 0 where
+  pub distinct : AreDistinct kept
+  pub has : (q : ℕ) → Member kept q ↔ (Member reached q × Member front q)
+
+pub order_none : (reached kept : List ℕ) → kept ≡ [] → IsOrderTo reached [] kept
+order_none reached kept e = record {
+  distinct = subst AreDistinct (sym e) tt;
+  has = λ q. (λ h. absurd (subst (λ (l : List ℕ). Member l q) e h), λ h. absurd h.1);
+}
+
+skipped : (reached xs kept : List ℕ) (x : ℕ) → (Member reached x → ⊥) → IsOrderTo reached xs kept → IsOrderTo reached (xs ++ x ∷ []) kept
+skipped reached xs kept x n h = record {
+  distinct = h.distinct;
+  has = λ q. (
+    λ m. let r = (h.has q).0 m in (r.0, member_front xs (x ∷ []) q r.1),
+    λ m.
+        elim (member_split xs (x ∷ []) q m.1) [
+          | inl a ↦ (h.has q).1 (m.0, a)
+          | inr b ↦ absurd (n (subst (Member reached) (sym (only_member x q b)) m.0))
+        ],
+  );
+}
+
+put : (b : Bool) (reached xs kept new : List ℕ) (x : ℕ) → Member reached x → (b ≡ true → Member kept x) → (b ≡ false → Member kept x → ⊥) →
+    new ≡ cond b kept (kept ++ x ∷ []) → IsOrderTo reached xs kept → IsOrderTo reached (xs ++ x ∷ []) new
+put b reached xs kept new x r t n e h = record {
+  distinct = distinct_insert b kept new x n h.distinct e;
+  has = λ q. (
+    λ m.
+        elim (insert_either b kept new x q e m) [
+          | inl a ↦ let k = (h.has q).0 a in (k.0, member_front xs (x ∷ []) q k.1)
+          | inr i ↦ (subst (Member reached) i r, member_rest xs (x ∷ []) q (inl i))
+        ],
+    λ m.
+        elim (member_split xs (x ∷ []) q m.1) [
+          | inl a ↦ insert_old b kept new x q e ((h.has q).1 (m.0, a))
+          | inr a ↦ insert_new b kept new x q t e (only_member x q a)
+        ],
+  );
+}
+
+pub order_skips : (reached xs kept : List ℕ) (i d : ℕ) → i < length xs → (Member reached (get_or xs i d) → ⊥) → IsOrderTo reached (take i xs) kept →
+    IsOrderTo reached (take (i + 1) xs) kept
+order_skips reached xs kept i d l n h =
+    subst (λ (f : List ℕ). IsOrderTo reached f kept) (sym (take_more xs i d l)) (skipped reached (take i xs) kept (get_or xs i d) n h)
+
+pub order_puts : (b : Bool) (reached xs kept new : List ℕ) (i d : ℕ) → i < length xs → Member reached (get_or xs i d) →
+    (b ≡ true → Member kept (get_or xs i d)) → (b ≡ false → Member kept (get_or xs i d) → ⊥) →
+    new ≡ cond b kept (kept ++ get_or xs i d ∷ []) → IsOrderTo reached (take i xs) kept → IsOrderTo reached (take (i + 1) xs) new
+order_puts b reached xs kept new i d l r t n e h =
+    subst (λ (f : List ℕ). IsOrderTo reached f new) (sym (take_more xs i d l)) (put b reached (take i xs) kept new (get_or xs i d) r t n e h)
+
+-- the start last, unless it stands there
+pub order_whole : (b : Bool) (start : ℕ) (reached ending kept new : List ℕ) (i : ℕ) → length ending ≤ i →
+    (b ≡ true → Member kept start) → (b ≡ false → Member kept start → ⊥) → new ≡ cond b kept (kept ++ start ∷ []) →
+    IsOrderTo reached (take i ending) kept → IsOrder start reached ending new
+order_whole b start reached ending kept new i l t n e h =
+    let g = subst (λ (f : List ℕ). IsOrderTo reached f kept) (take_all i ending l) h in
+    record {
+      distinct = distinct_insert b kept new start n g.distinct e;
+      has = λ q. (
+        λ m. elim (insert_either b kept new start q e m) [ inl a ↦ inr ((g.has q).0 a) | inr i ↦ inl (sym i) ],
+        λ m. elim m [ inl i ↦ insert_new b kept new start q t e (sym i) | inr a ↦ insert_old b kept new start q e ((g.has q).1 a) ],
+      );
+    }
+
+pub index_none : (kept : List ℕ) (names : List (Option ℕ)) → names ≡ [] → IsIndex kept names
+index_none kept names e = record {
+  named = λ q x g. absurd (let f : None ≡ Some (Some x) = subst (λ (l : List (Option ℕ)). slice_get l q ≡ Some (Some x)) e g in cc);
+  unnamed = λ q g m. (let f : None ≡ Some None = subst (λ (l : List (Option ℕ)). ◌≡◌ {A = Option (Option ℕ)} (slice_get l q) (Some None)) e g in cc);
+}
+
+pub index_some : (kept : List ℕ) (names new : List (Option ℕ)) (q x : ℕ) → IsIndex kept names → length names ≡ q → slice_get kept x ≡ Some q →
+    new ≡ names ++ Some x ∷ [] → IsIndex kept new
+index_some kept names new q x h l k e = record {
+  named = λ p y g.
+      elim (get_push names (Some x) p (Some y) (subst (λ (s : List (Option ℕ)). slice_get s p ≡ Some (Some y)) e g)) [
+        | inl o ↦ h.named p y o
+        | inr o ↦
+            let i : x ≡ y = same_some x y o.1 in
+            let j : q ≡ p = sym l ∙ sym o.0 in
+            subst (λ (z : ℕ). slice_get kept y ≡ Some z) j (subst (λ (z : ℕ). slice_get kept z ≡ Some q) i k)
+      ];
+  unnamed = λ p g m.
+      elim (get_push names (Some x) p None (subst (λ (s : List (Option ℕ)). slice_get s p ≡ Some None) e g)) [
+        | inl o ↦ h.unnamed p o m
+        | inr o ↦ let f : Some x ≡ None = o.1 in cc
+      ];
+}
+
+pub index_skips : (kept : List ℕ) (names new : List (Option ℕ)) (q : ℕ) → IsIndex kept names → length names ≡ q → (Member kept q → ⊥) →
+    new ≡ names ++ None ∷ [] → IsIndex kept new
+index_skips kept names new q h l n e = record {
+  named = λ p y g.
+      elim (get_push names None p (Some y) (subst (λ (s : List (Option ℕ)). slice_get s p ≡ Some (Some y)) e g)) [
+        | inl o ↦ h.named p y o
+        | inr o ↦ let f : None ≡ Some y = o.1 in cc
+      ];
+  unnamed = λ p g m.
+      elim (get_push names None p None (subst (λ (s : List (Option ℕ)). slice_get s p ≡ Some None) e g)) [
+        | inl o ↦ h.unnamed p o m
+        | inr o ↦ n (subst (Member kept) (o.0 ∙ l) m)
+      ];
+}
+
+-- the place of a state in the list
+pub place_at : (kept : List ℕ) (q x : ℕ) → Some x ≡ position (eqb q) kept → slice_get kept x ≡ Some q
+place_at kept q x e =
+    let r = position-Some (eqb q) kept x 0 (sym e) in
+    get_at kept x 0 r.0 ∙ ap (λ (z : ℕ). Some z) (sym (eqb-true q (get_or kept x 0) r.1))
+
+name_of_at : (o : Option (Option ℕ)) (x : ℕ) → name_at o ≡ Some x → o ≡ Some (Some x)
+name_of_at None x e = let f : None ≡ Some x = e in cc
+name_of_at (Some o) x e = ap (λ (z : Option ℕ). Some z) e
+
+pub name_of : (names : List (Option ℕ)) (q x : ℕ) → named names q ≡ Some x → slice_get names q ≡ Some (Some x)
+name_of names q x e = name_of_at (slice_get names q) x e
+
+no_name_at : (o : Option (Option ℕ)) → name_at o ≡ None → (o ≡ None) ⊎ (o ≡ Some None)
+no_name_at None e = inl refl
+no_name_at (Some o) e = inr (ap (λ (z : Option ℕ). Some z) e)
+
+-- where a state below the length has no name
+pub no_name : (names : List (Option ℕ)) (q : ℕ) → q < length names → named names q ≡ None → slice_get names q ≡ Some None
+no_name names q l e =
+    elim (no_name_at (slice_get names q) e) [ inl n ↦ absurd (let k = past_end names q n in omega arith) | inr f ↦ f ]
+
+pub one_longer : {X : Type 0} (xs new : List X) (x : X) (n : ℕ) → length xs ≡ n → new ≡ xs ++ x ∷ [] → length new ≡ n + 1
+one_longer xs new x n l e = let f = ap length e in omega (arith, length-append xs (x ∷ []))

@@ -1,0 +1,9 @@
+pub mod Ways
+pub mod Lean
+pub mod Images
+pub mod Searching
+pub mod Naming
+pub mod Marks
+pub mod Signatures
+pub mod Classes
+pub mod Seen

@@ -1,0 +1,18 @@
+-- What contracts see of classes.
+use Rattle.std.specs.Prelude.{nat_eq}
+use Rattle.std.specs.HashMap.{get}
+use Rattle.nwa_base.specs.Groups.{grouped}
+use Rattle.nwa_reduce.specs.declared.classing.Classes.{Classes}
+use Rattle.nwa_reduce.specs.Classes.{Classed, lists_of}
+
+-- the classes and the states that have one
+unfoldable pub seen : Classes → Classed
+seen s = record {
+  nwa = s.nwa.now;
+  returns = λ p. grouped (get nat_eq s.returns.by_key p);
+  table = s.table.keys;
+  signatures = lists_of s.signatures.keys;
+  heads = s.heads.items;
+  leaders = s.leaders.items;
+  names = s.names.items;
+}
