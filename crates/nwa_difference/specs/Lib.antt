@@ -1,1 +1,4 @@
 pub mod Product
+pub mod Making
+pub mod Stages
+pub mod Seen

@@ -1,4 +1,14 @@
-//! The words that one nested word automaton accepts and another does not.
+//! The difference of two nested word automata, by the product of the one and the sets of pairs of the other.
 #![tactic(auto)]
 
 pub mod laws;
+mod making;
+mod opening;
+mod pairs;
+mod product;
+mod stepping;
+
+pub use making::difference;
+
+#[cfg(test)]
+mod tests;

@@ -1,0 +1,13 @@
+use Rattle.std.proofs.Common.{◌≡◌}
+use Rattle.nwa_difference.specs.Stages.{IsStage}
+use Rattle.nwa_difference.specs.Seen.{seen, stage}
+use Rattle.nwa_difference.proofs.DoneLemmas.{IsDone}
+use Rattle.nwa_difference.proofs.making.difference.Given as goal
+
+abbrev pub invariant-loop-place : goal.invariant-loop-place
+invariant-loop-place l = record {
+  valid : IsStage (stage l.product l.pairs);
+  first : (seen l.product).first ≡ l.first;
+  second : (seen l.product).sets.nwa ≡ l.second;
+  done : IsDone (stage l.product l.pairs) l.place;
+}

@@ -1,0 +1,10 @@
+use Rattle.nwa_difference.specs.Seen.{seen}
+use Rattle.nwa_difference.proofs.AddLemmas.{back_step}
+use Rattle.nwa_difference.proofs.product.Product.add_back.Goals as goal
+
+pub returns : goal.returns
+unfolding seen
+returns c =
+    back_step (seen c.args.self.now) (seen c.back_end.new.self) c.args.state c.args.before c.args.letter c.args.end c.in_ok-to.to _ c.add_back.result _
+    c.requires.within c.requires.before c.requires.edge c.in_ok-to.ensures.extends c.in_ok-to.ensures.state c.in_ok-in_memory.ensures c.add_back.ensures.ok
+    c.add_back.ensures.bad_letter

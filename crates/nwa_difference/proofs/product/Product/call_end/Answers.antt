@@ -1,0 +1,15 @@
+use Rattle.nwa_difference.specs.Seen.{seen}
+use Rattle.nwa_difference.proofs.GrowingLemmas.{sets_made}
+use Rattle.nwa_difference.proofs.EndLemmas.{call_end_is}
+use Rattle.nwa_difference.proofs.product.Product.call_end.Goals as goal
+
+pub state-requires-clause-made : goal.state-requires-clause-made
+unfolding seen
+state-requires-clause-made c = sets_made (seen c.args.self.now) _ c.requires.made c.on_call.ensures.grows
+
+pub returns-clause-state : goal.returns-clause-state
+unfolding seen
+returns-clause-state c =
+    call_end_is (seen c.args.self.now) (seen c.state.new.self) c.on_call.new.self c.args.state c.parts-set.result c.args.letter c.args.end c.in_ok-next.next _
+    c.requires.made c.on_call.ensures.grows c.in_ok-to.ensures.extends c.requires.within c.parts-set.ensures c.in_ok-next.ensures.set
+    c.in_ok-to.ensures.sets c.in_ok-to.ensures.state

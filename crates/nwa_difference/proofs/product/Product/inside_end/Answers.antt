@@ -1,0 +1,15 @@
+use Rattle.nwa_difference.specs.Seen.{seen}
+use Rattle.nwa_difference.proofs.GrowingLemmas.{sets_made}
+use Rattle.nwa_difference.proofs.EndLemmas.{inside_end_is}
+use Rattle.nwa_difference.proofs.product.Product.inside_end.Goals as goal
+
+pub state-requires-clause-made : goal.state-requires-clause-made
+unfolding seen
+state-requires-clause-made c = sets_made (seen c.args.self.now) _ c.requires.made c.on_inside.ensures.grows
+
+pub returns-clause-state : goal.returns-clause-state
+unfolding seen
+returns-clause-state c =
+    inside_end_is (seen c.args.self.now) (seen c.state.new.self) c.on_inside.new.self c.args.state c.parts-set.result c.args.letter c.args.end c.in_ok-next.next _
+    c.requires.made c.on_inside.ensures.grows c.in_ok-to.ensures.extends c.requires.within c.parts-set.ensures c.in_ok-next.ensures.set
+    c.in_ok-to.ensures.sets c.in_ok-to.ensures.state
