@@ -15,3 +15,6 @@ mod stepping;
 mod trimming;
 
 pub use reducing::reduce;
+
+#[cfg(test)]
+mod tests;
