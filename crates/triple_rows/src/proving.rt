@@ -1,0 +1,36 @@
+ghost use Rattle.std.specs.Prelude.{◌≡◌, ◌↔◌, IsSome, IfOk, IfSome};
+ghost use Rattle.letter_acts.specs.Invariant.{alphabet_of};
+ghost use Rattle.triple_rows.specs.Triples.{Agrees, IsValid, IsRefuted};
+
+use crate::proofs::Proof;
+use crate::systems::systems_of;
+use crate::triples::Triple;
+use farkas_check::{Refutation, check};
+use letter_acts::Icfg;
+use lin_rows::RowFault;
+use std::alloc::{AllocError, Global};
+
+/// The proof of a triple whose kind and scopes agree with its letter. `None` exactly where its system has a number that does
+/// not fit, or the refutation does not refute it.
+pub fn proof(
+    alloc: Global,
+    icfg: &Icfg,
+    triple: Triple,
+    refutation: Refutation,
+) -> Result<Option<Proof>, AllocError>
+    requires { Agrees (alphabet_of icfg.now) triple }
+    ensures found { IfOk result (λ o. IsSome o ↔ IsRefuted (alphabet_of icfg.now) triple refutation) }
+    ensures value { IfOk result (λ o. IfSome o (λ p. p ≡ record { triple = triple; refutation = refutation })) }
+    ensures valid { IfOk result (λ o. IsSome o → IsValid (alphabet_of icfg.now) triple) }
+{
+    let system = match systems_of(alloc, icfg, &triple) {
+        Ok(system) => system,
+        Err(RowFault::Past) => return Ok(None),
+        Err(RowFault::Memory) => return Err(AllocError),
+    };
+    if check(alloc, &system, &refutation)? {
+        Ok(Some(Proof::new(triple, refutation)))
+    } else {
+        Ok(None)
+    }
+}
