@@ -1,0 +1,165 @@
+-- What the code answers for plans.
+use Rattle.std.proofs.Common.{◌≡◌, ℕ, ◌+◌, Bool, true, false, ◌&&◌, ℤ, List, [], ◌∷◌, ◌++◌, map, Result, Ok, Err, refl, sym, ◌∙◌, ap, subst, arith}
+use Rattle.std.specs.Prelude.{Vec}
+use Rattle.std.specs.Global.{Global}
+use Rattle.std.specs.List.{list_all}
+use Rattle.std.proofs.lemmas.Bool.{and_parts}
+use Rattle.std.proofs.lemmas.List.Folds.{list_all-append}
+use Rattle.lin_rows.specs.Rows.{LinearRow}
+use Rattle.typed_tree.specs.AffineForm.{fits}
+use Rattle.boogie_tree.specs.declared.tree.Op.{Op}
+use Rattle.boogie_tree.specs.declared.tree.Op.TheVariants.{Iff, Implies, And, Or, Eq, Ne, Lt, Le, Gt, Ge, Add, Sub, Mul, Div, Mod}
+use Rattle.boogie_tree.specs.declared.span.Span.{Span}
+use Rattle.typed_tree.specs.TypedTree.{TypedExpression, Bin}
+use Rattle.cond_jumps.specs.declared.shapes.Shape.{Shape}
+use Rattle.cond_jumps.specs.Environments.{Environment}
+use Rattle.cond_jumps.specs.Paths.{linear, is_truth, paths}
+use Rattle.cond_jumps.specs.declared.conj.Conj.{Conj}
+use Rattle.cond_jumps.specs.declared.refusal.Refusal.{Refusal}
+use Rattle.cond_jumps.specs.Conjunctions.{Conjunction, Jumps, joined, each_with, Plan, Just, Then, With, listed, row_fits, list_fits, all_fit}
+use Rattle.cond_jumps.specs.Comparisons.{operation}
+use Rattle.cond_jumps.specs.Conjs.{conjunction, conjunctions}
+use Rattle.cond_jumps.specs.Forms.{Linears}
+use Rattle.cond_jumps.specs.CompareView.{IsListAnswer}
+use Rattle.cond_jumps.specs.JoinView.{each_moved}
+use Rattle.cond_jumps.specs.Moving.{moved_terms, moved_row, moved, IsEven, IsEvenPlan}
+use Rattle.cond_jumps.specs.ListView.{IsPlanList, IsPlanAnswer, sums_plan, shape_of, plan_of}
+use Rattle.cond_jumps.proofs.MovingLemmas.{map_append}
+use Rattle.cond_jumps.proofs.EvenLemmas.{listed_even}
+
+-- ---- numbers that fit
+
+both_true : (x y : Bool) → x ≡ true → y ≡ true → (x && y) ≡ true
+both_true x y h k = λ j. h j && k j
+
+fits_append : (cs ds : List Conjunction) → list_fits cs ≡ true → list_fits ds ≡ true → list_fits (cs ++ ds) ≡ true
+fits_append cs ds h k = list_all-append (λ (c : Conjunction). list_all row_fits c.rows) cs ds ∙ both_true (list_fits cs) (list_fits ds) h k
+
+-- the list of a plan fits where all fit
+plan_fits : (p : Plan) (n : ℕ) → all_fit p n ≡ true → list_fits (listed p n) ≡ true
+plan_fits (Just a) n h = h
+plan_fits (Then a b) n h = (and_parts (list_fits (listed (Then a b) n)) (all_fit a n && all_fit b n) h).0
+plan_fits (With a b) n h = (and_parts (list_fits (listed (With a b) n)) (all_fit a n && all_fit b n) h).0
+
+moved_terms_fit : (w k : ℕ) (ts : List (ℕ × ℤ)) → list_all (λ t. fits t.1) (moved_terms w k ts) ≡ list_all (λ t. fits t.1) ts
+moved_terms_fit w k [] = refl
+moved_terms_fit w k (t ∷ ts) = ap (λ (b : Bool). fits t.1 && b) (moved_terms_fit w k ts)
+
+moved_rows_fit : (w k : ℕ) (rows : List LinearRow) → list_all row_fits (map (moved_row w k) rows) ≡ list_all row_fits rows
+moved_rows_fit w k [] = refl
+moved_rows_fit w k (r ∷ rows) =
+    let e : row_fits (moved_row w k r) ≡ row_fits r = ap (λ (b : Bool). b && fits r.bound) (moved_terms_fit w k r.terms) in
+    let f = moved_rows_fit w k rows in
+    λ j. e j && f j
+
+joined_fits : (w : ℕ) (c : Conjunction) (ds : List Conjunction) → list_all row_fits c.rows ≡ true → list_fits ds ≡ true → list_fits (map (joined c) (map (moved w c.helpers) ds)) ≡ true
+joined_fits w c [] h k = refl
+joined_fits w c (d ∷ ds) h k =
+    let p = and_parts (list_all row_fits d.rows) (list_fits ds) k in
+    let e : list_all row_fits (map (moved_row w c.helpers) d.rows) ≡ true = moved_rows_fit w c.helpers d.rows ∙ p.0 in
+    both_true (list_all row_fits (c.rows ++ map (moved_row w c.helpers) d.rows)) (list_fits (map (joined c) (map (moved w c.helpers) ds)))
+    (list_all-append row_fits c.rows (map (moved_row w c.helpers) d.rows) ∙ both_true (list_all row_fits c.rows) (list_all row_fits (map (moved_row w c.helpers) d.rows)) h e)
+    (joined_fits w c ds h p.1)
+
+each_fits : (w : ℕ) (cs ds : List Conjunction) → list_fits cs ≡ true → list_fits ds ≡ true → list_fits (each_moved w cs ds) ≡ true
+each_fits w [] ds h k = refl
+each_fits w (c ∷ cs) ds h k =
+    let p = and_parts (list_all row_fits c.rows) (list_fits cs) h in
+    fits_append (map (joined c) (map (moved w c.helpers) ds)) (each_moved w cs ds) (joined_fits w c ds p.0 k) (each_fits w cs ds p.1 k)
+
+-- ---- lists put together
+
+pub each_moved_is : (n : ℕ) (cs : List Conjunction) (b : Jumps) → IsEven n b → each_with cs b n ≡ each_moved n cs (b n)
+each_moved_is n [] b h = refl
+each_moved_is n (c ∷ cs) b h =
+    let e : b (n + c.helpers) ≡ map (moved n c.helpers) (b n) = h n c.helpers (omega arith) in
+    let f = each_moved_is n cs b h in
+    λ j. map (joined c) (e j) ++ f j
+
+pub then_built : (p q : Plan) (n : ℕ) (x y v : Vec Conj Global) → IsPlanList p n x → IsPlanList q n y → v.items ≡ x.items ++ y.items → IsPlanList (Then p q) n v
+then_built p q n x y v h k e =
+    let s : conjunctions v.items ≡ listed p n ++ listed q n =
+    ap conjunctions e ∙ map_append conjunction x.items y.items ∙ (λ j. h.seen j ++ k.seen j) in
+    record {
+      seen = s;
+      fit = both_true (list_fits (listed p n ++ listed q n)) (all_fit p n && all_fit q n)
+          (fits_append (listed p n) (listed q n) (plan_fits p n h.fit) (plan_fits q n k.fit)) (both_true (all_fit p n) (all_fit q n) h.fit k.fit);
+    }
+
+pub with_built : (p q : Plan) (n : ℕ) (x y v : Vec Conj Global) (a b : List Conj) → IsEvenPlan n q → IsPlanList p n x → IsPlanList q n y → a ≡ x.items → b ≡ y.items →
+    conjunctions v.items ≡ each_moved n (conjunctions a) (conjunctions b) → IsPlanList (With p q) n v
+with_built p q n x y v a b i h k f g e =
+    let u : conjunctions a ≡ listed p n = ap conjunctions f ∙ h.seen in
+    let w : conjunctions b ≡ listed q n = ap conjunctions g ∙ k.seen in
+    let m : each_with (listed p n) (listed q) n ≡ each_moved n (listed p n) (listed q n) = each_moved_is n (listed p n) (listed q) (listed_even n q i) in
+    let fit : list_fits (each_with (listed p n) (listed q) n) ≡ true =
+    ap list_fits m ∙ each_fits n (listed p n) (listed q n) (plan_fits p n h.fit) (plan_fits q n k.fit) in
+    record {
+      seen = e ∙ (λ j. each_moved n (u j) (w j)) ∙ sym m;
+      fit = both_true (list_fits (each_with (listed p n) (listed q) n)) (all_fit p n && all_fit q n) fit (both_true (all_fit p n) (all_fit q n) h.fit k.fit);
+    }
+
+-- the list of a result that stands
+pub list_of : (p : Plan) (n : ℕ) (r : Result (Vec Conj Global) Refusal) (x : Vec Conj Global) → r ≡ Ok x → IsPlanAnswer p n r → IsPlanList p n x
+list_of p n r x e h = let P : Result (Vec Conj Global) Refusal → Type 0 = λ z. IsPlanAnswer p n z in subst P e h
+
+-- ---- shapes
+
+-- the plan of an operation by its shape
+pub shape_plan : (op : Op) (kind : Bool) (a b : Bool → Plan) (x y : Linears) (want : Bool) →
+    operation op kind a b x y want ≡ plan_of (shape_of op kind want) a b (sums_plan op x y want)
+shape_plan Iff kind a b x y want = refl
+shape_plan Implies kind a b x y true = refl
+shape_plan Implies kind a b x y false = refl
+shape_plan And kind a b x y true = refl
+shape_plan And kind a b x y false = refl
+shape_plan Or kind a b x y true = refl
+shape_plan Or kind a b x y false = refl
+shape_plan Eq true a b x y want = refl
+shape_plan Eq false a b x y want = refl
+shape_plan Ne true a b x y want = refl
+shape_plan Ne false a b x y want = refl
+shape_plan Lt kind a b x y true = refl
+shape_plan Lt kind a b x y false = refl
+shape_plan Le kind a b x y true = refl
+shape_plan Le kind a b x y false = refl
+shape_plan Gt kind a b x y true = refl
+shape_plan Gt kind a b x y false = refl
+shape_plan Ge kind a b x y true = refl
+shape_plan Ge kind a b x y false = refl
+shape_plan Add kind a b x y want = refl
+shape_plan Sub kind a b x y want = refl
+shape_plan Mul kind a b x y want = refl
+shape_plan Div kind a b x y want = refl
+shape_plan Mod kind a b x y want = refl
+
+-- the answer for an operation, by its shape
+pub shape_answer : (v : Environment) (old : Bool) (at : Span) (op : Op) (e f : TypedExpression) (want : Bool) (n : ℕ) (r : Result (Vec Conj Global) Refusal) (kind : Bool) (shape : Shape) →
+    kind ≡ is_truth v old e → shape ≡ shape_of op kind want →
+    IsPlanAnswer (plan_of shape (paths v old e) (paths v old f) (sums_plan op (linear v old e) (linear v old f) want)) n r →
+    IsPlanAnswer (paths v old (Bin at op e f) want) n r
+shape_answer v old at op e f want n r kind shape k s h =
+    let S : Plan = sums_plan op (linear v old e) (linear v old f) want in
+    let P : Plan → Type 0 = λ p. IsPlanAnswer p n r in
+    let i : shape ≡ shape_of op (is_truth v old e) want = s ∙ ap (λ (b : Bool). shape_of op b want) k in
+    let j : plan_of shape (paths v old e) (paths v old f) S ≡ plan_of (shape_of op (is_truth v old e) want) (paths v old e) (paths v old f) S =
+    ap (λ (z : Shape). plan_of z (paths v old e) (paths v old f) S) i in
+    subst P (j ∙ sym (shape_plan op (is_truth v old e) (paths v old e) (paths v old f) (linear v old e) (linear v old f) want)) h
+
+-- an answer for the condition that was looked through
+pub paths_at : (v : Environment) (old want : Bool) (n : ℕ) (r : Result (Vec Conj Global) Refusal) (d e : TypedExpression) → d ≡ e → IsPlanAnswer (paths v old d want) n r → IsPlanAnswer (paths v old e want) n r
+paths_at v old want n r d e i h = let P : TypedExpression → Type 0 = λ z. IsPlanAnswer (paths v old z want) n r in subst P i h
+
+pub sums_at : (v : Environment) (old : Bool) (op : Op) (want : Bool) (n : ℕ) (r : Result (Vec Conj Global) Refusal) (d e g f : TypedExpression) → d ≡ e → g ≡ f →
+    IsPlanAnswer (sums_plan op (linear v old d) (linear v old g) want) n r → IsPlanAnswer (sums_plan op (linear v old e) (linear v old f) want) n r
+sums_at v old op want n r d e g f i j h =
+    let P : TypedExpression → Type 0 = λ z. IsPlanAnswer (sums_plan op (linear v old z) (linear v old g) want) n r in
+    let Q : TypedExpression → Type 0 = λ z. IsPlanAnswer (sums_plan op (linear v old e) (linear v old z) want) n r in
+    subst Q j (subst P i h)
+
+-- ---- assignments
+
+-- a list that was answered is the list of a plan
+pub list_plan : (a : Jumps) (n : ℕ) (r : Result (Vec Conj Global) Refusal) → IsListAnswer (a n) r → IsPlanAnswer (Just a) n r
+list_plan a n (Ok v) h = record { seen = h.0; fit = h.1 }
+list_plan a n (Err f) h = h

@@ -1,0 +1,49 @@
+use Rattle.std.proofs.Common.{◌≡◌, true, Option, sym, ap, subst, ◌∙◌}
+use Rattle.typed_tree.specs.TypedTree.{TypedExpression}
+use Rattle.typed_tree.specs.TypedView.{expression, kind_view}
+use Rattle.typed_tree.specs.AffineForm.{divisor_of}
+use Rattle.cond_jumps.specs.declared.sums.Divisor.{Divisor}
+use Rattle.cond_jumps.specs.CodeView.{is_division, IsDivisorFound}
+use Rattle.cond_jumps.specs.Frames.{frame_environment}
+use Rattle.cond_jumps.specs.Environments.{Environment}
+use Rattle.cond_jumps.specs.Paths.{linear}
+use Rattle.cond_jumps.specs.SumView.{IsSumOf, IsSumAnswer}
+use Rattle.cond_jumps.proofs.AnswerLemmas.{combined_answer, second_answer, quotient_answer}
+use Rattle.cond_jumps.proofs.linear.+linear.Goals as goal
+
+pub returns-in_err-b-in-Bin : goal.returns-in_err-b-in-Bin
+returns-in_err-b-in-Bin t c =
+    let v : Environment = frame_environment c.args.frame.now.columns.items in
+    let P : TypedExpression → Type 0 = λ e. IsSumAnswer (linear v c.args.old e c.args.next) c.from_residual-in_err-b-in-Bin.result in
+    subst P (sym (ap (kind_view c.args.expr.now.span) c.in-Bin.is))
+    (second_answer v c.args.old c.args.expr.now.span c.in-Bin.op (expression c.in-Bin.left.value) (expression c.in-Bin.right.value)
+    (expression c.deref-then-is_combination-3.result.now) (expression c.deref-then-is_combination-4.result.now) c.args.next c.in_ok-later-in-Bin.field-0
+    c.in_ok-a-in-Bin.a c.in_err-b-in-Bin.field-0.0 c.from_residual-in_err-b-in-Bin.result (ap expression c.deref-then-is_combination-3.ensures)
+    (ap expression c.deref-then-is_combination-4.ensures) (sym c.is_combination.ensures ∙ c.if-is_combination.true) c.in_ok-a-in-Bin.ensures c.in_ok-later-in-Bin.ensures
+    c.in_err-b-in-Bin.ensures c.from_residual-in_err-b-in-Bin.ensures.1)
+
+pub returns-then-is_combination : goal.returns-then-is_combination
+returns-then-is_combination t c =
+    let v : Environment = frame_environment c.args.frame.now.columns.items in
+    let P : TypedExpression → Type 0 = λ e. IsSumOf (linear v c.args.old e c.args.next) c.in_ok-combined-in-Bin.field-0 in
+    subst P (sym (ap (kind_view c.args.expr.now.span) c.in-Bin.is))
+    (combined_answer v c.args.old c.args.expr.now.span c.in-Bin.op (expression c.in-Bin.left.value) (expression c.in-Bin.right.value)
+    (expression c.deref-then-is_combination.result.now) (expression c.deref-then-is_combination-2.result.now)
+    (expression c.deref-then-is_combination-3.result.now) (expression c.deref-then-is_combination-4.result.now) c.args.next c.in_ok-later-in-Bin.field-0
+    c.in_ok-k-in-Bin.k c.in_ok-l-in-Bin.l c.in_ok-a-in-Bin.a c.in_ok-b-in-Bin.b c.in_ok-combined-in-Bin.field-0
+    (ap expression c.deref-then-is_combination.ensures) (ap expression c.deref-then-is_combination-2.ensures)
+    (ap expression c.deref-then-is_combination-3.ensures) (ap expression c.deref-then-is_combination-4.ensures)
+    (sym c.is_combination.ensures ∙ c.if-is_combination.true) c.in_ok-k-in-Bin.ensures c.in_ok-l-in-Bin.ensures c.in_ok-a-in-Bin.ensures c.in_ok-later-in-Bin.ensures
+    c.in_ok-b-in-Bin.ensures c.in_ok-combined-in-Bin.ensures)
+
+pub returns-in_ok-x-in-Some : goal.returns-in_ok-x-in-Some
+returns-in_ok-x-in-Some t c =
+    let v : Environment = frame_environment c.args.frame.now.columns.items in
+    let P : TypedExpression → Type 0 = λ e. IsSumAnswer (linear v c.args.old e c.args.next) c.part_of.result in
+    let D : Option Divisor → Type 0 = λ o. IsDivisorFound (divisor_of (expression c.deref-in-Bin.result.now)) o in
+    let o : is_division c.in-Bin.op ≡ true = sym c.is_division.ensures ∙ c.if-not-is_division.false in
+    subst P (sym (ap (kind_view c.args.expr.now.span) c.in-Bin.is))
+    (quotient_answer v c.args.old c.args.expr.now.span c.in-Bin.op (expression c.in-Bin.left.value) (expression c.in-Bin.right.value)
+    (expression c.deref-in-Bin.result.now) (expression c.deref-in-Some.result.now) c.args.next c.in_ok-x-in-Some.x c.in-Some.k c.part_of.result
+    (ap expression c.deref-in-Bin.ensures) (ap expression c.deref-in-Some.ensures) o (subst D c.in-Some.is c.in_ok-divisor-in-Bin.ensures)
+    c.in_ok-x-in-Some.ensures c.part_of.ensures)

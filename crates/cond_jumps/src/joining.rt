@@ -1,0 +1,108 @@
+//! One list of conjunctions with another: each of one joined to each of the other, whose helpers are moved behind.
+
+ghost use Rattle.std.specs.Prelude.{◌≡◌, IfOk, ◌∷◌, ◌++◌, map};
+ghost use Rattle.lin_rows.specs.Rows.{LinearRow};
+ghost use Rattle.cond_jumps.specs.Conjunctions.{joined};
+ghost use Rattle.cond_jumps.specs.Conjs.{conjunction, conjunctions};
+ghost use Rattle.cond_jumps.specs.JoinView.{each_moved};
+ghost use Rattle.cond_jumps.specs.Moving.{moved_column, moved_terms, moved_row, moved};
+
+use crate::conj::Conj;
+use crate::sums::later;
+use lin_rows::{Row, row};
+use std::alloc::{AllocError, Global};
+
+/// The number of a column, `by` more from the column `base` on.
+fn moved_column(base: u32, by: u32, column: u32) -> Result<u32, AllocError>
+    ensures { IfOk result (λ n. n ≡ moved_column base by column) }
+{
+    if column < base {
+        Ok(column)
+    } else {
+        later(column, by)
+    }
+}
+
+/// The terms with their columns moved.
+fn moved_terms(
+    alloc: Global,
+    base: u32,
+    by: u32,
+    terms: &[(u32, i128)],
+) -> Result<Vec<(u32, i128)>, AllocError>
+    ensures { IfOk result (λ ts. ts.items ≡ moved_terms base by terms.now) }
+{
+    let mut all = Vec::with_capacity(alloc, terms.len())?;
+    for (column, coefficient) in terms {
+        all.push((moved_column(base, by, *column)?, *coefficient))?;
+    }
+    Ok(all)
+}
+
+/// The row with its columns moved.
+fn moved_row(alloc: Global, base: u32, by: u32, given: &Row) -> Result<Row, AllocError>
+    ensures { IfOk result (λ r. r ≡ moved_row base by given.now) }
+{
+    let terms = moved_terms(alloc, base, by, given.terms())?;
+    match row(alloc, terms.as_slice(), given.kind(), given.bound()) {
+        Ok(made) => Ok(made),
+        Err(_) => Err(AllocError),
+    }
+}
+
+/// The rows of the first, and behind them those of the second, moved behind the helpers of the first.
+fn joined(alloc: Global, base: u32, first: &Conj, second: &Conj) -> Result<Conj, AllocError>
+    ensures { IfOk result (λ c. conjunction c ≡ joined (conjunction first.now) (moved base first.now.helpers (conjunction second.now))) }
+{
+    let helpers = later(first.helpers, second.helpers)?;
+    let mut rows = copied(alloc, first.rows.as_slice())?;
+    for given in &second.rows {
+        rows.push(moved_row(alloc, base, first.helpers, given)?)?;
+    }
+    Ok(Conj { rows, helpers })
+}
+
+/// Equal rows.
+fn copied(alloc: Global, rows: &[Row]) -> Result<Vec<Row>, AllocError>
+    ensures { IfOk result (λ copies. copies.items ≡ rows.now) }
+{
+    let mut copies = Vec::with_capacity(alloc, rows.len())?;
+    for given in rows {
+        copies.push(given.copy()?)?;
+    }
+    Ok(copies)
+}
+
+/// The list, and behind it the conjunction joined to each of the second.
+fn with_each(
+    alloc: Global,
+    base: u32,
+    list: Vec<Conj>,
+    first: &Conj,
+    second: &[Conj],
+) -> Result<Vec<Conj>, AllocError>
+    ensures { IfOk result (λ cs. conjunctions cs.items ≡
+        conjunctions list.items ++ map (joined (conjunction first.now)) (map (moved base first.now.helpers) (conjunctions second.now))) }
+{
+    let mut list = list;
+    for conj in second {
+        list.push(joined(alloc, base, first, conj)?)?;
+    }
+    Ok(list)
+}
+
+/// Each of the first list joined to each of the second, the first outermost.
+pub fn with(
+    alloc: Global,
+    base: u32,
+    first: &[Conj],
+    second: &[Conj],
+) -> Result<Vec<Conj>, AllocError>
+    ensures { IfOk result (λ cs. conjunctions cs.items ≡ each_moved base (conjunctions first.now) (conjunctions second.now)) }
+{
+    let mut list = Vec::with_capacity(alloc, first.len())?;
+    for conj in first {
+        list = with_each(alloc, base, list, conj, second)?;
+    }
+    Ok(list)
+}

@@ -1,0 +1,27 @@
+//! Conditions and assignments as rows: lists of conjunctions of rows of which a state meets one, and no more, exactly where
+//! the condition has the wanted value. What the lists mean stands in [`laws`].
+#![tactic(auto)]
+
+mod assignments;
+mod columns;
+mod comparisons;
+mod conditions;
+mod conj;
+mod fault;
+mod joining;
+pub mod laws;
+mod linear;
+mod lists;
+mod long;
+mod refusal;
+mod shapes;
+mod sums;
+#[cfg(test)]
+mod tests;
+mod totals;
+mod widths;
+
+pub use assignments::assign;
+pub use conditions::paths;
+pub use conj::Conj;
+pub use fault::JumpFault;

@@ -1,0 +1,188 @@
+//! The sums of whole-number expressions.
+
+ghost use Rattle.std.specs.Prelude.{◌≡◌, IfOk, pos, neg_ℤ, unsigned_abs};
+ghost use Rattle.typed_tree.specs.TypedView.{expression};
+ghost use Rattle.typed_tree.specs.AffineForm.{divisor_of, read_at};
+ghost use Rattle.cond_jumps.specs.CodeView.{IsDivisorFound, combination, is_combination, is_division};
+ghost use Rattle.cond_jumps.specs.Frames.{frame_environment, place, sum_at};
+ghost use Rattle.cond_jumps.specs.LongView.{long};
+ghost use Rattle.cond_jumps.specs.Paths.{constant_of, linear};
+ghost use Rattle.cond_jumps.specs.SumView.{sum_of, IsSumAnswer, IsPartAnswer};
+
+use crate::columns::place;
+use crate::long::Long;
+use crate::refusal::Refusal;
+use crate::sums::{Divisor, Sum, divide, later, minus, negated, plus, quotient, remainder, times};
+use boogie_tree::{Column, Op};
+use letter_acts::Frame;
+use std::alloc::{AllocError, Global};
+use typed_tree::{TExpr, TExprKind};
+
+/// The constant of the affine form of a whole-number expression.
+fn constant(alloc: Global, expr: &TExpr) -> Result<Long, AllocError>
+    ensures { IfOk result (λ l. long l ≡ constant_of (expression expr.now)) }
+{
+    match &expr.kind {
+        TExprKind::Lit(n) => Long::new(alloc, *n),
+        TExprKind::Old(inner) => constant(alloc, inner),
+        TExprKind::Neg(inner) => constant(alloc, inner)?.opposite(alloc),
+        TExprKind::Bin(op, left, right) => {
+            let first = constant(alloc, left)?;
+            let second = constant(alloc, right)?;
+            match op {
+                Op::Add => Long::plus(alloc, &first, &second),
+                Op::Sub => Long::minus(alloc, &first, &second),
+                Op::Mul => Long::times(alloc, &second, &first),
+                _ => Long::new(alloc, 0),
+            }
+        }
+        _ => Long::new(alloc, 0),
+    }
+}
+
+/// The magnitude of a literal.
+fn magnitude(alloc: Global, n: i128) -> Result<Long, AllocError>
+    ensures { IfOk result (λ l. long l ≡ pos (unsigned_abs n)) }
+{
+    let literal = Long::new(alloc, n)?;
+    if n < 0 {
+        return literal.opposite(alloc);
+    }
+    Ok(literal)
+}
+
+/// A literal as a divisor.
+fn literal(alloc: Global, n: i128) -> Result<Divisor, AllocError>
+    ensures value { IfOk result (λ d. long d.value ≡ n) }
+    ensures magnitude { IfOk result (λ d. long d.magnitude ≡ pos (unsigned_abs n)) }
+{
+    Ok(Divisor {
+        value: Long::new(alloc, n)?,
+        magnitude: magnitude(alloc, n)?,
+    })
+}
+
+/// A literal after one `-` as a divisor.
+fn opposite_literal(alloc: Global, n: i128) -> Result<Divisor, AllocError>
+    ensures value { IfOk result (λ d. long d.value ≡ neg_ℤ n) }
+    ensures magnitude { IfOk result (λ d. long d.magnitude ≡ pos (unsigned_abs n)) }
+{
+    let literal = literal(alloc, n)?;
+    Ok(Divisor {
+        value: literal.value.opposite(alloc)?,
+        magnitude: literal.magnitude,
+    })
+}
+
+/// The divisor that an expression is.
+fn divisor(alloc: Global, expr: &TExpr) -> Result<Option<Divisor>, AllocError>
+    ensures { IfOk result (λ o. IsDivisorFound (divisor_of (expression expr.now)) o) }
+{
+    match &expr.kind {
+        TExprKind::Lit(n) => Ok(Some(literal(alloc, *n)?)),
+        TExprKind::Neg(inner) => match &inner.kind {
+            TExprKind::Lit(n) => Ok(Some(opposite_literal(alloc, *n)?)),
+            _ => Ok(None),
+        },
+        _ => Ok(None),
+    }
+}
+
+/// The column that is read at the procedure's entry or now.
+pub fn read_at(old: bool, column: Column) -> Column
+    ensures { result ≡ read_at old column }
+{
+    match column {
+        Column::Global(n) if old => Column::Old(n),
+        _ => column,
+    }
+}
+
+/// The sum that stands for a column of the frame.
+fn column_sum(alloc: Global, frame: &Frame, column: Column) -> Result<Sum, AllocError>
+    ensures { IfOk result (λ s. sum_of s ≡ sum_at (place frame.now.columns.items column) 0) }
+{
+    match place(frame, column)? {
+        None => Sum::number(alloc, 0),
+        Some(spot) => Sum::column(alloc, spot.number),
+    }
+}
+
+/// `+`, `-` or `*`.
+fn is_combination(op: Op) -> bool
+    ensures { result ≡ is_combination op }
+{
+    matches!(op, Op::Add | Op::Sub | Op::Mul)
+}
+
+/// `div` or `mod`.
+fn is_division(op: Op) -> bool
+    ensures { result ≡ is_division op }
+{
+    matches!(op, Op::Div | Op::Mod)
+}
+
+/// The sum, the difference or the product of two sums, whose forms have these constants.
+fn combined(alloc: Global, op: Op, k: &Long, l: &Long, a: Sum, b: Sum) -> Result<Sum, AllocError>
+    ensures { IfOk result (λ s. sum_of s ≡ combination op (long k.now) (long l.now) (sum_of a) (sum_of b)) }
+{
+    match op {
+        Op::Add => plus(alloc, a, b),
+        Op::Sub => minus(alloc, a, b),
+        _ => times(alloc, k, l, a, b),
+    }
+}
+
+/// A sum divided, or what remains.
+fn part_of(alloc: Global, op: Op, k: &Divisor, x: Sum, next: u32) -> Result<Sum, Refusal>
+    requires { long k.now.magnitude ≡ pos (unsigned_abs (long k.now.value)) }
+    ensures { IsPartAnswer op (long k.now.value) (sum_of x) next result }
+{
+    let divided = divide(alloc, k, x, next)?;
+    match op {
+        Op::Div => Ok(quotient(alloc, divided)?),
+        _ => Ok(remainder(divided)),
+    }
+}
+
+/// The sum of a whole-number expression that is read at the procedure's entry or now, its helpers numbered from `next` on.
+pub fn linear(
+    alloc: Global,
+    frame: &Frame,
+    old: bool,
+    expr: &TExpr,
+    next: u32,
+) -> Result<Sum, Refusal>
+    ensures { IsSumAnswer (linear (frame_environment frame.now.columns.items) old (expression expr.now) next) result }
+{
+    match &expr.kind {
+        TExprKind::Lit(n) => Ok(Sum::number(alloc, *n)?),
+        TExprKind::Truth(_) => Ok(Sum::number(alloc, 0)?),
+        TExprKind::Var(column) => Ok(column_sum(alloc, frame, read_at(old, *column))?),
+        TExprKind::Old(inner) => linear(alloc, frame, true, inner, next),
+        TExprKind::Not(_) => Ok(Sum::number(alloc, 0)?),
+        TExprKind::Neg(inner) => {
+            let sum = linear(alloc, frame, old, inner, next)?;
+            Ok(negated(alloc, sum)?)
+        }
+        TExprKind::Bin(op, left, right) => {
+            if is_combination(*op) {
+                let k = constant(alloc, left)?;
+                let l = constant(alloc, right)?;
+                let a = linear(alloc, frame, old, left, next)?;
+                let b = linear(alloc, frame, old, right, later(next, a.helpers)?)?;
+                return Ok(combined(alloc, *op, &k, &l, a, b)?);
+            }
+            if !is_division(*op) {
+                return Ok(Sum::number(alloc, 0)?);
+            }
+            match divisor(alloc, right)? {
+                None => Ok(Sum::number(alloc, 0)?),
+                Some(k) => {
+                    let x = linear(alloc, frame, old, left, next)?;
+                    part_of(alloc, *op, &k, x, next)
+                }
+            }
+        }
+    }
+}
