@@ -63,7 +63,7 @@ arguments_length frame [] (e ∷ es) a = absurd a
 arguments_length frame (v ∷ vs) [] a = absurd a
 arguments_length frame (v ∷ vs) (e ∷ es) a = ap suc (arguments_length frame vs es a.1)
 
-take_at_most : {X : Type 0} (n : ℕ) (xs : List X) → length (take n xs) ≤ n
+pub take_at_most : {X : Type 0} (n : ℕ) (xs : List X) → length (take n xs) ≤ n
 take_at_most zero xs = omega arith
 take_at_most (suc n) [] = omega arith
 take_at_most {X} (suc n) (x ∷ xs) = let h = take_at_most {X = X} n xs in omega arith
