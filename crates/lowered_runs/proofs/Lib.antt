@@ -1,0 +1,6 @@
+pub mod Taken
+pub mod Forward
+pub mod Backward
+pub mod Filling
+pub mod MovesOfRuns
+pub mod Machine

@@ -1,0 +1,2 @@
+//! A typed program fails an assertion exactly where its stack machine does.
+#![tactic(auto)]
