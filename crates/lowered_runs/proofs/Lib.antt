@@ -4,3 +4,5 @@ pub mod Backward
 pub mod Filling
 pub mod MovesOfRuns
 pub mod Machine
+pub mod ToldMoves
+pub mod ToldRuns
