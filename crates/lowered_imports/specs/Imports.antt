@@ -1,11 +1,13 @@
 -- A call of a procedure without body: what typing gives at it, and what all its steps together make of a configuration.
-use Rattle.std.specs.Prelude.{◌≡◌, ℕ, ◌+◌, ◌≤◌, ℤ, Bool, true, false, List, [], ◌∷◌, ◌++◌, map, length, take, Option, None, Some, slice_get}
+use Rattle.std.specs.Prelude.{◌≡◌, ℕ, zero, suc, ◌+◌, ◌≤◌, ℤ, pos, negsuc, Bool, true, false, List, [], ◌∷◌, ◌++◌, map, length, take, Option, None, Some, slice_get}
 use Rattle.std.specs.List.{AllByRecursion}
+use Rattle.boogie_tree.specs.declared.tree.Ty.{Ty}
 use Rattle.boogie_tree.specs.declared.tree.Ty.TheVariants as types
 use Rattle.boogie_tree.specs.declared.tree.VarInfo.{VarInfo}
 use Rattle.typed_tree.specs.TypedTree.{TypedExpression, TypedInvariant, TypedProcedure, TypedProgram}
 use Rattle.typed_tree.specs.Values.{value}
 use Rattle.typed_tree.specs.AffineForm.{is_linear}
+use Rattle.lin_rows.specs.Points.{point_of}
 use Rattle.letter_acts.specs.Frames.{Columns, IsValue}
 use Rattle.letter_acts.specs.Invariant.{AreDistinct}
 use Rattle.cond_jumps.specs.Environments.{type_in}
@@ -15,7 +17,7 @@ use Rattle.boogie_points.specs.Starts.{targets_at}
 use Rattle.boogie_run.specs.Configurations.{Config}
 use Rattle.boogie_run.specs.Steps.{granted_state, finished, moved_to, is_true}
 use Rattle.lowered_steps.specs.ProgramFrames.{frame_at}
-use Rattle.lowered_steps.specs.Edges.{numbers_in, import_environment}
+use Rattle.lowered_steps.specs.Edges.{those_in, found_from, numbers_in, import_environment}
 use Rattle.lowered_steps.specs.Moves.{HasTypes, AreArguments, AreTargets, results_of_procedure}
 
 -- ---- what typing gives
@@ -91,3 +93,29 @@ none_for (i ∷ is) = None ∷ none_for is
 -- the choices of its steps, one a step: each value, nothing at an ensures, and nothing where they are written
 abbrev pub import_choices : List ℤ → List TypedInvariant → List (Option ℤ)
 import_choices news is = map Some news ++ (none_for is ++ None ∷ [])
+
+-- ---- what a step of the machine tells of it
+
+-- A helper that stands for a truth value may have any number where no row names it; then 0 is chosen.
+abbrev pub as_truth : ℤ → ℤ
+as_truth (pos zero) = pos 0
+as_truth (pos (suc zero)) = pos 1
+as_truth (pos (suc (suc n))) = pos 0
+as_truth (negsuc n) = pos 0
+
+abbrev pub as_value : Ty → ℤ → ℤ
+as_value types.Int z = z
+as_value types.Bool z = as_truth z
+
+abbrev pub value_of_variable : Option VarInfo → ℤ → ℤ
+value_of_variable None z = z
+value_of_variable (Some v) z = as_value v.ty z
+
+-- the value that was chosen for a modified global: its value behind the call, or that of its helper where it is a target, too
+abbrev pub told_global : List VarInfo → List ℤ → List ℤ → Option ℕ → ℕ → ℤ
+told_global globals helpers after None g = point_of after g
+told_global globals helpers after (Some k) g = value_of_variable (slice_get globals g) (point_of helpers k)
+
+abbrev pub told_globals : List VarInfo → List ℕ → List ℕ → List ℤ → List ℤ → List ℤ
+told_globals globals modified targets helpers after =
+    map (λ g. told_global globals helpers after (found_from 0 (those_in targets modified) g) g) modified
