@@ -1,0 +1,5 @@
+pub mod Phases
+pub mod ImportRuns
+pub mod SeenTypes
+pub mod ValidParts
+pub mod RightPoints
