@@ -3,3 +3,5 @@ pub mod ImportRuns
 pub mod SeenTypes
 pub mod ValidParts
 pub mod RightPoints
+pub mod KnownActions
+pub mod PointLaws
