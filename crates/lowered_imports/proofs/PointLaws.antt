@@ -16,9 +16,8 @@ use Rattle.boogie_places.proofs.PlaceLaws.{first_is_listed, leads_to_points, sta
 use Rattle.boogie_places.proofs.Closed.{each_part}
 use Rattle.boogie_run.proofs.Constants.{bodies_kept}
 use Rattle.boogie_run.specs.Needs.{locals_if_any, locals_at}
-use Rattle.lowered_steps.specs.Moves.{HasParameters, IsKnownCall, KnowsPoints}
-use Rattle.lowered_imports.specs.Imports.{IsKnownImport}
-use Rattle.lowered_imports.specs.KnownPoints.{IsPointOf}
+use Rattle.lowered_steps.specs.Moves.{HasParameters, IsNoImport, KnowsPoints}
+use Rattle.lowered_imports.specs.KnownPoints.{IsPointOf, StandsAtImport}
 use Rattle.lowered_imports.proofs.ValidParts.{constants_first, has_parameters, body_shaped}
 use Rattle.lowered_imports.proofs.RightPoints.{IsRight, PointRight, body_right, one_of_all}
 use Rattle.lowered_imports.proofs.KnownActions.{IsBodyCall, IsKnownAction, typed_of_known, action_known}
@@ -124,11 +123,20 @@ module _ (t : TypedProgram) (valid : IsTrue (is_valid t)) where
 
   -- ---- calls without body
 
-  pub keeps_known : (n : ℕ) (p : Point) (f : ℕ) (args : List TypedExpression) (c : Column) (next : Point) → IsPointOf t n p → action_at t n p ≡ actions.Keep f args c next → IsKnownImport t n p f args
-  keeps_known n p f args c next k e = subst (IsKnownAction t n p) e (known_action n p k)
+  of_import : (n : ℕ) (p : Point) (a : Action) → (IsNoImport a → ⊥) → IsKnownAction t n p a → StandsAtImport t n p
+  of_import n p (actions.Check id at e next) stands h = absurd (stands tt)
+  of_import n p (actions.Suppose e next) stands h = absurd (stands tt)
+  of_import n p (actions.Demand id at e args next) stands h = absurd (stands tt)
+  of_import n p (actions.Write cs es next) stands h = absurd (stands tt)
+  of_import n p (actions.Guess c next) stands h = absurd (stands tt)
+  of_import n p (actions.Test e hit miss) stands h = absurd (stands tt)
+  of_import n p (actions.Pick ways) stands h = absurd (stands tt)
+  of_import n p (actions.Jump next) stands h = absurd (stands tt)
+  of_import n p (actions.Enter f args) stands h = absurd (stands tt)
+  of_import n p (actions.Keep f args c next) stands h = record { callee = f; args = args; known = h }
+  of_import n p (actions.Grant f args e next) stands h = record { callee = f; args = args; known = h }
+  of_import n p (actions.Finish f args targets next) stands h = record { callee = f; args = args; known = h }
+  of_import n p actions.Leave stands h = absurd (stands tt)
 
-  pub grants_known : (n : ℕ) (p : Point) (f : ℕ) (args : List TypedExpression) (c : TypedExpression) (next : Point) → IsPointOf t n p → action_at t n p ≡ actions.Grant f args c next → IsKnownImport t n p f args
-  grants_known n p f args c next k e = subst (IsKnownAction t n p) e (known_action n p k)
-
-  pub finishes_known : (n : ℕ) (p : Point) (f : ℕ) (args : List TypedExpression) (cs : List Column) (next : Point) → IsPointOf t n p → action_at t n p ≡ actions.Finish f args cs next → IsKnownImport t n p f args
-  finishes_known n p f args cs next k e = subst (IsKnownAction t n p) e (known_action n p k)
+  pub imports_known : (n : ℕ) (p : Point) → IsPointOf t n p → (IsNoImport (action_at t n p) → ⊥) → StandsAtImport t n p
+  imports_known n p k stands = of_import n p (action_at t n p) stands (known_action n p k)
