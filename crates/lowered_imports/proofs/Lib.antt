@@ -5,3 +5,4 @@ pub mod ValidParts
 pub mod RightPoints
 pub mod KnownActions
 pub mod PointLaws
+pub mod Followed
