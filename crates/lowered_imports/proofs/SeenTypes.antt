@@ -195,7 +195,7 @@ old_of_global t n g v e =
 
 -- ---- what is seen
 
-unhidden : (b : Bool) (o : Option VarInfo) (v : VarInfo) → option_and_then (unless_hidden b) o ≡ Some v → o ≡ Some v
+pub unhidden : (b : Bool) (o : Option VarInfo) (v : VarInfo) → option_and_then (unless_hidden b) o ≡ Some v → o ≡ Some v
 unhidden b None v h = absurd (cc)
 unhidden true (Some w) v h = h
 unhidden false (Some w) v h = by_test w.constant h

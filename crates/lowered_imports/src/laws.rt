@@ -1,6 +1,14 @@
-//! Laws of calls of procedures without body.
+//! Laws of the points of typed programs, and of calls of procedures without body.
 
+ghost use Rattle.lowered_imports.specs.KnownPoints.{PointsAreKnown, ImportsAreKnown};
 ghost use Rattle.lowered_imports.specs.Laws as law;
+
+/// The points of a typed program are typed and lead to points, and one that chooses, assumes or writes something of a call without body
+/// stands at such a call, behind its requires.
+pub fn points_of_typed_programs()
+    ensures known { PointsAreKnown }
+    ensures imports { ImportsAreKnown }
+{}
 
 /// In a run a call of a procedure without body is a step for each value that it chooses, one for each ensures and one that writes; a run
 /// that stands at such a call and fails an assertion fails it behind the call.
