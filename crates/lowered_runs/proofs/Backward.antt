@@ -115,8 +115,9 @@ module _ (t : TypedProgram) (Known : ℕ → Point → Type 0) (know : KnowsPoin
       let here : IsAmong (inside_edges t c.top.proc c.top.point (action_at t c.top.proc c.top.point)) e =
       subst (λ (r : Point). IsAmong (inside_edges t c.top.proc r (action_at t c.top.proc r)) e) (sym at) among in
       elim (inside_back t c (action_at t c.top.proc c.top.point) e y.values g.top.keeps (know.typed c.top.proc c.top.point g.top.known) plain here leads) [
-      inl goes ↦ inl (own_move c y e.to g plain goes.0 goes.1 proc spot below) |
-      inr fails ↦ inr (record { assertion = fails.assertion; wrong = spot ∙ fails.wrong; fails = fails.fails }) ]
+        | inl goes ↦ inl (own_move c y e.to g plain goes.0 goes.1 proc spot below)
+        | inr fails ↦ inr (record { assertion = fails.assertion; wrong = spot ∙ fails.wrong; fails = fails.fails })
+      ]
 
   call_move : (c : Config) (y : Stack) (p : Point) (f : ℕ) (args : List TypedExpression) (k : Conjunction) → IsGood t Known c → IsNoImport (action_at t c.top.proc c.top.point) →
       c.top.point ≡ p → action_at t c.top.proc p ≡ actions.Enter f args → IsAmong (call_list t c.top.proc f args) k →

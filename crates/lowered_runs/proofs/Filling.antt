@@ -176,11 +176,12 @@ pub filled_by : (t : TypedProgram) (i : ℕ) (choices : List (Option ℤ)) (c : 
     Filled t i c choices
 filled_by t i [] c g h f = absurd (cc)
 filled_by t i (ch ∷ chs) c g h f = elim (cases_lt (length c.top.locals) (length (locals_at t c.top.proc))) [
-  inl less ↦ (let full : length c.globals ≡ length t.globals = types_length t.globals c.globals g in
-    one_to_fill t i ch chs c (is_taken (need_of (slice_get (locals_at t c.top.proc) (length c.top.locals))) ch) h less refl
-    (λ d e k r. filled_by t i chs d (subst (HasTypes t.globals) (sym e) g) k r)
-    (ap (λ (o : Outcome). then_goes_on o (λ d. run t d chs)) (sym (local_step t c ch (omega arith) less)) ∙ f)) |
-  inr more ↦ none_to_fill t i (ch ∷ chs) c (so_far_all (locals_at t c.top.proc) c.top.locals h more) f ]
+  | inl less ↦ (let full : length c.globals ≡ length t.globals = types_length t.globals c.globals g in
+      one_to_fill t i ch chs c (is_taken (need_of (slice_get (locals_at t c.top.proc) (length c.top.locals))) ch) h less refl
+      (λ d e k r. filled_by t i chs d (subst (HasTypes t.globals) (sym e) g) k r)
+      (ap (λ (o : Outcome). then_goes_on o (λ d. run t d chs)) (sym (local_step t c ch (omega arith) less)) ∙ f))
+  | inr more ↦ none_to_fill t i (ch ∷ chs) c (so_far_all (locals_at t c.top.proc) c.top.locals h more) f
+]
 
 -- ---- constants and globals
 
@@ -225,6 +226,7 @@ one_to_begin t i ch chs zs false h less taken later f = absurd (cc)
 pub begun_by : (t : TypedProgram) (i : ℕ) (choices : List (Option ℤ)) (zs : List ℤ) → TypesSoFar t.globals zs → run t (begun t zs) choices ≡ Failed i → Begun t i
 begun_by t i [] zs h f = absurd (cc)
 begun_by t i (ch ∷ chs) zs h f = elim (cases_lt (length zs) (length t.globals)) [
-  inl less ↦ one_to_begin t i ch chs zs (is_taken (need_of (slice_get t.globals (length zs))) ch) h less refl (λ ys k r. begun_by t i chs ys k r)
-    (ap (λ (o : Outcome). then_goes_on o (λ d. run t d chs)) (sym (global_step t (begun t zs) ch less)) ∙ f) |
-  inr more ↦ record { globals = zs; typed = so_far_all t.globals zs h more; rest = ch ∷ chs; fails = f } ]
+  | inl less ↦ one_to_begin t i ch chs zs (is_taken (need_of (slice_get t.globals (length zs))) ch) h less refl (λ ys k r. begun_by t i chs ys k r)
+      (ap (λ (o : Outcome). then_goes_on o (λ d. run t d chs)) (sym (global_step t (begun t zs) ch less)) ∙ f)
+  | inr more ↦ record { globals = zs; typed = so_far_all t.globals zs h more; rest = ch ∷ chs; fails = f }
+]

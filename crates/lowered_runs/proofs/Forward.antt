@@ -137,18 +137,22 @@ module _ (t : TypedProgram) (Known : ℕ → Point → Type 0) (know : KnowsPoin
             known = know.entries n c.top.point f args g.top.known is;
             nothing_kept = refl;
           };
-          below = (g.top, record {
-            args = args;
-            calls = is;
-            procedure = q.procedure;
-            is = q.is;
-            enough = q.enough;
-            shape = q.shape;
-            arguments = q.arguments;
-            later = more;
-            passed = refl;
-            targets = q.targets;
-          }, g.below);
+          below = (
+            g.top,
+            record {
+              args = args;
+              calls = is;
+              procedure = q.procedure;
+              is = q.is;
+              enough = q.enough;
+              shape = q.shape;
+              arguments = q.arguments;
+              later = more;
+              passed = refl;
+              targets = q.targets;
+            },
+            g.below,
+          );
         };
       }
 
@@ -184,10 +188,11 @@ module _ (t : TypedProgram) (Known : ℕ → Point → Type 0) (know : KnowsPoin
 
   pub forward : (c d : Config) → IsGood t Known c → IsMove t c d → Follows c d
   forward c d g m = elim (own_or_call (action_at t c.top.proc c.top.point) m.plain) [
-    inl own ↦ (let f : Follows c m.mid = move_own c m.choice m.mid g own m.taken m.went in
-      let same : d ≡ m.mid = done_is t m.mid d m.more f.good.top.keeps.locals m.typed m.done in
-      subst (Follows c) (sym same) f) |
-    inr call ↦ move_enters c d call.0 call.1 g call.2 m ]
+    | inl own ↦ (let f : Follows c m.mid = move_own c m.choice m.mid g own m.taken m.went in
+        let same : d ≡ m.mid = done_is t m.mid d m.more f.good.top.keeps.locals m.typed m.done in
+        subst (Follows c) (sym same) f)
+    | inr call ↦ move_enters c d call.0 call.1 g call.2 m
+  ]
 
   -- ---- failing actions
 

@@ -51,10 +51,11 @@ module _ (t : TypedProgram) (Known : ℕ → Point → Type 0) (know : KnowsPoin
   reaches_breaks : (k : ℕ) (c : Config) → IsGood t Known c → Reaches t i k (shown_stack t c) → (j : ℕ) × breaks.Breaks t Import i j c
   reaches_breaks zero c g r = absurd (cc)
   reaches_breaks (suc k) c g (y, s, r) = elim (import_or_not (action_at t c.top.proc c.top.point)) [
-    inl plain ↦ by_move c y plain g (backward t Known know c y g plain s) r (λ d h q. reaches_breaks k d h q) |
-    inr at_call ↦ (let m : IsShownImport t Import c y = imports.back c y g at_call s in
-      let b = reaches_breaks k m.after (imports.good c m.after g m.import) (subst (Reaches t i k) m.shown r) in
-      (suc b.0, (m.after, inr m.import, b.1))) ]
+    | inl plain ↦ by_move c y plain g (backward t Known know c y g plain s) r (λ d h q. reaches_breaks k d h q)
+    | inr at_call ↦ (let m : IsShownImport t Import c y = imports.back c y g at_call s in
+        let b = reaches_breaks k m.after (imports.good c m.after g m.import) (subst (Reaches t i k) m.shown r) in
+        (suc b.0, (m.after, inr m.import, b.1)))
+  ]
     where
       by_move : (c : Config) (y : Stack) → IsNoImport (action_at t c.top.proc c.top.point) → IsGood t Known c → IsShownMove t Known know c y ⊎ Breaks t Known know c y → Reaches t i k y →
           ((d : Config) → IsGood t Known d → Reaches t i k (shown_stack t d) → (j : ℕ) × breaks.Breaks t Import i j d) → (j : ℕ) × breaks.Breaks t Import i j c
@@ -82,17 +83,21 @@ module _ (t : TypedProgram) (Known : ℕ → Point → Type 0) (know : KnowsPoin
       let r : Filled t i (begun t b.globals) b.rest = filled_by t i b.rest (begun t b.globals) b.typed (none_so_far (locals_at t t.entry)) b.fails in
       let c : Config = first t b.globals r.more in
       let g : IsGood t Known c = first_good b.globals r.more b.typed r.typed in
-      let m = run_breaks t Known know Import imports i (length r.rest) c r.rest (omega arith) g r.fails in
-      (suc m.0, shown_stack t c, record {
-        globals = b.globals;
-        as_many = types_length t.globals b.globals b.typed;
-        locals = r.more;
-        proc = refl;
-        spot = refl;
-        values = refl;
-        state = shown_state t t.entry (state_of c) g.top.keeps;
-        below = refl;
-      }, breaks_reaches m.0 c g m.1)
+      let m = run_breaks t Known know Import imports i (length r.rest) c r.rest (omega arith) g r.fails in (
+        suc m.0,
+        shown_stack t c,
+        record {
+          globals = b.globals;
+          as_many = types_length t.globals b.globals b.typed;
+          locals = r.more;
+          proc = refl;
+          spot = refl;
+          values = refl;
+          state = shown_state t t.entry (state_of c) g.top.keeps;
+          below = refl;
+        },
+        breaks_reaches m.0 c g m.1,
+      )
 
   -- the first configuration that a start shows
   pub record IsStarted (x : Stack) : Type 0 where

@@ -94,9 +94,10 @@ module _ (t : TypedProgram) (Known : ℕ → Point → Type 0) (know : KnowsPoin
   action_part : (c : Config) (choice : Option ℤ) (mid : Config) → IsGood t Known c → IsNoImport (action_at t c.top.proc c.top.point) →
       is_taken (need_of_action t c.top.proc (action_at t c.top.proc c.top.point)) choice ≡ true → act t c (number_of choice) (action_at t c.top.proc c.top.point) ≡ Went mid → HasPart t mid
   action_part c choice mid g plain taken went = elim (own_or_call t Known know (action_at t c.top.proc c.top.point) plain) [
-    inl own ↦ (let f : Follows t Known know c mid = move_own t Known know c choice mid g own taken went in
-      record { globals = f.good.top.keeps.globals; locals = all_so_far (locals_at t mid.top.proc) mid.top.locals f.good.top.keeps.locals }) |
-    inr x ↦ entered_part c choice mid x.0 x.1 g x.2 went ]
+    | inl own ↦ (let f : Follows t Known know c mid = move_own t Known know c choice mid g own taken went in
+        record { globals = f.good.top.keeps.globals; locals = all_so_far (locals_at t mid.top.proc) mid.top.locals f.good.top.keeps.locals })
+    | inr x ↦ entered_part c choice mid x.0 x.1 g x.2 went
+  ]
     where
       entered_part : (c : Config) (choice : Option ℤ) (mid : Config) (f : ℕ) (args : List TypedExpression) → IsGood t Known c → action_at t c.top.proc c.top.point ≡ actions.Enter f args →
           act t c (number_of choice) (action_at t c.top.proc c.top.point) ≡ Went mid → HasPart t mid
@@ -147,9 +148,10 @@ module _ (t : TypedProgram) (Known : ℕ → Point → Type 0) (know : KnowsPoin
   run_breaks n c [] l g f = absurd (cc)
   run_breaks zero c (ch ∷ chs) l g f = absurd (omega arith)
   run_breaks (suc n) c (ch ∷ chs) l g f = elim (import_or_not (action_at t c.top.proc c.top.point)) [
-    inl plain ↦ step_breaks n c ch chs (is_taken (need_of_action t c.top.proc (action_at t c.top.proc c.top.point)) ch) (omega arith) g plain refl (λ d cs m h r. run_breaks n d cs m h r)
-      (ap (λ (o : Outcome). then_goes_on o (λ d. run t d chs)) (sym (ready c ch g)) ∙ f) |
-    inr at_call ↦ (let r : IsRunImport t Import c (ch ∷ chs) i = imports.run c (ch ∷ chs) i g at_call f in
-      let s : length r.rest < length (ch ∷ chs) = r.shorter in
-      let b = run_breaks n r.after r.rest (omega arith) (imports.good c r.after g r.import) r.fails in
-      (suc b.0, (r.after, inr r.import, b.1))) ]
+    | inl plain ↦ step_breaks n c ch chs (is_taken (need_of_action t c.top.proc (action_at t c.top.proc c.top.point)) ch) (omega arith) g plain refl (λ d cs m h r. run_breaks n d cs m h r)
+        (ap (λ (o : Outcome). then_goes_on o (λ d. run t d chs)) (sym (ready c ch g)) ∙ f)
+    | inr at_call ↦ (let r : IsRunImport t Import c (ch ∷ chs) i = imports.run c (ch ∷ chs) i g at_call f in
+        let s : length r.rest < length (ch ∷ chs) = r.shorter in
+        let b = run_breaks n r.after r.rest (omega arith) (imports.good c r.after g r.import) r.fails in
+        (suc b.0, (r.after, inr r.import, b.1)))
+  ]

@@ -232,8 +232,9 @@ module _ (t : TypedProgram) (Known : ℕ → Point → Type 0) (know : KnowsPoin
 
   pub told_move : (c d : Config) → IsGood t Known c → IsMove t c d → IsToldMove c d
   told_move c d g m = elim (own_or_call t Known know (action_at t c.top.proc c.top.point) m.plain) [
-    inl own ↦ (let f : Follows t Known know c m.mid = move_own t Known know c m.choice m.mid g own m.taken m.went in
-      let same : d ≡ m.mid = done_is t m.mid d m.more f.good.top.keeps.locals m.typed m.done in
-      let none : m.more ≡ [] = none_missing (locals_at t m.mid.top.proc) m.mid.top.locals m.more f.good.top.keeps.locals m.typed in
-      own_told c d m (action_at t c.top.proc c.top.point) g (subst (IsGood t Known) (sym same) f.good) refl own same none) |
-    inr x ↦ call_told c d m x.0 x.1 g x.2 ]
+    | inl own ↦ (let f : Follows t Known know c m.mid = move_own t Known know c m.choice m.mid g own m.taken m.went in
+        let same : d ≡ m.mid = done_is t m.mid d m.more f.good.top.keeps.locals m.typed m.done in
+        let none : m.more ≡ [] = none_missing (locals_at t m.mid.top.proc) m.mid.top.locals m.more f.good.top.keeps.locals m.typed in
+        own_told c d m (action_at t c.top.proc c.top.point) g (subst (IsGood t Known) (sym same) f.good) refl own same none)
+    | inr x ↦ call_told c d m x.0 x.1 g x.2
+  ]

@@ -95,13 +95,14 @@ module _ (t : TypedProgram) (Known : ℕ → Point → Type 0) (know : KnowsPoin
   pub told_runs : (ss : List ToldStep) (c : Config) → IsGood t Known c → AreToldSteps t i (shown_stack t c) ss → run t c (told_choices t (shown_stack t c) ss) ≡ Failed i
   told_runs [] c g r = absurd (cc)
   told_runs (s ∷ ss) c g (st, r) = elim (import_or_not (action_at t c.top.proc c.top.point)) [
-    inl plain ↦ by_move c s.after s.helpers g (backward t Known know c s.after g plain st.step) r (λ d h q. told_runs ss d h q) |
-    inr at_call ↦ (let m : IsToldImport t Import c s.after (helpers_of t (shown_stack t c) s.after st.step) = tells.told c s.after g at_call st.step in
-      let later : run t m.after (told_choices t (shown_stack t m.after) ss) ≡ Failed i =
-      told_runs ss m.after (imports.good c m.after g m.import) (subst (λ (x : Stack). AreToldSteps t i x ss) m.shown r) in
-      ap (λ (x : Stack). run t c (choices_of t c.top.proc c.top.point (action_at t c.top.proc c.top.point) s.helpers s.after ++ told_choices t x ss)) m.shown
-      ∙ ap (λ (hs : List ℤ). run t c (choices_of t c.top.proc c.top.point (action_at t c.top.proc c.top.point) hs s.after ++ told_choices t (shown_stack t m.after) ss)) (sym st.helpers)
-      ∙ m.goes (told_choices t (shown_stack t m.after) ss) ∙ later) ]
+    | inl plain ↦ by_move c s.after s.helpers g (backward t Known know c s.after g plain st.step) r (λ d h q. told_runs ss d h q)
+    | inr at_call ↦ (let m : IsToldImport t Import c s.after (helpers_of t (shown_stack t c) s.after st.step) = tells.told c s.after g at_call st.step in
+        let later : run t m.after (told_choices t (shown_stack t m.after) ss) ≡ Failed i =
+        told_runs ss m.after (imports.good c m.after g m.import) (subst (λ (x : Stack). AreToldSteps t i x ss) m.shown r) in
+        ap (λ (x : Stack). run t c (choices_of t c.top.proc c.top.point (action_at t c.top.proc c.top.point) s.helpers s.after ++ told_choices t x ss)) m.shown
+        ∙ ap (λ (hs : List ℤ). run t c (choices_of t c.top.proc c.top.point (action_at t c.top.proc c.top.point) hs s.after ++ told_choices t (shown_stack t m.after) ss)) (sym st.helpers)
+        ∙ m.goes (told_choices t (shown_stack t m.after) ss) ∙ later)
+  ]
     where
       by_move : (c : Config) (y : Stack) (helpers : List ℤ) → IsGood t Known c → IsShownMove t Known know c y ⊎ Breaks t Known know c y → AreToldSteps t i y ss →
           ((d : Config) → IsGood t Known d → AreToldSteps t i (shown_stack t d) ss → run t d (told_choices t (shown_stack t d) ss) ≡ Failed i) → run t c (Told c y helpers ss) ≡ Failed i

@@ -1,16 +1,18 @@
 -- The choices of a run of a program, read off a run of its stack machine.
 use Rattle.std.specs.Prelude.{◌≡◌, ℕ, zero, suc, ◌+◌, ℤ, pos, nat_eq, List, [], ◌∷◌, ◌++◌, map, length, take, drop, Option, None, Some, slice_get, if◌then◌else◌}
-use Rattle.boogie_tree.specs.declared.tree.Column.{Column}
-use Rattle.typed_tree.specs.TypedTree.{TypedInvariant, TypedProcedure, TypedProgram}
+use Rattle.boogie_tree.specs.declared.tree.VarInfo.{VarInfo}
+use Rattle.typed_tree.specs.TypedTree.{TypedProcedure, TypedProgram}
 use Rattle.lin_rows.specs.Points.{point_of}
+use Rattle.letter_acts.specs.Values.{picked}
 use Rattle.boogie_points.specs.Points.{Point}
 use Rattle.boogie_points.specs.Actions as actions
 use Rattle.boogie_points.specs.Actions.{Action, action_at, ensured_conditions}
 use Rattle.boogie_points.specs.Starts.{targets_at}
 use Rattle.boogie_places.specs.Places.{number_of}
 use Rattle.lowered_steps.specs.ProgramFrames.{frame_at, number_in}
-use Rattle.lowered_steps.specs.Edges.{Spot, At, Wrong, those_in, found_from, numbers_in, columns_before_locals}
+use Rattle.lowered_steps.specs.Edges.{Spot, At, Wrong, numbers_in, columns_before_locals}
 use Rattle.lowered_steps.specs.Stacks.{Stack, IsStep, inside, call, back}
+use Rattle.lowered_imports.specs.Imports.{import_choices, told_globals}
 
 -- ---- one step
 
@@ -24,27 +26,11 @@ abbrev pub way_to : TypedProgram → ℕ → ℕ → List Point → ℕ
 way_to t n place [] = 0
 way_to t n place (p ∷ ps) = if nat_eq (number_of t (record { proc = n; point = p })) place then 0 else suc (way_to t n place ps)
 
--- the value that a call without body chose for a global: its value behind the call, or that of its helper where it is a target, too
-abbrev pub chosen_global : List ℤ → List ℤ → Option ℕ → ℕ → ℤ
-chosen_global helpers after None n = point_of after n
-chosen_global helpers after (Some k) n = point_of helpers k
-
--- all values that it chose: those of the modified globals, and then those of the targets
-abbrev pub chosen_values : List ℕ → List ℕ → List ℤ → List ℤ → List ℤ
-chosen_values modified targets helpers after = map (λ n. chosen_global helpers after (found_from 0 (those_in targets modified) n) n) modified ++ map (point_of after) targets
-
--- nothing is chosen at an ensures
-abbrev pub none_for : List TypedInvariant → List (Option ℤ)
-none_for [] = []
-none_for (i ∷ is) = None ∷ none_for is
-
--- the choices of the steps of a call without body: each value, nothing at an ensures, and nothing where they are written
-abbrev pub import_choices : List ℤ → List TypedInvariant → List (Option ℤ)
-import_choices news is = map Some news ++ (none_for is ++ None ∷ [])
-
-abbrev pub call_choices : Option TypedProcedure → List ℕ → List ℤ → List ℤ → List (Option ℤ)
-call_choices None targets helpers after = []
-call_choices (Some q) targets helpers after = import_choices (chosen_values q.modifies targets helpers after) (ensured_conditions q.specs)
+-- those of the steps of a call without body: of the values that are told of it
+abbrev pub call_choices : List VarInfo → Option TypedProcedure → List ℕ → List ℤ → List ℤ → List (Option ℤ)
+call_choices globals None targets helpers after = []
+call_choices globals (Some q) targets helpers after =
+    import_choices (told_globals globals q.modifies targets helpers after ++ picked after targets) (ensured_conditions q.specs)
 
 -- The choices of the steps of a run that an action of procedure n stands for, with the helpers of the machine's step and the stack behind it: one a
 -- step, None where nothing is chosen. An entry is followed by the choices of its results and locals.
@@ -52,9 +38,9 @@ abbrev pub choices_of : TypedProgram → ℕ → Point → Action → List ℤ �
 choices_of t n p (actions.Guess c next) helpers y = Some (point_of y.values (number_in (frame_at t n) c)) ∷ []
 choices_of t n p (actions.Pick ways) helpers y = Some (pos (way_to t n (place_number t n y.spot) ways)) ∷ []
 choices_of t n p (actions.Enter f args) helpers y = None ∷ map Some (drop (columns_before_locals t + length args) y.values)
-choices_of t n p (actions.Keep f args c next) helpers y = call_choices (slice_get t.procs f) (numbers_in (frame_at t n) (targets_at p.todo)) helpers y.values
-choices_of t n p (actions.Grant f args e next) helpers y = call_choices (slice_get t.procs f) (numbers_in (frame_at t n) (targets_at p.todo)) helpers y.values
-choices_of t n p (actions.Finish f args targets next) helpers y = call_choices (slice_get t.procs f) (numbers_in (frame_at t n) (targets_at p.todo)) helpers y.values
+choices_of t n p (actions.Keep f args c next) helpers y = call_choices t.globals (slice_get t.procs f) (numbers_in (frame_at t n) (targets_at p.todo)) helpers y.values
+choices_of t n p (actions.Grant f args e next) helpers y = call_choices t.globals (slice_get t.procs f) (numbers_in (frame_at t n) (targets_at p.todo)) helpers y.values
+choices_of t n p (actions.Finish f args targets next) helpers y = call_choices t.globals (slice_get t.procs f) (numbers_in (frame_at t n) (targets_at p.todo)) helpers y.values
 choices_of t n p a helpers y = None ∷ []
 
 abbrev pub spot_choices : TypedProgram → ℕ → Spot → List ℤ → Stack → List (Option ℤ)

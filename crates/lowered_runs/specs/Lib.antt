@@ -1,3 +1,4 @@
 pub mod Breaks
 pub mod Imports
 pub mod Choices
+pub mod Laws

@@ -93,8 +93,9 @@ written_passed t f b ty l z w h =
     let many : length w.args ≡ length (take w.procedure.params w.procedure.locals) = arguments_length (frame_at t b.proc) (take w.procedure.params w.procedure.locals) w.args w.arguments in
     let few : length (take w.procedure.params w.procedure.locals) ≤ w.procedure.params = take_at_most w.procedure.params w.procedure.locals in
     let behind : length zs ≤ l = elim (cases_lt l w.procedure.params) [
-      inl less ↦ absurd (false≢true (sym h.varies ∙ among_first w.procedure.locals w.procedure.params l h.info w.shape.constant at less)) |
-      inr more ↦ omega arith ] in
+      | inl less ↦ absurd (false≢true (sym h.varies ∙ among_first w.procedure.locals w.procedure.params l h.info w.shape.constant at less))
+      | inr more ↦ omega arith
+    ] in
     let r = put_later zs w.later l z behind in
     (r.0, ap (λ (ys : List ℤ). put ys l z) w.passed ∙ r.1)
 

@@ -83,12 +83,13 @@ check_back t c id at e next x after k typed i h =
     let n : ℕ = c.top.proc in
     let s : State = state_of c in
     elim (among_either (leads [] (path_list (frame_at t n) e true) (At next)) (leads [] (path_list (frame_at t n) e false) (Wrong id)) x i) [
-    inl j ↦ (let r = read_edge t n s (path_list (frame_at t n) e true) (At next) x after j h in
-      let val : value s e ≡ truth true = (lists.paths_decide (frame_at t n) s (shown t s) e true (shown_is_shown t n s k) typed).exactly.0 r.met in
-      inl (record { choice = None; taken = refl; next = moved_to c next; went = if_true (is_true (value s e)) c (Went (moved_to c next)) (Failed id) (is_true_of (value s e) true val); shown = stays t c x.to after next r.to_is r.same })) |
-    inr j ↦ (let r = read_edge t n s (path_list (frame_at t n) e false) (Wrong id) x after j h in
-      let val : value s e ≡ truth false = (lists.paths_decide (frame_at t n) s (shown t s) e false (shown_is_shown t n s k) typed).exactly.0 r.met in
-      inr (record { assertion = id; wrong = r.to_is; fails = if_false (is_true (value s e)) c (Went (moved_to c next)) (Failed id) (is_true_of (value s e) false val) })) ]
+      | inl j ↦ (let r = read_edge t n s (path_list (frame_at t n) e true) (At next) x after j h in
+          let val : value s e ≡ truth true = (lists.paths_decide (frame_at t n) s (shown t s) e true (shown_is_shown t n s k) typed).exactly.0 r.met in
+          inl (record { choice = None; taken = refl; next = moved_to c next; went = if_true (is_true (value s e)) c (Went (moved_to c next)) (Failed id) (is_true_of (value s e) true val); shown = stays t c x.to after next r.to_is r.same }))
+      | inr j ↦ (let r = read_edge t n s (path_list (frame_at t n) e false) (Wrong id) x after j h in
+          let val : value s e ≡ truth false = (lists.paths_decide (frame_at t n) s (shown t s) e false (shown_is_shown t n s k) typed).exactly.0 r.met in
+          inr (record { assertion = id; wrong = r.to_is; fails = if_false (is_true (value s e)) c (Went (moved_to c next)) (Failed id) (is_true_of (value s e) false val) }))
+    ]
 
 pub suppose_back : (t : TypedProgram) (c : Config) (e : TypedExpression) (next : Point) (x : Edge) (after : List ℤ) → FrameKeeps t c.top.proc (state_of c) → IsCondition (frame_at t c.top.proc) e →
     IsAmong (inside_edges t c.top.proc c.top.point (actions.Suppose e next)) x → InsideLeads (frame_at t c.top.proc) x.written x.rows.helpers x.rows.rows (shown t (state_of c)) after →
@@ -109,12 +110,13 @@ demand_back t c id at e args next x after k typed i h =
     let s : State = state_of c in
     let v : ℤ = value (passed_state s args) e in
     elim (among_either (leads [] (passed_list (frame_at t n) args e true) (At next)) (leads [] (passed_list (frame_at t n) args e false) (Wrong id)) x i) [
-    inl j ↦ (let r = read_edge t n s (passed_list (frame_at t n) args e true) (At next) x after j h in
-      let val : v ≡ truth true = (passed_decides t n s args e true k typed).0.exactly.0 r.met in
-      inl (record { choice = None; taken = refl; next = moved_to c next; went = if_true (is_true v) c (Went (moved_to c next)) (Failed id) (is_true_of v true val); shown = stays t c x.to after next r.to_is r.same })) |
-    inr j ↦ (let r = read_edge t n s (passed_list (frame_at t n) args e false) (Wrong id) x after j h in
-      let val : v ≡ truth false = (passed_decides t n s args e false k typed).0.exactly.0 r.met in
-      inr (record { assertion = id; wrong = r.to_is; fails = if_false (is_true v) c (Went (moved_to c next)) (Failed id) (is_true_of v false val) })) ]
+      | inl j ↦ (let r = read_edge t n s (passed_list (frame_at t n) args e true) (At next) x after j h in
+          let val : v ≡ truth true = (passed_decides t n s args e true k typed).0.exactly.0 r.met in
+          inl (record { choice = None; taken = refl; next = moved_to c next; went = if_true (is_true v) c (Went (moved_to c next)) (Failed id) (is_true_of v true val); shown = stays t c x.to after next r.to_is r.same }))
+      | inr j ↦ (let r = read_edge t n s (passed_list (frame_at t n) args e false) (Wrong id) x after j h in
+          let val : v ≡ truth false = (passed_decides t n s args e false k typed).0.exactly.0 r.met in
+          inr (record { assertion = id; wrong = r.to_is; fails = if_false (is_true v) c (Went (moved_to c next)) (Failed id) (is_true_of v false val) }))
+    ]
 
 test_way : (c : Config) (hit miss : Point) (z : ℤ) (b : Bool) → is_true z ≡ b → Went (moved_to c (if is_true z then hit else miss)) ≡ Went (moved_to c (if b then hit else miss))
 test_way c hit miss z b e = ap (λ (x : Bool). Went (moved_to c (if x then hit else miss))) e
@@ -126,9 +128,10 @@ test_back t c e hit miss x after k typed i h =
     let n : ℕ = c.top.proc in
     let s : State = state_of c in
     elim (among_either (leads [] (path_list (frame_at t n) e true) (At hit)) (leads [] (path_list (frame_at t n) e false) (At miss)) x i) [
-    inl j ↦ (let r = read_edge t n s (path_list (frame_at t n) e true) (At hit) x after j h in
-      let val : value s e ≡ truth true = (lists.paths_decide (frame_at t n) s (shown t s) e true (shown_is_shown t n s k) typed).exactly.0 r.met in
-      record { choice = None; taken = refl; next = moved_to c hit; went = test_way c hit miss (value s e) true (is_true_of (value s e) true val); shown = stays t c x.to after hit r.to_is r.same }) |
-    inr j ↦ (let r = read_edge t n s (path_list (frame_at t n) e false) (At miss) x after j h in
-      let val : value s e ≡ truth false = (lists.paths_decide (frame_at t n) s (shown t s) e false (shown_is_shown t n s k) typed).exactly.0 r.met in
-      record { choice = None; taken = refl; next = moved_to c miss; went = test_way c hit miss (value s e) false (is_true_of (value s e) false val); shown = stays t c x.to after miss r.to_is r.same }) ]
+      | inl j ↦ (let r = read_edge t n s (path_list (frame_at t n) e true) (At hit) x after j h in
+          let val : value s e ≡ truth true = (lists.paths_decide (frame_at t n) s (shown t s) e true (shown_is_shown t n s k) typed).exactly.0 r.met in
+          record { choice = None; taken = refl; next = moved_to c hit; went = test_way c hit miss (value s e) true (is_true_of (value s e) true val); shown = stays t c x.to after hit r.to_is r.same })
+      | inr j ↦ (let r = read_edge t n s (path_list (frame_at t n) e false) (At miss) x after j h in
+          let val : value s e ≡ truth false = (lists.paths_decide (frame_at t n) s (shown t s) e false (shown_is_shown t n s k) typed).exactly.0 r.met in
+          record { choice = None; taken = refl; next = moved_to c miss; went = test_way c hit miss (value s e) false (is_true_of (value s e) false val); shown = stays t c x.to after miss r.to_is r.same })
+    ]

@@ -164,9 +164,11 @@ passed_decides t n s args e want k typed =
     let env : Environment = standing_environment (frame_environment frame) (passed args) in
     let shows : Shows (length frame) point env (passed_state s args) =
     passed_show (length frame) point (frame_environment frame) s (frame_shows frame s values (shown_is_shown t n s k)) args typed.arguments in
-    let choice : IsChoice (length frame) point (paths env false e) (value (passed_state s args) e) = paths_mean (length frame) point env (passed_state s args) shows false e typed.typed typed.linear in
-    (lists.decided_at (length frame) point (listed (paths env false e want)) (value (passed_state s args) e ≡ truth want) values (length frame)
-    (state_length frame values (shown_state t n s k)) (choice.path want) (omega arith) (agrees_refl (length frame) point), choice.truth_value)
+    let choice : IsChoice (length frame) point (paths env false e) (value (passed_state s args) e) = paths_mean (length frame) point env (passed_state s args) shows false e typed.typed typed.linear in (
+      lists.decided_at (length frame) point (listed (paths env false e want)) (value (passed_state s args) e ≡ truth want) values (length frame)
+          (state_length frame values (shown_state t n s k)) (choice.path want) (omega arith) (agrees_refl (length frame) point),
+      choice.truth_value,
+    )
 
 by_passed : (t : TypedProgram) (c : Config) (a : Action) (args : List TypedExpression) (e : TypedExpression) (want : Bool) (to : Spot) → action_at t c.top.proc c.top.point ≡ a →
     FrameKeeps t c.top.proc (state_of c) → IsPassed (frame_at t c.top.proc) args e → value (passed_state (state_of c) args) e ≡ truth want →

@@ -183,10 +183,10 @@ returned_is t c b rest k h w first_callee first_caller =
     let results : picked (shown t (state_of c)) (results_of callee) ≡ zs = results_picked t c.top.proc (state_of c) q k w.is w.shape inside in
     let run_results : steps.results_of t c.top ≡ take q.results zs = ap (λ (o : Option TypedProcedure). results_if_any o c.top.locals) w.is in
     let few : length ws ≤ q.results = (
-      let a : length ws ≡ length cs = length-map cs (number_in caller) in
-      let d : length cs ≡ length (results_of_procedure q) = targets_length t b.proc (results_of_procedure q) cs w.targets in
-      let f : length (results_of_procedure q) ≤ q.results = take_at_most q.results (drop q.params q.locals) in
-      omega arith) in
+    let a : length ws ≡ length cs = length-map cs (number_in caller) in
+    let d : length cs ≡ length (results_of_procedure q) = targets_length t b.proc (results_of_procedure q) cs w.targets in
+    let f : length (results_of_procedure q) ≤ q.results = take_at_most q.results (drop q.params q.locals) in
+    omega arith) in
     let taken : AreTaken t b.proc cs (steps.results_of t c.top) = results_taken t c b k w in
     let kept : FrameKeeps t b.proc s = resumed_keeps t c b rest k h in
     let written : put_all (shown t s) ws (steps.results_of t c.top) ≡ shown t (all_state_written s cs (steps.results_of t c.top)) =
@@ -225,7 +225,7 @@ leave_goes t c b rest opened is k h w first_callee first_caller =
       at_call = shown_state t n s h;
       at_end = shown_state t n after kept;
       constants = shown_constants t f u first_callee own ∙ same_constants t.globals c.globals c.top.entry own theirs k.constants
-        ∙ sym (shown_constants t f s first_callee theirs);
+          ∙ sym (shown_constants t f s first_callee theirs);
       olds = shown_olds t f u k first_callee ∙ sym (shown_variables t f s first_callee theirs) ∙ ap (picked (shown t s)) (sym (olds_of_variables t.globals (frame_at t f) (frame_is t f first_callee)));
       rows_hold = m.met;
       returned = sym (returned_is t c b rest k h w first_callee first_caller);
