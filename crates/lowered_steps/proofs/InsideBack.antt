@@ -1,38 +1,25 @@
 -- The other way round: a step by an inside edge of an action is what the action does, with a choice that it takes.
-use Rattle.std.proofs.Common.{◌≡◌, ℕ, zero, suc, ◌+◌, ◌<◌, Bool, true, false, not, ℤ, pos, negsuc, List, [], ◌∷◌, ◌++◌, map, length, Option, None, Some, inl, inr, ◌⊎◌, refl, sym, ap, subst, ◌∙◌, arith, if◌then◌else◌}
-use Rattle.std.specs.List.{AllByRecursion}
-use Rattle.std.specs.Prelude.{slice_get, unsigned_abs, nat_lt}
-use Rattle.std.proofs.lemmas.List.{length-map}
-use Rattle.std.proofs.lemmas.Option.{slice_get_within}
-use Rattle.std.proofs.lemmas.Bool.{true≢false}
+use Rattle.std.proofs.Common.{◌≡◌, ℕ, Bool, true, false, ℤ, pos, List, [], Option, None, inl, inr, ◌⊎◌, refl, ap, subst, if◌then◌else◌}
 use Rattle.boogie_tree.specs.declared.span.Span.{Span}
-use Rattle.boogie_tree.specs.declared.tree.Ty.{Ty}
-use Rattle.boogie_tree.specs.declared.tree.Ty.TheVariants as types
-use Rattle.boogie_tree.specs.declared.tree.Column.{Column}
-use Rattle.boogie_tree.specs.declared.tree.Column.TheVariants as columns
 use Rattle.typed_tree.specs.TypedTree.{TypedExpression, TypedProgram}
 use Rattle.typed_tree.specs.Values.{State, value, truth}
-use Rattle.letter_acts.specs.Frames.{Columns, IsState, IsValue}
-use Rattle.letter_acts.specs.Values.{put_all}
 use Rattle.letter_acts.specs.Meaning.{InsideLeads}
 use Rattle.cond_jumps.specs.Conjunctions.{Conjunction}
-use Rattle.cond_jumps.specs.Lists.{path_list, assign_list, IsCondition, IsMet, SomeIsMet, Decide}
+use Rattle.cond_jumps.specs.Lists.{path_list, IsCondition, SomeIsMet}
 use Rattle.cond_jumps.proofs.ListLemmas as lists
 use Rattle.boogie_points.specs.Points.{Point}
 use Rattle.boogie_points.specs.Actions as actions
 use Rattle.boogie_points.specs.Actions.{Action}
 use Rattle.boogie_run.specs.Configurations.{Config, state_of}
-use Rattle.boogie_run.specs.Needs.{need_of_action, is_taken, locals_at}
-use Rattle.boogie_run.specs.Steps.{Outcome, Went, Blocked, Failed, act, number_of, is_true, moved_to, written, all_written, values, passed_state}
+use Rattle.boogie_run.specs.Needs.{need_of_action, is_taken}
+use Rattle.boogie_run.specs.Steps.{Outcome, Went, Blocked, Failed, act, number_of, is_true, moved_to, passed_state}
 use Rattle.lowered_steps.specs.ProgramFrames.{frame_at, shown}
-use Rattle.lowered_steps.specs.Edges.{Spot, At, Wrong, Edge, leads, inside_edges, skips, passed_list, numbers_in}
+use Rattle.lowered_steps.specs.Edges.{Spot, At, Wrong, Edge, leads, inside_edges, passed_list}
 use Rattle.lowered_steps.specs.Stacks.{Stack, IsAmong}
-use Rattle.lowered_steps.specs.Moves.{FrameKeeps, IsTypedAction, IsTarget, IsPassed, AreAssigned, shown_stack, shown_below}
-use Rattle.lowered_steps.proofs.FrameColumns.{shown_state, shown_is_shown}
-use Rattle.lowered_steps.proofs.Places.{all_state_written, all_written_shown}
+use Rattle.lowered_steps.specs.Moves.{FrameKeeps, IsPassed, shown_stack, shown_below}
+use Rattle.lowered_steps.proofs.FrameColumns.{shown_is_shown}
 use Rattle.lowered_steps.proofs.ListSteps.{some_met, among_led, among_either, condition_led, IsLed}
-use Rattle.lowered_steps.proofs.InsideSteps.{member_condition, is_true_of, passed_decides}
-use Rattle.lowered_steps.proofs.Writes.{AreTaken, assigned_taken, taken_there, is_long, all_written_is, stack_of_written, assigned_sound, IsWritten}
+use Rattle.lowered_steps.proofs.InsideSteps.{is_true_of, passed_decides}
 
 -- What the action makes of the configuration, with a choice that it takes: it goes on to one that is shown by this stack, or it fails there.
 pub record GoesTo (t : TypedProgram) (c : Config) (a : Action) (to : Spot) (after : List ℤ) : Type 0 where
