@@ -6,3 +6,4 @@ pub mod RightPoints
 pub mod KnownActions
 pub mod PointLaws
 pub mod Followed
+pub mod ImportShown
