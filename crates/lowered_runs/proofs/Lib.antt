@@ -4,3 +4,6 @@ pub mod Backward
 pub mod Filling
 pub mod MovesOfRuns
 pub mod Machine
+pub mod Telling
+pub mod ToldMoves
+pub mod ToldRuns

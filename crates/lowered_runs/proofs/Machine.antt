@@ -9,7 +9,7 @@ use Rattle.boogie_points.specs.Actions.{action_at}
 use Rattle.boogie_points.specs.Starts.{start_point_of}
 use Rattle.boogie_run.specs.Configurations.{Config, state_of}
 use Rattle.boogie_run.specs.Needs.{locals_at}
-use Rattle.boogie_run.specs.Steps.{Failed}
+use Rattle.boogie_run.specs.Steps.{Failed, start}
 use Rattle.boogie_run.specs.Runs.{run, Fails}
 use Rattle.lowered_steps.specs.ProgramFrames.{frame_at, shown, variable_values}
 use Rattle.lowered_steps.specs.Edges.{Spot, At, Wrong}
@@ -26,13 +26,13 @@ use Rattle.lowered_runs.proofs.Filling.{none_so_far, begun, Begun, begun_by, run
 use Rattle.lowered_runs.proofs.MovesOfRuns.{breaks_run, run_breaks}
 
 -- no step leads on from the failing of an assertion
-stuck : (t : TypedProgram) (x y : Stack) (i : ℕ) → x.spot ≡ Wrong i → IsStep t x y → ⊥
+pub stuck : (t : TypedProgram) (x y : Stack) (i : ℕ) → x.spot ≡ Wrong i → IsStep t x y → ⊥
 stuck t x y i e (inside p a at among leads proc spot below) = let h : At p ≡ Wrong i = sym at ∙ e in cc
 stuck t x y i e (call p f args k at calls among leads proc spot below) = let h : At p ≡ Wrong i = sym at ∙ e in cc
 stuck t x y i e (back p b args k at is below calls among leads proc spot) = let h : At p ≡ Wrong i = sym at ∙ e in cc
 
 -- so the assertion is the one that is reached
-reached : (t : TypedProgram) (k : ℕ) (y : Stack) (i j : ℕ) → y.spot ≡ Wrong j → Reaches t i k y → j ≡ i
+pub reached : (t : TypedProgram) (k : ℕ) (y : Stack) (i j : ℕ) → y.spot ≡ Wrong j → Reaches t i k y → j ≡ i
 reached t zero y i j e r = let h : Wrong j ≡ Wrong i = sym e ∙ r in cc
 reached t (suc k) y i j e (z, s, r) = absurd (stuck t y z j e s)
 
@@ -94,8 +94,17 @@ module _ (t : TypedProgram) (Known : ℕ → Point → Type 0) (know : KnowsPoin
         below = refl;
       }, breaks_reaches m.0 c g m.1)
 
-  pub machine_fails : MachineFails t i → Fails t i
-  machine_fails (k, x, s, r) =
+  -- the first configuration that a start shows
+  pub record IsStarted (x : Stack) : Type 0 where
+    pub globals : List ℤ
+    pub typed : HasTypes t.globals globals
+    pub locals : List ℤ
+    pub locals_typed : HasTypes (locals_at t t.entry) locals
+    pub shown_is : x ≡ shown_stack t (first t globals locals)
+    pub good : IsGood t Known (first t globals locals)
+
+  pub started : (x : Stack) → IsStart t x → IsStarted x
+  started x s =
       let gs : List ℤ = s.globals in
       let ls : List ℤ = s.locals in
       let olds : Columns = old_columns 0 t.globals in
@@ -107,9 +116,23 @@ module _ (t : TypedProgram) (Known : ℕ → Point → Type 0) (know : KnowsPoin
       let typed : HasTypes t.globals gs = globals_typed 0 t.globals gs parts.0 in
       let behind = state_parts olds locals values ls (olds_length 0 t.globals gs many) parts.1 in
       let locals_are : HasTypes (locals_at t t.entry) ls = locals_typed 0 (locals_at t t.entry) ls behind.1 in
-      let c : Config = first t gs ls in
-      let shows : x ≡ shown_stack t c = (λ j. record { proc = s.proc j; spot = s.spot j; values = s.values j; below = s.below j }) in
-      let g : IsGood t Known c = first_good gs ls typed locals_are in
-      let b = reaches_breaks k c g (subst (Reaches t i k) shows r) in
-      let q = breaks_run t Known know Import imports i b.0 c g b.1 in
-      (map Some gs ++ (map Some ls ++ q.0), run_begun t [] gs (map Some ls ++ q.0) typed ∙ run_filled t (begun t gs) ls q.0 typed locals_are ∙ q.1)
+      record {
+        globals = gs;
+        typed = typed;
+        locals = ls;
+        locals_typed = locals_are;
+        shown_is = (λ j. record { proc = s.proc j; spot = s.spot j; values = s.values j; below = s.below j });
+        good = first_good gs ls typed locals_are;
+      }
+
+  -- the choices of the start, and then others
+  pub start_runs : (gs ls : List ℤ) (rest : List (Option ℤ)) → HasTypes t.globals gs → HasTypes (locals_at t t.entry) ls → run t (start t) (map Some gs ++ (map Some ls ++ rest)) ≡ run t (first t gs ls) rest
+  start_runs gs ls rest g l = run_begun t [] gs (map Some ls ++ rest) g ∙ run_filled t (begun t gs) ls rest g l
+
+  pub machine_fails : MachineFails t i → Fails t i
+  machine_fails (k, x, s, r) =
+      let st : IsStarted x = started x s in
+      let c : Config = first t st.globals st.locals in
+      let b = reaches_breaks k c st.good (subst (Reaches t i k) st.shown_is r) in
+      let q = breaks_run t Known know Import imports i b.0 c st.good b.1 in
+      (map Some st.globals ++ (map Some st.locals ++ q.0), start_runs st.globals st.locals q.0 st.typed st.locals_typed ∙ q.1)

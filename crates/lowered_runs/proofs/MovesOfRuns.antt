@@ -53,7 +53,7 @@ record HasPart (t : TypedProgram) (c : Config) : Type 0 where
   locals : TypesSoFar (locals_at t c.top.proc) c.top.locals
 
 module _ (t : TypedProgram) (Known : ℕ → Point → Type 0) (know : KnowsPoints t Known) (Import : Config → Config → Type 0) (imports : ImportsAreSteps t Known Import) (i : ℕ) where
-  ready : (c : Config) (choice : Option ℤ) → IsGood t Known c →
+  pub ready : (c : Config) (choice : Option ℤ) → IsGood t Known c →
       step t c choice ≡
       (if is_taken (need_of_action t c.top.proc (action_at t c.top.proc c.top.point)) choice then act t c (number_of choice) (action_at t c.top.proc c.top.point) else Refused)
   ready c choice g =
@@ -63,7 +63,7 @@ module _ (t : TypedProgram) (Known : ℕ → Point → Type 0) (know : KnowsPoin
 
   -- ---- from moves to runs
 
-  move_runs : (c d : Config) (rest : List (Option ℤ)) → IsGood t Known c → HasTypes t.globals d.globals → (m : IsMove t c d) → run t c (m.choice ∷ (map Some m.more ++ rest)) ≡ run t d rest
+  pub move_runs : (c d : Config) (rest : List (Option ℤ)) → IsGood t Known c → HasTypes t.globals d.globals → (m : IsMove t c d) → run t c (m.choice ∷ (map Some m.more ++ rest)) ≡ run t d rest
   move_runs c d rest g h m =
       let a : Action = action_at t c.top.proc c.top.point in
       let stepped : step t c m.choice ≡ Went m.mid =

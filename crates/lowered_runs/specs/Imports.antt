@@ -8,6 +8,7 @@ use Rattle.boogie_run.specs.Steps.{Failed}
 use Rattle.boogie_run.specs.Runs.{run}
 use Rattle.lowered_steps.specs.Stacks.{Stack, IsStep}
 use Rattle.lowered_steps.specs.Moves.{IsGood, IsNoImport, shown_stack}
+use Rattle.lowered_runs.specs.Choices.{choices_of, helpers_of}
 
 -- a configuration stands at a call without body
 abbrev pub IsAtImport : TypedProgram → Config → Type 0
@@ -39,3 +40,14 @@ pub record ImportsAreSteps (t : TypedProgram) (Known : ℕ → Point → Type 0)
   pub back : (c : Config) (y : Stack) → IsGood t Known c → IsAtImport t c → IsStep t (shown_stack t c) y → IsShownImport t Import c y
   pub runs : (c d : Config) → IsGood t Known c → Import c d → IsChosenImport t c d
   pub run : (c : Config) (choices : List (Option ℤ)) (i : ℕ) → IsGood t Known c → IsAtImport t c → run t c choices ≡ Failed i → IsRunImport t Import c choices i
+
+-- the whole call that a step shows, with the choices that are told of it
+pub record IsToldImport (t : TypedProgram) (Import : Config → Config → Type 0) (c : Config) (y : Stack) (helpers : List ℤ) : Type 0 where
+  pub after : Config
+  pub import : Import c after
+  pub shown : y ≡ shown_stack t after
+  pub goes : (rest : List (Option ℤ)) → run t c (choices_of t c.top.proc c.top.point (action_at t c.top.proc c.top.point) helpers y ++ rest) ≡ run t after rest
+
+-- With the helpers of a step, the choices that are told of it make the whole call.
+pub record ImportsAreTold (t : TypedProgram) (Known : ℕ → Point → Type 0) (Import : Config → Config → Type 0) : Type 0 where
+  pub told : (c : Config) (y : Stack) → IsGood t Known c → IsAtImport t c → (s : IsStep t (shown_stack t c) y) → IsToldImport t Import c y (helpers_of t (shown_stack t c) y s)

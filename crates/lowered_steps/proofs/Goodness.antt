@@ -25,7 +25,7 @@ pub append_none : (xs : List ℤ) → xs ++ [] ≡ xs
 append_none [] = refl
 append_none (x ∷ xs) = ap (λ (ys : List ℤ). x ∷ ys) (append_none xs)
 
-none_missing : (vs : List VarInfo) (zs more : List ℤ) → HasTypes vs zs → HasTypes vs (zs ++ more) → more ≡ []
+pub none_missing : (vs : List VarInfo) (zs more : List ℤ) → HasTypes vs zs → HasTypes vs (zs ++ more) → more ≡ []
 none_missing vs zs [] h k = refl
 none_missing vs zs (m ∷ ms) h k =
     let a : length zs ≡ length vs = types_length vs zs h in
