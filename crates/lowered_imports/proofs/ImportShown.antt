@@ -30,6 +30,7 @@ use Rattle.cond_jumps.proofs.AssignLemmas.{sum_later, choice_later}
 use Rattle.cond_jumps.proofs.PassingLemmas.{IsLeft, AreResults}
 use Rattle.lowered_steps.specs.Edges.{found_from, typed_column, left_if}
 use Rattle.lowered_imports.specs.Imports.{IsModified, as_truth, as_value}
+use Rattle.lowered_imports.proofs.ImportLists.{found_more}
 use Rattle.lowered_imports.proofs.Followed.{IsRefused, IsFollowed, Follows, followed_of_choice}
 
 -- ---- the first place of a number in a list
@@ -197,20 +198,22 @@ typed_left R same c o v e h = subst (λ (x : Option VarInfo). LeftBy R same (typ
 pub left_by : (globals : List VarInfo) (base behind g : ℕ) (ns hs : List ℕ) (R : ℕ → Ty → Type 0) (same : Type 0) → ((Member ns g → ⊥) → same) →
     ((j : ℕ) → slice_get ns j ≡ Some g → (v : VarInfo) × (slice_get globals g ≡ Some v)) →
     ((j : ℕ) (v : VarInfo) → slice_get ns j ≡ Some g → (Member hs g → ⊥) → slice_get globals g ≡ Some v → R (base + j) v.ty) →
-    ((i : ℕ) (v : VarInfo) → slice_get hs i ≡ Some g → slice_get globals g ≡ Some v → R (behind + i) v.ty) →
+    ((i : ℕ) (v : VarInfo) → found_from 0 hs g ≡ Some i → slice_get hs i ≡ Some g → slice_get globals g ≡ Some v → R (behind + i) v.ty) →
     LeftBy R same (left_if globals base g (found_from 0 ns g) (found_from behind hs g))
 left_by globals base behind g ns hs R same outside there written helper =
-    by_places (found_from 0 ns g) (found_from behind hs g) (found_is 0 ns g) (found_is behind hs g)
+    by_places (found_from 0 ns g) (found_from behind hs g) (found_is 0 ns g) (found_is behind hs g) refl
   where
-    by_places : (a b : Option ℕ) → FoundIs 0 ns g a → FoundIs behind hs g b → LeftBy R same (left_if globals base g a b)
-    by_places None b h k = outside h
-    by_places (Some j) None (i, e, s) k =
+    by_places : (a b : Option ℕ) → FoundIs 0 ns g a → FoundIs behind hs g b → found_from behind hs g ≡ b → LeftBy R same (left_if globals base g a b)
+    by_places None b h k f = outside h
+    by_places (Some j) None (i, e, s) k f =
         let v = there i s in
         let at : base + i ≡ base + j = omega (arith, e) in
         typed_left R same (base + j) (slice_get globals g) v.0 v.1 (subst (λ (c : ℕ). R c v.0.ty) at (written i v.0 s k v.1))
-    by_places (Some j) (Some h) (i, e, s) (l, d, u) =
+    by_places (Some j) (Some h) (i, e, s) (l, d, u) f =
         let v = there i s in
-        typed_left R same h (slice_get globals g) v.0 v.1 (subst (λ (c : ℕ). R c v.0.ty) (sym d) (helper l v.0 u v.1))
+        let none : behind + 0 ≡ behind = omega arith in
+        let first : found_from 0 hs g ≡ Some l = found_more behind 0 l hs g (ap (λ (m : ℕ). found_from m hs g) none ∙ f ∙ ap Some d) in
+        typed_left R same h (slice_get globals g) v.0 v.1 (subst (λ (c : ℕ). R c v.0.ty) (sym d) (helper l v.0 first u v.1))
 
 pub left_of : (m : ℕ) (p : ℕ → ℤ) (s : State) (globals : List ℤ) (g : ℕ) (o : Option (ℕ × Ty)) →
     LeftBy (λ c ty. (c < m) × (p c ≡ member globals g) × IsValue ty (member globals g)) (member s.globals g ≡ member globals g) o → IsLeft m p s globals g o

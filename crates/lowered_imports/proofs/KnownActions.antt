@@ -93,7 +93,7 @@ if_boolean : (ty : Ty) (e : TypedExpression) → is_argument ty e ≡ true → t
 if_boolean types.Int e h b = absurd (cc)
 if_boolean types.Bool e h b = simple_of e h
 
-linear_arguments : (t : TypedProgram) (n : ℕ) (vs : List VarInfo) (es : List TypedExpression) → AreArguments (frame_at t n) vs es → AllByRecursion (λ e. is_linear false e ≡ true) es
+pub linear_arguments : (t : TypedProgram) (n : ℕ) (vs : List VarInfo) (es : List TypedExpression) → AreArguments (frame_at t n) vs es → AllByRecursion (λ e. is_linear false e ≡ true) es
 linear_arguments t n [] [] h = tt
 linear_arguments t n [] (e ∷ es) h = absurd h
 linear_arguments t n (v ∷ vs) [] h = absurd h

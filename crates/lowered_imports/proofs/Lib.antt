@@ -6,4 +6,7 @@ pub mod RightPoints
 pub mod KnownActions
 pub mod PointLaws
 pub mod Followed
+pub mod ImportLists
 pub mod ImportShown
+pub mod ImportStates
+pub mod CallPoints
