@@ -44,7 +44,7 @@ use Rattle.lowered_imports.proofs.ImportStates.{changed, changed_keeps, changed_
 
 -- ---- lists
 
-member_point : (zs : List ℤ) (n : ℕ) → member zs n ≡ point_of zs n
+pub member_point : (zs : List ℤ) (n : ℕ) → member zs n ≡ point_of zs n
 member_point [] n = refl
 member_point (z ∷ zs) zero = refl
 member_point (z ∷ zs) (suc n) = member_point zs n
@@ -66,7 +66,7 @@ state_at (c ∷ cs) [] k d h e = absurd h
 state_at (c ∷ cs) (z ∷ zs) zero d h e = let same : c ≡ d = cc in subst (λ (x : Column × VarInfo). IsValue x.1.ty z) same h.0
 state_at (c ∷ cs) (z ∷ zs) (suc k) d h e = state_at cs zs k d h.1 e
 
-member_of_slice : (ns : List ℕ) (k g : ℕ) → slice_get ns k ≡ Some g → Member ns g
+pub member_of_slice : (ns : List ℕ) (k g : ℕ) → slice_get ns k ≡ Some g → Member ns g
 member_of_slice [] k g e = absurd (cc)
 member_of_slice (n ∷ ns) zero g e = inl (let i : n ≡ g = cc in i)
 member_of_slice (n ∷ ns) (suc k) g e = inr (member_of_slice ns k g e)
@@ -208,6 +208,12 @@ module _ (t : TypedProgram) (c : Config) (f : ℕ) (args : List TypedExpression)
 
   pub inside_targets : AllByRecursion (λ x. x < length before) targets
   inside_targets = targets_inside t c.top.proc (results_of_procedure k.procedure) (targets_at c.top.point.todo) (length before) (sym before_length) k.targets
+
+  pub global_inside : (g : ℕ) (v : VarInfo) → slice_get t.globals g ≡ Some v → g < length c.globals
+  global_inside g v e =
+      let a : g < length t.globals = slice_get_within t.globals g v e in
+      let b : length c.globals ≡ length t.globals = types_length t.globals c.globals keeps.globals in
+      omega arith
 
   pub modified_at : (j g : ℕ) → slice_get modified j ≡ Some g → IsModified t g
   modified_at j g e = all_get (IsModified t) modified j g k.modified e

@@ -10,3 +10,4 @@ pub mod ImportLists
 pub mod ImportShown
 pub mod ImportStates
 pub mod CallPoints
+pub mod ImportSteps
