@@ -11,3 +11,4 @@ pub mod ImportShown
 pub mod ImportStates
 pub mod CallPoints
 pub mod ImportSteps
+pub mod ImportLaws
