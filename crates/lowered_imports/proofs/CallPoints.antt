@@ -1,6 +1,6 @@
 -- The columns of a whole call without body: the frame before it, what is written, and the helpers. What stands for the columns in its ensures has the
 -- values behind the call.
-use Rattle.std.proofs.Common.{◌≡◌, ◌⊎◌, inl, inr, ℕ, zero, suc, ◌+◌, ◌<◌, ◌≤◌, Bool, true, false, ℤ, pos, List, [], ◌∷◌, ◌++◌, map, length, take, drop, Option, None, Some, slice_get, refl, sym, ap, subst, ◌∙◌, arith}
+use Rattle.std.proofs.Common.{◌≡◌, inl, inr, ℕ, zero, suc, ◌+◌, ◌<◌, ◌≤◌, true, false, ℤ, List, [], ◌∷◌, ◌++◌, map, length, take, drop, Option, None, Some, slice_get, refl, sym, ap, subst, ◌∙◌, arith}
 use Rattle.std.specs.List.{AllByRecursion}
 use Rattle.std.proofs.lemmas.List.{length-append, length-map}
 use Rattle.std.proofs.lemmas.Option.{slice_get_within}
@@ -13,9 +13,9 @@ use Rattle.typed_tree.specs.Values.{State, member, value}
 use Rattle.typed_tree.specs.AffineForm.{is_linear}
 use Rattle.nwa_base.specs.Members.{Member}
 use Rattle.lin_rows.specs.Points.{point_of}
-use Rattle.letter_acts.specs.Frames.{Columns, IsValue, IsState, added, globals_from, old_columns, locals_from}
+use Rattle.letter_acts.specs.Frames.{Columns, IsValue, IsState, globals_from, old_columns, locals_from}
 use Rattle.letter_acts.specs.Values.{picked, put_all}
-use Rattle.letter_acts.proofs.PointLemmas.{point_of-left, point_of-right, state_length, length-put_all, put_all_other, picked_put}
+use Rattle.letter_acts.proofs.PointLemmas.{point_of-left, state_length, length-put_all, put_all_other, picked_put}
 use Rattle.cond_jumps.specs.Environments.{Environment}
 use Rattle.cond_jumps.specs.Frames.{frame_environment}
 use Rattle.cond_jumps.specs.Meaning.{Agrees}
@@ -23,7 +23,7 @@ use Rattle.cond_jumps.specs.Passing.{imported_state}
 use Rattle.cond_jumps.specs.Worth.{Shows}
 use Rattle.cond_jumps.proofs.FrameLemmas.{frame_shows}
 use Rattle.cond_jumps.proofs.ListLemmas.{shows_agrees}
-use Rattle.cond_jumps.proofs.PassingLemmas.{IsLeft, AreResults, import_show}
+use Rattle.cond_jumps.proofs.PassingLemmas.{AreResults, import_show}
 use Rattle.boogie_points.specs.Actions.{ensured_conditions}
 use Rattle.boogie_points.specs.Starts.{targets_at}
 use Rattle.boogie_run.specs.Configurations.{Config, state_of}
@@ -33,12 +33,12 @@ use Rattle.lowered_steps.specs.ProgramFrames.{frame_at, variable_values, shown, 
 use Rattle.lowered_steps.specs.Edges.{found_from, those_in, import_written, left_at, found_or_0, results_at, numbers_in, import_environment}
 use Rattle.lowered_steps.specs.Moves.{HasTypes, FrameKeeps, IsTarget, AreTargets, results_of_procedure}
 use Rattle.lowered_steps.proofs.FrameColumns.{types_length, shown_state, shown_is_shown}
-use Rattle.lowered_steps.proofs.Places.{before_locals, global_place, local_place, put_is_set, olds_length, IsThere}
+use Rattle.lowered_steps.proofs.Places.{before_locals, local_place, put_is_set, IsThere}
 use Rattle.lowered_imports.specs.Imports.{IsModified, IsEnsured, IsKnownImport, AreGlobalValues, keeping}
 use Rattle.lowered_imports.proofs.ValidParts.{all_get}
 use Rattle.lowered_imports.proofs.KnownActions.{linear_arguments}
 use Rattle.lowered_imports.proofs.Followed.{IsTypedIn, Follows}
-use Rattle.lowered_imports.proofs.ImportLists.{target_written, both_member, both_members, value_of_map, slice_left, number_of_global, targets_there, numbers_distinct}
+use Rattle.lowered_imports.proofs.ImportLists.{target_written, both_member, both_members, slice_left, number_of_global, targets_there, numbers_distinct}
 use Rattle.lowered_imports.proofs.ImportShown.{FoundIs, found_is, IsNear, near_of, import_follows, left_by, left_of, left_near_of}
 use Rattle.lowered_imports.proofs.ImportStates.{changed, changed_keeps, changed_shown, global_values_length, put_kept, drop_kept}
 
@@ -164,6 +164,7 @@ results_stand m base p after ws (c ∷ cs) (v ∷ vs) (z ∷ zs) l w among h e =
         (omega arith, ap (λ (x : ℕ). p (base + x)) (sym same) ∙ w i c s ∙ sym parts, h.0, rest)
 
 module _ (t : TypedProgram) (c : Config) (f : ℕ) (args : List TypedExpression) (k : IsKnownImport t c.top.proc c.top.point f args) (keeps : FrameKeeps t c.top.proc (state_of c)) where
+  -- the frame of the caller
   abbrev pub call_frame : Columns
   call_frame = frame_at t c.top.proc
 
@@ -176,15 +177,18 @@ module _ (t : TypedProgram) (c : Config) (f : ℕ) (args : List TypedExpression)
   abbrev pub written : List ℕ
   written = import_written modified targets
 
+  -- the modified globals that are targets, too
   abbrev pub both : List ℕ
   both = those_in targets modified
 
+  -- the values before the call
   abbrev pub before : List ℤ
   before = shown t (state_of c)
 
   abbrev pub base : ℕ
   base = length call_frame
 
+  -- the number of the first helper, and of the first one of the ensures
   abbrev pub helpers_from : ℕ
   helpers_from = base + length written
 
@@ -230,6 +234,7 @@ module _ (t : TypedProgram) (c : Config) (f : ℕ) (args : List TypedExpression)
       of_all (i ∷ is) h = (record { typed = h.0.typed; linear = h.0.linear }, of_all is h.1)
 
   module _ (held results : List ℤ) (held_typed : AreGlobalValues t.globals k.procedure.modifies held) (results_typed : HasTypes (results_of_procedure k.procedure) results) where
+    -- the values where the globals are written and the targets are not, and behind the call
     abbrev pub middle : List ℤ
     middle = put_all before modified held
 
@@ -275,7 +280,7 @@ module _ (t : TypedProgram) (c : Config) (f : ℕ) (args : List TypedExpression)
     results_read =
         let there : AllByRecursion (IsThere t c.top.proc) (targets_at c.top.point.todo) = targets_there t c.top.proc (results_of_procedure k.procedure) (targets_at c.top.point.todo) k.targets in
         sym (picked_put middle targets results (numbers_distinct t c.top.proc (targets_at c.top.point.todo) there k.targets_differ)
-          (subst (λ (m : ℕ). AllByRecursion (λ x. x < m) targets) (sym (length-put_all before modified held)) inside_targets) results_count)
+        (subst (λ (m : ℕ). AllByRecursion (λ x. x < m) targets) (sym (length-put_all before modified held)) inside_targets) results_count)
 
     -- a point over the columns of the call: as before it, and the written columns as behind it
     module _ (p : ℕ → ℤ) (agrees : Agrees base (point_of before) p) (at_written : (j g : ℕ) → slice_get written j ≡ Some g → p (base + j) ≡ point_of after g) where

@@ -1,11 +1,10 @@
 -- The laws of whole calls without body in the stack machine.
-use Rattle.std.proofs.Common.{◌≡◌, ℕ, ℤ, IsTrue, List, refl, sym, ap, subst, ◌∙◌}
+use Rattle.std.proofs.Common.{◌≡◌, ℕ, List, ap, subst, ◌∙◌}
 use Rattle.typed_tree.specs.TypedTree.{TypedExpression, TypedProgram}
 use Rattle.boogie_points.specs.Points.{Point}
-use Rattle.boogie_points.specs.Actions as actions
-use Rattle.boogie_points.specs.Actions.{Action, action_at}
+use Rattle.boogie_points.specs.Actions.{action_at}
 use Rattle.boogie_run.specs.Configurations.{Config}
-use Rattle.lowered_steps.specs.Edges.{At, Edge, inside_edges}
+use Rattle.lowered_steps.specs.Edges.{inside_edges}
 use Rattle.lowered_steps.specs.Stacks.{Stack, IsAmong, IsStep, inside, call, back}
 use Rattle.lowered_steps.specs.Moves.{IsGood, KnowsPoints, shown_stack}
 use Rattle.lowered_imports.specs.Imports.{IsKnownImport, IsImport}

@@ -1,5 +1,5 @@
 -- Numbers of columns in lists: where they stand, and what is written at them.
-use Rattle.std.proofs.Common.{◌≡◌, ◌⊎◌, inl, inr, ℕ, zero, suc, ◌+◌, ◌<◌, ◌≤◌, Bool, true, false, not, ◌||◌, nat_eq, cond, ℤ, List, [], ◌∷◌, ◌++◌, map, length, Option, None, Some, refl, sym, ◌∙◌, ap, subst, arith, if◌then◌else◌, eq-eqb}
+use Rattle.std.proofs.Common.{◌≡◌, ◌⊎◌, inl, inr, ℕ, zero, suc, ◌+◌, ◌<◌, Bool, true, false, not, ◌||◌, nat_eq, cond, ℤ, List, [], ◌∷◌, ◌++◌, map, length, Option, None, Some, refl, sym, ◌∙◌, ap, subst, arith, if◌then◌else◌, eq-eqb}
 use Rattle.std.specs.Prelude.{slice_get, slice_set}
 use Rattle.std.specs.List.{filter, AllByRecursion}
 use Rattle.std.proofs.lemmas.Bool.{true≢false}
@@ -116,8 +116,9 @@ modified_written ms ts c k = member_left ms (those_not_in ms ts) c k
 
 pub target_written : (ms ts : List ℕ) (c : ℕ) → Member ts c → Member (import_written ms ts) c
 target_written ms ts c k = elim (in_or_not ms c) [
-  inl h ↦ member_left ms (those_not_in ms ts) c h |
-  inr e ↦ member_right ms (those_not_in ms ts) c (filter_member (λ n. not (is_in ms n)) ts c (ap not e) k) ]
+  | inl h ↦ member_left ms (those_not_in ms ts) c h
+  | inr e ↦ member_right ms (those_not_in ms ts) c (filter_member (λ n. not (is_in ms n)) ts c (ap not e) k)
+]
 
 pub written_either : (ms ts : List ℕ) (c : ℕ) → Member (import_written ms ts) c → Member ms c ⊎ Member ts c
 written_either ms ts c k = elim (member_either ms (those_not_in ms ts) c k) [ inl h ↦ inl h | inr h ↦ inr (filter_members (λ n. not (is_in ms n)) ts c h).1 ]
@@ -125,7 +126,7 @@ written_either ms ts c k = elim (member_either ms (those_not_in ms ts) c k) [ in
 pub written_distinct : (ms ts : List ℕ) → AreDistinct ms → AreDistinct ts → AreDistinct (import_written ms ts)
 written_distinct ms ts d e = append_distinct ms (those_not_in ms ts) d (filter_distinct (λ n. not (is_in ms n)) ts e)
     (λ c h k. let r : not (is_in ms c) ≡ true = (filter_members (λ n. not (is_in ms n)) ts c k).0 in
-      true≢false (sym r ∙ ap not (member_is_in ms c h)))
+    true≢false (sym r ∙ ap not (member_is_in ms c h)))
 
 -- a modified global that is a target, too
 pub both_member : (ts ms : List ℕ) (c : ℕ) → Member ts c → Member ms c → Member (those_in ts ms) c

@@ -1,8 +1,7 @@
 -- In the ensures of a call without body what stands for the columns has the values behind the call; where a helper stands for a truth value and has
 -- none, no member is met for the wrong one.
-use Rattle.std.proofs.Common.{◌≡◌, ◌⊎◌, inl, inr, ℕ, zero, suc, ◌+◌, ◌<◌, ◌≤◌, Bool, true, false, not, nat_eq, ℤ, pos, negsuc, List, [], ◌∷◌, ◌++◌, map, length, Option, None, Some, slice_get, if◌then◌else◌, refl, sym, ap, subst, ◌∙◌, arith}
+use Rattle.std.proofs.Common.{◌≡◌, inl, inr, ℕ, zero, suc, ◌+◌, ◌<◌, ◌≤◌, Bool, true, false, not, nat_eq, ℤ, pos, negsuc, List, [], ◌∷◌, ◌++◌, map, Option, None, Some, slice_get, if◌then◌else◌, refl, sym, ap, subst, ◌∙◌, arith}
 use Rattle.std.specs.List.{AllByRecursion}
-use Rattle.std.proofs.lemmas.Bool.{false≢true}
 use Rattle.std.proofs.lemmas.Bool.Decides.{nat_tests}
 use Rattle.std.proofs.lemmas.Int.{ints}
 use Rattle.boogie_tree.specs.declared.tree.Ty.{Ty}
@@ -21,7 +20,7 @@ use Rattle.cond_jumps.specs.Forms.{column}
 use Rattle.cond_jumps.specs.Comparisons.{named}
 use Rattle.cond_jumps.specs.Environments.{Environment}
 use Rattle.cond_jumps.specs.Passing.{Standing, Same, Numbered, Passed, standing_type, standing_sum, standing_plan, standing_environment, left_in, locals_of, imported, imported_state}
-use Rattle.cond_jumps.specs.Worth.{IsSum, IsChoice, Shows}
+use Rattle.cond_jumps.specs.Worth.{IsSum, Shows}
 use Rattle.cond_jumps.proofs.FormLemmas.{column_sum}
 use Rattle.cond_jumps.proofs.LinearLemmas.{linear_form}
 use Rattle.cond_jumps.proofs.ComparisonLemmas.{named_path}
@@ -29,9 +28,9 @@ use Rattle.cond_jumps.proofs.PathLemmas.{paths_mean}
 use Rattle.cond_jumps.proofs.AssignLemmas.{sum_later, choice_later}
 use Rattle.cond_jumps.proofs.PassingLemmas.{IsLeft, AreResults}
 use Rattle.lowered_steps.specs.Edges.{found_from, typed_column, left_if}
-use Rattle.lowered_imports.specs.Imports.{IsModified, as_truth, as_value}
+use Rattle.lowered_imports.specs.Imports.{as_truth, as_value}
 use Rattle.lowered_imports.proofs.ImportLists.{found_more}
-use Rattle.lowered_imports.proofs.Followed.{IsRefused, IsFollowed, Follows, followed_of_choice}
+use Rattle.lowered_imports.proofs.Followed.{IsFollowed, Follows, followed_of_choice}
 
 -- ---- the first place of a number in a list
 
@@ -124,16 +123,20 @@ named_followed : (m : ℕ) (p : ℕ → ℤ) (c : ℕ) (z : ℤ) → c < m → I
 named_followed m p c z l (inl e) near = record {
   truth_value = false;
   is = e;
-  refused = record { never = λ n q k s i.
-      let d : p c ≡ pos 1 = (named_path m p c true (p c) l refl).so n q k s i in
-      both_truths false (sym d ∙ near (inr d) ∙ e) };
+  refused = record {
+    never = λ n q k s i.
+        let d : p c ≡ pos 1 = (named_path m p c true (p c) l refl).so n q k s i in
+        both_truths false (sym d ∙ near (inr d) ∙ e);
+  };
 }
 named_followed m p c z l (inr e) near = record {
   truth_value = true;
   is = e;
-  refused = record { never = λ n q k s i.
-      let d : p c ≡ pos 0 = (named_path m p c false (p c) l refl).so n q k s i in
-      both_truths true (sym d ∙ near (inl d) ∙ e) };
+  refused = record {
+    never = λ n q k s i.
+        let d : p c ≡ pos 0 = (named_path m p c false (p c) l refl).so n q k s i in
+        both_truths true (sym d ∙ near (inl d) ∙ e);
+  };
 }
 
 standing_choice_near : (w m : ℕ) (p : ℕ → ℤ) (v : Environment) (s : State) → Shows w p v s → w ≤ m → (o : Option Standing) (z : ℤ) → IsStandingNear m p v s o z →

@@ -1,5 +1,5 @@
 -- The configuration behind a call without body: what it shows, and that it keeps what configurations keep.
-use Rattle.std.proofs.Common.{◌≡◌, ◌⊎◌, inl, inr, ℕ, zero, suc, ◌+◌, ◌-◌, ◌<◌, ◌≤◌, Bool, true, false, ℤ, List, [], ◌∷◌, ◌++◌, map, length, drop, Option, None, Some, refl, sym, ◌∙◌, ap, subst, arith}
+use Rattle.std.proofs.Common.{◌≡◌, ℕ, zero, suc, ◌+◌, ◌-◌, ℤ, List, [], ◌∷◌, ◌++◌, map, length, drop, Option, None, Some, refl, sym, ◌∙◌, ap, subst, arith}
 use Rattle.std.specs.Prelude.{slice_get}
 use Rattle.std.specs.List.{AllByRecursion}
 use Rattle.boogie_tree.specs.declared.tree.Column.{Column}
@@ -7,24 +7,24 @@ use Rattle.boogie_tree.specs.declared.tree.Column.TheVariants as columns
 use Rattle.boogie_tree.specs.declared.tree.VarInfo.{VarInfo}
 use Rattle.typed_tree.specs.TypedTree.{TypedExpression, TypedInvariant, TypedProcedure, TypedProgram}
 use Rattle.typed_tree.specs.Values.{State}
-use Rattle.letter_acts.specs.Frames.{Columns, IsValue}
+use Rattle.letter_acts.specs.Frames.{IsValue}
 use Rattle.letter_acts.specs.Values.{put_all}
 use Rattle.boogie_points.specs.Points.{Point, settled, past_first}
 use Rattle.boogie_points.specs.Actions as actions
 use Rattle.boogie_points.specs.Actions.{Action, action_at, unseen_action, called_action, chosen_columns, ensured_conditions}
 use Rattle.boogie_points.specs.Starts.{targets_at}
 use Rattle.boogie_places.specs.Places.{onward}
-use Rattle.boogie_run.specs.Configurations.{Frame, Config, state_of}
+use Rattle.boogie_run.specs.Configurations.{Config, state_of}
 use Rattle.boogie_run.specs.Steps.{moved_to, all_written, all_put, modifies_of, finished}
-use Rattle.lowered_steps.specs.ProgramFrames.{frame_at, shown, number_in}
-use Rattle.lowered_steps.specs.Edges.{At, Edge, inside_edges, import_edges, numbers_in}
+use Rattle.lowered_steps.specs.ProgramFrames.{frame_at, shown}
+use Rattle.lowered_steps.specs.Edges.{At, inside_edges, import_edges, numbers_in}
 use Rattle.lowered_steps.specs.Stacks.{Stack}
-use Rattle.lowered_steps.specs.Moves.{HasTypes, FrameKeeps, AreTargets, results_of_procedure, IsGood, IsNoImport, KnowsPoints, shown_stack, shown_below}
+use Rattle.lowered_steps.specs.Moves.{HasTypes, FrameKeeps, AreTargets, results_of_procedure, IsGood, KnowsPoints, shown_stack, shown_below}
 use Rattle.lowered_steps.proofs.Places.{all_state_written, all_written_shown, state_written}
-use Rattle.lowered_steps.proofs.Writes.{AreTaken, keeps_all_written, taken_there, is_long, all_written_is, stack_of_written, IsWritten}
+use Rattle.lowered_steps.proofs.Writes.{AreTaken, keeps_all_written, taken_there, is_long, all_written_is, stack_of_written}
 use Rattle.lowered_steps.proofs.Goodness.{below_moved, written_good}
-use Rattle.lowered_imports.specs.Imports.{IsModified, IsKnownImport, IsGlobalValue, AreGlobalValues, later, keeping}
-use Rattle.lowered_imports.proofs.ImportLists.{number_of_global, targets_there}
+use Rattle.lowered_imports.specs.Imports.{IsModified, IsKnownImport, AreGlobalValues, later, keeping}
+use Rattle.lowered_imports.proofs.ImportLists.{number_of_global}
 
 -- ---- the action of such a call
 
@@ -137,7 +137,7 @@ finished_is t c f q held results e l =
     let put : all_put c.globals q.modifies (held ++ results) ≡ all_put c.globals q.modifies held = put_kept c.globals q.modifies held results l in
     let dropped : drop (length q.modifies) (held ++ results) ≡ results = drop_kept held results (length q.modifies) l in
     ap (λ (o : Option TypedProcedure). moved_to (all_written (record (keeping c (held ++ results)) { globals = all_put c.globals (modifies_of o) (held ++ results) }) targets
-      (drop (length (modifies_of o)) (held ++ results))) next) e
+    (drop (length (modifies_of o)) (held ++ results))) next) e
     ∙ (λ i. moved_to (all_written (record (keeping c (held ++ results)) { globals = put i }) targets (dropped i)) next)
 
 module _ (t : TypedProgram) (Known : ℕ → Point → Type 0) (know : KnowsPoints t Known) (c : Config) (f : ℕ) (args : List TypedExpression) (g : IsGood t Known c) (k : IsKnownImport t c.top.proc c.top.point f args)
@@ -158,11 +158,11 @@ module _ (t : TypedProgram) (Known : ℕ → Point → Type 0) (know : KnowsPoin
 
   -- the stack that it shows
   pub behind_shown : (let x : Stack = record {
-        proc = c.top.proc;
-        spot = At (settled (past_first t.procs c.top.point.todo));
-        values = put_all (put_all (shown t (state_of c)) k.procedure.modifies held) (numbers_in (frame_at t c.top.proc) (targets_at c.top.point.todo)) results;
-        below = shown_below t c.top.entry c.below;
-      } in x) ≡ shown_stack t (behind t c k.procedure.modifies held results)
+    proc = c.top.proc;
+    spot = At (settled (past_first t.procs c.top.point.todo));
+    values = put_all (put_all (shown t (state_of c)) k.procedure.modifies held) (numbers_in (frame_at t c.top.proc) (targets_at c.top.point.todo)) results;
+    below = shown_below t c.top.entry c.below;
+  } in x) ≡ shown_stack t (behind t c k.procedure.modifies held results)
   behind_shown =
       let n : ℕ = c.top.proc in
       let r : Config = chosen c k.procedure.modifies held results in

@@ -1,11 +1,9 @@
 -- A whole call without body is one step of the stacks that show it, and each step from a configuration at such a call is a whole call.
-use Rattle.std.proofs.Common.{◌≡◌, ◌⊎◌, inl, inr, ℕ, zero, suc, ◌+◌, ◌<◌, ◌≤◌, Bool, true, false, ℤ, pos, List, [], ◌∷◌, ◌++◌, map, length, take, drop, Option, None, Some, slice_get, refl, sym, ap, subst, ◌∙◌, arith, append_assoc}
+use Rattle.std.proofs.Common.{◌≡◌, ◌⊎◌, inl, inr, ℕ, ◌+◌, ◌<◌, true, false, ℤ, pos, List, [], ◌∷◌, ◌++◌, map, length, Option, None, Some, slice_get, refl, sym, ap, subst, ◌∙◌, arith, append_assoc}
 use Rattle.std.specs.List.{AllByRecursion}
 use Rattle.std.proofs.lemmas.List.{length-append, length-map}
 use Rattle.std.proofs.lemmas.Bool.{true≢false}
 use Rattle.std.proofs.lemmas.Option.{slice_get_within}
-use Rattle.boogie_tree.specs.declared.tree.Ty.{Ty}
-use Rattle.boogie_tree.specs.declared.tree.Column.{Column}
 use Rattle.boogie_tree.specs.declared.tree.VarInfo.{VarInfo}
 use Rattle.typed_tree.specs.TypedTree.{TypedExpression, TypedInvariant, TypedProcedure, TypedProgram}
 use Rattle.typed_tree.specs.Values.{State, member, value}
@@ -16,9 +14,9 @@ use Rattle.letter_acts.specs.Frames.{Columns, IsValue, IsState}
 use Rattle.letter_acts.specs.Values.{picked, put_all}
 use Rattle.letter_acts.specs.Invariant.{AreDistinct}
 use Rattle.letter_acts.specs.Meaning.{InsideLeads}
-use Rattle.letter_acts.proofs.PointLemmas.{point_of-left, point_of-right, length-put_all, picked_put}
+use Rattle.letter_acts.proofs.PointLemmas.{point_of-left, point_of-right, picked_put}
 use Rattle.cond_jumps.specs.Conjunctions.{Conjunction, joined, listed}
-use Rattle.cond_jumps.specs.Lists.{IsMet, SomeIsMet, Decide}
+use Rattle.cond_jumps.specs.Lists.{Decide}
 use Rattle.cond_jumps.specs.Meaning.{Agrees, AllHold, Extends, Meets}
 use Rattle.cond_jumps.specs.Environments.{Environment}
 use Rattle.cond_jumps.specs.Worth.{Shows}
@@ -26,21 +24,20 @@ use Rattle.cond_jumps.proofs.PathLemmas.{paths_mean}
 use Rattle.cond_jumps.proofs.MeaningLemmas.{agrees_refl}
 use Rattle.cond_jumps.proofs.ListLemmas.{decided_at}
 use Rattle.boogie_points.specs.Points.{Point, settled, past_first}
-use Rattle.boogie_points.specs.Actions as actions
 use Rattle.boogie_points.specs.Actions.{ensured_conditions, action_at}
 use Rattle.boogie_points.specs.Starts.{targets_at}
 use Rattle.boogie_run.specs.Configurations.{Config, state_of}
 use Rattle.boogie_run.specs.Steps.{is_true, all_put, granted_state, moved_to, finished}
 use Rattle.lowered_steps.specs.ProgramFrames.{frame_at, shown}
-use Rattle.lowered_steps.specs.Edges.{Spot, At, Edge, leads, all_hold, those_in, found_from, import_written, import_edges, import_list, inside_edges, numbers_in}
-use Rattle.lowered_steps.specs.Stacks.{Stack, Pending, IsAmong, IsStep, inside, call, back}
-use Rattle.lowered_steps.specs.Moves.{HasTypes, FrameKeeps, AreTargets, results_of_procedure, IsGood, KnowsPoints, shown_stack, shown_below}
+use Rattle.lowered_steps.specs.Edges.{At, Edge, leads, all_hold, those_in, found_from, import_written, import_edges, import_list, inside_edges, numbers_in}
+use Rattle.lowered_steps.specs.Stacks.{Stack, IsAmong, IsStep, inside}
+use Rattle.lowered_steps.specs.Moves.{HasTypes, FrameKeeps, results_of_procedure, IsGood, KnowsPoints, shown_stack, shown_below}
 use Rattle.lowered_steps.proofs.FrameColumns.{shown_state}
-use Rattle.lowered_steps.proofs.ListSteps.{MetMember, member_met, edge_among, among_led, among_either, IsLed}
-use Rattle.lowered_imports.specs.Imports.{IsModified, IsKnownImport, IsGlobalValue, AreGlobalValues, keeping, IsImport, as_value, value_of_variable, told_global, told_globals}
-use Rattle.lowered_imports.specs.Laws.{IsToldBy, helpers_of}
+use Rattle.lowered_steps.proofs.ListSteps.{MetMember, member_met, edge_among, among_led, IsLed}
+use Rattle.lowered_imports.specs.Imports.{IsModified, IsKnownImport, IsGlobalValue, AreGlobalValues, keeping, as_value, value_of_variable, told_global}
+use Rattle.lowered_imports.specs.Laws.{IsToldBy}
 use Rattle.lowered_imports.proofs.Followed.{IsTypedIn, AreTrue, all_hold_path, all_followed}
-use Rattle.lowered_imports.proofs.ImportLists.{is_in_member, no_member, both_members, value_of_map, put_map, written_distinct, one_writing, two_writings, targets_there, numbers_distinct, written_either}
+use Rattle.lowered_imports.proofs.ImportLists.{no_member, both_members, value_of_map, put_map, written_distinct, one_writing, two_writings, targets_there, numbers_distinct, written_either}
 use Rattle.lowered_imports.proofs.ImportShown.{FoundIs, found_is, IsNear, near_as, value_as}
 use Rattle.lowered_imports.proofs.ImportStates.{import_action, behind, behind_good, behind_shown, finished_is, global_values_length}
 use Rattle.lowered_imports.proofs.CallPoints as points
@@ -212,7 +209,7 @@ module _ (t : TypedProgram) (Known : ℕ → Point → Type 0) (know : KnowsPoin
         let agrees : Agrees (length frame) (point_of before) (point_of values) = record { same = λ x i. first_part before news firsts x (omega arith) } in
         points.call_shows t c f args k keeps held results held_typed results_typed (point_of values) agrees
         (λ j x s. let inside : j < length written = slice_get_within written j x s in
-          second_part before news firsts (length frame) j e (omega arith) ∙ value_of_map (point_of after) written j x s)
+        second_part before news firsts (length frame) j e (omega arith) ∙ value_of_map (point_of after) written j x s)
         (λ i x s. third_part before news firsts (length frame + length written) i (omega arith) ∙ value_of_map (point_of middle) both i x s)
 
     -- the values meet a member of the conditions, where each ensures is true
@@ -307,8 +304,9 @@ module _ (t : TypedProgram) (Known : ℕ → Point → Type 0) (know : KnowsPoin
 
     written_inside : AllByRecursion (λ x. x < length before) written
     written_inside = all_among (λ x. x < length before) written (λ x m. elim (written_either modified targets x m) [
-      inl h ↦ of_all (λ x. x < length before) modified x (points.inside_modified t c f args k keeps) h |
-      inr h ↦ of_all (λ x. x < length before) targets x (points.inside_targets t c f args k keeps) h ])
+      | inl h ↦ of_all (λ x. x < length before) modified x (points.inside_modified t c f args k keeps) h
+      | inr h ↦ of_all (λ x. x < length before) targets x (points.inside_targets t c f args k keeps) h
+    ])
 
     written_differ : AreDistinct written
     written_differ = written_distinct modified targets k.modified_differ
@@ -328,8 +326,8 @@ module _ (t : TypedProgram) (Known : ℕ → Point → Type 0) (know : KnowsPoin
         let after_is : after ≡ put_all (put_all before modified told_held) targets told_results = told_after in
         let follows = points.call_follows t c f args k keeps told_held told_results told_held_typed told_results_typed p agrees
         (λ j x s. let inside : j < length written = slice_get_within written j x s in
-          second_part before news helpers (length frame) j e (omega arith) ∙ ap (λ (zs : List ℤ). point_of zs j) news_are ∙ value_of_map (point_of after) written j x s
-          ∙ ap (λ (zs : List ℤ). point_of zs x) after_is)
+        second_part before news helpers (length frame) j e (omega arith) ∙ ap (λ (zs : List ℤ). point_of zs j) news_are ∙ value_of_map (point_of after) written j x s
+        ∙ ap (λ (zs : List ℤ). point_of zs x) after_is)
         (λ i x v first s is. near i x v first s is) in
         all_followed w p (points.environment t c f args k keeps) (points.ensured_state t c f args k keeps told_held told_results told_held_typed told_results_typed) follows ensured
         (points.ensured_typed t c f args k keeps) w p (omega arith) (agrees_refl w p)
