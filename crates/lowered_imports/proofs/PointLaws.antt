@@ -30,7 +30,7 @@ one_of_either (x ∷ xs) qs p (inl e) = inl (inl e)
 one_of_either (x ∷ xs) qs p (inr i) = elim (one_of_either xs qs p i) [ inl h ↦ inl (inr h) | inr h ↦ inr h ]
 
 module _ (t : TypedProgram) (valid : IsTrue (is_valid t)) where
-  -- the statement that at_call first at a point keeps the typing rules
+  -- the statement that stands first at a point keeps the typing rules
   point_right : (n : ℕ) (p : Point) → (k : IsPointOf t n p) → PointRight t k.procedure p
   point_right n p k = by_listed k.among
     where
