@@ -1,5 +1,5 @@
 -- Conditions where a column that stands for a truth value may have any number: no member is met for the other truth value.
-use Rattle.std.proofs.Common.{◌≡◌, ◌⊎◌, inl, inr, ℕ, suc, ◌+◌, ◌≤◌, Bool, true, false, not, ◌&&◌, ◌||◌, ℤ, pos, List, [], ◌∷◌, ◌++◌, map, Option, None, Some, option_and_then, refl, sym, ap, subst, ◌∙◌, arith}
+use Rattle.std.proofs.Common.{◌≡◌, inl, inr, ℕ, ◌+◌, ◌≤◌, Bool, true, false, not, ◌&&◌, ◌||◌, ℤ, pos, List, [], ◌∷◌, map, Some, option_and_then, refl, sym, ap, subst, ◌∙◌, arith}
 use Rattle.std.specs.List.{AllByRecursion}
 use Rattle.std.proofs.lemmas.Bool.{false≢true}
 use Rattle.std.proofs.lemmas.Int.{ints}
@@ -13,10 +13,10 @@ use Rattle.typed_tree.specs.Typing.{same_type, only, operation_type}
 use Rattle.typed_tree.specs.Values.{State, column_value, value, truth, is_zero, same, operation_value}
 use Rattle.typed_tree.specs.AffineForm.{read_at, divisor_of, is_linear}
 use Rattle.typed_tree.specs.Laws.{state_of}
-use Rattle.cond_jumps.specs.Conjunctions.{Conjunction, Jumps, Plan, Just, Then, With, joined, each_with, listed}
+use Rattle.cond_jumps.specs.Conjunctions.{Conjunction, Jumps, Plan, Then, With, joined, each_with, listed}
 use Rattle.cond_jumps.specs.Forms.{Linears, negated}
-use Rattle.cond_jumps.specs.Comparisons.{always, literal, alike, operation}
-use Rattle.cond_jumps.specs.Meaning.{Agrees, AllHold, Extends, Meets, IsPath}
+use Rattle.cond_jumps.specs.Comparisons.{literal, alike, operation}
+use Rattle.cond_jumps.specs.Meaning.{Agrees, Meets, IsPath}
 use Rattle.cond_jumps.specs.Environments.{Environment, type_in}
 use Rattle.cond_jumps.specs.Paths.{constant_of, arithmetic, linear, is_truth, paths}
 use Rattle.cond_jumps.specs.Worth.{IsSum, IsChoice, Shows}
@@ -24,7 +24,7 @@ use Rattle.cond_jumps.proofs.MeaningLemmas.{agrees_refl, hold_left, hold_right, 
 use Rattle.cond_jumps.proofs.ComparisonLemmas.{always_path}
 use Rattle.cond_jumps.proofs.ConstantLemmas.{linear_parts}
 use Rattle.cond_jumps.proofs.TypeLemmas.{AreTyped, operands, only_is, not_both, one_type, truth_by_type, read_value, entry_of}
-use Rattle.cond_jumps.proofs.TestLemmas.{is_wanted, IsTest, IsTestOf, test_of_choice, choice_of_test, literal_test}
+use Rattle.cond_jumps.proofs.TestLemmas.{is_wanted, IsTestOf, test_of_choice, choice_of_test, literal_test}
 use Rattle.cond_jumps.proofs.OperationLemmas.{sums_operation}
 use Rattle.cond_jumps.proofs.LinearLemmas.{linear_form}
 use Rattle.cond_jumps.proofs.PathLemmas.{paths_mean}
@@ -47,8 +47,9 @@ meets_each : (n : ℕ) (p : ℕ → ℤ) (cs : List Conjunction) (b : Jumps) (Q 
     ((m : ℕ) (q : ℕ → ℤ) → n ≤ m → Agrees n p q → Meets m q (b m) → Q) → Meets n p (each_with cs b n) → Meets n p cs × Q
 meets_each n p [] b Q k h = absurd h
 meets_each n p (c ∷ cs) b Q k h = elim (meets_append n p (map (joined c) (b (n + c.helpers))) (each_with cs b n) h) [
-  inl i ↦ (let w : Both n p c (b (n + c.helpers)) = meets_joined n p c (b (n + c.helpers)) i in (inl (w.point, w.agrees, w.hold), k (n + c.helpers) w.point (omega arith) w.agrees w.meets)) |
-  inr i ↦ (let w : Meets n p cs × Q = meets_each n p cs b Q k i in (inr w.0, w.1)) ]
+  | inl i ↦ (let w : Both n p c (b (n + c.helpers)) = meets_joined n p c (b (n + c.helpers)) i in (inl (w.point, w.agrees, w.hold), k (n + c.helpers) w.point (omega arith) w.agrees w.meets))
+  | inr i ↦ (let w : Meets n p cs × Q = meets_each n p cs b Q k i in (inr w.0, w.1))
+]
 
 -- ---- lists of which no member is met
 

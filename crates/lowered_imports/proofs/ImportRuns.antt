@@ -1,10 +1,9 @@
 -- A whole call of a procedure without body is its steps in a run, and a run that fails at such a call fails behind it.
-use Rattle.std.proofs.Common.{◌≡◌, ℕ, zero, suc, ◌+◌, ◌<◌, ◌≤◌, ℤ, Bool, true, false, nat_lt, List, [], ◌∷◌, ◌++◌, map, length, take, drop, Option, None, Some, slice_get, refl, sym, ap, subst, ◌∙◌, arith, append_assoc}
+use Rattle.std.proofs.Common.{◌≡◌, ℕ, suc, ◌+◌, ◌<◌, ◌≤◌, ℤ, true, false, nat_lt, List, [], ◌∷◌, ◌++◌, map, length, Option, None, Some, slice_get, refl, sym, ap, subst, ◌∙◌, arith, append_assoc}
 use Rattle.std.specs.List.{AllByRecursion}
 use Rattle.std.proofs.lemmas.List.{length-append, length-map}
 use Rattle.std.proofs.lemmas.Bool.Decides.{nat_tests}
 use Rattle.boogie_tree.specs.declared.tree.Column.{Column}
-use Rattle.boogie_tree.specs.declared.tree.Column.TheVariants as columns
 use Rattle.boogie_tree.specs.declared.tree.VarInfo.{VarInfo}
 use Rattle.typed_tree.specs.TypedTree.{TypedExpression, TypedInvariant, TypedProcedure, TypedProgram}
 use Rattle.boogie_points.specs.Points.{Point, settled, past_first}
@@ -12,12 +11,12 @@ use Rattle.boogie_points.specs.Actions.{ensured_conditions, chosen_columns, resu
 use Rattle.boogie_points.specs.Starts.{targets_at}
 use Rattle.boogie_run.specs.Configurations.{Config}
 use Rattle.boogie_run.specs.Needs.{locals_if_any, locals_at}
-use Rattle.boogie_run.specs.Steps.{Outcome, Failed, moved_to, finished, granted_state, is_true}
+use Rattle.boogie_run.specs.Steps.{Failed, moved_to, finished, granted_state, is_true}
 use Rattle.typed_tree.specs.Values.{value}
 use Rattle.boogie_run.specs.Runs.{run}
-use Rattle.lowered_steps.specs.Moves.{HasTypes, IsGood}
+use Rattle.lowered_steps.specs.Moves.{IsGood}
 use Rattle.lowered_steps.proofs.FrameColumns.{types_length}
-use Rattle.lowered_imports.specs.Imports.{IsKnownImport, keeping, IsImport, none_for, import_choices}
+use Rattle.lowered_imports.specs.Imports.{IsKnownImport, keeping, IsImport, none_for}
 use Rattle.lowered_imports.specs.Laws.{choices_of, ChoicesAreSteps, FailsLater}
 use Rattle.lowered_imports.proofs.Phases as phases
 use Rattle.lowered_imports.proofs.Phases.{IsFull, AreTakenBy, phase, first_phase, AreParted, taken_parts, taken_results, taken_length, globals_taken, results_taken, KeptBack, GrantedBack}

@@ -1,5 +1,5 @@
 -- What a point of a valid program does is typed: conditions, targets, arguments, and the calls.
-use Rattle.std.proofs.Common.{◌≡◌, ◌⊎◌, inl, inr, ℕ, zero, suc, ◌+◌, ◌-◌, ◌<◌, ◌≤◌, Bool, true, false, not, ◌&&◌, IsTrue, List, [], ◌∷◌, ◌++◌, map, length, take, drop, Option, None, Some, slice_get, option_and_then, refl, sym, ap, subst, ◌∙◌, arith}
+use Rattle.std.proofs.Common.{◌≡◌, ℕ, zero, suc, ◌+◌, ◌-◌, ◌≤◌, Bool, true, false, not, ◌&&◌, IsTrue, List, [], ◌∷◌, map, length, take, Option, None, Some, slice_get, refl, sym, ap, subst, ◌∙◌, arith}
 use Rattle.std.specs.List.{AllByRecursion, list_all}
 use Rattle.std.proofs.lemmas.Bool.{and_parts, false≢true}
 use Rattle.boogie_tree.specs.declared.span.Span.{Span}
@@ -11,9 +11,9 @@ use Rattle.boogie_tree.specs.declared.tree.VarInfo.{VarInfo}
 use Rattle.typed_tree.specs.AffineForm.{is_empty, is_linear}
 use Rattle.typed_tree.specs.Typing.{same_type}
 use Rattle.typed_tree.specs.KeptRules.{is_right}
-use Rattle.typed_tree.specs.Scope.{Scope, axiom_scope, requires_scope, body_scope, unless_hidden, variable_at}
+use Rattle.typed_tree.specs.Scope.{Scope, axiom_scope, requires_scope, body_scope, variable_at}
 use Rattle.typed_tree.specs.TypedTree.{TypedExpression, Lit, Truth, Var, Old, Not, Neg, Bin, TypedGuard, Any, Cond, TypedInvariant, TypedStatement, Assert, Assume, Havoc, Assign, Call, If, While, Break, Goto, Return, Label, TypedBlock, Empty, Then, TypedProcedure, TypedProgram}
-use Rattle.typing_rules.specs.Counts.{plain_requires, plain_invariants, block_assertions, block_points, checked_at_call}
+use Rattle.typing_rules.specs.Counts.{plain_requires, checked_at_call}
 use Rattle.typing_rules.specs.Rules.{Context, all_differ, same_column, is_member, meets, is_condition, is_guard, is_invariant, is_writable, are_targets, column_has, values_agree, arguments_agree, results_agree, params_of, results_of, is_call, is_statement, is_block, within, looped}
 use Rattle.typing_rules.specs.Shape.{is_simple, is_argument, are_arguments, params_if_any, is_shaped, is_shaped_block}
 use Rattle.typing_rules.specs.ValidProgram.{is_valid}
@@ -21,17 +21,17 @@ use Rattle.letter_acts.specs.Invariant.{AreDistinct}
 use Rattle.cond_jumps.specs.Lists.{IsCondition}
 use Rattle.cond_jumps.specs.Frames.{frame_environment}
 use Rattle.cond_jumps.specs.Passing.{passed, standing_environment}
-use Rattle.boogie_points.specs.Points.{Todo, Stage, Start, Entry, Body, Exit, Point, at_exit, settled, past, past_first}
+use Rattle.boogie_points.specs.Points.{Todo, Stage, Start, Entry, Body, Exit, Point, settled, past}
 use Rattle.boogie_points.specs.Actions as actions
 use Rattle.boogie_points.specs.Actions.{Action, next_part, guarded, checked, plain_conditions, free_conditions, ensured_conditions, chosen_columns, unseen_action, called_action, call_action, call_if_any, head_action, one_of, ways_to, havoc_action, statement_action, block_action, body_action, entry_action, exit_action, start_conditions, start_action, stage_action, body_or_leave, procedure_action, action_at, first_assertion, first_place}
 use Rattle.boogie_places.proofs.Closed.{all_append, plain_count}
-use Rattle.boogie_run.proofs.TypedPoints.{IsInside, IsKept}
+use Rattle.boogie_run.proofs.TypedPoints.{IsInside}
 use Rattle.boogie_run.specs.Needs.{locals_if_any, locals_at}
 use Rattle.lowered_steps.specs.ProgramFrames.{frame_at}
 use Rattle.lowered_steps.specs.Edges.{numbers_in, import_environment}
-use Rattle.lowered_steps.specs.Moves.{IsVariable, IsTarget, IsAssigned, AreAssigned, IsPassed, IsSimple, IsArgument, AreArguments, AreTargets, HasParameters, IsTypedAction, IsKnownCall, results_of_procedure}
-use Rattle.lowered_imports.specs.Imports.{IsModified, IsEnsured, later, IsKnownImport}
-use Rattle.lowered_imports.proofs.SeenTypes.{Sees, IsScope, same_types, right_typed, right_linear, unhidden, frame_sees, passed_sees, import_sees}
+use Rattle.lowered_steps.specs.Moves.{IsTarget, AreAssigned, IsPassed, IsSimple, AreArguments, AreTargets, IsTypedAction, IsKnownCall, results_of_procedure}
+use Rattle.lowered_imports.specs.Imports.{IsEnsured, later, IsKnownImport}
+use Rattle.lowered_imports.proofs.SeenTypes.{IsScope, same_types, right_typed, right_linear, unhidden, frame_sees, passed_sees, import_sees}
 use Rattle.lowered_imports.proofs.ValidParts.{all_at, all_get, meets_some, not_of, distinct_of, column_itself, plain_right, free_right, ensured_right, IsRequired, IsEnsuring, axioms_right, specifications_right, enough_locals, has_parameters, modified_right}
 use Rattle.lowered_imports.proofs.RightPoints.{IsRight, PartRight, FirstRight, StageRight, PointRight}
 
@@ -93,7 +93,7 @@ if_boolean : (ty : Ty) (e : TypedExpression) → is_argument ty e ≡ true → t
 if_boolean types.Int e h b = absurd (cc)
 if_boolean types.Bool e h b = simple_of e h
 
-linear_arguments : (t : TypedProgram) (n : ℕ) (vs : List VarInfo) (es : List TypedExpression) → AreArguments (frame_at t n) vs es → AllByRecursion (λ e. is_linear false e ≡ true) es
+pub linear_arguments : (t : TypedProgram) (n : ℕ) (vs : List VarInfo) (es : List TypedExpression) → AreArguments (frame_at t n) vs es → AllByRecursion (λ e. is_linear false e ≡ true) es
 linear_arguments t n [] [] h = tt
 linear_arguments t n [] (e ∷ es) h = absurd h
 linear_arguments t n (v ∷ vs) [] h = absurd h

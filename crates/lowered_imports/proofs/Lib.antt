@@ -6,3 +6,9 @@ pub mod RightPoints
 pub mod KnownActions
 pub mod PointLaws
 pub mod Followed
+pub mod ImportLists
+pub mod ImportShown
+pub mod ImportStates
+pub mod CallPoints
+pub mod ImportSteps
+pub mod ImportLaws

@@ -1,7 +1,6 @@
 -- The steps of a call without body, one after the other: a choice for each value that is kept, one step for each ensures, and the writing.
-use Rattle.std.proofs.Common.{◌≡◌, ◌⊎◌, inl, inr, ℕ, zero, suc, ◌+◌, ◌-◌, ◌<◌, ◌≤◌, ℤ, pos, negsuc, Bool, true, false, nat_lt, List, [], ◌∷◌, ◌++◌, map, length, take, drop, Option, None, Some, slice_get, refl, sym, ap, subst, ◌∙◌, arith, append_assoc, if◌then◌else◌}
+use Rattle.std.proofs.Common.{◌≡◌, inl, inr, ℕ, zero, suc, ◌+◌, ◌-◌, ◌<◌, ◌≤◌, ℤ, pos, negsuc, Bool, true, false, nat_lt, List, [], ◌∷◌, ◌++◌, map, length, take, drop, Option, None, Some, slice_get, refl, sym, ap, subst, ◌∙◌, arith, append_assoc, if◌then◌else◌}
 use Rattle.std.specs.List.{AllByRecursion}
-use Rattle.std.proofs.lemmas.List.{length-append, length-map}
 use Rattle.std.proofs.lemmas.Bool.{false≢true}
 use Rattle.std.proofs.lemmas.Bool.Decides.{nat_tests}
 use Rattle.boogie_tree.specs.declared.tree.Ty.{Ty}
@@ -9,19 +8,19 @@ use Rattle.boogie_tree.specs.declared.tree.Ty.TheVariants as types
 use Rattle.boogie_tree.specs.declared.tree.Column.{Column}
 use Rattle.boogie_tree.specs.declared.tree.Column.TheVariants as columns
 use Rattle.boogie_tree.specs.declared.tree.VarInfo.{VarInfo}
-use Rattle.typed_tree.specs.TypedTree.{TypedExpression, TypedInvariant, TypedProcedure, TypedProgram}
+use Rattle.typed_tree.specs.TypedTree.{TypedExpression, TypedInvariant, TypedProgram}
 use Rattle.typed_tree.specs.Values.{value}
 use Rattle.letter_acts.specs.Frames.{IsValue}
 use Rattle.boogie_points.specs.Points.{Point, settled, past_first}
 use Rattle.boogie_points.specs.Actions as actions
 use Rattle.boogie_points.specs.Actions.{Action, next_part, ensured_conditions, chosen_columns, results_from, unseen_action, action_at}
 use Rattle.boogie_points.specs.Starts.{targets_at}
-use Rattle.boogie_run.specs.Configurations.{Frame, Config}
-use Rattle.boogie_run.specs.Needs.{Need, Whole, Truth, need_of_type, need_of, need_of_column, need_of_action, is_taken, locals_if_any, locals_at}
-use Rattle.boogie_run.specs.Steps.{Outcome, Went, Blocked, Failed, Ended, Refused, written, all_written, moved_to, kept_on, kept_to, granted_state, finished, is_true, act, number_of, step, all_put, modifies_of}
+use Rattle.boogie_run.specs.Configurations.{Config}
+use Rattle.boogie_run.specs.Needs.{Truth, need_of_type, need_of, need_of_column, need_of_action, is_taken, locals_at}
+use Rattle.boogie_run.specs.Steps.{Outcome, Went, Blocked, Failed, Refused, written, all_written, moved_to, kept_on, kept_to, granted_state, finished, is_true, act, number_of, step, all_put, modifies_of}
 use Rattle.boogie_run.specs.Runs.{then_goes_on, run}
-use Rattle.lowered_steps.specs.Moves.{HasTypes, results_of_procedure}
-use Rattle.lowered_imports.specs.Imports.{IsModified, later, IsKnownImport, IsGlobalValue, AreGlobalValues, keeping, IsImport, none_for}
+use Rattle.lowered_steps.specs.Moves.{HasTypes}
+use Rattle.lowered_imports.specs.Imports.{IsModified, later, IsKnownImport, AreGlobalValues, keeping, none_for}
 
 -- ---- lists
 

@@ -1,8 +1,6 @@
 -- What is known of the points of a valid program.
-use Rattle.std.proofs.Common.{◌≡◌, ◌⊎◌, inl, inr, ℕ, zero, suc, ◌+◌, IsTrue, List, [], ◌∷◌, ◌++◌, length, take, drop, Option, None, Some, slice_get, refl, sym, ap, subst, ◌∙◌}
+use Rattle.std.proofs.Common.{◌≡◌, ◌⊎◌, inl, inr, ℕ, IsTrue, List, [], ◌∷◌, ◌++◌, length, Option, None, Some, slice_get, refl, sym, ap, subst, ◌∙◌}
 use Rattle.std.specs.List.{AllByRecursion}
-use Rattle.boogie_tree.specs.declared.tree.Column.{Column}
-use Rattle.boogie_tree.specs.declared.tree.VarInfo.{VarInfo}
 use Rattle.typed_tree.specs.TypedTree.{TypedExpression, TypedBlock, TypedProcedure, TypedProgram}
 use Rattle.typing_rules.specs.ValidProgram.{is_valid}
 use Rattle.typing_rules.proofs.ValidLaws as valid_laws
@@ -19,7 +17,7 @@ use Rattle.boogie_run.specs.Needs.{locals_if_any, locals_at}
 use Rattle.lowered_steps.specs.Moves.{HasParameters, IsNoImport, KnowsPoints}
 use Rattle.lowered_imports.specs.KnownPoints.{IsPointOf, StandsAtImport}
 use Rattle.lowered_imports.proofs.ValidParts.{constants_first, has_parameters, body_shaped}
-use Rattle.lowered_imports.proofs.RightPoints.{IsRight, PointRight, body_right, one_of_all}
+use Rattle.lowered_imports.proofs.RightPoints.{PointRight, body_right, one_of_all}
 use Rattle.lowered_imports.proofs.KnownActions.{IsBodyCall, IsKnownAction, typed_of_known, action_known}
 
 each_listed : (ps : List Point) (A : Point → Type 0) → ((p : Point) → IsOneOf ps p → A p) → AllByRecursion A ps
@@ -36,7 +34,6 @@ module _ (t : TypedProgram) (valid : IsTrue (is_valid t)) where
   point_right : (n : ℕ) (p : Point) → (k : IsPointOf t n p) → PointRight t k.procedure p
   point_right n p k = by_listed k.among
     where
-
       by_listed : IsOneOf (points_of_body t n k.procedure k.body) p ⊎ ((n ≡ t.entry) × IsOneOf (start_points t k.procedure) p) → PointRight t k.procedure p
       by_listed (inl i) =
           one_of_all (PointRight t k.procedure) (points_of_body t n k.procedure k.body) p
@@ -87,14 +84,15 @@ module _ (t : TypedProgram) (valid : IsTrue (is_valid t)) where
       by_listed (inl i) r j = record { procedure = k.procedure; body = k.body; is = k.is; has = k.has; among = inl (leads_to_points t n k.procedure k.body valid k.is k.has p r i j) }
       by_listed (inr (e, i)) r j =
           elim (one_of_either (start_points t k.procedure) (points_of_body t t.entry k.procedure k.body) r (at_entry n e k.is i r j)) [
-          inl h ↦ record { procedure = k.procedure; body = k.body; is = k.is; has = k.has; among = inr (e, h) } |
-          inr h ↦ record {
-            procedure = k.procedure;
-            body = k.body;
-            is = k.is;
-            has = k.has;
-            among = inl (subst (λ (x : ℕ). IsOneOf (points_of_body t x k.procedure k.body) r) (sym e) h);
-          } ]
+            | inl h ↦ record { procedure = k.procedure; body = k.body; is = k.is; has = k.has; among = inr (e, h) }
+            | inr h ↦ record {
+              procedure = k.procedure;
+              body = k.body;
+              is = k.is;
+              has = k.has;
+              among = inl (subst (λ (x : ℕ). IsOneOf (points_of_body t x k.procedure k.body) r) (sym e) h);
+            }
+          ]
 
   body_call : (n : ℕ) (p : Point) (f : ℕ) (args : List TypedExpression) → IsPointOf t n p → action_at t n p ≡ actions.Enter f args → IsBodyCall t n p f args
   body_call n p f args k e = subst (IsKnownAction t n p) e (known_action n p k)
@@ -124,19 +122,19 @@ module _ (t : TypedProgram) (valid : IsTrue (is_valid t)) where
   -- ---- calls without body
 
   of_import : (n : ℕ) (p : Point) (a : Action) → (IsNoImport a → ⊥) → IsKnownAction t n p a → StandsAtImport t n p
-  of_import n p (actions.Check id at e next) stands h = absurd (stands tt)
-  of_import n p (actions.Suppose e next) stands h = absurd (stands tt)
-  of_import n p (actions.Demand id at e args next) stands h = absurd (stands tt)
-  of_import n p (actions.Write cs es next) stands h = absurd (stands tt)
-  of_import n p (actions.Guess c next) stands h = absurd (stands tt)
-  of_import n p (actions.Test e hit miss) stands h = absurd (stands tt)
-  of_import n p (actions.Pick ways) stands h = absurd (stands tt)
-  of_import n p (actions.Jump next) stands h = absurd (stands tt)
-  of_import n p (actions.Enter f args) stands h = absurd (stands tt)
-  of_import n p (actions.Keep f args c next) stands h = record { callee = f; args = args; known = h }
-  of_import n p (actions.Grant f args e next) stands h = record { callee = f; args = args; known = h }
-  of_import n p (actions.Finish f args targets next) stands h = record { callee = f; args = args; known = h }
-  of_import n p actions.Leave stands h = absurd (stands tt)
+  of_import n p (actions.Check id at e next) at_call h = absurd (at_call tt)
+  of_import n p (actions.Suppose e next) at_call h = absurd (at_call tt)
+  of_import n p (actions.Demand id at e args next) at_call h = absurd (at_call tt)
+  of_import n p (actions.Write cs es next) at_call h = absurd (at_call tt)
+  of_import n p (actions.Guess c next) at_call h = absurd (at_call tt)
+  of_import n p (actions.Test e hit miss) at_call h = absurd (at_call tt)
+  of_import n p (actions.Pick ways) at_call h = absurd (at_call tt)
+  of_import n p (actions.Jump next) at_call h = absurd (at_call tt)
+  of_import n p (actions.Enter f args) at_call h = absurd (at_call tt)
+  of_import n p (actions.Keep f args c next) at_call h = record { callee = f; args = args; known = h }
+  of_import n p (actions.Grant f args e next) at_call h = record { callee = f; args = args; known = h }
+  of_import n p (actions.Finish f args targets next) at_call h = record { callee = f; args = args; known = h }
+  of_import n p actions.Leave at_call h = absurd (at_call tt)
 
   pub imports_known : (n : ℕ) (p : Point) → IsPointOf t n p → (IsNoImport (action_at t n p) → ⊥) → StandsAtImport t n p
-  imports_known n p k stands = of_import n p (action_at t n p) stands (known_action n p k)
+  imports_known n p k at_call = of_import n p (action_at t n p) at_call (known_action n p k)

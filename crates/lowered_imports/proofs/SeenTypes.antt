@@ -1,5 +1,5 @@
 -- An expression that has a type where certain variables are seen has it where what stands for the columns has their types.
-use Rattle.std.proofs.Common.{◌≡◌, ℕ, zero, suc, ◌+◌, ◌<◌, Bool, true, false, not, ◌&&◌, ◌||◌, nat_eq, List, [], ◌∷◌, ◌++◌, map, length, take, drop, Option, None, Some, slice_get, option_and_then, refl, sym, ap, subst, ◌∙◌, arith, eq-eqb, if◌then◌else◌}
+use Rattle.std.proofs.Common.{◌≡◌, ℕ, zero, suc, ◌+◌, ◌<◌, Bool, true, false, not, ◌||◌, nat_eq, List, [], ◌∷◌, ◌++◌, map, length, take, drop, Option, None, Some, slice_get, option_and_then, refl, sym, ap, subst, ◌∙◌, arith, eq-eqb, if◌then◌else◌}
 use Rattle.std.specs.Option.{option_map}
 use Rattle.std.proofs.lemmas.Bool.{and_parts, false≢true}
 use Rattle.std.proofs.lemmas.Bool.Decides.{nat_tests}
@@ -17,11 +17,11 @@ use Rattle.typed_tree.specs.KeptRules.{is_arithmetic, is_right}
 use Rattle.letter_acts.specs.Frames.{Columns, added, globals_from, old_columns, locals_from}
 use Rattle.cond_jumps.specs.Frames.{place_from, place, if_constant, or_else, frame_environment}
 use Rattle.cond_jumps.specs.Environments.{Environment, type_in}
-use Rattle.cond_jumps.specs.Passing.{Standing, Same, Numbered, Passed, standing_type, standing_environment, passed, left_in, locals_of, imported}
+use Rattle.cond_jumps.specs.Passing.{Numbered, Passed, standing_type, standing_environment, passed, left_in, locals_of}
 use Rattle.cond_jumps.proofs.TypeLemmas.{only_is}
 use Rattle.boogie_run.specs.Needs.{locals_at}
 use Rattle.lowered_steps.specs.ProgramFrames.{frame_at}
-use Rattle.lowered_steps.specs.Edges.{found_from, those_in, import_written, typed_column, left_if, left_at, found_or_0, result_at, results_at, numbers_in, import_environment}
+use Rattle.lowered_steps.specs.Edges.{found_from, those_in, import_written, typed_column, left_if, results_at, numbers_in, import_environment}
 use Rattle.lowered_steps.specs.Moves.{AreArguments, AreTargets, results_of_procedure}
 use Rattle.lowered_steps.proofs.Places.{global_place, local_place}
 
@@ -158,9 +158,12 @@ old_place k j zero (w ∷ ws) rest v h e = by_test w.constant refl
           ∙ none_past k (suc j) (j + 0) ws rest (omega arith) h;
     }
     by_test false c = record {
-      varies = λ d. (k, ap (λ (b : Bool). place_from k (added (not b) (columns.Old j, w) (old_columns (suc j) ws) ++ rest) (columns.Old (j + 0))) c
-          ∙ ap (λ (b : Bool). if b then Some (k, w) else place_from (suc k) (old_columns (suc j) ws ++ rest) (columns.Old (j + 0))) (ap (nat_eq j) none ∙ same_number j)
-          ∙ ap (λ (x : VarInfo). Some (k, x)) same);
+      varies = λ d. (
+        k,
+        ap (λ (b : Bool). place_from k (added (not b) (columns.Old j, w) (old_columns (suc j) ws) ++ rest) (columns.Old (j + 0))) c
+            ∙ ap (λ (b : Bool). if b then Some (k, w) else place_from (suc k) (old_columns (suc j) ws ++ rest) (columns.Old (j + 0))) (ap (nat_eq j) none ∙ same_number j)
+            ∙ ap (λ (x : VarInfo). Some (k, x)) same,
+      );
       constant = λ d. absurd (false≢true (sym c ∙ ap (λ (x : VarInfo). x.constant) same ∙ d));
     }
 old_place k j (suc n) (w ∷ ws) rest v h e = by_test (not w.constant) k (λ i. subst (λ (m : ℕ). IsOldPlace (place_from i (old_columns (suc j) ws ++ rest) (columns.Old m)) v) next (old_place i (suc j) n ws rest v (subst (NoneLater rest) (sym next) h) e))
@@ -299,7 +302,6 @@ pub import_sees : (t : TypedProgram) (n : ℕ) (s : Scope) (q : TypedProcedure) 
     Sees s (import_environment (frame_at t n) t.globals q args (numbers_in (frame_at t n) cs))
 import_sees t n s q args cs i a b = record { now = λ c x h. now c x h; entry = λ c x h. entry c x h }
   where
-
     global_typed : (g : ℕ) (x : VarInfo) → slice_get t.globals g ≡ Some x → (frame_environment (frame_at t n)).type (columns.Global g) ≡ Some x.ty
     global_typed g x e = ap (option_map (λ y. y.1.ty)) (global_place t n g x e)
 

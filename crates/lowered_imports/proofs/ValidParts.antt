@@ -1,12 +1,12 @@
 -- What a valid program says of its procedures.
-use Rattle.std.proofs.Common.{◌≡◌, ◌⊎◌, inl, inr, ℕ, zero, suc, ◌+◌, ◌<◌, ◌≤◌, Bool, true, false, not, ◌&&◌, ◌||◌, nat_eq, nat_le, cond, IsTrue, List, [], ◌∷◌, ◌++◌, map, length, take, drop, Option, None, Some, slice_get, refl, sym, ap, subst, ◌∙◌, arith, eq-eqb}
+use Rattle.std.proofs.Common.{◌≡◌, inl, inr, ℕ, zero, suc, ◌+◌, ◌≤◌, Bool, true, false, not, ◌&&◌, ◌||◌, nat_eq, nat_le, cond, IsTrue, List, [], ◌∷◌, map, length, take, drop, Option, None, Some, slice_get, refl, sym, ap, subst, ◌∙◌, arith, eq-eqb}
 use Rattle.std.specs.List.{AllByRecursion, list_all, list_any}
 use Rattle.std.proofs.lemmas.Bool.{and_parts, false≢true}
 use Rattle.std.proofs.lemmas.Bool.Decides.{nat_tests}
 use Rattle.boogie_tree.specs.declared.tree.Column.{Column}
 use Rattle.boogie_tree.specs.declared.tree.Column.TheVariants as columns
 use Rattle.boogie_tree.specs.declared.tree.VarInfo.{VarInfo}
-use Rattle.typed_tree.specs.TypedTree.{TypedExpression, TypedInvariant, TypedBlock, TypedSpecification, Requires, Ensures, TypedProcedure, TypedProgram}
+use Rattle.typed_tree.specs.TypedTree.{TypedInvariant, TypedBlock, TypedSpecification, Requires, Ensures, TypedProcedure, TypedProgram}
 use Rattle.typed_tree.specs.Scope.{axiom_scope, requires_scope, body_scope}
 use Rattle.nwa_base.specs.Members.{Member}
 use Rattle.letter_acts.specs.Frames.{ConstantsFirst}
@@ -15,7 +15,7 @@ use Rattle.typing_rules.specs.Counts.{numbers_fit}
 use Rattle.typing_rules.specs.Rules.{all_differ, same_column, meets, is_condition, is_body_if_any, is_specification, is_procedure, keeps_typing, params_of, context_of}
 use Rattle.typing_rules.specs.Shape.{are_names, is_shaped_block, block_labels, counts_from, are_locals, are_modified, is_body_shaped, is_procedure_shaped, has_shape}
 use Rattle.typing_rules.specs.ValidProgram.{has_entry, is_typed, is_valid}
-use Rattle.boogie_points.specs.Actions.{plain_conditions, free_conditions, ensured_conditions, start_conditions}
+use Rattle.boogie_points.specs.Actions.{plain_conditions, free_conditions, ensured_conditions}
 use Rattle.lowered_steps.specs.Moves.{HasParameters}
 use Rattle.lowered_imports.specs.Imports.{IsModified}
 

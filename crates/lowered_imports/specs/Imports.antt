@@ -1,5 +1,5 @@
 -- A call of a procedure without body: what typing gives at it, and what all its steps together make of a configuration.
-use Rattle.std.specs.Prelude.{◌≡◌, ℕ, zero, suc, ◌+◌, ◌≤◌, ℤ, pos, negsuc, Bool, true, false, List, [], ◌∷◌, ◌++◌, map, length, take, Option, None, Some, slice_get}
+use Rattle.std.specs.Prelude.{◌≡◌, ℕ, zero, suc, ◌+◌, ◌≤◌, ℤ, pos, negsuc, true, false, List, [], ◌∷◌, ◌++◌, map, length, take, Option, None, Some, slice_get}
 use Rattle.std.specs.List.{AllByRecursion}
 use Rattle.boogie_tree.specs.declared.tree.Ty.{Ty}
 use Rattle.boogie_tree.specs.declared.tree.Ty.TheVariants as types

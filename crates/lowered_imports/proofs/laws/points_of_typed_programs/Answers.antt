@@ -5,4 +5,4 @@ pub returns-clause-known : goal.returns-clause-known
 returns-clause-known a t valid = knows_points t valid
 
 pub returns-clause-imports : goal.returns-clause-imports
-returns-clause-imports a t n p valid k stands = imports_known t valid n p k stands
+returns-clause-imports a t n p valid k at_call = imports_known t valid n p k at_call
