@@ -28,7 +28,7 @@ use Rattle.lowered_steps.proofs.WritesBack.{write_back, guess_back, pick_back, j
 use Rattle.lowered_steps.proofs.CallsBack.{IsCalled, called_back}
 use Rattle.lowered_steps.proofs.Returns.{waiting, resumed, returned_is}
 use Rattle.lowered_steps.proofs.Goodness.{append_none, arguments_length, take_at_most}
-use Rattle.lowered_runs.specs.Imports.{IsAtImport, IsShownImport, ImportsAreSteps}
+use Rattle.lowered_runs.proofs.Imports.{IsAtImport, IsShownImport, ImportsAreSteps}
 use Rattle.lowered_runs.proofs.Forward.{IsOwn, Follows, move_own}
 
 -- an action that is none of a call without body, or one of them

@@ -1,3 +1,5 @@
+pub mod Breaks
+pub mod Imports
 pub mod Taken
 pub mod Forward
 pub mod Backward
@@ -7,3 +9,4 @@ pub mod Machine
 pub mod ToldMoves
 pub mod ToldRuns
 pub mod PointNumbers
+pub mod MachineLaws

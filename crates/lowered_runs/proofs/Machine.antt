@@ -18,8 +18,8 @@ use Rattle.lowered_steps.specs.Moves.{HasTypes, FrameKeeps, IsGood, IsMove, IsNo
 use Rattle.lowered_steps.proofs.FrameColumns.{types_length, shown_state}
 use Rattle.lowered_steps.proofs.Places.{olds_length}
 use Rattle.lowered_steps.proofs.WritesBack.{state_parts, globals_typed, locals_typed, globals_length}
-use Rattle.lowered_runs.specs.Breaks as breaks
-use Rattle.lowered_runs.specs.Imports.{IsAtImport, IsShownImport, ImportsAreSteps}
+use Rattle.lowered_runs.proofs.Breaks as breaks
+use Rattle.lowered_runs.proofs.Imports.{IsAtImport, IsShownImport, ImportsAreSteps}
 use Rattle.lowered_runs.proofs.Forward.{Follows, wrong_stack, fails_goes, forward}
 use Rattle.lowered_runs.proofs.Backward.{import_or_not, IsShownMove, Breaks, backward}
 use Rattle.lowered_runs.proofs.Filling.{none_so_far, begun, Begun, begun_by, run_begun, Filled, filled_by, run_filled}

@@ -15,8 +15,8 @@ use Rattle.lowered_steps.specs.ProgramFrames.{frame_at}
 use Rattle.lowered_steps.specs.Moves.{HasTypes, FrameKeeps, AreArguments, IsGood, IsMove, IsNoImport, IsKnownCall, KnowsPoints, filled}
 use Rattle.lowered_steps.proofs.FrameColumns.{types_length}
 use Rattle.lowered_steps.proofs.Writes.{value_of_type}
-use Rattle.lowered_runs.specs.Breaks.{Breaks}
-use Rattle.lowered_runs.specs.Imports.{IsAtImport, IsChosenImport, IsRunImport, ImportsAreSteps}
+use Rattle.lowered_runs.proofs.Breaks.{Breaks}
+use Rattle.lowered_runs.proofs.Imports.{IsAtImport, IsChosenImport, IsRunImport, ImportsAreSteps}
 use Rattle.lowered_runs.proofs.Forward.{IsOwn, Follows, own_or_call, move_own, forward}
 use Rattle.lowered_runs.proofs.Backward.{import_or_not}
 use Rattle.lowered_runs.proofs.Filling.{TypesSoFar, all_so_far, first_so_far, action_step, if_true, run_filled, Filled, filled_by}

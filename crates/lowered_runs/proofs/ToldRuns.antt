@@ -19,8 +19,9 @@ use Rattle.lowered_steps.specs.Stacks.{Stack, IsStep, IsStart}
 use Rattle.lowered_steps.specs.Moves.{IsGood, IsMove, IsNoImport, KnowsPoints, shown_stack}
 use Rattle.lowered_steps.proofs.FrameColumns.{types_length}
 use Rattle.lowered_steps.proofs.Places.{olds_length}
-use Rattle.lowered_runs.specs.Imports.{IsAtImport, IsToldImport, ImportsAreSteps, ImportsAreTold}
-use Rattle.lowered_runs.specs.Choices.{choices_of, helpers_of, ToldStep, IsToldStep, AreToldSteps, told_choices, machine_choices}
+use Rattle.lowered_runs.proofs.Imports.{IsAtImport, IsToldImport, ImportsAreSteps, ImportsAreTold}
+use Rattle.lowered_imports.specs.Laws.{helpers_of}
+use Rattle.lowered_runs.specs.Choices.{choices_of, ToldStep, IsToldStep, AreToldSteps, told_choices, machine_choices}
 use Rattle.lowered_runs.proofs.Forward.{Follows, forward}
 use Rattle.lowered_runs.proofs.Backward.{import_or_not, IsShownMove, Breaks, backward}
 use Rattle.lowered_runs.proofs.Filling.{if_true}

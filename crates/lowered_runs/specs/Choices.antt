@@ -11,8 +11,9 @@ use Rattle.boogie_points.specs.Starts.{targets_at}
 use Rattle.boogie_places.specs.Places.{number_of}
 use Rattle.lowered_steps.specs.ProgramFrames.{frame_at, number_in}
 use Rattle.lowered_steps.specs.Edges.{Spot, At, Wrong, numbers_in, columns_before_locals}
-use Rattle.lowered_steps.specs.Stacks.{Stack, IsStep, inside, call, back}
+use Rattle.lowered_steps.specs.Stacks.{Stack, IsStep}
 use Rattle.lowered_imports.specs.Imports.{import_choices, told_globals}
+use Rattle.lowered_imports.specs.Laws.{helpers_of}
 
 -- ---- one step
 
@@ -54,12 +55,7 @@ pub record ToldStep : Type 0 where
   pub after : Stack
   pub helpers : List ℤ
 
--- the helpers with which the rows of a step hold
-abbrev pub helpers_of : (t : TypedProgram) (x y : Stack) → IsStep t x y → List ℤ
-helpers_of t x y (inside p e at among leads proc spot below) = leads.rows_hold.helpers
-helpers_of t x y (call p f args c at is among leads proc spot below) = leads.rows_hold.helpers
-helpers_of t x y (back p b args c at is opened calls among leads proc spot) = leads.rows_hold.helpers
-
+-- the step is one, and its rows hold with these helpers
 pub record IsToldStep (t : TypedProgram) (x : Stack) (s : ToldStep) : Type 0 where
   pub step : IsStep t x s.after
   pub helpers : helpers_of t x s.after step ≡ s.helpers

@@ -1,4 +1,2 @@
-pub mod Breaks
-pub mod Imports
 pub mod Choices
 pub mod Laws

@@ -8,7 +8,8 @@ use Rattle.boogie_run.specs.Steps.{Failed}
 use Rattle.boogie_run.specs.Runs.{run}
 use Rattle.lowered_steps.specs.Stacks.{Stack, IsStep}
 use Rattle.lowered_steps.specs.Moves.{IsGood, IsNoImport, shown_stack}
-use Rattle.lowered_runs.specs.Choices.{choices_of, helpers_of}
+use Rattle.lowered_runs.specs.Choices.{choices_of}
+use Rattle.lowered_imports.specs.Laws.{helpers_of}
 
 -- a configuration stands at a call without body
 abbrev pub IsAtImport : TypedProgram → Config → Type 0
