@@ -1,13 +1,10 @@
 -- The other way round: each step of the stack that shows a configuration is that of a move, or the configuration fails there.
-use Rattle.std.proofs.Common.{◌≡◌, ℕ, zero, suc, ◌+◌, ◌<◌, ◌≤◌, Bool, true, false, ℤ, pos, List, [], ◌∷◌, ◌++◌, map, length, take, drop, Option, None, Some, inl, inr, ◌⊎◌, refl, sym, ap, subst, ◌∙◌, arith}
+use Rattle.std.proofs.Common.{◌≡◌, ℕ, zero, suc, ◌≤◌, true, ℤ, pos, List, [], ◌∷◌, ◌++◌, length, take, None, inl, inr, ◌⊎◌, refl, sym, ap, subst, ◌∙◌, arith}
 use Rattle.std.specs.Prelude.{slice_get}
-use Rattle.std.specs.List.{AllByRecursion}
-use Rattle.std.proofs.lemmas.List.{length-append}
 use Rattle.boogie_tree.specs.declared.tree.Column.{Column}
 use Rattle.boogie_tree.specs.declared.tree.VarInfo.{VarInfo}
-use Rattle.typed_tree.specs.TypedTree.{TypedExpression, TypedProcedure, TypedProgram}
-use Rattle.typed_tree.specs.Values.{State, value}
-use Rattle.letter_acts.specs.Meaning.{InsideLeads, CallLeads, BackLeads, returned_values}
+use Rattle.typed_tree.specs.TypedTree.{TypedExpression, TypedProgram}
+use Rattle.letter_acts.specs.Meaning.{InsideLeads, CallLeads, BackLeads}
 use Rattle.cond_jumps.specs.Conjunctions.{Conjunction}
 use Rattle.boogie_points.specs.Points.{Point, settled, past_first}
 use Rattle.boogie_points.specs.Actions as actions
@@ -27,8 +24,7 @@ use Rattle.lowered_steps.proofs.InsideBack.{GoesTo, FailsAt, check_back, suppose
 use Rattle.lowered_steps.proofs.WritesBack.{write_back, guess_back, pick_back, jump_back}
 use Rattle.lowered_steps.proofs.CallsBack.{IsCalled, called_back}
 use Rattle.lowered_steps.proofs.Returns.{waiting, resumed, returned_is}
-use Rattle.lowered_steps.proofs.Goodness.{append_none, arguments_length, take_at_most}
-use Rattle.lowered_runs.proofs.Imports.{IsAtImport, IsShownImport, ImportsAreSteps}
+use Rattle.lowered_steps.proofs.Goodness.{append_none, arguments_length}
 use Rattle.lowered_runs.proofs.Forward.{IsOwn, Follows, move_own}
 
 -- an action that is none of a call without body, or one of them

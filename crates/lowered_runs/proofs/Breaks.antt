@@ -1,5 +1,5 @@
 -- Runs by moves of which the last configuration fails an assertion.
-use Rattle.std.specs.Prelude.{◌≡◌, ◌⊎◌, ℕ, zero, suc, ℤ, pos}
+use Rattle.std.specs.Prelude.{◌≡◌, ◌⊎◌, ℕ, zero, suc, pos}
 use Rattle.typed_tree.specs.TypedTree.{TypedProgram}
 use Rattle.boogie_points.specs.Actions.{action_at}
 use Rattle.boogie_run.specs.Configurations.{Config}

@@ -1,7 +1,6 @@
 -- Choices of constants, globals and locals are steps of a run, one a value.
-use Rattle.std.proofs.Common.{◌≡◌, ℕ, zero, suc, ◌+◌, ◌<◌, ◌≤◌, Bool, true, false, ℤ, pos, List, [], ◌∷◌, ◌++◌, map, length, take, Option, None, Some, inl, inr, ◌⊎◌, refl, sym, ap, subst, ◌∙◌, arith, append_assoc, if◌then◌else◌}
+use Rattle.std.proofs.Common.{◌≡◌, ℕ, zero, suc, ◌<◌, ◌≤◌, Bool, true, false, ℤ, List, [], ◌∷◌, ◌++◌, map, length, take, Option, Some, inl, inr, refl, sym, ap, subst, ◌∙◌, arith, append_assoc, if◌then◌else◌}
 use Rattle.std.specs.Prelude.{slice_get, nat_lt}
-use Rattle.std.proofs.lemmas.List.{length-append}
 use Rattle.std.proofs.lemmas.Bool.{cases_lt}
 use Rattle.std.proofs.lemmas.Bool.Decides.{nat_tests}
 use Rattle.boogie_tree.specs.declared.tree.VarInfo.{VarInfo}
@@ -9,9 +8,9 @@ use Rattle.typed_tree.specs.TypedTree.{TypedProgram}
 use Rattle.letter_acts.specs.Frames.{IsValue}
 use Rattle.boogie_points.specs.Actions.{action_at}
 use Rattle.boogie_points.specs.Starts.{start_point_of}
-use Rattle.boogie_run.specs.Configurations.{Frame, Config}
-use Rattle.boogie_run.specs.Needs.{need_of, need_of_type, need_of_action, is_taken, locals_at}
-use Rattle.boogie_run.specs.Steps.{Outcome, Went, Refused, Failed, act, number_of, with_global, with_local, step, start}
+use Rattle.boogie_run.specs.Configurations.{Config}
+use Rattle.boogie_run.specs.Needs.{need_of, need_of_action, is_taken, locals_at}
+use Rattle.boogie_run.specs.Steps.{Outcome, Went, Refused, Failed, act, number_of, with_global, with_local, step}
 use Rattle.boogie_run.specs.Runs.{then_goes_on, run}
 use Rattle.lowered_steps.specs.Moves.{HasTypes, filled}
 use Rattle.lowered_steps.proofs.FrameColumns.{types_length}

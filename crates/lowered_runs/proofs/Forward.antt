@@ -1,12 +1,10 @@
 -- Each move of a configuration in a run of a typed program is a step of the stack that shows it, and leads to such a configuration.
-use Rattle.std.proofs.Common.{◌≡◌, ℕ, zero, suc, ◌+◌, ◌<◌, ◌≤◌, Bool, true, false, ℤ, pos, List, [], ◌∷◌, ◌++◌, map, length, take, drop, Option, None, Some, inl, inr, ◌⊎◌, refl, sym, ap, subst, ◌∙◌, arith, if◌then◌else◌}
+use Rattle.std.proofs.Common.{◌≡◌, ℕ, Bool, true, false, ℤ, pos, List, [], ◌∷◌, ◌++◌, take, Option, None, Some, inl, inr, ◌⊎◌, refl, sym, ap, subst, ◌∙◌, if◌then◌else◌}
 use Rattle.std.specs.Prelude.{slice_get, unsigned_abs}
 use Rattle.std.specs.List.{AllByRecursion}
-use Rattle.boogie_tree.specs.declared.span.Span.{Span}
 use Rattle.boogie_tree.specs.declared.tree.Column.{Column}
-use Rattle.boogie_tree.specs.declared.tree.VarInfo.{VarInfo}
-use Rattle.typed_tree.specs.TypedTree.{TypedExpression, TypedProcedure, TypedProgram}
-use Rattle.typed_tree.specs.Values.{State, value}
+use Rattle.typed_tree.specs.TypedTree.{TypedExpression, TypedProgram}
+use Rattle.typed_tree.specs.Values.{value}
 use Rattle.boogie_points.specs.Points.{Point, settled, past_first}
 use Rattle.boogie_points.specs.Actions as actions
 use Rattle.boogie_points.specs.Actions.{Action, action_at}
@@ -16,12 +14,12 @@ use Rattle.boogie_run.specs.Configurations.{Frame, Config, state_of}
 use Rattle.boogie_run.specs.Needs.{need_of_action, is_taken, locals_at}
 use Rattle.boogie_run.specs.Steps.{Outcome, Went, Blocked, Failed, Ended, Refused, act, number_of, is_true, moved_to, written, all_written, values, passed_state, entered, left}
 use Rattle.boogie_run.specs.Steps as steps
-use Rattle.lowered_steps.specs.ProgramFrames.{frame_at, shown}
+use Rattle.lowered_steps.specs.ProgramFrames.{shown}
 use Rattle.lowered_steps.specs.Edges.{Wrong}
 use Rattle.lowered_steps.specs.Stacks.{Stack, IsStep}
-use Rattle.lowered_steps.specs.Moves.{HasTypes, FrameKeeps, IsTypedAction, IsTarget, Awaits, FrameIsGood, BelowIsGood, IsGood, IsMove, IsNoImport, IsKnownCall, KnowsPoints, shown_stack, shown_below, filled}
+use Rattle.lowered_steps.specs.Moves.{HasTypes, FrameKeeps, IsTypedAction, Awaits, BelowIsGood, IsGood, IsMove, IsNoImport, IsKnownCall, KnowsPoints, shown_stack, shown_below, filled}
 use Rattle.lowered_steps.proofs.InsideSteps.{check_goes, check_fails, suppose_goes, demand_goes, demand_fails, test_goes, pick_goes, jump_goes}
-use Rattle.lowered_steps.proofs.Writes.{AreTaken, assigned_taken, write_goes, guess_goes}
+use Rattle.lowered_steps.proofs.Writes.{assigned_taken, write_goes, guess_goes}
 use Rattle.lowered_steps.proofs.Enters.{called_keeps, enter_goes}
 use Rattle.lowered_steps.proofs.Returns.{waiting, resumed, resumed_keeps, results_taken, leave_goes}
 use Rattle.lowered_steps.proofs.Goodness.{done_is, stays_good, written_good}

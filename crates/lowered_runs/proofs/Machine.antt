@@ -1,25 +1,22 @@
 -- A program fails an assertion exactly where its stack machine does, given what is asked of its points and of whole calls without body.
-use Rattle.std.proofs.Common.{◌≡◌, ℕ, zero, suc, ◌+◌, ◌<◌, ◌≤◌, Bool, true, false, ℤ, pos, List, [], ◌∷◌, ◌++◌, map, length, Option, None, Some, inl, inr, ◌⊎◌, refl, sym, ap, subst, ◌∙◌, arith}
-use Rattle.std.specs.Prelude.{slice_get}
-use Rattle.boogie_tree.specs.declared.tree.VarInfo.{VarInfo}
+use Rattle.std.proofs.Common.{◌≡◌, ℕ, zero, suc, ℤ, List, [], ◌++◌, map, length, Option, Some, inl, inr, ◌⊎◌, refl, sym, ap, subst, ◌∙◌, arith}
 use Rattle.typed_tree.specs.TypedTree.{TypedProgram}
 use Rattle.letter_acts.specs.Frames.{Columns, IsState, globals_from, old_columns, locals_from}
 use Rattle.boogie_points.specs.Points.{Point}
 use Rattle.boogie_points.specs.Actions.{action_at}
-use Rattle.boogie_points.specs.Starts.{start_point_of}
 use Rattle.boogie_run.specs.Configurations.{Config, state_of}
 use Rattle.boogie_run.specs.Needs.{locals_at}
 use Rattle.boogie_run.specs.Steps.{Failed, start}
 use Rattle.boogie_run.specs.Runs.{run, Fails}
-use Rattle.lowered_steps.specs.ProgramFrames.{frame_at, shown, variable_values}
-use Rattle.lowered_steps.specs.Edges.{Spot, At, Wrong}
+use Rattle.lowered_steps.specs.ProgramFrames.{frame_at, variable_values}
+use Rattle.lowered_steps.specs.Edges.{At, Wrong}
 use Rattle.lowered_steps.specs.Stacks.{Stack, IsStep, inside, call, back, IsStart, Reaches, MachineFails}
-use Rattle.lowered_steps.specs.Moves.{HasTypes, FrameKeeps, IsGood, IsMove, IsNoImport, KnowsPoints, shown_stack, filled}
+use Rattle.lowered_steps.specs.Moves.{HasTypes, IsGood, IsNoImport, KnowsPoints, shown_stack, filled}
 use Rattle.lowered_steps.proofs.FrameColumns.{types_length, shown_state}
 use Rattle.lowered_steps.proofs.Places.{olds_length}
 use Rattle.lowered_steps.proofs.WritesBack.{state_parts, globals_typed, locals_typed, globals_length}
 use Rattle.lowered_runs.proofs.Breaks as breaks
-use Rattle.lowered_runs.proofs.Imports.{IsAtImport, IsShownImport, ImportsAreSteps}
+use Rattle.lowered_runs.proofs.Imports.{IsShownImport, ImportsAreSteps}
 use Rattle.lowered_runs.proofs.Forward.{Follows, wrong_stack, fails_goes, forward}
 use Rattle.lowered_runs.proofs.Backward.{import_or_not, IsShownMove, Breaks, backward}
 use Rattle.lowered_runs.proofs.Filling.{none_so_far, begun, Begun, begun_by, run_begun, Filled, filled_by, run_filled}

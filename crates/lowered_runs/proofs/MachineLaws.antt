@@ -1,5 +1,5 @@
 -- The laws of the stack machine, of every typed program.
-use Rattle.std.proofs.Common.{◌≡◌, ◌+◌, ◌-◌, ◌<◌, ℕ, ℤ, List, ◌++◌, length, Option, None, Some, IsTrue, refl, sym, ◌∙◌, ap, arith}
+use Rattle.std.proofs.Common.{◌≡◌, ◌+◌, ◌-◌, ℕ, ℤ, List, ◌++◌, length, Option, None, Some, IsTrue, refl, sym, ◌∙◌, ap, arith}
 use Rattle.std.specs.Prelude.{slice_get}
 use Rattle.boogie_tree.specs.declared.tree.Column.{Column}
 use Rattle.typed_tree.specs.TypedTree.{TypedExpression, TypedInvariant, TypedProcedure, TypedProgram}
@@ -24,7 +24,7 @@ use Rattle.lowered_imports.proofs.ImportLaws.{imports_go, imports_back}
 use Rattle.lowered_imports.proofs.PointLaws.{knows_points, imports_known}
 use Rattle.lowered_runs.specs.Choices.{call_choices, choices_of}
 use Rattle.lowered_runs.specs.Laws.{MachinesFailAsRuns, ToldChoicesFail}
-use Rattle.lowered_runs.proofs.Imports.{IsAtImport, IsShownImport, IsRunImport, IsToldImport, ImportsAreSteps, ImportsAreTold}
+use Rattle.lowered_runs.proofs.Imports.{IsAtImport, IsRunImport, IsToldImport, ImportsAreSteps, ImportsAreTold}
 use Rattle.lowered_runs.proofs.Machine.{fails_machine, machine_fails}
 use Rattle.lowered_runs.proofs.ToldRuns.{machine_run}
 use Rattle.lowered_runs.proofs.PointNumbers.{points_differ}

@@ -1,5 +1,5 @@
 -- A run from a configuration fails an assertion exactly where some moves lead to its failing.
-use Rattle.std.proofs.Common.{◌≡◌, ℕ, zero, suc, ◌+◌, ◌<◌, ◌≤◌, Bool, true, false, ℤ, pos, List, [], ◌∷◌, ◌++◌, map, length, take, Option, None, Some, inl, inr, ◌⊎◌, refl, sym, ap, subst, ◌∙◌, arith, if◌then◌else◌}
+use Rattle.std.proofs.Common.{◌≡◌, ℕ, zero, suc, ◌<◌, ◌≤◌, Bool, true, false, ℤ, pos, List, [], ◌∷◌, ◌++◌, map, length, take, Option, None, Some, inl, inr, refl, sym, ap, subst, ◌∙◌, arith, if◌then◌else◌}
 use Rattle.std.specs.Prelude.{slice_get, unsigned_abs}
 use Rattle.boogie_tree.specs.declared.tree.VarInfo.{VarInfo}
 use Rattle.typed_tree.specs.TypedTree.{TypedExpression, TypedProgram}
@@ -16,8 +16,8 @@ use Rattle.lowered_steps.specs.Moves.{HasTypes, FrameKeeps, AreArguments, IsGood
 use Rattle.lowered_steps.proofs.FrameColumns.{types_length}
 use Rattle.lowered_steps.proofs.Writes.{value_of_type}
 use Rattle.lowered_runs.proofs.Breaks.{Breaks}
-use Rattle.lowered_runs.proofs.Imports.{IsAtImport, IsChosenImport, IsRunImport, ImportsAreSteps}
-use Rattle.lowered_runs.proofs.Forward.{IsOwn, Follows, own_or_call, move_own, forward}
+use Rattle.lowered_runs.proofs.Imports.{IsChosenImport, IsRunImport, ImportsAreSteps}
+use Rattle.lowered_runs.proofs.Forward.{Follows, own_or_call, move_own, forward}
 use Rattle.lowered_runs.proofs.Backward.{import_or_not}
 use Rattle.lowered_runs.proofs.Filling.{TypesSoFar, all_so_far, first_so_far, action_step, if_true, run_filled, Filled, filled_by}
 

@@ -1,5 +1,5 @@
 -- What outcomes and choices say.
-use Rattle.std.proofs.Common.{◌≡◌, ℕ, zero, suc, ◌+◌, ◌<◌, ◌≤◌, Bool, true, false, ℤ, pos, negsuc, List, [], ◌∷◌, ◌++◌, map, length, Option, None, Some, inl, inr, ◌⊎◌, refl, sym, ap, subst, ◌∙◌, arith, if◌then◌else◌}
+use Rattle.std.proofs.Common.{◌≡◌, ℕ, zero, suc, Bool, true, false, ℤ, pos, negsuc, List, [], ◌∷◌, Option, None, Some, inl, inr, ◌⊎◌, refl, sym, ap, subst, ◌∙◌, arith, if◌then◌else◌}
 use Rattle.std.specs.Prelude.{slice_get, nat_lt}
 use Rattle.std.specs.List.{AllByRecursion}
 use Rattle.std.proofs.lemmas.Bool.Decides.{nat_tests}
@@ -12,7 +12,7 @@ use Rattle.typed_tree.specs.TypedTree.{TypedProgram}
 use Rattle.letter_acts.specs.Frames.{IsValue}
 use Rattle.boogie_points.specs.Points.{Point}
 use Rattle.boogie_run.specs.Configurations.{Config}
-use Rattle.boogie_run.specs.Needs.{Need, Whole, Truth, need_of_type, need_of, need_of_column, is_taken, locals_at}
+use Rattle.boogie_run.specs.Needs.{need_of_type, need_of, need_of_column, is_taken, locals_at}
 use Rattle.boogie_run.specs.Steps.{Outcome, Went, number_of, moved_to, went_if}
 use Rattle.lowered_steps.specs.Moves.{IsTarget}
 

@@ -1,5 +1,5 @@
 -- The choices that are told of a step make its move.
-use Rattle.std.proofs.Common.{◌≡◌, ℕ, zero, suc, ◌+◌, ◌<◌, ◌≤◌, Bool, true, false, nat_eq, ℤ, pos, negsuc, List, [], ◌∷◌, ◌++◌, map, length, take, drop, Option, None, Some, inl, inr, ◌⊎◌, refl, sym, ap, subst, ◌∙◌, arith, if◌then◌else◌, eq-eqb}
+use Rattle.std.proofs.Common.{◌≡◌, ℕ, zero, suc, ◌+◌, ◌<◌, Bool, true, false, nat_eq, ℤ, pos, List, [], ◌∷◌, ◌++◌, map, length, drop, Option, None, Some, inl, inr, refl, sym, ap, subst, ◌∙◌, arith, if◌then◌else◌, eq-eqb}
 use Rattle.std.specs.Prelude.{slice_get, unsigned_abs, nat_lt}
 use Rattle.std.specs.List.{AllByRecursion}
 use Rattle.std.proofs.lemmas.List.{length-append, length-map}
@@ -9,30 +9,29 @@ use Rattle.std.proofs.lemmas.Bool.Decides.{nat_tests}
 use Rattle.boogie_tree.specs.declared.tree.Ty.{Ty}
 use Rattle.boogie_tree.specs.declared.tree.Column.{Column}
 use Rattle.boogie_tree.specs.declared.tree.Column.TheVariants as columns
-use Rattle.boogie_tree.specs.declared.tree.VarInfo.{VarInfo}
 use Rattle.typed_tree.specs.TypedTree.{TypedExpression, TypedProgram}
 use Rattle.typed_tree.specs.Values.{State, value, member, column_value}
 use Rattle.lin_rows.specs.Points.{point_of}
 use Rattle.letter_acts.specs.Frames.{old_columns}
-use Rattle.cond_jumps.specs.Frames.{place, IsShown}
+use Rattle.cond_jumps.specs.Frames.{place}
 use Rattle.cond_jumps.proofs.FrameLemmas.{placed}
 use Rattle.boogie_points.specs.Points.{Point}
 use Rattle.boogie_points.specs.Actions as actions
 use Rattle.boogie_points.specs.Actions.{Action, action_at}
 use Rattle.boogie_places.specs.Places.{number_of, onward}
 use Rattle.boogie_run.specs.Configurations.{Config, state_of}
-use Rattle.boogie_run.specs.Needs.{Need, Nothing, need_of, need_of_type, need_of_column, need_of_action, is_taken, locals_at}
-use Rattle.boogie_run.specs.Steps.{Outcome, Went, act, number_of as number_chosen, put, moved_to, written, values, entered, went_if}
+use Rattle.boogie_run.specs.Needs.{Need, Nothing, need_of_column, need_of_action, is_taken, locals_at}
+use Rattle.boogie_run.specs.Steps.{Went, act, number_of as number_chosen, put, moved_to, written, values, entered, went_if}
 use Rattle.lowered_steps.specs.ProgramFrames.{frame_at, shown, variable_values, number_in, number_if_any}
 use Rattle.lowered_steps.specs.Edges.{Spot, At, columns_before_locals}
-use Rattle.lowered_steps.specs.Moves.{HasTypes, FrameKeeps, IsTarget, IsTypedAction, IsGood, IsMove, IsNoImport, KnowsPoints, shown_stack, filled}
+use Rattle.lowered_steps.specs.Moves.{FrameKeeps, IsTarget, IsTypedAction, IsGood, IsMove, KnowsPoints, shown_stack, filled}
 use Rattle.lowered_steps.proofs.FrameColumns.{types_length, shown_is_shown}
-use Rattle.lowered_steps.proofs.Places.{IsThere, global_place, local_place, before_locals, olds_length, put_length}
+use Rattle.lowered_steps.proofs.Places.{IsThere, global_place, local_place, before_locals, olds_length}
 use Rattle.lowered_steps.proofs.Writes.{target_there}
-use Rattle.lowered_steps.proofs.Goodness.{done_is, none_missing, append_none}
+use Rattle.lowered_steps.proofs.Goodness.{done_is, none_missing}
 use Rattle.lowered_runs.specs.Choices.{place_number, way_to, choices_of}
 use Rattle.lowered_runs.proofs.Taken.{WentWay, went_way, some_taken, taken_by_need, all_at}
-use Rattle.lowered_runs.proofs.Forward.{IsOwn, Follows, own_or_call, move_own, forward}
+use Rattle.lowered_runs.proofs.Forward.{IsOwn, Follows, own_or_call, move_own}
 
 -- ---- the value of a column that was written
 

@@ -1,5 +1,5 @@
 -- The choices that are told of a run of the stack machine fail the assertion that the machine fails.
-use Rattle.std.proofs.Common.{◌≡◌, ℕ, zero, suc, ◌+◌, ◌<◌, ◌≤◌, Bool, true, false, ℤ, pos, List, [], ◌∷◌, ◌++◌, map, length, take, drop, Option, None, Some, inl, inr, ◌⊎◌, refl, sym, ap, subst, ◌∙◌, arith, append_assoc, if◌then◌else◌}
+use Rattle.std.proofs.Common.{◌≡◌, ℕ, zero, suc, ◌+◌, Bool, true, false, ℤ, pos, List, [], ◌∷◌, ◌++◌, map, length, take, drop, Option, None, Some, inl, inr, ◌⊎◌, refl, sym, ap, subst, ◌∙◌, arith, append_assoc, if◌then◌else◌}
 use Rattle.std.specs.Prelude.{slice_get, unsigned_abs}
 use Rattle.std.proofs.lemmas.List.{length-append}
 use Rattle.typed_tree.specs.TypedTree.{TypedProgram}
@@ -8,20 +8,20 @@ use Rattle.boogie_points.specs.Points.{Point}
 use Rattle.boogie_points.specs.Actions as actions
 use Rattle.boogie_points.specs.Actions.{Action, action_at}
 use Rattle.boogie_places.specs.Places.{number_of}
-use Rattle.boogie_run.specs.Configurations.{Config, state_of}
+use Rattle.boogie_run.specs.Configurations.{Config}
 use Rattle.boogie_run.specs.Needs.{Need, Nothing, need_of_action, is_taken}
 use Rattle.boogie_run.specs.Steps.{Outcome, Went, Blocked, Failed, Refused, act, is_true, granted_state, kept_on, went_if, start, step}
 use Rattle.boogie_run.specs.Runs.{then_goes_on, run}
 use Rattle.typed_tree.specs.Values.{value}
-use Rattle.lowered_steps.specs.ProgramFrames.{shown, variable_values}
-use Rattle.lowered_steps.specs.Edges.{At, Wrong, columns_before_locals}
-use Rattle.lowered_steps.specs.Stacks.{Stack, IsStep, IsStart}
-use Rattle.lowered_steps.specs.Moves.{IsGood, IsMove, IsNoImport, KnowsPoints, shown_stack}
+use Rattle.lowered_steps.specs.ProgramFrames.{variable_values}
+use Rattle.lowered_steps.specs.Edges.{columns_before_locals}
+use Rattle.lowered_steps.specs.Stacks.{Stack, IsStart}
+use Rattle.lowered_steps.specs.Moves.{IsGood, KnowsPoints, shown_stack}
 use Rattle.lowered_steps.proofs.FrameColumns.{types_length}
 use Rattle.lowered_steps.proofs.Places.{olds_length}
-use Rattle.lowered_runs.proofs.Imports.{IsAtImport, IsToldImport, ImportsAreSteps, ImportsAreTold}
+use Rattle.lowered_runs.proofs.Imports.{IsToldImport, ImportsAreSteps, ImportsAreTold}
 use Rattle.lowered_imports.specs.Laws.{helpers_of}
-use Rattle.lowered_runs.specs.Choices.{choices_of, ToldStep, IsToldStep, AreToldSteps, told_choices, machine_choices}
+use Rattle.lowered_runs.specs.Choices.{choices_of, ToldStep, AreToldSteps, told_choices, machine_choices}
 use Rattle.lowered_runs.proofs.Forward.{Follows, forward}
 use Rattle.lowered_runs.proofs.Backward.{import_or_not, IsShownMove, Breaks, backward}
 use Rattle.lowered_runs.proofs.Filling.{if_true}

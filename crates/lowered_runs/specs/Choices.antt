@@ -1,5 +1,5 @@
 -- The choices of a run of a program, read off a run of its stack machine.
-use Rattle.std.specs.Prelude.{◌≡◌, ℕ, zero, suc, ◌+◌, ℤ, pos, nat_eq, List, [], ◌∷◌, ◌++◌, map, length, take, drop, Option, None, Some, slice_get, if◌then◌else◌}
+use Rattle.std.specs.Prelude.{◌≡◌, ℕ, suc, ◌+◌, ℤ, pos, nat_eq, List, [], ◌∷◌, ◌++◌, map, length, take, drop, Option, None, Some, slice_get, if◌then◌else◌}
 use Rattle.boogie_tree.specs.declared.tree.VarInfo.{VarInfo}
 use Rattle.typed_tree.specs.TypedTree.{TypedProcedure, TypedProgram}
 use Rattle.lin_rows.specs.Points.{point_of}
