@@ -1,0 +1,2 @@
+//! The graph of a program: its places, the letters of their edges, and the items that cannot be lowered.
+#![tactic(auto)]

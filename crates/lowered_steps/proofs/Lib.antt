@@ -1,0 +1,14 @@
+mod FrameColumns
+mod Places
+mod ListSteps
+mod InsideSteps
+mod Writes
+mod InsideBack
+mod WritesBack
+mod Parameters
+mod Picks
+mod Enters
+mod Leaves
+mod Returns
+mod CallsBack
+mod Forward

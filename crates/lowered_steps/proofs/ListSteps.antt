@@ -1,0 +1,96 @@
+-- The members of a list of conjunctions as letters: where one is met, an inside step by it leads on, and the other way round.
+use Rattle.std.proofs.Common.{◌≡◌, ℕ, zero, suc, ◌+◌, ℤ, List, [], ◌∷◌, ◌++◌, map, length, inl, inr, ◌⊎◌, refl, sym, ap, subst, ◌∙◌, arith}
+use Rattle.std.specs.List.{AllByRecursion}
+use Rattle.lin_rows.specs.Rows.{LinearRow}
+use Rattle.letter_acts.specs.Frames.{Columns, IsState}
+use Rattle.letter_acts.specs.Values.{RowsHold, put_all}
+use Rattle.letter_acts.specs.Meaning.{InsideLeads}
+use Rattle.cond_jumps.specs.Conjunctions.{Conjunction}
+use Rattle.cond_jumps.specs.Lists.{IsMet, SomeIsMet, Decide}
+use Rattle.lowered_steps.specs.Edges.{Spot, Edge, leads, no_rows}
+use Rattle.lowered_steps.specs.Stacks.{IsAmong}
+
+append_none : {X : Type 0} (xs : List X) → xs ++ [] ≡ xs
+append_none [] = refl
+append_none {X} (x ∷ xs) = ap (λ (ys : List X). x ∷ ys) (append_none xs)
+
+no_members : (zs : List ℤ) → length zs ≡ 0 → zs ≡ []
+no_members [] e = refl
+no_members (z ∷ zs) e = absurd (omega arith)
+
+-- a member that is met
+pub record MetMember (values : List ℤ) (cs : List Conjunction) : Type 0 where
+  pub member : Conjunction
+  pub among : IsAmong cs member
+  pub met : IsMet values member
+
+pub member_met : (values : List ℤ) (cs : List Conjunction) → SomeIsMet values cs → MetMember values cs
+member_met values [] h = absurd h
+member_met values (c ∷ cs) (inl h) = record { member = c; among = inl refl; met = h }
+member_met values (c ∷ cs) (inr h) = let m = member_met values cs h in record { member = m.member; among = inr m.among; met = m.met }
+
+pub some_met : (values : List ℤ) (cs : List Conjunction) (c : Conjunction) → IsAmong cs c → IsMet values c → SomeIsMet values cs
+some_met values [] c i h = absurd i
+some_met values (d ∷ ds) c (inl e) h = inl (subst (IsMet values) (sym e) h)
+some_met values (d ∷ ds) c (inr i) h = inr (some_met values ds c i h)
+
+-- ---- edges of a list
+
+pub edge_among : (w : List ℕ) (cs : List Conjunction) (to : Spot) (c : Conjunction) → IsAmong cs c → IsAmong (leads w cs to) (record { to = to; written = w; rows = c })
+edge_among w [] to c i = absurd i
+edge_among w (d ∷ ds) to c (inl e) = inl (ap (λ (x : Conjunction). let y : Edge = record { to = to; written = w; rows = x } in y) e)
+edge_among w (d ∷ ds) to c (inr i) = inr (edge_among w ds to c i)
+
+-- an edge of the list is that of a member
+pub record IsLed (w : List ℕ) (cs : List Conjunction) (to : Spot) (e : Edge) : Type 0 where
+  pub to_is : e.to ≡ to
+  pub written_is : e.written ≡ w
+  pub member : IsAmong cs e.rows
+
+pub among_led : (w : List ℕ) (cs : List Conjunction) (to : Spot) (e : Edge) → IsAmong (leads w cs to) e → IsLed w cs to e
+among_led w [] to e i = absurd i
+among_led w (d ∷ ds) to e (inl is) = record { to_is = sym (ap (λ (x : Edge). x.to) is); written_is = sym (ap (λ (x : Edge). x.written) is); member = inl (ap (λ (x : Edge). x.rows) is) }
+among_led w (d ∷ ds) to e (inr i) = let l = among_led w ds to e i in record { to_is = l.to_is; written_is = l.written_is; member = inr l.member }
+
+pub among_front : {X : Type 0} (xs ys : List X) (x : X) → IsAmong xs x → IsAmong (xs ++ ys) x
+among_front [] ys x i = absurd i
+among_front (y ∷ more) ys x (inl e) = inl e
+among_front (y ∷ more) ys x (inr i) = inr (among_front more ys x i)
+
+pub among_rest : {X : Type 0} (xs ys : List X) (x : X) → IsAmong ys x → IsAmong (xs ++ ys) x
+among_rest [] ys x i = i
+among_rest (y ∷ more) ys x i = inr (among_rest more ys x i)
+
+pub among_either : {X : Type 0} (xs ys : List X) (x : X) → IsAmong (xs ++ ys) x → IsAmong xs x ⊎ IsAmong ys x
+among_either [] ys x i = inr i
+among_either (y ∷ more) ys x (inl e) = inl (inl e)
+among_either (y ∷ more) ys x (inr i) = elim (among_either more ys x i) [ inl h ↦ inl (inr h) | inr h ↦ inr h ]
+
+-- ---- a condition: nothing is written
+
+pub condition_leads : (frame : Columns) (values : List ℤ) (c : Conjunction) → IsState frame values → IsMet values c → InsideLeads frame [] c.helpers c.rows values values
+condition_leads frame values c s met = record {
+  before = s;
+  after = s;
+  news = [];
+  as_many = refl;
+  put = refl;
+  rows_hold = rw append_none met;
+}
+
+pub condition_led : (frame : Columns) (values after : List ℤ) (c : Conjunction) → InsideLeads frame [] c.helpers c.rows values after → (after ≡ values) × IsMet values c
+condition_led frame values after c h =
+    let none : h.news ≡ [] = no_members h.news h.as_many in
+    let same : values ++ h.news ≡ values = ap (λ (zs : List ℤ). values ++ zs) none ∙ append_none values in
+    (h.put ∙ refl, subst (λ (zs : List ℤ). RowsHold zs c.helpers c.rows) same h.rows_hold)
+
+-- ---- an assignment
+
+pub assignment_leads : (frame : Columns) (w : List ℕ) (values news : List ℤ) (c : Conjunction) → IsState frame values → IsState frame (put_all values w news) → length news ≡ length w →
+    IsMet (values ++ news) c → InsideLeads frame w c.helpers c.rows values (put_all values w news)
+assignment_leads frame w values news c s t l met = record { before = s; after = t; news = news; as_many = l; put = refl; rows_hold = met }
+
+-- ---- no rows at all
+
+pub no_rows_met : (values : List ℤ) → IsMet values (record { rows = []; helpers = 0 })
+no_rows_met values = record { helpers = []; as_many = refl; hold = tt }

@@ -1,0 +1,181 @@
+-- What the letters of a program allow at a point: the inside edges, each with the columns that it writes and its rows, and the rows of calls.
+use Rattle.std.specs.Prelude.{ℕ, suc, ◌+◌, ℤ, pos, Bool, true, false, nat_eq, ◌||◌, not, List, [], ◌∷◌, ◌++◌, map, filter, length, take, drop, Option, None, Some, slice_get, if◌then◌else◌}
+use Rattle.boogie_tree.specs.declared.span.Span.{Span}
+use Rattle.boogie_tree.specs.declared.tree.Ty.{Ty}
+use Rattle.boogie_tree.specs.declared.tree.Column.{Column}
+use Rattle.boogie_tree.specs.declared.tree.Column.TheVariants as columns
+use Rattle.boogie_tree.specs.declared.tree.VarInfo.{VarInfo}
+use Rattle.typed_tree.specs.TypedTree.{TypedExpression, Lit, Truth, Var, Old, Not, Neg, Bin, TypedProcedure, TypedProgram, TypedInvariant}
+use Rattle.typed_tree.specs.Values.{truth}
+use Rattle.letter_acts.specs.Frames.{Columns, old_columns}
+use Rattle.cond_jumps.specs.Conjunctions.{Conjunction, Plan, Just, With, listed}
+use Rattle.cond_jumps.specs.Forms.{Linears, number, column, minus}
+use Rattle.cond_jumps.specs.Comparisons.{compared, equal, always}
+use Rattle.cond_jumps.specs.Environments.{Environment}
+use Rattle.cond_jumps.specs.Paths.{linear, paths}
+use Rattle.cond_jumps.specs.Frames.{frame_environment}
+use Rattle.cond_jumps.specs.Passing.{passed, imported, standing_environment}
+use Rattle.cond_jumps.specs.Lists.{path_list, assign_list}
+use Rattle.boogie_points.specs.Points.{Point, settled, past_first}
+use Rattle.boogie_points.specs.Actions as actions
+use Rattle.boogie_points.specs.Actions.{Action, ensured_conditions}
+use Rattle.boogie_points.specs.Starts.{targets_at}
+use Rattle.lowered_steps.specs.ProgramFrames.{frame_at, width_at, number_in}
+
+-- where an inside edge leads in its procedure: to a point, or to the failing of an assertion
+pub data Spot : Type 0 where
+  At : Point → Spot
+  Wrong : ℕ → Spot
+
+-- an inside edge: where it leads, the columns that it writes, and its rows over the frame, the written columns and the helpers
+pub record Edge : Type 0 where
+  pub to : Spot
+  pub written : List ℕ
+  pub rows : Conjunction
+
+-- an edge for each member of a list
+abbrev pub leads : List ℕ → List Conjunction → Spot → List Edge
+leads written cs to = map (λ c. record { to = to; written = written; rows = c }) cs
+
+-- the list of the one conjunction without rows
+abbrev pub no_rows : List Conjunction
+no_rows = record { rows = []; helpers = 0 } ∷ []
+
+-- ---- calls without body
+
+-- of the numbers those that stand in a list, and those that do not
+abbrev pub is_in : List ℕ → ℕ → Bool
+is_in [] n = false
+is_in (m ∷ ms) n = nat_eq m n || is_in ms n
+
+abbrev pub those_in : List ℕ → List ℕ → List ℕ
+those_in ms ns = filter (is_in ms) ns
+
+abbrev pub those_not_in : List ℕ → List ℕ → List ℕ
+those_not_in ms ns = filter (λ n. not (is_in ms n)) ns
+
+-- the first place of a number in a list, from k on
+abbrev pub found_from : ℕ → List ℕ → ℕ → Option ℕ
+found_from k [] n = None
+found_from k (m ∷ ms) n = if nat_eq m n then Some k else found_from (suc k) ms n
+
+-- the columns that such a call writes: the modified globals, and then the other targets
+abbrev pub import_written : List ℕ → List ℕ → List ℕ
+import_written modified targets = modified ++ those_not_in modified targets
+
+abbrev pub typed_column : ℕ → Option VarInfo → Option (ℕ × Ty)
+typed_column c None = None
+typed_column c (Some v) = Some (c, v.ty)
+
+-- Where a global is behind such a call, before its target is written: in the column that is written for it, or in a helper where it is a target,
+-- too; and in its own column where it is not modified. `base` is the number of the first written column.
+abbrev pub left_if : List VarInfo → ℕ → ℕ → Option ℕ → Option ℕ → Option (ℕ × Ty)
+left_if globals base n None helper = None
+left_if globals base n (Some k) None = typed_column (base + k) (slice_get globals n)
+left_if globals base n (Some k) (Some h) = typed_column h (slice_get globals n)
+
+abbrev pub left_at : List VarInfo → ℕ → List ℕ → List ℕ → ℕ → Option (ℕ × Ty)
+left_at globals base modified targets n =
+    left_if globals base n (found_from 0 modified n)
+    (found_from (base + length (import_written modified targets)) (those_in targets modified) n)
+
+abbrev pub found_or_0 : Option ℕ → ℕ
+found_or_0 None = 0
+found_or_0 (Some k) = k
+
+-- the column in which a result stands, with its type: the one that is written for its target
+abbrev pub result_at : ℕ → List ℕ → ℕ → VarInfo → ℕ × Ty
+result_at base written target v = (base + found_or_0 (found_from 0 written target), v.ty)
+
+abbrev pub results_at : ℕ → List ℕ → List ℕ → List VarInfo → List (ℕ × Ty)
+results_at base written [] vs = []
+results_at base written (c ∷ cs) [] = []
+results_at base written (c ∷ cs) (v ∷ vs) = result_at base written c v ∷ results_at base written cs vs
+
+-- all of these conditions hold
+abbrev pub all_hold : Environment → List TypedInvariant → Plan
+all_hold v [] = Just always
+all_hold v (i ∷ is) = With (paths v false i.cond true) (all_hold v is)
+
+-- helpers without rows
+abbrev pub only_helpers : ℕ → ℕ → List Conjunction
+only_helpers k n = record { rows = []; helpers = k } ∷ []
+
+-- What stands for the columns in the ensures of procedure q, called with these arguments and targets from a frame with so many columns.
+abbrev pub import_environment : Columns → List VarInfo → TypedProcedure → List TypedExpression → List ℕ → Environment
+import_environment frame globals q args targets =
+    let base : ℕ = length frame in
+    standing_environment (frame_environment frame)
+    (imported (left_at globals base q.modifies targets) args (results_at base (import_written q.modifies targets) targets (take q.results (drop q.params q.locals))))
+
+-- All its ensures together, behind a helper for each modified global that is a target, too.
+abbrev pub import_list : Columns → List VarInfo → TypedProcedure → List TypedExpression → List ℕ → List Conjunction
+import_list frame globals q args targets =
+    listed (With (Just (only_helpers (length (those_in targets q.modifies)))) (all_hold (import_environment frame globals q args targets) (ensured_conditions q.specs)))
+    (length frame + length (import_written q.modifies targets))
+
+abbrev pub import_edges : Columns → List VarInfo → Option TypedProcedure → List TypedExpression → List ℕ → Point → List Edge
+import_edges frame globals None args targets next = []
+import_edges frame globals (Some q) args targets next = leads (import_written q.modifies targets) (import_list frame globals q args targets) (At next)
+
+-- ---- the inside edges at a point of procedure n, by the action there
+
+-- a requires of a called procedure, with the arguments for its parameters
+abbrev pub passed_list : Columns → List TypedExpression → TypedExpression → Bool → List Conjunction
+passed_list frame args e want = listed (paths (standing_environment (frame_environment frame) (passed args)) false e want) (length frame)
+
+abbrev pub skips : List Point → List Edge
+skips [] = []
+skips (p ∷ ps) = leads [] no_rows (At p) ++ skips ps
+
+-- the numbers of columns in a frame
+abbrev pub numbers_in : Columns → List Column → List ℕ
+numbers_in frame cs = map (number_in frame) cs
+
+-- An assertion leads on where it is true, and to its failing where it is false; a call without body does all it does by one edge.
+abbrev pub inside_edges : TypedProgram → ℕ → Point → Action → List Edge
+inside_edges t n here (actions.Check id at e next) =
+    leads [] (path_list (frame_at t n) e true) (At next) ++ leads [] (path_list (frame_at t n) e false) (Wrong id)
+inside_edges t n here (actions.Suppose e next) = leads [] (path_list (frame_at t n) e true) (At next)
+inside_edges t n here (actions.Demand id at e args next) =
+    leads [] (passed_list (frame_at t n) args e true) (At next) ++ leads [] (passed_list (frame_at t n) args e false) (Wrong id)
+inside_edges t n here (actions.Write cs es next) = leads (numbers_in (frame_at t n) cs) (assign_list (frame_at t n) es) (At next)
+inside_edges t n here (actions.Guess c next) = leads (number_in (frame_at t n) c ∷ []) no_rows (At next)
+inside_edges t n here (actions.Test e hit miss) =
+    leads [] (path_list (frame_at t n) e true) (At hit) ++ leads [] (path_list (frame_at t n) e false) (At miss)
+inside_edges t n here (actions.Pick ways) = skips ways
+inside_edges t n here (actions.Jump next) = skips (next ∷ [])
+inside_edges t n here (actions.Enter f args) = []
+inside_edges t n here (actions.Keep f args c next) =
+    import_edges (frame_at t n) t.globals (slice_get t.procs f) args (numbers_in (frame_at t n) (targets_at here.todo)) (settled (past_first t.procs here.todo))
+inside_edges t n here (actions.Grant f args e next) =
+    import_edges (frame_at t n) t.globals (slice_get t.procs f) args (numbers_in (frame_at t n) (targets_at here.todo)) (settled (past_first t.procs here.todo))
+inside_edges t n here (actions.Finish f args targets next) =
+    import_edges (frame_at t n) t.globals (slice_get t.procs f) args (numbers_in (frame_at t n) (targets_at here.todo)) (settled (past_first t.procs here.todo))
+inside_edges t n here actions.Leave = []
+
+-- ---- calls of procedures with a body
+
+-- an argument as a sum: a truth value is a literal, a name, or one less a name
+abbrev pub argument_sum : Environment → TypedExpression → Linears
+argument_sum v (Lit at n) = linear v false (Lit at n)
+argument_sum v (Truth at b) = number (truth b)
+argument_sum v (Var at c) = linear v false (Var at c)
+argument_sum v (Old at e) = linear v false (Old at e)
+argument_sum v (Not at e) = minus (number (pos 1)) (argument_sum v e)
+argument_sum v (Neg at e) = linear v false (Neg at e)
+argument_sum v (Bin at op a b) = linear v false (Bin at op a b)
+
+-- the parameters, from column j on, have the values of the arguments
+abbrev pub parameters_get : Environment → ℕ → List TypedExpression → Plan
+parameters_get v j [] = Just always
+parameters_get v j (e ∷ es) = With (Just (compared equal (column j) (argument_sum v e))) (parameters_get v (suc j) es)
+
+-- how many columns of a frame stand before its locals
+abbrev pub columns_before_locals : TypedProgram → ℕ
+columns_before_locals t = length t.globals + length (old_columns 0 t.globals)
+
+-- The rows of a call from procedure n to procedure f: over the caller's frame, the callee's frame, and the helpers. The list has one member.
+abbrev pub call_list : TypedProgram → ℕ → ℕ → List TypedExpression → List Conjunction
+call_list t n f args =
+    listed (parameters_get (frame_environment (frame_at t n)) (width_at t n + columns_before_locals t) args) (width_at t n + width_at t f)

@@ -1,0 +1,4 @@
+pub mod ProgramFrames
+pub mod Edges
+pub mod Stacks
+pub mod Moves

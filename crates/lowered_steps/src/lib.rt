@@ -1,0 +1,2 @@
+//! What the letters of a program do.
+#![tactic(auto)]
