@@ -1,14 +1,14 @@
-mod FrameColumns
-mod Places
-mod ListSteps
-mod InsideSteps
-mod Writes
-mod InsideBack
-mod WritesBack
-mod Parameters
-mod Picks
-mod Enters
-mod Leaves
-mod Returns
-mod CallsBack
-mod Forward
+pub mod FrameColumns
+pub mod Places
+pub mod ListSteps
+pub mod InsideSteps
+pub mod Writes
+pub mod InsideBack
+pub mod WritesBack
+pub mod Parameters
+pub mod Picks
+pub mod Enters
+pub mod Leaves
+pub mod Returns
+pub mod CallsBack
+pub mod Goodness

@@ -157,7 +157,7 @@ write_goes t c cs es next is k h =
     let s : State = state_of c in
     let zs : List ℤ = values s es in
     let w : List ℕ = numbers_in frame cs in
-    let list : List Conjunction = assign_list frame es in
+    let list : List Conjunction = assign_list frame (length es) es in
     let taken : AreTaken t n cs zs = assigned_taken t n s cs es k h in
     let decided : Decide (shown t s ++ zs) list (zs ≡ map (value s) es) =
     lists.assigns_decide frame s (shown t s) zs es (shown_is_shown t n s k) (assigned_sound t n cs es h) (length-map es (value s)) in

@@ -112,7 +112,7 @@ write_back t c cs es next x after k typed i h =
     let s : State = state_of c in
     let zs : List ℤ = values s es in
     let w : List ℕ = numbers_in frame cs in
-    let list : List Conjunction = assign_list frame es in
+    let list : List Conjunction = assign_list frame (length es) es in
     let l : IsLed w list (At next) x = among_led w list (At next) x i in
     let led : InsideLeads frame w x.rows.helpers x.rows.rows (shown t s) after = subst (λ (y : List ℕ). InsideLeads frame y x.rows.helpers x.rows.rows (shown t s) after) l.written_is h in
     let taken : AreTaken t n cs zs = assigned_taken t n s cs es k typed in
@@ -180,7 +180,7 @@ written_typed t n s ty (columns.Local l) z k target h =
     put_typed (locals_at t n) s.locals l target.info z (types_length (locals_at t n) s.locals k.locals) (locals_typed 0 (locals_at t n) (put s.locals l z) parts.1) target.is in
     subst (λ (x : Ty). IsValue x z) target.type typed
 
-taken_by_type : (ty : Ty) (z : ℤ) → IsValue ty z → is_taken (need_of_type ty) (Some z) ≡ true
+pub taken_by_type : (ty : Ty) (z : ℤ) → IsValue ty z → is_taken (need_of_type ty) (Some z) ≡ true
 taken_by_type types.Int z h = refl
 taken_by_type types.Bool z (inl e) = ap (λ (x : ℤ). is_taken Truth (Some x)) e
 taken_by_type types.Bool z (inr e) = ap (λ (x : ℤ). is_taken Truth (Some x)) e

@@ -139,7 +139,7 @@ inside_edges t n here (actions.Check id at e next) =
 inside_edges t n here (actions.Suppose e next) = leads [] (path_list (frame_at t n) e true) (At next)
 inside_edges t n here (actions.Demand id at e args next) =
     leads [] (passed_list (frame_at t n) args e true) (At next) ++ leads [] (passed_list (frame_at t n) args e false) (Wrong id)
-inside_edges t n here (actions.Write cs es next) = leads (numbers_in (frame_at t n) cs) (assign_list (frame_at t n) es) (At next)
+inside_edges t n here (actions.Write cs es next) = leads (numbers_in (frame_at t n) cs) (assign_list (frame_at t n) (length es) es) (At next)
 inside_edges t n here (actions.Guess c next) = leads (number_in (frame_at t n) c ∷ []) no_rows (At next)
 inside_edges t n here (actions.Test e hit miss) =
     leads [] (path_list (frame_at t n) e true) (At hit) ++ leads [] (path_list (frame_at t n) e false) (At miss)

@@ -24,7 +24,7 @@ use Rattle.boogie_run.specs.Steps.{Outcome, Went, Failed, act, number_of, values
 use Rattle.lowered_steps.specs.ProgramFrames.{frame_at, shown}
 use Rattle.lowered_steps.specs.Stacks.{Pending, Stack}
 use Rattle.lowered_steps.specs.Edges.{At}
-use Rattle.boogie_points.specs.Starts.{targets_at, point_of_call}
+use Rattle.boogie_points.specs.Starts.{targets_at, point_of_call, start_point_of}
 
 -- as many values as variables, each of its type
 abbrev pub HasTypes : List VarInfo → List ℤ → Type 0
@@ -184,8 +184,16 @@ pub record IsGood (t : TypedProgram) (Known : ℕ → Point → Type 0) (c : Con
 abbrev pub filled : Config → List ℤ → Config
 filled c zs = record c { top = record c.top { locals = c.top.locals ++ zs } }
 
--- One action, with a choice that it takes, and then a choice for each local that is missing.
+-- the action is none of a call of a procedure without body
+abbrev pub IsNoImport : Action → Type 0
+IsNoImport (actions.Keep f args c next) = ⊥
+IsNoImport (actions.Grant f args e next) = ⊥
+IsNoImport (actions.Finish f args targets next) = ⊥
+IsNoImport a = Unit {0}
+
+-- One action, none of a call without body, with a choice that it takes, and then a choice for each local that is missing.
 pub record IsMove (t : TypedProgram) (c d : Config) : Type 0 where
+  pub plain : IsNoImport (action_at t c.top.proc c.top.point)
   pub choice : Option ℤ
   pub taken : is_taken (need_of_action t c.top.proc (action_at t c.top.proc c.top.point)) choice ≡ true
   pub mid : Config
@@ -194,12 +202,7 @@ pub record IsMove (t : TypedProgram) (c d : Config) : Type 0 where
   pub typed : HasTypes (locals_at t mid.top.proc) (mid.top.locals ++ more)
   pub done : d ≡ filled mid more
 
--- so many moves, and then an assertion fails
-abbrev pub Breaks : TypedProgram → ℕ → ℕ → Config → Type 0
-Breaks t i zero c = act t c (pos 0) (action_at t c.top.proc c.top.point) ≡ Failed i
-Breaks t i (suc k) c = (d : Config) × IsMove t c d × Breaks t i k d
-
--- ---- what is known of the points of a program without calls of procedures without body
+-- ---- what is known of the points of a program
 
 -- a call of a procedure with a body: its arguments and targets are those of the procedure
 pub record IsKnownCall (t : TypedProgram) (n : ℕ) (p : Point) (f : ℕ) (args : List TypedExpression) : Type 0 where
@@ -210,17 +213,10 @@ pub record IsKnownCall (t : TypedProgram) (n : ℕ) (p : Point) (f : ℕ) (args 
   pub arguments : AreArguments (frame_at t n) (take procedure.params procedure.locals) args
   pub targets : AreTargets t n (results_of_procedure procedure) (targets_at p.todo)
 
--- the action is none of a call of a procedure without body
-abbrev pub IsNoImport : Action → Type 0
-IsNoImport (actions.Keep f args c next) = ⊥
-IsNoImport (actions.Grant f args e next) = ⊥
-IsNoImport (actions.Finish f args targets next) = ⊥
-IsNoImport a = Unit {0}
-
 pub record KnowsPoints (t : TypedProgram) (Known : ℕ → Point → Type 0) : Type 0 where
+  pub starts : Known t.entry (start_point_of t (slice_get t.procs t.entry))
   pub typed : (n : ℕ) (p : Point) → Known n p → IsTypedAction t n (action_at t n p)
   pub onward : (n : ℕ) (p : Point) → Known n p → AllByRecursion (Known n) (onward t.procs p (action_at t n p))
   pub entries : (n : ℕ) (p : Point) (f : ℕ) (args : List TypedExpression) → Known n p → action_at t n p ≡ actions.Enter f args → Known f (point_of_call t f (slice_get t.procs f))
   pub calls : (n : ℕ) (p : Point) (f : ℕ) (args : List TypedExpression) → Known n p → action_at t n p ≡ actions.Enter f args → IsKnownCall t n p f args
   pub constants_first : (n : ℕ) → ConstantsFirst (locals_at t n)
-  pub no_imports : (n : ℕ) (p : Point) → Known n p → IsNoImport (action_at t n p)

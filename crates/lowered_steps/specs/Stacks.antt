@@ -1,5 +1,5 @@
 -- The stack machine of a program over its points: the state of the frame that runs, and of each call that is open.
-use Rattle.std.specs.Prelude.{◌≡◌, ◌⊎◌, ℕ, zero, suc, ℤ, List, [], ◌∷◌, slice_get}
+use Rattle.std.specs.Prelude.{◌≡◌, ◌⊎◌, ℕ, zero, suc, ℤ, List, [], ◌∷◌, length, slice_get}
 use Rattle.typed_tree.specs.TypedTree.{TypedExpression, TypedProgram}
 use Rattle.letter_acts.specs.Frames.{IsState}
 use Rattle.letter_acts.specs.Meaning.{InsideLeads, CallLeads, BackLeads}
@@ -46,6 +46,7 @@ pub data IsStep (t : TypedProgram) (x y : Stack) : Type 0 where
 -- behind the start: the entry procedure stands at its first point, whose old values are those of its globals
 pub record IsStart (t : TypedProgram) (x : Stack) : Type 0 where
   pub globals : List ℤ
+  pub as_many : length globals ≡ length t.globals
   pub locals : List ℤ
   pub proc : x.proc ≡ t.entry
   pub spot : x.spot ≡ At (start_point_of t (slice_get t.procs t.entry))

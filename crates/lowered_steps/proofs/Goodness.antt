@@ -1,42 +1,27 @@
--- Each move of a configuration in a run of a typed program is a step of the stack that shows it, and leads to such a configuration.
-use Rattle.std.proofs.Common.{◌≡◌, ℕ, zero, suc, ◌+◌, ◌<◌, ◌≤◌, Bool, true, false, ℤ, pos, negsuc, List, [], ◌∷◌, ◌++◌, map, length, take, drop, Option, None, Some, inl, inr, ◌⊎◌, refl, sym, ap, subst, ◌∙◌, arith, append_assoc, if◌then◌else◌}
-use Rattle.std.specs.Prelude.{slice_get, unsigned_abs}
+-- What a configuration keeps stays where its frame moves on and writes.
+use Rattle.std.proofs.Common.{◌≡◌, ℕ, zero, suc, ◌+◌, ◌<◌, ◌≤◌, Bool, true, false, ℤ, pos, List, [], ◌∷◌, ◌++◌, map, length, take, drop, Option, None, Some, inl, inr, ◌⊎◌, refl, sym, ap, subst, ◌∙◌, arith}
+use Rattle.std.specs.Prelude.{slice_get}
 use Rattle.std.specs.List.{AllByRecursion}
 use Rattle.std.proofs.lemmas.List.{length-append, length-map}
 use Rattle.std.proofs.lemmas.Bool.{cases_lt, false≢true}
-use Rattle.lowered_steps.specs.ProgramFrames.{frame_at}
-use Rattle.letter_acts.specs.Frames.{Columns}
-use Rattle.boogie_run.specs.Needs.{locals_if_any}
-use Rattle.boogie_run.specs.Steps.{put}
-use Rattle.lowered_steps.specs.Moves.{AreArguments}
-use Rattle.boogie_tree.specs.declared.span.Span.{Span}
 use Rattle.boogie_tree.specs.declared.tree.Ty.{Ty}
-use Rattle.boogie_tree.specs.declared.tree.Ty.TheVariants as types
 use Rattle.boogie_tree.specs.declared.tree.Column.{Column}
 use Rattle.boogie_tree.specs.declared.tree.Column.TheVariants as columns
 use Rattle.boogie_tree.specs.declared.tree.VarInfo.{VarInfo}
 use Rattle.typed_tree.specs.TypedTree.{TypedExpression, TypedProgram}
 use Rattle.typed_tree.specs.Values.{State, value}
-use Rattle.letter_acts.specs.Frames.{IsValue}
-use Rattle.boogie_points.specs.Points.{Point, settled, past_first}
-use Rattle.boogie_points.specs.Actions as actions
-use Rattle.boogie_points.specs.Actions.{Action, action_at}
-use Rattle.boogie_points.specs.Starts.{targets_at}
-use Rattle.boogie_places.specs.Places.{onward}
+use Rattle.letter_acts.specs.Frames.{Columns}
+use Rattle.boogie_points.specs.Points.{Point}
 use Rattle.boogie_run.specs.Configurations.{Frame, Config, state_of}
-use Rattle.boogie_run.specs.Needs.{Need, Whole, Truth, need_of_type, need_of, need_of_column, need_of_action, is_taken, locals_at}
-use Rattle.boogie_run.specs.Steps.{Outcome, Went, Blocked, Failed, Ended, Refused, act, number_of, is_true, moved_to, written, all_written, values, passed_state, entered, went_if, left}
-use Rattle.boogie_run.specs.Steps as steps
-use Rattle.lowered_steps.specs.Stacks.{Stack, IsStep}
-use Rattle.lowered_steps.specs.Moves.{HasTypes, FrameKeeps, IsTypedAction, IsTarget, AreAssigned, Awaits, FrameIsGood, BelowIsGood, IsGood, IsMove, IsNoImport, IsKnownCall, KnowsPoints, shown_stack, filled}
+use Rattle.boogie_run.specs.Needs.{locals_at, locals_if_any}
+use Rattle.boogie_run.specs.Steps.{put, moved_to, written, all_written, values}
+use Rattle.lowered_steps.specs.ProgramFrames.{frame_at}
+use Rattle.lowered_steps.specs.Moves.{HasTypes, FrameKeeps, IsTarget, AreArguments, Awaits, FrameIsGood, BelowIsGood, IsGood, filled}
 use Rattle.lowered_steps.proofs.FrameColumns.{types_length}
 use Rattle.lowered_steps.proofs.Places.{all_state_written}
-use Rattle.lowered_steps.proofs.InsideSteps.{check_goes, suppose_goes, demand_goes, test_goes, pick_goes, jump_goes}
-use Rattle.lowered_steps.proofs.Writes.{AreTaken, assigned_taken, keeps_all_written, all_written_is, write_goes, guess_goes, IsWritten}
-use Rattle.lowered_steps.proofs.Enters.{called_keeps, enter_goes}
-use Rattle.lowered_steps.proofs.Returns.{resumed, resumed_keeps, results_taken, leave_goes}
+use Rattle.lowered_steps.proofs.Writes.{AreTaken, keeps_all_written, all_written_is, IsWritten}
 
-append_none : (xs : List ℤ) → xs ++ [] ≡ xs
+pub append_none : (xs : List ℤ) → xs ++ [] ≡ xs
 append_none [] = refl
 append_none (x ∷ xs) = ap (λ (ys : List ℤ). x ∷ ys) (append_none xs)
 
@@ -49,7 +34,7 @@ none_missing vs zs (m ∷ ms) h k =
     absurd (omega arith)
 
 -- where no local is missing, a move is its action
-done_is : (t : TypedProgram) (mid d : Config) (more : List ℤ) → HasTypes (locals_at t mid.top.proc) mid.top.locals → HasTypes (locals_at t mid.top.proc) (mid.top.locals ++ more) → d ≡ filled mid more → d ≡ mid
+pub done_is : (t : TypedProgram) (mid d : Config) (more : List ℤ) → HasTypes (locals_at t mid.top.proc) mid.top.locals → HasTypes (locals_at t mid.top.proc) (mid.top.locals ++ more) → d ≡ filled mid more → d ≡ mid
 done_is t mid d more h k e =
     let none : more ≡ [] = none_missing (locals_at t mid.top.proc) mid.top.locals more h k in
     let same : filled mid more ≡ mid = (λ i. record mid { top = record mid.top { locals = (ap (λ (xs : List ℤ). mid.top.locals ++ xs) none ∙ append_none mid.top.locals) i } }) in
@@ -72,13 +57,13 @@ awaits_moved t f b p ks ls later w e = record {
   targets = w.targets;
 }
 
-arguments_length : (frame : Columns) (vs : List VarInfo) (es : List TypedExpression) → AreArguments frame vs es → length es ≡ length vs
+pub arguments_length : (frame : Columns) (vs : List VarInfo) (es : List TypedExpression) → AreArguments frame vs es → length es ≡ length vs
 arguments_length frame [] [] a = refl
 arguments_length frame [] (e ∷ es) a = absurd a
 arguments_length frame (v ∷ vs) [] a = absurd a
 arguments_length frame (v ∷ vs) (e ∷ es) a = ap suc (arguments_length frame vs es a.1)
 
-take_at_most : {X : Type 0} (n : ℕ) (xs : List X) → length (take n xs) ≤ n
+pub take_at_most : {X : Type 0} (n : ℕ) (xs : List X) → length (take n xs) ≤ n
 take_at_most zero xs = omega arith
 take_at_most (suc n) [] = omega arith
 take_at_most {X} (suc n) (x ∷ xs) = let h = take_at_most {X = X} n xs in omega arith
@@ -127,11 +112,11 @@ awaits_all_written t c b (columns.Local l ∷ xs) (z ∷ zs) w h =
     awaits_all_written t (written c (columns.Local l) z) b xs zs (awaits_written t c b h.0.0 (columns.Local l) z w h.0.1) h.1
 
 -- the calls that are open stay as they are
-below_moved : (t : TypedProgram) (Known : ℕ → Point → Type 0) (f : Frame) (bs : List Frame) (p : Point) (ks : List ℤ) → BelowIsGood t Known f bs → BelowIsGood t Known (record f { point = p; kept = ks }) bs
+pub below_moved : (t : TypedProgram) (Known : ℕ → Point → Type 0) (f : Frame) (bs : List Frame) (p : Point) (ks : List ℤ) → BelowIsGood t Known f bs → BelowIsGood t Known (record f { point = p; kept = ks }) bs
 below_moved t Known f [] p ks h = tt
 below_moved t Known f (b ∷ bs) p ks h = (h.0, awaits_moved t f b p ks f.locals h.1.later h.1 h.1.passed, h.2)
 
-below_written : (t : TypedProgram) (Known : ℕ → Point → Type 0) (c : Config) (cs : List Column) (zs : List ℤ) → BelowIsGood t Known c.top c.below → AreTaken t c.top.proc cs zs →
+pub below_written : (t : TypedProgram) (Known : ℕ → Point → Type 0) (c : Config) (cs : List Column) (zs : List ℤ) → BelowIsGood t Known c.top c.below → AreTaken t c.top.proc cs zs →
     BelowIsGood t Known (all_written c cs zs).top (all_written c cs zs).below
 below_written t Known c cs zs h taken = by_below c.below refl h
   where
@@ -145,12 +130,19 @@ below_written t Known c cs zs h taken = by_below c.below refl h
         let waits : Awaits t (all_written c cs zs).top b = awaits_all_written t c b cs zs g.1 taken in
         subst (BelowIsGood t Known (all_written c cs zs).top) (sym e ∙ wr.below) (first, waits, g.2)
 
-module _ (t : TypedProgram) (Known : ℕ → Point → Type 0) (know : KnowsPoints t Known) where
-  -- the step, and what the configuration then keeps
-  pub record Follows (c d : Config) : Type 0 where
-    pub step : IsStep t (shown_stack t c) (shown_stack t d)
-    pub good : IsGood t Known d
+-- on to a point with the values as they are
+pub stays_good : (t : TypedProgram) (Known : ℕ → Point → Type 0) (c : Config) (next : Point) → IsGood t Known c → Known c.top.proc next → IsGood t Known (moved_to c next)
+stays_good t Known c next g k = record { top = record { keeps = g.top.keeps; known = k; nothing_kept = refl }; below = below_moved t Known c.top c.below next [] g.below }
 
-  -- on to a point with the values as they are
-  stays_good : (c : Config) (next : Point) → IsGood t Known c → Known c.top.proc next → IsGood t Known (moved_to c next)
-  stays_good c next g k = record { top = record { keeps = g.top.keeps; known = k; nothing_kept = refl }; below = below_moved t Known c.top c.below next [] g.below }
+-- on to a point, with values written that are of their types
+pub written_good : (t : TypedProgram) (Known : ℕ → Point → Type 0) (c : Config) (cs : List Column) (zs : List ℤ) (next : Point) → FrameKeeps t c.top.proc (state_of c) → BelowIsGood t Known c.top c.below →
+    AreTaken t c.top.proc cs zs → Known c.top.proc next → IsGood t Known (moved_to (all_written c cs zs) next)
+written_good t Known c cs zs next k b h n =
+    let wr : IsWritten c (all_written c cs zs) (all_state_written (state_of c) cs zs) = all_written_is c cs zs in
+    let kept : FrameKeeps t c.top.proc (all_state_written (state_of c) cs zs) = keeps_all_written t c.top.proc (state_of c) cs zs k h in
+    let own : FrameKeeps t (all_written c cs zs).top.proc (state_of (all_written c cs zs)) =
+    subst (λ (m : ℕ). FrameKeeps t m (state_of (all_written c cs zs))) wr.proc (subst (FrameKeeps t c.top.proc) wr.state kept) in
+    record {
+      top = record { keeps = own; known = subst (λ (m : ℕ). Known m next) wr.proc n; nothing_kept = refl };
+      below = below_moved t Known (all_written c cs zs).top (all_written c cs zs).below next [] (below_written t Known c cs zs b h);
+    }
