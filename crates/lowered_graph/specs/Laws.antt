@@ -1,5 +1,5 @@
 -- What holds of the graph of every typed program.
-use Rattle.std.specs.Prelude.{◌≡◌, ◌↔◌, ℕ, IsTrue, List, length}
+use Rattle.std.specs.Prelude.{◌≡◌, ◌↔◌, ℕ, IsTrue, List, []}
 use Rattle.typed_tree.specs.TypedTree.{TypedProgram}
 use Rattle.typing_rules.specs.ValidProgram.{is_valid}
 use Rattle.nwa_base.specs.declared.letters.Letter.{Letter}

@@ -1,7 +1,7 @@
 -- Letters by first occurrence: equal acts are one letter, and the letters are numbered in the order in which they first occur.
-use Rattle.std.specs.Prelude.{ℕ, suc, ◌+◌, ℤ, Bool, true, false, nat_eq, ◌&&◌, List, [], ◌∷◌, ◌++◌, length, Option, None, Some}
+use Rattle.std.specs.Prelude.{ℕ, suc, ◌+◌, ℤ, Bool, true, false, nat_eq, ◌&&◌, List, [], ◌∷◌, ◌++◌, length, Option, None, Some, if◌then◌else◌}
 use Rattle.std.specs.Ordering.{int_eq}
-use Rattle.std.specs.Cmp.{pointwise}
+use Rattle.std.specs.Cmp.Lexicographic.{pointwise}
 use Rattle.lin_rows.specs.Rows.{LinearRow}
 use Rattle.lin_rows.specs.declared.types.RowKind.{RowKind}
 use Rattle.lin_rows.specs.declared.types.RowKind.TheVariants as kinds
@@ -85,7 +85,7 @@ with_arc d (call_arc q a e x targets k) =
 
 abbrev pub with_arcs : Lettered → List Arc → Lettered
 with_arcs d [] = d
-with_arcs d (a ∷ as) = with_arcs (with_arc d a) as
+with_arcs d (a ∷ arcs) = with_arcs (with_arc d a) arcs
 
 abbrev pub no_letters : Lettered
 no_letters = record { acts = []; insides = []; calls = []; backs = [] }

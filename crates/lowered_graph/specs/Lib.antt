@@ -1,5 +1,6 @@
 pub mod Arcs
 pub mod Letters
+pub mod LetterLaws
 pub mod Lowered
 pub mod Items
 pub mod Laws
