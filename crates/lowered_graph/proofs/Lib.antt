@@ -6,3 +6,5 @@ pub mod KnownPlaces
 pub mod CallPlaces
 pub mod EdgeArcs
 pub mod StartLetter
+pub mod Alphabet
+pub mod Joined
