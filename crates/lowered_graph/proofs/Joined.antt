@@ -67,7 +67,7 @@ arc_there : (t : TypedProgram) (n : ℕ) (p : Point) (a : Arc) → IsKnown t n p
 arc_there t n p a k m = inr (arcs_so t (program_places t) (record { proc = n; point = p }) a (known_place t n p k) m)
 
 -- an arc leads from the start, or from a known place
-from_start_or_place : (t : TypedProgram) → IsTrue (is_valid t) → (a : Arc) → Member (program_arcs t) a →
+pub from_start_or_place : (t : TypedProgram) → IsTrue (is_valid t) → (a : Arc) → Member (program_arcs t) a →
     (start_arc t ≡ a) ⊎ ((n : ℕ) × (p : Point) × IsKnown t n p × (EdgeOfArc t n p (action_at t n p) a ⊎ CallOfArc t n p (action_at t n p) a))
 from_start_or_place t v a (inl e) = inl e
 from_start_or_place t v a (inr m) =
@@ -90,7 +90,7 @@ behind_known l t v n p f args k e =
 known_at : (t : TypedProgram) (n : ℕ) (spot : Spot) (p : Point) → spot ≡ At p → IsKnownSpot t n spot → IsKnown t n p
 known_at t n spot p e k = subst (IsKnownSpot t n) e k
 
-step_known : (l : PlaceLaws) (t : TypedProgram) → IsTrue (is_valid t) → (x y : Stack) → IsKnownStack t x → IsStep t x y → IsKnownStack t y
+pub step_known : (l : PlaceLaws) (t : TypedProgram) → IsTrue (is_valid t) → (x y : Stack) → IsKnownStack t x → IsStep t x y → IsKnownStack t y
 step_known l t v x y k (inside p e at among led proc spot below) =
     let here : IsKnown t x.proc p = known_at t x.proc x.spot p at k.spot in
     let to : IsKnownSpot t x.proc e.to = spot_known l t v x.proc p e.to here (edge_lands t x.proc p (action_at t x.proc p) e among) in
@@ -112,7 +112,7 @@ step_known l t v x y k (back p b args c at is below calls among led proc spot) =
     let to : IsKnownSpot t b.proc y.spot = subst (IsKnownSpot t b.proc) (sym spot) (behind_known l t v b.proc b.point x.proc args all.0 calls) in
     record { spot = subst (λ (n : ℕ). IsKnownSpot t n y.spot) (sym proc) to; below = all.1 }
 
-same_stack : (x y : Stack) → x.proc ≡ y.proc → x.spot ≡ y.spot → x.values ≡ y.values → x.below ≡ y.below → x ≡ y
+pub same_stack : (x y : Stack) → x.proc ≡ y.proc → x.spot ≡ y.spot → x.values ≡ y.values → x.below ≡ y.below → x ≡ y
 same_stack x y proc spot values below = λ i. record { proc = proc i; spot = spot i; values = values i; below = below i }
 
 -- a step over points is one over places

@@ -8,3 +8,4 @@ pub mod EdgeArcs
 pub mod StartLetter
 pub mod Alphabet
 pub mod Joined
+pub mod JoinedBack

@@ -21,7 +21,7 @@ same_members test f (x ∷ xs) [] h = absurd (false≢true h)
 same_members test f (x ∷ xs) (y ∷ ys) h =
     let first : x ≡ y = f x y (and_left _ _ h) in
     let rest : xs ≡ ys = same_members test f xs ys (and_right _ _ h) in
-    cc
+    λ i. first i ∷ rest i
 
 each_itself : {X : Type 0} (test : X → X → Bool) → ((x : X) → test x x ≡ true) → (xs : List X) → pointwise test xs xs ≡ true
 each_itself test f [] = refl
