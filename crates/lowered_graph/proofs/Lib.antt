@@ -9,3 +9,4 @@ pub mod StartLetter
 pub mod Alphabet
 pub mod Joined
 pub mod JoinedBack
+pub mod SiteNumbers
