@@ -10,3 +10,4 @@ pub mod Alphabet
 pub mod Joined
 pub mod JoinedBack
 pub mod SiteNumbers
+pub mod RunsJoined

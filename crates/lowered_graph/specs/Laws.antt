@@ -10,6 +10,7 @@ use Rattle.letter_acts.specs.Feasible.{IsFeasible, edges}
 use Rattle.letter_acts.specs.Ways.{Goes}
 use Rattle.letter_acts.specs.Invariant.{Graph, alphabet_of}
 use Rattle.boogie_run.specs.Runs.{Fails}
+use Rattle.lowered_steps.specs.Stacks.{MachineFails}
 use Rattle.lowered_graph.specs.Lowered.{lowered}
 
 -- Some feasible word has a run of the automaton that ends where assertion i fails.
@@ -28,3 +29,7 @@ IsFaithful t g = (i : ℕ) → Fails t i ↔ ErrorWord g i
 
 abbrev pub LoweringIsFaithful : Type 0
 LoweringIsFaithful = (t : TypedProgram) → IsTrue (is_valid t) → IsFaithful t (lowered t)
+
+-- The stack machine over points fails an assertion exactly where some feasible word leads to where it fails.
+abbrev pub MachineIsJoined : Type 0
+MachineIsJoined = (t : TypedProgram) → IsTrue (is_valid t) → (i : ℕ) → MachineFails t i ↔ ErrorWord (lowered t) i
