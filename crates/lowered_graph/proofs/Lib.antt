@@ -11,3 +11,4 @@ pub mod Joined
 pub mod JoinedBack
 pub mod SiteNumbers
 pub mod RunsJoined
+pub mod GraphParts

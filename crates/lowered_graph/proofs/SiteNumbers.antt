@@ -20,7 +20,7 @@ use Rattle.lowered_graph.proofs.CallPlaces.{action_is}
 
 -- ---- the numbers of the assertions of actions
 
-abbrev number_of_site : ℕ × Site → ℕ
+abbrev pub number_of_site : ℕ × Site → ℕ
 number_of_site s = s.1.id.number
 
 abbrev ids_of : Action → List ℕ
