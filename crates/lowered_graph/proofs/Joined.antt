@@ -77,12 +77,12 @@ from_start_or_place t v a (inr m) =
 -- ---- forward
 
 -- what is led to is known
-spot_known : (l : PlaceLaws) (t : TypedProgram) → IsTrue (is_valid t) → (n : ℕ) (p : Point) (to : Spot) → IsKnown t n p → Lands t n p (action_at t n p) to → IsKnownSpot t n to
+pub spot_known : (l : PlaceLaws) (t : TypedProgram) → IsTrue (is_valid t) → (n : ℕ) (p : Point) (to : Spot) → IsKnown t n p → Lands t n p (action_at t n p) to → IsKnownSpot t n to
 spot_known l t v n p (At r) k h = known_onward l t v n p r k h
 spot_known l t v n p (Wrong i) k h = (h.0, sites_so t (program_places t) (record { proc = n; point = p }) (site t n i h.0) (known_place t n p k) h.1)
 
 -- a call leads on behind itself
-behind_known : (l : PlaceLaws) (t : TypedProgram) → IsTrue (is_valid t) → (n : ℕ) (p : Point) (f : ℕ) (args : List TypedExpression) → IsKnown t n p → action_at t n p ≡ actions.Enter f args →
+pub behind_known : (l : PlaceLaws) (t : TypedProgram) → IsTrue (is_valid t) → (n : ℕ) (p : Point) (f : ℕ) (args : List TypedExpression) → IsKnown t n p → action_at t n p ≡ actions.Enter f args →
     IsKnown t n (settled (past_first t.procs p.todo))
 behind_known l t v n p f args k e =
     known_onward l t v n p (settled (past_first t.procs p.todo)) k (subst (λ (a : Action). IsOneOf (onward t.procs p a) (settled (past_first t.procs p.todo))) (sym e) (inl refl))

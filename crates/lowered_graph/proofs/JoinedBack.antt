@@ -123,24 +123,24 @@ inside_back l t v x k a y after m means e =
           (return_place t c.callee) (numbers_in (frame_at t w.0) (targets_at w.1.todo)) (place_number t w.0 (settled (past_first t.procs w.1.todo))) (sym c.is)) ] ]
 
 -- an arc of a call
-abbrev call_arc_of : TypedProgram → ℕ → Point → ℕ → Conjunction → PlainAct → ℕ → ℕ → ℕ → List ℕ → ℕ → Type 0
+abbrev pub call_arc_of : TypedProgram → ℕ → Point → ℕ → Conjunction → PlainAct → ℕ → ℕ → ℕ → List ℕ → ℕ → Type 0
 call_arc_of t n p f c act q to from targets behind =
     CallParts (place_number t n p) q (call_act n f c.helpers c.rows) act (place_number t f (point_of_call t f (slice_get t.procs f))) to (return_place t f) from
     (numbers_in (frame_at t n) (targets_at p.todo)) targets (place_number t n (settled (past_first t.procs p.todo))) behind
 
 -- where an arc of a call comes from
-record CallFrom (t : TypedProgram) (act : PlainAct) (q to from : ℕ) (targets : List ℕ) (behind : ℕ) : Type 0 where
-  proc : ℕ
-  point : Point
-  known : IsKnown t proc point
-  callee : ℕ
-  args : List TypedExpression
-  action : action_at t proc point ≡ actions.Enter callee args
-  rows : Conjunction
-  among : IsAmong (call_list t proc callee args) rows
-  parts : call_arc_of t proc point callee rows act q to from targets behind
+pub record CallFrom (t : TypedProgram) (act : PlainAct) (q to from : ℕ) (targets : List ℕ) (behind : ℕ) : Type 0 where
+  pub proc : ℕ
+  pub point : Point
+  pub known : IsKnown t proc point
+  pub callee : ℕ
+  pub args : List TypedExpression
+  pub action : action_at t proc point ≡ actions.Enter callee args
+  pub rows : Conjunction
+  pub among : IsAmong (call_list t proc callee args) rows
+  pub parts : call_arc_of t proc point callee rows act q to from targets behind
 
-call_from : (t : TypedProgram) → IsTrue (is_valid t) → (act : PlainAct) (q to from : ℕ) (targets : List ℕ) (behind : ℕ) → Member (program_arcs t) (call_arc q act to from targets behind) → CallFrom t act q to from targets behind
+pub call_from : (t : TypedProgram) → IsTrue (is_valid t) → (act : PlainAct) (q to from : ℕ) (targets : List ℕ) (behind : ℕ) → Member (program_arcs t) (call_arc q act to from targets behind) → CallFrom t act q to from targets behind
 call_from t v act q to from targets behind m = elim (from_start_or_place t v (call_arc q act to from targets behind) m) [
   inl start ↦ absurd (cc) |
   inr w ↦ elim w.3 [

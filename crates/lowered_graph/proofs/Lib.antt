@@ -12,3 +12,4 @@ pub mod JoinedBack
 pub mod SiteNumbers
 pub mod RunsJoined
 pub mod GraphParts
+pub mod GraphEdges
