@@ -13,3 +13,4 @@ pub mod SiteNumbers
 pub mod RunsJoined
 pub mod GraphParts
 pub mod GraphEdges
+pub mod NamedColumns
