@@ -14,3 +14,4 @@ pub mod RunsJoined
 pub mod GraphParts
 pub mod GraphEdges
 pub mod NamedColumns
+pub mod FrameTargets
