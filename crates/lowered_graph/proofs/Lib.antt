@@ -15,3 +15,4 @@ pub mod GraphParts
 pub mod GraphEdges
 pub mod NamedColumns
 pub mod FrameTargets
+pub mod EdgeActs
