@@ -23,9 +23,9 @@ use Rattle.lowered_steps.specs.Moves.{IsVariable, IsTarget, AreTargets}
 -- ---- the columns of a frame
 
 -- what is known of a column of procedure n
-abbrev StandsFor : TypedProgram → ℕ → Column × VarInfo → Type 0
+abbrev pub StandsFor : TypedProgram → ℕ → Column × VarInfo → Type 0
 StandsFor t n (columns.Global g, v) = slice_get t.globals g ≡ Some v
-StandsFor t n (columns.Old g, v) = v.constant ≡ false
+StandsFor t n (columns.Old g, v) = (slice_get t.globals g ≡ Some v) × (v.constant ≡ false)
 StandsFor t n (columns.Local l, v) = slice_get (locals_at t n) l ≡ Some v
 
 globals_stand : (t : TypedProgram) (n k : ℕ) (vs : List VarInfo) → ((i : ℕ) (v : VarInfo) → slice_get vs i ≡ Some v → slice_get t.globals (k + i) ≡ Some v) → AllByRecursion (StandsFor t n) (globals_from k vs)
@@ -37,13 +37,16 @@ globals_stand t n k (v ∷ vs) h =
       globals_stand t n (suc k) vs (λ i w e. subst (λ (m : ℕ). slice_get t.globals m ≡ Some w) (let s : k + suc i ≡ suc k + i = omega arith in s) (h (suc i) w e)),
     )
 
-olds_stand : (t : TypedProgram) (n k : ℕ) (vs : List VarInfo) → AllByRecursion (StandsFor t n) (old_columns k vs)
-olds_stand t n k [] = tt
-olds_stand t n k (v ∷ vs) = by_test v.constant refl (olds_stand t n (suc k) vs)
+olds_stand : (t : TypedProgram) (n k : ℕ) (vs : List VarInfo) → ((i : ℕ) (v : VarInfo) → slice_get vs i ≡ Some v → slice_get t.globals (k + i) ≡ Some v) → AllByRecursion (StandsFor t n) (old_columns k vs)
+olds_stand t n k [] h = tt
+olds_stand t n k (v ∷ vs) h =
+    let here : k + 0 ≡ k = omega arith in
+    by_test v.constant refl (subst (λ (m : ℕ). slice_get t.globals m ≡ Some v) here (h 0 v refl))
+    (olds_stand t n (suc k) vs (λ i w e. subst (λ (m : ℕ). slice_get t.globals m ≡ Some w) (let s : k + suc i ≡ suc k + i = omega arith in s) (h (suc i) w e)))
   where
-    by_test : (b : Bool) → v.constant ≡ b → AllByRecursion (StandsFor t n) (old_columns (suc k) vs) → AllByRecursion (StandsFor t n) (added (not b) (columns.Old k, v) (old_columns (suc k) vs))
-    by_test true e h = h
-    by_test false e h = (e, h)
+    by_test : (b : Bool) → v.constant ≡ b → slice_get t.globals k ≡ Some v → AllByRecursion (StandsFor t n) (old_columns (suc k) vs) → AllByRecursion (StandsFor t n) (added (not b) (columns.Old k, v) (old_columns (suc k) vs))
+    by_test true e g h = h
+    by_test false e g h = ((g, e), h)
 
 locals_stand : (t : TypedProgram) (n k : ℕ) (vs : List VarInfo) → ((i : ℕ) (v : VarInfo) → slice_get vs i ≡ Some v → slice_get (locals_at t n) (k + i) ≡ Some v) → AllByRecursion (StandsFor t n) (locals_from k vs)
 locals_stand t n k [] h = tt
@@ -58,7 +61,7 @@ all_both : {X : Type 0} (P : X → Type 0) (xs ys : List X) → AllByRecursion P
 all_both P [] ys h k = k
 all_both P (x ∷ xs) ys h k = (h.0, all_both P xs ys h.1 k)
 
-all_get : {X : Type 0} (P : X → Type 0) (xs : List X) (i : ℕ) (x : X) → AllByRecursion P xs → slice_get xs i ≡ Some x → P x
+pub all_get : {X : Type 0} (P : X → Type 0) (xs : List X) (i : ℕ) (x : X) → AllByRecursion P xs → slice_get xs i ≡ Some x → P x
 all_get P [] i x h e = absurd (cc)
 all_get P (y ∷ ys) zero x h e = let k : y ≡ x = cc in subst P k h.0
 all_get P (y ∷ ys) (suc i) x h e = all_get P ys i x h.1 e
@@ -66,10 +69,10 @@ all_get P (y ∷ ys) (suc i) x h e = all_get P ys i x h.1 e
 from_zero : {X : Type 0} (xs : List X) (i : ℕ) (x : X) → slice_get xs i ≡ Some x → slice_get xs (0 + i) ≡ Some x
 from_zero xs i x e = subst (λ (m : ℕ). slice_get xs m ≡ Some x) (let s : i ≡ 0 + i = omega arith in s) e
 
-frame_stands : (t : TypedProgram) (n : ℕ) → AllByRecursion (StandsFor t n) (frame_at t n)
+pub frame_stands : (t : TypedProgram) (n : ℕ) → AllByRecursion (StandsFor t n) (frame_at t n)
 frame_stands t n =
     all_both (StandsFor t n) (globals_from 0 t.globals) (old_columns 0 t.globals ++ locals_from 0 (locals_at t n)) (globals_stand t n 0 t.globals (from_zero t.globals))
-    (all_both (StandsFor t n) (old_columns 0 t.globals) (locals_from 0 (locals_at t n)) (olds_stand t n 0 t.globals) (locals_stand t n 0 (locals_at t n) (from_zero (locals_at t n))))
+    (all_both (StandsFor t n) (old_columns 0 t.globals) (locals_from 0 (locals_at t n)) (olds_stand t n 0 t.globals (from_zero t.globals)) (locals_stand t n 0 (locals_at t n) (from_zero (locals_at t n))))
 
 -- ---- where a column is found
 

@@ -16,3 +16,5 @@ pub mod GraphEdges
 pub mod NamedColumns
 pub mod FrameTargets
 pub mod EdgeActs
+pub mod CallActs
+pub mod GraphActs

@@ -2,5 +2,6 @@ pub mod Arcs
 pub mod Letters
 pub mod LetterLaws
 pub mod Lowered
+pub mod Widths
 pub mod Items
 pub mod Laws
