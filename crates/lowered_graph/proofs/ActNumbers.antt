@@ -1,0 +1,147 @@
+-- The numbers of acts by first occurrence: each act has one, in each longer list of acts, too.
+use Rattle.std.proofs.Common.{◌≡◌, ◌∙◌, ◌⊎◌, ℕ, zero, suc, ◌+◌, ◌<◌, Bool, true, false, List, [], ◌∷◌, ◌++◌, length, Option, None, Some, inl, inr, refl, sym, ap, subst, arith, if◌then◌else◌}
+use Rattle.std.specs.Prelude.{slice_get}
+use Rattle.std.proofs.lemmas.Bool.{false≢true}
+use Rattle.nwa_base.specs.Members.{Member}
+use Rattle.nwa_base.specs.Letters.{same_letter}
+use Rattle.nwa_base.specs.declared.letters.Letter.{Letter}
+use Rattle.nwa_base.proofs.LetterLemmas.{same_letter-refl}
+use Rattle.letter_acts.specs.Acts.{PlainAct, Alphabet, letter_of, named_act, act_of}
+use Rattle.letter_acts.specs.Invariant.{AreDistinct}
+use Rattle.lowered_graph.specs.Letters.{same_act, place_from, or_last, act_number, unless_there, with_act, numbered_letter}
+use Rattle.lowered_graph.proofs.SameActs.{same_act_so, same_act_back}
+
+-- ---- members of lists
+
+pub get_front : {X : Type 0} (xs ys : List X) (n : ℕ) (x : X) → slice_get xs n ≡ Some x → slice_get (xs ++ ys) n ≡ Some x
+get_front [] ys n x e = absurd (cc)
+get_front (y ∷ xs) ys zero x e = e
+get_front (y ∷ xs) ys (suc n) x e = get_front xs ys n x e
+
+get_last : {X : Type 0} (xs : List X) (x : X) → slice_get (xs ++ x ∷ []) (length xs) ≡ Some x
+get_last [] x = refl
+get_last (y ∷ xs) x = get_last xs x
+
+pub get_member : {X : Type 0} (xs : List X) (n : ℕ) (x : X) → slice_get xs n ≡ Some x → Member xs x
+get_member [] n x e = absurd (cc)
+get_member (y ∷ xs) zero x e = inl (cc)
+get_member (y ∷ xs) (suc n) x e = inr (get_member xs n x e)
+
+-- in a list without equal members an index is that of one member
+pub one_index : {X : Type 0} (xs : List X) (m n : ℕ) (x : X) → AreDistinct xs → slice_get xs m ≡ Some x → slice_get xs n ≡ Some x → m ≡ n
+one_index [] m n x d e f = absurd (cc)
+one_index (y ∷ xs) zero zero x d e f = refl
+one_index (y ∷ xs) zero (suc n) x d e f =
+    let is : y ≡ x = cc in
+    absurd (d.0 (get_member xs n y (f ∙ ap Some (sym is))))
+one_index (y ∷ xs) (suc m) zero x d e f =
+    let is : y ≡ x = cc in
+    absurd (d.0 (get_member xs m y (e ∙ ap Some (sym is))))
+one_index (y ∷ xs) (suc m) (suc n) x d e f = ap suc (one_index xs m n x d.1 e f)
+
+-- ---- the place of an act
+
+-- the act stands so far behind n
+pub record IsFound (n : ℕ) (acts : List PlainAct) (a : PlainAct) (k : ℕ) : Type 0 where
+  pub index : ℕ
+  pub at : k ≡ n + index
+  pub stands : slice_get acts index ≡ Some a
+
+found_by : (n : ℕ) (b : PlainAct) (bs : List PlainAct) (a : PlainAct) (k : ℕ) (test : Bool) → same_act b a ≡ test → (if test then Some n else place_from (suc n) bs a) ≡ Some k →
+    (place_from (suc n) bs a ≡ Some k → IsFound (suc n) bs a k) → IsFound n (b ∷ bs) a k
+found_by n b bs a k true e h rest = record {
+  index = 0;
+  at = (let same : n ≡ k = cc in omega arith);
+  stands = ap Some (same_act_so b a e);
+}
+found_by n b bs a k false e h rest =
+    let f : IsFound (suc n) bs a k = rest h in
+    let at : k ≡ suc n + f.index = f.at in
+    record { index = suc f.index; at = omega arith; stands = f.stands }
+
+found : (n : ℕ) (acts : List PlainAct) (a : PlainAct) (k : ℕ) → place_from n acts a ≡ Some k → IsFound n acts a k
+found n [] a k h = absurd (cc)
+found n (b ∷ bs) a k h = found_by n b bs a k (same_act b a) refl h (λ e. found (suc n) bs a k e)
+
+missing_by : (n : ℕ) (b : PlainAct) (bs : List PlainAct) (a : PlainAct) (test : Bool) → same_act b a ≡ test → (if test then Some n else place_from (suc n) bs a) ≡ None →
+    (place_from (suc n) bs a ≡ None → Member bs a → ⊥) → Member (b ∷ bs) a → ⊥
+missing_by n b bs a true e h rest m = cc
+missing_by n b bs a false e h rest (inl is) = false≢true (sym e ∙ same_act_back b a is)
+missing_by n b bs a false e h rest (inr m) = rest h m
+
+missing : (n : ℕ) (acts : List PlainAct) (a : PlainAct) → place_from n acts a ≡ None → Member acts a → ⊥
+missing n [] a h m = m
+missing n (b ∷ bs) a h m = missing_by n b bs a (same_act b a) refl h (λ e. missing (suc n) bs a e) m
+
+-- ---- with an act
+
+numbered_by : (acts : List PlainAct) (a : PlainAct) (o : Option ℕ) → place_from 0 acts a ≡ o → slice_get (unless_there acts a o) (or_last acts o) ≡ Some a
+numbered_by acts a None e = get_last acts a
+numbered_by acts a (Some n) e =
+    let f : IsFound 0 acts a n = found 0 acts a n e in
+    let at : f.index ≡ n = (let k : n ≡ 0 + f.index = f.at in omega arith) in
+    subst (λ (i : ℕ). slice_get acts i ≡ Some a) at f.stands
+
+-- an act has its number in the list with it
+pub act_numbered : (acts : List PlainAct) (a : PlainAct) → slice_get (with_act acts a) (act_number acts a) ≡ Some a
+act_numbered acts a = numbered_by acts a (place_from 0 acts a) refl
+
+-- the list is a longer one
+abbrev pub IsLonger : List PlainAct → List PlainAct → Type 0
+IsLonger acts more = (rest : List PlainAct) × (more ≡ acts ++ rest)
+
+pub longer_get : (acts more : List PlainAct) (n : ℕ) (a : PlainAct) → IsLonger acts more → slice_get acts n ≡ Some a → slice_get more n ≡ Some a
+longer_get acts more n a l e = ap (λ (xs : List PlainAct). slice_get xs n) l.1 ∙ get_front acts l.0 n a e
+
+itself_by : (acts : List PlainAct) → acts ≡ acts ++ []
+itself_by [] = refl
+itself_by (a ∷ acts) = ap (λ (xs : List PlainAct). a ∷ xs) (itself_by acts)
+
+pub longer_itself : (acts : List PlainAct) → IsLonger acts acts
+longer_itself acts = ([], itself_by acts)
+
+append_after : (xs ys zs : List PlainAct) → (xs ++ ys) ++ zs ≡ xs ++ (ys ++ zs)
+append_after [] ys zs = refl
+append_after (x ∷ xs) ys zs = ap (λ (l : List PlainAct). x ∷ l) (append_after xs ys zs)
+
+pub longer_than : (acts more most : List PlainAct) → IsLonger acts more → IsLonger more most → IsLonger acts most
+longer_than acts more most l m = (l.0 ++ m.0, m.1 ∙ ap (λ (xs : List PlainAct). xs ++ m.0) l.1 ∙ append_after acts l.0 m.0)
+
+unless_longer : (acts : List PlainAct) (a : PlainAct) (o : Option ℕ) → IsLonger acts (unless_there acts a o)
+unless_longer acts a None = (a ∷ [], refl)
+unless_longer acts a (Some n) = longer_itself acts
+
+pub with_longer : (acts : List PlainAct) (a : PlainAct) → IsLonger acts (with_act acts a)
+with_longer acts a = unless_longer acts a (place_from 0 acts a)
+
+-- ---- distinct acts
+
+last_or_before : {X : Type 0} (xs : List X) (y x : X) → Member (xs ++ y ∷ []) x → Member xs x ⊎ (y ≡ x)
+last_or_before [] y x (inl e) = inr e
+last_or_before [] y x (inr m) = absurd m
+last_or_before (z ∷ xs) y x (inl e) = inl (inl e)
+last_or_before (z ∷ xs) y x (inr m) = elim (last_or_before xs y x m) [ inl k ↦ inl (inr k) | inr e ↦ inr e ]
+
+distinct_last : {X : Type 0} (xs : List X) (y : X) → AreDistinct xs → (Member xs y → ⊥) → AreDistinct (xs ++ y ∷ [])
+distinct_last [] y d n = (λ m. m, tt)
+distinct_last (x ∷ xs) y d n = (
+  λ m. elim (last_or_before xs y x m) [ inl k ↦ d.0 k | inr e ↦ n (inl (sym e)) ],
+  distinct_last xs y d.1 (λ m. n (inr m)),
+)
+
+unless_distinct : (acts : List PlainAct) (a : PlainAct) (o : Option ℕ) → place_from 0 acts a ≡ o → AreDistinct acts → AreDistinct (unless_there acts a o)
+unless_distinct acts a None e d = distinct_last acts a d (missing 0 acts a e)
+unless_distinct acts a (Some n) e d = d
+
+pub with_distinct : (acts : List PlainAct) (a : PlainAct) → AreDistinct acts → AreDistinct (with_act acts a)
+with_distinct acts a d = unless_distinct acts a (place_from 0 acts a) refl d
+
+-- ---- the letter of an act
+
+if_same : (test : Bool) (act : PlainAct) → test ≡ true → (if test then Some act else None) ≡ Some act
+if_same true act e = refl
+if_same false act e = absurd (false≢true e)
+
+pub act_of_letter : (al : Alphabet) (n : ℕ) (act : PlainAct) → slice_get al.acts n ≡ Some act → act_of al (letter_of n act) ≡ Some act
+act_of_letter al n act e =
+    ap (named_act (letter_of n act)) e ∙ if_same (same_letter (letter_of n act) (letter_of n act)) act (same_letter-refl (letter_of n act))

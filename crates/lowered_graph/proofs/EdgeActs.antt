@@ -1,0 +1,385 @@
+-- The acts of inside edges are as a graph keeps them.
+use Rattle.std.proofs.Common.{◌≡◌, ◌∙◌, ◌⊎◌, ℕ, zero, suc, ◌+◌, ◌<◌, ◌≤◌, ℤ, pos, Bool, true, false, not, List, [], ◌∷◌, ◌++◌, map, length, Option, None, Some, inl, inr, refl, sym, ap, subst, arith, nat_eq, if◌then◌else◌}
+use Rattle.std.specs.Prelude.{slice_get, take, drop}
+use Rattle.std.specs.List.{AllByRecursion}
+use Rattle.std.specs.Option.{option_map}
+use Rattle.std.proofs.lemmas.List.{length-append, length-map}
+use Rattle.boogie_tree.specs.declared.tree.Ty.{Ty}
+use Rattle.boogie_tree.specs.declared.tree.Column.{Column}
+use Rattle.boogie_tree.specs.declared.tree.Column.TheVariants as columns
+use Rattle.boogie_tree.specs.declared.tree.VarInfo.{VarInfo}
+use Rattle.typed_tree.specs.TypedTree.{TypedExpression, TypedInvariant, TypedProcedure, TypedProgram}
+use Rattle.math_facts.specs.Terms.{IsBelow}
+use Rattle.lin_rows.specs.Rows.{LinearRow}
+use Rattle.letter_acts.specs.Frames.{Columns}
+use Rattle.letter_acts.specs.Invariant.{AreDistinct, MayWrite, IsOld, inside_width}
+use Rattle.cond_jumps.specs.Conjunctions.{Conjunction, Plan, Just, With, listed, joined}
+use Rattle.cond_jumps.specs.Forms.{Linear, Linears, number, column}
+use Rattle.cond_jumps.specs.Environments.{Environment}
+use Rattle.cond_jumps.specs.Frames.{place_from, or_else, if_constant, place, sum_at, plan_at, frame_environment}
+use Rattle.cond_jumps.specs.Comparisons.{never}
+use Rattle.cond_jumps.specs.Passing.{Standing, Same, Numbered, Passed, standing_sum, standing_plan, standing_environment, passed, left_in, locals_of, imported}
+use Rattle.cond_jumps.specs.Paths.{linear, paths, assigns}
+use Rattle.cond_jumps.specs.Lists.{path_list, assign_list}
+use Rattle.cond_jumps.proofs.FrameLemmas.{IsFound, found_from}
+use Rattle.boogie_points.specs.Points.{Point, settled, past_first}
+use Rattle.boogie_points.specs.Actions as actions
+use Rattle.boogie_points.specs.Actions.{Action, ensured_conditions}
+use Rattle.boogie_points.specs.Starts.{targets_at}
+use Rattle.lowered_steps.specs.ProgramFrames.{frame_at, number_in}
+use Rattle.lowered_steps.specs.Edges as edges
+use Rattle.lowered_steps.specs.Edges.{Spot, At, Wrong, Edge, leads, no_rows, is_in, those_in, those_not_in, import_written, typed_column, left_if, left_at, found_or_0, result_at, results_at, all_hold, only_helpers, import_environment, import_list, import_edges, passed_list, skips, numbers_in, inside_edges}
+use Rattle.lowered_steps.specs.Stacks.{IsAmong}
+use Rattle.lowered_graph.proofs.NamedColumns.{RowsName, AreNamed, IsNamed, SumNames, ListNames, EachNames, terms_so, rows_so, column_names, named_names, PlanNames, with_names, always_names, linear_names, paths_names, assigns_names}
+use Rattle.lowered_graph.proofs.FrameTargets.{StandsAt, AreStanding, AreVarying, stands_written, stands_new, standing_written, standing_new, standing_distinct, import_may_write, import_new, import_distinct}
+
+-- ---- what stands for the columns
+
+sum_wider : (A B : ℕ → Type 0) → ((c : ℕ) → A c → B c) → (n : ℕ) (x : Linear) → SumNames A n x → SumNames B n x
+sum_wider A B f n x h =
+    let g : (c : ℕ) → IsNamed A n x.helpers c → IsNamed B n x.helpers c = λ c i. either c i in
+    record { terms = terms_so (IsNamed A n x.helpers) (IsNamed B n x.helpers) g x.terms h.terms; rows = rows_so (IsNamed A n x.helpers) (IsNamed B n x.helpers) g x.rows h.rows }
+  where
+    either : (c : ℕ) → IsNamed A n x.helpers c → IsNamed B n x.helpers c
+    either c (inl a) = inl (f c a)
+    either c (inr l) = inr l
+
+list_wider : (A B : ℕ → Type 0) → ((c : ℕ) → A c → B c) → (n : ℕ) (cs : List Conjunction) → ListNames A n cs → ListNames B n cs
+list_wider A B f n [] h = tt
+list_wider A B f n (x ∷ cs) h = (rows_so (IsNamed A n x.helpers) (IsNamed B n x.helpers) (λ c i. either c i) x.rows h.0, list_wider A B f n cs h.1)
+  where
+    either : (c : ℕ) → IsNamed A n x.helpers c → IsNamed B n x.helpers c
+    either c (inl a) = inl (f c a)
+    either c (inr l) = inr l
+
+pub each_wider : (A B : ℕ → Type 0) (v : Environment) → ((c : ℕ) → A c → B c) → EachNames A v → EachNames B v
+each_wider A B v f h = record {
+  sums = λ c n. sum_wider A B f n (v.sum c n) (h.sums c n);
+  plans = λ c want n. list_wider A B f n (listed (v.plan c want) n) (h.plans c want n);
+}
+
+-- a place is inside the frame
+found_inside : (frame : Columns) (c : Column) (x : ℕ × VarInfo) → place_from 0 frame c ≡ Some x → x.0 < length frame
+found_inside frame c x e =
+    let f : IsFound 0 frame c x = found_from 0 frame c x e in
+    let at : x.0 ≡ 0 + f.index = f.at in
+    let inside : f.index < length frame = f.inside in
+    omega arith
+
+old_inside : (frame : Columns) (g : ℕ) (x : ℕ × VarInfo) (a b : Option (ℕ × VarInfo)) → place_from 0 frame (columns.Old g) ≡ a → place_from 0 frame (columns.Global g) ≡ b → or_else a (if_constant b) ≡ Some x → x.0 < length frame
+old_inside frame g x (Some y) b e f h = found_inside frame (columns.Old g) x (e ∙ h)
+old_inside frame g x None None e f h = absurd (cc)
+old_inside frame g x None (Some y) e f h = by_test y.1.constant h
+  where
+    by_test : (b : Bool) → (if b then Some y else None) ≡ Some x → x.0 < length frame
+    by_test true k = found_inside frame (columns.Global g) x (f ∙ k)
+    by_test false k = absurd (cc)
+
+place_inside : (frame : Columns) (c : Column) (x : ℕ × VarInfo) → place frame c ≡ Some x → x.0 < length frame
+place_inside frame (columns.Global g) x e = found_inside frame (columns.Global g) x e
+place_inside frame (columns.Old g) x e = old_inside frame g x (place_from 0 frame (columns.Old g)) (place_from 0 frame (columns.Global g)) refl refl e
+place_inside frame (columns.Local l) x e = found_inside frame (columns.Local l) x e
+
+-- the columns of a frame
+pub frame_names : (frame : Columns) → EachNames (λ c. c < length frame) (frame_environment frame)
+frame_names frame = record {
+  sums = λ c n. sum_named (place frame c) n (λ x e. place_inside frame c x e);
+  plans = λ c want n. plan_named (place frame c) want n (λ x e. place_inside frame c x e);
+}
+  where
+    sum_named : (o : Option (ℕ × VarInfo)) (n : ℕ) → ((x : ℕ × VarInfo) → o ≡ Some x → x.0 < length frame) → SumNames (λ c. c < length frame) n (sum_at o n)
+    sum_named None n h = record { terms = tt; rows = tt }
+    sum_named (Some x) n h = column_names (λ c. c < length frame) x.0 n (h x refl)
+
+    plan_named : (o : Option (ℕ × VarInfo)) (want : Bool) (n : ℕ) → ((x : ℕ × VarInfo) → o ≡ Some x → x.0 < length frame) → ListNames (λ c. c < length frame) n (listed (plan_at o want) n)
+    plan_named None want n h = tt
+    plan_named (Some x) want n h = named_names (λ c. c < length frame) x.0 want n (h x refl)
+
+-- columns by number, and expressions, in place of columns
+standing_names : (A : ℕ → Type 0) (v : Environment) (stands : Column → Option Standing) → EachNames A v → ((c : Column) (k : ℕ) (ty : Ty) → stands c ≡ Some (Numbered k ty) → A k) → EachNames A (standing_environment v stands)
+standing_names A v stands s h = record {
+  sums = λ c n. sum_named (stands c) n (h c);
+  plans = λ c want n. plan_named (stands c) want n (h c);
+}
+  where
+    sum_named : (o : Option Standing) (n : ℕ) → ((k : ℕ) (ty : Ty) → o ≡ Some (Numbered k ty) → A k) → SumNames A n (standing_sum v o n)
+    sum_named None n g = record { terms = tt; rows = tt }
+    sum_named (Some (Same c)) n g = s.sums c n
+    sum_named (Some (Numbered k ty)) n g = column_names A k n (g k ty refl)
+    sum_named (Some (Passed e)) n g = linear_names A v s false e n
+
+    plan_named : (o : Option Standing) (want : Bool) (n : ℕ) → ((k : ℕ) (ty : Ty) → o ≡ Some (Numbered k ty) → A k) → ListNames A n (listed (standing_plan v o want) n)
+    plan_named None want n g = tt
+    plan_named (Some (Same c)) want n g = s.plans c want n
+    plan_named (Some (Numbered k ty)) want n g = named_names A k want n (g k ty refl)
+    plan_named (Some (Passed e)) want n g = paths_names A v s false e want n
+
+passed_names : (A : ℕ → Type 0) (v : Environment) (args : List TypedExpression) → EachNames A v → EachNames A (standing_environment v (passed args))
+passed_names A v args s = standing_names A v (passed args) s by_column
+  where
+    no_number : (o : Option TypedExpression) (k : ℕ) (ty : Ty) → option_map Passed o ≡ Some (Numbered k ty) → A k
+    no_number None k ty e = absurd (cc)
+    no_number (Some x) k ty e = absurd (cc)
+
+    by_column : (c : Column) (k : ℕ) (ty : Ty) → passed args c ≡ Some (Numbered k ty) → A k
+    by_column (columns.Global n) k ty e = absurd (cc)
+    by_column (columns.Old n) k ty e = absurd (cc)
+    by_column (columns.Local n) k ty e = no_number (slice_get args n) k ty e
+
+-- ---- what stands for the columns of a call without body
+
+found_below : (k : ℕ) (xs : List ℕ) (n i : ℕ) → edges.found_from k xs n ≡ Some i → i < k + length xs
+found_below k [] n i e = absurd (cc)
+found_below k (x ∷ xs) n i e = by_test (nat_eq x n) e (found_below (suc k) xs n i)
+  where
+    by_test : (b : Bool) → (if b then Some k else edges.found_from (suc k) xs n) ≡ Some i → (edges.found_from (suc k) xs n ≡ Some i → i < suc k + length xs) → i < k + suc (length xs)
+    by_test true h f = let same : k ≡ i = cc in omega arith
+    by_test false h f = let l : i < suc k + length xs = f h in omega arith
+
+left_below : (globals : List VarInfo) (base bound n : ℕ) (o p : Option ℕ) (k : ℕ) (ty : Ty) → ((i : ℕ) → o ≡ Some i → base + i < bound) → ((i : ℕ) → p ≡ Some i → i < bound) →
+    left_in n (left_if globals base n o p) ≡ Numbered k ty → k < bound
+left_below globals base bound n None p k ty h g e = absurd (cc)
+left_below globals base bound n (Some i) None k ty h g e = by_info (slice_get globals n) e
+  where
+    by_info : (v : Option VarInfo) → left_in n (typed_column (base + i) v) ≡ Numbered k ty → k < bound
+    by_info None f = absurd (cc)
+    by_info (Some v) f = let same : base + i ≡ k = cc in subst (λ (m : ℕ). m < bound) same (h i refl)
+left_below globals base bound n (Some i) (Some j) k ty h g e = by_info (slice_get globals n) e
+  where
+    by_info : (v : Option VarInfo) → left_in n (typed_column j v) ≡ Numbered k ty → k < bound
+    by_info None f = absurd (cc)
+    by_info (Some v) f = let same : j ≡ k = cc in subst (λ (m : ℕ). m < bound) same (g j refl)
+
+-- a found number, or 0, is inside a list that has members
+found_within : (xs : List ℕ) (n : ℕ) → 1 ≤ length xs → found_or_0 (edges.found_from 0 xs n) < length xs
+found_within xs n l = by_found (edges.found_from 0 xs n) (λ i e. found_below 0 xs n i e)
+  where
+    by_found : (o : Option ℕ) → ((i : ℕ) → o ≡ Some i → i < 0 + length xs) → found_or_0 o < length xs
+    by_found None h = omega arith
+    by_found (Some i) h = let b : i < 0 + length xs = h i refl in omega arith
+
+-- a call with a target writes something
+writes_some : (modified targets : List ℕ) (c : ℕ) → 1 ≤ length (import_written modified (c ∷ targets))
+writes_some [] targets c = omega arith
+writes_some (m ∷ ms) targets c = omega arith
+
+locals_below : (bound : ℕ) (args : List TypedExpression) (results : List (ℕ × Ty)) (n k : ℕ) (ty : Ty) → AllByRecursion (λ r. r.0 < bound) results → slice_get (locals_of args results) n ≡ Some (Numbered k ty) → k < bound
+locals_below bound (a ∷ args) results zero k ty h e = absurd (cc)
+locals_below bound (a ∷ args) results (suc n) k ty h e = locals_below bound args results n k ty h e
+locals_below bound [] [] n k ty h e = absurd (cc)
+locals_below bound [] (r ∷ rs) zero k ty h e = let same : r.0 ≡ k = cc in subst (λ (m : ℕ). m < bound) same h.0
+locals_below bound [] (r ∷ rs) (suc n) k ty h e = locals_below bound [] rs n k ty h.1 e
+
+results_below : (base bound : ℕ) (written cs : List ℕ) (vs : List VarInfo) → (1 ≤ length cs → 1 ≤ length written) → base + length written ≤ bound → AllByRecursion (λ r. r.0 < bound) (results_at base written cs vs)
+results_below base bound written [] vs h l = tt
+results_below base bound written (c ∷ cs) [] h l = tt
+results_below base bound written (c ∷ cs) (v ∷ vs) h l =
+    let some : 1 ≤ length written = h (omega arith) in
+    let within : found_or_0 (edges.found_from 0 written c) < length written = found_within written c some in
+    ((let b : base + found_or_0 (edges.found_from 0 written c) < bound = omega arith in b), results_below base bound written cs vs (λ m. some) l)
+
+some_written : (modified targets : List ℕ) → 1 ≤ length targets → 1 ≤ length (import_written modified targets)
+some_written modified [] l = absurd (omega arith)
+some_written modified (c ∷ targets) l = writes_some modified targets c
+
+-- the columns of the frame, the written ones, and the helpers of modified globals that are targets
+abbrev import_bound : Columns → TypedProcedure → List ℕ → ℕ
+import_bound frame q targets = length frame + length (import_written q.modifies targets) + length (those_in targets q.modifies)
+
+import_names : (frame : Columns) (globals : List VarInfo) (q : TypedProcedure) (args : List TypedExpression) (targets : List ℕ) →
+    EachNames (λ c. c < import_bound frame q targets) (import_environment frame globals q args targets)
+import_names frame globals q args targets =
+    let base : ℕ = length frame in
+    let written : List ℕ = import_written q.modifies targets in
+    let bound : ℕ = import_bound frame q targets in
+    let results : List (ℕ × Ty) = results_at base written targets (take q.results (drop q.params q.locals)) in
+    let more : length written ≡ length q.modifies + length (those_not_in q.modifies targets) = length-append q.modifies (those_not_in q.modifies targets) in
+    standing_names (λ c. c < bound) (frame_environment frame) (imported (left_at globals base q.modifies targets) args results)
+    (each_wider (λ c. c < base) (λ c. c < bound) (frame_environment frame) (λ c l. (let k : c < base = l in omega arith)) (frame_names frame))
+    (by_column base written bound results (results_below base bound written targets (take q.results (drop q.params q.locals)) (some_written q.modifies targets) (omega arith)) more)
+  where
+    by_column : (base : ℕ) (written : List ℕ) (bound : ℕ) (results : List (ℕ × Ty)) → AllByRecursion (λ r. r.0 < length frame + length (import_written q.modifies targets) + length (those_in targets q.modifies)) results →
+        length (import_written q.modifies targets) ≡ length q.modifies + length (those_not_in q.modifies targets) →
+        (c : Column) (k : ℕ) (ty : Ty) → imported (left_at globals (length frame) q.modifies targets) args results c ≡ Some (Numbered k ty) → k < import_bound frame q targets
+    by_column base written bound results h more (columns.Global n) k ty e =
+        let is : left_in n (left_at globals (length frame) q.modifies targets n) ≡ Numbered k ty = cc in
+        left_below globals (length frame) (import_bound frame q targets) n (edges.found_from 0 q.modifies n) (edges.found_from (length frame + length (import_written q.modifies targets)) (those_in targets q.modifies) n) k ty
+        (λ i f. (let l : i < 0 + length q.modifies = found_below 0 q.modifies n i f in omega arith))
+        (λ i f. found_below (length frame + length (import_written q.modifies targets)) (those_in targets q.modifies) n i f) is
+    by_column base written bound results h more (columns.Old n) k ty e = absurd (cc)
+    by_column base written bound results h more (columns.Local n) k ty e = locals_below (import_bound frame q targets) args results n k ty h e
+
+-- ---- lists within columns
+
+-- the rows of each member are over the act's columns
+abbrev pub AreWithin : Columns → List ℕ → List Conjunction → Type 0
+AreWithin frame written cs = AllByRecursion (λ c. AllByRecursion (λ r. IsBelow (inside_width frame written c.helpers) r.terms) c.rows) cs
+
+below_terms : (m : ℕ) (ts : List (ℕ × ℤ)) → AreNamed (λ c. c < m) ts → IsBelow m ts
+below_terms m [] h = tt
+below_terms m (x ∷ ts) h = (h.0, below_terms m ts h.1)
+
+below_rows : (m : ℕ) (rs : List LinearRow) → RowsName (λ c. c < m) rs → AllByRecursion (λ r. IsBelow m r.terms) rs
+below_rows m [] h = tt
+below_rows m (r ∷ rs) h = (below_terms m r.terms h.0, below_rows m rs h.1)
+
+named_below : (n k c : ℕ) → IsNamed (λ c. c < n) n k c → c < n + k
+named_below n k c (inl l) = let b : c < n = l in omega arith
+named_below n k c (inr h) = h.1
+
+pub list_within : (frame : Columns) (written : List ℕ) (n : ℕ) (cs : List Conjunction) → n ≡ length frame + length written → ListNames (λ c. c < n) n cs → AreWithin frame written cs
+list_within frame written n [] e h = tt
+list_within frame written n (c ∷ cs) e h =
+    let rows : AllByRecursion (λ r. IsBelow (n + c.helpers) r.terms) c.rows =
+    below_rows (n + c.helpers) c.rows (rows_so (IsNamed (λ c. c < n) n c.helpers) (λ x. x < n + c.helpers) (λ x i. named_below n c.helpers x i) c.rows h.0) in
+    (subst (λ (m : ℕ). AllByRecursion (λ r. IsBelow (m + c.helpers) r.terms) c.rows) e rows, list_within frame written n cs e h.1)
+
+path_within : (frame : Columns) (e : TypedExpression) (want : Bool) → AreWithin frame [] (path_list frame e want)
+path_within frame e want =
+    list_within frame [] (length frame) (path_list frame e want) (omega arith) (paths_names (λ c. c < length frame) (frame_environment frame) (frame_names frame) false e want (length frame))
+
+passed_within : (frame : Columns) (args : List TypedExpression) (e : TypedExpression) (want : Bool) → AreWithin frame [] (passed_list frame args e want)
+passed_within frame args e want =
+    list_within frame [] (length frame) (passed_list frame args e want) (omega arith)
+    (paths_names (λ c. c < length frame) (standing_environment (frame_environment frame) (passed args)) (passed_names (λ c. c < length frame) (frame_environment frame) args (frame_names frame)) false e want (length frame))
+
+assign_within : (frame : Columns) (written : List ℕ) (es : List TypedExpression) → length es ≡ length written → AreWithin frame written (assign_list frame (length es) es)
+assign_within frame written es e =
+    let bound : ℕ = length frame + length es in
+    list_within frame written bound (assign_list frame (length es) es) (omega arith)
+    (assigns_names (λ c. c < bound) (frame_environment frame) (each_wider (λ c. c < length frame) (λ c. c < bound) (frame_environment frame) (λ c l. (let k : c < length frame = l in omega arith)) (frame_names frame)) (length frame) es
+      (λ c l u. u) bound)
+
+no_rows_within : (frame : Columns) (written : List ℕ) → AreWithin frame written no_rows
+no_rows_within frame written = (tt, tt)
+
+all_hold_names : (A : ℕ → Type 0) (v : Environment) → EachNames A v → (is : List TypedInvariant) → PlanNames A (all_hold v is)
+all_hold_names A v s [] = always_names A
+all_hold_names A v s (i ∷ is) = with_names A (paths v false i.cond true) (all_hold v is) (paths_names A v s false i.cond true) (all_hold_names A v s is)
+
+-- members behind so many helpers
+behind_helpers : (frame : Columns) (written : List ℕ) (n k : ℕ) (cs : List Conjunction) → n ≡ length frame + length written → ListNames (λ c. c < n + k) (n + k) cs →
+    AreWithin frame written (map (joined (record { rows = []; helpers = k })) cs)
+behind_helpers frame written n k [] e h = tt
+behind_helpers frame written n k (c ∷ cs) e h =
+    let rows : AllByRecursion (λ r. IsBelow (n + k + c.helpers) r.terms) c.rows =
+    below_rows (n + k + c.helpers) c.rows (rows_so (IsNamed (λ c. c < n + k) (n + k) c.helpers) (λ x. x < n + k + c.helpers) (λ x i. named_below (n + k) c.helpers x i) c.rows h.0) in
+    (subst (λ (m : ℕ). AllByRecursion (λ r. IsBelow m r.terms) c.rows) (let s : n + k + c.helpers ≡ length frame + length written + (k + c.helpers) = omega arith in s) rows, behind_helpers frame written n k cs e h.1)
+
+append_within : (frame : Columns) (written : List ℕ) (cs : List Conjunction) → AreWithin frame written cs → AreWithin frame written (cs ++ [])
+append_within frame written [] h = tt
+append_within frame written (c ∷ cs) h = (h.0, append_within frame written cs h.1)
+
+import_within : (frame : Columns) (globals : List VarInfo) (q : TypedProcedure) (args : List TypedExpression) (targets : List ℕ) →
+    AreWithin frame (import_written q.modifies targets) (import_list frame globals q args targets)
+import_within frame globals q args targets =
+    let written : List ℕ = import_written q.modifies targets in
+    let n : ℕ = length frame + length written in
+    let k : ℕ = length (those_in targets q.modifies) in
+    let v : Environment = import_environment frame globals q args targets in
+    append_within frame written (map (joined (record { rows = []; helpers = k })) (listed (all_hold v (ensured_conditions q.specs)) (n + k)))
+    (behind_helpers frame written n k (listed (all_hold v (ensured_conditions q.specs)) (n + k)) refl (all_hold_names (λ c. c < n + k) v (import_names frame globals q args targets) (ensured_conditions q.specs) (n + k)))
+
+-- ---- edges
+
+-- what typing says of the columns that an action writes
+pub record ImportWrites (t : TypedProgram) (n : ℕ) (q : TypedProcedure) (cs : List Column) : Type 0 where
+  pub modified : AreVarying t q.modifies
+  pub modified_differ : AreDistinct q.modifies
+  pub targets : AreStanding t n cs
+  pub targets_differ : AreDistinct cs
+
+abbrev pub ImportIsKnown : TypedProgram → ℕ → Point → ℕ → Type 0
+ImportIsKnown t n p f = (q : TypedProcedure) → slice_get t.procs f ≡ Some q → ImportWrites t n q (targets_at p.todo)
+
+pub record AssignWrites (t : TypedProgram) (n : ℕ) (cs : List Column) (es : List TypedExpression) : Type 0 where
+  pub targets : AreStanding t n cs
+  pub differ : AreDistinct cs
+  pub as_many : length es ≡ length cs
+
+abbrev pub ActionWrites : TypedProgram → ℕ → Point → Action → Type 0
+ActionWrites t n p (actions.Check id at e next) = Unit {0}
+ActionWrites t n p (actions.Suppose e next) = Unit {0}
+ActionWrites t n p (actions.Demand id at e args next) = Unit {0}
+ActionWrites t n p (actions.Write cs es next) = AssignWrites t n cs es
+ActionWrites t n p (actions.Guess c next) = (ty : Ty) × StandsAt t n ty c
+ActionWrites t n p (actions.Test e hit miss) = Unit {0}
+ActionWrites t n p (actions.Pick ways) = Unit {0}
+ActionWrites t n p (actions.Jump next) = Unit {0}
+ActionWrites t n p (actions.Enter f args) = Unit {0}
+ActionWrites t n p (actions.Keep f args c next) = ImportIsKnown t n p f
+ActionWrites t n p (actions.Grant f args e next) = ImportIsKnown t n p f
+ActionWrites t n p (actions.Finish f args targets next) = ImportIsKnown t n p f
+ActionWrites t n p actions.Leave = Unit {0}
+
+-- what the act of an edge keeps, and that it writes no old column
+pub record EdgeIsActed (t : TypedProgram) (n : ℕ) (e : Edge) : Type 0 where
+  pub may_write : AllByRecursion (MayWrite (frame_at t n)) e.written
+  pub distinct : AreDistinct e.written
+  pub within : AllByRecursion (λ r. IsBelow (inside_width (frame_at t n) e.written e.rows.helpers) r.terms) e.rows.rows
+  pub new : AllByRecursion (λ c. IsOld (frame_at t n) c → ⊥) e.written
+
+-- what the columns that edges write keep
+record WrittenColumns (t : TypedProgram) (n : ℕ) (written : List ℕ) : Type 0 where
+  may_write : AllByRecursion (MayWrite (frame_at t n)) written
+  distinct : AreDistinct written
+  new : AllByRecursion (λ c. IsOld (frame_at t n) c → ⊥) written
+
+nothing_written : (t : TypedProgram) (n : ℕ) → WrittenColumns t n []
+nothing_written t n = record { may_write = tt; distinct = tt; new = tt }
+
+leads_acted : (t : TypedProgram) (n : ℕ) (written : List ℕ) (cs : List Conjunction) (to : Spot) (e : Edge) → WrittenColumns t n written → AreWithin (frame_at t n) written cs → IsAmong (leads written cs to) e → EdgeIsActed t n e
+leads_acted t n written [] to e w h m = absurd m
+leads_acted t n written (c ∷ cs) to e w h (inl is) =
+    let one : EdgeIsActed t n (record { to = to; written = written; rows = c }) = record { may_write = w.may_write; distinct = w.distinct; within = h.0; new = w.new } in
+    subst (EdgeIsActed t n) is one
+leads_acted t n written (c ∷ cs) to e w h (inr m) = leads_acted t n written cs to e w h.1 m
+
+among_either : {X : Type 0} (xs ys : List X) (x : X) → IsAmong (xs ++ ys) x → IsAmong xs x ⊎ IsAmong ys x
+among_either [] ys x m = inr m
+among_either (y ∷ xs) ys x (inl e) = inl (inl e)
+among_either (y ∷ xs) ys x (inr m) = elim (among_either xs ys x m) [ inl h ↦ inl (inr h) | inr h ↦ inr h ]
+
+skips_acted : (t : TypedProgram) (n : ℕ) (ways : List Point) (e : Edge) → IsAmong (skips ways) e → EdgeIsActed t n e
+skips_acted t n [] e m = absurd m
+skips_acted t n (p ∷ ways) e m = elim (among_either (leads [] no_rows (At p)) (skips ways) e m) [
+  inl h ↦ leads_acted t n [] no_rows (At p) e (nothing_written t n) (no_rows_within (frame_at t n) []) h |
+  inr h ↦ skips_acted t n ways e h ]
+
+import_acted : (t : TypedProgram) (n : ℕ) (o : Option TypedProcedure) (args : List TypedExpression) (cs : List Column) (next : Point) (e : Edge) → ((q : TypedProcedure) → o ≡ Some q → ImportWrites t n q cs) →
+    IsAmong (import_edges (frame_at t n) t.globals o args (numbers_in (frame_at t n) cs) next) e → EdgeIsActed t n e
+import_acted t n None args cs next e h m = absurd m
+import_acted t n (Some q) args cs next e h m =
+    let w : ImportWrites t n q cs = h q refl in
+    let targets : List ℕ = numbers_in (frame_at t n) cs in
+    leads_acted t n (import_written q.modifies targets) (import_list (frame_at t n) t.globals q args targets) (At next) e
+    (record { may_write = import_may_write t n q.modifies cs w.modified w.targets; distinct = import_distinct t n q.modifies cs w.modified_differ w.targets w.targets_differ; new = import_new t n q.modifies cs w.modified w.targets })
+    (import_within (frame_at t n) t.globals q args targets) m
+
+both_acted : (t : TypedProgram) (n : ℕ) (xs ys : List Conjunction) (to other : Spot) (e : Edge) → AreWithin (frame_at t n) [] xs → AreWithin (frame_at t n) [] ys → IsAmong (leads [] xs to ++ leads [] ys other) e → EdgeIsActed t n e
+both_acted t n xs ys to other e h k m = elim (among_either (leads [] xs to) (leads [] ys other) e m) [
+  inl i ↦ leads_acted t n [] xs to e (nothing_written t n) h i |
+  inr i ↦ leads_acted t n [] ys other e (nothing_written t n) k i ]
+
+pub edge_acted : (t : TypedProgram) (n : ℕ) (p : Point) (a : Action) (e : Edge) → ActionWrites t n p a → IsAmong (inside_edges t n p a) e → EdgeIsActed t n e
+edge_acted t n p (actions.Check id at c next) e w m = both_acted t n (path_list (frame_at t n) c true) (path_list (frame_at t n) c false) (At next) (Wrong id) e (path_within (frame_at t n) c true) (path_within (frame_at t n) c false) m
+edge_acted t n p (actions.Suppose c next) e w m = leads_acted t n [] (path_list (frame_at t n) c true) (At next) e (nothing_written t n) (path_within (frame_at t n) c true) m
+edge_acted t n p (actions.Demand id at c args next) e w m =
+    both_acted t n (passed_list (frame_at t n) args c true) (passed_list (frame_at t n) args c false) (At next) (Wrong id) e (passed_within (frame_at t n) args c true) (passed_within (frame_at t n) args c false) m
+edge_acted t n p (actions.Write cs es next) e w m =
+    let frame : Columns = frame_at t n in
+    let count : length (numbers_in frame cs) ≡ length cs = length-map cs (number_in frame) in
+    leads_acted t n (numbers_in frame cs) (assign_list frame (length es) es) (At next) e
+    (record { may_write = standing_written t n cs w.targets; distinct = standing_distinct t n cs w.targets w.differ; new = standing_new t n cs w.targets })
+    (assign_within frame (numbers_in frame cs) es (w.as_many ∙ sym count)) m
+edge_acted t n p (actions.Guess c next) e w m =
+    leads_acted t n (number_in (frame_at t n) c ∷ []) no_rows (At next) e
+    (record { may_write = (stands_written t n w.0 c w.1, tt); distinct = (λ m. m, tt); new = (stands_new t n w.0 c w.1, tt) }) (no_rows_within (frame_at t n) (number_in (frame_at t n) c ∷ [])) m
+edge_acted t n p (actions.Test c hit miss) e w m = both_acted t n (path_list (frame_at t n) c true) (path_list (frame_at t n) c false) (At hit) (At miss) e (path_within (frame_at t n) c true) (path_within (frame_at t n) c false) m
+edge_acted t n p (actions.Pick ways) e w m = skips_acted t n ways e m
+edge_acted t n p (actions.Jump next) e w m = skips_acted t n (next ∷ []) e m
+edge_acted t n p (actions.Enter f args) e w m = absurd m
+edge_acted t n p (actions.Keep f args c next) e w m = import_acted t n (slice_get t.procs f) args (targets_at p.todo) (settled (past_first t.procs p.todo)) e w m
+edge_acted t n p (actions.Grant f args c next) e w m = import_acted t n (slice_get t.procs f) args (targets_at p.todo) (settled (past_first t.procs p.todo)) e w m
+edge_acted t n p (actions.Finish f args targets next) e w m = import_acted t n (slice_get t.procs f) args (targets_at p.todo) (settled (past_first t.procs p.todo)) e w m
+edge_acted t n p actions.Leave e w m = absurd m

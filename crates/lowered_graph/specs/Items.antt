@@ -1,0 +1,222 @@
+-- The items of a program and their faults: what cannot be lowered because a list is too long or a number too big.
+use Rattle.std.specs.Prelude.{ℕ, zero, suc, ◌+◌, Bool, true, false, not, ◌&&◌, ◌||◌, nat_lt, nat_eq, List, [], ◌∷◌, ◌++◌, map, length, Option, None, Some, slice_get, if◌then◌else◌}
+use Rattle.std.specs.List.{list_any}
+use Rattle.boogie_tree.specs.declared.span.Span.{Span}
+use Rattle.boogie_tree.specs.declared.tree.VarInfo.{VarInfo}
+use Rattle.typed_tree.specs.TypedTree.{TypedExpression, Lit, Truth, Var, Old, Not, Neg, Bin, TypedInvariant, TypedStatement, Assert, Assume, Havoc, Assign, Call, If, While, Break, Goto, Return, Label, TypedBlock, Empty, Then, TypedProcedure, TypedProgram}
+use Rattle.typing_rules.specs.Counts.{checked_at_call}
+use Rattle.letter_acts.specs.Frames.{Columns}
+use Rattle.cond_jumps.specs.Conjunctions.{Plan, Just, With, is_wide, all_fit}
+use Rattle.cond_jumps.specs.Environments.{Environment}
+use Rattle.cond_jumps.specs.Paths.{paths}
+use Rattle.cond_jumps.specs.Frames.{frame_environment}
+use Rattle.cond_jumps.specs.Passing.{passed, standing_environment}
+use Rattle.cond_jumps.specs.Lists.{path_plan, assign_plan, assign_width}
+use Rattle.boogie_points.specs.Points.{Todo, Start, Entry, Body, Exit, Stage, Point}
+use Rattle.boogie_points.specs.Actions as actions
+use Rattle.boogie_points.specs.Actions.{Action, action_at, plain_conditions, free_conditions, ensured_conditions}
+use Rattle.boogie_points.specs.Starts.{targets_at}
+use Rattle.boogie_places.specs.Places.{Place, parts_from, program_places}
+use Rattle.lowered_steps.specs.ProgramFrames.{frame_at, width_at}
+use Rattle.lowered_steps.specs.Edges.{import_written, import_environment, those_in, only_helpers, all_hold, parameters_get, columns_before_locals, numbers_in}
+
+-- ---- the lists that the edges of a place need
+
+-- how a list is put together, and the number of its first helper column
+pub record Needed : Type 0 where
+  pub plan : Plan
+  pub base : ℕ
+
+abbrev pub path_needed : Columns → TypedExpression → Bool → Needed
+path_needed frame e want = record { plan = path_plan frame e want; base = length frame }
+
+abbrev pub passed_needed : Columns → List TypedExpression → TypedExpression → Bool → Needed
+passed_needed frame args e want =
+    record { plan = paths (standing_environment (frame_environment frame) (passed args)) false e want; base = length frame }
+
+-- all ensures of a procedure without body together
+abbrev pub import_needed : Columns → List VarInfo → Option TypedProcedure → List TypedExpression → List ℕ → List Needed
+import_needed frame globals None args targets = []
+import_needed frame globals (Some q) args targets =
+    record {
+      plan = With (Just (only_helpers (length (those_in targets q.modifies)))) (all_hold (import_environment frame globals q args targets) (ensured_conditions q.specs));
+      base = length frame + length (import_written q.modifies targets);
+    }
+    ∷ []
+
+-- the rows of a call
+abbrev pub call_needed : TypedProgram → ℕ → ℕ → List TypedExpression → Needed
+call_needed t n f args = record {
+  plan = parameters_get (frame_environment (frame_at t n)) (width_at t n + columns_before_locals t) args;
+  base = width_at t n + width_at t f;
+}
+
+abbrev pub import_at : TypedProgram → ℕ → Point → ℕ → List TypedExpression → List Needed
+import_at t n here f args = import_needed (frame_at t n) t.globals (slice_get t.procs f) args (numbers_in (frame_at t n) (targets_at here.todo))
+
+abbrev pub needed_by : TypedProgram → ℕ → Point → Action → List Needed
+needed_by t n here (actions.Check i at e next) = path_needed (frame_at t n) e true ∷ path_needed (frame_at t n) e false ∷ []
+needed_by t n here (actions.Suppose e next) = path_needed (frame_at t n) e true ∷ []
+needed_by t n here (actions.Demand i at e args next) = passed_needed (frame_at t n) args e true ∷ passed_needed (frame_at t n) args e false ∷ []
+needed_by t n here (actions.Write cs es next) = record { plan = assign_plan (frame_at t n) es; base = assign_width (frame_at t n) (length cs) } ∷ []
+needed_by t n here (actions.Guess c next) = []
+needed_by t n here (actions.Test e hit miss) = path_needed (frame_at t n) e true ∷ path_needed (frame_at t n) e false ∷ []
+needed_by t n here (actions.Pick ways) = []
+needed_by t n here (actions.Jump next) = []
+needed_by t n here (actions.Enter f args) = call_needed t n f args ∷ []
+needed_by t n here (actions.Keep f args c next) = import_at t n here f args
+needed_by t n here (actions.Grant f args e next) = import_at t n here f args
+needed_by t n here (actions.Finish f args targets next) = import_at t n here f args
+needed_by t n here actions.Leave = []
+
+abbrev pub needed_at : TypedProgram → Place → List Needed
+needed_at t p = needed_by t p.proc p.point (action_at t p.proc p.point)
+
+-- ---- items
+
+-- an item: where it stands in the text, and the lists that its edges need
+pub record Item : Type 0 where
+  pub span : Span
+  pub needed : List Needed
+
+abbrev pub no_span : Span
+no_span = record { line = 0; col = 0 }
+
+abbrev pub expression_span : TypedExpression → Span
+expression_span (Lit at n) = at
+expression_span (Truth at b) = at
+expression_span (Var at c) = at
+expression_span (Old at e) = at
+expression_span (Not at e) = at
+expression_span (Neg at e) = at
+expression_span (Bin at op a b) = at
+
+abbrev pub statement_span : TypedStatement → Span
+statement_span (Assert at e) = at
+statement_span (Assume at e) = at
+statement_span (Havoc at cs) = at
+statement_span (Assign at cs es) = at
+statement_span (Call at cs f es) = at
+statement_span (If at g x y) = at
+statement_span (While at g is x) = at
+statement_span (Break at n) = at
+statement_span (Goto at ks) = at
+statement_span (Return at) = at
+statement_span (Label n) = no_span
+
+abbrev pub condition_span : Span → Option TypedInvariant → Span
+condition_span at None = at
+condition_span at (Some i) = i.span
+
+-- a condition that is assumed at the start: an axiom, or else a requires of the entry
+abbrev pub start_span : List TypedExpression → List TypedInvariant → ℕ → Span
+start_span [] is part = condition_span no_span (slice_get is part)
+start_span (e ∷ es) is zero = expression_span e
+start_span (e ∷ es) is (suc part) = start_span es is part
+
+-- an invariant of a loop is an item of its own
+abbrev pub span_of : TypedStatement → ℕ → Span
+span_of (While at g is x) part = condition_span at (slice_get is part)
+span_of s part = statement_span s
+
+abbrev pub block_span : TypedBlock → ℕ → Span
+block_span Empty part = no_span
+block_span (Then s b) part = span_of s part
+
+abbrev pub todo_span : List Todo → ℕ → Span
+todo_span [] part = no_span
+todo_span (d ∷ ds) part = block_span d.rest part
+
+abbrev pub stage_span : TypedProgram → TypedProcedure → Stage → List Todo → ℕ → Span
+stage_span t q Start todo part = start_span t.axioms (plain_conditions q.specs) part
+stage_span t q Entry todo part = condition_span no_span (slice_get (free_conditions q.specs) part)
+stage_span t q Body todo part = todo_span todo part
+stage_span t q Exit todo part = condition_span no_span (slice_get (ensured_conditions q.specs) part)
+
+abbrev pub span_if_any : TypedProgram → Option TypedProcedure → Point → Span
+span_if_any t None p = no_span
+span_if_any t (Some q) p = stage_span t q p.stage p.todo p.part
+
+-- where the item at a place stands in the text
+abbrev pub place_span : TypedProgram → Place → Span
+place_span t p = span_if_any t (slice_get t.procs p.proc) p.point
+
+-- how many places a statement has as one item: a call has those of the requires that it asserts, and its own
+abbrev pub statement_parts : TypedProgram → TypedStatement → ℕ
+statement_parts t (Call at cs f es) = checked_at_call (slice_get t.procs f) + 1
+statement_parts t s = 1
+
+abbrev pub block_parts : TypedProgram → TypedBlock → ℕ
+block_parts t Empty = 1
+block_parts t (Then s b) = statement_parts t s
+
+abbrev pub todo_parts : TypedProgram → List Todo → ℕ
+todo_parts t [] = 1
+todo_parts t (d ∷ ds) = block_parts t d.rest
+
+abbrev pub stage_parts : TypedProgram → Stage → List Todo → ℕ
+stage_parts t Start todo = 1
+stage_parts t Entry todo = 1
+stage_parts t Body todo = todo_parts t todo
+stage_parts t Exit todo = 1
+
+-- the places of the item that begins at a place
+abbrev pub item_places : TypedProgram → Place → List Place
+item_places t p = map (λ point. record { proc = p.proc; point = point }) (parts_from p.point p.point.part (stage_parts t p.point.stage p.point.todo))
+
+abbrev pub all_needed : TypedProgram → List Place → List Needed
+all_needed t [] = []
+all_needed t (p ∷ ps) = needed_at t p ++ all_needed t ps
+
+-- a further part of a call belongs to the item of its first one
+abbrev pub begins_item : TypedProgram → Place → Bool
+begins_item t p = nat_eq p.point.part 0 || nat_eq (stage_parts t p.point.stage p.point.todo) 1
+
+abbrev pub items_at : TypedProgram → Place → List Item
+items_at t p = if begins_item t p then record { span = place_span t p; needed = all_needed t (item_places t p) } ∷ [] else []
+
+abbrev pub items_of : TypedProgram → List Place → List Item
+items_of t [] = []
+items_of t (p ∷ ps) = items_at t p ++ items_of t ps
+
+-- the axioms, statements, invariants, and requires and ensures of procedures with a body
+abbrev pub program_items : TypedProgram → List Item
+program_items t = items_of t (program_places t)
+
+-- ---- faults
+
+-- an item cannot be lowered: it is too wide or, else, one of its numbers is too big
+pub data ItemFault : Type 0 where
+  TooWide : Span → ItemFault
+  TooBig : Span → ItemFault
+
+abbrev pub is_too_wide : Item → Bool
+is_too_wide i = list_any (λ n. is_wide n.plan n.base) i.needed
+
+abbrev pub is_too_big : Item → Bool
+is_too_big i = list_any (λ n. not (all_fit n.plan n.base)) i.needed
+
+abbrev pub stands_before : Span → Span → Bool
+stands_before a b = nat_lt a.line b.line || (nat_eq a.line b.line && nat_lt a.col b.col)
+
+abbrev pub fault_span : ItemFault → Span
+fault_span (TooWide at) = at
+fault_span (TooBig at) = at
+
+-- the fault of an item, if any; where it has both, it is too wide
+abbrev pub item_fault : Item → Option ItemFault
+item_fault i = if is_too_wide i then Some (TooWide i.span) else (if is_too_big i then Some (TooBig i.span) else None)
+
+-- of two faults the one that stands first in the text; of two at one place the first one
+abbrev pub earlier : Option ItemFault → Option ItemFault → Option ItemFault
+earlier None g = g
+earlier (Some f) None = Some f
+earlier (Some f) (Some g) = if stands_before (fault_span g) (fault_span f) then Some g else Some f
+
+abbrev pub first_of : List Item → Option ItemFault
+first_of [] = None
+first_of (i ∷ is) = earlier (item_fault i) (first_of is)
+
+-- the fault of the first item in the text that has one
+abbrev pub first_fault : TypedProgram → Option ItemFault
+first_fault t = first_of (program_items t)

@@ -1,0 +1,7 @@
+pub mod Arcs
+pub mod Letters
+pub mod LetterLaws
+pub mod Lowered
+pub mod Widths
+pub mod Items
+pub mod Laws

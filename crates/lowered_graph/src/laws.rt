@@ -1,0 +1,25 @@
+//! Laws of the graph of a typed program.
+
+use boogie_places::laws::places_of_typed_programs;
+
+ghost use Rattle.lowered_graph.specs.LetterLaws as letters;
+ghost use Rattle.lowered_graph.specs.Laws as law;
+
+/// Equal acts are one letter: the list of acts has no act twice and only grows, and the edges by letters are exactly those of the
+/// arcs, each by the letter of its act.
+pub fn letters_of_arcs()
+    ensures same { letters.SameActDecides }
+    ensures appended { letters.ActsAreAppended }
+    ensures differ { letters.ActsDiffer }
+    ensures insides { letters.InsidesAreArcs }
+    ensures calls { letters.CallsAreArcs }
+    ensures backs { letters.BacksAreArcs }
+{}
+
+/// The stack machine of a typed program over its points fails an assertion exactly where some feasible word leads, in the
+/// automaton of its graph, to the place where that assertion fails.
+pub fn machine_runs_are_words()
+    ensures { law.MachineIsJoined }
+{
+    places_of_typed_programs();
+}
