@@ -8,8 +8,8 @@ use Rattle.nwa_base.specs.declared.letters.Letter.{Letter}
 use Rattle.nwa_base.proofs.LetterLemmas.{same_letter-refl}
 use Rattle.letter_acts.specs.Acts.{PlainAct, Alphabet, letter_of, named_act, act_of}
 use Rattle.letter_acts.specs.Invariant.{AreDistinct}
-use Rattle.lowered_graph.specs.Letters.{same_act, place_from, or_last, act_number, unless_there, with_act, numbered_letter}
-use Rattle.lowered_graph.proofs.SameActs.{same_act_so, same_act_back}
+use Rattle.letter_table.specs.Letters.{same_act, place_from, or_last, act_number, unless_there, with_act, numbered_letter}
+use Rattle.letter_table.proofs.SameActs.{same_act_so, same_act_back}
 
 -- ---- members of lists
 

@@ -17,7 +17,8 @@ use Rattle.lowered_steps.specs.ProgramFrames.{frame_at}
 use Rattle.lowered_steps.specs.Edges.{Spot, At, Wrong, Edge, leads, no_rows, import_edges, import_written, import_list, skips, inside_edges, passed_list, call_list, numbers_in}
 use Rattle.cond_jumps.specs.Lists.{path_list, assign_list}
 use Rattle.lowered_steps.specs.Stacks.{IsAmong}
-use Rattle.lowered_graph.specs.Arcs.{place_number, spot_number, error_place, return_place, Arc, inside_arc, call_arc, start_arc, inside_arcs, call_arcs, action_arcs, arcs_at, arcs_of, program_arcs}
+use Rattle.lowered_graph.specs.Arcs.{place_number, spot_number, error_place, return_place, start_arc, inside_arcs, call_arcs, action_arcs, arcs_at, arcs_of, program_arcs}
+use Rattle.letter_table.specs.Letters.{Arc, inside_arc, call_arc}
 use Rattle.lowered_graph.specs.Lowered.{site, action_sites, sites_of, program_sites}
 
 -- ---- lists

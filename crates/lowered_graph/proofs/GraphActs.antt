@@ -26,8 +26,8 @@ use Rattle.boogie_run.specs.Needs.{locals_at}
 use Rattle.lowered_steps.specs.ProgramFrames.{frame_at, width_at}
 use Rattle.lowered_steps.specs.Edges.{Edge, inside_edges, numbers_in}
 use Rattle.lowered_steps.specs.Stacks.{IsAmong}
-use Rattle.lowered_graph.specs.Arcs.{place_number, spot_number, return_place, Arc, inside_arc, call_arc, entering_rows, entering, start_arc, program_arcs}
-use Rattle.lowered_graph.specs.Letters.{place_from, act_number, unless_there, with_act, Lettered, with_arc, with_arcs, no_letters, lettered}
+use Rattle.lowered_graph.specs.Arcs.{place_number, spot_number, return_place, entering_rows, entering, start_arc, program_arcs}
+use Rattle.letter_table.specs.Letters.{Arc, inside_arc, call_arc, place_from, act_number, unless_there, with_act, Lettered, with_arc, with_arcs, no_letters, lettered}
 use Rattle.lowered_graph.specs.Lowered.{lowered}
 use Rattle.lowered_graph.specs.Widths.{back_width, act_width, ActsFit}
 use Rattle.lowered_graph.proofs.ActNumbers.{act_numbered, longer_get, longer_than, with_longer, longer_itself}

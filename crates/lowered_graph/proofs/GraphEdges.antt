@@ -27,8 +27,8 @@ use Rattle.boogie_places.specs.Places.{count_from, program_places}
 use Rattle.lowered_steps.specs.ProgramFrames.{frame_at, width_at}
 use Rattle.lowered_steps.specs.Edges.{Spot, At, Wrong, Edge, inside_edges, argument_sum, columns_before_locals, parameters_get, call_list, numbers_in}
 use Rattle.lowered_steps.specs.Stacks.{IsAmong}
-use Rattle.lowered_graph.specs.Arcs.{place_number, first_error, error_place, spot_number, return_point, return_place, Arc, inside_arc, call_arc, entering, start_arc, program_arcs}
-use Rattle.lowered_graph.specs.Letters.{lettered}
+use Rattle.lowered_graph.specs.Arcs.{place_number, first_error, error_place, spot_number, return_point, return_place, entering, start_arc, program_arcs}
+use Rattle.letter_table.specs.Letters.{Arc, inside_arc, call_arc, lettered}
 use Rattle.lowered_graph.specs.LetterLaws.{IsLetterOf, InsideOf, CallOf, BackOf}
 use Rattle.lowered_graph.specs.Lowered.{site, program_sites, entry_of, exit_of, place_owners, lowered}
 use Rattle.lowered_graph.proofs.ActNumbers.{one_index, get_front}

@@ -23,8 +23,8 @@ use Rattle.boogie_places.specs.Places.{Place, program_places, IsOneOf, onward}
 use Rattle.lowered_steps.specs.ProgramFrames.{frame_at}
 use Rattle.lowered_steps.specs.Edges.{Spot, At, Wrong, Edge, inside_edges, call_list, numbers_in}
 use Rattle.lowered_steps.specs.Stacks.{Pending, Stack, IsAmong, IsStep, inside, call, back, Reaches}
-use Rattle.lowered_graph.specs.Arcs.{place_number, first_error, error_place, spot_number, return_point, return_place, Arc, inside_arc, call_arc, start_arc, arcs_at, arcs_of, program_arcs}
-use Rattle.lowered_graph.specs.Letters.{no_letters, lettered}
+use Rattle.lowered_graph.specs.Arcs.{place_number, first_error, error_place, spot_number, return_point, return_place, start_arc, arcs_at, arcs_of, program_arcs}
+use Rattle.letter_table.specs.Letters.{Arc, inside_arc, call_arc, no_letters, lettered}
 use Rattle.lowered_graph.specs.LetterLaws.{IsLetterOf, InsideOf, CallOf, BackOf}
 use Rattle.lowered_graph.specs.Lowered.{site, program_sites, lowered}
 use Rattle.lowered_graph.proofs.ActNumbers.{act_of_letter}

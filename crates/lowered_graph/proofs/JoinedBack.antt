@@ -21,8 +21,8 @@ use Rattle.boogie_places.specs.Places.{program_places}
 use Rattle.lowered_steps.specs.ProgramFrames.{frame_at}
 use Rattle.lowered_steps.specs.Edges.{Spot, At, Wrong, Edge, inside_edges, call_list, numbers_in}
 use Rattle.lowered_steps.specs.Stacks.{Pending, Stack, IsAmong, IsStep, inside, call, back}
-use Rattle.lowered_graph.specs.Arcs.{place_number, first_error, error_place, spot_number, return_point, return_place, Arc, inside_arc, call_arc, start_arc, program_arcs}
-use Rattle.lowered_graph.specs.Letters.{lettered}
+use Rattle.lowered_graph.specs.Arcs.{place_number, first_error, error_place, spot_number, return_point, return_place, start_arc, program_arcs}
+use Rattle.letter_table.specs.Letters.{Arc, inside_arc, call_arc, lettered}
 use Rattle.lowered_graph.specs.LetterLaws.{IsLetterOf, InsideOf, CallOf, BackOf}
 use Rattle.lowered_graph.specs.Lowered.{lowered}
 use Rattle.lowered_graph.proofs.ActNumbers.{act_of_letter}

@@ -5,11 +5,10 @@ use Rattle.nwa_base.specs.Members.{Member}
 use Rattle.nwa_base.specs.declared.letters.Letter.{Letter}
 use Rattle.letter_acts.specs.Acts.{PlainAct, back_act, letter_of}
 use Rattle.letter_acts.specs.Invariant.{AreDistinct}
-use Rattle.lowered_graph.specs.Arcs.{Arc}
-use Rattle.lowered_graph.specs.Letters.{same_act, no_letters, Lettered, with_arcs, lettered}
+use Rattle.letter_table.specs.Letters.{Arc, same_act, no_letters, Lettered, with_arcs, lettered}
 use Rattle.lowered_graph.specs.LetterLaws as law
 use Rattle.lowered_graph.specs.LetterLaws.{InsideOf, CallOf, BackOf}
-use Rattle.lowered_graph.proofs.SameActs.{same_act_so, same_act_back}
+use Rattle.letter_table.proofs.SameActs.{same_act_so, same_act_back}
 use Rattle.lowered_graph.proofs.ActNumbers.{one_index}
 use Rattle.lowered_graph.proofs.LetterEdges.{arcs_longer, arcs_distinct, insides_from, calls_from, backs_from, HasInside, HasCall, inside_lettered, call_lettered}
 

@@ -1,4 +1,3 @@
-pub mod SameActs
 pub mod ActNumbers
 pub mod LetterEdges
 pub mod LetterSets

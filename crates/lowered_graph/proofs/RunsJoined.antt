@@ -26,8 +26,8 @@ use Rattle.boogie_places.specs.Places.{program_places}
 use Rattle.lowered_steps.specs.ProgramFrames.{frame_at, width_at, shown}
 use Rattle.lowered_steps.specs.Edges.{Spot, At, Wrong}
 use Rattle.lowered_steps.specs.Stacks.{Pending, Stack, IsStep, IsStart, Reaches, MachineFails}
-use Rattle.lowered_graph.specs.Arcs.{place_number, error_place, spot_number, Arc, inside_arc, call_arc, entering_rows, entering, start_arc, arcs_of, program_arcs}
-use Rattle.lowered_graph.specs.Letters.{no_letters, lettered}
+use Rattle.lowered_graph.specs.Arcs.{place_number, error_place, spot_number, entering_rows, entering, start_arc, arcs_of, program_arcs}
+use Rattle.letter_table.specs.Letters.{Arc, inside_arc, call_arc, no_letters, lettered}
 use Rattle.lowered_graph.specs.LetterLaws.{InsideOf, CallOf}
 use Rattle.lowered_graph.specs.Lowered.{site, program_sites, lowered}
 use Rattle.lowered_graph.specs.Laws.{ErrorWord}

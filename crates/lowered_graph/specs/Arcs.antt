@@ -7,6 +7,7 @@ use Rattle.lin_rows.specs.declared.types.RowKind.TheVariants.{Eq}
 use Rattle.letter_acts.specs.Acts.{PlainAct, inside_act, call_act}
 use Rattle.letter_acts.specs.Frames.{Columns, olds_of}
 use Rattle.cond_jumps.specs.Conjunctions.{Conjunction}
+use Rattle.letter_table.specs.Letters.{Arc, inside_arc, call_arc}
 use Rattle.boogie_points.specs.Points.{Point, at_exit, settled, past_first}
 use Rattle.boogie_points.specs.Actions as actions
 use Rattle.boogie_points.specs.Actions.{Action, action_at, ensured_conditions}
@@ -38,16 +39,6 @@ return_point (Some q) = record at_exit { part = length (ensured_conditions q.spe
 
 abbrev pub return_place : TypedProgram → ℕ → ℕ
 return_place t f = place_number t f (return_point (slice_get t.procs f))
-
--- ---- arcs
-
--- An edge whose letter has no number yet. A call has its return beside it, since both lead from one place by one act: from the callee's
--- place of return, with the results to these targets, behind the call.
-pub data Arc : Type 0 where
-  -- from a place, by an inside act, to a place
-  inside_arc : ℕ → PlainAct → ℕ → Arc
-  -- from a place, by a call act, to the callee's entry; back from the place of return, to these targets, to a place
-  call_arc : ℕ → PlainAct → ℕ → ℕ → List ℕ → ℕ → Arc
 
 -- ---- the start
 

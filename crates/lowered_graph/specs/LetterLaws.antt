@@ -4,8 +4,7 @@ use Rattle.nwa_base.specs.declared.letters.Letter.{Letter}
 use Rattle.nwa_base.specs.Members.{Member}
 use Rattle.letter_acts.specs.Acts.{PlainAct, back_act, letter_of}
 use Rattle.letter_acts.specs.Invariant.{AreDistinct}
-use Rattle.lowered_graph.specs.Arcs.{Arc, inside_arc, call_arc}
-use Rattle.lowered_graph.specs.Letters.{same_act, Lettered, with_arcs, lettered}
+use Rattle.letter_table.specs.Letters.{Arc, inside_arc, call_arc, same_act, Lettered, with_arcs, lettered}
 
 -- The test of two acts passes exactly where they are one.
 abbrev pub SameActDecides : Type 0

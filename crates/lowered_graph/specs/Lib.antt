@@ -1,5 +1,4 @@
 pub mod Arcs
-pub mod Letters
 pub mod LetterLaws
 pub mod Lowered
 pub mod Widths

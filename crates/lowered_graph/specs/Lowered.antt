@@ -13,7 +13,7 @@ use Rattle.boogie_points.specs.Starts.{point_of_call}
 use Rattle.boogie_places.specs.Places.{Place, program_places}
 use Rattle.lowered_steps.specs.ProgramFrames.{frame_at}
 use Rattle.lowered_graph.specs.Arcs.{place_number, first_error, error_place, return_place, program_arcs}
-use Rattle.lowered_graph.specs.Letters.{Lettered, lettered}
+use Rattle.letter_table.specs.Letters.{Lettered, lettered}
 
 -- ---- assertions
 

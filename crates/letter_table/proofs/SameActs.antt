@@ -1,5 +1,5 @@
 -- The test of equal acts passes exactly where two acts are one.
-use Rattle.std.proofs.Common.{◌≡◌, ◌∙◌, ℕ, ℤ, Bool, true, false, ◌&&◌, List, [], ◌∷◌, refl, sym, ap, subst}
+use Rattle.std.proofs.Common.{◌≡◌, ℕ, ℤ, Bool, true, ◌&&◌, List, [], ◌∷◌, refl, subst}
 use Rattle.std.specs.Prelude.{nat_eq}
 use Rattle.std.specs.Ordering.{int_eq}
 use Rattle.std.specs.Cmp.Lexicographic.{pointwise}
@@ -10,7 +10,7 @@ use Rattle.lin_rows.specs.declared.types.RowKind.{RowKind}
 use Rattle.lin_rows.specs.declared.types.RowKind.TheVariants as kinds
 use Rattle.nwa_base.proofs.LetterLemmas.{and_left, and_right, and_both, eqb-refl}
 use Rattle.letter_acts.specs.Acts.{PlainAct, inside_act, call_act, back_act}
-use Rattle.lowered_graph.specs.Letters.{same_kind, same_term, same_row, same_act}
+use Rattle.letter_table.specs.Letters.{same_kind, same_term, same_row, same_act}
 
 -- ---- lists
 

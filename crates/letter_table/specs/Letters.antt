@@ -1,13 +1,22 @@
 -- Letters by first occurrence: equal acts are one letter, and the letters are numbered in the order in which they first occur.
-use Rattle.std.specs.Prelude.{ℕ, suc, ◌+◌, ℤ, Bool, true, false, nat_eq, ◌&&◌, List, [], ◌∷◌, ◌++◌, length, Option, None, Some, if◌then◌else◌}
+use Rattle.std.specs.Prelude.{ℕ, suc, ℤ, Bool, true, false, nat_eq, ◌&&◌, List, [], ◌∷◌, ◌++◌, length, Option, None, Some, if◌then◌else◌}
 use Rattle.std.specs.Ordering.{int_eq}
-use Rattle.std.specs.Cmp.Lexicographic.{pointwise}
+use lib.Pointwise.{pointwise}
 use Rattle.lin_rows.specs.Rows.{LinearRow}
 use Rattle.lin_rows.specs.declared.types.RowKind.{RowKind}
 use Rattle.lin_rows.specs.declared.types.RowKind.TheVariants as kinds
 use Rattle.nwa_base.specs.declared.letters.Letter.{Letter}
 use Rattle.letter_acts.specs.Acts.{PlainAct, inside_act, call_act, back_act, letter_of}
-use Rattle.lowered_graph.specs.Arcs.{Arc, inside_arc, call_arc}
+
+-- ---- arcs
+
+-- An edge whose letter has no number yet. A call has its return beside it, since both lead from one place by one act: from the callee's
+-- place of return, with the results to these targets, behind the call.
+pub data Arc : Type 0 where
+  -- from a place, by an inside act, to a place
+  inside_arc : ℕ → PlainAct → ℕ → Arc
+  -- from a place, by a call act, to the callee's entry; back from the place of return, to these targets, to a place
+  call_arc : ℕ → PlainAct → ℕ → ℕ → List ℕ → ℕ → Arc
 
 -- ---- equal acts
 
@@ -85,7 +94,7 @@ with_arc d (call_arc q a e x targets k) =
 
 abbrev pub with_arcs : Lettered → List Arc → Lettered
 with_arcs d [] = d
-with_arcs d (a ∷ arcs) = with_arcs (with_arc d a) arcs
+with_arcs d (a ∷ more) = with_arcs (with_arc d a) more
 
 abbrev pub no_letters : Lettered
 no_letters = record { acts = []; insides = []; calls = []; backs = [] }

@@ -1,0 +1,3 @@
+pub mod SameActs
+pub mod KeyTests
+pub mod AddedActs

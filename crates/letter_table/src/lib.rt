@@ -1,0 +1,10 @@
+//! Letters by first occurrence: equal acts are one letter, and letters are numbered in the order in which they first occur.
+#![tactic(auto)]
+
+mod keys;
+mod letters;
+mod table;
+#[cfg(test)]
+mod tests;
+
+pub use table::{CallEdges, CallStep, InsideStep, Lettered, Table};
