@@ -18,3 +18,4 @@ pub mod FrameTargets
 pub mod EdgeActs
 pub mod CallActs
 pub mod GraphActs
+pub mod GraphNames
