@@ -1,21 +1,18 @@
 -- The other way round for calls: a call step of the stack is the entering of the procedure with some choices of its locals.
-use Rattle.std.proofs.Common.{◌≡◌, ℕ, zero, suc, ◌+◌, ◌<◌, ◌≤◌, Bool, true, false, ℤ, pos, List, [], ◌∷◌, ◌++◌, map, length, take, drop, Option, None, Some, inl, inr, ◌⊎◌, refl, sym, ap, subst, ◌∙◌, arith, append_assoc}
-use Rattle.std.specs.Prelude.{slice_get}
+use Rattle.std.proofs.Common.{◌≡◌, ℕ, ◌+◌, ◌≤◌, ℤ, List, ◌++◌, length, take, drop, refl, sym, ap, subst, ◌∙◌, arith, append_assoc}
 use Rattle.std.proofs.lemmas.List.{length-append, length-map, take-append-drop}
 use Rattle.boogie_tree.specs.declared.tree.VarInfo.{VarInfo}
 use Rattle.typed_tree.specs.TypedTree.{TypedExpression, TypedProgram}
 use Rattle.typed_tree.specs.Values.{State, value}
 use Rattle.lin_rows.specs.Points.{point_of}
-use Rattle.letter_acts.specs.Frames.{Columns, IsState, ConstantsFirst, globals_from, old_columns, locals_from, globals_of, variables_of}
-use Rattle.letter_acts.specs.Values.{picked}
-use Rattle.letter_acts.specs.Meaning.{CallLeads, entry_values}
+use Rattle.letter_acts.specs.Frames.{Columns, IsState, ConstantsFirst, globals_from, old_columns, locals_from}
+use Rattle.letter_acts.specs.Meaning.{CallLeads}
 use Rattle.letter_acts.proofs.PointLemmas.{state_length}
 use Rattle.cond_jumps.specs.Conjunctions.{Conjunction}
 use Rattle.cond_jumps.specs.Worth.{Read}
-use Rattle.cond_jumps.specs.Lists.{IsMet, SomeIsMet, Decide}
-use Rattle.boogie_run.specs.Configurations.{Frame, Config, state_of}
+use Rattle.cond_jumps.specs.Lists.{IsMet, Decide}
 use Rattle.boogie_run.specs.Needs.{locals_at}
-use Rattle.boogie_run.specs.Steps.{values, entered}
+use Rattle.boogie_run.specs.Steps.{values}
 use Rattle.lowered_steps.specs.ProgramFrames.{frame_at, width_at, shown, variable_values}
 use Rattle.lowered_steps.specs.Edges.{call_list, columns_before_locals}
 use Rattle.lowered_steps.specs.Stacks.{IsAmong}
@@ -23,10 +20,10 @@ use Rattle.lowered_steps.specs.Moves.{HasTypes, FrameKeeps, AreArguments}
 use Rattle.lowered_steps.proofs.FrameColumns.{types_length, shown_state}
 use Rattle.lowered_steps.proofs.Places.{olds_length}
 use Rattle.lowered_steps.proofs.ListSteps.{some_met}
-use Rattle.lowered_steps.proofs.WritesBack.{state_parts, globals_typed, locals_typed, globals_length}
+use Rattle.lowered_steps.proofs.WritesBack.{state_parts, locals_typed, globals_length}
 use Rattle.lowered_steps.proofs.Parameters.{call_decides}
 use Rattle.lowered_steps.proofs.Picks.{shown_variables, shown_globals, front_read}
-use Rattle.lowered_steps.proofs.Enters.{called_state, called_keeps, width_is}
+use Rattle.lowered_steps.proofs.Enters.{called_state, width_is}
 
 -- the locals of a called procedure: the arguments' values, and further ones that were chosen
 pub record IsCalled (t : TypedProgram) (f : ℕ) (s : State) (args : List TypedExpression) (after : List ℤ) : Type 0 where

@@ -1,29 +1,24 @@
 -- Entering a procedure: the frame that is made is shown by a call step of the stack.
-use Rattle.std.proofs.Common.{◌≡◌, ℕ, zero, suc, ◌+◌, ◌<◌, ◌≤◌, Bool, true, false, ℤ, pos, List, [], ◌∷◌, ◌++◌, map, length, take, drop, Option, None, Some, inl, inr, ◌⊎◌, refl, sym, ap, subst, ◌∙◌, arith, append_assoc}
-use Rattle.std.specs.Prelude.{slice_get}
+use Rattle.std.proofs.Common.{◌≡◌, ℕ, suc, ◌+◌, ◌≤◌, ℤ, List, [], ◌∷◌, ◌++◌, length, refl, sym, ap, ◌∙◌, arith, append_assoc}
 use Rattle.std.proofs.lemmas.List.{length-append, length-map}
 use Rattle.boogie_tree.specs.declared.tree.VarInfo.{VarInfo}
 use Rattle.typed_tree.specs.TypedTree.{TypedExpression, TypedProgram}
 use Rattle.typed_tree.specs.Values.{State, value}
 use Rattle.lin_rows.specs.Points.{point_of}
-use Rattle.letter_acts.specs.Frames.{Columns, IsState, ConstantsFirst, globals_from, old_columns, locals_from, variables_of, globals_of}
-use Rattle.letter_acts.specs.Values.{picked}
+use Rattle.letter_acts.specs.Frames.{Columns, ConstantsFirst, globals_from, old_columns, locals_from}
 use Rattle.letter_acts.specs.Meaning.{CallLeads, entry_values}
 use Rattle.letter_acts.proofs.PointLemmas.{state_length}
-use Rattle.cond_jumps.specs.Conjunctions.{Conjunction}
 use Rattle.cond_jumps.specs.Worth.{Read}
-use Rattle.cond_jumps.specs.Lists.{IsMet, Decide}
-use Rattle.boogie_points.specs.Points.{Point}
+use Rattle.cond_jumps.specs.Lists.{Decide}
 use Rattle.boogie_points.specs.Actions as actions
 use Rattle.boogie_points.specs.Actions.{Action, action_at}
-use Rattle.boogie_points.specs.Starts.{point_of_call}
-use Rattle.boogie_run.specs.Configurations.{Frame, Config, state_of}
+use Rattle.boogie_run.specs.Configurations.{Config, state_of}
 use Rattle.boogie_run.specs.Needs.{locals_at}
 use Rattle.boogie_run.specs.Steps.{values, entered}
 use Rattle.lowered_steps.specs.ProgramFrames.{frame_at, width_at, shown, variable_values}
-use Rattle.lowered_steps.specs.Edges.{Spot, At, call_list, columns_before_locals}
-use Rattle.lowered_steps.specs.Stacks.{Pending, Stack, IsAmong, IsStep, call}
-use Rattle.lowered_steps.specs.Moves.{HasTypes, FrameKeeps, AreArguments, shown_stack, shown_below, filled}
+use Rattle.lowered_steps.specs.Edges.{call_list, columns_before_locals}
+use Rattle.lowered_steps.specs.Stacks.{IsStep, call}
+use Rattle.lowered_steps.specs.Moves.{HasTypes, FrameKeeps, AreArguments, shown_stack, filled}
 use Rattle.lowered_steps.proofs.FrameColumns.{types_length, shown_state}
 use Rattle.lowered_steps.proofs.Places.{olds_length}
 use Rattle.lowered_steps.proofs.ListSteps.{MetMember, member_met}

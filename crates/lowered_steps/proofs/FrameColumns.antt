@@ -1,10 +1,8 @@
 -- The columns of a program's frames, and that the state of a frame that is shown has their values.
-use Rattle.std.proofs.Common.{◌≡◌, ℕ, zero, suc, ◌+◌, ◌-◌, ◌<◌, ◌≤◌, Bool, true, false, not, ℤ, pos, List, [], ◌∷◌, ◌++◌, map, length, Option, None, Some, inl, inr, ◌⊎◌, refl, sym, ap, subst, ◌∙◌, arith}
+use Rattle.std.proofs.Common.{◌≡◌, ℕ, zero, suc, ◌+◌, Bool, true, false, not, ℤ, List, [], ◌∷◌, ◌++◌, length, Some, inl, inr, ◌⊎◌, refl, sym, ap, subst, ◌∙◌, arith}
 use Rattle.std.specs.Prelude.{slice_get}
-use Rattle.std.proofs.lemmas.Bool.{cases_lt}
 use Rattle.std.proofs.lemmas.List.{length-append}
 use Rattle.std.proofs.Common.{append_assoc}
-use Rattle.boogie_tree.specs.declared.tree.Ty.{Ty}
 use Rattle.boogie_tree.specs.declared.tree.Column.{Column}
 use Rattle.boogie_tree.specs.declared.tree.Column.TheVariants as columns
 use Rattle.boogie_tree.specs.declared.tree.VarInfo.{VarInfo}
@@ -128,8 +126,9 @@ pub slice_of_both : {X : Type 0} (xs ys : List X) (n : ℕ) (d : X) → slice_ge
 slice_of_both [] ys n d e = inr (record { index = n; at = omega arith; stands = e })
 slice_of_both (x ∷ xs) ys zero d e = inl e
 slice_of_both (x ∷ xs) ys (suc n) d e = elim (slice_of_both xs ys n d e) [
-  inl h ↦ inl h |
-  inr l ↦ inr (record { index = l.index; at = (let g : n ≡ length xs + l.index = l.at in omega arith); stands = l.stands }) ]
+  | inl h ↦ inl h
+  | inr l ↦ inr (record { index = l.index; at = (let g : n ≡ length xs + l.index = l.at in omega arith); stands = l.stands })
+]
 
 global_stands : (k : ℕ) (vs : List VarInfo) (n : ℕ) (c : Column) (v : VarInfo) → slice_get (globals_from k vs) n ≡ Some (c, v) → (c ≡ columns.Global (k + n)) × (slice_get vs n ≡ Some v)
 global_stands k [] n c v e = absurd (cc)
@@ -174,14 +173,16 @@ olds_no_globals k (w ∷ ws) n c v e = no_globals_added (not w.constant) k w (ol
 pub global_of_frame : (t : TypedProgram) (p n g : ℕ) (v : VarInfo) → slice_get (frame_at t p) n ≡ Some (columns.Global g, v) → (n ≡ g) × (slice_get t.globals g ≡ Some v)
 global_of_frame t p n g v e =
     elim (slice_of_both (globals_from 0 t.globals) (old_columns 0 t.globals ++ locals_from 0 (locals_at t p)) n (columns.Global g, v) e) [
-    inl f ↦ (let h = global_stands 0 t.globals n (columns.Global g) v f in
-      let z : 0 + n ≡ n = omega arith in
-      let same : g ≡ 0 + n = global_number g (0 + n) h.0 in
-      let i : n ≡ g = omega arith in
-      (i, subst (λ (m : ℕ). slice_get t.globals m ≡ Some v) i h.1)) |
-    inr l ↦ (elim (slice_of_both (old_columns 0 t.globals) (locals_from 0 (locals_at t p)) l.index (columns.Global g, v) l.stands) [
-      inl f ↦ absurd (olds_no_globals 0 t.globals l.index (columns.Global g) v f) |
-      inr m ↦ absurd (locals_no_globals 0 (locals_at t p) m.index (columns.Global g) v m.stands) ]) ]
+      | inl f ↦ (let h = global_stands 0 t.globals n (columns.Global g) v f in
+          let z : 0 + n ≡ n = omega arith in
+          let same : g ≡ 0 + n = global_number g (0 + n) h.0 in
+          let i : n ≡ g = omega arith in
+          (i, subst (λ (m : ℕ). slice_get t.globals m ≡ Some v) i h.1))
+      | inr l ↦ (elim (slice_of_both (old_columns 0 t.globals) (locals_from 0 (locals_at t p)) l.index (columns.Global g, v) l.stands) [
+        | inl f ↦ absurd (olds_no_globals 0 t.globals l.index (columns.Global g) v f)
+        | inr m ↦ absurd (locals_no_globals 0 (locals_at t p) m.index (columns.Global g) v m.stands)
+      ])
+    ]
   where
     global_number : (a b : ℕ) → columns.Global a ≡ columns.Global b → a ≡ b
     global_number a b e = cc

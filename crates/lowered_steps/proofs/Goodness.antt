@@ -1,5 +1,5 @@
 -- What a configuration keeps stays where its frame moves on and writes.
-use Rattle.std.proofs.Common.{◌≡◌, ℕ, zero, suc, ◌+◌, ◌<◌, ◌≤◌, Bool, true, false, ℤ, pos, List, [], ◌∷◌, ◌++◌, map, length, take, drop, Option, None, Some, inl, inr, ◌⊎◌, refl, sym, ap, subst, ◌∙◌, arith}
+use Rattle.std.proofs.Common.{◌≡◌, ℕ, zero, suc, ◌+◌, ◌<◌, ◌≤◌, true, ℤ, List, [], ◌∷◌, ◌++◌, length, take, Some, inl, inr, refl, sym, ap, subst, ◌∙◌, arith}
 use Rattle.std.specs.Prelude.{slice_get}
 use Rattle.std.specs.List.{AllByRecursion}
 use Rattle.std.proofs.lemmas.List.{length-append, length-map}
@@ -25,7 +25,7 @@ pub append_none : (xs : List ℤ) → xs ++ [] ≡ xs
 append_none [] = refl
 append_none (x ∷ xs) = ap (λ (ys : List ℤ). x ∷ ys) (append_none xs)
 
-none_missing : (vs : List VarInfo) (zs more : List ℤ) → HasTypes vs zs → HasTypes vs (zs ++ more) → more ≡ []
+pub none_missing : (vs : List VarInfo) (zs more : List ℤ) → HasTypes vs zs → HasTypes vs (zs ++ more) → more ≡ []
 none_missing vs zs [] h k = refl
 none_missing vs zs (m ∷ ms) h k =
     let a : length zs ≡ length vs = types_length vs zs h in
@@ -93,8 +93,9 @@ written_passed t f b ty l z w h =
     let many : length w.args ≡ length (take w.procedure.params w.procedure.locals) = arguments_length (frame_at t b.proc) (take w.procedure.params w.procedure.locals) w.args w.arguments in
     let few : length (take w.procedure.params w.procedure.locals) ≤ w.procedure.params = take_at_most w.procedure.params w.procedure.locals in
     let behind : length zs ≤ l = elim (cases_lt l w.procedure.params) [
-      inl less ↦ absurd (false≢true (sym h.varies ∙ among_first w.procedure.locals w.procedure.params l h.info w.shape.constant at less)) |
-      inr more ↦ omega arith ] in
+      | inl less ↦ absurd (false≢true (sym h.varies ∙ among_first w.procedure.locals w.procedure.params l h.info w.shape.constant at less))
+      | inr more ↦ omega arith
+    ] in
     let r = put_later zs w.later l z behind in
     (r.0, ap (λ (ys : List ℤ). put ys l z) w.passed ∙ r.1)
 

@@ -1,38 +1,25 @@
 -- The other way round: a step by an inside edge of an action is what the action does, with a choice that it takes.
-use Rattle.std.proofs.Common.{◌≡◌, ℕ, zero, suc, ◌+◌, ◌<◌, Bool, true, false, not, ℤ, pos, negsuc, List, [], ◌∷◌, ◌++◌, map, length, Option, None, Some, inl, inr, ◌⊎◌, refl, sym, ap, subst, ◌∙◌, arith, if◌then◌else◌}
-use Rattle.std.specs.List.{AllByRecursion}
-use Rattle.std.specs.Prelude.{slice_get, unsigned_abs, nat_lt}
-use Rattle.std.proofs.lemmas.List.{length-map}
-use Rattle.std.proofs.lemmas.Option.{slice_get_within}
-use Rattle.std.proofs.lemmas.Bool.{true≢false}
+use Rattle.std.proofs.Common.{◌≡◌, ℕ, Bool, true, false, ℤ, pos, List, [], Option, None, inl, inr, ◌⊎◌, refl, ap, subst, if◌then◌else◌}
 use Rattle.boogie_tree.specs.declared.span.Span.{Span}
-use Rattle.boogie_tree.specs.declared.tree.Ty.{Ty}
-use Rattle.boogie_tree.specs.declared.tree.Ty.TheVariants as types
-use Rattle.boogie_tree.specs.declared.tree.Column.{Column}
-use Rattle.boogie_tree.specs.declared.tree.Column.TheVariants as columns
 use Rattle.typed_tree.specs.TypedTree.{TypedExpression, TypedProgram}
 use Rattle.typed_tree.specs.Values.{State, value, truth}
-use Rattle.letter_acts.specs.Frames.{Columns, IsState, IsValue}
-use Rattle.letter_acts.specs.Values.{put_all}
 use Rattle.letter_acts.specs.Meaning.{InsideLeads}
 use Rattle.cond_jumps.specs.Conjunctions.{Conjunction}
-use Rattle.cond_jumps.specs.Lists.{path_list, assign_list, IsCondition, IsMet, SomeIsMet, Decide}
+use Rattle.cond_jumps.specs.Lists.{path_list, IsCondition, SomeIsMet}
 use Rattle.cond_jumps.proofs.ListLemmas as lists
 use Rattle.boogie_points.specs.Points.{Point}
 use Rattle.boogie_points.specs.Actions as actions
 use Rattle.boogie_points.specs.Actions.{Action}
 use Rattle.boogie_run.specs.Configurations.{Config, state_of}
-use Rattle.boogie_run.specs.Needs.{need_of_action, is_taken, locals_at}
-use Rattle.boogie_run.specs.Steps.{Outcome, Went, Blocked, Failed, act, number_of, is_true, moved_to, written, all_written, values, passed_state}
+use Rattle.boogie_run.specs.Needs.{need_of_action, is_taken}
+use Rattle.boogie_run.specs.Steps.{Outcome, Went, Blocked, Failed, act, number_of, is_true, moved_to, passed_state}
 use Rattle.lowered_steps.specs.ProgramFrames.{frame_at, shown}
-use Rattle.lowered_steps.specs.Edges.{Spot, At, Wrong, Edge, leads, inside_edges, skips, passed_list, numbers_in}
+use Rattle.lowered_steps.specs.Edges.{Spot, At, Wrong, Edge, leads, inside_edges, passed_list}
 use Rattle.lowered_steps.specs.Stacks.{Stack, IsAmong}
-use Rattle.lowered_steps.specs.Moves.{FrameKeeps, IsTypedAction, IsTarget, IsPassed, AreAssigned, shown_stack, shown_below}
-use Rattle.lowered_steps.proofs.FrameColumns.{shown_state, shown_is_shown}
-use Rattle.lowered_steps.proofs.Places.{all_state_written, all_written_shown}
+use Rattle.lowered_steps.specs.Moves.{FrameKeeps, IsPassed, shown_stack, shown_below}
+use Rattle.lowered_steps.proofs.FrameColumns.{shown_is_shown}
 use Rattle.lowered_steps.proofs.ListSteps.{some_met, among_led, among_either, condition_led, IsLed}
-use Rattle.lowered_steps.proofs.InsideSteps.{member_condition, is_true_of, passed_decides}
-use Rattle.lowered_steps.proofs.Writes.{AreTaken, assigned_taken, taken_there, is_long, all_written_is, stack_of_written, assigned_sound, IsWritten}
+use Rattle.lowered_steps.proofs.InsideSteps.{is_true_of, passed_decides}
 
 -- What the action makes of the configuration, with a choice that it takes: it goes on to one that is shown by this stack, or it fails there.
 pub record GoesTo (t : TypedProgram) (c : Config) (a : Action) (to : Spot) (after : List ℤ) : Type 0 where
@@ -83,12 +70,13 @@ check_back t c id at e next x after k typed i h =
     let n : ℕ = c.top.proc in
     let s : State = state_of c in
     elim (among_either (leads [] (path_list (frame_at t n) e true) (At next)) (leads [] (path_list (frame_at t n) e false) (Wrong id)) x i) [
-    inl j ↦ (let r = read_edge t n s (path_list (frame_at t n) e true) (At next) x after j h in
-      let val : value s e ≡ truth true = (lists.paths_decide (frame_at t n) s (shown t s) e true (shown_is_shown t n s k) typed).exactly.0 r.met in
-      inl (record { choice = None; taken = refl; next = moved_to c next; went = if_true (is_true (value s e)) c (Went (moved_to c next)) (Failed id) (is_true_of (value s e) true val); shown = stays t c x.to after next r.to_is r.same })) |
-    inr j ↦ (let r = read_edge t n s (path_list (frame_at t n) e false) (Wrong id) x after j h in
-      let val : value s e ≡ truth false = (lists.paths_decide (frame_at t n) s (shown t s) e false (shown_is_shown t n s k) typed).exactly.0 r.met in
-      inr (record { assertion = id; wrong = r.to_is; fails = if_false (is_true (value s e)) c (Went (moved_to c next)) (Failed id) (is_true_of (value s e) false val) })) ]
+      | inl j ↦ (let r = read_edge t n s (path_list (frame_at t n) e true) (At next) x after j h in
+          let val : value s e ≡ truth true = (lists.paths_decide (frame_at t n) s (shown t s) e true (shown_is_shown t n s k) typed).exactly.0 r.met in
+          inl (record { choice = None; taken = refl; next = moved_to c next; went = if_true (is_true (value s e)) c (Went (moved_to c next)) (Failed id) (is_true_of (value s e) true val); shown = stays t c x.to after next r.to_is r.same }))
+      | inr j ↦ (let r = read_edge t n s (path_list (frame_at t n) e false) (Wrong id) x after j h in
+          let val : value s e ≡ truth false = (lists.paths_decide (frame_at t n) s (shown t s) e false (shown_is_shown t n s k) typed).exactly.0 r.met in
+          inr (record { assertion = id; wrong = r.to_is; fails = if_false (is_true (value s e)) c (Went (moved_to c next)) (Failed id) (is_true_of (value s e) false val) }))
+    ]
 
 pub suppose_back : (t : TypedProgram) (c : Config) (e : TypedExpression) (next : Point) (x : Edge) (after : List ℤ) → FrameKeeps t c.top.proc (state_of c) → IsCondition (frame_at t c.top.proc) e →
     IsAmong (inside_edges t c.top.proc c.top.point (actions.Suppose e next)) x → InsideLeads (frame_at t c.top.proc) x.written x.rows.helpers x.rows.rows (shown t (state_of c)) after →
@@ -109,12 +97,13 @@ demand_back t c id at e args next x after k typed i h =
     let s : State = state_of c in
     let v : ℤ = value (passed_state s args) e in
     elim (among_either (leads [] (passed_list (frame_at t n) args e true) (At next)) (leads [] (passed_list (frame_at t n) args e false) (Wrong id)) x i) [
-    inl j ↦ (let r = read_edge t n s (passed_list (frame_at t n) args e true) (At next) x after j h in
-      let val : v ≡ truth true = (passed_decides t n s args e true k typed).0.exactly.0 r.met in
-      inl (record { choice = None; taken = refl; next = moved_to c next; went = if_true (is_true v) c (Went (moved_to c next)) (Failed id) (is_true_of v true val); shown = stays t c x.to after next r.to_is r.same })) |
-    inr j ↦ (let r = read_edge t n s (passed_list (frame_at t n) args e false) (Wrong id) x after j h in
-      let val : v ≡ truth false = (passed_decides t n s args e false k typed).0.exactly.0 r.met in
-      inr (record { assertion = id; wrong = r.to_is; fails = if_false (is_true v) c (Went (moved_to c next)) (Failed id) (is_true_of v false val) })) ]
+      | inl j ↦ (let r = read_edge t n s (passed_list (frame_at t n) args e true) (At next) x after j h in
+          let val : v ≡ truth true = (passed_decides t n s args e true k typed).0.exactly.0 r.met in
+          inl (record { choice = None; taken = refl; next = moved_to c next; went = if_true (is_true v) c (Went (moved_to c next)) (Failed id) (is_true_of v true val); shown = stays t c x.to after next r.to_is r.same }))
+      | inr j ↦ (let r = read_edge t n s (passed_list (frame_at t n) args e false) (Wrong id) x after j h in
+          let val : v ≡ truth false = (passed_decides t n s args e false k typed).0.exactly.0 r.met in
+          inr (record { assertion = id; wrong = r.to_is; fails = if_false (is_true v) c (Went (moved_to c next)) (Failed id) (is_true_of v false val) }))
+    ]
 
 test_way : (c : Config) (hit miss : Point) (z : ℤ) (b : Bool) → is_true z ≡ b → Went (moved_to c (if is_true z then hit else miss)) ≡ Went (moved_to c (if b then hit else miss))
 test_way c hit miss z b e = ap (λ (x : Bool). Went (moved_to c (if x then hit else miss))) e
@@ -126,9 +115,10 @@ test_back t c e hit miss x after k typed i h =
     let n : ℕ = c.top.proc in
     let s : State = state_of c in
     elim (among_either (leads [] (path_list (frame_at t n) e true) (At hit)) (leads [] (path_list (frame_at t n) e false) (At miss)) x i) [
-    inl j ↦ (let r = read_edge t n s (path_list (frame_at t n) e true) (At hit) x after j h in
-      let val : value s e ≡ truth true = (lists.paths_decide (frame_at t n) s (shown t s) e true (shown_is_shown t n s k) typed).exactly.0 r.met in
-      record { choice = None; taken = refl; next = moved_to c hit; went = test_way c hit miss (value s e) true (is_true_of (value s e) true val); shown = stays t c x.to after hit r.to_is r.same }) |
-    inr j ↦ (let r = read_edge t n s (path_list (frame_at t n) e false) (At miss) x after j h in
-      let val : value s e ≡ truth false = (lists.paths_decide (frame_at t n) s (shown t s) e false (shown_is_shown t n s k) typed).exactly.0 r.met in
-      record { choice = None; taken = refl; next = moved_to c miss; went = test_way c hit miss (value s e) false (is_true_of (value s e) false val); shown = stays t c x.to after miss r.to_is r.same }) ]
+      | inl j ↦ (let r = read_edge t n s (path_list (frame_at t n) e true) (At hit) x after j h in
+          let val : value s e ≡ truth true = (lists.paths_decide (frame_at t n) s (shown t s) e true (shown_is_shown t n s k) typed).exactly.0 r.met in
+          record { choice = None; taken = refl; next = moved_to c hit; went = test_way c hit miss (value s e) true (is_true_of (value s e) true val); shown = stays t c x.to after hit r.to_is r.same })
+      | inr j ↦ (let r = read_edge t n s (path_list (frame_at t n) e false) (At miss) x after j h in
+          let val : value s e ≡ truth false = (lists.paths_decide (frame_at t n) s (shown t s) e false (shown_is_shown t n s k) typed).exactly.0 r.met in
+          record { choice = None; taken = refl; next = moved_to c miss; went = test_way c hit miss (value s e) false (is_true_of (value s e) false val); shown = stays t c x.to after miss r.to_is r.same })
+    ]

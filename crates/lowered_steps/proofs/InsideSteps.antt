@@ -1,21 +1,15 @@
 -- Inside actions and their edges: what an action does in a configuration is a step of the stack that shows it, and each step by one of its edges is
 -- what the action does.
-use Rattle.std.proofs.Common.{◌≡◌, ℕ, zero, suc, ◌+◌, Bool, true, false, not, ℤ, pos, List, [], ◌∷◌, ◌++◌, map, length, Option, None, Some, inl, inr, ◌⊎◌, refl, sym, ap, subst, ◌∙◌, arith, if◌then◌else◌}
-use Rattle.std.specs.List.{AllByRecursion}
+use Rattle.std.proofs.Common.{◌≡◌, ℕ, zero, suc, Bool, true, false, ℤ, List, [], ◌∷◌, length, Some, inl, inr, refl, sym, ap, subst, ◌∙◌, arith, if◌then◌else◌}
 use Rattle.std.specs.Prelude.{slice_get}
 use Rattle.boogie_tree.specs.declared.span.Span.{Span}
-use Rattle.boogie_tree.specs.declared.tree.Ty.{Ty}
-use Rattle.boogie_tree.specs.declared.tree.Ty.TheVariants as types
-use Rattle.boogie_tree.specs.declared.tree.Column.{Column}
-use Rattle.boogie_tree.specs.declared.tree.Column.TheVariants as columns
 use Rattle.typed_tree.specs.TypedTree.{TypedExpression, TypedProgram}
-use Rattle.typed_tree.specs.Values.{State, value, truth, is_zero}
+use Rattle.typed_tree.specs.Values.{State, value, truth}
 use Rattle.typed_tree.specs.Laws.{IsTruth}
-use Rattle.letter_acts.specs.Frames.{Columns, IsState}
+use Rattle.letter_acts.specs.Frames.{Columns}
 use Rattle.letter_acts.specs.Meaning.{InsideLeads}
 use Rattle.cond_jumps.specs.Conjunctions.{Conjunction}
-use Rattle.cond_jumps.specs.Frames.{IsShown}
-use Rattle.cond_jumps.specs.Lists.{path_list, IsCondition, IsMet, SomeIsMet, Decide}
+use Rattle.cond_jumps.specs.Lists.{path_list, IsCondition, IsMet, Decide}
 use Rattle.lin_rows.specs.Points.{point_of}
 use Rattle.cond_jumps.specs.Conjunctions.{listed}
 use Rattle.cond_jumps.specs.Environments.{Environment}
@@ -36,10 +30,10 @@ use Rattle.boogie_run.specs.Configurations.{Config, state_of}
 use Rattle.boogie_run.specs.Steps.{is_true, moved_to, passed_state}
 use Rattle.lowered_steps.specs.ProgramFrames.{frame_at, shown}
 use Rattle.lowered_steps.specs.Edges.{Spot, At, Wrong, Edge, leads, inside_edges, skips, passed_list}
-use Rattle.lowered_steps.specs.Stacks.{Stack, IsAmong, IsStep, inside}
+use Rattle.lowered_steps.specs.Stacks.{IsAmong, IsStep, inside}
 use Rattle.lowered_steps.specs.Moves.{FrameKeeps, IsPassed, shown_stack, shown_below}
 use Rattle.lowered_steps.proofs.FrameColumns.{shown_state, shown_is_shown}
-use Rattle.lowered_steps.proofs.ListSteps.{MetMember, member_met, some_met, edge_among, among_front, among_rest, condition_leads, condition_led, no_rows_met}
+use Rattle.lowered_steps.proofs.ListSteps.{MetMember, member_met, some_met, edge_among, among_front, among_rest, condition_leads, no_rows_met}
 
 -- the values of a configuration's frame
 abbrev values_of : TypedProgram → Config → List ℤ
@@ -164,9 +158,11 @@ passed_decides t n s args e want k typed =
     let env : Environment = standing_environment (frame_environment frame) (passed args) in
     let shows : Shows (length frame) point env (passed_state s args) =
     passed_show (length frame) point (frame_environment frame) s (frame_shows frame s values (shown_is_shown t n s k)) args typed.arguments in
-    let choice : IsChoice (length frame) point (paths env false e) (value (passed_state s args) e) = paths_mean (length frame) point env (passed_state s args) shows false e typed.typed typed.linear in
-    (lists.decided_at (length frame) point (listed (paths env false e want)) (value (passed_state s args) e ≡ truth want) values (length frame)
-    (state_length frame values (shown_state t n s k)) (choice.path want) (omega arith) (agrees_refl (length frame) point), choice.truth_value)
+    let choice : IsChoice (length frame) point (paths env false e) (value (passed_state s args) e) = paths_mean (length frame) point env (passed_state s args) shows false e typed.typed typed.linear in (
+      lists.decided_at (length frame) point (listed (paths env false e want)) (value (passed_state s args) e ≡ truth want) values (length frame)
+          (state_length frame values (shown_state t n s k)) (choice.path want) (omega arith) (agrees_refl (length frame) point),
+      choice.truth_value,
+    )
 
 by_passed : (t : TypedProgram) (c : Config) (a : Action) (args : List TypedExpression) (e : TypedExpression) (want : Bool) (to : Spot) → action_at t c.top.proc c.top.point ≡ a →
     FrameKeeps t c.top.proc (state_of c) → IsPassed (frame_at t c.top.proc) args e → value (passed_state (state_of c) args) e ≡ truth want →

@@ -1,24 +1,21 @@
 -- Returning from a procedure: the caller's frame behind the call is shown by a return step of the stack.
-use Rattle.std.proofs.Common.{◌≡◌, ℕ, zero, suc, ◌+◌, ◌-◌, ◌<◌, ◌≤◌, Bool, true, false, not, ◌&&◌, ℤ, pos, List, [], ◌∷◌, ◌++◌, map, length, take, drop, Option, None, Some, inl, inr, ◌⊎◌, refl, sym, ap, subst, ◌∙◌, arith, append_assoc}
+use Rattle.std.proofs.Common.{◌≡◌, ℕ, zero, suc, ◌+◌, ◌≤◌, Bool, true, false, not, ℤ, List, [], ◌∷◌, ◌++◌, length, take, drop, Some, refl, sym, ap, subst, ◌∙◌, arith, append_assoc}
 use Rattle.std.specs.Prelude.{slice_get}
 use Rattle.std.specs.List.{AllByRecursion}
-use Rattle.std.proofs.lemmas.List.{length-append, length-map}
-use Rattle.boogie_tree.specs.declared.tree.Column.{Column}
+use Rattle.std.proofs.lemmas.List.{length-append}
 use Rattle.boogie_tree.specs.declared.tree.Column.TheVariants as columns
 use Rattle.boogie_tree.specs.declared.tree.VarInfo.{VarInfo}
-use Rattle.typed_tree.specs.TypedTree.{TypedExpression, TypedProcedure, TypedProgram}
-use Rattle.typed_tree.specs.Values.{State, value, member}
+use Rattle.typed_tree.specs.TypedTree.{TypedProcedure, TypedProgram}
+use Rattle.typed_tree.specs.Values.{State}
 use Rattle.lin_rows.specs.Points.{point_of}
-use Rattle.letter_acts.specs.Frames.{Columns, IsState, IsValue, ConstantsFirst, added, globals_from, old_columns, locals_from, is_result, places, results_of, constants_of, variables_of, olds_of, globals_of}
-use Rattle.letter_acts.specs.Values.{picked, put_all}
+use Rattle.letter_acts.specs.Frames.{Columns, added, globals_from, old_columns, locals_from, is_result, places, results_of}
+use Rattle.letter_acts.specs.Values.{picked}
 use Rattle.letter_acts.proofs.ListLemmas.{places-append}
 use Rattle.boogie_run.specs.Needs.{locals_at, locals_if_any}
-use Rattle.lowered_steps.specs.ProgramFrames.{frame_at, width_at, shown, variable_values}
-use Rattle.lowered_steps.specs.Edges.{columns_before_locals}
-use Rattle.lowered_steps.specs.Moves.{HasTypes, FrameKeeps, HasParameters, results_of_procedure, AreTargets, IsTarget}
+use Rattle.lowered_steps.specs.ProgramFrames.{frame_at, shown, variable_values}
+use Rattle.lowered_steps.specs.Moves.{FrameKeeps, HasParameters}
 use Rattle.lowered_steps.proofs.FrameColumns.{types_length}
 use Rattle.lowered_steps.proofs.Places.{olds_length}
-use Rattle.lowered_steps.proofs.Writes.{AreTaken}
 use Rattle.lowered_steps.proofs.WritesBack.{globals_length}
 
 -- ---- results

@@ -1,13 +1,11 @@
 -- The members of a list of conjunctions as letters: where one is met, an inside step by it leads on, and the other way round.
-use Rattle.std.proofs.Common.{◌≡◌, ℕ, zero, suc, ◌+◌, ℤ, List, [], ◌∷◌, ◌++◌, map, length, inl, inr, ◌⊎◌, refl, sym, ap, subst, ◌∙◌, arith}
-use Rattle.std.specs.List.{AllByRecursion}
-use Rattle.lin_rows.specs.Rows.{LinearRow}
+use Rattle.std.proofs.Common.{◌≡◌, ℕ, ℤ, List, [], ◌∷◌, ◌++◌, length, inl, inr, ◌⊎◌, refl, sym, ap, subst, ◌∙◌, arith}
 use Rattle.letter_acts.specs.Frames.{Columns, IsState}
 use Rattle.letter_acts.specs.Values.{RowsHold, put_all}
 use Rattle.letter_acts.specs.Meaning.{InsideLeads}
 use Rattle.cond_jumps.specs.Conjunctions.{Conjunction}
-use Rattle.cond_jumps.specs.Lists.{IsMet, SomeIsMet, Decide}
-use Rattle.lowered_steps.specs.Edges.{Spot, Edge, leads, no_rows}
+use Rattle.cond_jumps.specs.Lists.{IsMet, SomeIsMet}
+use Rattle.lowered_steps.specs.Edges.{Spot, Edge, leads}
 use Rattle.lowered_steps.specs.Stacks.{IsAmong}
 
 append_none : {X : Type 0} (xs : List X) → xs ++ [] ≡ xs

@@ -1,6 +1,5 @@
 -- The rows of a call: the parameters have the values of the arguments.
-use Rattle.std.proofs.Common.{◌≡◌, ℕ, zero, suc, ◌+◌, ◌<◌, ◌≤◌, Bool, true, false, ℤ, pos, ◌-ℤ◌, List, [], ◌∷◌, ◌++◌, map, length, Option, None, Some, inl, inr, ◌⊎◌, refl, sym, ap, subst, ◌∙◌, arith}
-use Rattle.std.specs.List.{AllByRecursion}
+use Rattle.std.proofs.Common.{◌≡◌, ℕ, suc, ◌+◌, ◌<◌, ◌≤◌, true, false, ℤ, pos, ◌-ℤ◌, List, [], ◌∷◌, ◌++◌, map, length, Option, None, Some, inl, inr, refl, sym, ap, subst, ◌∙◌, arith}
 use Rattle.std.specs.Option.{option_map}
 use Rattle.std.specs.Prelude.{option_and_then}
 use Rattle.boogie_tree.specs.declared.tree.Ty.{Ty}
@@ -8,14 +7,14 @@ use Rattle.boogie_tree.specs.declared.tree.Ty.TheVariants as types
 use Rattle.boogie_tree.specs.declared.tree.Column.{Column}
 use Rattle.boogie_tree.specs.declared.tree.VarInfo.{VarInfo}
 use Rattle.typed_tree.specs.TypedTree.{TypedExpression, Lit, Truth, Var, Old, Not, Neg, Bin, TypedProgram}
-use Rattle.typed_tree.specs.Values.{State, value, truth, column_value, is_zero, member}
+use Rattle.typed_tree.specs.Values.{State, value, truth, column_value, is_zero}
 use Rattle.typed_tree.specs.Typing.{only}
 use Rattle.typed_tree.specs.AffineForm.{is_linear}
 use Rattle.typed_tree.specs.Laws.{IsTruth}
 use Rattle.lin_rows.specs.Points.{point_of}
-use Rattle.letter_acts.specs.Frames.{Columns, IsState}
-use Rattle.letter_acts.proofs.PointLemmas.{point_of-left, point_of-right, state_length}
-use Rattle.cond_jumps.specs.Conjunctions.{Conjunction, Jumps, listed}
+use Rattle.letter_acts.specs.Frames.{Columns}
+use Rattle.letter_acts.proofs.PointLemmas.{point_of-left, state_length}
+use Rattle.cond_jumps.specs.Conjunctions.{listed}
 use Rattle.cond_jumps.specs.Forms.{Linears, column, number, minus}
 use Rattle.cond_jumps.specs.Comparisons.{compared, equal}
 use Rattle.cond_jumps.specs.Environments.{Environment, type_in}
@@ -34,7 +33,7 @@ use Rattle.cond_jumps.proofs.LinearLemmas.{linear_form}
 use Rattle.cond_jumps.proofs.ListLemmas as lists
 use Rattle.lowered_steps.specs.ProgramFrames.{frame_at, width_at, shown}
 use Rattle.lowered_steps.specs.Edges.{argument_sum, parameters_get, call_list, columns_before_locals}
-use Rattle.lowered_steps.specs.Moves.{FrameKeeps, IsSimple, IsArgument, AreArguments}
+use Rattle.lowered_steps.specs.Moves.{FrameKeeps, IsSimple, AreArguments}
 use Rattle.lowered_steps.proofs.FrameColumns.{shown_state, shown_is_shown}
 
 -- ---- the sum of an argument

@@ -1,16 +1,12 @@
 -- What is picked out of a frame that is shown: the variables among its globals, the constants, the old values, and the parameters.
-use Rattle.std.proofs.Common.{◌≡◌, ℕ, zero, suc, ◌+◌, ◌<◌, ◌≤◌, Bool, true, false, not, ℤ, pos, List, [], ◌∷◌, ◌++◌, map, length, take, drop, Option, None, Some, refl, sym, ap, subst, ◌∙◌, arith, append_assoc}
-use Rattle.std.specs.Prelude.{slice_get}
+use Rattle.std.proofs.Common.{◌≡◌, ℕ, zero, suc, ◌≤◌, Bool, true, false, not, ℤ, List, [], ◌∷◌, ◌++◌, length, take, drop, refl, sym, ap, ◌∙◌, arith, append_assoc}
 use Rattle.std.proofs.lemmas.List.{length-append}
-use Rattle.boogie_tree.specs.declared.tree.Column.{Column}
-use Rattle.boogie_tree.specs.declared.tree.Column.TheVariants as columns
 use Rattle.boogie_tree.specs.declared.tree.VarInfo.{VarInfo}
 use Rattle.typed_tree.specs.TypedTree.{TypedProgram}
-use Rattle.typed_tree.specs.Values.{State, member}
+use Rattle.typed_tree.specs.Values.{State}
 use Rattle.lin_rows.specs.Points.{point_of}
-use Rattle.letter_acts.specs.Frames.{Columns, IsFrame, ConstantsFirst, added, globals_from, old_columns, locals_from, is_variable, is_constant, is_global, places, globals_of, variables_of, constants_of}
+use Rattle.letter_acts.specs.Frames.{IsFrame, ConstantsFirst, added, globals_from, is_variable, is_constant, places, globals_of, variables_of, constants_of}
 use Rattle.letter_acts.specs.Values.{picked}
-use Rattle.letter_acts.proofs.PointLemmas.{point_of-left, point_of-right}
 use Rattle.letter_acts.proofs.FrameLemmas.{global_count, variables_are, constants_are}
 use Rattle.cond_jumps.specs.Worth.{Read}
 use Rattle.boogie_run.specs.Needs.{locals_at}

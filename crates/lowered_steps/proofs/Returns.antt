@@ -1,19 +1,17 @@
 -- Returning from a procedure: the caller's frame behind the call is shown by a return step of the stack.
-use Rattle.std.proofs.Common.{◌≡◌, ℕ, zero, suc, ◌+◌, ◌<◌, ◌≤◌, Bool, true, false, ℤ, pos, List, [], ◌∷◌, ◌++◌, map, length, take, drop, Option, None, Some, inl, inr, ◌⊎◌, refl, sym, ap, subst, ◌∙◌, arith, append_assoc}
+use Rattle.std.proofs.Common.{◌≡◌, ℕ, zero, suc, ◌+◌, ◌≤◌, Bool, true, false, ℤ, List, [], ◌∷◌, ◌++◌, map, length, take, drop, Option, Some, refl, sym, ap, subst, ◌∙◌, arith, append_assoc}
 use Rattle.std.specs.Prelude.{slice_get, slice_set}
-use Rattle.std.specs.List.{AllByRecursion}
 use Rattle.std.proofs.lemmas.List.{length-append, length-map}
 use Rattle.boogie_tree.specs.declared.tree.Column.{Column}
 use Rattle.boogie_tree.specs.declared.tree.Column.TheVariants as columns
 use Rattle.std.specs.Prelude.{not}
 use Rattle.boogie_tree.specs.declared.tree.VarInfo.{VarInfo}
-use Rattle.typed_tree.specs.TypedTree.{TypedExpression, TypedProcedure, TypedProgram}
+use Rattle.typed_tree.specs.TypedTree.{TypedProcedure, TypedProgram}
 use Rattle.typed_tree.specs.Values.{State, value, member}
 use Rattle.lin_rows.specs.Points.{point_of}
-use Rattle.letter_acts.specs.Frames.{Columns, IsState, ConstantsFirst, added, old_columns, results_of, constants_of, variables_of, olds_of, globals_of}
+use Rattle.letter_acts.specs.Frames.{Columns, ConstantsFirst, added, old_columns, results_of, olds_of, globals_of}
 use Rattle.letter_acts.specs.Values.{picked, put_all}
 use Rattle.letter_acts.specs.Meaning.{BackLeads, returned_values}
-use Rattle.cond_jumps.specs.Conjunctions.{Conjunction}
 use Rattle.cond_jumps.specs.Worth.{Read}
 use Rattle.cond_jumps.specs.Lists.{Decide}
 use Rattle.boogie_points.specs.Points.{Point, settled, past_first}
@@ -25,16 +23,16 @@ use Rattle.boogie_run.specs.Needs.{locals_at, locals_if_any}
 use Rattle.boogie_run.specs.Steps.{values, all_written, moved_to, results_if_any}
 use Rattle.boogie_run.specs.Steps as steps
 use Rattle.lowered_steps.specs.ProgramFrames.{frame_at, width_at, shown, variable_values, number_in}
-use Rattle.lowered_steps.specs.Edges.{Spot, At, call_list, columns_before_locals, numbers_in}
-use Rattle.lowered_steps.specs.Stacks.{Pending, Stack, IsAmong, IsStep, back}
-use Rattle.lowered_steps.specs.Moves.{HasTypes, FrameKeeps, HasParameters, results_of_procedure, AreTargets, AreArguments, Awaits, IsTarget, shown_stack, shown_below}
+use Rattle.lowered_steps.specs.Edges.{call_list, columns_before_locals, numbers_in}
+use Rattle.lowered_steps.specs.Stacks.{Pending, Stack, IsStep, back}
+use Rattle.lowered_steps.specs.Moves.{HasTypes, FrameKeeps, results_of_procedure, AreTargets, Awaits, shown_stack, shown_below}
 use Rattle.letter_acts.specs.Frames.{IsFrame}
 use Rattle.letter_acts.proofs.FrameLemmas.{IsConsecutive, olds_consecutive, olds_of_variables, olds_are, global_count}
-use Rattle.letter_acts.specs.Frames.{old_at, olds_from}
+use Rattle.letter_acts.specs.Frames.{olds_from}
 use Rattle.lowered_steps.proofs.FrameColumns.{types_length, shown_state}
 use Rattle.lowered_steps.proofs.Places.{all_state_written, all_written_shown, olds_length}
 use Rattle.lowered_steps.proofs.ListSteps.{MetMember, member_met}
-use Rattle.lowered_steps.proofs.Writes.{AreTaken, keeps_all_written, taken_there, is_long, all_written_is, stack_of_written, IsWritten}
+use Rattle.lowered_steps.proofs.Writes.{AreTaken, keeps_all_written, taken_there, is_long, all_written_is, IsWritten}
 use Rattle.lowered_steps.proofs.Parameters.{call_decides}
 use Rattle.lowered_steps.proofs.Picks.{frame_is, constant_values, shown_variables, shown_constants, shown_globals, shown_rest}
 use Rattle.lowered_steps.proofs.Enters.{parameters_read, width_is}
@@ -104,7 +102,7 @@ types_take (suc n) [] (z ∷ zs) h = absurd h
 types_take (suc n) (v ∷ vs) [] h = absurd h
 types_take (suc n) (v ∷ vs) (z ∷ zs) h = (h.0, types_take n vs zs h.1)
 
-targets_taken : (t : TypedProgram) (n : ℕ) (vs : List VarInfo) (cs : List Column) (zs : List ℤ) → AreTargets t n vs cs → HasTypes vs zs → AreTaken t n cs zs
+pub targets_taken : (t : TypedProgram) (n : ℕ) (vs : List VarInfo) (cs : List Column) (zs : List ℤ) → AreTargets t n vs cs → HasTypes vs zs → AreTaken t n cs zs
 targets_taken t n [] [] [] a h = tt
 targets_taken t n [] [] (z ∷ zs) a h = absurd h
 targets_taken t n [] (c ∷ cs) zs a h = absurd a
@@ -183,10 +181,10 @@ returned_is t c b rest k h w first_callee first_caller =
     let results : picked (shown t (state_of c)) (results_of callee) ≡ zs = results_picked t c.top.proc (state_of c) q k w.is w.shape inside in
     let run_results : steps.results_of t c.top ≡ take q.results zs = ap (λ (o : Option TypedProcedure). results_if_any o c.top.locals) w.is in
     let few : length ws ≤ q.results = (
-      let a : length ws ≡ length cs = length-map cs (number_in caller) in
-      let d : length cs ≡ length (results_of_procedure q) = targets_length t b.proc (results_of_procedure q) cs w.targets in
-      let f : length (results_of_procedure q) ≤ q.results = take_at_most q.results (drop q.params q.locals) in
-      omega arith) in
+    let a : length ws ≡ length cs = length-map cs (number_in caller) in
+    let d : length cs ≡ length (results_of_procedure q) = targets_length t b.proc (results_of_procedure q) cs w.targets in
+    let f : length (results_of_procedure q) ≤ q.results = take_at_most q.results (drop q.params q.locals) in
+    omega arith) in
     let taken : AreTaken t b.proc cs (steps.results_of t c.top) = results_taken t c b k w in
     let kept : FrameKeeps t b.proc s = resumed_keeps t c b rest k h in
     let written : put_all (shown t s) ws (steps.results_of t c.top) ≡ shown t (all_state_written s cs (steps.results_of t c.top)) =
@@ -225,7 +223,7 @@ leave_goes t c b rest opened is k h w first_callee first_caller =
       at_call = shown_state t n s h;
       at_end = shown_state t n after kept;
       constants = shown_constants t f u first_callee own ∙ same_constants t.globals c.globals c.top.entry own theirs k.constants
-        ∙ sym (shown_constants t f s first_callee theirs);
+          ∙ sym (shown_constants t f s first_callee theirs);
       olds = shown_olds t f u k first_callee ∙ sym (shown_variables t f s first_callee theirs) ∙ ap (picked (shown t s)) (sym (olds_of_variables t.globals (frame_at t f) (frame_is t f first_callee)));
       rows_hold = m.met;
       returned = sym (returned_is t c b rest k h w first_callee first_caller);

@@ -1,9 +1,9 @@
 -- Assignments and havocs: what is written is of its type, and the written configuration is shown by a step of the stack.
-use Rattle.std.proofs.Common.{◌≡◌, ℕ, zero, suc, ◌+◌, Bool, true, false, ℤ, pos, List, [], ◌∷◌, ◌++◌, map, length, Option, None, Some, inl, inr, ◌⊎◌, refl, sym, ap, subst, ◌∙◌, arith}
+use Rattle.std.proofs.Common.{◌≡◌, ℕ, zero, suc, true, false, ℤ, List, [], ◌∷◌, ◌++◌, map, length, Some, inl, refl, sym, ap, subst, ◌∙◌}
 use Rattle.std.specs.List.{AllByRecursion}
 use Rattle.std.specs.Prelude.{slice_get}
 use Rattle.std.proofs.lemmas.List.{length-map}
-use Rattle.std.proofs.lemmas.Bool.{cases_eq, false≢true}
+use Rattle.std.proofs.lemmas.Bool.{false≢true}
 use Rattle.boogie_tree.specs.declared.tree.Ty.{Ty}
 use Rattle.boogie_tree.specs.declared.tree.Ty.TheVariants as types
 use Rattle.boogie_tree.specs.declared.tree.Column.{Column}
@@ -17,20 +17,19 @@ use Rattle.letter_acts.specs.Meaning.{InsideLeads}
 use Rattle.cond_jumps.specs.Environments.{type_in}
 use Rattle.typed_tree.specs.AffineForm.{is_linear}
 use Rattle.cond_jumps.specs.Conjunctions.{Conjunction}
-use Rattle.cond_jumps.specs.Worth.{IsSound}
 use Rattle.cond_jumps.specs.Frames.{frame_environment}
-use Rattle.cond_jumps.specs.Lists.{assign_list, Decide, AreValues, IsMet}
+use Rattle.cond_jumps.specs.Lists.{assign_list, Decide, AreValues}
 use Rattle.cond_jumps.proofs.ListLemmas as lists
 use Rattle.boogie_points.specs.Points.{Point}
 use Rattle.boogie_points.specs.Actions as actions
 use Rattle.boogie_points.specs.Actions.{Action, action_at}
-use Rattle.boogie_run.specs.Configurations.{Frame, Config, state_of}
+use Rattle.boogie_run.specs.Configurations.{Config, state_of}
 use Rattle.boogie_run.specs.Needs.{locals_at}
 use Rattle.boogie_run.specs.Steps.{put, written, all_written, moved_to, values}
 use Rattle.lowered_steps.specs.ProgramFrames.{frame_at, shown, number_in}
-use Rattle.lowered_steps.specs.Edges.{Spot, At, Wrong, Edge, leads, inside_edges, numbers_in, no_rows}
-use Rattle.lowered_steps.specs.Stacks.{Stack, IsAmong, IsStep}
-use Rattle.lowered_steps.specs.Moves.{HasTypes, FrameKeeps, IsVariable, IsTarget, IsAssigned, AreAssigned, shown_stack, shown_below}
+use Rattle.lowered_steps.specs.Edges.{At, Edge, numbers_in}
+use Rattle.lowered_steps.specs.Stacks.{Stack, IsStep}
+use Rattle.lowered_steps.specs.Moves.{HasTypes, FrameKeeps, IsTarget, AreAssigned, shown_stack, shown_below}
 use Rattle.lowered_steps.proofs.FrameColumns.{types_length, shown_state, shown_is_shown}
 use Rattle.lowered_steps.proofs.Places.{state_written, all_state_written, IsThere, IsLong, all_written_shown}
 use Rattle.lowered_steps.proofs.ListSteps.{MetMember, member_met, edge_among, assignment_leads, no_rows_met}

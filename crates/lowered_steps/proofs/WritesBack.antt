@@ -1,7 +1,6 @@
 -- The other way round, for jumps, choices of ways, assignments and havocs.
-use Rattle.std.proofs.Common.{◌≡◌, ℕ, zero, suc, ◌+◌, ◌<◌, Bool, true, false, ℤ, pos, negsuc, List, [], ◌∷◌, ◌++◌, map, length, Option, None, Some, inl, inr, ◌⊎◌, refl, sym, ap, subst, ◌∙◌, arith}
-use Rattle.std.specs.List.{AllByRecursion}
-use Rattle.std.specs.Prelude.{slice_get, unsigned_abs, nat_lt}
+use Rattle.std.proofs.Common.{◌≡◌, ℕ, zero, suc, ◌<◌, true, ℤ, pos, List, [], ◌∷◌, ◌++◌, length, Option, None, Some, inl, inr, refl, sym, ap, subst, ◌∙◌, arith}
+use Rattle.std.specs.Prelude.{slice_get, nat_lt}
 use Rattle.std.proofs.lemmas.List.{length-map}
 use Rattle.std.proofs.lemmas.Option.{slice_get_within}
 use Rattle.std.proofs.lemmas.Bool.Decides.{nat_tests}
@@ -12,23 +11,23 @@ use Rattle.boogie_tree.specs.declared.tree.Column.TheVariants as columns
 use Rattle.boogie_tree.specs.declared.tree.VarInfo.{VarInfo}
 use Rattle.typed_tree.specs.TypedTree.{TypedExpression, TypedProgram}
 use Rattle.typed_tree.specs.Values.{State, value}
-use Rattle.letter_acts.specs.Frames.{Columns, IsState, IsValue, added, globals_from, old_columns, locals_from}
-use Rattle.letter_acts.specs.Values.{put_all, RowsHold}
+use Rattle.letter_acts.specs.Frames.{Columns, IsState, IsValue, globals_from, old_columns, locals_from}
+use Rattle.letter_acts.specs.Values.{put_all}
 use Rattle.letter_acts.specs.Meaning.{InsideLeads}
 use Rattle.cond_jumps.specs.Conjunctions.{Conjunction}
-use Rattle.cond_jumps.specs.Lists.{assign_list, IsMet, SomeIsMet, Decide}
+use Rattle.cond_jumps.specs.Lists.{assign_list, Decide}
 use Rattle.cond_jumps.proofs.ListLemmas as lists
 use Rattle.boogie_points.specs.Points.{Point}
 use Rattle.boogie_points.specs.Actions as actions
 use Rattle.boogie_points.specs.Actions.{Action}
 use Rattle.boogie_run.specs.Configurations.{Config, state_of}
-use Rattle.boogie_run.specs.Needs.{Need, Whole, Truth, need_of_type, need_of, need_of_column, need_of_action, is_taken, locals_at}
-use Rattle.boogie_run.specs.Steps.{Outcome, Went, act, number_of, put, moved_to, written, all_written, values, went_if}
+use Rattle.boogie_run.specs.Needs.{Truth, need_of_type, need_of, need_of_column, is_taken, locals_at}
+use Rattle.boogie_run.specs.Steps.{put, moved_to, written, all_written, values, went_if}
 use Rattle.lowered_steps.specs.ProgramFrames.{frame_at, shown, variable_values, number_in}
-use Rattle.lowered_steps.specs.Edges.{Spot, At, Wrong, Edge, leads, inside_edges, skips, numbers_in, no_rows}
+use Rattle.lowered_steps.specs.Edges.{Spot, At, Edge, inside_edges, skips, numbers_in, no_rows}
 use Rattle.lowered_steps.specs.Stacks.{Stack, IsAmong}
 use Rattle.lowered_steps.specs.Moves.{HasTypes, FrameKeeps, IsTarget, AreAssigned, shown_stack, shown_below}
-use Rattle.lowered_steps.proofs.FrameColumns.{shown_state, shown_is_shown, types_length}
+use Rattle.lowered_steps.proofs.FrameColumns.{shown_is_shown, types_length}
 use Rattle.lowered_steps.proofs.Places.{state_written, all_state_written, all_written_shown, put_length, olds_length, IsThere}
 use Rattle.lowered_steps.proofs.ListSteps.{some_met, among_led, condition_led, IsLed}
 use Rattle.lowered_steps.proofs.Writes.{AreTaken, assigned_taken, taken_there, taken_length, is_long, all_written_is, stack_of_written, assigned_sound, IsWritten, target_there}

@@ -1,9 +1,7 @@
 -- What the letters of a program allow at a point: the inside edges, each with the columns that it writes and its rows, and the rows of calls.
-use Rattle.std.specs.Prelude.{ℕ, suc, ◌+◌, ℤ, pos, Bool, true, false, nat_eq, ◌||◌, not, List, [], ◌∷◌, ◌++◌, map, filter, length, take, drop, Option, None, Some, slice_get, if◌then◌else◌}
-use Rattle.boogie_tree.specs.declared.span.Span.{Span}
+use Rattle.std.specs.Prelude.{ℕ, suc, ◌+◌, pos, Bool, true, false, nat_eq, ◌||◌, not, List, [], ◌∷◌, ◌++◌, map, filter, length, take, drop, Option, None, Some, slice_get, if◌then◌else◌}
 use Rattle.boogie_tree.specs.declared.tree.Ty.{Ty}
 use Rattle.boogie_tree.specs.declared.tree.Column.{Column}
-use Rattle.boogie_tree.specs.declared.tree.Column.TheVariants as columns
 use Rattle.boogie_tree.specs.declared.tree.VarInfo.{VarInfo}
 use Rattle.typed_tree.specs.TypedTree.{TypedExpression, Lit, Truth, Var, Old, Not, Neg, Bin, TypedProcedure, TypedProgram, TypedInvariant}
 use Rattle.typed_tree.specs.Values.{truth}

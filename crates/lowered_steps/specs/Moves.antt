@@ -1,5 +1,5 @@
 -- Runs by moves: one action, and then the choices of the locals that are missing. What a configuration keeps in a run of a typed program.
-use Rattle.std.specs.Prelude.{◌≡◌, ◌⊎◌, ℕ, zero, suc, ◌+◌, ◌≤◌, ℤ, Bool, true, false, List, [], ◌∷◌, ◌++◌, map, length, take, drop, Option, None, Some, slice_get, pos}
+use Rattle.std.specs.Prelude.{◌≡◌, ℕ, ◌+◌, ◌≤◌, ℤ, true, false, List, [], ◌∷◌, ◌++◌, length, take, drop, Option, Some, slice_get}
 use Rattle.std.specs.List.{AllByRecursion}
 use Rattle.boogie_tree.specs.declared.tree.Ty.{Ty}
 use Rattle.boogie_tree.specs.declared.tree.Ty.TheVariants as types
@@ -20,7 +20,7 @@ use Rattle.boogie_points.specs.Actions as actions
 use Rattle.boogie_points.specs.Actions.{Action, action_at}
 use Rattle.boogie_run.specs.Configurations.{Frame, Config, state_of}
 use Rattle.boogie_run.specs.Needs.{locals_at, need_of_action, is_taken}
-use Rattle.boogie_run.specs.Steps.{Outcome, Went, Failed, act, number_of, values}
+use Rattle.boogie_run.specs.Steps.{Went, act, number_of, values}
 use Rattle.lowered_steps.specs.ProgramFrames.{frame_at, shown}
 use Rattle.lowered_steps.specs.Stacks.{Pending, Stack}
 use Rattle.lowered_steps.specs.Edges.{At}

@@ -8,9 +8,8 @@ use Rattle.boogie_points.specs.Points.{Point, settled, past_first}
 use Rattle.boogie_points.specs.Actions as actions
 use Rattle.boogie_points.specs.Actions.{action_at}
 use Rattle.boogie_points.specs.Starts.{point_of_call, start_point_of, targets_at}
-use Rattle.lowered_steps.specs.ProgramFrames.{frame_at, variable_values, shown}
+use Rattle.lowered_steps.specs.ProgramFrames.{frame_at, shown}
 use Rattle.lowered_steps.specs.Edges.{Spot, At, Wrong, Edge, inside_edges, call_list, numbers_in}
-use Rattle.typed_tree.specs.Values.{State}
 
 -- a call that is open: its procedure, the point of the call, and the state before it
 pub record Pending : Type 0 where

@@ -1,0 +1,14 @@
+pub mod Phases
+pub mod ImportRuns
+pub mod SeenTypes
+pub mod ValidParts
+pub mod RightPoints
+pub mod KnownActions
+pub mod PointLaws
+pub mod Followed
+pub mod ImportLists
+pub mod ImportShown
+pub mod ImportStates
+pub mod CallPoints
+pub mod ImportSteps
+pub mod ImportLaws
