@@ -1,5 +1,5 @@
 mod Numbers
-mod Closed
+pub mod Closed
 mod Bodies
 mod Numbering
-mod PlaceLaws
+pub mod PlaceLaws
