@@ -19,3 +19,5 @@ pub mod EdgeActs
 pub mod CallActs
 pub mod GraphActs
 pub mod GraphNames
+pub mod TargetsDiffer
+pub mod WholeGraph

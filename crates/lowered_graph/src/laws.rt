@@ -1,6 +1,7 @@
 //! Laws of the graph of a typed program.
 
 use boogie_places::laws::places_of_typed_programs;
+use lowered_imports::laws::points_of_typed_programs;
 
 ghost use Rattle.lowered_graph.specs.LetterLaws as letters;
 ghost use Rattle.lowered_graph.specs.Laws as law;
@@ -22,4 +23,12 @@ pub fn machine_runs_are_words()
     ensures { law.MachineIsJoined }
 {
     places_of_typed_programs();
+}
+
+/// The graph of a typed program keeps the invariant of graphs, wherever the numbers of the columns of its acts fit.
+pub fn lowered_programs_are_graphs()
+    ensures { law.LoweredIsGraph }
+{
+    places_of_typed_programs();
+    points_of_typed_programs();
 }
