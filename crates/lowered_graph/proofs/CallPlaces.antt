@@ -7,10 +7,10 @@ use Rattle.typed_tree.specs.TypedTree.{TypedExpression, TypedGuard, Any, Cond, T
 use Rattle.boogie_points.specs.Points.{Todo, Start, Entry, Body, Exit, Stage, Point, at_exit, before, settled, past}
 use Rattle.boogie_points.specs.Actions as actions
 use Rattle.boogie_points.specs.Actions.{Action, next_part, action_at, stage_action, body_or_leave, procedure_action, start_action, entry_action, exit_action, body_action, block_action, statement_action, checked, guarded, head_action, havoc_action, one_of, ways_to, call_if_any, call_action, called_action, unseen_action, free_conditions, ensured_conditions, start_conditions, plain_conditions, chosen_columns, first_assertion, first_place, first_point}
-use Rattle.boogie_places.specs.Places.{parts_from, at_statement, points_in, points_of, points_of_body, start_points, IsOneOf}
+use Rattle.boogie_places.specs.Places.{parts_from, at_statement, points_in, points_of, points_of_body, IsOneOf}
 use Rattle.typing_rules.specs.Counts.{plain_invariants, assertions, points, block_assertions, block_points, checked_at_call}
 use Rattle.lowered_graph.specs.Arcs.{return_point}
-use Rattle.lowered_graph.proofs.KnownPlaces.{IsKnown, point_either, point_front, point_rest}
+use Rattle.lowered_graph.proofs.KnownPlaces.{IsKnown, point_either, point_rest}
 
 -- ---- actions that do not return, enter procedures with bodies alone, and write columns that have a property
 
@@ -211,15 +211,18 @@ mutual
       let xs : List Point = points_of procs x false id (at + 1) after in
       let ys : List Point = points_of procs y false (id + block_assertions procs x) (at + 1 + block_points procs x) after in
       elim m [
-        inl e ↦ subst (λ (p : Point). IsNoExit p.stage) e tt |
-        inr h ↦ elim (point_either xs ys r h) [
-          inl i ↦ in_block procs x false id (at + 1) after r i |
-          inr i ↦ in_block procs y false (id + block_assertions procs x) (at + 1 + block_points procs x) after r i ] ]
+        | inl e ↦ subst (λ (p : Point). IsNoExit p.stage) e tt
+        | inr h ↦ elim (point_either xs ys r h) [
+          | inl i ↦ in_block procs x false id (at + 1) after r i
+          | inr i ↦ in_block procs y false (id + block_assertions procs x) (at + 1 + block_points procs x) after r i
+        ]
+      ]
   in_body procs (While span g is x) b loop id at under r m =
       let here : Todo = record { rest = Then (While span g is x) b; of_loop = loop; id = id; at = at } in
       elim (point_either (parts_from (before (here ∷ under)) 0 (length is + 1)) (points_of procs x true (id + plain_invariants is) (at + length is + 1) (here ∷ under)) r m) [
-        inl i ↦ parts_stage (before (here ∷ under)) 0 (length is + 1) r tt i |
-        inr i ↦ in_block procs x true (id + plain_invariants is) (at + length is + 1) (here ∷ under) r i ]
+        | inl i ↦ parts_stage (before (here ∷ under)) 0 (length is + 1) r tt i
+        | inr i ↦ in_block procs x true (id + plain_invariants is) (at + length is + 1) (here ∷ under) r i
+      ]
   in_body procs (Break span k) b loop id at under r m = only r (at_statement (Break span k) b loop id at under) tt m
   in_body procs (Goto span ks) b loop id at under r m = only r (at_statement (Goto span ks) b loop id at under) tt m
   in_body procs (Return span) b loop id at under r m = only r (at_statement (Return span) b loop id at under) tt m
@@ -229,8 +232,9 @@ mutual
   in_block procs Empty loop id at under r m = absurd m
   in_block procs (Then s b) loop id at under r m =
       elim (point_either (points_in procs s b loop id at under) (points_of procs b loop (id + assertions procs s) (at + points procs s) under) r m) [
-        inl i ↦ in_body procs s b loop id at under r i |
-        inr i ↦ in_block procs b loop (id + assertions procs s) (at + points procs s) under r i ]
+        | inl i ↦ in_body procs s b loop id at under r i
+        | inr i ↦ in_block procs b loop (id + assertions procs s) (at + points procs s) under r i
+      ]
 
 -- a point of a body is behind its statements, or does not stand at the exit
 behind_or_not : (t : TypedProgram) (n : ℕ) (q : TypedProcedure) (b : TypedBlock) (r : Point) → IsOneOf (points_of_body t n q b) r →
@@ -242,19 +246,22 @@ behind_or_not t n q b r m =
     let inner : List Point = points_of t.procs b false (first_assertion t.procs n) (first_place t n + free) [] in
     let exits : List Point = parts_from at_exit 0 (length (ensured_conditions q.specs) + 1) in
     elim (point_either (parts_from entry 0 free) (inner ++ exits) r m) [
-      inl i ↦ inl (parts_stage entry 0 free r tt i) |
-      inr h ↦ elim (point_either inner exits r h) [
-        inl i ↦ inl (in_block t.procs b false (first_assertion t.procs n) (first_place t n + free) [] r i) |
-        inr i ↦ (let g = part_back at_exit 0 (length (ensured_conditions q.specs) + 1) r i in
-          let upper : g.0 < 0 + (length (ensured_conditions q.specs) + 1) = g.2 in
-          inr (g.0, (let e : g.0 ≤ length (ensured_conditions q.specs) = omega arith in e), g.3)) ] ]
+      | inl i ↦ inl (parts_stage entry 0 free r tt i)
+      | inr h ↦ elim (point_either inner exits r h) [
+        | inl i ↦ inl (in_block t.procs b false (first_assertion t.procs n) (first_place t n + free) [] r i)
+        | inr i ↦ (let g = part_back at_exit 0 (length (ensured_conditions q.specs) + 1) r i in
+            let upper : g.0 < 0 + (length (ensured_conditions q.specs) + 1) = g.2 in
+            inr (g.0, (let e : g.0 ≤ length (ensured_conditions q.specs) = omega arith in e), g.3))
+      ]
+    ]
 
 -- a known point does not stand at the exit, or is behind all statements
 pub known_stage : (t : TypedProgram) (n : ℕ) (p : Point) → (k : IsKnown t n p) →
     IsNoExit p.stage ⊎ ((i : ℕ) × (i ≤ length (ensured_conditions k.procedure.specs)) × (p ≡ record at_exit { part = i }))
 known_stage t n p k = elim k.stands [
-  inl h ↦ inl (parts_stage (record { stage = Start; todo = []; part = 0 }) 0 (length (start_conditions t k.procedure)) p tt h.1) |
-  inr h ↦ behind_or_not t n k.procedure k.body p h ]
+  | inl h ↦ inl (parts_stage (record { stage = Start; todo = []; part = 0 }) 0 (length (start_conditions t k.procedure)) p tt h.1)
+  | inr h ↦ behind_or_not t n k.procedure k.body p h
+]
 
 -- ---- the action at a known point
 
@@ -276,11 +283,12 @@ pub entered_has_body : (t : TypedProgram) (n : ℕ) (p : Point) (f : ℕ) (args 
 entered_has_body t n p f args k e =
     let stage : stage_action t n k.procedure k.body p.stage p ≡ actions.Enter f args = sym (action_is t n k.procedure k.body p k.is k.has_body) ∙ e in
     elim (known_stage t n p k) [
-      inl h ↦ subst (GoesOn Anything t) stage (stage_on Anything t n k.procedure k.body p.stage p h (todo_anything p.todo)) |
-      inr h ↦ (let here : Point = record at_exit { part = h.0 } in
-        let at : stage_action t n k.procedure k.body Exit here ≡ actions.Enter f args = subst (λ (r : Point). stage_action t n k.procedure k.body r.stage r ≡ actions.Enter f args) h.2 stage in
-        absurd (enters_none t (slice_get (ensured_conditions k.procedure.specs) h.0)
-        (first_assertion t.procs n + (block_assertions t.procs k.body + plain_invariants (take h.0 (ensured_conditions k.procedure.specs)))) here f args at)) ]
+      | inl h ↦ subst (GoesOn Anything t) stage (stage_on Anything t n k.procedure k.body p.stage p h (todo_anything p.todo))
+      | inr h ↦ (let here : Point = record at_exit { part = h.0 } in
+          let at : stage_action t n k.procedure k.body Exit here ≡ actions.Enter f args = subst (λ (r : Point). stage_action t n k.procedure k.body r.stage r ≡ actions.Enter f args) h.2 stage in
+          absurd (enters_none t (slice_get (ensured_conditions k.procedure.specs) h.0)
+          (first_assertion t.procs n + (block_assertions t.procs k.body + plain_invariants (take h.0 (ensured_conditions k.procedure.specs)))) here f args at))
+    ]
 
 -- ---- returns
 
@@ -310,12 +318,13 @@ leaves_at t n p k e =
     let stage : stage_action t n k.procedure k.body p.stage p ≡ actions.Leave = sym (action_is t n k.procedure k.body p k.is k.has_body) ∙ e in
     let ensured : List TypedInvariant = ensured_conditions k.procedure.specs in
     elim (known_stage t n p k) [
-      inl h ↦ absurd (no_leave t (stage_action t n k.procedure k.body p.stage p) (stage_on Anything t n k.procedure k.body p.stage p h (todo_anything p.todo)) stage) |
-      inr h ↦ (let here : Point = record at_exit { part = h.0 } in
-        let at : stage_action t n k.procedure k.body Exit here ≡ actions.Leave = subst (λ (r : Point). stage_action t n k.procedure k.body r.stage r ≡ actions.Leave) h.2 stage in
-        let none : slice_get ensured h.0 ≡ None = left_by (slice_get ensured h.0) (first_assertion t.procs n + (block_assertions t.procs k.body + plain_invariants (take h.0 ensured))) here at in
-        let last : h.0 ≡ length ensured = past_none ensured h.0 h.1 none in
-        h.2 ∙ ap (λ (i : ℕ). record at_exit { part = i }) last ∙ sym (ap return_point k.is)) ]
+      | inl h ↦ absurd (no_leave t (stage_action t n k.procedure k.body p.stage p) (stage_on Anything t n k.procedure k.body p.stage p h (todo_anything p.todo)) stage)
+      | inr h ↦ (let here : Point = record at_exit { part = h.0 } in
+          let at : stage_action t n k.procedure k.body Exit here ≡ actions.Leave = subst (λ (r : Point). stage_action t n k.procedure k.body r.stage r ≡ actions.Leave) h.2 stage in
+          let none : slice_get ensured h.0 ≡ None = left_by (slice_get ensured h.0) (first_assertion t.procs n + (block_assertions t.procs k.body + plain_invariants (take h.0 ensured))) here at in
+          let last : h.0 ≡ length ensured = past_none ensured h.0 h.1 none in
+          h.2 ∙ ap (λ (i : ℕ). record at_exit { part = i }) last ∙ sym (ap return_point k.is))
+    ]
 
 -- at the place of return of a procedure with a body
 pub leaves_there : (t : TypedProgram) (f : ℕ) (q : TypedProcedure) (b : TypedBlock) → slice_get t.procs f ≡ Some q → q.body ≡ Some b → action_at t f (return_point (slice_get t.procs f)) ≡ actions.Leave

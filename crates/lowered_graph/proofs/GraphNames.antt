@@ -1,13 +1,12 @@
 -- The names of procedures and columns differ and are spelled as names.
-use Rattle.std.proofs.Common.{◌≡◌, ◌∙◌, ◌⊎◌, ℕ, zero, suc, ◌+◌, ◌≤◌, Bool, true, false, not, ◌&&◌, ◌||◌, List, [], ◌∷◌, ◌++◌, map, length, Option, None, Some, inl, inr, refl, sym, ap, subst, arith, IsTrue, Contains}
-use Rattle.std.specs.Prelude.{slice_get, nat_eq, nat_le, filter, drop}
+use Rattle.std.proofs.Common.{◌≡◌, ◌∙◌, ◌⊎◌, ℕ, suc, ◌+◌, Bool, true, false, not, ◌&&◌, ◌||◌, List, [], ◌∷◌, ◌++◌, map, Some, inl, inr, refl, sym, ap, subst, arith, IsTrue}
+use Rattle.std.specs.Prelude.{slice_get, nat_eq, nat_le, drop}
 use Rattle.std.specs.List.{AllByRecursion, list_all, list_any}
 use Rattle.std.specs.Str.{bytes_eq}
 use Rattle.std.proofs.lemmas.Bool.{and_parts, false≢true, eqb-true}
-use Rattle.std.proofs.lemmas.Option.{slice_get_within, get_or_from_slice_get}
 use Rattle.std.proofs.lemmas.Slice.Eq.{bytes_eq-Decides}
 use Rattle.boogie_tree.specs.declared.tree.Column.{Column}
-use Rattle.boogie_tree.specs.declared.tree.Column.TheVariants.{Global, Old, Local}
+use Rattle.boogie_tree.specs.declared.tree.Column.TheVariants.{Old}
 use Rattle.boogie_tree.specs.declared.tree.VarInfo.{VarInfo}
 use Rattle.typed_tree.specs.TypedTree.{TypedProcedure, TypedProgram}
 use Rattle.typing_rules.specs.Names as rules
@@ -24,6 +23,8 @@ use Rattle.letter_acts.specs.Invariant.{AreDistinct, names_where, HasNames, AreN
 use Rattle.boogie_run.specs.Needs.{locals_at, locals_if_any}
 use Rattle.lowered_steps.specs.ProgramFrames.{frame_at}
 use Rattle.lowered_graph.specs.Lowered.{counted_procs, lowered}
+use Rattle.lowered_graph.proofs.Lists.{contained, not_both, or_right}
+use Rattle.letter_acts.proofs.ListLemmas.{all_append}
 
 -- ---- how names are spelled
 
@@ -51,15 +52,12 @@ or_left : (a b : Bool) → a ≡ true → (a || b) ≡ true
 or_left true b e = refl
 or_left false b e = absurd (false≢true e)
 
-or_right : (a b : Bool) → b ≡ true → (a || b) ≡ true
-or_right true b e = refl
-or_right false b e = e
-
 any_member : (b : ℕ) (xs : List ℕ) → list_any (nat_eq b) xs ≡ true → Member xs b
 any_member b [] e = absurd (false≢true e)
 any_member b (x ∷ xs) e = elim (or_either (nat_eq b x) (list_any (nat_eq b) xs) e) [
-  inl h ↦ inl (sym (eqb-true b x h)) |
-  inr h ↦ inr (any_member b xs h) ]
+  | inl h ↦ inl (sym (eqb-true b x h))
+  | inr h ↦ inr (any_member b xs h)
+]
 
 marked : (b : ℕ) → Member (95 ∷ 46 ∷ 36 ∷ 35 ∷ 39 ∷ 96 ∷ 126 ∷ 94 ∷ 63 ∷ 92 ∷ []) b → names.is_name_mark b ≡ true
 marked b (inl e) = subst (λ (x : ℕ). names.is_name_mark x ≡ true) e refl
@@ -76,15 +74,18 @@ marked b (inr (inr (inr (inr (inr (inr (inr (inr (inr (inr m)))))))))) = absurd 
 
 letter_so : (b : ℕ) → rules.is_letter b ≡ true → names.is_letter b ≡ true
 letter_so b e = elim (or_either (nat_le 65 b && nat_le b 90) (nat_le 97 b && nat_le b 122) e) [
-  inl h ↦ or_right (nat_le 97 b && nat_le b 122) (nat_le 65 b && nat_le b 90) h |
-  inr h ↦ or_left (nat_le 97 b && nat_le b 122) (nat_le 65 b && nat_le b 90) h ]
+  | inl h ↦ or_right (nat_le 97 b && nat_le b 122) (nat_le 65 b && nat_le b 90) h
+  | inr h ↦ or_left (nat_le 97 b && nat_le b 122) (nat_le 65 b && nat_le b 90) h
+]
 
 byte_so : (b : ℕ) → rules.is_name_byte b ≡ true → names.is_name_byte b ≡ true
 byte_so b e = elim (or_either (rules.is_letter b) (rules.is_digit b || rules.is_sign b) e) [
-  inl h ↦ or_first (names.is_letter b) (names.is_digit b) (names.is_name_mark b) (letter_so b h) |
-  inr h ↦ elim (or_either (rules.is_digit b) (rules.is_sign b) h) [
-    inl d ↦ or_second (names.is_letter b) (names.is_digit b) (names.is_name_mark b) d |
-    inr s ↦ or_third (names.is_letter b) (names.is_digit b) (names.is_name_mark b) (marked b (any_member b (95 ∷ 46 ∷ 36 ∷ 35 ∷ 39 ∷ 96 ∷ 126 ∷ 94 ∷ 63 ∷ 92 ∷ []) s)) ] ]
+  | inl h ↦ or_first (names.is_letter b) (names.is_digit b) (names.is_name_mark b) (letter_so b h)
+  | inr h ↦ elim (or_either (rules.is_digit b) (rules.is_sign b) h) [
+    | inl d ↦ or_second (names.is_letter b) (names.is_digit b) (names.is_name_mark b) d
+    | inr s ↦ or_third (names.is_letter b) (names.is_digit b) (names.is_name_mark b) (marked b (any_member b (95 ∷ 46 ∷ 36 ∷ 35 ∷ 39 ∷ 96 ∷ 126 ∷ 94 ∷ 63 ∷ 92 ∷ []) s))
+  ]
+]
 
 bytes_so : (bs : List ℕ) → list_all rules.is_name_byte bs ≡ true → list_all names.is_name_byte bs ≡ true
 bytes_so [] e = refl
@@ -101,8 +102,9 @@ name_so (b ∷ bs) e =
 number_so : (bs : List ℕ) → rules.is_name_or_number bs ≡ true → (names.are_digits bs || names.is_plain_name bs) ≡ true
 number_so [] e = absurd (false≢true e)
 number_so (b ∷ bs) e = elim (or_either (list_all rules.is_digit (b ∷ bs)) (rules.is_name (b ∷ bs)) e) [
-  inl h ↦ or_left (names.are_digits (b ∷ bs)) (names.is_plain_name (b ∷ bs)) h |
-  inr h ↦ or_right (names.are_digits (b ∷ bs)) (names.is_plain_name (b ∷ bs)) (name_so (b ∷ bs) h) ]
+  | inl h ↦ or_left (names.are_digits (b ∷ bs)) (names.is_plain_name (b ∷ bs)) h
+  | inr h ↦ or_right (names.are_digits (b ∷ bs)) (names.is_plain_name (b ∷ bs)) (name_so (b ∷ bs) h)
+]
 
 made_so : (bs : List ℕ) → rules.is_made bs ≡ true → (names.has_mark bs && (names.are_digits (drop 2 bs) || names.is_plain_name (drop 2 bs))) ≡ true
 made_so [] e = absurd (false≢true e)
@@ -114,8 +116,9 @@ made_so (a ∷ b ∷ bs) e =
 
 spelled_so : (bs : List ℕ) → rules.is_spelled bs ≡ true → names.is_spelled bs ≡ true
 spelled_so bs e = elim (or_either (rules.is_name bs) (rules.is_made bs) e) [
-  inl h ↦ or_left (names.is_plain_name bs) (names.has_mark bs && (names.are_digits (drop 2 bs) || names.is_plain_name (drop 2 bs))) (name_so bs h) |
-  inr h ↦ or_right (names.is_plain_name bs) (names.has_mark bs && (names.are_digits (drop 2 bs) || names.is_plain_name (drop 2 bs))) (made_so bs h) ]
+  | inl h ↦ or_left (names.is_plain_name bs) (names.has_mark bs && (names.are_digits (drop 2 bs) || names.is_plain_name (drop 2 bs))) (name_so bs h)
+  | inr h ↦ or_right (names.is_plain_name bs) (names.has_mark bs && (names.are_digits (drop 2 bs) || names.is_plain_name (drop 2 bs))) (made_so bs h)
+]
 
 -- ---- lists of names
 
@@ -123,10 +126,6 @@ any_of : (x : List ℕ) (xs : List (List ℕ)) → Member xs x → list_any (byt
 any_of x [] m = absurd m
 any_of x (y ∷ xs) (inl e) = or_left (bytes_eq x y) (list_any (bytes_eq x) xs) ((bytes_eq-Decides x y).1 (sym e))
 any_of x (y ∷ xs) (inr m) = or_right (bytes_eq x y) (list_any (bytes_eq x) xs) (any_of x xs m)
-
-not_both : (b : Bool) → b ≡ true → not b ≡ true → ⊥
-not_both true e h = false≢true h
-not_both false e h = false≢true e
 
 differ_so : (xs : List (List ℕ)) → all_differ bytes_eq xs ≡ true → AreDistinct xs
 differ_so [] e = tt
@@ -152,9 +151,6 @@ names_so xs e =
 
 -- ---- the names of a program
 
-at_contains : {X : Type 0} (xs : List X) (n : ℕ) (x : X) → slice_get xs n ≡ Some x → Contains xs x
-at_contains xs n x h = (n, slice_get_within xs n x h, get_or_from_slice_get xs n x x h)
-
 shape_of : (t : TypedProgram) → IsTrue (is_valid t) → has_shape t ≡ true
 shape_of t v = (and_parts (has_shape t) (keeps_typing t && has_entry t) (and_parts (is_typed t) (numbers_fit t) v).0).0
 
@@ -172,7 +168,7 @@ procedure_names t v = names_so (map (λ p. p.name) t.procs) (and_parts (are_name
 local_names : (t : TypedProgram) → IsTrue (is_valid t) → (n : ℕ) (q : TypedProcedure) → slice_get t.procs n ≡ Some q → NamesAreRight (map (λ v. v.name) (locals_at t n))
 local_names t v n q e =
     let shaped : is_procedure_shaped t.globals t.procs q ≡ true =
-    all_member (is_procedure_shaped t.globals t.procs) t.procs q (at_contains t.procs n q e) (and_parts (are_names (map (λ p. p.name) t.procs)) (list_all (is_procedure_shaped t.globals t.procs) t.procs) (procs_part t v)).1 in
+    all_member (is_procedure_shaped t.globals t.procs) t.procs q (contained t.procs n q e) (and_parts (are_names (map (λ p. p.name) t.procs)) (list_all (is_procedure_shaped t.globals t.procs) t.procs) (procs_part t v)).1 in
     let own : NamesAreRight (map (λ v. v.name) q.locals) =
     names_so (map (λ v. v.name) q.locals) (and_parts (are_names (map (λ v. v.name) q.locals)) (are_locals q && (are_modified t.globals q.modifies && is_body_shaped t.procs q.body)) shaped).0 in
     subst (λ (vs : List VarInfo). NamesAreRight (map (λ v. v.name) vs)) (sym (ap locals_if_any e)) own
@@ -214,10 +210,6 @@ globals_no_local n (v ∷ vs) rest = globals_no_local (suc n) vs rest
 abbrev Spelled : Column × VarInfo → Type 0
 Spelled c = IsTrue (names.is_spelled c.1.name)
 
-all_both : (xs ys : Columns) → AllByRecursion Spelled xs → AllByRecursion Spelled ys → AllByRecursion Spelled (xs ++ ys)
-all_both [] ys h k = k
-all_both (x ∷ xs) ys h k = (h.0, all_both xs ys h.1 k)
-
 globals_spelled : (n : ℕ) (vs : List VarInfo) → AllByRecursion (λ x. IsTrue (names.is_spelled x)) (map (λ v. v.name) vs) → AllByRecursion Spelled (globals_from n vs)
 globals_spelled n [] h = tt
 globals_spelled n (v ∷ vs) h = (h.0, globals_spelled (suc n) vs h.1)
@@ -246,15 +238,14 @@ has_names t v n q e =
     record {
       globals = subst (λ (xs : List (List ℕ)). AreDistinct xs) (sym global_is) globals.differ;
       locals = subst (λ (xs : List (List ℕ)). AreDistinct xs) (sym local_is) locals.differ;
-      spelled = all_both front (olds ++ rest) (globals_spelled 0 t.globals globals.spelled) (all_both olds rest (olds_spelled 0 t.globals globals.spelled) (locals_spelled 0 (locals_at t n) locals.spelled));
+      spelled = all_append Spelled front (olds ++ rest) (globals_spelled 0 t.globals globals.spelled) (all_append Spelled olds rest (olds_spelled 0 t.globals globals.spelled) (locals_spelled 0 (locals_at t n) locals.spelled));
     }
 
 frames_named : (t : TypedProgram) → IsTrue (is_valid t) → (k : ℕ) (qs : List TypedProcedure) → ((i : ℕ) (q : TypedProcedure) → slice_get qs i ≡ Some q → slice_get t.procs (k + i) ≡ Some q) →
     AllByRecursion HasNames (map (λ q. frame_at t q.0) (counted_procs k qs))
 frames_named t v k [] h = tt
 frames_named t v k (q ∷ qs) h =
-    let here : k + 0 ≡ k = omega arith in
-    (
+    let here : k + 0 ≡ k = omega arith in (
       has_names t v k q (subst (λ (m : ℕ). slice_get t.procs m ≡ Some q) here (h 0 q refl)),
       frames_named t v (suc k) qs (λ i r e. subst (λ (m : ℕ). slice_get t.procs m ≡ Some r) (let s : k + suc i ≡ suc k + i = omega arith in s) (h (suc i) r e)),
     )

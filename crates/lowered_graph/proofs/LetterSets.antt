@@ -1,12 +1,11 @@
 -- The letters and edges of arcs, from none on.
-use Rattle.std.proofs.Common.{◌≡◌, ◌↔◌, ◌∙◌, ◌⊎◌, ℕ, List, [], Some, inl, inr, refl, sym, ap, subst}
-use Rattle.std.specs.Prelude.{slice_get, IsTrue}
+use Rattle.std.proofs.Common.{◌≡◌, ◌∙◌, ℕ, List, Some, inl, inr, sym, ap, subst}
+use Rattle.std.specs.Prelude.{slice_get}
 use Rattle.nwa_base.specs.Members.{Member}
 use Rattle.nwa_base.specs.declared.letters.Letter.{Letter}
 use Rattle.letter_acts.specs.Acts.{PlainAct, back_act, letter_of}
-use Rattle.letter_acts.specs.Invariant.{AreDistinct}
 use Rattle.lowered_graph.specs.Arcs.{Arc}
-use Rattle.lowered_graph.specs.Letters.{same_act, no_letters, Lettered, with_arcs, lettered}
+use Rattle.lowered_graph.specs.Letters.{no_letters, lettered}
 use Rattle.lowered_graph.specs.LetterLaws as law
 use Rattle.lowered_graph.specs.LetterLaws.{InsideOf, CallOf, BackOf}
 use Rattle.lowered_graph.proofs.SameActs.{same_act_so, same_act_back}

@@ -1,3 +1,4 @@
+pub mod Lists
 pub mod SameActs
 pub mod ActNumbers
 pub mod LetterEdges

@@ -1,10 +1,8 @@
 -- The columns that an assignment or a call of a typed program writes differ.
-use Rattle.std.proofs.Common.{◌≡◌, ◌∙◌, ◌⊎◌, ℕ, zero, suc, ◌+◌, Bool, true, false, not, ◌&&◌, ◌||◌, List, [], ◌∷◌, ◌++◌, length, Option, None, Some, inl, inr, refl, sym, ap, subst, arith, IsTrue, Contains}
+use Rattle.std.proofs.Common.{◌≡◌, ◌∙◌, ℕ, ◌+◌, Bool, true, false, not, ◌&&◌, ◌||◌, List, [], ◌∷◌, ◌++◌, length, Option, None, Some, inl, inr, sym, ap, subst, IsTrue}
 use Rattle.std.specs.Prelude.{slice_get, take}
 use Rattle.std.specs.List.{list_all, list_any}
-use Rattle.std.proofs.lemmas.Bool.{and_parts, false≢true}
-use Rattle.std.proofs.lemmas.Option.{slice_get_within, get_or_from_slice_get}
-use Rattle.boogie_tree.specs.declared.span.Span.{Span}
+use Rattle.std.proofs.lemmas.Bool.{and_parts}
 use Rattle.boogie_tree.specs.declared.tree.Column.{Column}
 use Rattle.boogie_tree.specs.declared.tree.Column.TheVariants as columns
 use Rattle.typed_tree.specs.TypedTree.{TypedExpression, TypedInvariant, TypedStatement, Assert, Assume, Havoc, Assign, Call, If, While, Break, Goto, Return, Label, TypedBlock, Empty, Then, TypedProcedure, TypedProgram}
@@ -17,13 +15,14 @@ use Rattle.typing_rules.proofs.ValidLaws as valid
 use Rattle.nwa_base.specs.Members.{Member}
 use Rattle.nwa_base.proofs.LetterLemmas.{eqb-refl}
 use Rattle.letter_acts.specs.Invariant.{AreDistinct}
-use Rattle.boogie_points.specs.Points.{Todo, Start, Entry, Stage, Point, at_exit, before, past, Exit}
+use Rattle.boogie_points.specs.Points.{Todo, Start, Entry, Point, at_exit, before, past, Exit}
 use Rattle.boogie_points.specs.Actions as actions
 use Rattle.boogie_points.specs.Actions.{Action, next_part, action_at, stage_action, exit_action, checked, free_conditions, ensured_conditions, start_conditions, first_assertion, first_place}
 use Rattle.boogie_points.specs.Starts.{targets_of_statement, targets_at}
 use Rattle.boogie_places.specs.Places.{parts_from, at_statement, points_in, points_of, points_of_body, IsOneOf}
 use Rattle.lowered_graph.proofs.KnownPlaces.{IsKnown, point_either}
-use Rattle.lowered_graph.proofs.CallPlaces.{GoesOn, StatementWrites, BlockWrites, TodoWrites, IsNoExit, stage_on, part_back, known_stage, action_is}
+use Rattle.lowered_graph.proofs.CallPlaces.{GoesOn, StatementWrites, BlockWrites, TodoWrites, stage_on, part_back, known_stage, action_is}
+use Rattle.lowered_graph.proofs.Lists.{contained, not_both, or_right}
 
 -- ---- what differs
 
@@ -98,27 +97,16 @@ itself (columns.Global m) = eqb-refl m
 itself (columns.Old m) = eqb-refl m
 itself (columns.Local m) = eqb-refl m
 
-or_right : (a b : Bool) → b ≡ true → (a || b) ≡ true
-or_right true b e = refl
-or_right false b e = e
-
 any_of : (c : Column) (cs : List Column) → Member cs c → list_any (same_column c) cs ≡ true
 any_of c [] m = absurd m
 any_of c (d ∷ cs) (inl e) = ap (λ (b : Bool). b || list_any (same_column c) cs) (ap (same_column c) e ∙ itself c)
 any_of c (d ∷ cs) (inr m) = or_right (same_column c d) (list_any (same_column c) cs) (any_of c cs m)
-
-not_both : (b : Bool) → b ≡ true → not b ≡ true → ⊥
-not_both true e h = false≢true h
-not_both false e h = false≢true e
 
 differ_so : (cs : List Column) → all_differ same_column cs ≡ true → AreDistinct cs
 differ_so [] e = tt
 differ_so (c ∷ cs) e =
     let parts = and_parts (not (list_any (same_column c) cs)) (all_differ same_column cs) e in
     (λ m. not_both (list_any (same_column c) cs) (any_of c cs m) parts.0, differ_so cs parts.1)
-
-contained : {X : Type 0} (xs : List X) (n : ℕ) (x : X) → slice_get xs n ≡ Some x → Contains xs x
-contained xs n x e = (n, slice_get_within xs n x e, get_or_from_slice_get xs n x x e)
 
 -- each statement of a body
 statement_differs : (t : TypedProgram) → IsTrue (is_valid t) → (n : ℕ) (q : TypedProcedure) (b : TypedBlock) → slice_get t.procs n ≡ Some q → q.body ≡ Some b → (k : Context) (s : TypedStatement) →
@@ -170,15 +158,18 @@ mutual
       let xs : List Point = points_of procs x false id (at + 1) behind in
       let ys : List Point = points_of procs y false (id + block_assertions procs x) (at + 1 + block_points procs x) behind in
       elim m [
-        inl e ↦ subst (λ (p : Point). TodoDiffers p.todo) e tt |
-        inr l ↦ elim (point_either xs ys r l) [
-          inl i ↦ differ_of procs x (within c x) false id (at + 1) behind (λ k s d. h k s (in_then c k span g x y b s d)) r i |
-          inr i ↦ differ_of procs y (within c y) false (id + block_assertions procs x) (at + 1 + block_points procs x) behind (λ k s d. h k s (in_else c k span g x y b s d)) r i ] ]
+        | inl e ↦ subst (λ (p : Point). TodoDiffers p.todo) e tt
+        | inr l ↦ elim (point_either xs ys r l) [
+          | inl i ↦ differ_of procs x (within c x) false id (at + 1) behind (λ k s d. h k s (in_then c k span g x y b s d)) r i
+          | inr i ↦ differ_of procs y (within c y) false (id + block_assertions procs x) (at + 1 + block_points procs x) behind (λ k s d. h k s (in_else c k span g x y b s d)) r i
+        ]
+      ]
   differ_in procs (While span g is x) c b loop id at under h r m =
       let at_loop : Todo = record { rest = Then (While span g is x) b; of_loop = loop; id = id; at = at } in
       elim (point_either (parts_from (before (at_loop ∷ under)) 0 (length is + 1)) (points_of procs x true (id + plain_invariants is) (at + length is + 1) (at_loop ∷ under)) r m) [
-        inl i ↦ parts_differ (before (at_loop ∷ under)) 0 (length is + 1) r tt i |
-        inr i ↦ differ_of procs x (within (looped c) x) true (id + plain_invariants is) (at + length is + 1) (at_loop ∷ under) (λ k s d. h k s (in_loop c k span g is x b s d)) r i ]
+        | inl i ↦ parts_differ (before (at_loop ∷ under)) 0 (length is + 1) r tt i
+        | inr i ↦ differ_of procs x (within (looped c) x) true (id + plain_invariants is) (at + length is + 1) (at_loop ∷ under) (λ k s d. h k s (in_loop c k span g is x b s d)) r i
+      ]
   differ_in procs (Break span k) c b loop id at under h r m = only r (at_statement (Break span k) b loop id at under) tt m
   differ_in procs (Goto span ks) c b loop id at under h r m = only r (at_statement (Goto span ks) b loop id at under) tt m
   differ_in procs (Return span) c b loop id at under h r m = only r (at_statement (Return span) b loop id at under) tt m
@@ -188,8 +179,9 @@ mutual
   differ_of procs Empty c loop id at under h r m = absurd m
   differ_of procs (Then s b) c loop id at under h r m =
       elim (point_either (points_in procs s b loop id at under) (points_of procs b loop (id + assertions procs s) (at + points procs s) under) r m) [
-        inl i ↦ differ_in procs s c b loop id at under h r i |
-        inr i ↦ differ_of procs b c loop (id + assertions procs s) (at + points procs s) under (λ k x d. h k x (after c k s x b d)) r i ]
+        | inl i ↦ differ_in procs s c b loop id at under h r i
+        | inr i ↦ differ_of procs b c loop (id + assertions procs s) (at + points procs s) under (λ k x d. h k x (after c k s x b d)) r i
+      ]
 
 block_first : (c : Context) (b : TypedBlock) → AllDiffer c b → BlockDiffers b
 block_first c Empty h = tt
@@ -205,15 +197,18 @@ body_differs t v n q b e k r m =
     let c : Context = within (context_of t.globals t.procs q) b in
     let all : AllDiffer c b = λ j s d. statement_differs t v n q b e k j s d in
     elim (point_either (parts_from entry 0 free) (inner ++ exits) r m) [
-      inl i ↦ parts_differ entry 0 free r (block_first c b all) i |
-      inr h ↦ elim (point_either inner exits r h) [
-        inl i ↦ differ_of t.procs b c false (first_assertion t.procs n) (first_place t n + free) [] all r i |
-        inr i ↦ parts_differ at_exit 0 (length (ensured_conditions q.specs) + 1) r tt i ] ]
+      | inl i ↦ parts_differ entry 0 free r (block_first c b all) i
+      | inr h ↦ elim (point_either inner exits r h) [
+        | inl i ↦ differ_of t.procs b c false (first_assertion t.procs n) (first_place t n + free) [] all r i
+        | inr i ↦ parts_differ at_exit 0 (length (ensured_conditions q.specs) + 1) r tt i
+      ]
+    ]
 
 known_differs : (t : TypedProgram) → IsTrue (is_valid t) → (n : ℕ) (p : Point) → IsKnown t n p → TodoDiffers p.todo
 known_differs t v n p k = elim k.stands [
-  inl h ↦ parts_differ (record { stage = Start; todo = []; part = 0 }) 0 (length (start_conditions t k.procedure)) p tt h.1 |
-  inr h ↦ body_differs t v n k.procedure k.body k.is k.has_body p h ]
+  | inl h ↦ parts_differ (record { stage = Start; todo = []; part = 0 }) 0 (length (start_conditions t k.procedure)) p tt h.1
+  | inr h ↦ body_differs t v n k.procedure k.body k.is k.has_body p h
+]
 
 -- the targets of the call at a point
 pub targets_differ : (t : TypedProgram) → IsTrue (is_valid t) → (n : ℕ) (p : Point) → IsKnown t n p → AreDistinct (targets_at p.todo)
@@ -232,8 +227,9 @@ pub assigned_differ : (t : TypedProgram) → IsTrue (is_valid t) → (n : ℕ) (
 assigned_differ t v n p cs es next k e =
     let stage : stage_action t n k.procedure k.body p.stage p ≡ actions.Write cs es next = sym (action_is t n k.procedure k.body p k.is k.has_body) ∙ e in
     elim (known_stage t n p k) [
-      inl h ↦ subst (GoesOn AreDistinct t) stage (stage_on AreDistinct t n k.procedure k.body p.stage p h (todo_written p.todo (known_differs t v n p k))) |
-      inr h ↦ (let at_end : Point = record at_exit { part = h.0 } in
-        let at : stage_action t n k.procedure k.body Exit at_end ≡ actions.Write cs es next = subst (λ (r : Point). stage_action t n k.procedure k.body r.stage r ≡ actions.Write cs es next) h.2 stage in
-        absurd (exit_writes (slice_get (ensured_conditions k.procedure.specs) h.0)
-        (first_assertion t.procs n + (block_assertions t.procs k.body + plain_invariants (take h.0 (ensured_conditions k.procedure.specs)))) at_end cs es next at)) ]
+      | inl h ↦ subst (GoesOn AreDistinct t) stage (stage_on AreDistinct t n k.procedure k.body p.stage p h (todo_written p.todo (known_differs t v n p k)))
+      | inr h ↦ (let at_end : Point = record at_exit { part = h.0 } in
+          let at : stage_action t n k.procedure k.body Exit at_end ≡ actions.Write cs es next = subst (λ (r : Point). stage_action t n k.procedure k.body r.stage r ≡ actions.Write cs es next) h.2 stage in
+          absurd (exit_writes (slice_get (ensured_conditions k.procedure.specs) h.0)
+          (first_assertion t.procs n + (block_assertions t.procs k.body + plain_invariants (take h.0 (ensured_conditions k.procedure.specs)))) at_end cs es next at))
+    ]

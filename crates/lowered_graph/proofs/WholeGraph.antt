@@ -1,11 +1,8 @@
 -- The graph of a typed program is as its invariant asks, where the numbers of columns of its acts fit.
-use Rattle.std.proofs.Common.{◌≡◌, ◌∙◌, ◌⊎◌, ℕ, suc, ◌+◌, ◌-◌, List, [], ◌∷◌, length, Option, None, Some, inl, inr, refl, sym, ap, subst, arith, IsTrue}
+use Rattle.std.proofs.Common.{◌≡◌, ◌∙◌, ℕ, suc, ◌+◌, ◌-◌, List, [], ◌∷◌, length, Option, None, Some, inl, inr, refl, sym, ap, subst, arith, IsTrue}
 use Rattle.std.specs.Prelude.{slice_get}
 use Rattle.std.specs.List.{AllByRecursion}
-use Rattle.boogie_tree.specs.declared.span.Span.{Span}
-use Rattle.boogie_tree.specs.declared.tree.Ty.{Ty}
 use Rattle.boogie_tree.specs.declared.tree.Column.{Column}
-use Rattle.boogie_tree.specs.declared.tree.VarInfo.{VarInfo}
 use Rattle.typed_tree.specs.TypedTree.{TypedExpression, TypedInvariant, TypedProcedure, TypedProgram}
 use Rattle.typing_rules.specs.ValidProgram.{is_valid}
 use Rattle.letter_acts.specs.Invariant.{AreDistinct, IsGraph}
@@ -13,15 +10,15 @@ use Rattle.boogie_points.specs.Points.{Point, settled, past_first}
 use Rattle.boogie_points.specs.Actions as actions
 use Rattle.boogie_points.specs.Actions.{Action, action_at, called_action, unseen_action, chosen_columns, ensured_conditions}
 use Rattle.boogie_points.specs.Starts.{targets_at}
-use Rattle.lowered_steps.specs.Moves.{IsVariable, IsTarget, AreAssigned, AreTargets, results_of_procedure, IsTypedAction, IsNoImport, IsKnownCall, KnowsPoints}
+use Rattle.lowered_steps.specs.Moves.{AreAssigned, results_of_procedure, IsTypedAction, IsNoImport, IsKnownCall}
 use Rattle.lowered_imports.specs.Imports.{IsModified, IsKnownImport, later}
 use Rattle.lowered_imports.specs.KnownPoints.{IsPointOf, StandsAtImport, PointsAreKnown, ImportsAreKnown}
 use Rattle.lowered_graph.specs.Lowered.{lowered}
 use Rattle.lowered_graph.specs.Widths.{ActsFit}
 use Rattle.lowered_graph.proofs.KnownPlaces.{PlaceLaws, IsKnown}
 use Rattle.lowered_graph.proofs.Alphabet.{letters_of}
-use Rattle.lowered_graph.proofs.FrameTargets.{StandsAt, AreStanding, AreVarying, target_stands, targets_stand}
-use Rattle.lowered_graph.proofs.EdgeActs.{ImportWrites, ImportIsKnown, AssignWrites, ActionWrites, EdgeIsActed, edge_acted}
+use Rattle.lowered_graph.proofs.FrameTargets.{AreStanding, AreVarying, target_stands, targets_stand}
+use Rattle.lowered_graph.proofs.EdgeActs.{ImportWrites, ImportIsKnown, ActionWrites, edge_acted}
 use Rattle.lowered_graph.proofs.CallActs.{CallIsKnown}
 use Rattle.lowered_graph.proofs.GraphParts.{has_sites, has_procedures, are_frames}
 use Rattle.lowered_graph.proofs.GraphEdges.{WriteNoOlds, has_edges}
@@ -80,7 +77,6 @@ by_action t n p (actions.Grant f args e next) h d i = let k = i (λ m. m) in sub
 by_action t n p (actions.Finish f args targets next) h d i = let k = i (λ m. m) in subst (ImportIsKnown t n p) k.1 k.2
 by_action t n p actions.Leave h d i = tt
 
-
 unseen_callee : (o : Option Column) (i : Option TypedInvariant) (f : ℕ) (targets : List Column) (args : List TypedExpression) (here next : Point) → CalleeIs f (unseen_action o i f targets args here next)
 unseen_callee (Some c) i f targets args here next = refl
 unseen_callee None (Some i) f targets args here next = refl
@@ -99,7 +95,7 @@ import_at t n p k =
 pub actions_typed : (known : PointsAreKnown) (imports : ImportsAreKnown) (t : TypedProgram) → IsTrue (is_valid t) → ActionsAreTyped t
 actions_typed known imports t v = record {
   writes = λ n p k. by_action t n p (action_at t n p) ((known t v).typed n p (known_point t n p k)) (λ cs es next e. assigned_differ t v n p cs es next k e)
-    (λ i. import_at t n p (imports t n p v (known_point t n p k) i));
+      (λ i. import_at t n p (imports t n p v (known_point t n p k) i));
   calls = λ n p f args k e. call_known n p f args k ((known t v).calls n p f args (known_point t n p k) e);
   first = (known t v).constants_first;
 }

@@ -5,7 +5,6 @@ use Rattle.typing_rules.specs.ValidProgram.{is_valid}
 use Rattle.nwa_base.specs.declared.letters.Letter.{Letter}
 use Rattle.nwa_base.specs.Members.{Member}
 use Rattle.letter_acts.specs.declared.sites.Site.{Site}
-use Rattle.letter_acts.specs.Acts.{Alphabet}
 use Rattle.letter_acts.specs.Feasible.{IsFeasible, edges}
 use Rattle.letter_acts.specs.Ways.{Goes}
 use Rattle.letter_acts.specs.Invariant.{Graph, IsGraph, alphabet_of}
