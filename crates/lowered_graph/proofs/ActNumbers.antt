@@ -1,31 +1,21 @@
 -- The numbers of acts by first occurrence: each act has one, in each longer list of acts, too.
-use Rattle.std.proofs.Common.{◌≡◌, ◌∙◌, ◌⊎◌, ℕ, zero, suc, ◌+◌, ◌<◌, Bool, true, false, List, [], ◌∷◌, ◌++◌, length, Option, None, Some, inl, inr, refl, sym, ap, subst, arith, if◌then◌else◌}
+use Rattle.std.proofs.Common.{◌≡◌, ◌∙◌, ℕ, zero, suc, ◌+◌, Bool, true, false, List, [], ◌∷◌, ◌++◌, length, Option, None, Some, inl, inr, refl, sym, ap, subst, arith, if◌then◌else◌}
 use Rattle.std.specs.Prelude.{slice_get}
 use Rattle.std.proofs.lemmas.Bool.{false≢true}
 use Rattle.nwa_base.specs.Members.{Member}
 use Rattle.nwa_base.specs.Letters.{same_letter}
-use Rattle.nwa_base.specs.declared.letters.Letter.{Letter}
 use Rattle.nwa_base.proofs.LetterLemmas.{same_letter-refl}
 use Rattle.letter_acts.specs.Acts.{PlainAct, Alphabet, letter_of, named_act, act_of}
 use Rattle.letter_acts.specs.Invariant.{AreDistinct}
-use Rattle.letter_table.specs.Letters.{same_act, place_from, or_last, act_number, unless_there, with_act, numbered_letter}
+use Rattle.letter_table.specs.Letters.{same_act, place_from, or_last, act_number, unless_there, with_act}
 use Rattle.letter_table.proofs.SameActs.{same_act_so, same_act_back}
+use Rattle.lowered_graph.proofs.Lists.{before_or_last, get_front, get_member}
 
 -- ---- members of lists
-
-pub get_front : {X : Type 0} (xs ys : List X) (n : ℕ) (x : X) → slice_get xs n ≡ Some x → slice_get (xs ++ ys) n ≡ Some x
-get_front [] ys n x e = absurd (cc)
-get_front (y ∷ xs) ys zero x e = e
-get_front (y ∷ xs) ys (suc n) x e = get_front xs ys n x e
 
 get_last : {X : Type 0} (xs : List X) (x : X) → slice_get (xs ++ x ∷ []) (length xs) ≡ Some x
 get_last [] x = refl
 get_last (y ∷ xs) x = get_last xs x
-
-pub get_member : {X : Type 0} (xs : List X) (n : ℕ) (x : X) → slice_get xs n ≡ Some x → Member xs x
-get_member [] n x e = absurd (cc)
-get_member (y ∷ xs) zero x e = inl (cc)
-get_member (y ∷ xs) (suc n) x e = inr (get_member xs n x e)
 
 -- in a list without equal members an index is that of one member
 pub one_index : {X : Type 0} (xs : List X) (m n : ℕ) (x : X) → AreDistinct xs → slice_get xs m ≡ Some x → slice_get xs n ≡ Some x → m ≡ n
@@ -116,16 +106,10 @@ with_longer acts a = unless_longer acts a (place_from 0 acts a)
 
 -- ---- distinct acts
 
-last_or_before : {X : Type 0} (xs : List X) (y x : X) → Member (xs ++ y ∷ []) x → Member xs x ⊎ (y ≡ x)
-last_or_before [] y x (inl e) = inr e
-last_or_before [] y x (inr m) = absurd m
-last_or_before (z ∷ xs) y x (inl e) = inl (inl e)
-last_or_before (z ∷ xs) y x (inr m) = elim (last_or_before xs y x m) [ inl k ↦ inl (inr k) | inr e ↦ inr e ]
-
 distinct_last : {X : Type 0} (xs : List X) (y : X) → AreDistinct xs → (Member xs y → ⊥) → AreDistinct (xs ++ y ∷ [])
 distinct_last [] y d n = (λ m. m, tt)
 distinct_last (x ∷ xs) y d n = (
-  λ m. elim (last_or_before xs y x m) [ inl k ↦ d.0 k | inr e ↦ n (inl (sym e)) ],
+  λ m. elim (before_or_last xs y x m) [ inl k ↦ d.0 k | inr e ↦ n (inl (sym e)) ],
   distinct_last xs y d.1 (λ m. n (inr m)),
 )
 

@@ -1,12 +1,12 @@
 -- The alphabet of a program's graph: its frames, and what its letters mean.
-use Rattle.std.proofs.Common.{◌≡◌, ◌∙◌, ℕ, zero, suc, ◌+◌, ◌<◌, ℤ, List, [], ◌∷◌, map, length, Option, None, Some, refl, sym, ap, subst, arith}
+use Rattle.std.proofs.Common.{◌≡◌, ◌∙◌, ℕ, zero, suc, ◌+◌, ◌<◌, ℤ, List, [], ◌∷◌, map, length, Option, Some, refl, sym, ap, subst, arith}
 use Rattle.std.specs.Prelude.{slice_get, unwrap_or}
 use Rattle.std.proofs.lemmas.Option.{slice_get_within}
 use Rattle.lin_rows.specs.Rows.{LinearRow}
 use Rattle.typed_tree.specs.TypedTree.{TypedProcedure, TypedProgram}
 use Rattle.letter_acts.specs.Frames.{Columns}
 use Rattle.letter_acts.specs.Acts.{PlainAct, inside_act, call_act, back_act, Alphabet, frame_of, letter_of, act_of}
-use Rattle.letter_acts.specs.Meaning.{InsideLeads, CallLeads, BackLeads, Situation, IsIn, ActInside, ActCalls, ActReturns, ReturnsFrom}
+use Rattle.letter_acts.specs.Meaning.{InsideLeads, CallLeads, BackLeads, Situation, ActInside, ActCalls, ActReturns, ReturnsFrom}
 use Rattle.letter_acts.specs.Invariant.{alphabet_of}
 use Rattle.lowered_steps.specs.ProgramFrames.{frame_at}
 use Rattle.lowered_graph.specs.Lowered.{counted_procs, lowered}

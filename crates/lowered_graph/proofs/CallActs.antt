@@ -1,32 +1,31 @@
 -- The acts of calls and returns are as a graph keeps them.
-use Rattle.std.proofs.Common.{◌≡◌, ◌∙◌, ◌⊎◌, ℕ, zero, suc, ◌+◌, ◌-◌, ◌<◌, ◌≤◌, ◌^◌, ℤ, pos, Bool, true, false, not, ◌&&◌, List, [], ◌∷◌, ◌++◌, map, length, Option, None, Some, inl, inr, refl, sym, ap, subst, arith}
+use Rattle.std.proofs.Common.{◌≡◌, ◌∙◌, ◌⊎◌, ℕ, zero, suc, ◌+◌, ◌-◌, ◌<◌, ◌≤◌, ◌^◌, pos, Bool, true, false, not, List, [], ◌∷◌, ◌++◌, length, Option, Some, inl, inr, refl, sym, ap, subst, arith}
 use Rattle.std.specs.Prelude.{slice_get, take, drop, IsSomeAnd}
 use Rattle.std.specs.List.{AllByRecursion}
 use Rattle.std.specs.Option.{option_map}
-use Rattle.std.proofs.lemmas.List.{length-append}
 use Rattle.std.proofs.lemmas.Option.{slice_get_within}
-use Rattle.boogie_tree.specs.declared.tree.Ty.{Ty}
 use Rattle.boogie_tree.specs.declared.tree.Column.{Column}
 use Rattle.boogie_tree.specs.declared.tree.Column.TheVariants as columns
 use Rattle.boogie_tree.specs.declared.tree.VarInfo.{VarInfo}
 use Rattle.typed_tree.specs.TypedTree.{TypedExpression, Lit, Truth, Var, Old, Not, Neg, Bin, TypedProcedure, TypedProgram}
-use Rattle.lin_rows.specs.Rows.{LinearRow}
 use Rattle.letter_acts.specs.Frames.{Columns, added, globals_from, old_columns, locals_from, is_parameter, is_result, places, results_of}
-use Rattle.letter_acts.specs.Invariant.{AreDistinct, call_width, MayName, MayTarget, Take, type_at, written_by, BackIsActed}
-use Rattle.cond_jumps.specs.Conjunctions.{Conjunction, Plan, Just, With, listed}
-use Rattle.cond_jumps.specs.Forms.{Linear, Linears, number, column, after, minus}
+use Rattle.letter_acts.specs.Invariant.{AreDistinct, MayName, Take, type_at, written_by, BackIsActed}
+use Rattle.cond_jumps.specs.Conjunctions.{Conjunction, Just}
+use Rattle.cond_jumps.specs.Forms.{number, column}
 use Rattle.cond_jumps.specs.Comparisons.{equal, compared}
 use Rattle.cond_jumps.specs.Environments.{Environment}
 use Rattle.cond_jumps.specs.Frames.{frame_environment}
-use Rattle.cond_jumps.specs.Paths.{linear}
 use Rattle.boogie_run.specs.Needs.{locals_at, locals_if_any}
 use Rattle.lowered_steps.specs.ProgramFrames.{frame_at, width_at, number_in}
 use Rattle.lowered_steps.specs.Edges.{argument_sum, parameters_get, call_list, columns_before_locals, numbers_in}
 use Rattle.lowered_steps.specs.Moves.{AreArguments, AreTargets, results_of_procedure, HasParameters}
 use Rattle.lowered_steps.specs.Stacks.{IsAmong}
-use Rattle.lowered_graph.proofs.NamedColumns.{RowsName, AreNamed, IsNamed, SumNames, ListNames, EachNames, terms_so, column_names, equal_names, minus_names, PlanNames, with_names, always_names, linear_names}
-use Rattle.lowered_graph.proofs.FrameTargets.{StandsAt, AreStanding, target_stands, targets_stand, stands_type, standing_targets, standing_distinct}
+use Rattle.lowered_graph.proofs.NamedColumns.{RowsName, AreNamed, IsNamed, SumNames, ListNames, EachNames, column_names, equal_names, minus_names, PlanNames, with_names, always_names, linear_names}
+use Rattle.lowered_graph.proofs.FrameTargets.{local_place, AreStanding, target_stands, targets_stand, stands_type, standing_targets, standing_distinct}
 use Rattle.lowered_graph.proofs.EdgeActs.{frame_names, each_wider}
+use Rattle.lowered_graph.proofs.Lists.{get_behind}
+use Rattle.letter_acts.proofs.ListLemmas.{all_weaker}
+use Rattle.lowered_graph.proofs.StartLetter.{globals_count}
 
 -- ---- arguments
 
@@ -48,24 +47,6 @@ parameters_names A v s j (e ∷ es) h =
     (parameters_names A v s (suc j) es (λ c l u. h c (omega arith) (omega arith)))
 
 -- ---- parameters in the callee's frame
-
-get_behind : {X : Type 0} (xs ys : List X) (n : ℕ) (y : X) → slice_get ys n ≡ Some y → slice_get (xs ++ ys) (length xs + n) ≡ Some y
-get_behind [] ys n y e = let z : n ≡ 0 + n = omega arith in subst (λ (m : ℕ). slice_get ys m ≡ Some y) z e
-get_behind (x ∷ xs) ys n y e = let z : suc (length xs + n) ≡ suc (length xs) + n = omega arith in subst (λ (m : ℕ). slice_get (x ∷ (xs ++ ys)) m ≡ Some y) z (get_behind xs ys n y e)
-
-local_place : (k : ℕ) (vs : List VarInfo) (l : ℕ) (v : VarInfo) → slice_get vs l ≡ Some v → slice_get (locals_from k vs) l ≡ Some (columns.Local (k + l), v)
-local_place k [] l v e = absurd (cc)
-local_place k (w ∷ vs) zero v e =
-    let same : w ≡ v = cc in
-    let here : k ≡ k + 0 = omega arith in
-    λ i. Some (columns.Local (here i), same i)
-local_place k (w ∷ vs) (suc l) v e =
-    let next : suc k + l ≡ k + suc l = omega arith in
-    local_place (suc k) vs l v e ∙ ap (λ (m : ℕ). Some (columns.Local m, v)) next
-
-globals_count : (k : ℕ) (vs : List VarInfo) → length (globals_from k vs) ≡ length vs
-globals_count k [] = refl
-globals_count k (v ∷ vs) = ap suc (globals_count (suc k) vs)
 
 -- local l of a frame
 local_at : (t : TypedProgram) (f l : ℕ) (v : VarInfo) → slice_get (locals_at t f) l ≡ Some v → slice_get (frame_at t f) (columns_before_locals t + l) ≡ Some (columns.Local l, v)
@@ -141,10 +122,6 @@ named_may t n f k args cs w c (inr h) =
     let upper : c < width_at t n + width_at t f + k = h.1 in
     record { within = omega arith; parameter = λ a b. absurd (omega arith) }
 
-all_so : {X : Type 0} (P Q : X → Type 0) → ((x : X) → P x → Q x) → (xs : List X) → AllByRecursion P xs → AllByRecursion Q xs
-all_so P Q f [] h = tt
-all_so P Q f (x ∷ xs) h = (f x h.0, all_so P Q f xs h.1)
-
 among_all : {X : Type 0} (P : X → Type 0) (xs : List X) (x : X) → AllByRecursion P xs → IsAmong xs x → P x
 among_all P [] x h m = absurd m
 among_all P (y ∷ xs) x h (inl e) = subst P e h.0
@@ -156,8 +133,8 @@ pub call_may_name : (t : TypedProgram) (n f : ℕ) (args : List TypedExpression)
 call_may_name t n f args cs w c m =
     let A : ℕ → Type 0 = IsNamed (CallColumns t n (length args)) (width_at t n + width_at t f) c.helpers in
     let named : RowsName A c.rows = among_all (λ d. RowsName (IsNamed (CallColumns t n (length args)) (width_at t n + width_at t f) d.helpers) d.rows) (call_list t n f args) c (call_named t n f args) m in
-    all_so (λ r. AreNamed A r.terms) (λ r. AllByRecursion (λ x. MayName (frame_at t n) (frame_at t f) c.helpers x.0) r.terms)
-    (λ r h. all_so (λ x. A x.0) (λ x. MayName (frame_at t n) (frame_at t f) c.helpers x.0) (λ x k. named_may t n f c.helpers args cs w x.0 k) r.terms h) c.rows named
+    all_weaker (λ r. AreNamed A r.terms) (λ r. AllByRecursion (λ x. MayName (frame_at t n) (frame_at t f) c.helpers x.0) r.terms)
+    (λ r h. all_weaker (λ x. A x.0) (λ x. MayName (frame_at t n) (frame_at t f) c.helpers x.0) (λ x k. named_may t n f c.helpers args cs w x.0 k) r.terms h) c.rows named
 
 -- ---- results
 
@@ -250,8 +227,7 @@ takes_from t n f j (suc count) (v ∷ vs) (w ∷ rest) (c ∷ cs) h e g =
     let result : type_at (frame_at t f) (columns_before_locals t + j) ≡ Some w.ty = type_of_local t f j w local in
     let next : columns_before_locals t + suc j ≡ suc (columns_before_locals t + j) = omega arith in
     let later : (i : ℕ) (x : VarInfo) → slice_get rest i ≡ Some x → slice_get (locals_at t f) (suc j + i) ≡ Some x =
-    λ i x k. subst (λ (m : ℕ). slice_get (locals_at t f) m ≡ Some x) (let z : j + suc i ≡ suc j + i = omega arith in z) (h (suc i) x k) in
-    (
+    λ i x k. subst (λ (m : ℕ). slice_get (locals_at t f) m ≡ Some x) (let z : j + suc i ≡ suc j + i = omega arith in z) (h (suc i) x k) in (
       target ∙ ap (λ (x : VarInfo). Some x.ty) same ∙ sym result,
       subst (λ (m : ℕ). Take (frame_at t n) (frame_at t f) (numbers_in (frame_at t n) cs) (count_up m (length rest))) next (takes_from t n f (suc j) count vs rest cs later more g.1),
     )

@@ -1,5 +1,5 @@
 -- The acts of inside edges are as a graph keeps them.
-use Rattle.std.proofs.Common.{◌≡◌, ◌∙◌, ◌⊎◌, ℕ, zero, suc, ◌+◌, ◌<◌, ◌≤◌, ℤ, pos, Bool, true, false, not, List, [], ◌∷◌, ◌++◌, map, length, Option, None, Some, inl, inr, refl, sym, ap, subst, arith, nat_eq, if◌then◌else◌}
+use Rattle.std.proofs.Common.{◌≡◌, ◌∙◌, ℕ, zero, suc, ◌+◌, ◌<◌, ◌≤◌, ℤ, Bool, true, false, List, [], ◌∷◌, ◌++◌, map, length, Option, None, Some, inl, inr, refl, sym, subst, arith, nat_eq, if◌then◌else◌}
 use Rattle.std.specs.Prelude.{slice_get, take, drop}
 use Rattle.std.specs.List.{AllByRecursion}
 use Rattle.std.specs.Option.{option_map}
@@ -13,13 +13,12 @@ use Rattle.math_facts.specs.Terms.{IsBelow}
 use Rattle.lin_rows.specs.Rows.{LinearRow}
 use Rattle.letter_acts.specs.Frames.{Columns}
 use Rattle.letter_acts.specs.Invariant.{AreDistinct, MayWrite, IsOld, inside_width}
-use Rattle.cond_jumps.specs.Conjunctions.{Conjunction, Plan, Just, With, listed, joined}
-use Rattle.cond_jumps.specs.Forms.{Linear, Linears, number, column}
+use Rattle.cond_jumps.specs.Conjunctions.{Conjunction, listed, joined}
+use Rattle.cond_jumps.specs.Forms.{Linear}
 use Rattle.cond_jumps.specs.Environments.{Environment}
 use Rattle.cond_jumps.specs.Frames.{place_from, or_else, if_constant, place, sum_at, plan_at, frame_environment}
-use Rattle.cond_jumps.specs.Comparisons.{never}
 use Rattle.cond_jumps.specs.Passing.{Standing, Same, Numbered, Passed, standing_sum, standing_plan, standing_environment, passed, left_in, locals_of, imported}
-use Rattle.cond_jumps.specs.Paths.{linear, paths, assigns}
+use Rattle.cond_jumps.specs.Paths.{paths}
 use Rattle.cond_jumps.specs.Lists.{path_list, assign_list}
 use Rattle.cond_jumps.proofs.FrameLemmas.{IsFound, found_from}
 use Rattle.boogie_points.specs.Points.{Point, settled, past_first}
@@ -32,6 +31,7 @@ use Rattle.lowered_steps.specs.Edges.{Spot, At, Wrong, Edge, leads, no_rows, is_
 use Rattle.lowered_steps.specs.Stacks.{IsAmong}
 use Rattle.lowered_graph.proofs.NamedColumns.{RowsName, AreNamed, IsNamed, SumNames, ListNames, EachNames, terms_so, rows_so, column_names, named_names, PlanNames, with_names, always_names, linear_names, paths_names, assigns_names}
 use Rattle.lowered_graph.proofs.FrameTargets.{StandsAt, AreStanding, AreVarying, stands_written, stands_new, standing_written, standing_new, standing_distinct, import_may_write, import_new, import_distinct}
+use Rattle.lowered_graph.proofs.Lists.{among_either}
 
 -- ---- what stands for the columns
 
@@ -248,7 +248,7 @@ assign_within frame written es e =
     let bound : ℕ = length frame + length es in
     list_within frame written bound (assign_list frame (length es) es) (omega arith)
     (assigns_names (λ c. c < bound) (frame_environment frame) (each_wider (λ c. c < length frame) (λ c. c < bound) (frame_environment frame) (λ c l. (let k : c < length frame = l in omega arith)) (frame_names frame)) (length frame) es
-      (λ c l u. u) bound)
+    (λ c l u. u) bound)
 
 no_rows_within : (frame : Columns) (written : List ℕ) → AreWithin frame written no_rows
 no_rows_within frame written = (tt, tt)
@@ -335,16 +335,12 @@ leads_acted t n written (c ∷ cs) to e w h (inl is) =
     subst (EdgeIsActed t n) is one
 leads_acted t n written (c ∷ cs) to e w h (inr m) = leads_acted t n written cs to e w h.1 m
 
-among_either : {X : Type 0} (xs ys : List X) (x : X) → IsAmong (xs ++ ys) x → IsAmong xs x ⊎ IsAmong ys x
-among_either [] ys x m = inr m
-among_either (y ∷ xs) ys x (inl e) = inl (inl e)
-among_either (y ∷ xs) ys x (inr m) = elim (among_either xs ys x m) [ inl h ↦ inl (inr h) | inr h ↦ inr h ]
-
 skips_acted : (t : TypedProgram) (n : ℕ) (ways : List Point) (e : Edge) → IsAmong (skips ways) e → EdgeIsActed t n e
 skips_acted t n [] e m = absurd m
 skips_acted t n (p ∷ ways) e m = elim (among_either (leads [] no_rows (At p)) (skips ways) e m) [
-  inl h ↦ leads_acted t n [] no_rows (At p) e (nothing_written t n) (no_rows_within (frame_at t n) []) h |
-  inr h ↦ skips_acted t n ways e h ]
+  | inl h ↦ leads_acted t n [] no_rows (At p) e (nothing_written t n) (no_rows_within (frame_at t n) []) h
+  | inr h ↦ skips_acted t n ways e h
+]
 
 import_acted : (t : TypedProgram) (n : ℕ) (o : Option TypedProcedure) (args : List TypedExpression) (cs : List Column) (next : Point) (e : Edge) → ((q : TypedProcedure) → o ≡ Some q → ImportWrites t n q cs) →
     IsAmong (import_edges (frame_at t n) t.globals o args (numbers_in (frame_at t n) cs) next) e → EdgeIsActed t n e
@@ -358,8 +354,9 @@ import_acted t n (Some q) args cs next e h m =
 
 both_acted : (t : TypedProgram) (n : ℕ) (xs ys : List Conjunction) (to other : Spot) (e : Edge) → AreWithin (frame_at t n) [] xs → AreWithin (frame_at t n) [] ys → IsAmong (leads [] xs to ++ leads [] ys other) e → EdgeIsActed t n e
 both_acted t n xs ys to other e h k m = elim (among_either (leads [] xs to) (leads [] ys other) e m) [
-  inl i ↦ leads_acted t n [] xs to e (nothing_written t n) h i |
-  inr i ↦ leads_acted t n [] ys other e (nothing_written t n) k i ]
+  | inl i ↦ leads_acted t n [] xs to e (nothing_written t n) h i
+  | inr i ↦ leads_acted t n [] ys other e (nothing_written t n) k i
+]
 
 pub edge_acted : (t : TypedProgram) (n : ℕ) (p : Point) (a : Action) (e : Edge) → ActionWrites t n p a → IsAmong (inside_edges t n p a) e → EdgeIsActed t n e
 edge_acted t n p (actions.Check id at c next) e w m = both_acted t n (path_list (frame_at t n) c true) (path_list (frame_at t n) c false) (At next) (Wrong id) e (path_within (frame_at t n) c true) (path_within (frame_at t n) c false) m

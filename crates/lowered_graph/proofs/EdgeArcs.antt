@@ -1,25 +1,26 @@
 -- The arcs of a place are those of its edges and calls.
-use Rattle.std.proofs.Common.{◌≡◌, ◌∙◌, ◌⊎◌, ℕ, true, false, List, [], ◌∷◌, ◌++◌, map, Option, None, Some, inl, inr, refl, sym, ap, subst}
+use Rattle.std.proofs.Common.{◌≡◌, ◌⊎◌, ℕ, true, false, List, [], ◌∷◌, map, Option, None, Some, inl, inr, refl, sym, ap, subst}
 use Rattle.std.specs.Prelude.{slice_get}
 use Rattle.boogie_tree.specs.declared.span.Span.{Span}
 use Rattle.boogie_tree.specs.declared.tree.Column.{Column}
 use Rattle.typed_tree.specs.TypedTree.{TypedExpression, TypedProcedure, TypedProgram}
 use Rattle.nwa_base.specs.Members.{Member}
 use Rattle.letter_acts.specs.declared.sites.Site.{Site}
-use Rattle.letter_acts.specs.Acts.{PlainAct, inside_act, call_act}
+use Rattle.letter_acts.specs.Acts.{inside_act, call_act}
 use Rattle.cond_jumps.specs.Conjunctions.{Conjunction}
 use Rattle.boogie_points.specs.Points.{Point, settled, past_first}
 use Rattle.boogie_points.specs.Actions as actions
 use Rattle.boogie_points.specs.Actions.{Action, action_at}
 use Rattle.boogie_points.specs.Starts.{point_of_call, targets_at}
-use Rattle.boogie_places.specs.Places.{Place, program_places, IsPlaceIn, IsOneOf, onward}
+use Rattle.boogie_places.specs.Places.{Place, IsPlaceIn, IsOneOf, onward}
 use Rattle.lowered_steps.specs.ProgramFrames.{frame_at}
 use Rattle.lowered_steps.specs.Edges.{Spot, At, Wrong, Edge, leads, no_rows, import_edges, import_written, import_list, skips, inside_edges, passed_list, call_list, numbers_in}
-use Rattle.cond_jumps.specs.Lists.{path_list, assign_list}
+use Rattle.cond_jumps.specs.Lists.{path_list}
 use Rattle.lowered_steps.specs.Stacks.{IsAmong}
-use Rattle.lowered_graph.specs.Arcs.{place_number, spot_number, error_place, return_place, start_arc, inside_arcs, call_arcs, action_arcs, arcs_at, arcs_of, program_arcs}
+use Rattle.lowered_graph.specs.Arcs.{place_number, spot_number, return_place, inside_arcs, action_arcs, arcs_at, arcs_of}
 use Rattle.letter_table.specs.Letters.{Arc, inside_arc, call_arc}
-use Rattle.lowered_graph.specs.Lowered.{site, action_sites, sites_of, program_sites}
+use Rattle.lowered_graph.specs.Lowered.{site, action_sites, sites_of}
+use Rattle.lowered_graph.proofs.Lists.{among_either, member_either, member_front, member_rest}
 
 -- ---- lists
 
@@ -33,25 +34,6 @@ map_among f [] y m = absurd m
 map_among f (x ∷ xs) y (inl e) = (x, inl refl, e)
 map_among f (x ∷ xs) y (inr m) = let h = map_among f xs y m in (h.0, inr h.1, h.2)
 
-among_either : {X : Type 0} (xs ys : List X) (x : X) → IsAmong (xs ++ ys) x → IsAmong xs x ⊎ IsAmong ys x
-among_either [] ys x m = inr m
-among_either (y ∷ xs) ys x (inl e) = inl (inl e)
-among_either (y ∷ xs) ys x (inr m) = elim (among_either xs ys x m) [ inl h ↦ inl (inr h) | inr h ↦ inr h ]
-
-member_front : {X : Type 0} (xs ys : List X) (x : X) → Member xs x → Member (xs ++ ys) x
-member_front [] ys x m = absurd m
-member_front (y ∷ xs) ys x (inl e) = inl e
-member_front (y ∷ xs) ys x (inr m) = inr (member_front xs ys x m)
-
-member_rest : {X : Type 0} (xs ys : List X) (x : X) → Member ys x → Member (xs ++ ys) x
-member_rest [] ys x m = m
-member_rest (y ∷ xs) ys x m = inr (member_rest xs ys x m)
-
-member_either : {X : Type 0} (xs ys : List X) (x : X) → Member (xs ++ ys) x → Member xs x ⊎ Member ys x
-member_either [] ys x m = inr m
-member_either (y ∷ xs) ys x (inl e) = inl (inl e)
-member_either (y ∷ xs) ys x (inr m) = elim (member_either xs ys x m) [ inl h ↦ inl (inr h) | inr h ↦ inr h ]
-
 -- ---- the arcs of a program
 
 pub arcs_so : (t : TypedProgram) (ps : List Place) (p : Place) (a : Arc) → IsPlaceIn ps p → Member (arcs_at t p) a → Member (arcs_of t ps) a
@@ -62,8 +44,9 @@ arcs_so t (r ∷ ps) p a (inr i) m = member_rest (arcs_at t r) (arcs_of t ps) a 
 pub arcs_back : (t : TypedProgram) (ps : List Place) (a : Arc) → Member (arcs_of t ps) a → (p : Place) × IsPlaceIn ps p × Member (arcs_at t p) a
 arcs_back t [] a m = absurd m
 arcs_back t (r ∷ ps) a m = elim (member_either (arcs_at t r) (arcs_of t ps) a m) [
-  inl h ↦ (r, inl refl, h) |
-  inr h ↦ (let g = arcs_back t ps a h in (g.0, inr g.1, g.2)) ]
+  | inl h ↦ (r, inl refl, h)
+  | inr h ↦ (let g = arcs_back t ps a h in (g.0, inr g.1, g.2))
+]
 
 pub sites_so : (t : TypedProgram) (ps : List Place) (p : Place) (s : ℕ × Site) → IsPlaceIn ps p → Member (action_sites t p.proc (action_at t p.proc p.point)) s → Member (sites_of t ps) s
 sites_so t [] p s i m = absurd i
@@ -157,8 +140,9 @@ lands_there t n p a written cs to e l m = subst (Lands t n p a) (led_to written 
 skips_land : (ways : List Point) (e : Edge) → IsAmong (skips ways) e → (r : Point) × IsOneOf ways r × (At r ≡ e.to)
 skips_land [] e m = absurd m
 skips_land (r ∷ ways) e m = elim (among_either (leads [] no_rows (At r)) (skips ways) e m) [
-  inl h ↦ (r, inl refl, led_to [] no_rows (At r) e h) |
-  inr h ↦ (let g = skips_land ways e h in (g.0, inr g.1, g.2)) ]
+  | inl h ↦ (r, inl refl, led_to [] no_rows (At r) e h)
+  | inr h ↦ (let g = skips_land ways e h in (g.0, inr g.1, g.2))
+]
 
 import_lands : (t : TypedProgram) (n : ℕ) (p : Point) (a : Action) (o : Option TypedProcedure) (args : List TypedExpression) (targets : List ℕ) (next : Point) (e : Edge) →
     IsOneOf (onward t.procs p a) next → IsAmong (import_edges (frame_at t n) t.globals o args targets next) e → Lands t n p a e.to
@@ -170,14 +154,16 @@ pub edge_lands : (t : TypedProgram) (n : ℕ) (p : Point) (a : Action) (e : Edge
 edge_lands t n p (actions.Check id at c next) e m =
     let a : Action = actions.Check id at c next in
     elim (among_either (leads [] (path_list (frame_at t n) c true) (At next)) (leads [] (path_list (frame_at t n) c false) (Wrong id)) e m) [
-      inl h ↦ lands_there t n p a [] (path_list (frame_at t n) c true) (At next) e (inl refl) h |
-      inr h ↦ lands_there t n p a [] (path_list (frame_at t n) c false) (Wrong id) e (at, inl refl) h ]
+      | inl h ↦ lands_there t n p a [] (path_list (frame_at t n) c true) (At next) e (inl refl) h
+      | inr h ↦ lands_there t n p a [] (path_list (frame_at t n) c false) (Wrong id) e (at, inl refl) h
+    ]
 edge_lands t n p (actions.Suppose c next) e m = lands_there t n p (actions.Suppose c next) [] (path_list (frame_at t n) c true) (At next) e (inl refl) m
 edge_lands t n p (actions.Demand id at c args next) e m =
     let a : Action = actions.Demand id at c args next in
     elim (among_either (leads [] (passed_list (frame_at t n) args c true) (At next)) (leads [] (passed_list (frame_at t n) args c false) (Wrong id)) e m) [
-      inl h ↦ lands_there t n p a [] (passed_list (frame_at t n) args c true) (At next) e (inl refl) h |
-      inr h ↦ lands_there t n p a [] (passed_list (frame_at t n) args c false) (Wrong id) e (at, inl refl) h ]
+      | inl h ↦ lands_there t n p a [] (passed_list (frame_at t n) args c true) (At next) e (inl refl) h
+      | inr h ↦ lands_there t n p a [] (passed_list (frame_at t n) args c false) (Wrong id) e (at, inl refl) h
+    ]
 edge_lands t n p (actions.Write cs es next) e m = subst (Lands t n p (actions.Write cs es next)) (written_to t n p cs es next e m) (inl refl)
   where
     written_to : (t : TypedProgram) (n : ℕ) (p : Point) (cs : List Column) (es : List TypedExpression) (next : Point) (e : Edge) → IsAmong (inside_edges t n p (actions.Write cs es next)) e → At next ≡ e.to
@@ -186,8 +172,9 @@ edge_lands t n p (actions.Guess c next) e m = lands_there t n p (actions.Guess c
 edge_lands t n p (actions.Test c hit miss) e m =
     let a : Action = actions.Test c hit miss in
     elim (among_either (leads [] (path_list (frame_at t n) c true) (At hit)) (leads [] (path_list (frame_at t n) c false) (At miss)) e m) [
-      inl h ↦ lands_there t n p a [] (path_list (frame_at t n) c true) (At hit) e (inl refl) h |
-      inr h ↦ lands_there t n p a [] (path_list (frame_at t n) c false) (At miss) e (inr (inl refl)) h ]
+      | inl h ↦ lands_there t n p a [] (path_list (frame_at t n) c true) (At hit) e (inl refl) h
+      | inr h ↦ lands_there t n p a [] (path_list (frame_at t n) c false) (At miss) e (inr (inl refl)) h
+    ]
 edge_lands t n p (actions.Pick ways) e m = let h = skips_land ways e m in subst (Lands t n p (actions.Pick ways)) h.2 h.1
 edge_lands t n p (actions.Jump next) e m = let h = skips_land (next ∷ []) e m in subst (Lands t n p (actions.Jump next)) h.2 h.1
 edge_lands t n p (actions.Enter f args) e m = absurd m

@@ -1,9 +1,9 @@
 -- Where the columns that may be written stand in the frames of a program.
-use Rattle.std.proofs.Common.{◌≡◌, ◌∙◌, ◌⊎◌, ℕ, zero, suc, ◌+◌, ◌<◌, ◌≤◌, Bool, true, false, not, ◌||◌, nat_eq, List, [], ◌∷◌, ◌++◌, map, length, Option, None, Some, inl, inr, refl, sym, ap, subst, arith, if◌then◌else◌}
+use Rattle.std.proofs.Common.{◌≡◌, ◌∙◌, ◌⊎◌, ℕ, zero, suc, ◌+◌, Bool, true, false, not, ◌||◌, nat_eq, List, [], ◌∷◌, ◌++◌, length, Option, Some, inl, inr, refl, sym, ap, subst, arith, if◌then◌else◌}
 use Rattle.std.specs.Prelude.{slice_get, filter, IsSomeAnd}
 use Rattle.std.specs.List.{AllByRecursion}
 use Rattle.std.specs.Option.{option_map}
-use Rattle.std.proofs.lemmas.Bool.{false≢true, eqb-true}
+use Rattle.std.proofs.lemmas.Bool.{false≢true}
 use Rattle.boogie_tree.specs.declared.tree.Ty.{Ty}
 use Rattle.boogie_tree.specs.declared.tree.Column.{Column}
 use Rattle.boogie_tree.specs.declared.tree.Column.TheVariants as columns
@@ -18,7 +18,9 @@ use Rattle.cond_jumps.proofs.FrameLemmas.{IsFound, found_from}
 use Rattle.boogie_run.specs.Needs.{locals_at}
 use Rattle.lowered_steps.specs.ProgramFrames.{frame_at, number_in, number_if_any}
 use Rattle.lowered_steps.specs.Edges.{is_in, those_not_in, import_written, numbers_in}
-use Rattle.lowered_steps.specs.Moves.{IsVariable, IsTarget, AreTargets}
+use Rattle.lowered_steps.specs.Moves.{IsTarget, AreTargets}
+use Rattle.lowered_graph.proofs.Lists.{all_get, from_zero, get_behind, not_both}
+use Rattle.letter_acts.proofs.ListLemmas.{all_append}
 
 -- ---- the columns of a frame
 
@@ -31,8 +33,7 @@ StandsFor t n (columns.Local l, v) = slice_get (locals_at t n) l ≡ Some v
 globals_stand : (t : TypedProgram) (n k : ℕ) (vs : List VarInfo) → ((i : ℕ) (v : VarInfo) → slice_get vs i ≡ Some v → slice_get t.globals (k + i) ≡ Some v) → AllByRecursion (StandsFor t n) (globals_from k vs)
 globals_stand t n k [] h = tt
 globals_stand t n k (v ∷ vs) h =
-    let here : k + 0 ≡ k = omega arith in
-    (
+    let here : k + 0 ≡ k = omega arith in (
       subst (λ (m : ℕ). slice_get t.globals m ≡ Some v) here (h 0 v refl),
       globals_stand t n (suc k) vs (λ i w e. subst (λ (m : ℕ). slice_get t.globals m ≡ Some w) (let s : k + suc i ≡ suc k + i = omega arith in s) (h (suc i) w e)),
     )
@@ -51,28 +52,15 @@ olds_stand t n k (v ∷ vs) h =
 locals_stand : (t : TypedProgram) (n k : ℕ) (vs : List VarInfo) → ((i : ℕ) (v : VarInfo) → slice_get vs i ≡ Some v → slice_get (locals_at t n) (k + i) ≡ Some v) → AllByRecursion (StandsFor t n) (locals_from k vs)
 locals_stand t n k [] h = tt
 locals_stand t n k (v ∷ vs) h =
-    let here : k + 0 ≡ k = omega arith in
-    (
+    let here : k + 0 ≡ k = omega arith in (
       subst (λ (m : ℕ). slice_get (locals_at t n) m ≡ Some v) here (h 0 v refl),
       locals_stand t n (suc k) vs (λ i w e. subst (λ (m : ℕ). slice_get (locals_at t n) m ≡ Some w) (let s : k + suc i ≡ suc k + i = omega arith in s) (h (suc i) w e)),
     )
 
-all_both : {X : Type 0} (P : X → Type 0) (xs ys : List X) → AllByRecursion P xs → AllByRecursion P ys → AllByRecursion P (xs ++ ys)
-all_both P [] ys h k = k
-all_both P (x ∷ xs) ys h k = (h.0, all_both P xs ys h.1 k)
-
-pub all_get : {X : Type 0} (P : X → Type 0) (xs : List X) (i : ℕ) (x : X) → AllByRecursion P xs → slice_get xs i ≡ Some x → P x
-all_get P [] i x h e = absurd (cc)
-all_get P (y ∷ ys) zero x h e = let k : y ≡ x = cc in subst P k h.0
-all_get P (y ∷ ys) (suc i) x h e = all_get P ys i x h.1 e
-
-from_zero : {X : Type 0} (xs : List X) (i : ℕ) (x : X) → slice_get xs i ≡ Some x → slice_get xs (0 + i) ≡ Some x
-from_zero xs i x e = subst (λ (m : ℕ). slice_get xs m ≡ Some x) (let s : i ≡ 0 + i = omega arith in s) e
-
 pub frame_stands : (t : TypedProgram) (n : ℕ) → AllByRecursion (StandsFor t n) (frame_at t n)
 frame_stands t n =
-    all_both (StandsFor t n) (globals_from 0 t.globals) (old_columns 0 t.globals ++ locals_from 0 (locals_at t n)) (globals_stand t n 0 t.globals (from_zero t.globals))
-    (all_both (StandsFor t n) (old_columns 0 t.globals) (locals_from 0 (locals_at t n)) (olds_stand t n 0 t.globals (from_zero t.globals)) (locals_stand t n 0 (locals_at t n) (from_zero (locals_at t n))))
+    all_append (StandsFor t n) (globals_from 0 t.globals) (old_columns 0 t.globals ++ locals_from 0 (locals_at t n)) (globals_stand t n 0 t.globals (from_zero t.globals))
+    (all_append (StandsFor t n) (old_columns 0 t.globals) (locals_from 0 (locals_at t n)) (olds_stand t n 0 t.globals (from_zero t.globals)) (locals_stand t n 0 (locals_at t n) (from_zero (locals_at t n))))
 
 -- ---- where a column is found
 
@@ -111,11 +99,7 @@ global_stands t n g v e =
     let z : 0 + g ≡ g = omega arith in
     global_place 0 t.globals (old_columns 0 t.globals ++ locals_from 0 (locals_at t n)) g v e ∙ ap (λ (m : ℕ). Some (columns.Global m, v)) z
 
-get_behind : {X : Type 0} (xs ys : List X) (n : ℕ) (y : X) → slice_get ys n ≡ Some y → slice_get (xs ++ ys) (length xs + n) ≡ Some y
-get_behind [] ys n y e = let z : n ≡ 0 + n = omega arith in subst (λ (m : ℕ). slice_get ys m ≡ Some y) z e
-get_behind (x ∷ xs) ys n y e = let z : suc (length xs + n) ≡ suc (length xs) + n = omega arith in subst (λ (m : ℕ). slice_get (x ∷ (xs ++ ys)) m ≡ Some y) z (get_behind xs ys n y e)
-
-local_place : (k : ℕ) (vs : List VarInfo) (l : ℕ) (v : VarInfo) → slice_get vs l ≡ Some v → slice_get (locals_from k vs) l ≡ Some (columns.Local (k + l), v)
+pub local_place : (k : ℕ) (vs : List VarInfo) (l : ℕ) (v : VarInfo) → slice_get vs l ≡ Some v → slice_get (locals_from k vs) l ≡ Some (columns.Local (k + l), v)
 local_place k [] l v e = absurd (cc)
 local_place k (w ∷ vs) zero v e =
     let same : w ≡ v = cc in
@@ -237,11 +221,10 @@ modified_written t n (g ∷ gs) h =
 
 modified_new : (t : TypedProgram) (n : ℕ) (gs : List ℕ) → AreVarying t gs → AllByRecursion (λ c. IsOld (frame_at t n) c → ⊥) gs
 modified_new t n [] h = tt
-modified_new t n (g ∷ gs) h =
-    (
-      λ old. (let is : false ≡ true = subst (λ (o : Option (Column × VarInfo)). IsSomeAnd o (λ v. is_old_column v.0 ≡ true)) (global_stands t n g h.0.0 h.0.1) old in false≢true is),
-      modified_new t n gs h.1,
-    )
+modified_new t n (g ∷ gs) h = (
+  λ old. (let is : false ≡ true = subst (λ (o : Option (Column × VarInfo)). IsSomeAnd o (λ v. is_old_column v.0 ≡ true)) (global_stands t n g h.0.0 h.0.1) old in false≢true is),
+  modified_new t n gs h.1,
+)
 
 all_filtered : (P : ℕ → Type 0) (test : ℕ → Bool) (xs : List ℕ) → AllByRecursion P xs → AllByRecursion P (filter test xs)
 all_filtered P test [] h = tt
@@ -286,20 +269,16 @@ apart_distinct (x ∷ xs) ys d e f = (λ m. elim (member_either xs ys x m) [ inl
     member_either (y ∷ xs) ys x (inl e) = inl (inl e)
     member_either (y ∷ xs) ys x (inr m) = elim (member_either xs ys x m) [ inl h ↦ inl (inr h) | inr h ↦ inr h ]
 
-not_true : (b : Bool) → b ≡ true → not b ≡ true → ⊥
-not_true true e h = false≢true h
-not_true false e h = false≢true e
-
 pub import_may_write : (t : TypedProgram) (n : ℕ) (modified : List ℕ) (cs : List Column) → AreVarying t modified → AreStanding t n cs →
     AllByRecursion (MayWrite (frame_at t n)) (import_written modified (numbers_in (frame_at t n) cs))
 import_may_write t n modified cs h k =
-    all_both (MayWrite (frame_at t n)) modified (those_not_in modified (numbers_in (frame_at t n) cs)) (modified_written t n modified h)
+    all_append (MayWrite (frame_at t n)) modified (those_not_in modified (numbers_in (frame_at t n) cs)) (modified_written t n modified h)
     (all_filtered (MayWrite (frame_at t n)) (λ c. not (is_in modified c)) (numbers_in (frame_at t n) cs) (standing_written t n cs k))
 
 pub import_new : (t : TypedProgram) (n : ℕ) (modified : List ℕ) (cs : List Column) → AreVarying t modified → AreStanding t n cs →
     AllByRecursion (λ c. IsOld (frame_at t n) c → ⊥) (import_written modified (numbers_in (frame_at t n) cs))
 import_new t n modified cs h k =
-    all_both (λ c. IsOld (frame_at t n) c → ⊥) modified (those_not_in modified (numbers_in (frame_at t n) cs)) (modified_new t n modified h)
+    all_append (λ c. IsOld (frame_at t n) c → ⊥) modified (those_not_in modified (numbers_in (frame_at t n) cs)) (modified_new t n modified h)
     (all_filtered (λ c. IsOld (frame_at t n) c → ⊥) (λ c. not (is_in modified c)) (numbers_in (frame_at t n) cs) (standing_new t n cs k))
 
 pub import_distinct : (t : TypedProgram) (n : ℕ) (modified : List ℕ) (cs : List Column) → AreDistinct modified → AreStanding t n cs → AreDistinct cs →
@@ -307,4 +286,4 @@ pub import_distinct : (t : TypedProgram) (n : ℕ) (modified : List ℕ) (cs : L
 import_distinct t n modified cs m k d =
     let test : ℕ → Bool = λ c. not (is_in modified c) in
     apart_distinct modified (filter test (numbers_in (frame_at t n) cs)) m (filtered_distinct test (numbers_in (frame_at t n) cs) (standing_distinct t n cs k d))
-    (λ y i j. not_true (is_in modified y) (member_in modified y i) (filtered_member test (numbers_in (frame_at t n) cs) y j).1)
+    (λ y i j. not_both (is_in modified y) (member_in modified y i) (filtered_member test (numbers_in (frame_at t n) cs) y j).1)

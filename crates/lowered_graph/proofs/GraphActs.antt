@@ -1,5 +1,5 @@
 -- All acts of a program's graph are as the graph keeps them, where what its actions write is typed and the numbers of columns fit.
-use Rattle.std.proofs.Common.{◌≡◌, ◌∙◌, ◌⊎◌, ℕ, zero, suc, ◌+◌, ◌<◌, ◌≤◌, ◌^◌, ℤ, pos, negsuc, false, List, [], ◌∷◌, ◌++◌, map, length, Option, None, Some, inl, inr, refl, sym, ap, subst, arith, IsTrue}
+use Rattle.std.proofs.Common.{◌≡◌, ◌∙◌, ◌⊎◌, ℕ, suc, ◌+◌, ◌<◌, ◌≤◌, ◌^◌, pos, negsuc, false, List, [], ◌∷◌, ◌++◌, map, length, Option, None, Some, inl, inr, refl, sym, ap, subst, arith, IsTrue}
 use Rattle.std.specs.Prelude.{slice_get, IsSomeAnd}
 use Rattle.std.specs.List.{AllByRecursion}
 use Rattle.std.proofs.lemmas.List.{length-append, length-map}
@@ -11,36 +11,35 @@ use Rattle.typed_tree.specs.TypedTree.{TypedExpression, TypedProcedure, TypedPro
 use Rattle.typing_rules.specs.ValidProgram.{is_valid}
 use Rattle.typing_rules.proofs.ValidLaws as valid
 use Rattle.math_facts.specs.Terms.{IsBelow}
-use Rattle.lin_rows.specs.Rows.{LinearRow}
 use Rattle.nwa_base.specs.Members.{Member}
 use Rattle.letter_acts.specs.Frames.{Columns, ConstantsFirst, globals_from, old_columns, locals_from, olds_from, olds_of}
 use Rattle.letter_acts.specs.Acts.{PlainAct, inside_act, call_act, back_act, frame_of}
-use Rattle.letter_acts.specs.Invariant.{AreDistinct, MayWrite, IsOld, inside_width, InsideIsActed, call_width, MayName, CallIsActed, written_by, BackIsActed, BackIsActedFrom, IsActed}
-use Rattle.cond_jumps.specs.Conjunctions.{Conjunction}
+use Rattle.letter_acts.specs.Invariant.{AreDistinct, MayWrite, inside_width, InsideIsActed, MayName, CallIsActed, written_by, BackIsActed, BackIsActedFrom, IsActed}
 use Rattle.cond_jumps.proofs.FormLemmas.{below-summed}
 use Rattle.boogie_points.specs.Points.{Point, settled, past_first}
 use Rattle.boogie_points.specs.Actions as actions
 use Rattle.boogie_points.specs.Actions.{action_at}
 use Rattle.boogie_points.specs.Starts.{point_of_call, start_point_of, targets_at}
 use Rattle.boogie_run.specs.Needs.{locals_at}
-use Rattle.lowered_steps.specs.ProgramFrames.{frame_at, width_at}
-use Rattle.lowered_steps.specs.Edges.{Edge, inside_edges, numbers_in}
-use Rattle.lowered_steps.specs.Stacks.{IsAmong}
-use Rattle.lowered_graph.specs.Arcs.{place_number, spot_number, return_place, entering_rows, entering, start_arc, program_arcs}
+use Rattle.lowered_steps.specs.ProgramFrames.{frame_at}
+use Rattle.lowered_steps.specs.Edges.{Edge, numbers_in}
+use Rattle.lowered_graph.specs.Arcs.{place_number, spot_number, return_place, entering_rows, entering, program_arcs}
 use Rattle.letter_table.specs.Letters.{Arc, inside_arc, call_arc, place_from, act_number, unless_there, with_act, Lettered, with_arc, with_arcs, no_letters, lettered}
 use Rattle.lowered_graph.specs.Lowered.{lowered}
 use Rattle.lowered_graph.specs.Widths.{back_width, act_width, ActsFit}
-use Rattle.lowered_graph.proofs.ActNumbers.{act_numbered, longer_get, longer_than, with_longer, longer_itself}
+use Rattle.lowered_graph.proofs.ActNumbers.{act_numbered, longer_get, longer_than, with_longer}
 use Rattle.lowered_graph.proofs.LetterEdges.{arcs_longer}
 use Rattle.lowered_graph.proofs.KnownPlaces.{IsKnown}
 use Rattle.lowered_graph.proofs.EdgeArcs.{EdgeOfArc}
-use Rattle.lowered_graph.proofs.CallPlaces.{entered_has_body}
 use Rattle.lowered_graph.proofs.Alphabet.{letters_of, frame_is, proc_exists}
 use Rattle.lowered_graph.proofs.Joined.{from_start_or_place}
 use Rattle.lowered_graph.proofs.JoinedBack.{inside_parts, no_inside, CallFrom, call_from}
-use Rattle.lowered_graph.proofs.FrameTargets.{StandsFor, frame_stands, all_get}
+use Rattle.lowered_graph.proofs.FrameTargets.{StandsFor, frame_stands}
 use Rattle.lowered_graph.proofs.EdgeActs.{ActionWrites, EdgeIsActed, edge_acted}
 use Rattle.lowered_graph.proofs.CallActs.{CallIsKnown, call_may_name, back_acted}
+use Rattle.lowered_graph.proofs.Lists.{before_or_last}
+use Rattle.letter_acts.proofs.ListLemmas.{all_weaker}
+use Rattle.lowered_graph.proofs.StartLetter.{globals_count}
 
 -- what typing says of the actions of a program
 pub record ActionsAreTyped (t : TypedProgram) : Type 0 where
@@ -59,12 +58,6 @@ later_act : (b : Arc) (arcs : List Arc) (acts : List PlainAct) (a : PlainAct) �
 later_act b arcs acts a (of_inside q e m) = of_inside q e (inr m)
 later_act b arcs acts a (of_call q e x targets k m) = of_call q e x targets k (inr m)
 later_act b arcs acts a (of_back q e x c targets k call m i j) = of_back q e x c targets k call (inr m) i j
-
-before_or_last : (xs : List PlainAct) (y x : PlainAct) → Member (xs ++ y ∷ []) x → Member xs x ⊎ (y ≡ x)
-before_or_last [] y x (inl e) = inr e
-before_or_last [] y x (inr m) = absurd m
-before_or_last (z ∷ xs) y x (inl e) = inl (inl e)
-before_or_last (z ∷ xs) y x (inr m) = elim (before_or_last xs y x m) [ inl k ↦ inl (inr k) | inr e ↦ inr e ]
 
 unless_member : (acts : List PlainAct) (b a : PlainAct) (o : Option ℕ) → Member (unless_there acts b o) a → Member acts a ⊎ (b ≡ a)
 unless_member acts b a None m = before_or_last acts b a m
@@ -85,17 +78,22 @@ called_number d q b e x targets k arcs =
 acts_from : (d : Lettered) (arcs : List Arc) (a : PlainAct) → Member (with_arcs d arcs).acts a → Member d.acts a ⊎ ActOf arcs (with_arcs d arcs).acts a
 acts_from d [] a m = inl m
 acts_from d (inside_arc q b e ∷ arcs) a m = elim (acts_from (with_arc d (inside_arc q b e)) arcs a m) [
-  inl k ↦ elim (with_member d.acts b a k) [
-    inl old ↦ inl old |
-    inr is ↦ inr (of_inside q e (inl (ap (λ (c : PlainAct). inside_arc q c e) is))) ] |
-  inr h ↦ inr (later_act (inside_arc q b e) arcs (with_arcs (with_arc d (inside_arc q b e)) arcs).acts a h) ]
+  | inl k ↦ elim (with_member d.acts b a k) [
+    | inl old ↦ inl old
+    | inr is ↦ inr (of_inside q e (inl (ap (λ (c : PlainAct). inside_arc q c e) is)))
+  ]
+  | inr h ↦ inr (later_act (inside_arc q b e) arcs (with_arcs (with_arc d (inside_arc q b e)) arcs).acts a h)
+]
 acts_from d (call_arc q b e x targets k ∷ arcs) a m = elim (acts_from (with_arc d (call_arc q b e x targets k)) arcs a m) [
-  inl i ↦ elim (with_member (with_act d.acts b) (back_act (act_number d.acts b) targets) a i) [
-    inl j ↦ elim (with_member d.acts b a j) [
-      inl old ↦ inl old |
-      inr is ↦ inr (of_call q e x targets k (inl (ap (λ (c : PlainAct). call_arc q c e x targets k) is))) ] |
-    inr is ↦ inr (of_back q e x b targets k (act_number d.acts b) (inl refl) (called_number d q b e x targets k arcs) is) ] |
-  inr h ↦ inr (later_act (call_arc q b e x targets k) arcs (with_arcs (with_arc d (call_arc q b e x targets k)) arcs).acts a h) ]
+  | inl i ↦ elim (with_member (with_act d.acts b) (back_act (act_number d.acts b) targets) a i) [
+    | inl j ↦ elim (with_member d.acts b a j) [
+      | inl old ↦ inl old
+      | inr is ↦ inr (of_call q e x targets k (inl (ap (λ (c : PlainAct). call_arc q c e x targets k) is)))
+    ]
+    | inr is ↦ inr (of_back q e x b targets k (act_number d.acts b) (inl refl) (called_number d q b e x targets k arcs) is)
+  ]
+  | inr h ↦ inr (later_act (call_arc q b e x targets k) arcs (with_arcs (with_arc d (call_arc q b e x targets k)) arcs).acts a h)
+]
 
 -- ---- the letter of the start
 
@@ -107,8 +105,7 @@ olds_standing t n k ((columns.Global g, v) ∷ cs) s h =
     olds_standing t n (suc k) cs s.1 (λ i d e. subst (λ (m : ℕ). slice_get (frame_at t n) m ≡ Some d) (let z : k + suc i ≡ suc k + i = omega arith in z) (h (suc i) d e))
 olds_standing t n k ((columns.Old g, v) ∷ cs) s h =
     let here : k + 0 ≡ k = omega arith in
-    let stands : slice_get (frame_at t n) k ≡ Some (columns.Old g, v) = subst (λ (m : ℕ). slice_get (frame_at t n) m ≡ Some (columns.Old g, v)) here (h 0 (columns.Old g, v) refl) in
-    (
+    let stands : slice_get (frame_at t n) k ≡ Some (columns.Old g, v) = subst (λ (m : ℕ). slice_get (frame_at t n) m ≡ Some (columns.Old g, v)) here (h 0 (columns.Old g, v) refl) in (
       (
         subst (λ (o : Option (Column × VarInfo)). IsSomeAnd o (λ v. v.1.constant ≡ false)) (sym stands) s.0.1,
         slice_get_within t.globals g v s.0.0,
@@ -140,14 +137,6 @@ entering_below m k [] h l = tt
 entering_below m k (o ∷ os) h l =
     (below-summed m ((o.1, negsuc 0) ∷ (k, pos 1) ∷ []) (h.0, ((let b : k < m = omega arith in b), tt)), entering_below m (suc k) os h.1 (omega arith))
 
-all_so : {X : Type 0} (P Q : X → Type 0) → ((x : X) → P x → Q x) → (xs : List X) → AllByRecursion P xs → AllByRecursion Q xs
-all_so P Q f [] h = tt
-all_so P Q f (x ∷ xs) h = (f x h.0, all_so P Q f xs h.1)
-
-globals_count : (k : ℕ) (vs : List VarInfo) → length (globals_from k vs) ≡ length vs
-globals_count k [] = refl
-globals_count k (v ∷ vs) = ap suc (globals_count (suc k) vs)
-
 entering_acted : (t : TypedProgram) (n : ℕ) (q : TypedProcedure) → slice_get t.procs n ≡ Some q → act_width (letters_of t) (entering n (frame_at t n)) ≤ 2 ^ 32 → IsActed (letters_of t) (entering n (frame_at t n))
 entering_acted t n q e fit =
     let frame : Columns = frame_at t n in
@@ -161,7 +150,7 @@ entering_acted t n q e fit =
     let first : length (globals_from 0 t.globals) ≡ length t.globals = globals_count 0 t.globals in
     let may : AllByRecursion (MayWrite frame) written = firsts_of (MayWrite frame) (λ o. MayWrite frame o.0 × (o.1 < length t.globals)) os (λ o h. h.0) standing in
     let small : AllByRecursion (λ o. o.1 < inside_width frame written 0) os =
-    all_so (λ o. MayWrite frame o.0 × (o.1 < length t.globals)) (λ o. o.1 < inside_width frame written 0) (λ o h. (let l : o.1 < length t.globals = h.1 in omega arith)) os standing in
+    all_weaker (λ o. MayWrite frame o.0 × (o.1 < length t.globals)) (λ o. o.1 < inside_width frame written 0) (λ o h. (let l : o.1 < length t.globals = h.1 in omega arith)) os standing in
     let within : AllByRecursion (λ r. IsBelow (inside_width frame written 0) r.terms) (entering_rows (length frame) os) = entering_below (inside_width frame written 0) (length frame) os small (omega arith) in
     record {
       proc_exists = proc_exists t n q e;
@@ -205,7 +194,7 @@ call_acted t w a q to from targets behind c fit =
       callee_exists = proc_exists t f known.procedure known.is;
       numbers_fit = subst (λ (b : PlainAct). act_width (letters_of t) b ≤ 2 ^ 32) (sym c.parts.act) fit;
       may_name = subst (λ (g : Columns). AllByRecursion (λ r. AllByRecursion (λ x. MayName g (frame_of (letters_of t) f) c.rows.helpers x.0) r.terms) c.rows.rows) (sym caller)
-        (subst (λ (g : Columns). AllByRecursion (λ r. AllByRecursion (λ x. MayName (frame_at t n) g c.rows.helpers x.0) r.terms) c.rows.rows) (sym callee) may);
+          (subst (λ (g : Columns). AllByRecursion (λ r. AllByRecursion (λ x. MayName (frame_at t n) g c.rows.helpers x.0) r.terms) c.rows.rows) (sym callee) may);
     } in
     subst (IsActed (letters_of t)) c.parts.act one
 
@@ -235,14 +224,16 @@ return_acted t w b q to from targets behind call c is fit =
 
 act_acted : (t : TypedProgram) → IsTrue (is_valid t) → ActionsAreTyped t → (a : PlainAct) → ActOf (program_arcs t) (letters_of t).acts a → act_width (letters_of t) a ≤ 2 ^ 32 → IsActed (letters_of t) a
 act_acted t v w a (of_inside q e m) fit = elim (from_start_or_place t v (inside_arc q a e) m) [
-  inl start ↦ (let entry = valid.entry t v in
-    let first : Point = start_point_of t (slice_get t.procs t.entry) in
-    let parts = inside_parts 0 q (entering t.entry (frame_at t t.entry)) a (place_number t t.entry first) e start in
-    subst (IsActed (letters_of t)) parts.1 (entering_acted t t.entry entry.0 entry.2 (subst (λ (b : PlainAct). act_width (letters_of t) b ≤ 2 ^ 32) (sym parts.1) fit))) |
-  inr k ↦ elim k.3 [
-    inl edge ↦ inside_acted t w a q e k.0 k.1 k.2 edge fit |
-    inr c ↦ absurd (no_inside q (place_number t k.0 k.1) a (call_act k.0 c.callee c.rows.helpers c.rows.rows) e (place_number t c.callee (point_of_call t c.callee (slice_get t.procs c.callee)))
-      (return_place t c.callee) (numbers_in (frame_at t k.0) (targets_at k.1.todo)) (place_number t k.0 (settled (past_first t.procs k.1.todo))) (sym c.is)) ] ]
+  | inl start ↦ (let entry = valid.entry t v in
+      let first : Point = start_point_of t (slice_get t.procs t.entry) in
+      let parts = inside_parts 0 q (entering t.entry (frame_at t t.entry)) a (place_number t t.entry first) e start in
+      subst (IsActed (letters_of t)) parts.1 (entering_acted t t.entry entry.0 entry.2 (subst (λ (b : PlainAct). act_width (letters_of t) b ≤ 2 ^ 32) (sym parts.1) fit)))
+  | inr k ↦ elim k.3 [
+    | inl edge ↦ inside_acted t w a q e k.0 k.1 k.2 edge fit
+    | inr c ↦ absurd (no_inside q (place_number t k.0 k.1) a (call_act k.0 c.callee c.rows.helpers c.rows.rows) e (place_number t c.callee (point_of_call t c.callee (slice_get t.procs c.callee)))
+        (return_place t c.callee) (numbers_in (frame_at t k.0) (targets_at k.1.todo)) (place_number t k.0 (settled (past_first t.procs k.1.todo))) (sym c.is))
+  ]
+]
 act_acted t v w a (of_call q e x targets k m) fit = call_acted t w a q e x targets k (call_from t v a q e x targets k m) fit
 act_acted t v w a (of_back q e x b targets k call m is same) fit =
     subst (IsActed (letters_of t)) same (return_acted t w b q e x targets k call (call_from t v b q e x targets k m) is (subst (λ (c : PlainAct). act_width (letters_of t) c ≤ 2 ^ 32) (sym same) fit))

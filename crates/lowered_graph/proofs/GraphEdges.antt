@@ -1,20 +1,19 @@
 -- The edges of a program's graph lead where their acts say, and each place has one call letter.
-use Rattle.std.proofs.Common.{◌≡◌, ◌≢◌, ◌∙◌, ◌⊎◌, ℕ, zero, suc, ◌+◌, ◌-◌, ◌<◌, ◌≤◌, List, [], ◌∷◌, ◌++◌, map, length, Option, None, Some, inl, inr, refl, sym, ap, subst, arith, IsTrue}
+use Rattle.std.proofs.Common.{◌≡◌, ◌≢◌, ◌∙◌, ℕ, zero, suc, ◌+◌, ◌≤◌, List, [], ◌∷◌, ◌++◌, map, length, Option, Some, inl, inr, refl, sym, ap, subst, arith, IsTrue}
 use Rattle.std.specs.Prelude.{slice_get, IsSome}
 use Rattle.std.specs.List.{AllByRecursion}
 use Rattle.std.specs.Option.{option_map}
-use Rattle.std.proofs.lemmas.List.{length-append, length-map}
+use Rattle.std.proofs.lemmas.List.{length-map}
 use Rattle.boogie_tree.specs.declared.span.Span.{Span}
 use Rattle.typed_tree.specs.TypedTree.{TypedExpression, TypedBlock, TypedProcedure, TypedProgram}
 use Rattle.typing_rules.specs.ValidProgram.{is_valid}
-use Rattle.typing_rules.proofs.ValidLaws as valid
 use Rattle.nwa_base.specs.Members.{Member}
 use Rattle.nwa_base.specs.declared.letters.Letter.{Letter}
 use Rattle.letter_acts.specs.declared.sites.Site.{Site}
-use Rattle.letter_acts.specs.Frames.{Columns, olds_of}
-use Rattle.letter_acts.specs.Acts.{PlainAct, inside_act, call_act, back_act, letter_of, act_of, frame_of}
-use Rattle.letter_acts.specs.Invariant.{AreDistinct, IsPlaceOf, InsideStays, IsOld, WritesNoOld, InsideFollows, CallEnters, CallFollows, BackLeaves, BackFollows, HasOneCall, HasEdges}
-use Rattle.cond_jumps.specs.Conjunctions.{Conjunction, Plan, Just, With, listed, joined}
+use Rattle.letter_acts.specs.Frames.{Columns}
+use Rattle.letter_acts.specs.Acts.{PlainAct, inside_act, call_act, back_act, act_of, frame_of}
+use Rattle.letter_acts.specs.Invariant.{IsPlaceOf, InsideStays, IsOld, WritesNoOld, InsideFollows, CallEnters, CallFollows, BackLeaves, BackFollows, HasOneCall, HasEdges}
+use Rattle.cond_jumps.specs.Conjunctions.{Conjunction, listed, joined}
 use Rattle.cond_jumps.specs.Forms.{Linear, column, after}
 use Rattle.cond_jumps.specs.Comparisons.{equal}
 use Rattle.cond_jumps.specs.Environments.{Environment}
@@ -27,26 +26,24 @@ use Rattle.boogie_places.specs.Places.{count_from, program_places}
 use Rattle.lowered_steps.specs.ProgramFrames.{frame_at, width_at}
 use Rattle.lowered_steps.specs.Edges.{Spot, At, Wrong, Edge, inside_edges, argument_sum, columns_before_locals, parameters_get, call_list, numbers_in}
 use Rattle.lowered_steps.specs.Stacks.{IsAmong}
-use Rattle.lowered_graph.specs.Arcs.{place_number, first_error, error_place, spot_number, return_point, return_place, entering, start_arc, program_arcs}
-use Rattle.letter_table.specs.Letters.{Arc, inside_arc, call_arc, lettered}
-use Rattle.lowered_graph.specs.LetterLaws.{IsLetterOf, InsideOf, CallOf, BackOf}
+use Rattle.lowered_graph.specs.Arcs.{place_number, error_place, spot_number, return_place, entering, start_arc, program_arcs}
+use Rattle.letter_table.specs.Letters.{inside_arc, lettered}
+use Rattle.lowered_graph.specs.LetterLaws.{InsideOf, CallOf, BackOf}
 use Rattle.lowered_graph.specs.Lowered.{site, program_sites, entry_of, exit_of, place_owners, lowered}
-use Rattle.lowered_graph.proofs.ActNumbers.{one_index, get_front}
+use Rattle.lowered_graph.proofs.ActNumbers.{one_index}
 use Rattle.lowered_graph.proofs.LetterSets.{acts_differ, insides_are, calls_are, backs_are}
 use Rattle.lowered_graph.proofs.KnownPlaces.{PlaceLaws, IsKnown, known_start, known_entry, known_number, known_once}
 use Rattle.lowered_graph.proofs.CallPlaces.{entered_has_body}
-use Rattle.lowered_graph.proofs.EdgeArcs.{EdgeOfArc, CallOfArc, edge_lands}
+use Rattle.lowered_graph.proofs.EdgeArcs.{EdgeOfArc, edge_lands}
 use Rattle.lowered_graph.proofs.Alphabet.{letters_of, counted_get, frame_is}
 use Rattle.lowered_graph.proofs.Joined.{IsKnownSpot, from_start_or_place, spot_known, behind_known}
-use Rattle.lowered_graph.proofs.JoinedBack.{inside_parts, no_inside, letter_act, call_arc_of, CallFrom, call_from}
+use Rattle.lowered_graph.proofs.JoinedBack.{inside_parts, no_inside, letter_act, CallFrom, call_from}
 use Rattle.lowered_graph.proofs.SiteNumbers.{number_of_site, sites_numbered}
 use Rattle.lowered_graph.proofs.GraphParts.{owner_is}
+use Rattle.lowered_graph.proofs.Lists.{get_behind}
+use Rattle.letter_acts.proofs.ListLemmas.{all_from_members}
 
 -- ---- owners of places
-
-get_behind : {X : Type 0} (xs ys : List X) (n : ℕ) (y : X) → slice_get ys n ≡ Some y → slice_get (xs ++ ys) (length xs + n) ≡ Some y
-get_behind [] ys n y e = let z : n ≡ 0 + n = omega arith in subst (λ (m : ℕ). slice_get ys m ≡ Some y) z e
-get_behind (x ∷ xs) ys n y e = let z : suc (length xs + n) ≡ suc (length xs) + n = omega arith in subst (λ (m : ℕ). slice_get (x ∷ (xs ++ ys)) m ≡ Some y) z (get_behind xs ys n y e)
 
 by_number : (ss : List (ℕ × Site)) (n k : ℕ) (s : ℕ × Site) → map number_of_site ss ≡ count_from n k → Member ss s → (i : ℕ) × (number_of_site s ≡ n + i) × (slice_get (map (λ s. s.0) ss) i ≡ Some s.0)
 by_number [] n k s e m = absurd m
@@ -128,11 +125,13 @@ inside_follows l t v w edge m =
     let h : InsideOf (program_arcs t) (lettered (program_arcs t)).acts edge.0 edge.1 edge.2 = (insides_are (program_arcs t) edge.0 edge.2 edge.1).0 m in
     let found : act_of (letters_of t) edge.1 ≡ Some h.act = letter_act t edge.1 h.act h.letter in
     elim (from_start_or_place t v (inside_arc edge.0 h.act edge.2) h.arc) [
-      inl start ↦ start_follows l t v edge.1 h.act edge.0 edge.2 found start |
-      inr k ↦ elim k.3 [
-        inl e ↦ edge_follows l t v w edge.1 h.act edge.0 edge.2 k.0 k.1 k.2 found e |
-        inr c ↦ absurd (no_inside edge.0 (place_number t k.0 k.1) h.act (call_act k.0 c.callee c.rows.helpers c.rows.rows) edge.2 (place_number t c.callee (point_of_call t c.callee (slice_get t.procs c.callee)))
-          (return_place t c.callee) (numbers_in (frame_at t k.0) (targets_at k.1.todo)) (place_number t k.0 (settled (past_first t.procs k.1.todo))) (sym c.is)) ] ]
+      | inl start ↦ start_follows l t v edge.1 h.act edge.0 edge.2 found start
+      | inr k ↦ elim k.3 [
+        | inl e ↦ edge_follows l t v w edge.1 h.act edge.0 edge.2 k.0 k.1 k.2 found e
+        | inr c ↦ absurd (no_inside edge.0 (place_number t k.0 k.1) h.act (call_act k.0 c.callee c.rows.helpers c.rows.rows) edge.2 (place_number t c.callee (point_of_call t c.callee (slice_get t.procs c.callee)))
+            (return_place t c.callee) (numbers_in (frame_at t k.0) (targets_at k.1.todo)) (place_number t k.0 (settled (past_first t.procs k.1.todo))) (sym c.is))
+      ]
+    ]
 
 -- ---- calls
 
@@ -181,8 +180,7 @@ back_follows l t v edge m =
     let to : place_number t n next ≡ edge.3 = w.parts.behind in
     let call : edge.2.call ≡ h.call = ap (λ (a : Letter). a.call) h.letter.1 in
     let act_is : slice_get (letters_of t).acts edge.2.call ≡ Some (call_act n f w.rows.helpers w.rows.rows) = ap (slice_get (letters_of t).acts) call ∙ h.called ∙ ap Some (sym w.parts.act) in
-    let leaves : (slice_get (lowered t).exits f ≡ Some (Some edge.0)) × IsPlaceOf (place_owners t) n edge.1 × IsPlaceOf (place_owners t) n edge.3 =
-    (
+    let leaves : (slice_get (lowered t).exits f ≡ Some (Some edge.0)) × IsPlaceOf (place_owners t) n edge.1 × IsPlaceOf (place_owners t) n edge.3 = (
       exit_got t f b.0 b.1 b.2 b.3 ∙ ap (λ (m : ℕ). Some (Some m)) w.parts.from,
       subst (IsPlaceOf (place_owners t) n) w.parts.place (owner_is l t v n w.point w.known),
       subst (IsPlaceOf (place_owners t) n) to (owner_is l t v n next known),
@@ -231,7 +229,7 @@ one_act l t v act bct q to from targets behind to' from' targets' behind' w u =
     let call = entered_same (action_at t w.proc w.point) w.callee u.callee w.args u.args w.action there in
     let in_w : IsAmong (call_list t w.proc w.callee w.args) u.rows =
     subst (λ (n : ℕ). IsAmong (call_list t n w.callee w.args) u.rows) (sym same.0)
-      (subst (λ (f : ℕ). IsAmong (call_list t u.proc f w.args) u.rows) (sym call.0) (subst (λ (es : List TypedExpression). IsAmong (call_list t u.proc u.callee es) u.rows) (sym call.1) u.among)) in
+    (subst (λ (f : ℕ). IsAmong (call_list t u.proc f w.args) u.rows) (sym call.0) (subst (λ (es : List TypedExpression). IsAmong (call_list t u.proc u.callee es) u.rows) (sym call.1) u.among)) in
     let rows : w.rows ≡ u.rows = one_rows t w.proc w.callee w.args w.rows u.rows w.among in_w in
     sym w.parts.act ∙ (λ i. call_act (same.0 i) (call.0 i) (rows i).helpers (rows i).rows) ∙ u.parts.act
 
@@ -257,14 +255,10 @@ has_one_call l t v = record {
       ∙ sym (ap (λ (z : Letter). z.call) g.letter.1);
 }
 
-all_of_members : {X : Type 0} (P : X → Type 0) (xs : List X) → ((x : X) → Member xs x → P x) → AllByRecursion P xs
-all_of_members P [] f = tt
-all_of_members P (x ∷ xs) f = (f x (inl refl), all_of_members P xs (λ y m. f y (inr m)))
-
 pub has_edges : (l : PlaceLaws) (t : TypedProgram) → IsTrue (is_valid t) → WriteNoOlds t → HasEdges (lowered t)
 has_edges l t v w = record {
-  insides = all_of_members (InsideFollows (lowered t)) (lowered t).automaton.insides (λ e m. inside_follows l t v w e m);
-  calls = all_of_members (CallFollows (lowered t)) (lowered t).automaton.calls (λ e m. call_follows l t v e m);
-  backs = all_of_members (BackFollows (lowered t)) (lowered t).automaton.backs (λ e m. back_follows l t v e m);
+  insides = all_from_members (InsideFollows (lowered t)) (lowered t).automaton.insides (λ e m. inside_follows l t v w e m);
+  calls = all_from_members (CallFollows (lowered t)) (lowered t).automaton.calls (λ e m. call_follows l t v e m);
+  backs = all_from_members (BackFollows (lowered t)) (lowered t).automaton.backs (λ e m. back_follows l t v e m);
   one_call = has_one_call l t v;
 }

@@ -1,16 +1,15 @@
 -- The sites, the procedures and the frames of a program's graph.
-use Rattle.std.proofs.Common.{◌≡◌, ◌∙◌, ◌⊎◌, ℕ, zero, suc, ◌+◌, ◌-◌, ◌<◌, ◌≤◌, List, [], ◌∷◌, ◌++◌, map, length, Option, None, Some, inl, inr, refl, sym, ap, subst, arith, IsTrue}
+use Rattle.std.proofs.Common.{◌≡◌, ◌∙◌, ℕ, zero, suc, ◌+◌, ◌<◌, ◌≤◌, List, [], ◌∷◌, ◌++◌, map, length, Option, None, Some, inl, inr, refl, sym, ap, subst, arith, IsTrue}
 use Rattle.std.specs.Prelude.{slice_get}
 use Rattle.std.specs.List.{AllByRecursion}
 use Rattle.std.specs.Option.{option_map}
 use Rattle.std.proofs.lemmas.List.{length-append, length-map}
 use Rattle.typed_tree.specs.TypedTree.{TypedBlock, TypedProcedure, TypedProgram}
-use Rattle.boogie_tree.specs.declared.span.Span.{Span}
 use Rattle.typing_rules.specs.ValidProgram.{is_valid}
 use Rattle.typing_rules.proofs.ValidLaws as valid
 use Rattle.nwa_base.specs.Members.{Member}
 use Rattle.letter_acts.specs.declared.sites.Site.{Site}
-use Rattle.letter_acts.specs.Frames.{Columns, IsFrame, ConstantsFirst}
+use Rattle.letter_acts.specs.Frames.{IsFrame, ConstantsFirst}
 use Rattle.letter_acts.specs.Invariant.{AreDistinct, IsPlaceOf, HasBody, HaveBodies, HasProcedures, AreFrames, AreNumbered, site_places, HasSites}
 use Rattle.boogie_points.specs.Points.{Point}
 use Rattle.boogie_points.specs.Actions as actions
@@ -20,12 +19,14 @@ use Rattle.boogie_places.specs.Places.{count_from, Place, number_of, program_pla
 use Rattle.boogie_run.specs.Needs.{locals_at}
 use Rattle.lowered_steps.specs.ProgramFrames.{frame_at}
 use Rattle.lowered_graph.specs.Arcs.{place_number, first_error, error_place, return_place, return_point}
-use Rattle.lowered_graph.specs.Lowered.{site, action_sites, sites_of, program_sites, counted_procs, entry_of, exit_of, place_owners, lowered}
-use Rattle.lowered_graph.proofs.ActNumbers.{get_front}
+use Rattle.lowered_graph.specs.Lowered.{action_sites, sites_of, program_sites, counted_procs, entry_of, exit_of, place_owners, lowered}
+use Rattle.lowered_graph.proofs.Lists.{get_front}
 use Rattle.lowered_graph.proofs.KnownPlaces.{PlaceLaws, IsKnown, place_known, known_place, known_entry}
 use Rattle.lowered_graph.proofs.CallPlaces.{return_known}
 use Rattle.lowered_graph.proofs.Alphabet.{letters_of, proc_exists}
 use Rattle.lowered_graph.proofs.SiteNumbers.{number_of_site, sites_numbered, site_place}
+use Rattle.lowered_graph.proofs.Lists.{member_either}
+use Rattle.letter_acts.proofs.ListLemmas.{all_append, all_from_members}
 
 -- ---- sites
 
@@ -60,21 +61,16 @@ places_differ t n zero (s ∷ ss) l e h = cc
 places_differ t n (suc k) (s ∷ ss) l e h =
     let first : s.1.id.number ≡ n = cc in
     let rest : map number_of_site ss ≡ count_from (n + 1) k = cc in
-    let here : s.1.place ≡ error_place t n = h.0 ∙ ap (error_place t) first in
-    (
+    let here : s.1.place ≡ error_place t n = h.0 ∙ ap (error_place t) first in (
       λ m. (let later : error_place t (n + 1) ≤ s.1.place = later_places t (n + 1) k ss s.1.place (omega arith) rest h.1 m in omega arith),
       places_differ t (n + 1) k ss (omega arith) rest h.1,
     )
-
-all_of_members : {X : Type 0} (P : X → Type 0) (xs : List X) → ((x : X) → Member xs x → P x) → AllByRecursion P xs
-all_of_members P [] f = tt
-all_of_members P (x ∷ xs) f = (f x (inl refl), all_of_members P xs (λ y m. f y (inr m)))
 
 pub has_sites : (t : TypedProgram) → IsTrue (is_valid t) → HasSites (lowered t)
 has_sites t v = record {
   numbered = numbered_so 1 (length (program_sites t)) (program_sites t) (sites_numbered t v);
   differ = places_differ t 1 (length (program_sites t)) (program_sites t) (omega arith) (sites_numbered t v)
-    (all_of_members (λ s. s.1.place ≡ error_place t s.1.id.number) (program_sites t) (λ s m. site_place t s m));
+      (all_from_members (λ s. s.1.place ≡ error_place t s.1.id.number) (program_sites t) (λ s m. site_place t s m));
   finals = record { there = λ x m. m; back = λ x m. m };
 }
 
@@ -110,8 +106,7 @@ has_body : (l : PlaceLaws) (t : TypedProgram) → IsTrue (is_valid t) → (k : �
     HasBody (place_owners t) k (option_map (λ b. place_number t k (point_of_call t k (Some q))) o) (option_map (λ b. return_place t k) o)
 has_body l t v k q None e b = tt
 has_body l t v k q (Some b) e h =
-    let entry : IsPlaceOf (place_owners t) k (place_number t k (point_of_call t k (slice_get t.procs k))) = owner_is l t v k (point_of_call t k (slice_get t.procs k)) (known_entry l t v k q b e h) in
-    (
+    let entry : IsPlaceOf (place_owners t) k (place_number t k (point_of_call t k (slice_get t.procs k))) = owner_is l t v k (point_of_call t k (slice_get t.procs k)) (known_entry l t v k q b e h) in (
       subst (λ (o : Option TypedProcedure). IsPlaceOf (place_owners t) k (place_number t k (point_of_call t k o))) e entry,
       owner_is l t v k (return_point (slice_get t.procs k)) (return_known t k q b e h),
     )
@@ -143,17 +138,13 @@ action_owner t n (actions.Grant f args e next) s m = absurd m
 action_owner t n (actions.Finish f args targets next) s m = absurd m
 action_owner t n actions.Leave s m = absurd m
 
-member_either : {X : Type 0} (xs ys : List X) (x : X) → Member (xs ++ ys) x → Member xs x ⊎ Member ys x
-member_either [] ys x m = inr m
-member_either (y ∷ xs) ys x (inl e) = inl (inl e)
-member_either (y ∷ xs) ys x (inr m) = elim (member_either xs ys x m) [ inl h ↦ inl (inr h) | inr h ↦ inr h ]
-
 -- a site is owned by the procedure of its place
 pub owner_of_site : (t : TypedProgram) (ps : List Place) (s : ℕ × Site) → Member (sites_of t ps) s → (p : Place) × IsPlaceIn ps p × (s.0 ≡ p.proc)
 owner_of_site t [] s m = absurd m
 owner_of_site t (p ∷ ps) s m = elim (member_either (action_sites t p.proc (action_at t p.proc p.point)) (sites_of t ps) s m) [
-  inl h ↦ (p, inl refl, action_owner t p.proc (action_at t p.proc p.point) s h) |
-  inr h ↦ (let g = owner_of_site t ps s h in (g.0, inr g.1, g.2)) ]
+  | inl h ↦ (p, inl refl, action_owner t p.proc (action_at t p.proc p.point) s h)
+  | inr h ↦ (let g = owner_of_site t ps s h in (g.0, inr g.1, g.2))
+]
 
 place_exists : (t : TypedProgram) → IsTrue (is_valid t) → (p : Place) → IsPlaceIn (program_places t) p → p.proc < length (letters_of t).frames
 place_exists t v p m = let k = place_known t v p.proc p.point m in proc_exists t p.proc k.procedure k.is
@@ -165,10 +156,6 @@ places_exist t (p ∷ ps) h = (h p (inl refl), places_exist t ps (λ r m. h r (i
 sites_exist : (t : TypedProgram) → (ss : List (ℕ × Site)) → ((s : ℕ × Site) → Member ss s → s.0 < length (letters_of t).frames) → AllByRecursion (λ n. n < length (letters_of t).frames) (map (λ s. s.0) ss)
 sites_exist t [] h = tt
 sites_exist t (s ∷ ss) h = (h s (inl refl), sites_exist t ss (λ r m. h r (inr m)))
-
-both_exist : (P : ℕ → Type 0) (xs ys : List ℕ) → AllByRecursion P xs → AllByRecursion P ys → AllByRecursion P (xs ++ ys)
-both_exist P [] ys h k = k
-both_exist P (x ∷ xs) ys h k = (h.0, both_exist P xs ys h.1 k)
 
 owned_exists : (t : TypedProgram) → IsTrue (is_valid t) → (s : ℕ × Site) → Member (program_sites t) s → s.0 < length (letters_of t).frames
 owned_exists t v s m =
@@ -191,7 +178,7 @@ has_procedures l t v =
       place_procs = (let e : suc (length (map (λ p. p.proc) (program_places t) ++ map (λ s. s.0) (program_sites t))) ≡ first_error t + length (map (λ s. s.1) (program_sites t)) = omega arith in e);
       procs_exist = (
         proc_exists t t.entry entry.0 entry.2,
-        both_exist (λ n. n < length (letters_of t).frames) (map (λ p. p.proc) (program_places t)) (map (λ s. s.0) (program_sites t))
+        all_append (λ n. n < length (letters_of t).frames) (map (λ p. p.proc) (program_places t)) (map (λ s. s.0) (program_sites t))
             (places_exist t (program_places t) (λ p m. place_exists t v p m)) (sites_exist t (program_sites t) (λ s m. owned_exists t v s m)),
       );
       bodies = have_bodies l t v 0 t.procs (λ i q e. subst (λ (m : ℕ). slice_get t.procs m ≡ Some q) (let z : i ≡ 0 + i = omega arith in z) e);

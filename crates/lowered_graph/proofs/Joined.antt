@@ -1,39 +1,32 @@
 -- A run of the stack machine over points is one of the automaton and its letters over places, and back.
-use Rattle.std.proofs.Common.{◌≡◌, ◌↔◌, ◌∙◌, ◌⊎◌, ℕ, zero, suc, ◌+◌, ◌-◌, ◌<◌, ◌≤◌, ℤ, List, [], ◌∷◌, ◌++◌, map, length, Option, None, Some, inl, inr, refl, sym, ap, subst, arith, IsTrue}
+use Rattle.std.proofs.Common.{◌≡◌, ◌⊎◌, ℕ, List, ◌∷◌, map, inl, inr, refl, sym, ap, subst, IsTrue}
 use Rattle.std.specs.Prelude.{slice_get}
 use Rattle.std.specs.List.{AllByRecursion}
 use Rattle.boogie_tree.specs.declared.span.Span.{Span}
-use Rattle.typed_tree.specs.TypedTree.{TypedExpression, TypedBlock, TypedProcedure, TypedProgram}
+use Rattle.typed_tree.specs.TypedTree.{TypedExpression, TypedProgram}
 use Rattle.typing_rules.specs.ValidProgram.{is_valid}
 use Rattle.nwa_base.specs.Members.{Member}
-use Rattle.nwa_base.specs.declared.letters.Kind.{Kind}
-use Rattle.nwa_base.specs.declared.letters.Kind.TheVariants as kinds
 use Rattle.nwa_base.specs.declared.letters.Letter.{Letter}
-use Rattle.letter_acts.specs.declared.sites.Site.{Site}
 use Rattle.letter_acts.specs.Acts.{PlainAct, inside_act, call_act, back_act, letter_of, act_of}
-use Rattle.letter_acts.specs.Meaning.{InsideLeads, CallLeads, BackLeads, Situation, ActInside, ActCalls, ActReturns, ReturnsFrom}
-use Rattle.letter_acts.specs.Ways.{Leads, Goes}
+use Rattle.letter_acts.specs.Meaning.{Situation, ActInside, ActCalls, ActReturns}
+use Rattle.letter_acts.specs.Ways.{Leads}
 use Rattle.letter_acts.specs.Feasible.{machine}
-use Rattle.cond_jumps.specs.Conjunctions.{Conjunction}
 use Rattle.boogie_points.specs.Points.{Point, settled, past_first}
 use Rattle.boogie_points.specs.Actions as actions
 use Rattle.boogie_points.specs.Actions.{Action, action_at}
 use Rattle.boogie_points.specs.Starts.{point_of_call, targets_at}
-use Rattle.boogie_places.specs.Places.{Place, program_places, IsOneOf, onward}
+use Rattle.boogie_places.specs.Places.{program_places, IsOneOf, onward}
 use Rattle.lowered_steps.specs.ProgramFrames.{frame_at}
-use Rattle.lowered_steps.specs.Edges.{Spot, At, Wrong, Edge, inside_edges, call_list, numbers_in}
-use Rattle.lowered_steps.specs.Stacks.{Pending, Stack, IsAmong, IsStep, inside, call, back, Reaches}
-use Rattle.lowered_graph.specs.Arcs.{place_number, first_error, error_place, spot_number, return_point, return_place, start_arc, arcs_at, arcs_of, program_arcs}
-use Rattle.letter_table.specs.Letters.{Arc, inside_arc, call_arc, no_letters, lettered}
-use Rattle.lowered_graph.specs.LetterLaws.{IsLetterOf, InsideOf, CallOf, BackOf}
+use Rattle.lowered_steps.specs.Edges.{Spot, At, Wrong, numbers_in}
+use Rattle.lowered_steps.specs.Stacks.{Pending, Stack, IsStep, inside, call, back}
+use Rattle.lowered_graph.specs.Arcs.{place_number, spot_number, return_place, start_arc, arcs_at, program_arcs}
+use Rattle.letter_table.specs.Letters.{Arc, no_letters, lettered}
 use Rattle.lowered_graph.specs.Lowered.{site, program_sites, lowered}
-use Rattle.lowered_graph.proofs.ActNumbers.{act_of_letter}
 use Rattle.lowered_graph.proofs.LetterEdges.{HasInside, HasCall, inside_lettered, call_lettered}
-use Rattle.lowered_graph.proofs.LetterSets.{insides_are, calls_are, backs_are}
-use Rattle.lowered_graph.proofs.KnownPlaces.{PlaceLaws, IsKnown, place_known, known_place, known_onward, known_entry, known_number, known_once}
-use Rattle.lowered_graph.proofs.CallPlaces.{entered_has_body, leaves_at, leaves_there, return_known}
+use Rattle.lowered_graph.proofs.KnownPlaces.{PlaceLaws, IsKnown, place_known, known_place, known_onward, known_entry}
+use Rattle.lowered_graph.proofs.CallPlaces.{entered_has_body, leaves_at}
 use Rattle.lowered_graph.proofs.EdgeArcs.{arcs_so, arcs_back, sites_so, arc_of_edge, edge_arc, EdgeOfArc, arc_of_call, CallOfArc, arc_back, call_arc_so, Lands, edge_lands}
-use Rattle.lowered_graph.proofs.Alphabet.{letters_of, situation, inside_means, call_means, back_means, inside_meant, call_meant, back_meant}
+use Rattle.lowered_graph.proofs.Alphabet.{letters_of, situation, inside_means, call_means, back_means}
 
 -- ---- stacks as the automaton sees them
 
@@ -126,9 +119,11 @@ step_seen t x y k (inside p e at among led proc spot below) =
     let a : Letter = letter_of h.id act in
     let means : ActInside (letters_of t) (act_of (letters_of t) a) (situation n x.values) (situation n y.values) =
     inside_means t n h.id here.procedure e.written e.rows.helpers e.rows.rows x.values y.values here.is h.act led in
-    let one : StepsTo t a (stacked t x.below) (place_number t n p, situation n x.values) (spot_number t n e.to, situation n y.values) (stacked t x.below) = ((h.edge, means), refl) in
-    (a, subst (λ (z : Stack). StepsTo t a (stacked t x.below) (spot_number t n x.spot, situation n x.values) (seen t z) (stacked t z.below)) (same_stack (record { proc = n; spot = e.to; values = y.values; below = x.below }) y (sym proc) (sym spot) refl (sym below))
-    (subst (λ (o : Spot). StepsTo t a (stacked t x.below) (spot_number t n o, situation n x.values) (spot_number t n e.to, situation n y.values) (stacked t x.below)) (sym at) one))
+    let one : StepsTo t a (stacked t x.below) (place_number t n p, situation n x.values) (spot_number t n e.to, situation n y.values) (stacked t x.below) = ((h.edge, means), refl) in (
+      a,
+      subst (λ (z : Stack). StepsTo t a (stacked t x.below) (spot_number t n x.spot, situation n x.values) (seen t z) (stacked t z.below)) (same_stack (record { proc = n; spot = e.to; values = y.values; below = x.below }) y (sym proc) (sym spot) refl (sym below))
+          (subst (λ (o : Spot). StepsTo t a (stacked t x.below) (spot_number t n o, situation n x.values) (spot_number t n e.to, situation n y.values) (stacked t x.below)) (sym at) one),
+    )
 step_seen t x y k (call p f args c at is among led proc spot below) =
     let n : ℕ = x.proc in
     let here : IsKnown t n p = known_at t n x.spot p at k.spot in
@@ -143,10 +138,12 @@ step_seen t x y k (call p f args c at is among led proc spot below) =
     let means : ActCalls (letters_of t) (act_of (letters_of t) a) (situation n x.values) (situation f y.values) =
     call_means t n f h.id here.procedure b.0 c.helpers c.rows x.values y.values here.is b.2 h.act led in
     let pending : Pending = record { proc = n; point = p; values = x.values } in
-    let one : StepsTo t a (stacked t x.below) (place_number t n p, situation n x.values) (entry, situation f y.values) (stacked t (pending ∷ x.below)) = ((h.edge, means), refl) in
-    (a, subst (λ (z : Stack). StepsTo t a (stacked t x.below) (spot_number t n x.spot, situation n x.values) (seen t z) (stacked t z.below))
-    (same_stack (record { proc = f; spot = At (point_of_call t f (slice_get t.procs f)); values = y.values; below = pending ∷ x.below }) y (sym proc) (sym spot) refl (sym below))
-    (subst (λ (o : Spot). StepsTo t a (stacked t x.below) (spot_number t n o, situation n x.values) (entry, situation f y.values) (stacked t (pending ∷ x.below))) (sym at) one))
+    let one : StepsTo t a (stacked t x.below) (place_number t n p, situation n x.values) (entry, situation f y.values) (stacked t (pending ∷ x.below)) = ((h.edge, means), refl) in (
+      a,
+      subst (λ (z : Stack). StepsTo t a (stacked t x.below) (spot_number t n x.spot, situation n x.values) (seen t z) (stacked t z.below))
+          (same_stack (record { proc = f; spot = At (point_of_call t f (slice_get t.procs f)); values = y.values; below = pending ∷ x.below }) y (sym proc) (sym spot) refl (sym below))
+          (subst (λ (o : Spot). StepsTo t a (stacked t x.below) (spot_number t n o, situation n x.values) (entry, situation f y.values) (stacked t (pending ∷ x.below))) (sym at) one),
+    )
 step_seen t x y k (back p b args c at is below calls among led proc spot) =
     let f : ℕ = x.proc in
     let n : ℕ = b.proc in
@@ -169,6 +166,8 @@ step_seen t x y k (back p b args c at is below calls among led proc spot) =
     let from_spot : StepsTo t a (stacked t (b ∷ y.below)) (seen t x) (place_number t n next, situation n y.values) (stacked t y.below) =
     subst (λ (o : Spot). StepsTo t a (stacked t (b ∷ y.below)) (spot_number t f o, situation f x.values) (place_number t n next, situation n y.values) (stacked t y.below)) (sym at) from_point in
     let from_stack : StepsTo t a (stacked t x.below) (seen t x) (place_number t n next, situation n y.values) (stacked t y.below) =
-    subst (λ (bs : List Pending). StepsTo t a (stacked t bs) (seen t x) (place_number t n next, situation n y.values) (stacked t y.below)) (sym below) from_spot in
-    (a, subst (λ (z : Stack). StepsTo t a (stacked t x.below) (seen t x) (seen t z) (stacked t z.below))
-    (same_stack (record { proc = n; spot = At next; values = y.values; below = y.below }) y (sym proc) (sym spot) refl refl) from_stack)
+    subst (λ (bs : List Pending). StepsTo t a (stacked t bs) (seen t x) (place_number t n next, situation n y.values) (stacked t y.below)) (sym below) from_spot in (
+      a,
+      subst (λ (z : Stack). StepsTo t a (stacked t x.below) (seen t x) (seen t z) (stacked t z.below))
+          (same_stack (record { proc = n; spot = At next; values = y.values; below = y.below }) y (sym proc) (sym spot) refl refl) from_stack,
+    )

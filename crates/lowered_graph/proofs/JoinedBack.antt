@@ -1,15 +1,15 @@
 -- A step of the automaton and its letters from a known stack is one of the stack machine over points.
-use Rattle.std.proofs.Common.{◌≡◌, ◌∙◌, ◌⊎◌, ℕ, zero, suc, ◌+◌, ◌-◌, ◌<◌, ◌≤◌, ℤ, List, [], ◌∷◌, map, length, Option, None, Some, inl, inr, refl, sym, ap, subst, arith, IsTrue}
+use Rattle.std.proofs.Common.{◌≡◌, ◌∙◌, ℕ, ◌+◌, ◌<◌, ◌≤◌, List, [], ◌∷◌, length, Option, Some, inl, inr, refl, sym, ap, subst, arith, IsTrue}
 use Rattle.std.specs.Prelude.{slice_get}
 use Rattle.std.specs.List.{AllByRecursion}
-use Rattle.typed_tree.specs.TypedTree.{TypedExpression, TypedProcedure, TypedProgram}
+use Rattle.typed_tree.specs.TypedTree.{TypedExpression, TypedProgram}
 use Rattle.typing_rules.specs.ValidProgram.{is_valid}
 use Rattle.nwa_base.specs.Members.{Member}
 use Rattle.nwa_base.specs.declared.letters.Kind.{Kind}
 use Rattle.nwa_base.specs.declared.letters.Kind.TheVariants as kinds
 use Rattle.nwa_base.specs.declared.letters.Letter.{Letter}
-use Rattle.letter_acts.specs.Acts.{PlainAct, inside_act, call_act, back_act, letter_of, act_of}
-use Rattle.letter_acts.specs.Meaning.{InsideLeads, CallLeads, BackLeads, Situation, ActInside, ActCalls, ActReturns, ReturnsFrom}
+use Rattle.letter_acts.specs.Acts.{PlainAct, inside_act, call_act, back_act, act_of}
+use Rattle.letter_acts.specs.Meaning.{Situation, ActInside, ActCalls, ActReturns, ReturnsFrom}
 use Rattle.letter_acts.specs.Ways.{Leads}
 use Rattle.letter_acts.specs.Feasible.{machine}
 use Rattle.cond_jumps.specs.Conjunctions.{Conjunction}
@@ -19,19 +19,19 @@ use Rattle.boogie_points.specs.Actions.{Action, action_at}
 use Rattle.boogie_points.specs.Starts.{point_of_call, targets_at}
 use Rattle.boogie_places.specs.Places.{program_places}
 use Rattle.lowered_steps.specs.ProgramFrames.{frame_at}
-use Rattle.lowered_steps.specs.Edges.{Spot, At, Wrong, Edge, inside_edges, call_list, numbers_in}
+use Rattle.lowered_steps.specs.Edges.{Spot, At, Wrong, Edge, call_list, numbers_in}
 use Rattle.lowered_steps.specs.Stacks.{Pending, Stack, IsAmong, IsStep, inside, call, back}
-use Rattle.lowered_graph.specs.Arcs.{place_number, first_error, error_place, spot_number, return_point, return_place, start_arc, program_arcs}
-use Rattle.letter_table.specs.Letters.{Arc, inside_arc, call_arc, lettered}
+use Rattle.lowered_graph.specs.Arcs.{place_number, spot_number, return_point, return_place, program_arcs}
+use Rattle.letter_table.specs.Letters.{inside_arc, call_arc, lettered}
 use Rattle.lowered_graph.specs.LetterLaws.{IsLetterOf, InsideOf, CallOf, BackOf}
 use Rattle.lowered_graph.specs.Lowered.{lowered}
 use Rattle.lowered_graph.proofs.ActNumbers.{act_of_letter}
 use Rattle.lowered_graph.proofs.LetterSets.{insides_are, calls_are, backs_are}
 use Rattle.lowered_graph.proofs.KnownPlaces.{PlaceLaws, IsKnown, known_number, known_once}
 use Rattle.lowered_graph.proofs.CallPlaces.{entered_has_body, leaves_there, return_known}
-use Rattle.lowered_graph.proofs.EdgeArcs.{arc_of_edge, EdgeOfArc, arc_of_call, CallOfArc}
+use Rattle.lowered_graph.proofs.EdgeArcs.{EdgeOfArc}
 use Rattle.lowered_graph.proofs.Alphabet.{letters_of, situation, inside_meant, call_meant, back_meant}
-use Rattle.lowered_graph.proofs.Joined.{seen, pended, stacked, StepsTo, IsKnownSpot, IsKnownStack, from_start_or_place, same_stack}
+use Rattle.lowered_graph.proofs.Joined.{seen, stacked, StepsTo, IsKnownSpot, IsKnownStack, from_start_or_place, same_stack}
 
 -- ---- parts of arcs and acts
 
@@ -115,12 +115,14 @@ inside_back l t v x k a y after m means e =
     let means_so : ActInside (letters_of t) (Some h.act) (situation x.proc x.values) y.1 =
     subst (λ (o : Option PlainAct). ActInside (letters_of t) o (situation x.proc x.values) y.1) (letter_act t a h.act h.letter) means in
     elim (from_start_or_place t v (inside_arc q h.act y.0) h.arc) [
-      inl start ↦ absurd (not_zero l t v x.proc x.spot k.spot (cc)) |
-      inr w ↦ elim w.3 [
-        inl edge ↦ (let parts = inside_parts (place_number t w.0 w.1) q (inside_act w.0 edge.edge.written edge.edge.rows.helpers edge.edge.rows.rows) h.act (spot_number t w.0 edge.edge.to) y.0 edge.is in
-          inside_found t x y after h.act w.0 w.1 w.2 edge (stands_at l t v x k w.0 w.1 w.2 parts.0) means_so e) |
-        inr c ↦ absurd (no_inside q (place_number t w.0 w.1) h.act (call_act w.0 c.callee c.rows.helpers c.rows.rows) y.0 (place_number t c.callee (point_of_call t c.callee (slice_get t.procs c.callee)))
-          (return_place t c.callee) (numbers_in (frame_at t w.0) (targets_at w.1.todo)) (place_number t w.0 (settled (past_first t.procs w.1.todo))) (sym c.is)) ] ]
+      | inl start ↦ absurd (not_zero l t v x.proc x.spot k.spot (cc))
+      | inr w ↦ elim w.3 [
+        | inl edge ↦ (let parts = inside_parts (place_number t w.0 w.1) q (inside_act w.0 edge.edge.written edge.edge.rows.helpers edge.edge.rows.rows) h.act (spot_number t w.0 edge.edge.to) y.0 edge.is in
+            inside_found t x y after h.act w.0 w.1 w.2 edge (stands_at l t v x k w.0 w.1 w.2 parts.0) means_so e)
+        | inr c ↦ absurd (no_inside q (place_number t w.0 w.1) h.act (call_act w.0 c.callee c.rows.helpers c.rows.rows) y.0 (place_number t c.callee (point_of_call t c.callee (slice_get t.procs c.callee)))
+            (return_place t c.callee) (numbers_in (frame_at t w.0) (targets_at w.1.todo)) (place_number t w.0 (settled (past_first t.procs w.1.todo))) (sym c.is))
+      ]
+    ]
 
 -- an arc of a call
 abbrev pub call_arc_of : TypedProgram → ℕ → Point → ℕ → Conjunction → PlainAct → ℕ → ℕ → ℕ → List ℕ → ℕ → Type 0
@@ -142,10 +144,10 @@ pub record CallFrom (t : TypedProgram) (act : PlainAct) (q to from : ℕ) (targe
 
 pub call_from : (t : TypedProgram) → IsTrue (is_valid t) → (act : PlainAct) (q to from : ℕ) (targets : List ℕ) (behind : ℕ) → Member (program_arcs t) (call_arc q act to from targets behind) → CallFrom t act q to from targets behind
 call_from t v act q to from targets behind m = elim (from_start_or_place t v (call_arc q act to from targets behind) m) [
-  inl start ↦ absurd (cc) |
-  inr w ↦ elim w.3 [
-    inl edge ↦ absurd (no_inside (place_number t w.0 w.1) q (inside_act w.0 edge.edge.written edge.edge.rows.helpers edge.edge.rows.rows) act (spot_number t w.0 edge.edge.to) to from targets behind edge.is) |
-    inr c ↦ record {
+  | inl start ↦ absurd (cc)
+  | inr w ↦ elim w.3 [
+    | inl edge ↦ absurd (no_inside (place_number t w.0 w.1) q (inside_act w.0 edge.edge.written edge.edge.rows.helpers edge.edge.rows.rows) act (spot_number t w.0 edge.edge.to) to from targets behind edge.is)
+    | inr c ↦ record {
       proc = w.0;
       point = w.1;
       known = w.2;
@@ -155,8 +157,10 @@ call_from t v act q to from targets behind m = elim (from_start_or_place t v (ca
       rows = c.rows;
       among = c.among;
       parts = call_parts (place_number t w.0 w.1) q (call_act w.0 c.callee c.rows.helpers c.rows.rows) act (place_number t c.callee (point_of_call t c.callee (slice_get t.procs c.callee))) to
-        (return_place t c.callee) from (numbers_in (frame_at t w.0) (targets_at w.1.todo)) targets (place_number t w.0 (settled (past_first t.procs w.1.todo))) behind c.is;
-    } ] ]
+          (return_place t c.callee) from (numbers_in (frame_at t w.0) (targets_at w.1.todo)) targets (place_number t w.0 (settled (past_first t.procs w.1.todo))) behind c.is;
+    }
+  ]
+]
 
 call_back : (l : PlaceLaws) (t : TypedProgram) → IsTrue (is_valid t) → (x : Stack) → IsKnownStack t x → (a : Letter) (y : ℕ × Situation) (after : List (ℕ × Situation)) →
     Member (lowered t).automaton.calls (spot_number t x.proc x.spot, a, y.0) → ActCalls (letters_of t) (act_of (letters_of t) a) (situation x.proc x.values) y.1 → seen t x ∷ stacked t x.below ≡ after → StepBack t x y after

@@ -1,18 +1,14 @@
 -- The places of a program: which points they are, where they lead, and at which of them a procedure returns.
-use Rattle.std.proofs.Common.{◌≡◌, ◌∙◌, ◌⊎◌, ℕ, zero, suc, ◌+◌, ◌-◌, ◌<◌, ◌≤◌, Bool, true, false, List, [], ◌∷◌, ◌++◌, map, length, Option, None, Some, inl, inr, refl, sym, ap, subst, arith, IsTrue}
+use Rattle.std.proofs.Common.{◌≡◌, ◌∙◌, ◌⊎◌, ℕ, zero, suc, ◌+◌, ◌<◌, ◌≤◌, List, [], ◌∷◌, ◌++◌, map, length, Option, None, Some, inl, inr, refl, sym, ap, subst, arith, IsTrue}
 use Rattle.std.specs.Prelude.{slice_get}
-use Rattle.std.specs.List.{AllByRecursion}
-use Rattle.boogie_tree.specs.declared.span.Span.{Span}
-use Rattle.boogie_tree.specs.declared.tree.Column.{Column}
 use Rattle.typed_tree.specs.TypedTree.{TypedExpression, TypedBlock, TypedProcedure, TypedProgram}
 use Rattle.typing_rules.specs.ValidProgram.{is_valid}
 use Rattle.typing_rules.proofs.ValidLaws as valid
-use Rattle.boogie_points.specs.Points.{Todo, Start, Entry, Body, Exit, Stage, Point, at_exit, settled}
-use Rattle.boogie_points.specs.Actions.{action_at, first_point, first_assertion, first_place, free_conditions, ensured_conditions, start_conditions}
+use Rattle.boogie_points.specs.Points.{Start, Point}
+use Rattle.boogie_points.specs.Actions.{action_at, first_point, first_assertion, first_place, start_conditions}
 use Rattle.boogie_points.specs.Starts.{point_of_procedure, point_of_call, unless_none, start_point_of}
 use Rattle.boogie_places.specs.Laws as law
-use Rattle.boogie_places.specs.Places.{parts_from, points_of, points_of_body, start_points, IsOneOf, count_from, Place, number_of, located, points_with, places_from, starts_if_any, program_places, IsPlaceIn, onward}
-use Rattle.lowered_graph.specs.Arcs.{return_point}
+use Rattle.boogie_places.specs.Places.{parts_from, points_of_body, start_points, IsOneOf, count_from, Place, number_of, located, points_with, places_from, starts_if_any, program_places, IsPlaceIn, onward}
 
 -- the laws of the places of typed programs
 pub record PlaceLaws : Type 0 where
@@ -80,12 +76,13 @@ from_back : (t : TypedProgram) (k : ℕ) (qs : List TypedProcedure) (n : ℕ) (p
     (i : ℕ) × (n ≡ k + i) × (q : TypedProcedure) × (slice_get qs i ≡ Some q) × IsOneOf (points_with t n q q.body) p
 from_back t k [] n p i = absurd i
 from_back t k (q ∷ qs) n p i = elim (place_either (located k (points_with t k q q.body)) (places_from t (k + 1) qs) (record { proc = n; point = p }) i) [
-  inl h ↦ (let g = located_back k n (points_with t k q q.body) p h in
-    let same : k ≡ n = g.0 in
-    (0, (let e : n ≡ k + 0 = omega arith in e), q, refl, subst (λ (m : ℕ). IsOneOf (points_with t m q q.body) p) same g.1)) |
-  inr h ↦ (let g = from_back t (k + 1) qs n p h in
-    let at : n ≡ k + 1 + g.0 = g.1 in
-    (suc g.0, (let e : n ≡ k + suc g.0 = omega arith in e), g.2, g.3, g.4)) ]
+  | inl h ↦ (let g = located_back k n (points_with t k q q.body) p h in
+      let same : k ≡ n = g.0 in
+      (0, (let e : n ≡ k + 0 = omega arith in e), q, refl, subst (λ (m : ℕ). IsOneOf (points_with t m q q.body) p) same g.1))
+  | inr h ↦ (let g = from_back t (k + 1) qs n p h in
+      let at : n ≡ k + 1 + g.0 = g.1 in
+      (suc g.0, (let e : n ≡ k + suc g.0 = omega arith in e), g.2, g.3, g.4))
+]
 
 from_so : (t : TypedProgram) (k : ℕ) (qs : List TypedProcedure) (i : ℕ) (q : TypedProcedure) (p : Point) → slice_get qs i ≡ Some q → IsOneOf (points_with t (k + i) q q.body) p →
     IsPlaceIn (places_from t k qs) (record { proc = k + i; point = p })
@@ -111,59 +108,63 @@ starts_back t (Some q) p i = (q, refl, i)
 
 pub place_known : (t : TypedProgram) → IsTrue (is_valid t) → (n : ℕ) (p : Point) → IsPlaceIn (program_places t) (record { proc = n; point = p }) → IsKnown t n p
 place_known t v n p i = elim (place_either (located t.entry (starts_if_any t (slice_get t.procs t.entry))) (places_from t 0 t.procs) (record { proc = n; point = p }) i) [
-  inl h ↦ (let g = located_back t.entry n (starts_if_any t (slice_get t.procs t.entry)) p h in
-    let s = starts_back t (slice_get t.procs t.entry) p g.1 in
-    let entry = valid.entry t v in
-    let same : entry.0 ≡ s.0 = (let e : Some entry.0 ≡ Some s.0 = sym entry.2 ∙ s.1 in cc) in
-    record {
-      procedure = entry.0;
-      body = entry.1;
-      is = subst (λ (m : ℕ). slice_get t.procs m ≡ Some entry.0) g.0 entry.2;
-      has_body = entry.3;
-      stands = inl (sym g.0, subst (λ (q : TypedProcedure). IsOneOf (start_points t q) p) (sym same) s.2);
-    }) |
-  inr h ↦ (let g = from_back t 0 t.procs n p h in
-    let b = with_body t n g.2 g.2.body p g.4 in
-    let at : n ≡ 0 + g.0 = g.1 in
-    let same : g.0 ≡ n = omega arith in
-    record {
-      procedure = g.2;
-      body = b.0;
-      is = subst (λ (m : ℕ). slice_get t.procs m ≡ Some g.2) same g.3;
-      has_body = b.1;
-      stands = inr b.2;
-    }) ]
+  | inl h ↦ (let g = located_back t.entry n (starts_if_any t (slice_get t.procs t.entry)) p h in
+      let s = starts_back t (slice_get t.procs t.entry) p g.1 in
+      let entry = valid.entry t v in
+      let same : entry.0 ≡ s.0 = (let e : Some entry.0 ≡ Some s.0 = sym entry.2 ∙ s.1 in cc) in
+      record {
+        procedure = entry.0;
+        body = entry.1;
+        is = subst (λ (m : ℕ). slice_get t.procs m ≡ Some entry.0) g.0 entry.2;
+        has_body = entry.3;
+        stands = inl (sym g.0, subst (λ (q : TypedProcedure). IsOneOf (start_points t q) p) (sym same) s.2);
+      })
+  | inr h ↦ (let g = from_back t 0 t.procs n p h in
+      let b = with_body t n g.2 g.2.body p g.4 in
+      let at : n ≡ 0 + g.0 = g.1 in
+      let same : g.0 ≡ n = omega arith in
+      record {
+        procedure = g.2;
+        body = b.0;
+        is = subst (λ (m : ℕ). slice_get t.procs m ≡ Some g.2) same g.3;
+        has_body = b.1;
+        stands = inr b.2;
+      })
+]
 
 pub known_place : (t : TypedProgram) (n : ℕ) (p : Point) → IsKnown t n p → IsPlaceIn (program_places t) (record { proc = n; point = p })
 known_place t n p k = elim k.stands [
-  inl h ↦ (let is : slice_get t.procs t.entry ≡ Some k.procedure = subst (λ (m : ℕ). slice_get t.procs m ≡ Some k.procedure) h.0 k.is in
-    let starts : IsOneOf (starts_if_any t (slice_get t.procs t.entry)) p = subst (λ (o : Option TypedProcedure). IsOneOf (starts_if_any t o) p) (sym is) h.1 in
-    place_front (located t.entry (starts_if_any t (slice_get t.procs t.entry))) (places_from t 0 t.procs) (record { proc = n; point = p })
+  | inl h ↦ (let is : slice_get t.procs t.entry ≡ Some k.procedure = subst (λ (m : ℕ). slice_get t.procs m ≡ Some k.procedure) h.0 k.is in
+      let starts : IsOneOf (starts_if_any t (slice_get t.procs t.entry)) p = subst (λ (o : Option TypedProcedure). IsOneOf (starts_if_any t o) p) (sym is) h.1 in
+      place_front (located t.entry (starts_if_any t (slice_get t.procs t.entry))) (places_from t 0 t.procs) (record { proc = n; point = p })
       (subst (λ (m : ℕ). IsPlaceIn (located t.entry (starts_if_any t (slice_get t.procs t.entry))) (record { proc = m; point = p })) (sym h.0)
-      (located_so t.entry (starts_if_any t (slice_get t.procs t.entry)) p starts))) |
-  inr h ↦ (let here : 0 + n ≡ n = omega arith in
-    let with : IsOneOf (points_with t n k.procedure k.procedure.body) p = subst (λ (o : Option TypedBlock). IsOneOf (points_with t n k.procedure o) p) (sym k.has_body) h in
-    let at : IsOneOf (points_with t (0 + n) k.procedure k.procedure.body) p = subst (λ (m : ℕ). IsOneOf (points_with t m k.procedure k.procedure.body) p) (sym here) with in
-    place_rest (located t.entry (starts_if_any t (slice_get t.procs t.entry))) (places_from t 0 t.procs) (record { proc = n; point = p })
-      (subst (λ (m : ℕ). IsPlaceIn (places_from t 0 t.procs) (record { proc = m; point = p })) here (from_so t 0 t.procs n k.procedure p k.is at))) ]
+      (located_so t.entry (starts_if_any t (slice_get t.procs t.entry)) p starts)))
+  | inr h ↦ (let here : 0 + n ≡ n = omega arith in
+      let with : IsOneOf (points_with t n k.procedure k.procedure.body) p = subst (λ (o : Option TypedBlock). IsOneOf (points_with t n k.procedure o) p) (sym k.has_body) h in
+      let at : IsOneOf (points_with t (0 + n) k.procedure k.procedure.body) p = subst (λ (m : ℕ). IsOneOf (points_with t m k.procedure k.procedure.body) p) (sym here) with in
+      place_rest (located t.entry (starts_if_any t (slice_get t.procs t.entry))) (places_from t 0 t.procs) (record { proc = n; point = p })
+      (subst (λ (m : ℕ). IsPlaceIn (places_from t 0 t.procs) (record { proc = m; point = p })) here (from_so t 0 t.procs n k.procedure p k.is at)))
+]
 
 -- ---- where they lead
 
 pub known_onward : (l : PlaceLaws) (t : TypedProgram) → IsTrue (is_valid t) → (n : ℕ) (p r : Point) → IsKnown t n p → IsOneOf (onward t.procs p (action_at t n p)) r → IsKnown t n r
 known_onward l t v n p r k led = elim k.stands [
-  inl h ↦ (let is : slice_get t.procs t.entry ≡ Some k.procedure = subst (λ (m : ℕ). slice_get t.procs m ≡ Some k.procedure) h.0 k.is in
-    let led_on : IsOneOf (onward t.procs p (action_at t t.entry p)) r = subst (λ (m : ℕ). IsOneOf (onward t.procs p (action_at t m p)) r) h.0 led in
-    let reached : IsOneOf (start_points t k.procedure ++ points_of_body t t.entry k.procedure k.body) r = l.starts t k.procedure k.body v is k.has_body p r h.1 led_on in
-    record {
-      procedure = k.procedure;
-      body = k.body;
-      is = k.is;
-      has_body = k.has_body;
-      stands = elim (point_either (start_points t k.procedure) (points_of_body t t.entry k.procedure k.body) r reached) [
-        inl s ↦ inl (h.0, s) |
-        inr s ↦ inr (subst (λ (m : ℕ). IsOneOf (points_of_body t m k.procedure k.body) r) (sym h.0) s) ];
-    }) |
-  inr h ↦ record { procedure = k.procedure; body = k.body; is = k.is; has_body = k.has_body; stands = inr (l.lead t n k.procedure k.body v k.is k.has_body p r h led) } ]
+  | inl h ↦ (let is : slice_get t.procs t.entry ≡ Some k.procedure = subst (λ (m : ℕ). slice_get t.procs m ≡ Some k.procedure) h.0 k.is in
+      let led_on : IsOneOf (onward t.procs p (action_at t t.entry p)) r = subst (λ (m : ℕ). IsOneOf (onward t.procs p (action_at t m p)) r) h.0 led in
+      let reached : IsOneOf (start_points t k.procedure ++ points_of_body t t.entry k.procedure k.body) r = l.starts t k.procedure k.body v is k.has_body p r h.1 led_on in
+      record {
+        procedure = k.procedure;
+        body = k.body;
+        is = k.is;
+        has_body = k.has_body;
+        stands = elim (point_either (start_points t k.procedure) (points_of_body t t.entry k.procedure k.body) r reached) [
+          | inl s ↦ inl (h.0, s)
+          | inr s ↦ inr (subst (λ (m : ℕ). IsOneOf (points_of_body t m k.procedure k.body) r) (sym h.0) s)
+        ];
+      })
+  | inr h ↦ record { procedure = k.procedure; body = k.body; is = k.is; has_body = k.has_body; stands = inr (l.lead t n k.procedure k.body v k.is k.has_body p r h led) }
+]
 
 -- a procedure with a body is entered at a known point
 pub known_entry : (l : PlaceLaws) (t : TypedProgram) → IsTrue (is_valid t) → (f : ℕ) (q : TypedProcedure) (b : TypedBlock) → slice_get t.procs f ≡ Some q → q.body ≡ Some b →
@@ -194,8 +195,9 @@ known_start l t v =
       is = entry.2;
       has_body = entry.3;
       stands = elim (first_part (start_conditions t q) first) [
-        inl h ↦ inr (subst (IsOneOf (points_of_body t t.entry q b)) (sym (to_start ∙ h.1 ∙ to_body)) (l.begin t t.entry q b v entry.2 entry.3)) |
-        inr h ↦ inl (refl, subst (IsOneOf (start_points t q)) (sym to_start) h) ];
+        | inl h ↦ inr (subst (IsOneOf (points_of_body t t.entry q b)) (sym (to_start ∙ h.1 ∙ to_body)) (l.begin t t.entry q b v entry.2 entry.3))
+        | inr h ↦ inl (refl, subst (IsOneOf (start_points t q)) (sym to_start) h)
+      ];
     }
 
 -- ---- numbers

@@ -1,13 +1,14 @@
 -- The edges by letters are exactly those of the arcs, each by the letter of its act.
-use Rattle.std.proofs.Common.{◌≡◌, ◌∙◌, ◌⊎◌, ℕ, List, [], ◌∷◌, ◌++◌, Some, inl, inr, refl, sym, ap, subst}
+use Rattle.std.proofs.Common.{◌≡◌, ◌⊎◌, ℕ, List, [], ◌∷◌, ◌++◌, Some, inl, inr, refl, sym, subst}
 use Rattle.std.specs.Prelude.{slice_get}
 use Rattle.nwa_base.specs.Members.{Member}
 use Rattle.nwa_base.specs.declared.letters.Letter.{Letter}
-use Rattle.letter_acts.specs.Acts.{PlainAct, inside_act, call_act, back_act, letter_of}
+use Rattle.letter_acts.specs.Acts.{PlainAct, back_act, letter_of}
 use Rattle.letter_acts.specs.Invariant.{AreDistinct}
 use Rattle.letter_table.specs.Letters.{Arc, inside_arc, call_arc, act_number, with_act, numbered_letter, Lettered, with_arc, with_arcs}
-use Rattle.lowered_graph.specs.LetterLaws.{IsLetterOf, InsideOf, CallOf, BackOf}
+use Rattle.lowered_graph.specs.LetterLaws.{InsideOf, CallOf, BackOf}
 use Rattle.lowered_graph.proofs.ActNumbers.{act_numbered, IsLonger, longer_get, longer_itself, longer_than, with_longer, with_distinct}
+use Rattle.lowered_graph.proofs.Lists.{before_or_last}
 
 -- ---- acts
 
@@ -58,12 +59,6 @@ back_letter d q a e x targets k arcs =
 
 -- ---- members
 
-before_or_last : {X : Type 0} (xs : List X) (y x : X) → Member (xs ++ y ∷ []) x → Member xs x ⊎ (y ≡ x)
-before_or_last [] y x (inl e) = inr e
-before_or_last [] y x (inr m) = absurd m
-before_or_last (z ∷ xs) y x (inl e) = inl (inl e)
-before_or_last (z ∷ xs) y x (inr m) = elim (before_or_last xs y x m) [ inl k ↦ inl (inr k) | inr e ↦ inr e ]
-
 member_before : {X : Type 0} (xs : List X) (y x : X) → Member xs x → Member (xs ++ y ∷ []) x
 member_before [] y x m = absurd m
 member_before (z ∷ xs) y x (inl e) = inl e
@@ -97,12 +92,14 @@ pub insides_from : (d : Lettered) (arcs : List Arc) (p : ℕ) (x : Letter) (r : 
 insides_from d [] p x r m = inl m
 insides_from d (inside_arc q a e ∷ arcs) p x r m =
     elim (insides_from (with_arc d (inside_arc q a e)) arcs p x r m) [
-      inl k ↦ elim (before_or_last d.insides (q, numbered_letter d.acts a, e) (p, x, r) k) [ inl old ↦ inl old | inr is ↦ inr (inside_here d q a e arcs p x r is) ] |
-      inr k ↦ inr (inside_later (inside_arc q a e) arcs (with_arcs (with_arc d (inside_arc q a e)) arcs).acts p x r k) ]
+      | inl k ↦ elim (before_or_last d.insides (q, numbered_letter d.acts a, e) (p, x, r) k) [ inl old ↦ inl old | inr is ↦ inr (inside_here d q a e arcs p x r is) ]
+      | inr k ↦ inr (inside_later (inside_arc q a e) arcs (with_arcs (with_arc d (inside_arc q a e)) arcs).acts p x r k)
+    ]
 insides_from d (call_arc q a e f targets k ∷ arcs) p x r m =
     elim (insides_from (with_arc d (call_arc q a e f targets k)) arcs p x r m) [
-      inl old ↦ inl old |
-      inr h ↦ inr (inside_later (call_arc q a e f targets k) arcs (with_arcs (with_arc d (call_arc q a e f targets k)) arcs).acts p x r h) ]
+      | inl old ↦ inl old
+      | inr h ↦ inr (inside_later (call_arc q a e f targets k) arcs (with_arcs (with_arc d (call_arc q a e f targets k)) arcs).acts p x r h)
+    ]
 
 call_here : (d : Lettered) (q : ℕ) (a : PlainAct) (e f : ℕ) (targets : List ℕ) (k : ℕ) (arcs : List Arc) (p : ℕ) (x : Letter) (r : ℕ) →
     ◌≡◌ {A = ℕ × Letter × ℕ} (q, numbered_letter d.acts a, e) (p, x, r) →
@@ -117,12 +114,14 @@ pub calls_from : (d : Lettered) (arcs : List Arc) (p : ℕ) (x : Letter) (r : �
 calls_from d [] p x r m = inl m
 calls_from d (inside_arc q a e ∷ arcs) p x r m =
     elim (calls_from (with_arc d (inside_arc q a e)) arcs p x r m) [
-      inl old ↦ inl old |
-      inr h ↦ inr (call_later (inside_arc q a e) arcs (with_arcs (with_arc d (inside_arc q a e)) arcs).acts p x r h) ]
+      | inl old ↦ inl old
+      | inr h ↦ inr (call_later (inside_arc q a e) arcs (with_arcs (with_arc d (inside_arc q a e)) arcs).acts p x r h)
+    ]
 calls_from d (call_arc q a e f targets k ∷ arcs) p x r m =
     elim (calls_from (with_arc d (call_arc q a e f targets k)) arcs p x r m) [
-      inl h ↦ elim (before_or_last d.calls (q, numbered_letter d.acts a, e) (p, x, r) h) [ inl old ↦ inl old | inr is ↦ inr (call_here d q a e f targets k arcs p x r is) ] |
-      inr h ↦ inr (call_later (call_arc q a e f targets k) arcs (with_arcs (with_arc d (call_arc q a e f targets k)) arcs).acts p x r h) ]
+      | inl h ↦ elim (before_or_last d.calls (q, numbered_letter d.acts a, e) (p, x, r) h) [ inl old ↦ inl old | inr is ↦ inr (call_here d q a e f targets k arcs p x r is) ]
+      | inr h ↦ inr (call_later (call_arc q a e f targets k) arcs (with_arcs (with_arc d (call_arc q a e f targets k)) arcs).acts p x r h)
+    ]
 
 back_here : (d : Lettered) (q : ℕ) (a : PlainAct) (e f : ℕ) (targets : List ℕ) (k : ℕ) (arcs : List Arc) (g p : ℕ) (x : Letter) (r : ℕ) →
     ◌≡◌ {A = ℕ × ℕ × Letter × ℕ} (f, q, numbered_letter (with_act d.acts a) (back_act (act_number d.acts a) targets), k) (g, p, x, r) →
@@ -138,14 +137,17 @@ pub backs_from : (d : Lettered) (arcs : List Arc) (g p : ℕ) (x : Letter) (r : 
 backs_from d [] g p x r m = inl m
 backs_from d (inside_arc q a e ∷ arcs) g p x r m =
     elim (backs_from (with_arc d (inside_arc q a e)) arcs g p x r m) [
-      inl old ↦ inl old |
-      inr h ↦ inr (back_later (inside_arc q a e) arcs (with_arcs (with_arc d (inside_arc q a e)) arcs).acts g p x r h) ]
+      | inl old ↦ inl old
+      | inr h ↦ inr (back_later (inside_arc q a e) arcs (with_arcs (with_arc d (inside_arc q a e)) arcs).acts g p x r h)
+    ]
 backs_from d (call_arc q a e f targets k ∷ arcs) g p x r m =
     elim (backs_from (with_arc d (call_arc q a e f targets k)) arcs g p x r m) [
-      inl h ↦ elim (before_or_last d.backs (f, q, numbered_letter (with_act d.acts a) (back_act (act_number d.acts a) targets), k) (g, p, x, r) h) [
-        inl old ↦ inl old |
-        inr is ↦ inr (back_here d q a e f targets k arcs g p x r is) ] |
-      inr h ↦ inr (back_later (call_arc q a e f targets k) arcs (with_arcs (with_arc d (call_arc q a e f targets k)) arcs).acts g p x r h) ]
+      | inl h ↦ elim (before_or_last d.backs (f, q, numbered_letter (with_act d.acts a) (back_act (act_number d.acts a) targets), k) (g, p, x, r) h) [
+        | inl old ↦ inl old
+        | inr is ↦ inr (back_here d q a e f targets k arcs g p x r is)
+      ]
+      | inr h ↦ inr (back_later (call_arc q a e f targets k) arcs (with_arcs (with_arc d (call_arc q a e f targets k)) arcs).acts g p x r h)
+    ]
 
 -- ---- what is there stays
 

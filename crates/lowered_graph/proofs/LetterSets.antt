@@ -1,11 +1,10 @@
 -- The letters and edges of arcs, from none on.
-use Rattle.std.proofs.Common.{◌≡◌, ◌↔◌, ◌∙◌, ◌⊎◌, ℕ, List, [], Some, inl, inr, refl, sym, ap, subst}
-use Rattle.std.specs.Prelude.{slice_get, IsTrue}
+use Rattle.std.proofs.Common.{◌≡◌, ◌∙◌, ℕ, List, Some, inl, inr, sym, ap, subst}
+use Rattle.std.specs.Prelude.{slice_get}
 use Rattle.nwa_base.specs.Members.{Member}
 use Rattle.nwa_base.specs.declared.letters.Letter.{Letter}
 use Rattle.letter_acts.specs.Acts.{PlainAct, back_act, letter_of}
-use Rattle.letter_acts.specs.Invariant.{AreDistinct}
-use Rattle.letter_table.specs.Letters.{Arc, same_act, no_letters, Lettered, with_arcs, lettered}
+use Rattle.letter_table.specs.Letters.{Arc, no_letters, lettered}
 use Rattle.lowered_graph.specs.LetterLaws as law
 use Rattle.lowered_graph.specs.LetterLaws.{InsideOf, CallOf, BackOf}
 use Rattle.letter_table.proofs.SameActs.{same_act_so, same_act_back}

@@ -1,3 +1,4 @@
+pub mod Lists
 pub mod ActNumbers
 pub mod LetterEdges
 pub mod LetterSets
@@ -17,3 +18,6 @@ pub mod FrameTargets
 pub mod EdgeActs
 pub mod CallActs
 pub mod GraphActs
+pub mod GraphNames
+pub mod TargetsDiffer
+pub mod WholeGraph

@@ -1,5 +1,5 @@
 -- Which columns the rows of conditions and sums name: those that stand for the columns of the program, and their own helpers.
-use Rattle.std.proofs.Common.{◌≡◌, ◌∙◌, ◌⊎◌, ℕ, zero, suc, ◌+◌, ◌<◌, ◌≤◌, ℤ, pos, negsuc, neg_ℤ, ◌+ℤ◌, ◌*ℤ◌, Bool, true, false, not, nat_eq, nat_lt, List, [], ◌∷◌, ◌++◌, map, length, Option, None, Some, inl, inr, refl, sym, ap, subst, arith, if◌then◌else◌}
+use Rattle.std.proofs.Common.{◌⊎◌, ℕ, suc, ◌+◌, ◌<◌, ◌≤◌, ℤ, pos, negsuc, neg_ℤ, ◌+ℤ◌, Bool, true, false, not, nat_eq, nat_lt, List, [], ◌∷◌, ◌++◌, map, length, Option, None, Some, inl, inr, arith, if◌then◌else◌}
 use Rattle.std.specs.List.{AllByRecursion}
 use Rattle.boogie_tree.specs.declared.tree.Op.{Op}
 use Rattle.boogie_tree.specs.declared.tree.Op.TheVariants as ops
@@ -7,7 +7,7 @@ use Rattle.boogie_tree.specs.declared.tree.Column.{Column}
 use Rattle.typed_tree.specs.TypedTree.{TypedExpression, Lit, Truth, Var, Old, Not, Neg, Bin}
 use Rattle.typed_tree.specs.AffineForm.{read_at}
 use Rattle.typed_tree.specs.AffineForm.{divisor_of}
-use Rattle.math_facts.specs.Terms.{scaled, opposite, IsBelow}
+use Rattle.math_facts.specs.Terms.{scaled, opposite}
 use Rattle.lin_rows.specs.Rows.{LinearRow}
 use Rattle.lin_rows.specs.Sums.{is_zero, led_by, added_at, summed}
 use Rattle.cond_jumps.specs.Conjunctions.{Conjunction, Jumps, joined, each_with, Plan, Just, Then, With, listed}
@@ -15,6 +15,7 @@ use Rattle.cond_jumps.specs.Forms.{Linear, Linears, number, column, negated, aft
 use Rattle.cond_jumps.specs.Comparisons.{below, above, equal, compared, never, always, named, literal, alike, equal_sums, equality, operation}
 use Rattle.cond_jumps.specs.Environments.{Environment}
 use Rattle.cond_jumps.specs.Paths.{constant_of, quotient, arithmetic, linear, is_truth, paths, gets, assigns}
+use Rattle.letter_acts.proofs.ListLemmas.{all_weaker, all_append}
 
 -- each term's column has the property
 abbrev pub AreNamed : (ℕ → Type 0) → List (ℕ × ℤ) → Type 0
@@ -43,19 +44,11 @@ pub record EachNames (A : ℕ → Type 0) (v : Environment) : Type 0 where
 
 -- ---- lists
 
-all_so : {X : Type 0} (P Q : X → Type 0) → ((x : X) → P x → Q x) → (xs : List X) → AllByRecursion P xs → AllByRecursion Q xs
-all_so P Q f [] h = tt
-all_so P Q f (x ∷ xs) h = (f x h.0, all_so P Q f xs h.1)
-
-all_both : {X : Type 0} (P : X → Type 0) (xs ys : List X) → AllByRecursion P xs → AllByRecursion P ys → AllByRecursion P (xs ++ ys)
-all_both P [] ys h k = k
-all_both P (x ∷ xs) ys h k = (h.0, all_both P xs ys h.1 k)
-
 pub terms_so : (P Q : ℕ → Type 0) → ((c : ℕ) → P c → Q c) → (ts : List (ℕ × ℤ)) → AreNamed P ts → AreNamed Q ts
-terms_so P Q f ts h = all_so (λ t. P t.0) (λ t. Q t.0) (λ t k. f t.0 k) ts h
+terms_so P Q f ts h = all_weaker (λ t. P t.0) (λ t. Q t.0) (λ t k. f t.0 k) ts h
 
 pub rows_so : (P Q : ℕ → Type 0) → ((c : ℕ) → P c → Q c) → (rs : List LinearRow) → RowsName P rs → RowsName Q rs
-rows_so P Q f rs h = all_so (λ r. AreNamed P r.terms) (λ r. AreNamed Q r.terms) (λ r k. terms_so P Q f r.terms k) rs h
+rows_so P Q f rs h = all_weaker (λ r. AreNamed P r.terms) (λ r. AreNamed Q r.terms) (λ r k. terms_so P Q f r.terms k) rs h
 
 opposite_named : (P : ℕ → Type 0) (ts : List (ℕ × ℤ)) → AreNamed P ts → AreNamed P (opposite ts)
 opposite_named P [] h = tt
@@ -114,7 +107,7 @@ negated_names A a n h = record { terms = opposite_named (IsNamed A n (a n).helpe
 -- the helpers of both, in a sum over both
 both_rows : (A : ℕ → Type 0) (n : ℕ) (x y : Linear) → SumNames A n x → SumNames A (n + x.helpers) y → RowsName (IsNamed A n (x.helpers + y.helpers)) (x.rows ++ y.rows)
 both_rows A n x y h k =
-    all_both (λ r. AreNamed (IsNamed A n (x.helpers + y.helpers)) r.terms) x.rows y.rows
+    all_append (λ r. AreNamed (IsNamed A n (x.helpers + y.helpers)) r.terms) x.rows y.rows
     (rows_so (IsNamed A n x.helpers) (IsNamed A n (x.helpers + y.helpers)) (λ c i. first_named A n x.helpers y.helpers c i) x.rows h.rows)
     (rows_so (IsNamed A (n + x.helpers) y.helpers) (IsNamed A n (x.helpers + y.helpers)) (λ c i. second_named A n x.helpers y.helpers c i) y.rows k.rows)
 
@@ -128,13 +121,13 @@ second_terms A n x y k = terms_so (IsNamed A (n + x.helpers) y.helpers) (IsNamed
 differ_terms : (A : ℕ → Type 0) (n : ℕ) (x y : Linear) → SumNames A n x → SumNames A (n + x.helpers) y → AreNamed (IsNamed A n (x.helpers + y.helpers)) (x.terms ++ opposite y.terms)
 differ_terms A n x y h k =
     let P : ℕ → Type 0 = IsNamed A n (x.helpers + y.helpers) in
-    all_both (λ t. P t.0) x.terms (opposite y.terms) (first_terms A n x y h) (opposite_named P y.terms (second_terms A n x y k))
+    all_append (λ t. P t.0) x.terms (opposite y.terms) (first_terms A n x y h) (opposite_named P y.terms (second_terms A n x y k))
 
 plus_names : (A : ℕ → Type 0) (a b : Linears) (n : ℕ) → SumNames A n (a n) → SumNames A (n + (a n).helpers) (after a b n) → SumNames A n (plus a b n)
 plus_names A a b n h k =
     let x : Linear = a n in
     let y : Linear = after a b n in
-    record { terms = all_both (λ t. IsNamed A n (x.helpers + y.helpers) t.0) x.terms y.terms (first_terms A n x y h) (second_terms A n x y k); rows = both_rows A n x y h k }
+    record { terms = all_append (λ t. IsNamed A n (x.helpers + y.helpers) t.0) x.terms y.terms (first_terms A n x y h) (second_terms A n x y k); rows = both_rows A n x y h k }
 
 pub minus_names : (A : ℕ → Type 0) (a b : Linears) (n : ℕ) → SumNames A n (a n) → SumNames A (n + (a n).helpers) (after a b n) → SumNames A n (minus a b n)
 minus_names A a b n h k = record { terms = differ_terms A n (a n) (after a b n) h k; rows = both_rows A n (a n) (after a b n) h k }
@@ -145,7 +138,7 @@ times_names A k l a b n h g =
     let y : Linear = after a b n in
     let P : ℕ → Type 0 = IsNamed A n (x.helpers + y.helpers) in
     record {
-      terms = all_both (λ t. P t.0) (scaled k y.terms) (scaled l x.terms) (scaled_named P k y.terms (second_terms A n x y g)) (scaled_named P l x.terms (first_terms A n x y h));
+      terms = all_append (λ t. P t.0) (scaled k y.terms) (scaled l x.terms) (scaled_named P k y.terms (second_terms A n x y g)) (scaled_named P l x.terms (first_terms A n x y h));
       rows = both_rows A n x y h g;
     }
 
@@ -155,11 +148,10 @@ quotient_names A n k x h =
     let P : ℕ → Type 0 = IsNamed A n (x.helpers + 1) in
     let q : ℕ = n + x.helpers in
     let terms : AreNamed P x.terms = terms_so (IsNamed A n x.helpers) P (λ c i. first_named A n x.helpers 1 c i) x.terms h.terms in
-    all_both (λ r. AreNamed P r.terms) x.rows (quotient_rows k x q)
-    (rows_so (IsNamed A n x.helpers) P (λ c i. first_named A n x.helpers 1 c i) x.rows h.rows)
-    (
+    all_append (λ r. AreNamed P r.terms) x.rows (quotient_rows k x q)
+    (rows_so (IsNamed A n x.helpers) P (λ c i. first_named A n x.helpers 1 c i) x.rows h.rows) (
       summed_named P ((q, k) ∷ opposite x.terms) (helper_named A n x.helpers, opposite_named P x.terms terms),
-      (summed_named P (x.terms ++ (q, neg_ℤ k) ∷ []) (all_both (λ t. P t.0) x.terms ((q, neg_ℤ k) ∷ []) terms (helper_named A n x.helpers, tt)), tt),
+      (summed_named P (x.terms ++ (q, neg_ℤ k) ∷ []) (all_append (λ t. P t.0) x.terms ((q, neg_ℤ k) ∷ []) terms (helper_named A n x.helpers, tt)), tt),
     )
 
 divided_names : (A : ℕ → Type 0) (k : ℤ) (a : Linears) (n : ℕ) → SumNames A n (a n) → SumNames A n (divided k a n)
@@ -170,7 +162,7 @@ remaining_names A k a n h =
     let x : Linear = a n in
     let P : ℕ → Type 0 = IsNamed A n (x.helpers + 1) in
     record {
-      terms = all_both (λ t. P t.0) x.terms ((n + x.helpers, neg_ℤ k) ∷ []) (terms_so (IsNamed A n x.helpers) P (λ c i. first_named A n x.helpers 1 c i) x.terms h.terms) (helper_named A n x.helpers, tt);
+      terms = all_append (λ t. P t.0) x.terms ((n + x.helpers, neg_ℤ k) ∷ []) (terms_so (IsNamed A n x.helpers) P (λ c i. first_named A n x.helpers 1 c i) x.terms h.terms) (helper_named A n x.helpers, tt);
       rows = quotient_names A n k x h;
     }
 
@@ -212,20 +204,20 @@ abbrev NamesBoth : (Linear → Linear → LinearRow) → Type 1
 NamesBoth row = (P : ℕ → Type 0) (x y : Linear) → AreNamed P x.terms → AreNamed P y.terms → AreNamed P (row x y).terms
 
 below_both : (k : ℤ) → NamesBoth (below k)
-below_both k P x y h g = summed_named P (x.terms ++ opposite y.terms) (all_both (λ t. P t.0) x.terms (opposite y.terms) h (opposite_named P y.terms g))
+below_both k P x y h g = summed_named P (x.terms ++ opposite y.terms) (all_append (λ t. P t.0) x.terms (opposite y.terms) h (opposite_named P y.terms g))
 
 above_both : (k : ℤ) → NamesBoth (above k)
 above_both k P x y h g = below_both k P y x g h
 
 equal_both : NamesBoth equal
-equal_both P x y h g = summed_named P (x.terms ++ opposite y.terms) (all_both (λ t. P t.0) x.terms (opposite y.terms) h (opposite_named P y.terms g))
+equal_both P x y h g = summed_named P (x.terms ++ opposite y.terms) (all_append (λ t. P t.0) x.terms (opposite y.terms) h (opposite_named P y.terms g))
 
 compared_names : (A : ℕ → Type 0) (row : Linear → Linear → LinearRow) → NamesBoth row → (a b : Linears) (n : ℕ) → SumNames A n (a n) → SumNames A (n + (a n).helpers) (after a b n) → ListNames A n (compared row a b n)
 compared_names A row r a b n h k =
     let x : Linear = a n in
     let y : Linear = after a b n in
     let P : ℕ → Type 0 = IsNamed A n (x.helpers + y.helpers) in
-    (all_both (λ s. AreNamed P s.terms) (x.rows ++ y.rows) (row x y ∷ []) (both_rows A n x y h k) (r P x y (first_terms A n x y h) (second_terms A n x y k), tt), tt)
+    (all_append (λ s. AreNamed P s.terms) (x.rows ++ y.rows) (row x y ∷ []) (both_rows A n x y h k) (r P x y (first_terms A n x y h) (second_terms A n x y k), tt), tt)
 
 pub equal_names : (A : ℕ → Type 0) (a b : Linears) (n : ℕ) → SumNames A n (a n) → SumNames A (n + (a n).helpers) (after a b n) → ListNames A n (compared equal a b n)
 equal_names A a b n h k = compared_names A equal equal_both a b n h k
@@ -235,25 +227,24 @@ named_names A c want n a = ((summed_named (IsNamed A n 0) ((c, pos 1) ∷ []) (i
 
 joined_names : (A : ℕ → Type 0) (n : ℕ) (c : Conjunction) (ds : List Conjunction) → RowsName (IsNamed A n c.helpers) c.rows → ListNames A (n + c.helpers) ds → ListNames A n (map (joined c) ds)
 joined_names A n c [] h k = tt
-joined_names A n c (d ∷ ds) h k =
-    (
-      all_both (λ r. AreNamed (IsNamed A n (c.helpers + d.helpers)) r.terms) c.rows d.rows
-          (rows_so (IsNamed A n c.helpers) (IsNamed A n (c.helpers + d.helpers)) (λ x i. first_named A n c.helpers d.helpers x i) c.rows h)
-          (rows_so (IsNamed A (n + c.helpers) d.helpers) (IsNamed A n (c.helpers + d.helpers)) (λ x i. second_named A n c.helpers d.helpers x i) d.rows k.0),
-      joined_names A n c ds h k.1,
-    )
+joined_names A n c (d ∷ ds) h k = (
+  all_append (λ r. AreNamed (IsNamed A n (c.helpers + d.helpers)) r.terms) c.rows d.rows
+      (rows_so (IsNamed A n c.helpers) (IsNamed A n (c.helpers + d.helpers)) (λ x i. first_named A n c.helpers d.helpers x i) c.rows h)
+      (rows_so (IsNamed A (n + c.helpers) d.helpers) (IsNamed A n (c.helpers + d.helpers)) (λ x i. second_named A n c.helpers d.helpers x i) d.rows k.0),
+  joined_names A n c ds h k.1,
+)
 
 each_names : (A : ℕ → Type 0) (n : ℕ) (cs : List Conjunction) (b : Jumps) → ListNames A n cs → ((m : ℕ) → ListNames A m (b m)) → ListNames A n (each_with cs b n)
 each_names A n [] b h k = tt
 each_names A n (c ∷ cs) b h k =
-    all_both (λ c. RowsName (IsNamed A n c.helpers) c.rows) (map (joined c) (b (n + c.helpers))) (each_with cs b n) (joined_names A n c (b (n + c.helpers)) h.0 (k (n + c.helpers))) (each_names A n cs b h.1 k)
+    all_append (λ c. RowsName (IsNamed A n c.helpers) c.rows) (map (joined c) (b (n + c.helpers))) (each_with cs b n) (joined_names A n c (b (n + c.helpers)) h.0 (k (n + c.helpers))) (each_names A n cs b h.1 k)
 
 -- a plan names these columns wherever its helpers begin
 abbrev pub PlanNames : (ℕ → Type 0) → Plan → Type 0
 PlanNames A a = (n : ℕ) → ListNames A n (listed a n)
 
 then_names : (A : ℕ → Type 0) (a b : Plan) → PlanNames A a → PlanNames A b → PlanNames A (Then a b)
-then_names A a b h k n = all_both (λ c. RowsName (IsNamed A n c.helpers) c.rows) (listed a n) (listed b n) (h n) (k n)
+then_names A a b h k n = all_append (λ c. RowsName (IsNamed A n c.helpers) c.rows) (listed a n) (listed b n) (h n) (k n)
 
 pub with_names : (A : ℕ → Type 0) (a b : Plan) → PlanNames A a → PlanNames A b → PlanNames A (With a b)
 with_names A a b h k n = each_names A n (listed a n) (listed b) (h n) k

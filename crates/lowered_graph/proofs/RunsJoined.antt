@@ -1,9 +1,9 @@
 -- The stack machine over points fails an assertion exactly where some feasible word leads to where it fails.
-use Rattle.std.proofs.Common.{◌≡◌, ◌↔◌, ◌∙◌, ◌⊎◌, ℕ, zero, suc, ◌+◌, ◌-◌, ◌<◌, ◌≤◌, ℤ, List, [], ◌∷◌, map, length, Option, None, Some, inl, inr, refl, sym, ap, subst, arith, IsTrue}
+use Rattle.std.proofs.Common.{◌≡◌, ◌↔◌, ◌∙◌, ℕ, zero, suc, ◌+◌, ◌<◌, ◌≤◌, List, [], ◌∷◌, map, length, Option, Some, inl, inr, refl, sym, ap, subst, arith, IsTrue}
 use Rattle.std.specs.Prelude.{slice_get}
 use Rattle.std.specs.List.{AllByRecursion}
 use Rattle.boogie_tree.specs.declared.span.Span.{Span}
-use Rattle.typed_tree.specs.TypedTree.{TypedProcedure, TypedProgram}
+use Rattle.typed_tree.specs.TypedTree.{TypedProgram}
 use Rattle.typing_rules.specs.ValidProgram.{is_valid}
 use Rattle.typing_rules.proofs.ValidLaws as valid
 use Rattle.nwa_base.specs.Members.{Member}
@@ -13,21 +13,20 @@ use Rattle.nwa_base.specs.declared.letters.Letter.{Letter}
 use Rattle.lin_rows.specs.Rows.{LinearRow}
 use Rattle.letter_acts.specs.declared.sites.Site.{Site}
 use Rattle.letter_acts.specs.Frames.{Columns, IsState, olds_of}
-use Rattle.letter_acts.specs.Acts.{PlainAct, inside_act, call_act, letter_of, act_of, frame_of}
-use Rattle.letter_acts.specs.Meaning.{InsideLeads, Situation, ActInside, ActCalls}
+use Rattle.letter_acts.specs.Acts.{PlainAct, inside_act, letter_of, act_of}
+use Rattle.letter_acts.specs.Meaning.{InsideLeads, Situation, ActInside}
 use Rattle.letter_acts.specs.Ways.{Leads, Goes}
-use Rattle.letter_acts.specs.Feasible.{IsSituation, meaning, IsFeasible, edges, machine, FeasibleWay}
+use Rattle.letter_acts.specs.Feasible.{IsSituation, meaning, edges, machine, FeasibleWay}
 use Rattle.letter_acts.proofs.WayLemmas.{leads_stack, leads_with}
 use Rattle.letter_acts.proofs.MachineLemmas.{goes_together, goes_apart, firsts, seconds, feasible_by_way}
 use Rattle.boogie_points.specs.Points.{Point}
-use Rattle.boogie_points.specs.Actions.{action_at}
 use Rattle.boogie_points.specs.Starts.{start_point_of}
 use Rattle.boogie_places.specs.Places.{program_places}
-use Rattle.lowered_steps.specs.ProgramFrames.{frame_at, width_at, shown}
+use Rattle.lowered_steps.specs.ProgramFrames.{frame_at, width_at}
 use Rattle.lowered_steps.specs.Edges.{Spot, At, Wrong}
-use Rattle.lowered_steps.specs.Stacks.{Pending, Stack, IsStep, IsStart, Reaches, MachineFails}
-use Rattle.lowered_graph.specs.Arcs.{place_number, error_place, spot_number, entering_rows, entering, start_arc, arcs_of, program_arcs}
-use Rattle.letter_table.specs.Letters.{Arc, inside_arc, call_arc, no_letters, lettered}
+use Rattle.lowered_steps.specs.Stacks.{Stack, IsStart, Reaches, MachineFails}
+use Rattle.lowered_graph.specs.Arcs.{place_number, error_place, spot_number, entering_rows, entering, program_arcs}
+use Rattle.letter_table.specs.Letters.{inside_arc, call_arc, no_letters, lettered}
 use Rattle.lowered_graph.specs.LetterLaws.{InsideOf, CallOf}
 use Rattle.lowered_graph.specs.Lowered.{site, program_sites, lowered}
 use Rattle.lowered_graph.specs.Laws.{ErrorWord}
@@ -36,8 +35,8 @@ use Rattle.lowered_graph.proofs.LetterSets.{insides_are, calls_are}
 use Rattle.lowered_graph.proofs.KnownPlaces.{PlaceLaws, IsKnown, known_start, known_number}
 use Rattle.lowered_graph.proofs.StartLetter.{IsEntered, start_led, start_leads}
 use Rattle.lowered_graph.proofs.Alphabet.{letters_of, situation, frame_is, proc_exists, inside_means, inside_meant}
-use Rattle.lowered_graph.proofs.Joined.{seen, pended, stacked, StepsTo, IsKnownSpot, IsKnownStack, from_start_or_place, step_known, step_seen}
-use Rattle.lowered_graph.proofs.JoinedBack.{inside_parts, call_parts, no_inside, letter_act, StepBack, step_back}
+use Rattle.lowered_graph.proofs.Joined.{seen, stacked, StepsTo, IsKnownSpot, IsKnownStack, from_start_or_place, step_known, step_seen}
+use Rattle.lowered_graph.proofs.JoinedBack.{inside_parts, letter_act, StepBack, step_back}
 use Rattle.lowered_graph.proofs.SiteNumbers.{site_positive, site_place}
 
 -- a way of the automaton and its letters
@@ -212,39 +211,43 @@ first_inside l t v a first y after m means e =
     let rows : List LinearRow = entering_rows (width_at t t.entry) (olds_of frame) in
     let entry = valid.entry t v in
     elim (from_start_or_place t v (inside_arc 0 h.act y.0) h.arc) [
-      inl start ↦ (let parts = inside_parts 0 0 (entering t.entry frame) h.act (place_number t t.entry (first_point t)) y.0 start in
-        let means_so : ActInside (letters_of t) (Some (entering t.entry frame)) first y.1 =
-        subst (λ (o : Option PlainAct). ActInside (letters_of t) o first y.1) (letter_act t a h.act h.letter ∙ ap Some (sym parts.1)) means in
-        let meant = inside_meant t t.entry entry.0 written 0 rows first y.1 entry.2 means_so in
-        let entered : IsEntered t y.1.values = start_led t t.entry first.values y.1.values meant.2 in
-        record {
-          stack = record { proc = t.entry; spot = At (first_point t); values = y.1.values; below = [] };
-          start = record {
-            globals = entered.globals;
-            as_many = entered.as_many;
-            locals = entered.locals;
-            proc = refl;
-            spot = refl;
-            values = entered.is;
-            state = meant.2.after;
-            below = refl;
-          };
-          seen_so = λ i. (parts.2 i, record { proc = sym meant.1 i; values = y.1.values });
-          stacked_so = e;
-        }) |
-      inr w ↦ elim w.3 [
-        inl edge ↦ (let parts = inside_parts (place_number t w.0 w.1) 0 (inside_act w.0 edge.edge.written edge.edge.rows.helpers edge.edge.rows.rows) h.act (spot_number t w.0 edge.edge.to) y.0 edge.is in
-          absurd (place_not_zero l t v w.0 w.1 w.2 parts.0)) |
-        inr c ↦ absurd (cc) ] ]
+      | inl start ↦ (let parts = inside_parts 0 0 (entering t.entry frame) h.act (place_number t t.entry (first_point t)) y.0 start in
+          let means_so : ActInside (letters_of t) (Some (entering t.entry frame)) first y.1 =
+          subst (λ (o : Option PlainAct). ActInside (letters_of t) o first y.1) (letter_act t a h.act h.letter ∙ ap Some (sym parts.1)) means in
+          let meant = inside_meant t t.entry entry.0 written 0 rows first y.1 entry.2 means_so in
+          let entered : IsEntered t y.1.values = start_led t t.entry first.values y.1.values meant.2 in
+          record {
+            stack = record { proc = t.entry; spot = At (first_point t); values = y.1.values; below = [] };
+            start = record {
+              globals = entered.globals;
+              as_many = entered.as_many;
+              locals = entered.locals;
+              proc = refl;
+              spot = refl;
+              values = entered.is;
+              state = meant.2.after;
+              below = refl;
+            };
+            seen_so = λ i. (parts.2 i, record { proc = sym meant.1 i; values = y.1.values });
+            stacked_so = e;
+          })
+      | inr w ↦ elim w.3 [
+        | inl edge ↦ (let parts = inside_parts (place_number t w.0 w.1) 0 (inside_act w.0 edge.edge.written edge.edge.rows.helpers edge.edge.rows.rows) h.act (spot_number t w.0 edge.edge.to) y.0 edge.is in
+            absurd (place_not_zero l t v w.0 w.1 w.2 parts.0))
+        | inr c ↦ absurd (cc)
+      ]
+    ]
 
 first_call : (l : PlaceLaws) (t : TypedProgram) → IsTrue (is_valid t) → (a : Letter) (q : ℕ) → Member (lowered t).automaton.calls (0, a, q) → ⊥
 first_call l t v a q m =
     let h : CallOf (program_arcs t) (lettered (program_arcs t)).acts 0 a q = (calls_are (program_arcs t) 0 q a).0 m in
     elim (from_start_or_place t v (call_arc 0 h.act q h.from h.targets h.behind) h.arc) [
-      inl start ↦ cc |
-      inr w ↦ elim w.3 [
-        inl edge ↦ cc |
-        inr c ↦ (let is : place_number t w.0 w.1 ≡ 0 = cc in place_not_zero l t v w.0 w.1 w.2 is) ] ]
+      | inl start ↦ cc
+      | inr w ↦ elim w.3 [
+        | inl edge ↦ cc
+        | inr c ↦ (let is : place_number t w.0 w.1 ≡ 0 = cc in place_not_zero l t v w.0 w.1 w.2 is)
+      ]
+    ]
 
 first_step : (l : PlaceLaws) (t : TypedProgram) → IsTrue (is_valid t) → (kind : Kind) (a : Letter) (first : Situation) (y : ℕ × Situation) (after : List (ℕ × Situation)) →
     Leads (machine (lowered t).automaton (letters_of t)) kind a [] (0, first) y (λ s. s ≡ after) → FirstStep t y after

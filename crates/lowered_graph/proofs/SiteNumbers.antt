@@ -1,5 +1,5 @@
 -- The assertions of a program have the numbers from 1 on, in the order of its places.
-use Rattle.std.proofs.Common.{◌≡◌, ◌∙◌, ◌⊎◌, ℕ, zero, suc, ◌+◌, ◌-◌, ◌<◌, ◌≤◌, Bool, true, false, not, List, [], ◌∷◌, ◌++◌, map, length, Option, None, Some, inl, inr, refl, sym, ap, subst, arith, append_assoc, if◌then◌else◌, IsTrue}
+use Rattle.std.proofs.Common.{◌≡◌, ◌∙◌, ℕ, zero, suc, ◌+◌, ◌-◌, ◌≤◌, Bool, true, false, not, List, [], ◌∷◌, ◌++◌, map, length, Option, None, Some, inl, inr, refl, sym, ap, subst, arith, append_assoc, if◌then◌else◌, IsTrue}
 use Rattle.std.specs.Prelude.{slice_get, take}
 use Rattle.std.proofs.lemmas.List.{length-append, map-append}
 use Rattle.boogie_tree.specs.declared.span.Span.{Span}
@@ -10,13 +10,14 @@ use Rattle.typing_rules.specs.Counts.{one_if, one_if_plain, plain_invariants, pl
 use Rattle.typing_rules.proofs.ValidLaws as valid
 use Rattle.nwa_base.specs.Members.{Member}
 use Rattle.letter_acts.specs.declared.sites.Site.{Site}
-use Rattle.boogie_points.specs.Points.{Todo, Stage, Start, Entry, Body, Exit, Point, at_exit, before, settled, past}
+use Rattle.boogie_points.specs.Points.{Todo, Start, Entry, Point, at_exit, before, settled, past}
 use Rattle.boogie_points.specs.Actions as actions
 use Rattle.boogie_points.specs.Actions.{Action, next_part, action_at, stage_action, start_action, entry_action, exit_action, checked, guarded, head_action, havoc_action, one_of, ways_to, call_if_any, call_action, called_action, unseen_action, free_conditions, ensured_conditions, start_conditions, plain_conditions, chosen_columns, first_assertion, first_place, first_point, assertions_before}
 use Rattle.boogie_places.specs.Places.{parts_from, at_statement, points_in, points_of, points_of_body, start_points, count_from, Place, located, points_with, places_from, starts_if_any, program_places}
 use Rattle.lowered_graph.specs.Arcs.{error_place}
-use Rattle.lowered_graph.specs.Lowered.{site, action_sites, sites_of, program_sites}
+use Rattle.lowered_graph.specs.Lowered.{action_sites, sites_of, program_sites}
 use Rattle.lowered_graph.proofs.CallPlaces.{action_is}
+use Rattle.lowered_graph.proofs.Lists.{member_either}
 
 -- ---- the numbers of the assertions of actions
 
@@ -242,7 +243,7 @@ call_parts t n q body span cs f es b loop id at under (Some r) e =
     let is : List TypedInvariant = plain_conditions r.specs in
     let each : (i : ℕ) → ids_of (at_stage t n q body (record here { part = i })) ≡ one_if_any (slice_get is i) (id + i) =
     λ i. ap (λ (o : Option TypedProcedure). ids_of (call_if_any o id f span cs es (record here { part = i }) next)) e
-      ∙ call_ids (slice_get is i) (id + i) f r span cs es (i - length is) (record here { part = i }) next in
+    ∙ call_ids (slice_get is i) (id + i) f r span cs es (i - length is) (record here { part = i }) next in
     ap (λ (k : ℕ). all_ids (at_stage t n q body) (parts_from here 0 (k + 1))) (sym (plain_count r.specs)) ∙ demanded_parts (at_stage t n q body) here id is each ∙ ap (count_from id) (plain_count r.specs)
 
 mutual
@@ -263,7 +264,7 @@ mutual
       let miss : Point = settled (record { rest = y; of_loop = false; id = id + block_assertions t.procs x; at = at + 1 + block_points t.procs x } ∷ after) in
       ap (λ (l : List ℕ). l ++ all_ids (at_stage t n q body) (xs ++ ys)) (guarded_ids g hit miss)
       ∙ both_ids (at_stage t n q body) xs ys id (block_assertions t.procs x) (block_assertions t.procs y) (ids_in_block t n q body x false id (at + 1) after)
-        (ids_in_block t n q body y false (id + block_assertions t.procs x) (at + 1 + block_points t.procs x) after)
+      (ids_in_block t n q body y false (id + block_assertions t.procs x) (at + 1 + block_points t.procs x) after)
   ids_in t n q body (While span g is x) b loop id at under =
       let here : Todo = record { rest = Then (While span g is x) b; of_loop = loop; id = id; at = at } in
       let heads : List Point = parts_from (before (here ∷ under)) 0 (length is + 1) in
@@ -317,7 +318,7 @@ body_ids t n q b =
     let none : all_ids f entries ≡ [] = no_part f entry 0 free (λ i. entry_ids (slice_get (free_conditions q.specs) i) (slice_get (free_conditions q.specs) (i + 1)) (record entry { part = i })) in
     let each : (i : ℕ) → ids_of (f (record at_exit { part = i })) ≡ id_if_any (slice_get ensured i) (first + inside + plain_invariants (take i ensured)) =
     λ i. exit_ids (slice_get ensured i) (first + (inside + plain_invariants (take i ensured))) (record at_exit { part = i })
-      ∙ ap (id_if_any (slice_get ensured i)) (let e : first + (inside + plain_invariants (take i ensured)) ≡ first + inside + plain_invariants (take i ensured) = omega arith in e) in
+    ∙ ap (id_if_any (slice_get ensured i)) (let e : first + (inside + plain_invariants (take i ensured)) ≡ first + inside + plain_invariants (take i ensured) = omega arith in e) in
     let of_exits : all_ids f exits ≡ count_from (first + inside) (plain_ensures q.specs) = checked_parts f at_exit (first + inside) ensured each ∙ ap (count_from (first + inside)) (ensured_plain q.specs) in
     all_ids-append f entries (inner ++ exits) ∙ ap (λ (l : List ℕ). l ++ all_ids f (inner ++ exits)) none
     ∙ both_ids f inner exits first inside (plain_ensures q.specs) (ids_in_block t n q b b false first (first_place t n + free) []) of_exits
@@ -381,7 +382,7 @@ from_ids t front (q ∷ qs) e =
     let apart : place_ids t (located n (points_with t n q q.body) ++ places_from t (n + 1) qs) ≡ place_ids t (located n (points_with t n q q.body)) ++ place_ids t (places_from t (n + 1) qs) =
     place_ids-append t (located n (points_with t n q q.body)) (places_from t (n + 1) qs) in
     let whole : count_from (first_assertion t.procs n) (body_assertions t.procs q.specs q.body + assertions_of_all t.procs qs)
-      ≡ count_from (first_assertion t.procs n) (body_assertions t.procs q.specs q.body) ++ count_from (first_assertion t.procs n + body_assertions t.procs q.specs q.body) (assertions_of_all t.procs qs) =
+    ≡ count_from (first_assertion t.procs n) (body_assertions t.procs q.specs q.body) ++ count_from (first_assertion t.procs n + body_assertions t.procs q.specs q.body) (assertions_of_all t.procs qs) =
     count_append (first_assertion t.procs n) (body_assertions t.procs q.specs q.body) (assertions_of_all t.procs qs) in
     cc
 
@@ -410,7 +411,7 @@ sites_numbered t v =
     let none : place_ids t (located t.entry (start_points t q)) ≡ [] =
     located_ids t t.entry q b (start_points t q) entry.2 entry.3
     ∙ no_part (at_stage t t.entry q b) point 0 (length conditions)
-      (λ i. start_ids (slice_get conditions i) (slice_get conditions (i + 1)) (record point { part = i }) (first_point q b (first_assertion t.procs t.entry) (first_place t t.entry))) in
+    (λ i. start_ids (slice_get conditions i) (slice_get conditions (i + 1)) (record point { part = i }) (first_point q b (first_assertion t.procs t.entry) (first_place t t.entry))) in
     let of_starts : place_ids t starts ≡ [] = ap (λ (o : Option TypedProcedure). place_ids t (located t.entry (starts_if_any t o))) entry.2 ∙ none in
     let first : first_assertion t.procs 0 ≡ 1 = (let e = none_before t.procs t.procs in omega arith) in
     let of_all : place_ids t all ≡ count_from 1 (assertions_of_all t.procs t.procs) = from_ids t [] t.procs refl ∙ ap (λ (i : ℕ). count_from i (assertions_of_all t.procs t.procs)) first in
@@ -451,16 +452,12 @@ action_site t n (actions.Grant f args e next) s m = absurd m
 action_site t n (actions.Finish f args targets next) s m = absurd m
 action_site t n actions.Leave s m = absurd m
 
-member_either : {X : Type 0} (xs ys : List X) (x : X) → Member (xs ++ ys) x → Member xs x ⊎ Member ys x
-member_either [] ys x m = inr m
-member_either (y ∷ xs) ys x (inl e) = inl (inl e)
-member_either (y ∷ xs) ys x (inr m) = elim (member_either xs ys x m) [ inl h ↦ inl (inr h) | inr h ↦ inr h ]
-
 places_site : (t : TypedProgram) (ps : List Place) (s : ℕ × Site) → Member (sites_of t ps) s → s.1.place ≡ error_place t s.1.id.number
 places_site t [] s m = absurd m
 places_site t (p ∷ ps) s m = elim (member_either (action_sites t p.proc (action_at t p.proc p.point)) (sites_of t ps) s m) [
-  inl h ↦ action_site t p.proc (action_at t p.proc p.point) s h |
-  inr h ↦ places_site t ps s h ]
+  | inl h ↦ action_site t p.proc (action_at t p.proc p.point) s h
+  | inr h ↦ places_site t ps s h
+]
 
 -- its place is that where the assertion fails
 pub site_place : (t : TypedProgram) (s : ℕ × Site) → Member (program_sites t) s → s.1.place ≡ error_place t s.1.id.number

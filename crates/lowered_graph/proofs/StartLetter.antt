@@ -1,5 +1,5 @@
 -- The letter of the start allows exactly those states whose old values are those of their globals.
-use Rattle.std.proofs.Common.{◌≡◌, ◌∙◌, ℕ, zero, suc, ◌+◌, ◌<◌, ◌≤◌, Bool, true, false, not, ℤ, pos, negsuc, List, [], ◌∷◌, ◌++◌, map, length, Some, refl, sym, ap, subst, arith, append_assoc}
+use Rattle.std.proofs.Common.{◌≡◌, ◌∙◌, ℕ, zero, suc, ◌+◌, ◌<◌, Bool, true, false, not, ℤ, pos, negsuc, List, [], ◌∷◌, ◌++◌, map, length, refl, sym, ap, subst, arith, append_assoc}
 use Rattle.std.proofs.lemmas.Int.{ints}
 use Rattle.std.specs.Prelude.{slice_set}
 use Rattle.std.specs.List.{AllByRecursion}
@@ -9,13 +9,13 @@ use Rattle.boogie_tree.specs.declared.tree.Column.TheVariants.{Global, Old, Loca
 use Rattle.boogie_tree.specs.declared.tree.VarInfo.{VarInfo}
 use Rattle.typed_tree.specs.TypedTree.{TypedProgram}
 use Rattle.math_facts.specs.Terms.{dot}
-use Rattle.lin_rows.specs.Rows.{LinearRow, Holds}
+use Rattle.lin_rows.specs.Rows.{Holds}
 use Rattle.lin_rows.specs.Points.{point_of}
 use Rattle.lin_rows.specs.Sums.{row_of}
 use Rattle.lin_rows.specs.declared.types.RowKind.TheVariants.{Eq}
 use Rattle.cond_jumps.proofs.FormLemmas.{row_holds, row_held}
 use Rattle.letter_acts.specs.Frames.{Columns, IsState, added, globals_from, old_columns, locals_from, old_at, olds_from, olds_of}
-use Rattle.letter_acts.specs.Values.{put_all, RowsHold}
+use Rattle.letter_acts.specs.Values.{put_all}
 use Rattle.letter_acts.specs.Meaning.{InsideLeads}
 use Rattle.boogie_run.specs.Needs.{locals_at}
 use Rattle.lowered_steps.specs.ProgramFrames.{frame_at, width_at, variable_values, shown}
@@ -113,7 +113,7 @@ locals_none : (n k : ℕ) (vs : List VarInfo) → olds_from n (locals_from k vs)
 locals_none n k [] = refl
 locals_none n k (v ∷ vs) = locals_none (suc n) (suc k) vs
 
-globals_count : (n : ℕ) (vs : List VarInfo) → length (globals_from n vs) ≡ length vs
+pub globals_count : (n : ℕ) (vs : List VarInfo) → length (globals_from n vs) ≡ length vs
 globals_count n [] = refl
 globals_count n (v ∷ vs) = ap suc (globals_count (suc n) vs)
 
@@ -322,7 +322,7 @@ start_leads t n s state e =
         helpers = [];
         as_many = refl;
         hold = rows_so (point_of ((s ++ news) ++ [])) (width_at t n) (olds_of (frame_at t n))
-          (written_values t n s news (state_count (frame_at t n) s state) as_many ∙ sym (entered_values t n s news w));
+            (written_values t n s news (state_count (frame_at t n) s state) as_many ∙ sym (entered_values t n s news w));
       };
     }
   where

@@ -13,7 +13,7 @@ use Rattle.boogie_points.specs.Actions as actions
 use Rattle.boogie_points.specs.Actions.{Action, action_at, ensured_conditions}
 use Rattle.boogie_points.specs.Starts.{point_of_call, start_point_of, targets_at}
 use Rattle.boogie_places.specs.Places.{Place, number_of, program_places}
-use Rattle.lowered_steps.specs.ProgramFrames.{frame_at, width_at}
+use Rattle.lowered_steps.specs.ProgramFrames.{frame_at}
 use Rattle.lowered_steps.specs.Edges.{Spot, At, Wrong, Edge, inside_edges, call_list, numbers_in}
 
 -- ---- numbers of places
@@ -63,7 +63,7 @@ inside_arcs t n here edges =
 abbrev pub call_arcs : TypedProgram → ℕ → Point → ℕ → List Conjunction → List Arc
 call_arcs t n here f cs =
     map (λ c. call_arc (place_number t n here) (call_act n f c.helpers c.rows) (place_number t f (point_of_call t f (slice_get t.procs f)))
-      (return_place t f) (numbers_in (frame_at t n) (targets_at here.todo)) (place_number t n (settled (past_first t.procs here.todo)))) cs
+    (return_place t f) (numbers_in (frame_at t n) (targets_at here.todo)) (place_number t n (settled (past_first t.procs here.todo)))) cs
 
 abbrev pub action_arcs : TypedProgram → ℕ → Point → Action → List Arc
 action_arcs t n here (actions.Enter f args) = call_arcs t n here f (call_list t n f args)

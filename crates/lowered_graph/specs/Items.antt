@@ -7,7 +7,6 @@ use Rattle.typed_tree.specs.TypedTree.{TypedExpression, Lit, Truth, Var, Old, No
 use Rattle.typing_rules.specs.Counts.{checked_at_call}
 use Rattle.letter_acts.specs.Frames.{Columns}
 use Rattle.cond_jumps.specs.Conjunctions.{Plan, Just, With, is_wide, all_fit}
-use Rattle.cond_jumps.specs.Environments.{Environment}
 use Rattle.cond_jumps.specs.Paths.{paths}
 use Rattle.cond_jumps.specs.Frames.{frame_environment}
 use Rattle.cond_jumps.specs.Passing.{passed, standing_environment}

@@ -5,13 +5,13 @@ use Rattle.typing_rules.specs.ValidProgram.{is_valid}
 use Rattle.nwa_base.specs.declared.letters.Letter.{Letter}
 use Rattle.nwa_base.specs.Members.{Member}
 use Rattle.letter_acts.specs.declared.sites.Site.{Site}
-use Rattle.letter_acts.specs.Acts.{Alphabet}
 use Rattle.letter_acts.specs.Feasible.{IsFeasible, edges}
 use Rattle.letter_acts.specs.Ways.{Goes}
-use Rattle.letter_acts.specs.Invariant.{Graph, alphabet_of}
+use Rattle.letter_acts.specs.Invariant.{Graph, IsGraph, alphabet_of}
 use Rattle.boogie_run.specs.Runs.{Fails}
 use Rattle.lowered_steps.specs.Stacks.{MachineFails}
 use Rattle.lowered_graph.specs.Lowered.{lowered}
+use Rattle.lowered_graph.specs.Widths.{ActsFit}
 
 -- Some feasible word has a run of the automaton that ends where assertion i fails.
 pub record ErrorWord (g : Graph) (i : ℕ) : Type 0 where
@@ -33,3 +33,7 @@ LoweringIsFaithful = (t : TypedProgram) → IsTrue (is_valid t) → IsFaithful t
 -- The stack machine over points fails an assertion exactly where some feasible word leads to where it fails.
 abbrev pub MachineIsJoined : Type 0
 MachineIsJoined = (t : TypedProgram) → IsTrue (is_valid t) → (i : ℕ) → MachineFails t i ↔ ErrorWord (lowered t) i
+
+-- The graph of a typed program is as the invariant of graphs asks, wherever the numbers of the columns of its acts fit.
+abbrev pub LoweredIsGraph : Type 0
+LoweredIsGraph = (t : TypedProgram) → IsTrue (is_valid t) → ActsFit (alphabet_of (lowered t)) → IsGraph (lowered t)

@@ -1,9 +1,11 @@
 //! Laws of the graph of a typed program.
 
-use boogie_places::laws::places_of_typed_programs;
-
 ghost use Rattle.lowered_graph.specs.LetterLaws as letters;
 ghost use Rattle.lowered_graph.specs.Laws as law;
+
+use boogie_places::laws::places_of_typed_programs;
+use lowered_imports::laws::points_of_typed_programs;
+use lowered_runs::laws::machines_of_typed_programs;
 
 /// Equal acts are one letter: the list of acts has no act twice and only grows, and the edges by letters are exactly those of the
 /// arcs, each by the letter of its act.
@@ -22,4 +24,21 @@ pub fn machine_runs_are_words()
     ensures { law.MachineIsJoined }
 {
     places_of_typed_programs();
+}
+
+/// Faithful: some run of a typed program fails an assertion exactly where some feasible word leads, in the automaton of its graph, to
+/// the place where that assertion fails.
+pub fn lowering_is_faithful()
+    ensures { law.LoweringIsFaithful }
+{
+    machine_runs_are_words();
+    machines_of_typed_programs();
+}
+
+/// The graph of a typed program keeps the invariant of graphs, wherever the numbers of the columns of its acts fit.
+pub fn lowered_programs_are_graphs()
+    ensures { law.LoweredIsGraph }
+{
+    places_of_typed_programs();
+    points_of_typed_programs();
 }
