@@ -84,7 +84,7 @@ decided w p a P values h l s =
     }
 
 -- a list that is the first of another number of columns
-decided_at : (w : ℕ) (p : ℕ → ℤ) (a : Jumps) (P : Type 0) (values : List ℤ) (n : ℕ) → length values ≡ n → IsPath w p a P → w ≤ n → Agrees w p (point_of values) → Decide values (a n) P
+pub decided_at : (w : ℕ) (p : ℕ → ℤ) (a : Jumps) (P : Type 0) (values : List ℤ) (n : ℕ) → length values ≡ n → IsPath w p a P → w ≤ n → Agrees w p (point_of values) → Decide values (a n) P
 decided_at w p a P values n e h l s =
     let d : Decide values (a (length values)) P = decided w p a P values h (omega arith) s in
     subst (λ (m : ℕ). Decide values (a m) P) e d
