@@ -1,5 +1,5 @@
 -- What the code answers for plans.
-use Rattle.std.proofs.Common.{◌≡◌, ℕ, ◌+◌, Bool, true, false, ◌&&◌, ℤ, List, [], ◌∷◌, ◌++◌, map, Result, Ok, Err, refl, sym, ◌∙◌, ap, subst, arith}
+use Rattle.std.proofs.Common.{◌≡◌, ℕ, ◌+◌, Bool, true, false, ◌&&◌, ℤ, List, [], ◌∷◌, ◌++◌, map, refl, sym, ◌∙◌, ap, arith}
 use Rattle.std.specs.Prelude.{Vec}
 use Rattle.std.specs.Global.{Global}
 use Rattle.std.specs.List.{list_all}
@@ -9,21 +9,14 @@ use Rattle.lin_rows.specs.Rows.{LinearRow}
 use Rattle.typed_tree.specs.AffineForm.{fits}
 use Rattle.boogie_tree.specs.declared.tree.Op.{Op}
 use Rattle.boogie_tree.specs.declared.tree.Op.TheVariants.{Iff, Implies, And, Or, Eq, Ne, Lt, Le, Gt, Ge, Add, Sub, Mul, Div, Mod}
-use Rattle.boogie_tree.specs.declared.span.Span.{Span}
-use Rattle.typed_tree.specs.TypedTree.{TypedExpression, Bin}
-use Rattle.cond_jumps.specs.declared.shapes.Shape.{Shape}
-use Rattle.cond_jumps.specs.Environments.{Environment}
-use Rattle.cond_jumps.specs.Paths.{linear, is_truth, paths}
 use Rattle.cond_jumps.specs.declared.conj.Conj.{Conj}
-use Rattle.cond_jumps.specs.declared.refusal.Refusal.{Refusal}
 use Rattle.cond_jumps.specs.Conjunctions.{Conjunction, Jumps, joined, each_with, Plan, Just, Then, With, listed, row_fits, list_fits, all_fit}
 use Rattle.cond_jumps.specs.Comparisons.{operation}
 use Rattle.cond_jumps.specs.Conjs.{conjunction, conjunctions}
 use Rattle.cond_jumps.specs.Forms.{Linears}
-use Rattle.cond_jumps.specs.CompareView.{IsListAnswer}
 use Rattle.cond_jumps.specs.JoinView.{each_moved}
 use Rattle.cond_jumps.specs.Moving.{moved_terms, moved_row, moved, IsEven, IsEvenPlan}
-use Rattle.cond_jumps.specs.ListView.{IsPlanList, IsPlanAnswer, sums_plan, shape_of, plan_of}
+use Rattle.cond_jumps.specs.ListView.{IsPlanList, sums_plan, shape_of, plan_of}
 use Rattle.cond_jumps.specs.PairView.{crossed}
 use Rattle.cond_jumps.proofs.MovingLemmas.{map_append}
 use Rattle.cond_jumps.proofs.EvenLemmas.{listed_even}

@@ -1,12 +1,12 @@
 -- The lists that the code makes of a condition in one visit, as contracts see them: that of the wanted value, and that of the other.
-use Rattle.std.specs.Prelude.{◌≡◌, ◌⊎◌, ℕ, true, false, length, Result, MatchResult}
+use Rattle.std.specs.Prelude.{◌≡◌, ◌⊎◌, ℕ, true, false, Result, MatchResult}
 use Rattle.cond_jumps.specs.declared.pairs.Lists.{Lists}
 use Rattle.cond_jumps.specs.declared.widths.Counts.{Counts}
 use Rattle.cond_jumps.specs.declared.fault.JumpFault.{JumpFault}
 use Rattle.cond_jumps.specs.declared.fault.JumpFault.TheVariants as faults
 use Rattle.cond_jumps.specs.declared.refusal.Refusal.{Refusal}
 use Rattle.cond_jumps.specs.declared.refusal.Refusal.TheVariants.{TooBig}
-use Rattle.cond_jumps.specs.Conjunctions.{Plan, Then, With, listed, is_wide, all_fit}
+use Rattle.cond_jumps.specs.Conjunctions.{Plan, Then, With, is_wide, all_fit}
 use Rattle.cond_jumps.specs.ListView.{IsPlanList}
 use Rattle.cond_jumps.specs.WidthView.{IsWidth}
 

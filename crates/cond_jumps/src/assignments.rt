@@ -1,6 +1,6 @@
 //! The list of a parallel assignment.
 
-ghost use Rattle.std.specs.Prelude.{◌≡◌, ◌+◌, ◌≤◌, ◌<◌, ℕ, true, false, IfOk, IsOk, Err, length, map, drop};
+ghost use Rattle.std.specs.Prelude.{◌≡◌, ◌+◌, ◌≤◌, ◌<◌, ℕ, true, false, IfOk, IsOk, Err, length, map};
 ghost use Rattle.typed_tree.specs.TypedView.{expression};
 ghost use Rattle.cond_jumps.specs.Conjunctions.{Just, is_wide, all_fit};
 ghost use Rattle.cond_jumps.specs.Comparisons.{compared, equal};

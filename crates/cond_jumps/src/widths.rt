@@ -1,6 +1,6 @@
 //! How many members the lists of a condition have.
 
-ghost use Rattle.std.specs.Prelude.{◌≡◌, ◌≤◌, ℕ, Bool, not, IfOk, length};
+ghost use Rattle.std.specs.Prelude.{◌≤◌, ℕ, Bool, not, IfOk, length};
 ghost use Rattle.typed_tree.specs.TypedView.{expression};
 ghost use Rattle.cond_jumps.specs.Conjunctions.{Plan, Then, With};
 ghost use Rattle.cond_jumps.specs.Comparisons.{literal};

@@ -7,7 +7,7 @@ use Rattle.cond_jumps.specs.Frames.{frame_environment}
 use Rattle.cond_jumps.specs.ListView.{asked}
 use Rattle.cond_jumps.specs.Moving.{IsEvenPlan}
 use Rattle.cond_jumps.specs.PairView.{ArePlanLists, ArePlanAnswers}
-use Rattle.cond_jumps.specs.Paths.{linear, is_truth, paths}
+use Rattle.cond_jumps.specs.Paths.{is_truth, paths}
 use Rattle.cond_jumps.proofs.EvenLemmas.{frame_even, paths_even}
 use Rattle.cond_jumps.proofs.PairAnswers.{lists_shape_answer, lists_at, sum_lists_at}
 use Rattle.cond_jumps.proofs.lists.+lists.Goals as goal

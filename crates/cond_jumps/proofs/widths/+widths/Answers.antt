@@ -1,4 +1,4 @@
-use Rattle.std.proofs.Common.{◌≡◌, ◌≤◌, Bool, true, false, not, length, Ok, ap, sym, subst, ◌∙◌}
+use Rattle.std.proofs.Common.{◌≡◌, Bool, true, false, not, Ok, ap, sym, subst, ◌∙◌}
 use Rattle.typed_tree.specs.TypedTree.{TypedExpression}
 use Rattle.typed_tree.specs.TypedView.{expression, kind_view}
 use Rattle.cond_jumps.specs.declared.shapes.Shape.TheVariants.{Both, Over, Alike, Sums}
