@@ -1,16 +1,15 @@
 -- Decide by outcomes that stand in for those of its eliminations: each step leaves the decision as it is, but for nodes.
-use Rattle.std.proofs.Common.{◌≡◌, ℕ, zero, suc, ◌+◌, ◌<◌, ◌^◌, Bool, true, false, ℤ, List, [], ◌∷◌, ◌++◌, Option, None, Some, length, map, refl, sym, ap, ◌∙◌, subst, arith, inl, inr, ◌⊎◌}
+use Rattle.std.proofs.Common.{◌≡◌, ℕ, zero, suc, ◌+◌, ◌<◌, ◌^◌, Bool, true, false, ℤ, List, [], ◌∷◌, ◌++◌, Option, None, Some, length, map, refl, sym, ap, ◌∙◌, subst, arith, inl, inr}
 use Rattle.std.specs.List.{AllByRecursion}
 use Rattle.std.proofs.lemmas.List.{length-map, length-append}
 use Rattle.math_facts.specs.Terms.{IsBelow}
-use Rattle.math_facts.specs.Fits.{Fits}
 use Rattle.frac.specs.Fractions.{Fraction, IsFraction}
 use Rattle.lin_rows.specs.declared.systems.System.{System}
 use Rattle.lin_rows.specs.Rows.{LinearRow, Holds}
 use Rattle.lin_rows.specs.Systems.{EachHasMember, Meets}
 use Rattle.lin_rows.specs.Tightening.{tightened}
 use Rattle.farkas_check.specs.Nodes.{PlainNode, leaf, cut, plain_nodes}
-use Rattle.farkas_check.specs.Refutes.{Goal, at_most, above, with_row}
+use Rattle.farkas_check.specs.Refutes.{at_most, above}
 use Rattle.fm_elim.specs.Elimination as outcome
 use Rattle.fm_elim.specs.Worth.{MeetsAll}
 use Rattle.fm_elim.proofs.Lists.{all_append, all_parts}
@@ -19,9 +18,9 @@ use Rattle.int_decide.specs.Decisions.{Decision, refuted, whole, gap, beside, un
 use Rattle.int_decide.specs.Decide.{first_broken, floor_of, by_values, by_outcome, decide_rows, decide}
 use Rattle.int_decide.specs.Sizes.{extent, SystemBelow}
 use Rattle.int_decide.specs.Worth.{point_of}
-use Rattle.int_decide.specs.Searching.{Task, Standing, standing_of, cut_at, sides, after_broken, after_values, after_outcome, after_cases, values_if, whole_outcome, StaysTight, IsReady, found_by, decide_task, SomeMet, Takes, TakesNone, IsPoint}
+use Rattle.int_decide.specs.Searching.{Task, Standing, standing_of, cut_at, sides, after_broken, after_values, after_outcome, values_if, whole_outcome, StaysTight, IsReady, found_by, decide_task, SomeMet, Takes, TakesNone, IsPoint}
 use Rattle.int_decide.specs.Alike.{AreAlike, StandsIn, bare, StandsAfter, GoesOn, IsMetBy, ComesTo}
-use Rattle.int_decide.proofs.DecisionLaws.{nothing_beside, beside_nothing, beside_assoc}
+use Rattle.int_decide.proofs.DecisionLaws.{nothing_beside, beside_assoc}
 use Rattle.int_decide.proofs.TightRows.{at_most_stays, above_stays, tight_stay}
 use Rattle.int_decide.proofs.Points.{broken_below, whole_meets_all}
 use Rattle.int_decide.proofs.RowsDecided.{broken_of, by_elimination}

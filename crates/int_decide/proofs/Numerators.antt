@@ -1,10 +1,10 @@
 -- A rational point by numerators over one denominator, and what terms add up to there.
-use Rattle.std.proofs.Common.{◌≡◌, ℕ, zero, suc, ◌+◌, ◌<◌, ◌≤◌, ℤ, pos, ◌+ℤ◌, ◌*ℤ◌, ◌<ℤ◌, List, [], ◌∷◌, ◌++◌, length, take, drop, get_or, refl, sym, ap, ◌∙◌, subst, arith}
+use Rattle.std.proofs.Common.{◌≡◌, ℕ, zero, suc, ◌+◌, ◌<◌, ◌≤◌, ℤ, pos, ◌+ℤ◌, ◌*ℤ◌, ◌<ℤ◌, List, [], ◌∷◌, ◌++◌, length, take, drop, get_or, sym, ap, ◌∙◌, subst, arith}
 use Rattle.std.specs.List.{AllByRecursion}
 use Rattle.std.proofs.lemmas.Int.{ints}
 use Rattle.std.proofs.lemmas.List.{take_more, take_all, drop_more, drop_all}
 use Rattle.math_facts.specs.Terms.{dot}
-use Rattle.math_facts.proofs.Whole.{product_zero_left, product_assoc, product_comm}
+use Rattle.math_facts.proofs.Whole.{product_zero_left, product_assoc}
 use Rattle.frac.specs.Fractions.{Fraction, IsLowest, IsRatio}
 use Rattle.lin_rows.specs.Rows.{LinearRow}
 use Rattle.fm_elim.specs.Values.{value_at}

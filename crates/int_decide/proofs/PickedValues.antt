@@ -1,11 +1,10 @@
 -- Values that are shown to be picked are those of the elimination, up to the first that is not whole.
-use Rattle.std.proofs.Common.{◌≡◌, ◌≢◌, ℕ, zero, suc, ◌+◌, ◌<◌, ◌≤◌, ℤ, pos, negsuc, neg_ℤ, ◌+ℤ◌, ◌-ℤ◌, ◌*ℤ◌, ◌≤ℤ◌, ◌<ℤ◌, Bool, true, false, List, [], ◌∷◌, ◌++◌, Option, None, Some, Result, Ok, Err, length, map, drop, get_or, nat_eq, append_assoc, refl, sym, ap, ◌∙◌, subst, inl, inr, ◌⊎◌, arith}
+use Rattle.std.proofs.Common.{◌≡◌, ℕ, zero, suc, ◌+◌, ◌≤◌, ℤ, pos, negsuc, neg_ℤ, ◌+ℤ◌, ◌-ℤ◌, ◌*ℤ◌, ◌≤ℤ◌, ◌<ℤ◌, Bool, true, false, List, [], ◌∷◌, ◌++◌, Option, None, Some, Result, Ok, Err, length, map, drop, get_or, nat_eq, refl, sym, ap, ◌∙◌, subst, inl, inr, ◌⊎◌, arith}
 use Rattle.std.specs.Prelude.{int_lt, unsigned_abs, IfOk, IsTrue}
 use Rattle.std.specs.declared.alloc.AllocError.{AllocError}
 use Rattle.std.specs.List.{AllByRecursion}
 use Rattle.std.proofs.lemmas.Bool.{eqb-true, ne_eqb}
 use Rattle.std.proofs.lemmas.Int.{ints}
-use Rattle.math_facts.specs.Terms.{dot}
 use Rattle.math_facts.proofs.Whole.{product_comm, product_assoc, product_one_left, product_one_right, product_neg_left, product_monotone, product_strict, cancel_strict}
 use Rattle.frac.specs.Fractions.{Fraction, IsLowest, IsRatio}
 use Rattle.lin_rows.specs.Rows.{LinearRow, IsRow}
@@ -23,7 +22,7 @@ use Rattle.fm_elim.proofs.PickedPoints.{point_is_picked}
 use Rattle.int_decide.specs.Decide.{first_broken, floor_of}
 use Rattle.int_decide.specs.Searching.{cut_at, values_if}
 use Rattle.int_decide.specs.Picking.{fixed, IsNearest, IsApart, IfWhole, ArePicked}
-use Rattle.int_decide.specs.Alike.{IsCutAlike, AreAlike, StandsIn}
+use Rattle.int_decide.specs.Alike.{AreAlike, StandsIn}
 use Rattle.int_decide.proofs.Broken.{floor_is}
 
 -- ---- whole values in front

@@ -1,7 +1,6 @@
 -- Rows that follow from others at all rational points.
-use Rattle.std.proofs.Common.{◌≡◌, ℕ, zero, suc, ◌<◌, ℤ, pos, ◌+ℤ◌, ◌*ℤ◌, ◌≤ℤ◌, ◌<ℤ◌, List, [], ◌∷◌, ◌++◌, length, get_or, Option, None, Some, Result, Ok, Err, refl, sym, ap, ◌∙◌, subst, arith}
+use Rattle.std.proofs.Common.{◌≡◌, ℕ, zero, suc, ◌<◌, ℤ, pos, ◌+ℤ◌, ◌*ℤ◌, ◌≤ℤ◌, ◌<ℤ◌, List, [], ◌∷◌, length, get_or, Option, None, Some, Result, Ok, Err, sym, ◌∙◌, subst, arith}
 use Rattle.std.specs.Prelude.{IfOk, IfSome}
-use Rattle.std.specs.List.{AllByRecursion}
 use Rattle.std.specs.declared.alloc.AllocError.{AllocError}
 use Rattle.std.proofs.lemmas.Int.{ints}
 use Rattle.math_facts.specs.Terms.{dot}
@@ -12,7 +11,7 @@ use Rattle.lin_rows.specs.declared.types.RowKind.TheVariants.{Le, Eq}
 use Rattle.lin_rows.specs.Rows.{LinearRow, Stands}
 use Rattle.lin_rows.specs.Sums.{sum_kind, CanScale, scaled_sum}
 use Rattle.lin_rows.proofs.HoldsLaws.{holds-scaled_sum}
-use Rattle.fm_elim.specs.Worth.{HoldsAt, IsSolvable}
+use Rattle.fm_elim.specs.Worth.{IsSolvable}
 use Rattle.int_decide.specs.Picking.{Implies}
 
 -- `0 = 0` follows

@@ -1,6 +1,6 @@
 -- Decide by outcomes that stand in for those of its eliminations: the same but for multipliers, and for what comes after a value
 -- that is not whole.
-use Rattle.std.specs.Prelude.{◌≡◌, ℕ, ℤ, Bool, List, [], ◌∷◌, None, Some, map}
+use Rattle.std.specs.Prelude.{◌≡◌, ℕ, ℤ, List, [], ◌∷◌, None, Some, map}
 use Rattle.std.specs.List.{AllByRecursion}
 use Rattle.math_facts.specs.Fits.{Fits}
 use Rattle.frac.specs.Fractions.{Fraction, IsFraction}

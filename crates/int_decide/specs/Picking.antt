@@ -1,5 +1,5 @@
 -- A point that is shown to have the values which the elimination picks, up to the first that is not whole.
-use Rattle.std.specs.Prelude.{◌≡◌, ◌<ℤ◌, ℕ, suc, ℤ, pos, ◌-ℤ◌, ◌*ℤ◌, Bool, true, false, List, [], ◌∷◌, ◌++◌, nat_eq, unsigned_abs}
+use Rattle.std.specs.Prelude.{◌<ℤ◌, ℕ, suc, ℤ, pos, ◌-ℤ◌, Bool, true, false, List, [], ◌∷◌, ◌++◌, nat_eq, unsigned_abs}
 use Rattle.std.specs.List.{AllByRecursion}
 use Rattle.frac.specs.Fractions.{Fraction, IsLowest, IsRatio}
 use Rattle.lin_rows.specs.declared.types.RowKind.TheVariants.{Eq}

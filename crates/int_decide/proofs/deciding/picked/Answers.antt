@@ -1,6 +1,6 @@
 use Rattle.std.proofs.Common.{sym, subst}
 use Rattle.farkas_check.specs.Walks.{goal_at_hand}
-use Rattle.int_decide.specs.Searching.{Task, Standing}
+use Rattle.int_decide.specs.Searching.{Standing}
 use Rattle.int_decide.specs.Alike.{ComesTo}
 use Rattle.int_decide.proofs.Alikes.{comes_start, taken_is_tight, comes_further, comes_met}
 use Rattle.int_decide.proofs.deciding.picked.Goals as goal

@@ -1,4 +1,4 @@
-use Rattle.std.proofs.Common.{FitsSigned, of_z, ap, ◌∙◌, rules, ◌≡◌}
+use Rattle.std.proofs.Common.{FitsSigned, of_z, ap, ◌∙◌, rules}
 use Rattle.std.specs.Prelude.{IfOk, IsTrue}
 use Rattle.std.specs.Int.{w128}
 use Rattle.std.proofs.lemmas.Int.{to_z-of_z}
