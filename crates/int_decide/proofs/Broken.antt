@@ -12,7 +12,7 @@ use Rattle.int_decide.specs.Decide.{first_broken, floor_of}
 use Rattle.int_decide.specs.Searching.{cut_at}
 
 -- the greatest whole number that is not above z/d
-floor_is : (z d k : ℤ) → pos 0 <ℤ d → (k *ℤ d) ≤ℤ z → z <ℤ ((k +ℤ pos 1) *ℤ d) → k ≡ int_div_euclid z d
+pub floor_is : (z d k : ℤ) → pos 0 <ℤ d → (k *ℤ d) ≤ℤ z → z <ℤ ((k +ℤ pos 1) *ℤ d) → k ≡ int_div_euclid z d
 floor_is z (negsuc g) k p l h = absurd (omega (arith, ints))
 floor_is z (pos g) k p l h =
     let q : ℤ = int_div_euclid z (pos g) in

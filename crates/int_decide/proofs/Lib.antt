@@ -20,3 +20,7 @@ pub mod WholePoints
 pub mod Coming
 pub mod Closing
 pub mod SizeLaws
+pub mod Rationals
+pub mod Numerators
+pub mod PickedValues
+pub mod Alikes

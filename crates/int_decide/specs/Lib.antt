@@ -6,3 +6,5 @@ pub mod Worth
 pub mod Answers
 pub mod Searching
 pub mod CutCounts
+pub mod Picking
+pub mod Alike

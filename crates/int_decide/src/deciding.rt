@@ -1,9 +1,10 @@
 //! Decide of a system.
 
-ghost use Rattle.std.specs.Prelude.{◌≡◌, ◌+◌, ◌<◌, ◌^◌, Err, IfOk, OnOk, IsTrue};
+ghost use Rattle.std.specs.Prelude.{◌≡◌, ◌+◌, ◌<◌, ◌^◌, Err, IfOk, IfSome, OnOk, IsTrue, MatchBool};
 ghost use Rattle.farkas_check.specs.Nodes.{plain_nodes, is_tree};
 ghost use Rattle.farkas_check.specs.Refutes.{Refutes};
 ghost use Rattle.fm_elim.specs.Answers.{Exactly};
+ghost use Rattle.int_decide.specs.Alike.{EndsAlike};
 ghost use Rattle.int_decide.specs.Answers.{decision_of, IsWorthOf, OfRefuted, OfWhole, RefutesWithin, IsDecided};
 ghost use Rattle.int_decide.specs.Decide.{decide};
 ghost use Rattle.int_decide.specs.Decisions.{refuted, gap};
@@ -11,13 +12,13 @@ ghost use Rattle.int_decide.specs.Numbers.{DecideFits};
 ghost use Rattle.int_decide.specs.Searching.{EliminationsFit, Ends};
 ghost use Rattle.int_decide.specs.Sizes.{extent, SystemBelow};
 
-use crate::proposing::proposed;
-use crate::search::Search;
+use crate::proposing::{MOST_GOALS, accepted, proposed};
+use crate::search::{Search, Step};
 use crate::types::{Answer, DecideFault};
 use farkas_check::{Node, check, tree};
 use fm_elim::ElimFault;
 use lin_rows::System;
-use std::alloc::Global;
+use std::alloc::{AllocError, Global};
 
 /// How the search ends.
 #[derive(Drop)]
@@ -100,9 +101,45 @@ fn searched(alloc: Global, system: &System, columns: u32, depth: u32) -> Result<
     }
 }
 
+/// How the search through the system ends by outcomes that stand in for those of the eliminations, where they are found.
+fn picked(
+    alloc: Global,
+    system: &System,
+    columns: u32,
+    depth: u32,
+) -> Result<Option<Ending>, AllocError>
+    requires below { SystemBelow columns system.now }
+    requires numbered { extent system.now + depth < 2 ^ 32 }
+    ensures { IfOk result (λ o. IfSome o (EndsAlike columns depth system.now)) }
+{
+    let mut search = Search::new(alloc, system, depth)?;
+    for _goal in 0..MOST_GOALS {
+        let Some(left) = search.next()? else {
+            return Ok(Some(ending_of(search)));
+        };
+        match search.meet_picked(alloc, columns, left)? {
+            Step::Gone => {}
+            Step::Met(values) => return Ok(Some(Ending::Met(values))),
+            Step::Lost => return Ok(None),
+        }
+    }
+    Ok(None)
+}
+
+/// How a search ends that has no goal left.
+fn ending_of(search: Search) -> Ending
+    ensures { MatchBool search.entry.gap (result ≡ Ending.Open) (result ≡ Ending.Closed search.entry.nodes) }
+{
+    if search.gap {
+        Ending::Open
+    } else {
+        Ending::Closed(search.nodes)
+    }
+}
+
 /// Decide of a system: a refutation that `farkas_check::check` accepts, with at most `depth` cuts on a branch, or Decide's own
-/// whole point. A simplex is asked for refutations first, and what it proposes is checked; the rest is answered by `plain`. So
-/// the refutation need not be Decide's own, and its time may be exponential.
+/// whole point. A simplex is asked for refutations first, then for what the eliminations of Decide would find; what it proposes
+/// is checked. The rest is answered by `plain`. So the refutation need not be Decide's own, and its time may be exponential.
 ///
 /// # Errors
 ///
@@ -124,6 +161,16 @@ pub fn decide(
 {
     if let Some(proof) = proposed(alloc, system, columns, depth)? {
         return Ok(Answer::Refuted(proof));
+    }
+    match picked(alloc, system, columns, depth)? {
+        Some(Ending::Met(values)) => return Ok(Answer::Whole(values)),
+        Some(Ending::Open) => return Err(DecideFault::Gap),
+        Some(Ending::Closed(nodes)) => {
+            if let Some(proof) = accepted(alloc, system, depth, nodes)? {
+                return Ok(Answer::Refuted(proof));
+            }
+        }
+        None => {}
     }
     plain(alloc, system, columns, depth)
 }

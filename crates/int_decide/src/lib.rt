@@ -5,6 +5,8 @@
 mod deciding;
 mod laws;
 mod measuring;
+mod meeting;
+mod picking;
 mod proposing;
 mod search;
 #[cfg(test)]

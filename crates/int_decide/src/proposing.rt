@@ -14,7 +14,7 @@ use simplex_rows::{Found, try_solve};
 use std::alloc::{AllocError, Global};
 
 /// How many goals are looked at before the search is given up.
-const MOST_GOALS: u32 = 16_384;
+pub(crate) const MOST_GOALS: u32 = 16_384;
 
 /// How many pivots the simplex may make for each row and each column.
 const PIVOTS: u32 = 10;
@@ -35,7 +35,7 @@ pub fn proposed(
 }
 
 /// The refutation with these nodes, where it is one and has at most `depth` cuts on a branch.
-fn accepted(
+pub fn accepted(
     alloc: Global,
     system: &System,
     depth: u32,

@@ -1,7 +1,8 @@
 //! The search through cuts and cases: what is at hand, and what waits.
 
-ghost use Rattle.std.specs.Prelude.{◌≡◌, ◌<◌, ◌^◌, ◌++◌, ◌∷◌, [], IfOk, OnOk, suc, false, MatchBool, MatchOption, length, replicate};
+ghost use Rattle.std.specs.Prelude.{◌≡◌, ◌<◌, ◌^◌, ◌++◌, ◌∷◌, [], IfOk, OnOk, suc, false, MatchBool, MatchOption, length, map, replicate};
 ghost use Rattle.lin_rows.specs.Negating.{below_opposite};
+ghost use Rattle.lin_rows.specs.Tightening.{tightened};
 ghost use Rattle.math_facts.specs.Fits.{Fits};
 ghost use Rattle.farkas_check.specs.Refutes.{goal_of};
 ghost use Rattle.farkas_check.specs.Walks.{goal_at_hand};
@@ -9,12 +10,24 @@ ghost use Rattle.fm_elim.specs.Answers.{Exactly};
 ghost use Rattle.fm_elim.specs.Worth.{ColumnsBelow};
 ghost use Rattle.int_decide.specs.Searching.{Task, Standing, goal_extent, StepFits, IsWholePoint, IsMet};
 
+use crate::picking::picked_outcome;
 use crate::values::{first_broken, numerators};
 use farkas_check::{Node, Walk};
 use fm_elim::{Elim, ElimFault, eliminate};
 use frac::Frac;
 use lin_rows::{Col, System};
 use std::alloc::{AllocError, Global};
+
+/// What a step comes to.
+#[derive(Drop)]
+pub(crate) enum Step {
+    /// The goal is decided, or comes down to others.
+    Gone,
+    /// A whole point is found.
+    Met(Vec<i128>),
+    /// Nothing is found out.
+    Lost,
+}
 
 /// The goals that are still to be decided, with the cuts that are left for each, and what was found of those before them.
 #[derive(Drop)]
@@ -30,6 +43,7 @@ pub(crate) struct Search<'a> {
 impl<'a> Search<'a> {
     ghost use Rattle.int_decide.specs.Searching.{standing_of, IsPaired, Opens, OpensNone, Takes, TakesNone, Breaks, Goes};
     ghost use Rattle.int_decide.specs.Searching.{after_broken};
+    ghost use Rattle.int_decide.specs.Alike.{Steps};
 
     /// The search with one goal, that of the system.
     pub(crate) fn new(alloc: Global, system: &'a System, depth: u32) -> Result<Self, AllocError>
@@ -89,6 +103,36 @@ impl<'a> Search<'a> {
                 Ok(None)
             }
             Elim::Point(values) => Ok(self.meet_point(alloc, &values, left)?),
+        }
+    }
+
+    /// Decides the goal at hand as `meet` does, by an outcome that stands in for that of the elimination, where one is found.
+    pub(crate) fn meet_picked(
+        &mut self,
+        alloc: Global,
+        columns: u32,
+        left: u32,
+    ) -> Result<Step, AllocError>
+        requires paired { IsPaired self.old }
+        requires below { ColumnsBelow columns (goal_at_hand self.old.walk).rows }
+        requires tight { map tightened (goal_at_hand self.old.walk).rows ≡ (goal_at_hand self.old.walk).rows }
+        requires numbered { goal_extent (goal_at_hand self.old.walk) < 2 ^ 32 }
+        ensures { IfOk result
+            (Steps columns (record { left = left; goal = goal_at_hand self.old.walk }) self.old self.new) }
+    {
+        if self.open_cases(left)? {
+            return Ok(Step::Gone);
+        }
+        match picked_outcome(alloc, self.walk.rows(), columns)? {
+            None => Ok(Step::Lost),
+            Some(Elim::Refuted(parts)) => {
+                self.nodes.push(Node::Leaf(parts))?;
+                Ok(Step::Gone)
+            }
+            Some(Elim::Point(values)) => match self.meet_point(alloc, &values, left)? {
+                Some(numbers) => Ok(Step::Met(numbers)),
+                None => Ok(Step::Gone),
+            },
         }
     }
 

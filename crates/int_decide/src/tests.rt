@@ -9,7 +9,7 @@ use std::test::Fail;
 // `W 5 -2` is a whole point, `G` a gap and `P` a number that does not fit. Else these are the nodes of a refutation: `L 0:1 1:-1`
 // is a leaf with its parts, `C 1 2` a cut of column 1 at 2, and `A 3` cases of 3 members. bench/decide_rows.py computes all but
 // `P` from the definition.
-const DECIDED: [(u32, &str, &[&str]); 54] = [
+const DECIDED: [(u32, &str, &[&str]); 57] = [
     (
         2,
         "1 0 = 5,-1 2 = 0",
@@ -137,6 +137,25 @@ const DECIDED: [(u32, &str, &[&str]); 54] = [
         "-3 2 <= 0,3 -2 <= 0,-1 0 <= -1{1 0 <= 1|1 0 <= 2}",
         &["G", "W 2 3"],
     ),
+    // x is from -5 to -2, y is -7 then, and 2z is -2
+    (
+        3,
+        "-1 0 0 <= 5,0 -1 0 <= 7,1 1 0 <= -9,1 -1 2 = 3",
+        &["W -2 -7 -1"],
+    ),
+    // A binary search: low 0, high at least 1, middle is half of both, and the new low is the next number, below high. So middle is at
+    // least half of high - 1 and at most high - 2.
+    (
+        4,
+        "-1 <= 0,1 -1 <= -1,-1 -1 2 <= 0,1 1 -2 <= 1,0 0 -1 1 = 1,0 -1 0 1 <= -1",
+        &["W 0 3 1 2"],
+    ),
+    // One round more, in which high moves to the middle and is above low.
+    (
+        6,
+        "-1 <= 0,1 -1 <= -1,-1 -1 2 <= 0,1 1 -2 <= 1,0 0 -1 1 = 1,0 -1 0 1 <= -1,0 -1 0 -1 2 <= 0,0 1 0 1 -2 <= 1,0 0 0 0 -1 1 = 0,0 0 0 1 0 -1 <= -1",
+        &["W 0 5 2 3 4 4"],
+    ),
     // 3 times the first and 2 times the second, where 2 * (2^127-1) does not fit
     (
         2,
@@ -240,6 +259,17 @@ fn kind(text: &str) -> &str {
     }
 }
 
+/// Whether `decide` may answer so where `plain` answers what is wanted.
+fn is_allowed(wanted: &str, other: &str) -> bool {
+    match wanted {
+        // by other cuts
+        "G" => other == "G" || kind(other) == "refuted",
+        // without the numbers that do not fit
+        "P" => true,
+        _ => kind(wanted) == kind(other),
+    }
+}
+
 /// Writes an answer in short.
 fn show(text: &mut String, answer: &Answer) -> Result<(), AllocError> {
     match answer {
@@ -287,10 +317,10 @@ fn systems_are_decided(rt: HostRuntime) -> Result<(), Fail> {
             let found = decided(alloc, &system, columns, depth)?;
             let (own, other) = found.ok_or("too large")?;
             assert_eq!(rt; own.as_str(), wanted, "{text} at {depth}");
-            let kinds = (kind(wanted), kind(other.as_str()));
-            // Where Decide leaves a gap, a proposal with other cuts may refute.
-            let alike = kinds.0 == kinds.1 || kinds == ("G", "refuted");
-            assert!(rt; alike, "{text} at {depth}: {other}");
+            assert!(rt;
+                is_allowed(wanted, other.as_str()),
+                "{text} at {depth}: {other}"
+            );
         }
     }
     Ok(())
@@ -307,6 +337,18 @@ fn simplex_refutes_first(rt: HostRuntime) -> Result<(), Fail> {
     let (own, other) = found.ok_or("too large")?;
     assert_eq!(rt; own.as_str(), "P");
     assert_eq!(rt; other.as_str(), "L 0:1 1:1");
+    Ok(())
+}
+
+#[test]
+fn point_is_found_where_plain_is_past(rt: HostRuntime) -> Result<(), Fail> {
+    let alloc = rt.alloc();
+    // The first number is 2^127-1. Both rows hold at 0, which is nearest 0 in both columns.
+    let text = "1 2 <= 0,170141183460469231731687303715884105727 -3 <= 0";
+    let found = decided(alloc, &system_of(alloc, text)?, 2, 0)?;
+    let (own, other) = found.ok_or("too large")?;
+    assert_eq!(rt; own.as_str(), "P");
+    assert_eq!(rt; other.as_str(), "W 0 0");
     Ok(())
 }
 

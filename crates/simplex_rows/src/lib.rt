@@ -3,12 +3,15 @@
 #![tactic(auto)]
 
 mod forms;
+mod holding;
 mod numbers;
+mod picking;
 mod solving;
 mod tableau;
 #[cfg(test)]
 mod tests;
 mod types;
 
+pub use picking::try_pick;
 pub use solving::try_solve;
-pub use types::Found;
+pub use types::{Found, Parts, Picked};

@@ -2,7 +2,7 @@
 
 use crate::forms::{Form, Term, Variable, coefficient_of, combined, form_of, reduce};
 use crate::numbers::{product, ratio, whole};
-use crate::types::Stop;
+use crate::types::{Parts, Stop};
 use frac::{Frac, add, den, div, floor, is_whole, mul, num, sub};
 use lin_rows::{Col, Row, RowKind};
 use std::alloc::Global;
@@ -11,11 +11,11 @@ use std::cmp::Ordering;
 /// What a row adds up to, where it is no variable of the forms: a form, divided by one positive denominator, and the value
 /// at hand.
 #[derive(Drop)]
-struct Line {
-    row: u32,
-    form: Form,
-    denominator: i128,
-    value: Frac,
+pub(crate) struct Line {
+    pub(crate) row: u32,
+    pub(crate) form: Form,
+    pub(crate) denominator: i128,
+    pub(crate) value: Frac,
 }
 
 impl Line {
@@ -35,13 +35,28 @@ impl Line {
         }
         Ok(())
     }
+
+    /// Takes a variable out, by a form that is 0. The value stays as it is.
+    pub(crate) fn substitute(
+        &mut self,
+        alloc: Global,
+        variable: Variable,
+        zero: &[Term],
+    ) -> Result<(), Stop> {
+        let other = coefficient_of(self.form.as_slice(), variable);
+        if other != 0 {
+            let times = ratio(other, coefficient_of(zero, variable))?;
+            self.subtract(alloc, &times, zero)?;
+        }
+        Ok(())
+    }
 }
 
 /// A column that was solved for, by a form that is 0.
 #[derive(Drop)]
-struct Solved {
-    column: Col,
-    zero: Form,
+pub(crate) struct Solved {
+    pub(crate) column: Col,
+    pub(crate) zero: Form,
 }
 
 /// Which way a line's value has to move.
@@ -59,14 +74,23 @@ pub struct Violated {
     way: Way,
 }
 
+impl Violated {
+    /// The place of its line.
+    pub(crate) fn place(&self) -> usize {
+        self.place
+    }
+}
+
 /// The rows, with the values at hand. Each variable of a form is a column, of the value 0, or a row that adds up to its
-/// bound. A column that was solved for stands in no line: it has no bound that could be violated.
+/// bound. A column that was solved for stands in no line: it has no bound that could be violated. The rows that fix the columns
+/// from 0 on at values come after the given ones.
 #[derive(Drop)]
 pub struct Tableau<'a> {
-    alloc: Global,
-    rows: &'a [Row],
-    lines: Vec<Line>,
-    solved: Vec<Solved>,
+    pub(crate) alloc: Global,
+    pub(crate) rows: &'a [Row],
+    pub(crate) fixed: Vec<i128>,
+    pub(crate) lines: Vec<Line>,
+    pub(crate) solved: Vec<Solved>,
 }
 
 /// How the value compares with a whole number.
@@ -95,19 +119,60 @@ impl<'a> Tableau<'a> {
         Ok(Tableau {
             alloc,
             rows,
+            fixed: Vec::new(alloc),
             lines,
             solved: Vec::new(alloc),
         })
     }
 
+    /// Multipliers that refute the rows, or none: then all rows hold at the values at hand.
+    pub fn solve(&mut self, pivots: u32) -> Result<Option<Parts>, Stop> {
+        for _pivot in 0..=pivots {
+            let Some(violated) = self.first_violated() else {
+                return Ok(None);
+            };
+            match self.movable(violated) {
+                Some(term) => self.pivot(violated.place, term)?,
+                None => return Ok(Some(self.refutation(violated)?)),
+            }
+        }
+        Err(Stop::Past)
+    }
+
+    /// The kind of a row.
+    pub(crate) fn kind(&self, row: u32) -> RowKind {
+        match self.rows.get(row as usize) {
+            Some(row) => row.kind(),
+            None => RowKind::Eq,
+        }
+    }
+
+    /// The bound of a row.
+    pub(crate) fn bound(&self, row: u32) -> Result<i128, Stop> {
+        if let Some(row) = self.rows.get(row as usize) {
+            return Ok(row.bound());
+        }
+        match (row as usize).checked_sub(self.rows.len()) {
+            Some(column) => self.fixed.get(column).copied().ok_or(Stop::Past),
+            None => Err(Stop::Past),
+        }
+    }
+
     /// Which way the line's value has to move for its row to hold.
     fn way(&self, line: &Line) -> Option<Way> {
-        let row = self.rows.get(line.row as usize)?;
-        match (compared(&line.value, row.bound()), row.kind()) {
+        let bound = self.bound(line.row).ok()?;
+        match (compared(&line.value, bound), self.kind(line.row)) {
             (Ordering::Greater, _) => Some(Way::Down),
             (Ordering::Less, RowKind::Eq) => Some(Way::Up),
             _ => None,
         }
+    }
+
+    /// The line at a place, where its row does not hold.
+    pub(crate) fn violated_at(&self, place: Option<usize>) -> Option<Violated> {
+        let place = place?;
+        let way = self.way(self.lines.get(place)?)?;
+        Some(Violated { place, way })
     }
 
     /// The first row that does not hold.
@@ -135,25 +200,36 @@ impl<'a> Tableau<'a> {
         }
     }
 
-    /// The first variable that may be moved so that the violated row holds, with its coefficient.
+    /// The last column that may be moved so that the violated row holds, or the first row, with its coefficient.
     pub fn movable(&self, violated: Violated) -> Option<Term> {
         let line = self.lines.get(violated.place)?;
-        for term in line.form.as_slice() {
-            if self.moves(term, violated.way) {
-                return Some(*term);
+        let terms = line.form.as_slice();
+        let mut found = None;
+        for term in terms {
+            match term.0 {
+                Variable::Column(_) => found = Some(*term),
+                Variable::Sum(_) => {
+                    if found.is_some() {
+                        return found;
+                    }
+                    if self.moves(term, violated.way) {
+                        return Some(*term);
+                    }
+                }
             }
         }
-        None
+        found
     }
 
-    /// Moves a variable until the violated row adds up to its bound. The two change places: the row becomes a variable.
-    pub fn pivot(&mut self, violated: Violated, by: Term) -> Result<(), Stop> {
-        if violated.place >= self.lines.len() {
+    /// Moves a variable until the row of the line at that place adds up to its bound. The two change places: the row becomes a
+    /// variable.
+    pub fn pivot(&mut self, place: usize, by: Term) -> Result<(), Stop> {
+        if place >= self.lines.len() {
             return Err(Stop::Past);
         }
-        let line = self.lines.swap_remove(violated.place);
+        let line = self.lines.swap_remove(place);
         let (variable, coefficient) = by;
-        let missing = sub(&self.bound(line.row)?, &line.value)?;
+        let missing = sub(&whole(self.bound(line.row)?)?, &line.value)?;
         let moved = mul(&missing, &ratio(line.denominator, coefficient)?)?;
         let zero = self.zero_of(&line)?;
         self.substitute(variable, coefficient, zero.as_slice(), &moved)?;
@@ -165,7 +241,7 @@ impl<'a> Tableau<'a> {
     }
 
     /// The line's form with its own row taken away, which is 0.
-    fn zero_of(&self, line: &Line) -> Result<Form, Stop> {
+    pub(crate) fn zero_of(&self, line: &Line) -> Result<Form, Stop> {
         let own = [(Variable::Sum(line.row), line.denominator)];
         combined(self.alloc, 1, line.form.as_slice(), -1, &own)
     }
@@ -201,7 +277,7 @@ impl<'a> Tableau<'a> {
         let denominator = product(-sign, coefficient)?;
         let own = [(Variable::Sum(row), denominator)];
         let form = combined(self.alloc, sign, zero, 1, &own)?;
-        let value = add(&self.bound(row)?, moved)?;
+        let value = add(&whole(self.bound(row)?)?, moved)?;
         self.lines.push(Line {
             row,
             form,
@@ -211,17 +287,9 @@ impl<'a> Tableau<'a> {
         Ok(())
     }
 
-    /// The bound of a row.
-    fn bound(&self, row: u32) -> Result<Frac, Stop> {
-        match self.rows.get(row as usize) {
-            Some(row) => whole(row.bound()),
-            None => Err(Stop::Past),
-        }
-    }
-
     /// The multipliers that refute, where no variable may be moved for a violated row: its form has no columns, and each row
     /// in it is at its bound and cannot move that way.
-    pub fn refutation(&self, violated: Violated) -> Result<Vec<(u32, i128)>, Stop> {
+    pub fn refutation(&self, violated: Violated) -> Result<Parts, Stop> {
         let Some(line) = self.lines.get(violated.place) else {
             return Err(Stop::Past);
         };
@@ -258,6 +326,9 @@ impl<'a> Tableau<'a> {
         let mut sums = Vec::with_capacity(self.alloc, self.rows.len())?;
         for row in self.rows {
             sums.push(whole(row.bound())?)?;
+        }
+        for value in &self.fixed {
+            sums.push(whole(*value)?)?;
         }
         for line in &self.lines {
             if let Some(sum) = sums.get_mut(line.row as usize) {
