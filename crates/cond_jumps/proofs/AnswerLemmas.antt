@@ -27,11 +27,11 @@ use Rattle.cond_jumps.specs.SumView.{sum_of, rows_fit, IsSumOf, IsSumAnswer, par
 pub both_fit : (a b : List LinearRow) → rows_fit a ≡ true → rows_fit b ≡ true → rows_fit (a ++ b) ≡ true
 both_fit a b h k = list_all-append row_fits a b ∙ (λ j. h j && k j)
 
-and_second : (x y : Bool) → y ≡ false → (x && y) ≡ false
+pub and_second : (x y : Bool) → y ≡ false → (x && y) ≡ false
 and_second true y h = h
 and_second false y h = refl
 
-and_first : (x y : Bool) → x ≡ false → (x && y) ≡ false
+pub and_first : (x y : Bool) → x ≡ false → (x && y) ≡ false
 and_first x y h = rw h refl
 
 pub second_too_big : (a b : List LinearRow) → rows_fit b ≡ false → rows_fit (a ++ b) ≡ false

@@ -22,4 +22,5 @@ pub mod AnswerLemmas
 pub mod ListAnswers
 pub mod PlanAnswers
 pub mod WidthAnswers
+pub mod PairAnswers
 pub mod AssignAnswers

@@ -1,15 +1,19 @@
 -- Rows, sums and conjunctions whose helpers are moved.
-use Rattle.std.proofs.Common.{◌≡◌, ℕ, ◌+◌, ◌<◌, ◌≤◌, Bool, true, false, ℤ, pos, ◌+ℤ◌, ◌-ℤ◌, ◌*ℤ◌, neg_ℤ, List, [], ◌∷◌, ◌++◌, map, nat_eq, nat_lt, if◌then◌else◌, refl, sym, ◌∙◌, ap, arith}
+use Rattle.std.proofs.Common.{◌≡◌, ℕ, ◌+◌, ◌<◌, ◌≤◌, Bool, true, false, ℤ, pos, ◌+ℤ◌, ◌-ℤ◌, ◌*ℤ◌, neg_ℤ, List, [], ◌∷◌, ◌++◌, map, nat_eq, nat_lt, if◌then◌else◌, refl, sym, ◌∙◌, ap, subst, arith}
 use Rattle.std.specs.Prelude.{unsigned_abs}
+use Rattle.std.specs.List.{AllByRecursion}
 use Rattle.std.proofs.lemmas.Bool.Decides.{nat_tests}
+use Rattle.math_facts.specs.Fits.{Fits}
 use Rattle.math_facts.specs.Terms.{scaled, opposite}
 use Rattle.lin_rows.specs.declared.types.RowKind.{RowKind}
 use Rattle.lin_rows.specs.declared.types.RowKind.TheVariants.{Le}
-use Rattle.lin_rows.specs.Rows.{LinearRow, IsRow}
+use Rattle.lin_rows.specs.Rows.{LinearRow, AscendsFrom, IsCoefficient, IsRow}
 use Rattle.lin_rows.proofs.RowLemmas.{summed_of_terms}
-use Rattle.lin_rows.specs.Sums.{is_zero, led_by, added_at, summed, row_of}
+use Rattle.lin_rows.specs.Sums.{is_zero, led_by, added_at, summed, row_of, SumsFit}
 use Rattle.cond_jumps.specs.Forms.{Linear, Linears, number, column, negated, after, over, plus, minus, times, quotient_rows, over_quotient, divided, remaining}
 use Rattle.cond_jumps.specs.Moving.{moved_column, moved_terms, moved_row, moved_sum, IsEvenSum}
+use Rattle.cond_jumps.specs.Totals.{AreTotals}
+use Rattle.cond_jumps.proofs.TotalLemmas.{totals_sums_fit}
 
 -- ---- columns
 
@@ -184,3 +188,31 @@ moved_made w k r made us ts gs kind bound v m e f g h i =
     let b : summed us ≡ moved_terms w k r.terms = ap summed a ∙ summed-moved w k r.terms ∙ ap (moved_terms w k) (summed_of_terms r v) in
     let n : row_of us kind bound ≡ moved_row w k r = (λ j. record { terms = b j; kind = h j; bound = i j }) in
     m ∙ n
+
+-- ---- moved terms make a row
+
+-- columns stay in order
+moved_column_more : (w k a b : ℕ) → a ≤ b → moved_column w k a ≤ moved_column w k b
+moved_column_more w k a b l = grind (arith, nat_tests)
+
+moved_column_next : (w k a : ℕ) → moved_column w k a + 1 ≤ moved_column w k (a + 1)
+moved_column_next w k a = grind (arith, nat_tests)
+
+ascends_moved : (w k c d : ℕ) (ts : List (ℕ × ℤ)) → d ≤ moved_column w k c → AscendsFrom c ts → AscendsFrom d (moved_terms w k ts)
+ascends_moved w k c d [] l a = tt
+ascends_moved w k c d (t ∷ ts) l a =
+    let m : moved_column w k c ≤ moved_column w k t.0 = moved_column_more w k c t.0 a.0 in
+    (omega arith, ascends_moved w k (t.0 + 1) (moved_column w k t.0 + 1) ts (moved_column_next w k t.0) a.1)
+
+moved_fit : (w k : ℕ) (ts : List (ℕ × ℤ)) → AllByRecursion IsCoefficient ts → AllByRecursion (λ t. Fits t.1) (moved_terms w k ts)
+moved_fit w k [] h = tt
+moved_fit w k (t ∷ ts) h = (h.0.fits, moved_fit w k ts h.1)
+
+-- the sums of moved terms of a row fit
+pub moved_sums_fit : (w k : ℕ) (r : LinearRow) (us ts gs : List (ℕ × ℤ)) (bound : ℤ) → IsRow r → us ≡ ts → ts ≡ moved_terms w k gs → gs ≡ r.terms → bound ≡ r.bound → SumsFit us bound
+moved_sums_fit w k r us ts gs bound v e f g b =
+    let ms : List (ℕ × ℤ) = moved_terms w k r.terms in
+    let h : AreTotals ms ms = record { ascends = ascends_moved w k 0 0 r.terms (omega arith) v.ascends; fit = moved_fit w k r.terms v.coefficients; same = λ c. refl } in
+    let i : us ≡ ms = e ∙ f ∙ ap (moved_terms w k) g in
+    let P : List (ℕ × ℤ) → Type 0 = λ l. SumsFit l bound in
+    subst P (sym i) (totals_sums_fit ms ms bound h (subst Fits (sym b) v.bound_fits))

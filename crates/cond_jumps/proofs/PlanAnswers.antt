@@ -1,5 +1,5 @@
 -- What the code answers for plans.
-use Rattle.std.proofs.Common.{◌≡◌, ℕ, ◌+◌, Bool, true, false, ◌&&◌, ℤ, List, [], ◌∷◌, ◌++◌, map, Result, Ok, Err, refl, sym, ◌∙◌, ap, subst, arith}
+use Rattle.std.proofs.Common.{◌≡◌, ℕ, ◌+◌, Bool, true, false, ◌&&◌, ℤ, List, [], ◌∷◌, ◌++◌, map, refl, sym, ◌∙◌, ap, arith}
 use Rattle.std.specs.Prelude.{Vec}
 use Rattle.std.specs.Global.{Global}
 use Rattle.std.specs.List.{list_all}
@@ -9,21 +9,15 @@ use Rattle.lin_rows.specs.Rows.{LinearRow}
 use Rattle.typed_tree.specs.AffineForm.{fits}
 use Rattle.boogie_tree.specs.declared.tree.Op.{Op}
 use Rattle.boogie_tree.specs.declared.tree.Op.TheVariants.{Iff, Implies, And, Or, Eq, Ne, Lt, Le, Gt, Ge, Add, Sub, Mul, Div, Mod}
-use Rattle.boogie_tree.specs.declared.span.Span.{Span}
-use Rattle.typed_tree.specs.TypedTree.{TypedExpression, Bin}
-use Rattle.cond_jumps.specs.declared.shapes.Shape.{Shape}
-use Rattle.cond_jumps.specs.Environments.{Environment}
-use Rattle.cond_jumps.specs.Paths.{linear, is_truth, paths}
 use Rattle.cond_jumps.specs.declared.conj.Conj.{Conj}
-use Rattle.cond_jumps.specs.declared.refusal.Refusal.{Refusal}
 use Rattle.cond_jumps.specs.Conjunctions.{Conjunction, Jumps, joined, each_with, Plan, Just, Then, With, listed, row_fits, list_fits, all_fit}
 use Rattle.cond_jumps.specs.Comparisons.{operation}
 use Rattle.cond_jumps.specs.Conjs.{conjunction, conjunctions}
 use Rattle.cond_jumps.specs.Forms.{Linears}
-use Rattle.cond_jumps.specs.CompareView.{IsListAnswer}
 use Rattle.cond_jumps.specs.JoinView.{each_moved}
 use Rattle.cond_jumps.specs.Moving.{moved_terms, moved_row, moved, IsEven, IsEvenPlan}
-use Rattle.cond_jumps.specs.ListView.{IsPlanList, IsPlanAnswer, sums_plan, shape_of, plan_of}
+use Rattle.cond_jumps.specs.ListView.{IsPlanList, sums_plan, shape_of, plan_of}
+use Rattle.cond_jumps.specs.PairView.{crossed}
 use Rattle.cond_jumps.proofs.MovingLemmas.{map_append}
 use Rattle.cond_jumps.proofs.EvenLemmas.{listed_even}
 
@@ -86,22 +80,38 @@ then_built p q n x y v h k e =
           (fits_append (listed p n) (listed q n) (plan_fits p n h.fit) (plan_fits q n k.fit)) (both_true (all_fit p n) (all_fit q n) h.fit k.fit);
     }
 
-pub with_built : (p q : Plan) (n : ℕ) (x y v : Vec Conj Global) (a b : List Conj) → IsEvenPlan n q → IsPlanList p n x → IsPlanList q n y → a ≡ x.items → b ≡ y.items →
-    conjunctions v.items ≡ each_moved n (conjunctions a) (conjunctions b) → IsPlanList (With p q) n v
-with_built p q n x y v a b i h k f g e =
+-- one list with another, as the code makes it
+with_seen : (p q : Plan) (n : ℕ) (x y : Vec Conj Global) (a b : List Conj) → IsEvenPlan n q → IsPlanList p n x → IsPlanList q n y → a ≡ x.items → b ≡ y.items →
+    each_moved n (conjunctions a) (conjunctions b) ≡ listed (With p q) n
+with_seen p q n x y a b i h k f g =
     let u : conjunctions a ≡ listed p n = ap conjunctions f ∙ h.seen in
     let w : conjunctions b ≡ listed q n = ap conjunctions g ∙ k.seen in
-    let m : each_with (listed p n) (listed q) n ≡ each_moved n (listed p n) (listed q n) = each_moved_is n (listed p n) (listed q) (listed_even n q i) in
-    let fit : list_fits (each_with (listed p n) (listed q) n) ≡ true =
-    ap list_fits m ∙ each_fits n (listed p n) (listed q n) (plan_fits p n h.fit) (plan_fits q n k.fit) in
-    record {
-      seen = e ∙ (λ j. each_moved n (u j) (w j)) ∙ sym m;
-      fit = both_true (list_fits (each_with (listed p n) (listed q) n)) (all_fit p n && all_fit q n) fit (both_true (all_fit p n) (all_fit q n) h.fit k.fit);
-    }
+    (λ j. each_moved n (u j) (w j)) ∙ sym (each_moved_is n (listed p n) (listed q) (listed_even n q i))
 
--- the list of a result that stands
-pub list_of : (p : Plan) (n : ℕ) (r : Result (Vec Conj Global) Refusal) (x : Vec Conj Global) → r ≡ Ok x → IsPlanAnswer p n r → IsPlanList p n x
-list_of p n r x e h = let P : Result (Vec Conj Global) Refusal → Type 0 = λ z. IsPlanAnswer p n z in subst P e h
+with_fit : (p q : Plan) (n : ℕ) → IsEvenPlan n q → all_fit p n ≡ true → all_fit q n ≡ true → all_fit (With p q) n ≡ true
+with_fit p q n i h k =
+    let m : each_with (listed p n) (listed q) n ≡ each_moved n (listed p n) (listed q n) = each_moved_is n (listed p n) (listed q) (listed_even n q i) in
+    let f : list_fits (each_with (listed p n) (listed q) n) ≡ true =
+    ap list_fits m ∙ each_fits n (listed p n) (listed q n) (plan_fits p n h) (plan_fits q n k) in
+    both_true (list_fits (each_with (listed p n) (listed q) n)) (all_fit p n && all_fit q n) f (both_true (all_fit p n) (all_fit q n) h k)
+
+pub with_built : (p q : Plan) (n : ℕ) (x y v : Vec Conj Global) (a b : List Conj) → IsEvenPlan n q → IsPlanList p n x → IsPlanList q n y → a ≡ x.items → b ≡ y.items →
+    conjunctions v.items ≡ each_moved n (conjunctions a) (conjunctions b) → IsPlanList (With p q) n v
+with_built p q n x y v a b i h k f g e = record { seen = e ∙ with_seen p q n x y a b i h k f g; fit = with_fit p q n i h.fit k.fit }
+
+pub crossed_built : (p s q r : Plan) (n : ℕ) (x y z w v : Vec Conj Global) (a b : List Conj) → IsEvenPlan n q → IsEvenPlan n r → IsPlanList p n x → IsPlanList s n y → IsPlanList q n z → IsPlanList r n w →
+    a ≡ z.items → b ≡ w.items →
+    conjunctions v.items ≡ each_moved n (conjunctions x.items) (conjunctions a) ++ each_moved n (conjunctions y.items) (conjunctions b) → IsPlanList (crossed p s q r) n v
+crossed_built p s q r n x y z w v a b i j h k l m f g e =
+    let c : each_moved n (conjunctions x.items) (conjunctions a) ≡ listed (With p q) n = with_seen p q n x z x.items a i h l refl f in
+    let d : each_moved n (conjunctions y.items) (conjunctions b) ≡ listed (With s r) n = with_seen s r n y w y.items b j k m refl g in
+    let u : all_fit (With p q) n ≡ true = with_fit p q n i h.fit l.fit in
+    let o : all_fit (With s r) n ≡ true = with_fit s r n j k.fit m.fit in
+    record {
+      seen = e ∙ (λ t. c t ++ d t);
+      fit = both_true (list_fits (listed (With p q) n ++ listed (With s r) n)) (all_fit (With p q) n && all_fit (With s r) n)
+          (fits_append (listed (With p q) n) (listed (With s r) n) (plan_fits (With p q) n u) (plan_fits (With s r) n o)) (both_true (all_fit (With p q) n) (all_fit (With s r) n) u o);
+    }
 
 -- ---- shapes
 
@@ -132,34 +142,3 @@ shape_plan Sub kind a b x y want = refl
 shape_plan Mul kind a b x y want = refl
 shape_plan Div kind a b x y want = refl
 shape_plan Mod kind a b x y want = refl
-
--- the answer for an operation, by its shape
-pub shape_answer : (v : Environment) (old : Bool) (at : Span) (op : Op) (e f : TypedExpression) (want : Bool) (n : ℕ) (r : Result (Vec Conj Global) Refusal) (kind : Bool) (shape : Shape) →
-    kind ≡ is_truth v old e → shape ≡ shape_of op kind want →
-    IsPlanAnswer (plan_of shape (paths v old e) (paths v old f) (sums_plan op (linear v old e) (linear v old f) want)) n r →
-    IsPlanAnswer (paths v old (Bin at op e f) want) n r
-shape_answer v old at op e f want n r kind shape k s h =
-    let S : Plan = sums_plan op (linear v old e) (linear v old f) want in
-    let P : Plan → Type 0 = λ p. IsPlanAnswer p n r in
-    let i : shape ≡ shape_of op (is_truth v old e) want = s ∙ ap (λ (b : Bool). shape_of op b want) k in
-    let j : plan_of shape (paths v old e) (paths v old f) S ≡ plan_of (shape_of op (is_truth v old e) want) (paths v old e) (paths v old f) S =
-    ap (λ (z : Shape). plan_of z (paths v old e) (paths v old f) S) i in
-    subst P (j ∙ sym (shape_plan op (is_truth v old e) (paths v old e) (paths v old f) (linear v old e) (linear v old f) want)) h
-
--- an answer for the condition that was looked through
-pub paths_at : (v : Environment) (old want : Bool) (n : ℕ) (r : Result (Vec Conj Global) Refusal) (d e : TypedExpression) → d ≡ e → IsPlanAnswer (paths v old d want) n r → IsPlanAnswer (paths v old e want) n r
-paths_at v old want n r d e i h = let P : TypedExpression → Type 0 = λ z. IsPlanAnswer (paths v old z want) n r in subst P i h
-
-pub sums_at : (v : Environment) (old : Bool) (op : Op) (want : Bool) (n : ℕ) (r : Result (Vec Conj Global) Refusal) (d e g f : TypedExpression) → d ≡ e → g ≡ f →
-    IsPlanAnswer (sums_plan op (linear v old d) (linear v old g) want) n r → IsPlanAnswer (sums_plan op (linear v old e) (linear v old f) want) n r
-sums_at v old op want n r d e g f i j h =
-    let P : TypedExpression → Type 0 = λ z. IsPlanAnswer (sums_plan op (linear v old z) (linear v old g) want) n r in
-    let Q : TypedExpression → Type 0 = λ z. IsPlanAnswer (sums_plan op (linear v old e) (linear v old z) want) n r in
-    subst Q j (subst P i h)
-
--- ---- assignments
-
--- a list that was answered is the list of a plan
-pub list_plan : (a : Jumps) (n : ℕ) (r : Result (Vec Conj Global) Refusal) → IsListAnswer (a n) r → IsPlanAnswer (Just a) n r
-list_plan a n (Ok v) h = record { seen = h.0; fit = h.1 }
-list_plan a n (Err f) h = h

@@ -19,3 +19,4 @@ pub mod CompareView
 pub mod JoinView
 pub mod ListView
 pub mod WidthView
+pub mod PairView

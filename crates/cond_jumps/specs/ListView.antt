@@ -56,3 +56,15 @@ plan_of (shapes.Both x y) a b s = With (a x) (b y)
 plan_of (shapes.Over x y) a b s = Then (a x) (With (a (not x)) (b y))
 plan_of (shapes.Alike want) a b s = alike a b want
 plan_of shapes.Sums a b s = s
+
+-- how the list is put together where the operation has the other value
+abbrev pub other_plan_of : Shape → (Bool → Plan) → (Bool → Plan) → Plan → Plan
+other_plan_of (shapes.Both x y) a b s = Then (a (not x)) (With (a x) (b (not y)))
+other_plan_of (shapes.Over x y) a b s = With (a (not x)) (b (not y))
+other_plan_of (shapes.Alike want) a b s = Then (With (a true) (b (not want))) (With (a false) (b want))
+other_plan_of shapes.Sums a b s = s
+
+-- the plan of a list that is asked for, or of none
+abbrev pub asked : Bool → Plan → Plan
+asked true p = p
+asked false p = Just never

@@ -1,6 +1,6 @@
 //! The list of a parallel assignment.
 
-ghost use Rattle.std.specs.Prelude.{◌≡◌, ◌+◌, ◌≤◌, ◌<◌, true, false, IfOk, IsOk, Err, length, map, drop};
+ghost use Rattle.std.specs.Prelude.{◌≡◌, ◌+◌, ◌≤◌, ◌<◌, ℕ, true, false, IfOk, IsOk, Err, length, map};
 ghost use Rattle.typed_tree.specs.TypedView.{expression};
 ghost use Rattle.cond_jumps.specs.Conjunctions.{Just, is_wide, all_fit};
 ghost use Rattle.cond_jumps.specs.Comparisons.{compared, equal};
@@ -15,11 +15,12 @@ ghost use Rattle.cond_jumps.specs.WidthView.{IsWidthAnswer};
 use crate::comparisons::{always, compared, named};
 use crate::conj::Conj;
 use crate::fault::JumpFault;
+use crate::joining::with;
 use crate::linear::linear;
-use crate::lists::{is_truth, list, one_then, one_with};
+use crate::lists::{is_truth, lists};
 use crate::refusal::Refusal;
-use crate::sums::{Sum, later};
-use crate::widths::{width, width_then, width_with};
+use crate::sums::{Sum, joined, later};
+use crate::widths::{width_then, width_with, widths};
 use boogie_tree::Column;
 use letter_acts::Frame;
 use lin_rows::RowKind;
@@ -56,13 +57,12 @@ fn truth_list(
         (paths (frame_environment frame.now.columns.items) false (expression value.now))
         (linear (frame_environment frame.now.columns.items) false (expression value.now)) target) base result }
 {
-    let yes = list(alloc, frame, false, value, true, base);
-    let one = named(alloc, target, true);
-    let no = list(alloc, frame, false, value, false, base);
-    let zero = named(alloc, target, false);
-    let hit = one_with(alloc, base, yes, one);
-    let miss = one_with(alloc, base, no, zero);
-    one_then(hit, miss)
+    let made = lists(alloc, frame, false, value, true, true, base)?;
+    let one = named(alloc, target, true)?;
+    let zero = named(alloc, target, false)?;
+    let hit = with(alloc, base, made.wanted.as_slice(), one.as_slice())?;
+    let miss = with(alloc, base, made.other.as_slice(), zero.as_slice())?;
+    Ok(joined(hit, miss)?)
 }
 
 /// The list of a column that gets the value of an expression.
@@ -98,60 +98,55 @@ fn values_list(
     requires targets { first + length values.now ≤ base }
     ensures { IsPlanAnswer (assigns (frame_environment frame.now.columns.items) first (map expression values.now)) base result }
 {
-    let mut all = Ok(always(alloc)?);
+    let mut all = always(alloc)?;
     let mut place = values.len();
     while 0 < place {
         place -= 1;
-        let one = gets_list(alloc, frame, &values[place], first + place as u32, base);
-        all = one_with(alloc, base, one, all);
+        let one = gets_list(alloc, frame, &values[place], first + place as u32, base)?;
+        all = with(alloc, base, one.as_slice(), all.as_slice())?;
     }
-    all
+    Ok(all)
 }
 
 /// The members of the list of a column that gets the value of an expression.
-fn gets_width(frame: &Frame, value: &TExpr, target: u32, base: u32) -> Result<u32, JumpFault>
-    requires frame { length frame.now.columns.items ≤ base }
-    requires target { target < base }
-    ensures { IsWidthAnswer (gets (is_truth (frame_environment frame.now.columns.items) false (expression value.now))
+fn gets_width(frame: &Frame, value: &TExpr) -> Result<u32, JumpFault>
+    ensures { (n target : ℕ) → length frame.now.columns.items ≤ n → target < n →
+        IsWidthAnswer (gets (is_truth (frame_environment frame.now.columns.items) false (expression value.now))
         (paths (frame_environment frame.now.columns.items) false (expression value.now))
-        (linear (frame_environment frame.now.columns.items) false (expression value.now)) target) base result }
+        (linear (frame_environment frame.now.columns.items) false (expression value.now)) target) n result }
 {
     if is_truth(frame, false, value)? {
-        truth_width(frame, value, target, base)
+        truth_width(frame, value)
     } else {
         Ok(1)
     }
 }
 
 /// The members of the list of a column that gets the truth value of a condition.
-fn truth_width(frame: &Frame, value: &TExpr, target: u32, base: u32) -> Result<u32, JumpFault>
-    requires frame { length frame.now.columns.items ≤ base }
-    requires target { target < base }
-    ensures { IsWidthAnswer (gets true
+fn truth_width(frame: &Frame, value: &TExpr) -> Result<u32, JumpFault>
+    ensures { (n target : ℕ) → length frame.now.columns.items ≤ n → target < n →
+        IsWidthAnswer (gets true
         (paths (frame_environment frame.now.columns.items) false (expression value.now))
-        (linear (frame_environment frame.now.columns.items) false (expression value.now)) target) base result }
+        (linear (frame_environment frame.now.columns.items) false (expression value.now)) target) n result }
 {
-    let yes = width(frame, false, value, true, base);
-    let no = width(frame, false, value, false, base);
-    let hit = width_with(base, yes, Ok(1));
-    let miss = width_with(base, no, Ok(1));
+    let members = widths(frame, false, value, true, true)?;
+    let hit = width_with(members.wanted, 1)?;
+    let miss = width_with(members.other, 1)?;
     width_then(hit, miss)
 }
 
-/// The members of the list of columns from the first target on that get the values.
-fn values_width(frame: &Frame, values: &[TExpr], first: u32, base: u32) -> Result<u32, JumpFault>
-    requires frame { length frame.now.columns.items ≤ base }
-    requires targets { first + length values.now ≤ base }
-    ensures { IsWidthAnswer (assigns (frame_environment frame.now.columns.items) first (map expression values.now)) base result }
+/// The members of the list of columns that get the values.
+fn values_width(frame: &Frame, values: &[TExpr]) -> Result<u32, JumpFault>
+    ensures { (n first : ℕ) → length frame.now.columns.items ≤ n → first + length values.now ≤ n →
+        IsWidthAnswer (assigns (frame_environment frame.now.columns.items) first (map expression values.now)) n result }
 {
-    let mut all = Ok(1);
+    let mut all = 1;
     let mut place = values.len();
     while 0 < place {
         place -= 1;
-        let one = gets_width(frame, &values[place], first + place as u32, base);
-        all = width_with(base, one, all);
+        all = width_with(gets_width(frame, &values[place])?, all)?;
     }
-    all
+    Ok(all)
 }
 
 /// The conjunctions of which one, and no more, is met exactly where the new values of the targets are those of a parallel
@@ -181,7 +176,7 @@ pub fn assign(
         return Err(JumpFault::Memory);
     };
     let base = later(first, count)?;
-    let _width = values_width(frame, values, first, base)?;
+    let _members = values_width(frame, values)?;
     match values_list(alloc, frame, values, first, base) {
         Ok(conjs) => Ok(conjs),
         Err(Refusal::TooBig) => Err(JumpFault::TooBig),

@@ -8,9 +8,9 @@ ghost use Rattle.cond_jumps.specs.Lists.{path_plan, path_list};
 
 use crate::conj::Conj;
 use crate::fault::JumpFault;
-use crate::lists::list;
+use crate::lists::lists;
 use crate::refusal::Refusal;
-use crate::widths::width;
+use crate::widths::widths;
 use letter_acts::Frame;
 use std::alloc::Global;
 use typed_tree::TExpr;
@@ -32,9 +32,9 @@ pub fn paths(alloc: Global, frame: &Frame, cond: &TExpr, want: bool) -> Result<V
     let Ok(base) = u32::try_from(frame.columns.len()) else {
         return Err(JumpFault::Memory);
     };
-    let _width = width(frame, false, cond, want, base)?;
-    match list(alloc, frame, false, cond, want, base) {
-        Ok(conjs) => Ok(conjs),
+    let _widths = widths(frame, false, cond, want, false)?;
+    match lists(alloc, frame, false, cond, want, false, base) {
+        Ok(made) => Ok(made.wanted),
         Err(Refusal::TooBig) => Err(JumpFault::TooBig),
         Err(Refusal::Memory) => Err(JumpFault::Memory),
     }

@@ -9,7 +9,7 @@ ghost use Rattle.cond_jumps.specs.Moving.{moved_column, moved_terms, moved_row, 
 
 use crate::conj::Conj;
 use crate::sums::later;
-use lin_rows::{Row, row};
+use lin_rows::{Row, RowFault, row};
 use std::alloc::{AllocError, Global};
 
 /// The number of a column, `by` more from the column `base` on.
@@ -46,7 +46,9 @@ fn moved_row(alloc: Global, base: u32, by: u32, given: &Row) -> Result<Row, Allo
     let terms = moved_terms(alloc, base, by, given.terms())?;
     match row(alloc, terms.as_slice(), given.kind(), given.bound()) {
         Ok(made) => Ok(made),
-        Err(_) => Err(AllocError),
+        Err(RowFault::Memory) => Err(AllocError),
+        // The numbers are those of a row, and no two of its columns become one.
+        Err(RowFault::Past) => unreachable!(),
     }
 }
 

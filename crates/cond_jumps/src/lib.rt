@@ -13,6 +13,7 @@ pub mod laws;
 mod linear;
 mod lists;
 mod long;
+mod pairs;
 mod refusal;
 mod shapes;
 mod sums;

@@ -1,21 +1,21 @@
 //! The lists of conditions.
 
-ghost use Rattle.std.specs.Prelude.{◌≡◌, ◌≤◌, IfOk, ℕ, false, length};
+ghost use Rattle.std.specs.Prelude.{◌≡◌, ◌≤◌, IfOk, ℕ, true, false, not, length};
 ghost use Rattle.typed_tree.specs.TypedView.{expression};
-ghost use Rattle.cond_jumps.specs.Conjunctions.{Plan, Just, Then, With, listed};
+ghost use Rattle.cond_jumps.specs.Conjunctions.{Just, listed};
 ghost use Rattle.cond_jumps.specs.Conjs.{conjunctions};
-ghost use Rattle.cond_jumps.specs.Comparisons.{compared, equal_sums, literal};
+ghost use Rattle.cond_jumps.specs.Comparisons.{compared, equal_sums, literal, named};
 ghost use Rattle.cond_jumps.specs.Frames.{frame_environment, place, plan_at};
-ghost use Rattle.cond_jumps.specs.ListView.{IsPlanAnswer, row_by, sums_plan};
-ghost use Rattle.cond_jumps.specs.Moving.{IsEvenPlan};
+ghost use Rattle.cond_jumps.specs.ListView.{IsPlanAnswer, asked, row_by, sums_plan};
+ghost use Rattle.cond_jumps.specs.PairView.{ArePlanLists, ArePlanAnswers};
 ghost use Rattle.cond_jumps.specs.Paths.{linear, is_truth, paths};
 ghost use Rattle.typed_tree.specs.Typing.{is_some_of};
 
 use crate::columns::place;
 use crate::comparisons::{always, compared, compared_above, named};
 use crate::conj::Conj;
-use crate::joining::with;
 use crate::linear::{linear, read_at};
+use crate::pairs::{Lists, alike_lists, both_lists, over_lists};
 use crate::refusal::Refusal;
 use crate::shapes::Shape;
 use crate::sums::{joined, later};
@@ -24,32 +24,6 @@ use letter_acts::Frame;
 use lin_rows::RowKind;
 use std::alloc::{AllocError, Global};
 use typed_tree::{TExpr, TExprKind};
-
-/// One list, and behind it another.
-pub fn one_then(
-    first: Result<Vec<Conj>, Refusal>,
-    second: Result<Vec<Conj>, Refusal>,
-) -> Result<Vec<Conj>, Refusal>
-    ensures { (p q : Plan) → (n : ℕ) → IsPlanAnswer p n first → IsPlanAnswer q n second → IsPlanAnswer (Then p q) n result }
-{
-    let first = first?;
-    let second = second?;
-    Ok(joined(first, second)?)
-}
-
-/// One list with another.
-pub fn one_with(
-    alloc: Global,
-    base: u32,
-    first: Result<Vec<Conj>, Refusal>,
-    second: Result<Vec<Conj>, Refusal>,
-) -> Result<Vec<Conj>, Refusal>
-    ensures { (p q : Plan) → IsEvenPlan base q → IsPlanAnswer p base first → IsPlanAnswer q base second → IsPlanAnswer (With p q) base result }
-{
-    let first = first?;
-    let second = second?;
-    Ok(with(alloc, base, first.as_slice(), second.as_slice())?)
-}
 
 /// The comparison of two expressions by one row.
 fn comparison(
@@ -125,9 +99,38 @@ fn different(
         (linear (frame_environment frame.now.columns.items) old (expression left.now))
         (linear (frame_environment frame.now.columns.items) old (expression right.now)) false) base result }
 {
-    let less = comparison(alloc, frame, old, left, right, RowKind::Le, -1, false, base);
-    let more = comparison(alloc, frame, old, left, right, RowKind::Le, -1, true, base);
-    one_then(less, more)
+    let less = comparison(alloc, frame, old, left, right, RowKind::Le, -1, false, base)?;
+    let more = comparison(alloc, frame, old, left, right, RowKind::Le, -1, true, base)?;
+    Ok(joined(less, more)?)
+}
+
+/// Both lists of a comparison of two whole numbers.
+fn sums_lists(
+    alloc: Global,
+    frame: &Frame,
+    old: bool,
+    op: Op,
+    left: &TExpr,
+    right: &TExpr,
+    want: bool,
+    both: bool,
+    base: u32,
+) -> Result<Lists, Refusal>
+    ensures { ArePlanAnswers
+        (sums_plan op (linear (frame_environment frame.now.columns.items) old (expression left.now))
+        (linear (frame_environment frame.now.columns.items) old (expression right.now)) want)
+        (asked both (sums_plan op (linear (frame_environment frame.now.columns.items) old (expression left.now))
+        (linear (frame_environment frame.now.columns.items) old (expression right.now)) (not want))) base result }
+{
+    let wanted = sums_list(alloc, frame, old, op, left, right, want, base)?;
+    if !both {
+        return Ok(Lists {
+            wanted,
+            other: Vec::new(alloc),
+        });
+    }
+    let other = sums_list(alloc, frame, old, op, left, right, !want, base)?;
+    Ok(Lists { wanted, other })
 }
 
 /// Whether an expression that has a type is a truth value.
@@ -159,75 +162,104 @@ fn is_truth_column(frame: &Frame, column: Column) -> Result<bool, AllocError>
     }
 }
 
-/// The list of a truth value in a column.
-fn column_list(
+/// Both lists of a column with that place.
+fn named_lists(alloc: Global, number: u32, want: bool, both: bool) -> Result<Lists, Refusal>
+    ensures { (n : ℕ) → ArePlanAnswers (Just (named number want)) (asked both (Just (named number (not want)))) n result }
+{
+    let wanted = named(alloc, number, want)?;
+    if !both {
+        return Ok(Lists {
+            wanted,
+            other: Vec::new(alloc),
+        });
+    }
+    let other = named(alloc, number, !want)?;
+    Ok(Lists { wanted, other })
+}
+
+/// Both lists of a truth value in a column.
+fn column_lists(
     alloc: Global,
     frame: &Frame,
     column: Column,
     want: bool,
-    base: u32,
-) -> Result<Vec<Conj>, Refusal>
-    ensures { IsPlanAnswer (plan_at (place frame.now.columns.items column) want) base result }
+    both: bool,
+) -> Result<Lists, Refusal>
+    ensures { (n : ℕ) → ArePlanAnswers (plan_at (place frame.now.columns.items column) want)
+        (asked both (plan_at (place frame.now.columns.items column) (not want))) n result }
 {
     match place(frame, column)? {
-        None => Ok(Vec::new(alloc)),
-        Some(spot) => named(alloc, spot.number, want),
+        None => Ok(Lists {
+            wanted: Vec::new(alloc),
+            other: Vec::new(alloc),
+        }),
+        Some(spot) => named_lists(alloc, spot.number, want, both),
     }
 }
 
-/// The list of a literal.
-fn literal(alloc: Global, value: bool, want: bool) -> Result<Vec<Conj>, AllocError>
-    ensures { IfOk result (λ cs. conjunctions cs.items ≡ listed (literal value want) 0) }
+/// One empty conjunction, or none.
+fn always_if(alloc: Global, holds: bool) -> Result<Vec<Conj>, AllocError>
+    ensures { IfOk result (λ cs. conjunctions cs.items ≡ listed (literal holds true) 0) }
 {
-    if value == want {
+    if holds {
         always(alloc)
     } else {
         Ok(Vec::new(alloc))
     }
 }
 
-/// The list of a condition that is read at the procedure's entry or now, its helpers numbered from `base` on.
-pub fn list(
+/// Both lists of a literal.
+fn literal_lists(alloc: Global, value: bool, want: bool, both: bool) -> Result<Lists, AllocError>
+    ensures { (n : ℕ) → IfOk result (ArePlanLists (literal value want) (asked both (literal value (not want))) n) }
+{
+    Ok(Lists {
+        wanted: always_if(alloc, value == want)?,
+        other: always_if(alloc, both && value != want)?,
+    })
+}
+
+/// The list of a condition that is read at the procedure's entry or now, and where it is asked for also that of the other
+/// value; their helpers are numbered from `base` on.
+pub fn lists(
     alloc: Global,
     frame: &Frame,
     old: bool,
     expr: &TExpr,
     want: bool,
+    both: bool,
     base: u32,
-) -> Result<Vec<Conj>, Refusal>
+) -> Result<Lists, Refusal>
     requires { length frame.now.columns.items ≤ base }
-    ensures { IsPlanAnswer (paths (frame_environment frame.now.columns.items) old (expression expr.now) want) base result }
+    ensures { ArePlanAnswers (paths (frame_environment frame.now.columns.items) old (expression expr.now) want)
+        (asked both (paths (frame_environment frame.now.columns.items) old (expression expr.now) (not want))) base result }
 {
     match &expr.kind {
-        TExprKind::Lit(_) | TExprKind::Neg(_) => Ok(Vec::new(alloc)),
-        TExprKind::Truth(value) => Ok(literal(alloc, *value, want)?),
-        TExprKind::Var(column) => column_list(alloc, frame, read_at(old, *column), want, base),
-        TExprKind::Old(inner) => list(alloc, frame, true, inner, want, base),
-        TExprKind::Not(inner) => list(alloc, frame, old, inner, !want, base),
+        TExprKind::Lit(_) | TExprKind::Neg(_) => Ok(Lists {
+            wanted: Vec::new(alloc),
+            other: Vec::new(alloc),
+        }),
+        TExprKind::Truth(value) => Ok(literal_lists(alloc, *value, want, both)?),
+        TExprKind::Var(column) => column_lists(alloc, frame, read_at(old, *column), want, both),
+        TExprKind::Old(inner) => lists(alloc, frame, true, inner, want, both, base),
+        TExprKind::Not(inner) => lists(alloc, frame, old, inner, !want, both, base),
         TExprKind::Bin(op, left, right) => {
             let truths = is_truth(frame, old, left)?;
             match Shape::of(*op, truths, want) {
-                Shape::Sums => sums_list(alloc, frame, old, *op, left, right, want, base),
+                Shape::Sums => sums_lists(alloc, frame, old, *op, left, right, want, both, base),
                 Shape::Both(x, y) => {
-                    let a = list(alloc, frame, old, left, x, base);
-                    let b = list(alloc, frame, old, right, y, base);
-                    one_with(alloc, base, a, b)
+                    let a = lists(alloc, frame, old, left, x, both, base)?;
+                    let b = lists(alloc, frame, old, right, y, both, base)?;
+                    Ok(both_lists(alloc, base, both, a, b)?)
                 }
                 Shape::Over(x, y) => {
-                    let first = list(alloc, frame, old, left, x, base);
-                    let a = list(alloc, frame, old, left, !x, base);
-                    let b = list(alloc, frame, old, right, y, base);
-                    let second = one_with(alloc, base, a, b);
-                    one_then(first, second)
+                    let a = lists(alloc, frame, old, left, x, true, base)?;
+                    let b = lists(alloc, frame, old, right, y, both, base)?;
+                    Ok(over_lists(alloc, base, both, a, b)?)
                 }
                 Shape::Alike(same) => {
-                    let yes = list(alloc, frame, old, left, true, base);
-                    let first = list(alloc, frame, old, right, same, base);
-                    let no = list(alloc, frame, old, left, false, base);
-                    let second = list(alloc, frame, old, right, !same, base);
-                    let hit = one_with(alloc, base, yes, first);
-                    let miss = one_with(alloc, base, no, second);
-                    one_then(hit, miss)
+                    let a = lists(alloc, frame, old, left, true, true, base)?;
+                    let b = lists(alloc, frame, old, right, same, true, base)?;
+                    Ok(alike_lists(alloc, base, both, a, b)?)
                 }
             }
         }

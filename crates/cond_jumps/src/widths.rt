@@ -1,15 +1,16 @@
 //! How many members the lists of a condition have.
 
-ghost use Rattle.std.specs.Prelude.{◌≡◌, ◌+◌, ◌*◌, ◌≤◌, ◌<◌, ℕ, IfOk, false, Err, length, map};
+ghost use Rattle.std.specs.Prelude.{◌≤◌, ℕ, Bool, not, IfOk, length};
 ghost use Rattle.typed_tree.specs.TypedView.{expression};
-ghost use Rattle.cond_jumps.specs.Conjunctions.{Plan, Then, With, listed, is_wide};
+ghost use Rattle.cond_jumps.specs.Conjunctions.{Plan, Then, With};
 ghost use Rattle.cond_jumps.specs.Comparisons.{literal};
 ghost use Rattle.cond_jumps.specs.Forms.{Linears};
 ghost use Rattle.cond_jumps.specs.Frames.{frame_environment, place, plan_at};
-ghost use Rattle.cond_jumps.specs.ListView.{sums_plan};
+ghost use Rattle.cond_jumps.specs.ListView.{asked, sums_plan};
+ghost use Rattle.cond_jumps.specs.PairView.{crossed, AreWidths, AreWidthAnswers};
 ghost use Rattle.cond_jumps.specs.Moving.{IsEvenPlan};
 ghost use Rattle.cond_jumps.specs.Paths.{paths};
-ghost use Rattle.cond_jumps.specs.WidthView.{IsWidthAnswer, IsLimited};
+ghost use Rattle.cond_jumps.specs.WidthView.{IsWidth, IsWidthAnswer, IsLimited};
 
 use crate::columns::place;
 use crate::fault::JumpFault;
@@ -20,6 +21,14 @@ use boogie_tree::{Column, Op};
 use letter_acts::Frame;
 use std::alloc::AllocError;
 use typed_tree::{TExpr, TExprKind};
+
+/// How many members the list has where a condition has the wanted value, and that where it has the other value, which is
+/// not counted unless it was asked for.
+#[derive(Clone, Copy)]
+pub struct Counts {
+    pub wanted: u32,
+    pub other: u32,
+}
 
 /// So many members, unless these are more than 4,096.
 fn limited(members: u64) -> Result<u32, JumpFault>
@@ -32,27 +41,16 @@ fn limited(members: u64) -> Result<u32, JumpFault>
 }
 
 /// The members of one list, and behind it another.
-pub fn width_then(
-    first: Result<u32, JumpFault>,
-    second: Result<u32, JumpFault>,
-) -> Result<u32, JumpFault>
-    ensures { (p q : Plan) → (n : ℕ) → IsWidthAnswer p n first → IsWidthAnswer q n second → IsWidthAnswer (Then p q) n result }
+pub fn width_then(first: u32, second: u32) -> Result<u32, JumpFault>
+    ensures { (p q : Plan) → (n : ℕ) → IsWidth p n first → IsWidth q n second → IsWidthAnswer (Then p q) n result }
 {
-    let first = first?;
-    let second = second?;
     limited(u64::from(first) + u64::from(second))
 }
 
 /// The members of one list with another.
-pub fn width_with(
-    base: u32,
-    first: Result<u32, JumpFault>,
-    second: Result<u32, JumpFault>,
-) -> Result<u32, JumpFault>
-    ensures { (p q : Plan) → IsEvenPlan base q → IsWidthAnswer p base first → IsWidthAnswer q base second → IsWidthAnswer (With p q) base result }
+pub fn width_with(first: u32, second: u32) -> Result<u32, JumpFault>
+    ensures { (p q : Plan) → (n : ℕ) → IsEvenPlan n q → IsWidth p n first → IsWidth q n second → IsWidthAnswer (With p q) n result }
 {
-    let first = first?;
-    let second = second?;
     let Some(members) = u64::from(first).checked_mul(u64::from(second)) else {
         return Err(JumpFault::TooWide);
     };
@@ -61,9 +59,7 @@ pub fn width_with(
 
 /// The members of the list of a comparison of two whole numbers.
 fn sums_width(op: Op, want: bool) -> u32
-    ensures few { result ≤ 2 }
-    ensures exact { (x y : Linears) → (n : ℕ) → result ≡ length (listed (sums_plan op x y want) n) }
-    ensures narrow { (x y : Linears) → (n : ℕ) → is_wide (sums_plan op x y want) n ≡ false }
+    ensures { (x y : Linears) → (n : ℕ) → IsWidth (sums_plan op x y want) n result }
 {
     match (op, want) {
         (Op::Eq, false) | (Op::Ne, true) => 2,
@@ -73,57 +69,135 @@ fn sums_width(op: Op, want: bool) -> u32
     }
 }
 
-/// The members of the list of a truth value in a column.
-fn column_width(frame: &Frame, column: Column, want: bool, base: u32) -> Result<u32, JumpFault>
-    ensures { IsWidthAnswer (plan_at (place frame.now.columns.items column) want) base result }
+/// The members of both lists of a comparison.
+fn sums_widths(op: Op, want: bool, both: bool) -> Counts
+    ensures { (x y : Linears) → (n : ℕ) → AreWidths (sums_plan op x y want) (asked both (sums_plan op x y (not want))) n result }
 {
-    match place(frame, column)? {
-        None => Ok(0),
-        Some(_) => Ok(1),
+    Counts {
+        wanted: sums_width(op, want),
+        other: if both { sums_width(op, !want) } else { 0 },
     }
 }
 
-/// The members of the list of a condition; `TooWide` where the list, or one that is used for a part of it, has more than 4,096.
-pub fn width(
+/// The members of both lists of a literal.
+fn literal_widths(value: bool, want: bool, both: bool) -> Counts
+    ensures { (n : ℕ) → AreWidths (literal value want) (asked both (literal value (not want))) n result }
+{
+    Counts {
+        wanted: if value == want { 1 } else { 0 },
+        other: if both && value != want { 1 } else { 0 },
+    }
+}
+
+/// The members of both lists of a truth value in a column.
+fn column_widths(frame: &Frame, column: Column, both: bool) -> Result<Counts, AllocError>
+    ensures { IfOk result (λ w. (want : Bool) → (n : ℕ) →
+        AreWidths (plan_at (place frame.now.columns.items column) want) (asked both (plan_at (place frame.now.columns.items column) (not want))) n w) }
+{
+    match place(frame, column)? {
+        None => Ok(Counts {
+            wanted: 0,
+            other: 0,
+        }),
+        Some(_) => Ok(Counts {
+            wanted: 1,
+            other: if both { 1 } else { 0 },
+        }),
+    }
+}
+
+/// One of the first operand with one of the second; and else the first operand's other one, and then one of the first with the
+/// second's other one.
+fn both_widths(both: bool, a: Counts, b: Counts) -> Result<Counts, JumpFault>
+    ensures { (n : ℕ) → (p s q r : Plan) → IsEvenPlan n q → IsEvenPlan n r → AreWidths p (asked both s) n a → AreWidths q (asked both r) n b →
+        AreWidthAnswers (With p q) (asked both (Then s (With p r))) n result }
+{
+    let wanted = width_with(a.wanted, b.wanted)?;
+    if !both {
+        return Ok(Counts { wanted, other: 0 });
+    }
+    let behind = width_with(a.wanted, b.other)?;
+    let other = width_then(a.other, behind)?;
+    Ok(Counts { wanted, other })
+}
+
+/// One of the first operand, and then its other one with one of the second; and else its other one with the second's other one.
+fn over_widths(both: bool, a: Counts, b: Counts) -> Result<Counts, JumpFault>
+    ensures { (n : ℕ) → (p s q r : Plan) → IsEvenPlan n q → IsEvenPlan n r → AreWidths p s n a → AreWidths q (asked both r) n b →
+        AreWidthAnswers (Then p (With s q)) (asked both (With s r)) n result }
+{
+    let behind = width_with(a.other, b.wanted)?;
+    let wanted = width_then(a.wanted, behind)?;
+    if !both {
+        return Ok(Counts { wanted, other: 0 });
+    }
+    let other = width_with(a.other, b.other)?;
+    Ok(Counts { wanted, other })
+}
+
+/// One of the first operand with one of the second, and then its other one with another one.
+fn crossed(a: Counts, first: u32, second: u32) -> Result<u32, JumpFault>
+    ensures { (n : ℕ) → (p s q r : Plan) → IsEvenPlan n q → IsEvenPlan n r → AreWidths p s n a → IsWidth q n first → IsWidth r n second →
+        IsWidthAnswer (crossed p s q r) n result }
+{
+    let hit = width_with(a.wanted, first)?;
+    let miss = width_with(a.other, second)?;
+    width_then(hit, miss)
+}
+
+/// Both operands have one truth value, or they differ.
+fn alike_widths(both: bool, a: Counts, b: Counts) -> Result<Counts, JumpFault>
+    ensures { (n : ℕ) → (p s q r : Plan) → IsEvenPlan n q → IsEvenPlan n r → AreWidths p s n a → AreWidths q r n b →
+        AreWidthAnswers (crossed p s q r) (asked both (crossed p s r q)) n result }
+{
+    let wanted = crossed(a, b.wanted, b.other)?;
+    if !both {
+        return Ok(Counts { wanted, other: 0 });
+    }
+    let other = crossed(a, b.other, b.wanted)?;
+    Ok(Counts { wanted, other })
+}
+
+/// The members of the list of a condition, and where it is asked for also of that of the other value; `TooWide` where one of
+/// them, or one that is used for a part of it, has more than 4,096.
+pub fn widths(
     frame: &Frame,
     old: bool,
     expr: &TExpr,
     want: bool,
-    base: u32,
-) -> Result<u32, JumpFault>
-    requires { length frame.now.columns.items ≤ base }
-    ensures { IsWidthAnswer (paths (frame_environment frame.now.columns.items) old (expression expr.now) want) base result }
+    both: bool,
+) -> Result<Counts, JumpFault>
+    ensures { (n : ℕ) → length frame.now.columns.items ≤ n →
+        AreWidthAnswers (paths (frame_environment frame.now.columns.items) old (expression expr.now) want)
+        (asked both (paths (frame_environment frame.now.columns.items) old (expression expr.now) (not want))) n result }
 {
     match &expr.kind {
-        TExprKind::Lit(_) | TExprKind::Neg(_) => Ok(0),
-        TExprKind::Truth(value) => Ok(if *value == want { 1 } else { 0 }),
-        TExprKind::Var(column) => column_width(frame, read_at(old, *column), want, base),
-        TExprKind::Old(inner) => width(frame, true, inner, want, base),
-        TExprKind::Not(inner) => width(frame, old, inner, !want, base),
+        TExprKind::Lit(_) | TExprKind::Neg(_) => Ok(Counts {
+            wanted: 0,
+            other: 0,
+        }),
+        TExprKind::Truth(value) => Ok(literal_widths(*value, want, both)),
+        TExprKind::Var(column) => Ok(column_widths(frame, read_at(old, *column), both)?),
+        TExprKind::Old(inner) => widths(frame, true, inner, want, both),
+        TExprKind::Not(inner) => widths(frame, old, inner, !want, both),
         TExprKind::Bin(op, left, right) => {
             let truths = is_truth(frame, old, left)?;
             match Shape::of(*op, truths, want) {
-                Shape::Sums => Ok(sums_width(*op, want)),
+                Shape::Sums => Ok(sums_widths(*op, want, both)),
                 Shape::Both(x, y) => {
-                    let a = width(frame, old, left, x, base);
-                    let b = width(frame, old, right, y, base);
-                    width_with(base, a, b)
+                    let a = widths(frame, old, left, x, both)?;
+                    let b = widths(frame, old, right, y, both)?;
+                    both_widths(both, a, b)
                 }
                 Shape::Over(x, y) => {
-                    let first = width(frame, old, left, x, base);
-                    let a = width(frame, old, left, !x, base);
-                    let b = width(frame, old, right, y, base);
-                    let second = width_with(base, a, b);
-                    width_then(first, second)
+                    let a = widths(frame, old, left, x, true)?;
+                    let b = widths(frame, old, right, y, both)?;
+                    over_widths(both, a, b)
                 }
                 Shape::Alike(same) => {
-                    let yes = width(frame, old, left, true, base);
-                    let first = width(frame, old, right, same, base);
-                    let no = width(frame, old, left, false, base);
-                    let second = width(frame, old, right, !same, base);
-                    let hit = width_with(base, yes, first);
-                    let miss = width_with(base, no, second);
-                    width_then(hit, miss)
+                    let a = widths(frame, old, left, true, true)?;
+                    let b = widths(frame, old, right, same, true)?;
+                    alike_widths(both, a, b)
                 }
             }
         }
