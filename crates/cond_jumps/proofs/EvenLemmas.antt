@@ -83,7 +83,7 @@ below_even w z a b h i = compared_even w (below z) a b (λ k x y. below-moved w 
 above_even : (w : ℕ) (z : ℤ) (a b : Linears) → IsEvenSum w a → IsEvenSum w b → IsEven w (compared (above z) a b)
 above_even w z a b h i = compared_even w (above z) a b (λ k x y. below-moved w z k y x) h i
 
-equal_even : (w : ℕ) (a b : Linears) → IsEvenSum w a → IsEvenSum w b → IsEven w (compared equal a b)
+pub equal_even : (w : ℕ) (a b : Linears) → IsEvenSum w a → IsEvenSum w b → IsEven w (compared equal a b)
 equal_even w a b h i = compared_even w equal a b (λ k x y. equal-moved w k x y) h i
 
 never_even : (w : ℕ) → IsEven w never

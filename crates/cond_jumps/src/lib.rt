@@ -4,9 +4,11 @@
 
 mod assignments;
 mod columns;
+mod combining;
 mod comparisons;
 mod conditions;
 mod conj;
+mod equations;
 mod fault;
 mod joining;
 pub mod laws;
@@ -23,6 +25,9 @@ mod totals;
 mod widths;
 
 pub use assignments::assign;
+pub use columns::{Spot, place};
+pub use combining::{each_with, members};
 pub use conditions::paths;
 pub use conj::Conj;
+pub use equations::equal_to;
 pub use fault::JumpFault;

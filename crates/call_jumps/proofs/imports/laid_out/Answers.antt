@@ -1,0 +1,16 @@
+use Rattle.std.proofs.Common.{◌≡◌, ◌+◌, length, ◌∙◌, ap}
+use Rattle.typed_tree.specs.TypedTree.{TypedProcedure}
+use Rattle.typed_tree.specs.TypedView.{procedure}
+use Rattle.lowered_steps.specs.Edges.{those_in, import_written}
+use Rattle.call_jumps.proofs.imports.laid_out.Goals as goal
+
+pub returns : goal.returns
+returns c =
+    let q : TypedProcedure = procedure c.args.callee.now in
+    let w : c.in_ok-written.written.items ≡ import_written q.modifies c.args.targets.now = c.in_ok-written.ensures ∙ (λ j. import_written (c.as_slice.ensures.value j) c.args.targets.now) in
+    let t : c.in_ok-targeted.targeted.items ≡ those_in c.args.targets.now q.modifies = c.in_ok-targeted.ensures ∙ (λ j. those_in c.args.targets.now (c.as_slice-2.ensures.value j)) in
+    let b : c.in-Ok.base ≡ length c.args.frame.now.columns.items = c.in-Ok.ensures.1 ∙ c.len.ensures ∙ c.args.frame.now.columns.ok.0 in
+    let m : c.len-2.result ≡ length (import_written q.modifies c.args.targets.now) = c.len-2.ensures ∙ c.in_ok-written.written.ok.0 ∙ ap length w in
+    let n : c.len-3.result ≡ length (those_in c.args.targets.now q.modifies) = c.len-3.ensures ∙ c.in_ok-targeted.targeted.ok.0 ∙ ap length t in
+    let h : c.in_ok-helpers.helpers ≡ length c.args.frame.now.columns.items + length (import_written q.modifies c.args.targets.now) = c.in_ok-helpers.ensures ∙ (λ j. b j + m j) in
+    record { written = w; targeted = t; base = b; helpers = h; width = c.in_ok-width.ensures ∙ (λ j. h j + n j) }

@@ -1,0 +1,10 @@
+pub mod Sums
+pub mod Reading
+pub mod Readings
+pub mod Stands
+pub mod Numbered
+pub mod Arguments
+pub mod ParameterView
+pub mod Conjoined
+pub mod CallLists
+pub mod ImportView
