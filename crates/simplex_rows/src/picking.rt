@@ -3,7 +3,7 @@
 
 use crate::tableau::{Tableau, Way};
 use crate::types::{Parts, Picked, Stop};
-use frac::{Frac, floor, is_whole, num};
+use frac::{Frac, den, floor, is_whole, num};
 use lin_rows::{Col, Row, RowKind};
 use std::alloc::{AllocError, Global};
 
@@ -184,9 +184,11 @@ impl<'a> Picker<'a> {
         self.tableau.fix(0)?;
         self.tableau.aim(column)?;
         let Some(parts) = self.tableau.reach(column, self.pivots)? else {
-            return self.reached(column, Vec::new(self.alloc));
+            return self.reached(column, Vec::new(self.alloc), true);
         };
         let end = self.tableau.value_of(column)?;
+        // a column that is moved has another value then, and nothing moves without it
+        let moves = !is_whole(&end) || !self.is_at(column, &end);
         let from_above = num(&end) > 0;
         let mut k = floor(&end);
         if from_above && !is_whole(&end) {
@@ -194,7 +196,7 @@ impl<'a> Picker<'a> {
         }
         self.tableau.move_aim(k)?;
         let Some(others) = self.tableau.reach(column, self.pivots)? else {
-            return self.reached(column, parts);
+            return self.reached(column, parts, moves);
         };
         self.point = self.tableau.point(self.columns)?;
         if from_above {
@@ -207,10 +209,20 @@ impl<'a> Picker<'a> {
         Ok(false)
     }
 
-    /// Keeps the value of the column that was reached.
-    fn reached(&mut self, column: Col, parts: Parts) -> Result<bool, Stop> {
+    /// Whether the point has that value in the column.
+    fn is_at(&self, column: Col, value: &Frac) -> bool {
+        match self.point.get(column as usize) {
+            Some(at) => num(at) == num(value) && den(at) == den(value),
+            None => false,
+        }
+    }
+
+    /// Keeps the value of the column that was reached, by moves or without one.
+    fn reached(&mut self, column: Col, parts: Parts, moves: bool) -> Result<bool, Stop> {
         self.tableau.pin(column)?;
-        self.point = self.tableau.point(self.columns)?;
+        if moves {
+            self.point = self.tableau.point(self.columns)?;
+        }
         self.shown.push(parts)?;
         Ok(true)
     }
