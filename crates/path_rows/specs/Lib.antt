@@ -1,0 +1,4 @@
+pub mod Rows
+pub mod Versions
+pub mod Paths
+pub mod Solutions
