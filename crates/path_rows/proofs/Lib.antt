@@ -1,0 +1,12 @@
+pub mod ListLemmas
+pub mod RowLemmas
+pub mod LayoutLemmas
+pub mod InsideLaws
+pub mod CallLaws
+pub mod OpenLemmas
+pub mod BackLaws
+pub mod EdgeLemmas
+pub mod HeardLaws
+pub mod SaidLaws
+pub mod SolvedLaws
+pub mod WholeLaws
