@@ -75,6 +75,21 @@ pub record BackEdge (g : Graph) (q p : ℕ) (r : Letter) (e : ℕ) : Type 0 wher
   pub known : BackKnown g q p r e
   pub act_is : act_of (alphabet_of g) r ≡ Some (back_act r.call known.targets)
   pub to : e ≢ 0
+  pub exit : IsPlaceOf g.place_procs known.callee q
+
+-- the exit place of a procedure belongs to it
+exit_place : (procs : List ℕ) (p n e : ℕ) (es xs : List (Option ℕ)) → HaveBodies procs p es xs → slice_get xs n ≡ Some (Some e) → (m : ℕ) → m ≡ p + n → IsPlaceOf procs m e
+exit_place procs p n e es [] h i m k = absurd (cc)
+exit_place procs p n e [] (x ∷ xs) h i m k = absurd h
+exit_place procs p zero e (o ∷ es) (x ∷ xs) h i m k =
+    let f : x ≡ Some e = cc in
+    let j : p ≡ m = omega (arith, k) in
+    subst (λ (r : ℕ). IsPlaceOf procs r e) j (by_entry o (subst (λ (r : Option ℕ). HasBody procs p o r) f h.0))
+  where
+    by_entry : (o : Option ℕ) → HasBody procs p o (Some e) → IsPlaceOf procs p e
+    by_entry None b = absurd b
+    by_entry (Some z) b = b.1
+exit_place procs p (suc n) e (o ∷ es) (x ∷ xs) h i m k = exit_place procs (suc p) n e es xs h.1 i m (omega (arith, k))
 
 pub back_acts : (g : Graph) → IsGraph g → (q p e : ℕ) (r : Letter) → r.kind ≡ kinds.Back → Member g.automaton.backs (q, p, r, e) → BackEdge g q p r e
 back_acts g ok q p e r kind m =
@@ -84,4 +99,5 @@ back_acts g ok q p e r kind m =
       known = k;
       act_is = act_is_found (alphabet_of g) r (back_act r.call k.targets) f.letter k.act;
       to = f.to;
+      exit = exit_place g.place_procs 0 k.callee q g.entries g.exits ok.procedures.bodies k.leaves k.callee (omega arith);
     }

@@ -10,3 +10,10 @@ pub mod HeardLaws
 pub mod SaidLaws
 pub mod SolvedLaws
 pub mod WholeLaws
+pub mod RenamingLemmas
+pub mod LoopLemmas
+pub mod DifferLemmas
+pub mod StageLemmas
+pub mod GoingLemmas
+pub mod DraftLemmas
+pub mod MakingLemmas

@@ -186,7 +186,7 @@ inside_keeps al q written helpers rows s t act o l h =
     record { long = l; each = λ c v e k. r.others c (not_written (frame_of al q) written act.may_write o c v e k) }
 
 -- what stands at a place that passes a test
-at_place : (test : Column × VarInfo → Bool) (n : ℕ) (xs : Columns) (c : ℕ) → Member (places test n xs) c →
+pub at_place : (test : Column × VarInfo → Bool) (n : ℕ) (xs : Columns) (c : ℕ) → Member (places test n xs) c →
     (i : ℕ) × (v : Column × VarInfo) × (c ≡ n + i) × (slice_get xs i ≡ Some v) × (test v ≡ true)
 at_place test n [] c m = absurd m
 at_place test n (v ∷ xs) c m = by_test (test v) refl m (at_place test (suc n) xs c)

@@ -31,7 +31,7 @@ use Rattle.path_rows.proofs.SaidLaws.{all_get, said}
 use Rattle.path_rows.proofs.SolvedLaws.{Below, below_columns, Built, first_read, built_first, Extends, extends}
 
 -- the procedure of the start
-abbrev start_proc : Graph → ℕ
+abbrev pub start_proc : Graph → ℕ
 start_proc g = unwrap_or (slice_get g.place_procs g.automaton.start) 0
 
 got : (xs : List ℕ) (i : ℕ) → i < length xs → slice_get xs i ≡ Some (unwrap_or (slice_get xs i) 0)
@@ -39,10 +39,10 @@ got [] i l = absurd (omega arith)
 got (x ∷ xs) zero l = refl
 got (x ∷ xs) (suc i) l = got xs i (omega arith)
 
-start_place : (g : Graph) → IsGraph g → IsAutomaton g.automaton → IsPlaceOf g.place_procs (start_proc g) g.automaton.start
+pub start_place : (g : Graph) → IsGraph g → IsAutomaton g.automaton → IsPlaceOf g.place_procs (start_proc g) g.automaton.start
 start_place g ok m = let p = ok.procedures.place_procs in let s = m.start in got g.place_procs g.automaton.start (omega (arith, p, s))
 
-start_exists : (g : Graph) → IsGraph g → IsAutomaton g.automaton → start_proc g < length g.frames
+pub start_exists : (g : Graph) → IsGraph g → IsAutomaton g.automaton → start_proc g < length g.frames
 start_exists g ok m = all_get (λ p. p < length g.frames) g.place_procs g.automaton.start (start_proc g) (start_place g ok m) ok.procedures.procs_exist
 
 -- the situation that the point has at the start

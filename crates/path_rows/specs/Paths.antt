@@ -2,7 +2,6 @@
 use Rattle.std.specs.Prelude.{◌≡◌, ℕ, zero, suc, List, [], ◌∷◌, ◌++◌, length, unwrap_or, slice_get}
 use Rattle.lin_rows.specs.declared.systems.System.{System}
 use Rattle.lin_rows.specs.Rows.{LinearRow}
-use Rattle.lin_rows.specs.Systems.{rows_of, groups_of}
 use Rattle.nwa_base.specs.declared.letters.Letter.{Letter}
 use Rattle.nwa_base.specs.Acceptance.{Accepts}
 use Rattle.letter_acts.specs.Frames.{Columns}
@@ -61,7 +60,7 @@ path_of g w =
 -- a path system as contracts see it
 pub record PlainPath : Type 0 where
   pub word : List Letter
-  pub system : System
+  pub rows : List LinearRow
   pub row_at : List ℕ
   pub column_at : List ℕ
   pub states : List (List ℕ)
@@ -69,8 +68,7 @@ pub record PlainPath : Type 0 where
 -- the automaton of the graph accepts the word, and the rest is the path of the word
 pub record IsPathOf (g : Graph) (p : PlainPath) : Type 0 where
   pub accepted : Accepts g.automaton p.word
-  pub rows : rows_of p.system ≡ (path_of g p.word).rows
-  pub groups : groups_of p.system ≡ []
+  pub rows : p.rows ≡ (path_of g p.word).rows
   pub row_at : p.row_at ≡ (path_of g p.word).row_at
   pub column_at : p.column_at ≡ (path_of g p.word).column_at
   pub states : p.states ≡ (path_of g p.word).states
@@ -78,3 +76,8 @@ pub record IsPathOf (g : Graph) (p : PlainPath) : Type 0 where
 -- what a path system keeps: it is one of some graph
 abbrev pub IsPath : PlainPath → Type 0
 IsPath p = (g : Graph) × IsPathOf g p
+
+-- the system of a path has no groups
+pub record IsKept (p : PlainPath) (groups : List (List System)) : Type 0 where
+  pub path : IsPath p
+  pub no_groups : groups ≡ []

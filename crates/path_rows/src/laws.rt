@@ -2,7 +2,9 @@
 
 ghost use Rattle.std.specs.Prelude.{◌≡◌, ◌↔◌, [], ◌∷◌, ℕ, ℤ, List};
 ghost use Rattle.std.specs.List.{AllByRecursion};
+ghost use Rattle.lin_rows.specs.declared.systems.System.{System};
 ghost use Rattle.lin_rows.specs.Rows.{Holds};
+ghost use Rattle.lin_rows.specs.Systems.{Meets, rows_of, groups_of};
 ghost use Rattle.nwa_base.specs.declared.letters.Letter.{Letter};
 ghost use Rattle.nwa_base.specs.Automata.{IsAutomaton};
 ghost use Rattle.nwa_base.specs.Acceptance.{Accepts};
@@ -36,4 +38,9 @@ pub fn obeying_states_are_solved()
 pub fn rows_are_exact()
     ensures { (g : Graph) (w : List Letter) → IsGraph g → IsAutomaton g.automaton → Accepts g.automaton w →
         ((point : ℕ → ℤ) × AllByRecursion (Holds point) (path_of g w).rows) ↔ IsFeasible (alphabet_of g) w }
+{}
+
+/// A point meets a system without groups exactly where its rows hold there.
+pub fn rows_alone_are_met()
+    ensures { (s : System) (point : ℕ → ℤ) → groups_of s ≡ [] → Meets point s ↔ AllByRecursion (Holds point) (rows_of s) }
 {}
