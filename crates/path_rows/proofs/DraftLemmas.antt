@@ -1,15 +1,16 @@
 -- Drafts that read letters, and the path that a draft leads to.
-use Rattle.std.proofs.Common.{◌≡◌, ◌∙◌, ℕ, suc, ◌+◌, ◌<◌, ◌≤◌, List, [], ◌∷◌, ◌++◌, length, take, drop, get_or, Result, Ok, Err, refl, sym, ap, subst, arith, append_assoc}
-use Rattle.std.specs.Prelude.{map, reverse, OnOk}
+use Rattle.std.proofs.Common.{◌≡◌, ◌∙◌, ℕ, zero, suc, ◌+◌, ◌<◌, ◌≤◌, List, [], ◌∷◌, ◌++◌, length, take, drop, get_or, Result, Ok, Err, Option, None, Some, length-append, refl, sym, ap, subst, arith, append_assoc}
+use Rattle.std.specs.Prelude.{map, reverse, OnOk, slice_get}
 use Rattle.std.specs.Global.{Vec}
 use Rattle.std.proofs.lemmas.List.{append-nil, drop_more}
 use Rattle.lin_rows.specs.Rows.{LinearRow}
 use Rattle.nwa_base.specs.declared.letters.Letter.{Letter}
 use Rattle.letter_acts.specs.Frames.{Columns}
+use Rattle.letter_acts.specs.Acts.{PlainAct, inside_act, call_act, back_act, Alphabet, frame_of, act_of}
 use Rattle.letter_acts.specs.Invariant.{Graph, alphabet_of}
 use Rattle.path_rows.specs.declared.parts.Made.{Made}
 use Rattle.path_rows.specs.declared.drafts.Draft.{Draft}
-use Rattle.path_rows.specs.Versions.{Stage, Part, rows_in, part_of, call_part}
+use Rattle.path_rows.specs.Versions.{Stage, Part, rows_in, part_of, act_part, return_part, back_part, call_part}
 use Rattle.path_rows.specs.Paths.{Path, repeated, path_along, path_of, start_frame, first_stage}
 use Rattle.path_rows.specs.Drafts.{IsMade, Added, Reads, LeadsTo, IsDone, IsStart, stage_of}
 use Rattle.path_rows.proofs.LoopLemmas.{same_stage, saved_pushed}
@@ -76,3 +77,37 @@ all_read g n d path h = record {
   column_at = sym (append-nil d.column_at.items) ∙ h.column_at;
   states = h.states;
 }
+
+-- ---- how many columns are made
+
+back_made : (caller callee : Columns) (targets : List ℕ) (made : ℕ) (here : List ℕ) (saved : List (List ℕ)) →
+    (back_part caller callee targets made here saved).after.made ≡ made + (back_part caller callee targets made here saved).columns
+back_made caller callee targets made here [] = omega arith
+back_made caller callee targets made here (v ∷ saved) = omega arith
+
+return_made : (al : Alphabet) (targets : List ℕ) (o : Option PlainAct) (p : Stage) → (return_part al targets o p).after.made ≡ p.made + (return_part al targets o p).columns
+return_made al targets None p = omega arith
+return_made al targets (Some (inside_act q written helpers rows)) p = omega arith
+return_made al targets (Some (call_act caller callee helpers rows)) p = back_made (frame_of al caller) (frame_of al callee) targets p.made p.here p.saved
+return_made al targets (Some (back_act c more)) p = omega arith
+
+act_made : (al : Alphabet) (o : Option PlainAct) (p : Stage) → (act_part al o p).after.made ≡ p.made + (act_part al o p).columns
+act_made al None p = omega arith
+act_made al (Some (inside_act q written helpers rows)) p = refl
+act_made al (Some (call_act caller callee helpers rows)) p = refl
+act_made al (Some (back_act c targets)) p = return_made al targets (slice_get al.acts c) p
+
+length-repeated : (n k : ℕ) → length (repeated n k) ≡ k
+length-repeated n zero = refl
+length-repeated n (suc k) = ap suc (length-repeated n k)
+
+pub counted_first : (frame : Columns) (d : Draft) → IsStart frame d → d.made ≡ length d.column_at.items
+counted_first frame d s = ap (λ (p : Stage). p.made) s.stage ∙ sym (ap length s.column_at ∙ length-repeated 0 (length frame))
+
+pub counted_next : (al : Alphabet) (a : Letter) (n : ℕ) (old new : Draft) → Reads (part_of al a (stage_of old)) n old new → old.made ≡ length old.column_at.items → new.made ≡ length new.column_at.items
+counted_next al a n old new r h =
+    let part : Part = part_of al a (stage_of old) in
+    let m : new.made ≡ old.made + part.columns = ap (λ (p : Stage). p.made) r.stage ∙ act_made al (act_of al a) (stage_of old) in
+    let l : length new.column_at.items ≡ length old.column_at.items + part.columns =
+    ap length r.column_at ∙ length-append old.column_at.items (repeated n part.columns) ∙ ap (λ (k : ℕ). length old.column_at.items + k) (length-repeated n part.columns) in
+    omega (arith, m, l, h)

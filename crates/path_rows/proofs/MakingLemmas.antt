@@ -25,7 +25,7 @@ use Rattle.path_rows.proofs.ListLemmas.{length-columns_from}
 use Rattle.path_rows.proofs.SolvedLaws.{below_columns}
 use Rattle.path_rows.proofs.DifferLemmas.{columns_distinct}
 use Rattle.path_rows.proofs.GoingLemmas.{kept_graph, goes_first, goes_next}
-use Rattle.path_rows.proofs.DraftLemmas.{leads_first, leads_on, all_read}
+use Rattle.path_rows.proofs.DraftLemmas.{leads_first, leads_on, all_read, counted_first, counted_next}
 use Rattle.path_rows.proofs.WholeLaws.{rows_are_exact, start_place, start_exists}
 
 -- ---- the start
@@ -69,6 +69,7 @@ pub record HasRead (g : Graph) (w : List Letter) (n : ℕ) (d : Draft) : Type 0 
   pub leads : LeadsTo g (n + 1) d (drop n w) (path_of g w)
   pub goes : CanGoOn g (stage_of d) (drop n w)
   pub room : d.made ≤ 2 ^ 32
+  pub counted : d.made ≡ length d.column_at.items
 
 pub read_none : (g : Graph) (w : List Letter) (frame : Columns) (d : Draft) → Keeps g → IsAutomaton g.automaton → Accepts g.automaton w → frame ≡ start_frame g → IsStart frame d → HasRead g w 0 d
 read_none g w frame d k m acc e s =
@@ -78,6 +79,7 @@ read_none g w frame d k m acc e s =
       leads = leads_first g w d t;
       goes = subst (λ (p : Stage). CanGoOn g p w) (sym t.stage) (can_start g (kept_graph g k) m w acc);
       room = (let f : d.made ≡ length (start_frame g) = ap (λ (p : Stage). p.made) t.stage in omega (arith, f, n));
+      counted = counted_first (start_frame g) d t;
     }
 
 -- the next letter
@@ -98,6 +100,7 @@ read_next g w n old new a k l e h r room =
       goes = subst (λ (p : Stage). CanGoOn g p (drop (n + 1) w)) (sym r.stage)
           (goes_next g (kept_graph g k) (stage_of old) a (drop (n + 1) w) (subst (CanGoOn g (stage_of old)) f h.goes));
       room = room;
+      counted = counted_next (alphabet_of g) a (n + 1) old new r h.counted;
     }
 
 dropped_all : (xs : List Letter) (i : ℕ) → length xs ≤ i → drop i xs ≡ []
@@ -151,3 +154,6 @@ same_front (a ∷ w) (suc n) d l = same_front_of w n d (get_or w n d) (omega ari
     same_front_of [] n d e l = absurd (omega arith)
     same_front_of (a ∷ w) zero d e l = refl
     same_front_of (a ∷ w) (suc n) d e l = same_front_of w n d e (omega arith)
+
+pub columns_told_apart : (g : Graph) (w : List Letter) (n : ℕ) (d : Draft) → HasRead g w n d → length d.column_at.items ≤ 2 ^ 32
+columns_told_apart g w n d h = (let r = h.room in let c = h.counted in omega (arith, r, c))

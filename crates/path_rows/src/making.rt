@@ -26,6 +26,7 @@ pub fn rows_of(alloc: Global, icfg: &Icfg, word: &Word) -> Result<PathSystem, Al
     ensures value { IfOk result (IsPathOf icfg.now) }
     ensures exact { IfOk result (λ p. ((point : ℕ → ℤ) × AllByRecursion (Holds point) p.rows) ↔ IsFeasible (alphabet_of icfg.now) word.now) }
     ensures letters { OnOk result (length word.now < 2 ^ 32) }
+    ensures columns { IfOk result (λ p. length p.column_at ≤ 2 ^ 32) }
 {
     let draft = read_word(alloc, icfg, word)?;
     finished(icfg, word, draft)
@@ -49,6 +50,7 @@ fn read_word(alloc: Global, icfg: &Icfg, word: &Word) -> Result<Draft, AllocErro
     requires { Accepts icfg.now.automaton word.now }
     ensures done { IfOk result (λ d. IsDone d (path_of icfg.now word.now)) }
     ensures letters { OnOk result (length word.now < 2 ^ 32) }
+    ensures columns { IfOk result (λ d. length d.column_at.items ≤ 2 ^ 32) }
 {
     let letters = word.letters();
     if letters.len() > u32::MAX as usize {
@@ -65,9 +67,11 @@ fn read_word(alloc: Global, icfg: &Icfg, word: &Word) -> Result<Draft, AllocErro
 fn finished(icfg: &Icfg, word: &Word, draft: Draft) -> Result<PathSystem, AllocError>
     requires accepted { Accepts icfg.now.automaton word.now }
     requires done { IsDone draft (path_of icfg.now word.now) }
+    requires columns { length draft.column_at.items ≤ 2 ^ 32 }
     ensures word { IfOk result (λ p. p.word ≡ word.now) }
     ensures value { IfOk result (IsPathOf icfg.now) }
     ensures exact { IfOk result (λ p. ((point : ℕ → ℤ) × AllByRecursion (Holds point) p.rows) ↔ IsFeasible (alphabet_of icfg.now) word.now) }
+    ensures columns { IfOk result (λ p. length p.column_at ≤ 2 ^ 32) }
 {
     let nwa = icfg.nwa();
     let _states = nwa.states();
