@@ -9,8 +9,6 @@ mod making;
 mod parts;
 mod paths;
 mod rows;
-#[cfg(test)]
-mod tests;
 mod versions;
 
 pub use making::rows_of;
