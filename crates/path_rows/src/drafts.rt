@@ -1,0 +1,234 @@
+//! Paths that are being made, letter by letter.
+
+ghost use Rattle.std.specs.Prelude.{◌≡◌, ◌+◌, ◌<◌, ◌≤◌, ◌^◌, ◌++◌, [], ◌∷◌, Some, IfOk, OnOk, length, slice_get};
+ghost use Rattle.letter_acts.specs.Acts.{plain_act, frame_of};
+ghost use Rattle.letter_acts.specs.Invariant.{alphabet_of};
+ghost use Rattle.letter_acts.specs.Kept.{Keeps};
+ghost use Rattle.path_rows.specs.Paths.{repeated};
+ghost use Rattle.path_rows.specs.Stages.{BackFitsFrom, returned_from};
+
+use crate::frames::types_of;
+use crate::parts::{MOST_COLUMNS, Made, call_part, inside_part};
+use crate::rows::bound_rows;
+use crate::versions::{add_columns, returned};
+use boogie_tree::{Column, VarInfo};
+use letter_acts::{Act, Icfg};
+use lin_rows::{Col, Row};
+use nwa_base::Letter;
+use std::alloc::{AllocError, Global};
+use std::mem::replace;
+
+/// A path that is being made.
+#[derive(Drop)]
+pub(crate) struct Draft {
+    /// How many columns are made.
+    pub(crate) made: usize,
+    /// The versions of the present frame's columns.
+    pub(crate) here: Vec<Col>,
+    /// The versions before the open calls, the innermost last.
+    pub(crate) saved: Vec<Vec<Col>>,
+    pub(crate) rows: Vec<Row>,
+    pub(crate) row_at: Vec<u32>,
+    pub(crate) column_at: Vec<u32>,
+    /// The versions at the positions before.
+    pub(crate) states: Vec<Vec<Col>>,
+}
+
+/// Adds a number so many times.
+fn add_times(numbers: &mut Vec<u32>, number: u32, count: usize) -> Result<(), AllocError>
+    ensures { OnOk result (numbers.new.items ≡ numbers.old.items ++ repeated number count) }
+{
+    for _i in 0..count {
+        numbers.push(number)?;
+    }
+    Ok(())
+}
+
+impl Draft {
+    ghost use Rattle.path_rows.specs.Versions.{inside_part, call_part, return_part, part_of};
+    ghost use Rattle.path_rows.specs.Stages.{InsideFits, CallFits, BackReady, GoesOnBy};
+    ghost use Rattle.path_rows.specs.Drafts.{IsStart, Added, Reads, stage_of};
+
+    /// The path of no letter, at the start in a frame. No memory is left where its columns get no number any more.
+    pub(crate) fn start(alloc: Global, frame: &[(Column, VarInfo)]) -> Result<Draft, AllocError>
+        ensures { IfOk result (IsStart frame.now) }
+    {
+        if frame.len() > MOST_COLUMNS {
+            return Err(AllocError);
+        }
+        let types = types_of(alloc, frame)?;
+        let rows = bound_rows(alloc, 0, &types)?;
+        let mut row_at = Vec::new(alloc);
+        add_times(&mut row_at, 0, rows.len())?;
+        let mut column_at = Vec::new(alloc);
+        add_times(&mut column_at, 0, frame.len())?;
+        let mut here = Vec::new(alloc);
+        add_columns(&mut here, 0, frame.len())?;
+        Ok(Draft {
+            made: frame.len(),
+            here,
+            saved: Vec::new(alloc),
+            rows,
+            row_at,
+            column_at,
+            states: Vec::new(alloc),
+        })
+    }
+
+    /// Adds what a letter of this number made.
+    fn add(&mut self, number: u32, made: Made) -> Result<(), AllocError>
+        requires { self.old.made + made.columns ≤ 2 ^ 32 }
+        ensures { OnOk result (Added made.rows.items made.columns made.here.items number self.old self.new) }
+    {
+        let Made {
+            mut rows,
+            columns,
+            here,
+        } = made;
+        add_times(&mut self.row_at, number, rows.len())?;
+        add_times(&mut self.column_at, number, columns)?;
+        self.rows.append(&mut rows)?;
+        self.states.push(replace(&mut self.here, here))?;
+        self.made += columns;
+        Ok(())
+    }
+
+    /// Reads an inside letter.
+    fn read_inside(
+        &mut self,
+        alloc: Global,
+        frame: &[(Column, VarInfo)],
+        written: &[u32],
+        helpers: u32,
+        rows: &[Row],
+        number: u32,
+    ) -> Result<(), AllocError>
+        requires fits { InsideFits written.now helpers rows.now self.old.made self.old.here.items }
+        requires room { self.old.made ≤ 2 ^ 32 }
+        ensures value { OnOk result (Reads (inside_part frame.now written.now helpers rows.now (stage_of self.old)) number self.old self.new) }
+        ensures room { OnOk result (self.new.made ≤ 2 ^ 32) }
+    {
+        let made = inside_part(alloc, frame, written, helpers, rows, self.made, &self.here)?;
+        self.add(number, made)
+    }
+
+    /// Reads a call letter.
+    fn read_call(
+        &mut self,
+        alloc: Global,
+        callee: &[(Column, VarInfo)],
+        helpers: u32,
+        rows: &[Row],
+        number: u32,
+    ) -> Result<(), AllocError>
+        requires fits { CallFits callee.now helpers rows.now self.old.made self.old.here.items }
+        requires room { self.old.made ≤ 2 ^ 32 }
+        ensures value { OnOk result (Reads (call_part callee.now helpers rows.now (stage_of self.old)) number self.old self.new) }
+        ensures room { OnOk result (self.new.made ≤ 2 ^ 32) }
+    {
+        let made = call_part(alloc, callee, helpers, rows, self.made, &self.here)?;
+        let before = Vec::from_slice(alloc, &self.here)?;
+        self.saved.push(before)?;
+        self.add(number, made)
+    }
+
+    /// Reads a return from a call of this letter.
+    fn read_back(
+        &mut self,
+        alloc: Global,
+        icfg: &Icfg,
+        call: u32,
+        targets: &[u32],
+        number: u32,
+    ) -> Result<(), AllocError>
+        requires fits { BackReady (alphabet_of icfg.now) targets.now (slice_get icfg.now.acts call) (stage_of self.old) }
+        requires room { self.old.made ≤ 2 ^ 32 }
+        ensures value { OnOk result (Reads (return_part (alphabet_of icfg.now) targets.now (slice_get icfg.now.acts call) (stage_of self.old)) number self.old self.new) }
+        ensures room { OnOk result (self.new.made ≤ 2 ^ 32) }
+    {
+        let Some(before) = self.saved.pop() else {
+            unreachable!()
+        };
+        let here = returned_from(alloc, icfg, call, targets, &self.here, &before)?;
+        self.add(number, Made::nothing(alloc, here))
+    }
+
+    /// Reads a letter of the word, which has this number.
+    pub(crate) fn read(
+        &mut self,
+        alloc: Global,
+        icfg: &Icfg,
+        letter: Letter,
+        number: u32,
+    ) -> Result<(), AllocError>
+        requires valid { Keeps icfg.now }
+        requires goes { GoesOnBy icfg.now letter (stage_of self.old) }
+        requires room { self.old.made ≤ 2 ^ 32 }
+        ensures value { OnOk result (Reads (part_of (alphabet_of icfg.now) letter (stage_of self.old)) number self.old self.new) }
+        ensures room { OnOk result (self.new.made ≤ 2 ^ 32) }
+    {
+        match act_at(icfg, letter.id) {
+            Act::Inside {
+                proc,
+                written,
+                helpers,
+                rows,
+            } => {
+                let frame = frame_at(icfg, *proc);
+                self.read_inside(alloc, frame, written, *helpers, rows, number)
+            }
+            Act::Call {
+                callee,
+                helpers,
+                rows,
+                ..
+            } => {
+                let frame = frame_at(icfg, *callee);
+                self.read_call(alloc, frame, *helpers, rows, number)
+            }
+            Act::Back { call, targets } => { self.read_back(alloc, icfg, *call, targets, number) }
+        }
+    }
+}
+
+/// The act of a letter.
+fn act_at(icfg: &Icfg, letter: u32) -> &Act
+    requires { letter < length icfg.now.acts }
+    ensures value { slice_get icfg.now.acts letter ≡ Some (plain_act result.now) }
+    ensures valid { Keeps icfg.now }
+{
+    &icfg.acts()[letter as usize]
+}
+
+/// The columns of a procedure.
+pub(crate) fn frame_at(icfg: &Icfg, proc: u32) -> &[(Column, VarInfo)]
+    requires { proc < length icfg.now.frames }
+    ensures { result.now ≡ frame_of (alphabet_of icfg.now) proc }
+{
+    icfg.frames()[proc as usize].columns.as_slice()
+}
+
+/// The versions after a return from a call of this letter.
+fn returned_from(
+    alloc: Global,
+    icfg: &Icfg,
+    call: u32,
+    targets: &[u32],
+    exit: &[Col],
+    before: &[Col],
+) -> Result<Vec<Col>, AllocError>
+    requires { BackFitsFrom (alphabet_of icfg.now) targets.now (slice_get icfg.now.acts call) exit.now before.now }
+    ensures { IfOk result (λ v. v.items ≡ returned_from (alphabet_of icfg.now) targets.now (slice_get icfg.now.acts call) exit.now before.now) }
+{
+    match act_at(icfg, call) {
+        Act::Call { caller, callee, .. } => returned(
+            alloc,
+            frame_at(icfg, *caller),
+            frame_at(icfg, *callee),
+            targets,
+            exit,
+            before,
+        ),
+        Act::Inside { .. } | Act::Back { .. } => unreachable!(),
+    }
+}

@@ -1,0 +1,100 @@
+//! The versions of a frame's columns before and after a letter.
+
+ghost use Rattle.std.specs.Prelude.{◌≡◌, ◌+◌, ◌<◌, ◌≤◌, ◌^◌, ◌++◌, IfOk, OnOk, map, length, take, drop, slice_index};
+ghost use Rattle.std.specs.List.{AllByRecursion};
+ghost use Rattle.letter_acts.specs.Frames.{globals_of, results_of};
+ghost use Rattle.path_rows.specs.Versions.{columns_from, written_over, entered, returned, locals_of, old_part};
+
+use crate::frames::{Class, numbers_of};
+use boogie_tree::{Column, VarInfo};
+use lin_rows::Col;
+use std::alloc::{AllocError, Global};
+
+/// Adds so many columns from a number on.
+pub(crate) fn add_columns(
+    columns: &mut Vec<Col>,
+    from: usize,
+    count: usize,
+) -> Result<(), AllocError>
+    requires { from + count ≤ 2 ^ 32 }
+    ensures { OnOk result (columns.new.items ≡ columns.old.items ++ columns_from from count) }
+{
+    for i in 0..count {
+        columns.push((from + i) as u32)?;
+    }
+    Ok(())
+}
+
+/// Writes new versions over some columns, one after the other, as long as both lists last.
+pub(crate) fn write_over(here: &mut [Col], columns: &[u32], news: &[Col])
+    requires { AllByRecursion (λ c. c < length here.old) columns.now }
+    ensures { here.new ≡ written_over here.old columns.now news.now }
+{
+    for i in 0..columns.len() {
+        if i >= news.len() {
+            return;
+        }
+        here[columns[i] as usize] = news[i];
+    }
+}
+
+/// The versions at these columns.
+pub(crate) fn picked(alloc: Global, here: &[Col], columns: &[u32]) -> Result<Vec<Col>, AllocError>
+    requires { AllByRecursion (λ c. c < length here.now) columns.now }
+    ensures { IfOk result (λ v. v.items ≡ map (slice_index here.now) columns.now) }
+{
+    let mut versions = Vec::with_capacity(alloc, columns.len())?;
+    for column in columns {
+        versions.push(here[*column as usize])?;
+    }
+    Ok(versions)
+}
+
+/// The versions at the entry of a callee, whose locals and old columns begin at these numbers.
+pub(crate) fn entered(
+    alloc: Global,
+    callee: &[(Column, VarInfo)],
+    locals: (usize, usize),
+    olds: (usize, usize),
+    here: &[Col],
+) -> Result<Vec<Col>, AllocError>
+    requires numbers { length callee.now ≤ 2 ^ 32 }
+    requires globals { length (globals_of callee.now) ≤ length here.now }
+    requires local_count { locals.1 ≡ length (locals_of callee.now) }
+    requires old_count { olds.1 ≡ length (old_part callee.now) }
+    requires locals_fit { locals.0 + locals.1 ≤ 2 ^ 32 }
+    requires olds_fit { olds.0 + olds.1 ≤ 2 ^ 32 }
+    ensures { IfOk result (λ v. v.items ≡ entered callee.now locals.0 olds.0 here.now) }
+{
+    let globals = numbers_of(alloc, callee, Class::Global)?;
+    let mut entry = Vec::from_slice(alloc, &here[..globals.len()])?;
+    add_columns(&mut entry, olds.0, olds.1)?;
+    add_columns(&mut entry, locals.0, locals.1)?;
+    Ok(entry)
+}
+
+/// The versions after a return, from those at the exit and those before the call.
+pub(crate) fn returned(
+    alloc: Global,
+    caller: &[(Column, VarInfo)],
+    callee: &[(Column, VarInfo)],
+    targets: &[u32],
+    exit: &[Col],
+    before: &[Col],
+) -> Result<Vec<Col>, AllocError>
+    requires caller_numbers { length caller.now ≤ 2 ^ 32 }
+    requires callee_numbers { length callee.now ≤ 2 ^ 32 }
+    requires in_exit { length (globals_of caller.now) ≤ length exit.now }
+    requires in_before { length (globals_of caller.now) ≤ length before.now }
+    requires results { AllByRecursion (λ c. c < length exit.now) (results_of callee.now) }
+    requires targets { AllByRecursion (λ c. c < length before.now) targets.now }
+    ensures { IfOk result (λ v. v.items ≡ returned caller.now callee.now targets.now exit.now before.now) }
+{
+    let globals = numbers_of(alloc, caller, Class::Global)?;
+    let results = numbers_of(alloc, callee, Class::Outcome)?;
+    let news = picked(alloc, exit, &results)?;
+    let mut after = Vec::from_slice(alloc, &exit[..globals.len()])?;
+    after.extend_from_slice(&before[globals.len()..])?;
+    write_over(after.as_mut_slice(), targets, &news);
+    Ok(after)
+}
