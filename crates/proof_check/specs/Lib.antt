@@ -1,0 +1,10 @@
+pub mod Firsts
+pub mod Steps
+pub mod Sources
+pub mod Marks
+pub mod Moves
+pub mod Plans
+pub mod Sound
+pub mod Covering
+pub mod Proves
+pub mod Checks
