@@ -1,11 +1,13 @@
 -- The six checks of an annotation, and the first that fails, at its first item.
-use Rattle.std.specs.Prelude.{◌≡◌, ℕ, ◌+◌, ◌<◌, Some, slice_get}
+use Rattle.std.specs.Prelude.{◌≡◌, ℕ, ◌+◌, ◌<◌, Some, Result, Ok, Err, slice_get}
 use Rattle.letter_acts.specs.Invariant.{Graph}
 use Rattle.proof_form.specs.Annotations.{Content}
 use Rattle.proof_names.specs.declared.outlines.NamedTriple.{NamedTriple}
 use Rattle.proof_names.specs.declared.outlines.NamedStep.{NamedStep}
 use Rattle.proof_names.specs.Outlines.{Node, Sketch}
 use Rattle.proof_names.specs.Items.{IsNamed, Names, first_triple, first_node, first_step, item_count}
+use Rattle.proof_check.specs.declared.rejects.Reject.{Reject}
+use Rattle.proof_check.specs.declared.rejects.Reject.TheVariants.{At, Memory}
 use Rattle.proof_check.specs.declared.rejects.RejectCause.{RejectCause}
 use Rattle.proof_check.specs.declared.rejects.RejectCause.TheVariants.{BadTriple, NoStart, OpenError, MissingStep, BadStep, BadName}
 use Rattle.proof_check.specs.Steps.{IsNode, IsOpen, IsSound, HasSteps, HasBacks}
@@ -47,3 +49,23 @@ pub record IsFirst (g : Graph) (a : Content) (item : ℕ) (cause : RejectCause) 
   pub earlier : (c : RejectCause) (i : ℕ) → turn c < turn cause → Passes g a c i
   pub before : (i : ℕ) → i < item → Passes g a cause i
   pub fails : Passes g a cause item → ⊥
+
+-- ---- the outcome of checks
+
+-- of one check: all items pass, or it names its cause and the first item that fails
+abbrev pub IsOutcome : {U : Type 0} → (ℕ → Type 0) → RejectCause → Result U Reject → Type 0
+IsOutcome P c (Ok u) = (i : ℕ) → P i
+IsOutcome P c (Err (At item cause)) = (cause ≡ c) × ((i : ℕ) → i < item → P i) × (P item → ⊥)
+IsOutcome P c (Err Memory) = Unit {0}
+
+-- the first of the checks of what lines name that fails, and its first item
+pub record IsFirstIn (g : Graph) (a : Content) (s : Sketch) (item : ℕ) (cause : RejectCause) : Type 0 where
+  pub earlier : (c : RejectCause) (i : ℕ) → turn c < turn cause → PassesIn g a s c i
+  pub before : (i : ℕ) → i < item → PassesIn g a s cause i
+  pub fails : PassesIn g a s cause item → ⊥
+
+-- of all checks of what lines name
+abbrev pub AreOutcomes : {U : Type 0} → Graph → Content → Sketch → Result U Reject → Type 0
+AreOutcomes g a s (Ok u) = (c : RejectCause) (i : ℕ) → PassesIn g a s c i
+AreOutcomes g a s (Err (At item cause)) = IsFirstIn g a s item cause
+AreOutcomes g a s (Err Memory) = Unit {0}

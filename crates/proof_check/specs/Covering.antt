@@ -1,17 +1,12 @@
 -- Which steps and backs a node has, by numbers.
-use Rattle.std.specs.Prelude.{◌≡◌, ◌<◌, ℕ, List, Some, length, slice_get}
+use Rattle.std.specs.Prelude.{◌≡◌, ℕ, List}
 use Rattle.nwa_base.specs.declared.letters.Letter.{Letter}
 use Rattle.nwa_base.specs.Members.{Member}
 use Rattle.letter_acts.specs.Invariant.{Graph}
 use Rattle.proof_names.specs.declared.outlines.NamedStep.{NamedStep}
-use Rattle.proof_names.specs.declared.outlines.NamedStep.TheVariants as steps
 use Rattle.proof_names.specs.Outlines.{Node, Sketch}
 use Rattle.proof_check.specs.Steps.{IsNode, IsOpen, StepsTo, BacksTo}
 use Rattle.proof_check.specs.Sound.{StepExists}
-
--- one of the nodes with these numbers is at the place
-abbrev pub SomeAt : List Node → List ℕ → ℕ → Type 0
-SomeAt nodes numbers place = (n : ℕ) × (x : Node) × Member numbers n × (slice_get nodes n ≡ Some x) × (x.place ≡ place)
 
 -- a step leads from node n to the end of each of the edges, by its letter
 abbrev pub HasStepsAlong : Sketch → ℕ → List (ℕ × Letter × ℕ) → Type 0

@@ -1,8 +1,5 @@
 pub mod Firsts
 pub mod Steps
-pub mod Sources
-pub mod Marks
-pub mod Moves
 pub mod Plans
 pub mod Sound
 pub mod Covering

@@ -8,20 +8,29 @@ use Rattle.proof_names.specs.declared.outlines.NamedStep.{NamedStep}
 use Rattle.proof_names.specs.declared.outlines.NamedStep.TheVariants as steps
 use Rattle.proof_names.specs.Outlines.{Node, Sketch}
 use Rattle.proof_check.specs.Steps.{IsNode, Lists, InsideIsSound, CallIsSound, BackIsSound, StepIsSound, ReturnIsSound}
-use Rattle.proof_check.specs.Marks.{IsOfNode}
+use Rattle.proof_check.specs.Plans.{IsOfNode}
 
--- each of the predicates is the target of a listed triple of the inside letter whose source is true or in node n
-abbrev pub InsideIsShown : Sketch → ℕ → ℕ → List ℕ → Type 0
-InsideIsShown s l n preds = (r : ℕ) → Member preds r → (q : ℕ) × Lists s.triples (Inside q l r) × IsOfNode s.nodes q n
+-- predicate r is the target of a listed triple of the inside letter whose source is true or in node n
+abbrev pub InsideGives : Sketch → ℕ → ℕ → ℕ → Type 0
+InsideGives s l n r = (q : ℕ) × Lists s.triples (Inside q l r) × IsOfNode s.nodes q n
 
 -- the same of a call letter
-abbrev pub CallIsShown : Sketch → ℕ → ℕ → List ℕ → Type 0
-CallIsShown s l n preds = (r : ℕ) → Member preds r → (q : ℕ) × Lists s.triples (Call q l r) × IsOfNode s.nodes q n
+abbrev pub CallGives : Sketch → ℕ → ℕ → ℕ → Type 0
+CallGives s l n r = (q : ℕ) × Lists s.triples (Call q l r) × IsOfNode s.nodes q n
 
 -- the same of a return letter, with a source in the exit x and one in node c before the call
+abbrev pub BackGives : Sketch → ℕ → ℕ → ℕ → ℕ → Type 0
+BackGives s l x c r = (a : ℕ) × (b : ℕ) × Lists s.triples (Back a b l r) × IsOfNode s.nodes a x × IsOfNode s.nodes b c
+
+-- each of the predicates is the target of such a triple
+abbrev pub InsideIsShown : Sketch → ℕ → ℕ → List ℕ → Type 0
+InsideIsShown s l n preds = (r : ℕ) → Member preds r → InsideGives s l n r
+
+abbrev pub CallIsShown : Sketch → ℕ → ℕ → List ℕ → Type 0
+CallIsShown s l n preds = (r : ℕ) → Member preds r → CallGives s l n r
+
 abbrev pub BackIsShown : Sketch → ℕ → ℕ → ℕ → List ℕ → Type 0
-BackIsShown s l x c preds =
-    (r : ℕ) → Member preds r → (a : ℕ) × (b : ℕ) × Lists s.triples (Back a b l r) × IsOfNode s.nodes a x × IsOfNode s.nodes b c
+BackIsShown s l x c preds = (r : ℕ) → Member preds r → BackGives s l x c r
 
 -- the nodes of the step or back exist
 abbrev pub StepExists : Sketch → NamedStep → Type 0

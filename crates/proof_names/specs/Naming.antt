@@ -28,10 +28,14 @@ use Rattle.proof_names.specs.Outlines.{Node}
 
 -- ---- predicates by number
 
+-- true or false, in a procedure
+abbrev pub truth_in : ℕ → Bool → Scoped
+truth_in p value = record { proc = p; pred = Truth value ∷ [] }
+
 -- the predicate with this number in a procedure: 0 is true and 1 is false in every procedure, the lines have the numbers from 2 on
 abbrev pub scoped_at : (ℕ → Option Scoped) → ℕ → ℕ → Option Scoped
-scoped_at preds p zero = Some (record { proc = p; pred = Truth true ∷ [] })
-scoped_at preds p (suc zero) = Some (record { proc = p; pred = Truth false ∷ [] })
+scoped_at preds p zero = Some (truth_in p true)
+scoped_at preds p (suc zero) = Some (truth_in p false)
 scoped_at preds p (suc (suc k)) = preds k
 
 -- the number is that of a predicate of the procedure

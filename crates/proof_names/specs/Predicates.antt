@@ -43,11 +43,15 @@ node_named frame (atom bound terms) = option_map Atom (row_named frame bound ter
 node_named frame (and_of n) = Some (And n)
 node_named frame (or_of n) = Some (Or n)
 
--- the nodes over the columns of a procedure
+-- the nodes as a predicate over the columns of a procedure
+abbrev pub scoped_of : ℕ → List PredNode → Scoped
+scoped_of p nodes = record { proc = p; pred = nodes }
+
+-- the nodes of a line over the columns of a procedure
 abbrev pub scoped_named : Graph → List PredicateNode → Option ℕ → Option Scoped
 scoped_named g nodes None = None
 scoped_named g nodes (Some p) =
-    option_map (λ ns. record { proc = p; pred = ns }) (all_some (map (node_named (frame_of (alphabet_of g) p)) nodes))
+    option_map (scoped_of p) (all_some (map (node_named (frame_of (alphabet_of g) p)) nodes))
 
 -- the predicate that a line names
 abbrev pub pred_named : Graph → Pred → Option Scoped

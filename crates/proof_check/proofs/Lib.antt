@@ -1,0 +1,12 @@
+pub mod ListLaws
+pub mod NamedLaws
+pub mod Soundness
+pub mod ProvedLaws
+pub mod IndexLaws
+pub mod EntryLaws
+pub mod MarkLaws
+pub mod WalkLaws
+pub mod SoundLaws
+pub mod CoverLaws
+pub mod OutcomeLaws
+pub mod UniqueLaws
