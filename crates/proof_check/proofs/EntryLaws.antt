@@ -1,5 +1,5 @@
 -- What triples and steps enter into the indexes.
-use Rattle.std.proofs.Common.{◌≡◌, ◌∙◌, ◌↔◌, ◌⊎◌, ℕ, zero, suc, ◌+◌, ◌<◌, ◌≤◌, Bool, true, false, cond, ◌&&◌, eqb, List, [], ◌∷◌, ◌++◌, length, take, get_or, Option, None, Some, refl, sym, ap, subst, inl, inr, arith, eq-eqb}
+use Rattle.std.proofs.Common.{◌≡◌, ◌∙◌, ◌↔◌, ◌⊎◌, ℕ, zero, suc, ◌+◌, ◌<◌, ◌≤◌, Bool, true, false, not, cond, ◌&&◌, eqb, List, [], ◌∷◌, ◌++◌, length, take, get_or, Option, None, Some, refl, sym, ap, subst, inl, inr, arith, eq-eqb}
 use Rattle.std.specs.Prelude.{map, slice_get}
 use Rattle.std.specs.Option.{option_map}
 use Rattle.std.proofs.lemmas.Bool.{eqb-true, false≢true}
@@ -32,31 +32,31 @@ tells_two = record {
   itself = λ k. and_both (eqb k.0 k.0) (eqb k.1 k.1) (eqb-refl k.0) (eqb-refl k.1);
 }
 
-pub tells_three : TellsKeys (λ (k l : ℕ × ℕ × ℕ). eqb k.0 l.0 && (eqb k.1 l.1 && eqb k.2 l.2))
+pub tells_three : TellsKeys (λ (k l : ℕ × ℕ × ℕ). (eqb k.0 l.0 && eqb k.1 l.1) && eqb k.2 l.2)
 tells_three = record {
   same = λ k l e.
-      let r = and_right (eqb k.0 l.0) (eqb k.1 l.1 && eqb k.2 l.2) e in
-      let a = eqb-true k.0 l.0 (and_left (eqb k.0 l.0) (eqb k.1 l.1 && eqb k.2 l.2) e) in
-      let b = eqb-true k.1 l.1 (and_left (eqb k.1 l.1) (eqb k.2 l.2) r) in
-      let c = eqb-true k.2 l.2 (and_right (eqb k.1 l.1) (eqb k.2 l.2) r) in
+      let r = and_left (eqb k.0 l.0 && eqb k.1 l.1) (eqb k.2 l.2) e in
+      let a = eqb-true k.0 l.0 (and_left (eqb k.0 l.0) (eqb k.1 l.1) r) in
+      let b = eqb-true k.1 l.1 (and_right (eqb k.0 l.0) (eqb k.1 l.1) r) in
+      let c = eqb-true k.2 l.2 (and_right (eqb k.0 l.0 && eqb k.1 l.1) (eqb k.2 l.2) e) in
       λ i. (a i, b i, c i);
   itself = λ k.
-      and_both (eqb k.0 k.0) (eqb k.1 k.1 && eqb k.2 k.2) (eqb-refl k.0) (and_both (eqb k.1 k.1) (eqb k.2 k.2) (eqb-refl k.1) (eqb-refl k.2));
+      and_both (eqb k.0 k.0 && eqb k.1 k.1) (eqb k.2 k.2) (and_both (eqb k.0 k.0) (eqb k.1 k.1) (eqb-refl k.0) (eqb-refl k.1)) (eqb-refl k.2);
 }
 
-pub tells_four : TellsKeys (λ (k l : ℕ × ℕ × ℕ × ℕ). eqb k.0 l.0 && (eqb k.1 l.1 && (eqb k.2 l.2 && eqb k.3 l.3)))
+pub tells_four : TellsKeys (λ (k l : ℕ × ℕ × ℕ × ℕ). ((eqb k.0 l.0 && eqb k.1 l.1) && eqb k.2 l.2) && eqb k.3 l.3)
 tells_four = record {
   same = λ k l e.
-      let r = and_right (eqb k.0 l.0) (eqb k.1 l.1 && (eqb k.2 l.2 && eqb k.3 l.3)) e in
-      let s = and_right (eqb k.1 l.1) (eqb k.2 l.2 && eqb k.3 l.3) r in
-      let a = eqb-true k.0 l.0 (and_left (eqb k.0 l.0) (eqb k.1 l.1 && (eqb k.2 l.2 && eqb k.3 l.3)) e) in
-      let b = eqb-true k.1 l.1 (and_left (eqb k.1 l.1) (eqb k.2 l.2 && eqb k.3 l.3) r) in
-      let c = eqb-true k.2 l.2 (and_left (eqb k.2 l.2) (eqb k.3 l.3) s) in
-      let d = eqb-true k.3 l.3 (and_right (eqb k.2 l.2) (eqb k.3 l.3) s) in
+      let r = and_left ((eqb k.0 l.0 && eqb k.1 l.1) && eqb k.2 l.2) (eqb k.3 l.3) e in
+      let s = and_left (eqb k.0 l.0 && eqb k.1 l.1) (eqb k.2 l.2) r in
+      let a = eqb-true k.0 l.0 (and_left (eqb k.0 l.0) (eqb k.1 l.1) s) in
+      let b = eqb-true k.1 l.1 (and_right (eqb k.0 l.0) (eqb k.1 l.1) s) in
+      let c = eqb-true k.2 l.2 (and_right (eqb k.0 l.0 && eqb k.1 l.1) (eqb k.2 l.2) r) in
+      let d = eqb-true k.3 l.3 (and_right ((eqb k.0 l.0 && eqb k.1 l.1) && eqb k.2 l.2) (eqb k.3 l.3) e) in
       λ i. (a i, b i, c i, d i);
   itself = λ k.
-      and_both (eqb k.0 k.0) (eqb k.1 k.1 && (eqb k.2 k.2 && eqb k.3 k.3)) (eqb-refl k.0)
-      (and_both (eqb k.1 k.1) (eqb k.2 k.2 && eqb k.3 k.3) (eqb-refl k.1) (and_both (eqb k.2 k.2) (eqb k.3 k.3) (eqb-refl k.2) (eqb-refl k.3)));
+      and_both ((eqb k.0 k.0 && eqb k.1 k.1) && eqb k.2 k.2) (eqb k.3 k.3)
+      (and_both (eqb k.0 k.0 && eqb k.1 k.1) (eqb k.2 k.2) (and_both (eqb k.0 k.0) (eqb k.1 k.1) (eqb-refl k.0) (eqb-refl k.1)) (eqb-refl k.2)) (eqb-refl k.3);
 }
 
 -- ---- sources of triples
@@ -213,3 +213,64 @@ back_landed_keys s has h k = (
     ap (option_map (λ (y : Node). (k.0, k.1, k.2, y.place))) r.stands ∙ ap (λ (q : ℕ). Some (k.0, k.1, k.2, q)) r.at,
   ),
 )
+
+-- the tests of keys that are pairs, triples and so on of numbers
+abbrev pub same_two : ℕ × ℕ → ℕ × ℕ → Bool
+same_two k l = eqb k.0 l.0 && eqb k.1 l.1
+
+abbrev pub same_three : ℕ × ℕ × ℕ → ℕ × ℕ × ℕ → Bool
+same_three k l = (eqb k.0 l.0 && eqb k.1 l.1) && eqb k.2 l.2
+
+abbrev pub same_four : ℕ × ℕ × ℕ × ℕ → ℕ × ℕ × ℕ × ℕ → Bool
+same_four k l = ((eqb k.0 l.0 && eqb k.1 l.1) && eqb k.2 l.2) && eqb k.3 l.3
+
+-- ---- what is none of a kind enters nothing
+
+pub not_inside : (n : Listed) → ((q l r : ℕ) → n ≡ Inside q l r → ⊥) → inside_of n ≡ None
+not_inside (Inside q l r) h = absurd (h q l r refl)
+not_inside (Call q l r) h = refl
+not_inside (Back x b l r) h = refl
+
+pub not_call : (n : Listed) → ((q l r : ℕ) → n ≡ Call q l r → ⊥) → call_of n ≡ None
+not_call (Inside q l r) h = refl
+not_call (Call q l r) h = absurd (h q l r refl)
+not_call (Back x b l r) h = refl
+
+pub not_back : (n : Listed) → ((x b l r : ℕ) → n ≡ Back x b l r → ⊥) → back_of n ≡ None
+not_back (Inside q l r) h = refl
+not_back (Call q l r) h = refl
+not_back (Back x b l r) h = absurd (h x b l r refl)
+
+pub no_step : (t : NamedStep) → ((n l m : ℕ) → t ≡ steps.Step n l m → ⊥) → (step_key t ≡ None) × (entering_entry t ≡ None)
+no_step (steps.Step n l m) h = absurd (h n l m refl)
+no_step (steps.Back x c l m) h = (refl, refl)
+
+pub no_landed : (nodes : List Node) (t : NamedStep) → ((n l m : ℕ) → t ≡ steps.Step n l m → ⊥) → landed_key nodes t ≡ None
+no_landed nodes (steps.Step n l m) h = absurd (h n l m refl)
+no_landed nodes (steps.Back x c l m) h = refl
+
+pub no_back : (nodes : List Node) (t : NamedStep) → ((x c l m : ℕ) → t ≡ steps.Back x c l m → ⊥) → back_landed_key nodes t ≡ None
+no_back nodes (steps.Step n l m) h = refl
+no_back nodes (steps.Back x c l m) h = absurd (h x c l m refl)
+
+-- ---- the place at the end
+
+pub at_place : (o : Option Node) (n l p : ℕ) → Some p ≡ option_map (λ (x : Node). x.place) o → option_map {U = ℕ × ℕ × ℕ} (λ (x : Node). (n, l, x.place)) o ≡ Some (n, l, p)
+at_place None n l p e = absurd (cc)
+at_place (Some x) n l p e = let q : x.place ≡ p = sym (same_Some p x.place e) in ap (λ (k : ℕ). Some (n, l, k)) q
+
+pub at_no_place : (o : Option Node) (n l : ℕ) → None ≡ option_map (λ (x : Node). x.place) o → option_map {U = ℕ × ℕ × ℕ} (λ (x : Node). (n, l, x.place)) o ≡ None
+at_no_place None n l e = refl
+at_no_place (Some x) n l e = absurd (cc)
+
+pub back_at_place : (o : Option Node) (x c l p : ℕ) → Some p ≡ option_map (λ (y : Node). y.place) o → option_map {U = ℕ × ℕ × ℕ × ℕ} (λ (y : Node). (x, c, l, y.place)) o ≡ Some (x, c, l, p)
+back_at_place None x c l p e = absurd (cc)
+back_at_place (Some y) x c l p e = let q : y.place ≡ p = sym (same_Some p y.place e) in ap (λ (k : ℕ). Some (x, c, l, k)) q
+
+pub back_at_no_place : (o : Option Node) (x c l : ℕ) → None ≡ option_map (λ (y : Node). y.place) o → option_map {U = ℕ × ℕ × ℕ × ℕ} (λ (y : Node). (x, c, l, y.place)) o ≡ None
+back_at_no_place None x c l e = refl
+back_at_no_place (Some y) x c l e = absurd (cc)
+
+pub not_false : (b : Bool) → false ≡ not b → b ≡ true
+not_false true e = refl
+not_false false e = absurd (false≢true e)

@@ -5,8 +5,5 @@ pub mod ProvedLaws
 pub mod IndexLaws
 pub mod EntryLaws
 pub mod MarkLaws
-pub mod WalkLaws
-pub mod SoundLaws
-pub mod CoverLaws
-pub mod OutcomeLaws
-pub mod UniqueLaws
+pub mod RefutingLaws
+pub mod FirstLaws
