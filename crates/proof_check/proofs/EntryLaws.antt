@@ -1,22 +1,20 @@
 -- What triples and steps enter into the indexes.
-use Rattle.std.proofs.Common.{◌≡◌, ◌∙◌, ◌↔◌, ◌⊎◌, ℕ, zero, suc, ◌+◌, ◌<◌, ◌≤◌, Bool, true, false, not, cond, ◌&&◌, eqb, List, [], ◌∷◌, ◌++◌, length, take, get_or, Option, None, Some, refl, sym, ap, subst, inl, inr, arith, eq-eqb}
-use Rattle.std.specs.Prelude.{map, slice_get}
+use Rattle.std.proofs.Common.{◌≡◌, ◌∙◌, ℕ, Bool, true, false, not, ◌&&◌, eqb, List, Option, None, Some, refl, sym, ap, subst}
+use Rattle.std.specs.Prelude.{slice_get}
 use Rattle.std.specs.Option.{option_map}
 use Rattle.std.proofs.lemmas.Bool.{eqb-true, false≢true}
-use Rattle.std.proofs.lemmas.List.{take_more, take_all}
 use Rattle.std.proofs.lemmas.Option.{same_Some}
 use Rattle.nwa_base.specs.Members.{Member}
 use Rattle.nwa_base.proofs.LetterLemmas.{and_left, and_right, and_both, eqb-refl}
-use Rattle.nwa_base.proofs.MemberLemmas.{member_front, member_rest, member_split}
 use Rattle.proof_names.specs.declared.outlines.Listed.{Listed}
 use Rattle.proof_names.specs.declared.outlines.Listed.TheVariants.{Inside, Call, Back}
 use Rattle.proof_names.specs.declared.outlines.NamedTriple.{NamedTriple}
 use Rattle.proof_names.specs.declared.outlines.NamedStep.{NamedStep}
 use Rattle.proof_names.specs.declared.outlines.NamedStep.TheVariants as steps
 use Rattle.proof_names.specs.Outlines.{Node, Sketch}
-use Rattle.proof_check.specs.Steps.{Lists, StepsTo, BacksTo}
-use Rattle.proof_check.specs.Plans.{AreGroups, IsTest, InsideSource, CallSource, BackSource, Entering, Marked, MarksAll, Stepped, Landed, BackLanded, HasPred}
-use Rattle.proof_check.proofs.IndexLaws.{Enters, HasGroups, HasKeys, TellsKeys, GainsKey}
+use Rattle.proof_check.specs.Steps.{StepsTo, BacksTo}
+use Rattle.proof_check.specs.Plans.{AreGroups, IsTest, InsideSource, CallSource, BackSource, Entering, Stepped, Landed, BackLanded}
+use Rattle.proof_check.proofs.IndexLaws.{Enters, HasGroups, HasKeys, TellsKeys}
 
 -- ---- keys of numbers
 

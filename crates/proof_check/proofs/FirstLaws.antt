@@ -1,10 +1,10 @@
 -- The first member of a list that lacks a property, found from the front.
-use Rattle.std.proofs.Common.{◌≡◌, ◌∙◌, ℕ, zero, suc, ◌+◌, ◌<◌, ◌≤◌, List, [], ◌∷◌, length, get_or, Option, Some, refl, sym, subst, below_more, arith}
+use Rattle.std.proofs.Common.{◌≡◌, ℕ, zero, suc, ◌+◌, ◌<◌, ◌≤◌, List, [], ◌∷◌, length, get_or, Some, refl, subst, below_more, arith}
 use Rattle.std.proofs.lemmas.List.{length-map}
 use Rattle.std.specs.Prelude.{slice_get, map}
 use Rattle.triple_rows.proofs.ListLaws.{within, got_map}
 use Rattle.proof_names.specs.declared.outlines.NamedNode.{NamedNode}
-use Rattle.proof_names.specs.Outlines.{Node, node}
+use Rattle.proof_names.specs.Outlines.{node}
 use Rattle.proof_names.proofs.PairLaws.{is_got}
 use Rattle.proof_check.specs.Firsts.{HasAt}
 

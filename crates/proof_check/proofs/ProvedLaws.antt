@@ -1,5 +1,5 @@
 -- What a proof of a graph gives: its triples are valid.
-use Rattle.std.proofs.Common.{◌≡◌, ◌∙◌, ℕ, zero, suc, ◌<◌, Bool, true, false, ◌&&◌, List, [], ◌∷◌, length, Option, None, Some, refl, sym, ap, subst, inl, arith}
+use Rattle.std.proofs.Common.{◌≡◌, ℕ, zero, suc, Bool, true, false, List, [], ◌∷◌, Option, None, Some, refl, subst, inl, arith}
 use Rattle.std.specs.Prelude.{slice_get, IsTrue}
 use Rattle.std.specs.List.{list_all}
 use Rattle.std.specs.Option.{option_and_then}
@@ -12,9 +12,8 @@ use Rattle.letter_acts.specs.Invariant.{Graph, IsGraph, alphabet_of}
 use Rattle.farkas_check.specs.Nodes.{PlainNode}
 use Rattle.triple_rows.specs.declared.triples.Scoped.{Scoped}
 use Rattle.triple_rows.specs.declared.triples.Triple.{Triple}
-use Rattle.triple_rows.specs.declared.triples.Triple.TheVariants as triples
 use Rattle.triple_rows.specs.Predicates.{truth, SpellsPredicate}
-use Rattle.triple_rows.specs.Triples.{HasTarget, IsRefuted, IsValid}
+use Rattle.triple_rows.specs.Triples.{HasTarget, IsRefuted}
 use Rattle.triple_rows.proofs.ListLaws.{within, something_at}
 use Rattle.triple_rows.proofs.ValidLaws.{refuted_valid}
 use Rattle.proof_form.specs.Lines as form

@@ -1,5 +1,5 @@
 -- What the check of a refutation answers.
-use Rattle.std.proofs.Common.{◌≡◌, ◌↔◌, Bool, refl}
+use Rattle.std.proofs.Common.{◌↔◌, Bool}
 use Rattle.std.specs.Prelude.{Result, Ok, Err, IfOk, IsTrue}
 
 -- a test of one fact is a test of an equivalent one

@@ -1,6 +1,6 @@
 -- Where an annotation proves a graph, no accepted word is feasible: a run of the stack machine is followed by nodes that describe
 -- where it is, and a node without false describes no error.
-use Rattle.std.proofs.Common.{◌≡◌, ◌∙◌, ℕ, List, [], ◌∷◌, Option, None, Some, refl, sym, ap, subst, inl, inr}
+use Rattle.std.proofs.Common.{◌≡◌, ◌∙◌, ℕ, List, [], ◌∷◌, Option, None, Some, refl, sym, subst, inl, inr}
 use Rattle.std.specs.Prelude.{Bool, true, false, slice_get, if◌then◌else◌}
 use Rattle.nwa_base.specs.declared.letters.Kind.{Kind}
 use Rattle.nwa_base.specs.declared.letters.Kind.TheVariants as kinds
@@ -12,7 +12,7 @@ use Rattle.lin_rows.specs.Rows.{LinearRow}
 use Rattle.letter_acts.specs.Acts.{PlainAct, inside_act, call_act, back_act, Alphabet, letter_of, named_act, act_of}
 use Rattle.letter_acts.specs.Meaning.{Situation, ActInside, ActCalls, ActReturns, ReturnsFrom}
 use Rattle.letter_acts.specs.Ways.{Leads, Goes}
-use Rattle.letter_acts.specs.Feasible.{IsFeasible, machine, MachineRun}
+use Rattle.letter_acts.specs.Feasible.{IsFeasible, machine}
 use Rattle.letter_acts.specs.Invariant.{Graph, IsGraph, alphabet_of}
 use Rattle.letter_acts.proofs.MachineLemmas.{machine_runs}
 use Rattle.letter_acts.proofs.KnownLemmas.{inside_edge_known, call_edge_known, back_edge_known}

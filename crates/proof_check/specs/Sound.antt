@@ -1,5 +1,5 @@
 -- Sound steps, by the numbers of their nodes.
-use Rattle.std.specs.Prelude.{◌≡◌, ◌<◌, ℕ, List, length, slice_get}
+use Rattle.std.specs.Prelude.{◌<◌, ℕ, List, length, slice_get}
 use Rattle.nwa_base.specs.declared.letters.Letter.{Letter}
 use Rattle.nwa_base.specs.Members.{Member}
 use Rattle.letter_acts.specs.Invariant.{Graph}

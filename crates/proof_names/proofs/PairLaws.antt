@@ -1,9 +1,8 @@
 -- Lists that are made member by member, each member related to the one at its place.
-use Rattle.std.proofs.Common.{◌≡◌, ◌∙◌, ◌⊎◌, ℕ, zero, suc, ◌+◌, ◌<◌, ◌≤◌, List, [], ◌∷◌, ◌++◌, length, get_or, length-append, Option, None, Some, refl, sym, ap, subst, inl, inr, arith}
+use Rattle.std.proofs.Common.{◌≡◌, ◌∙◌, ◌⊎◌, ℕ, zero, suc, ◌+◌, ◌<◌, List, [], ◌∷◌, ◌++◌, length, get_or, length-append, Option, None, Some, refl, sym, ap, subst, inl, inr, arith}
 use Rattle.std.specs.Prelude.{map, slice_get}
 use Rattle.std.specs.Option.{option_map, option_and_then}
-use Rattle.std.proofs.lemmas.List.{map-append}
-use Rattle.triple_rows.proofs.ListLaws.{within, something_at, got_map}
+use Rattle.triple_rows.proofs.ListLaws.{within, something_at}
 use Rattle.proof_names.specs.Pairs.{ArePaired, IsFirstWithout, IsAt}
 
 -- the member at a place that exists

@@ -1,5 +1,5 @@
 -- A predicate in the grammar, with its columns named, is the prefix list of a predicate.
-use Rattle.std.proofs.Common.{◌≡◌, ◌≢◌, ◌∙◌, ℕ, zero, suc, ◌+◌, ◌^◌, ◌≤◌, max, append_assoc, Bool, true, false, ◌&&◌, List, [], ◌∷◌, ◌++◌, take, drop, Option, None, Some, refl, sym, ap, subst, inr, arith}
+use Rattle.std.proofs.Common.{◌≡◌, ◌≢◌, ◌∙◌, ℕ, suc, ◌^◌, ◌≤◌, max, append_assoc, Bool, true, false, ◌&&◌, List, [], ◌∷◌, ◌++◌, take, drop, Option, None, Some, refl, sym, ap, subst, inr, arith}
 use Rattle.std.specs.Prelude.{ℤ, map, nat_le, nat_lt, IsTrue, if◌then◌else◌}
 use Rattle.std.specs.List.{list_all}
 use Rattle.std.specs.Option.{option_map}
@@ -18,7 +18,7 @@ use Rattle.triple_rows.specs.Predicates.{Formula, Formulas, formula_count, IsTre
 use Rattle.proof_form.specs.declared.numerals.Numeral.{Numeral}
 use Rattle.proof_form.specs.Trees.{is_tree}
 use Rattle.proof_form.specs.Forests.{Tree, Forest, tree, no_tree, one_more, size, HasParts, HaveParts, prefix_of, prefixes_of}
-use Rattle.proof_form.specs.Predicates.{PredicateNode, atom, and_of, or_of, parts, is_term, is_count, is_node, highest, height_of, with_height, heights, are_low, is_predicate}
+use Rattle.proof_form.specs.Predicates.{PredicateNode, atom, and_of, or_of, parts, is_term, is_node, highest, height_of, with_height, heights, are_low, is_predicate}
 use Rattle.proof_form.specs.Refutations.{is_some_list}
 use Rattle.proof_form.specs.Names.{is_procedure}
 use Rattle.proof_form.specs.Lines as form
@@ -26,9 +26,9 @@ use Rattle.proof_form.specs.Numerals.{is_numeral}
 use Rattle.proof_form.proofs.RunLaws.{both_hold}
 use Rattle.proof_form.proofs.ForestLaws.{whole_is_tree}
 use Rattle.proof_names.specs.Numbers.{number_in}
-use Rattle.proof_names.specs.Options.{both, with_first, all_some}
+use Rattle.proof_names.specs.Options.{both, all_some}
 use Rattle.proof_names.specs.Columns.{procedure_named}
-use Rattle.proof_names.specs.Predicates.{term_named, ascend, row_in_order, if_there, row_named, node_named, scoped_of, scoped_named, pred_named}
+use Rattle.proof_names.specs.Predicates.{term_named, ascend, if_there, row_named, node_named, scoped_of, scoped_named, pred_named}
 use Rattle.proof_names.proofs.AllLaws.{front_of, parted}
 
 -- ---- heights

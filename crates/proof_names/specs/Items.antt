@@ -1,5 +1,5 @@
 -- The items of an annotation: predicates, triples, nodes and steps, numbered from 0 through all of them.
-use Rattle.std.specs.Prelude.{◌≡◌, ℕ, ◌+◌, ◌<◌, List, map, length, Option, Some, IsSome, slice_get}
+use Rattle.std.specs.Prelude.{◌≡◌, ℕ, ◌+◌, ◌<◌, length, Option, Some, IsSome, slice_get}
 use Rattle.std.specs.Option.{option_and_then}
 use Rattle.letter_acts.specs.Invariant.{Graph}
 use Rattle.triple_rows.specs.declared.triples.Scoped.{Scoped}

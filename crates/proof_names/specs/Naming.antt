@@ -1,11 +1,9 @@
 -- What each line of an annotation names.
 use Rattle.std.specs.Prelude.{◌≡◌, ◌⊎◌, ℕ, zero, suc, ◌+◌, Bool, true, false, IsTrue, List, [], ◌∷◌, map, length, Option, None, Some, IsSomeAnd, slice_get}
-use Rattle.std.specs.Option.{option_map, option_and_then}
+use Rattle.std.specs.Option.{option_map}
 use Rattle.std.specs.List.{AllByRecursion}
-use Rattle.letter_acts.specs.Frames.{Columns}
 use Rattle.letter_acts.specs.Acts.{PlainAct, inside_act, call_act, back_act, Alphabet, frame_of}
 use Rattle.letter_acts.specs.Invariant.{Graph, alphabet_of, IsPlaceOf, inside_width, call_width, written_by}
-use Rattle.farkas_check.specs.Nodes.{PlainNode}
 use Rattle.triple_rows.specs.declared.predicates.PredNode.TheVariants.{Truth}
 use Rattle.triple_rows.specs.declared.triples.Scoped.{Scoped}
 use Rattle.triple_rows.specs.declared.triples.Triple.{Triple}

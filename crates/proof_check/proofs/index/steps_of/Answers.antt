@@ -1,7 +1,7 @@
 use Rattle.std.proofs.Common.{◌∙◌, sym, refl}
 use Rattle.proof_names.specs.declared.outlines.NamedStep.TheVariants as steps
 use Rattle.proof_check.proofs.IndexLaws.{keys_next, keys_pass, keys_all}
-use Rattle.proof_check.proofs.EntryLaws.{same_three, tells_three, step_key, step_keys, no_step}
+use Rattle.proof_check.proofs.EntryLaws.{same_three, tells_three, step_key, step_keys}
 use Rattle.proof_check.proofs.FirstLaws.{same_default}
 use Rattle.proof_check.proofs.index.steps_of.Goals as goal
 use Rattle.proof_check.proofs.index.steps_of.Goals.{in-Step+in_ok-insert, in_default}

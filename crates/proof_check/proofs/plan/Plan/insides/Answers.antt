@@ -1,4 +1,3 @@
-use Rattle.std.proofs.Common.{subst, sym}
 use Rattle.proof_check.proofs.plan.Plan.insides.Goals as goal
 
 pub returns : goal.returns
