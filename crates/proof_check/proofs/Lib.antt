@@ -1,0 +1,9 @@
+pub mod ListLaws
+pub mod NamedLaws
+pub mod Soundness
+pub mod ProvedLaws
+pub mod IndexLaws
+pub mod EntryLaws
+pub mod MarkLaws
+pub mod RefutingLaws
+pub mod FirstLaws

@@ -1,0 +1,7 @@
+pub mod Firsts
+pub mod Steps
+pub mod Plans
+pub mod Sound
+pub mod Covering
+pub mod Proves
+pub mod Checks

@@ -1,0 +1,9 @@
+pub mod Numbers
+pub mod Options
+pub mod Pairs
+pub mod Columns
+pub mod Predicates
+pub mod Refutations
+pub mod Outlines
+pub mod Naming
+pub mod Items
