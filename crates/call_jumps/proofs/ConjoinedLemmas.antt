@@ -1,5 +1,5 @@
 -- Several conditions together: how many members their list has, and what fits.
-use Rattle.std.proofs.Common.{◌≡◌, ℕ, zero, suc, ◌+◌, ◌-◌, ◌*◌, ◌<◌, ◌≤◌, Bool, true, false, ◌&&◌, ◌||◌, List, [], ◌∷◌, ◌++◌, map, length, drop, get_or, refl, sym, ◌∙◌, ap, subst, length-append, Result, Ok, Err, arith}
+use Rattle.std.proofs.Common.{◌≡◌, ℕ, zero, suc, ◌+◌, ◌-◌, ◌*◌, ◌<◌, ◌≤◌, Bool, true, false, ◌&&◌, ◌||◌, List, [], ◌∷◌, map, length, drop, get_or, refl, sym, ◌∙◌, ap, length-append, Result, Ok, Err, arith}
 use Rattle.std.specs.Result.{IsErrAnd}
 use Rattle.std.proofs.lemmas.Bool.{lt-ltb}
 use Rattle.std.proofs.lemmas.Bool.Decides.{nat_tests}
@@ -8,12 +8,11 @@ use Rattle.typed_tree.specs.TypedTree.{TypedExpression}
 use Rattle.typed_tree.specs.TypedView.{expression}
 use Rattle.typed_tree.specs.declared.types.TExpr.{TExpr}
 use Rattle.cond_jumps.specs.declared.fault.JumpFault.{JumpFault}
-use Rattle.cond_jumps.specs.Conjunctions.{Conjunction, Jumps, joined, each_with, Plan, Just, Then, With, listed, is_long, is_wide, list_fits, all_fit}
+use Rattle.cond_jumps.specs.Conjunctions.{Conjunction, Jumps, joined, each_with, listed, is_long, is_wide, list_fits, all_fit}
 use Rattle.cond_jumps.specs.Environments.{Environment}
-use Rattle.cond_jumps.specs.Frames.{frame_environment}
 use Rattle.cond_jumps.specs.Moving.{moved, IsEven, IsEvenPlan, IsEvenEnvironment}
 use Rattle.cond_jumps.specs.Paths.{paths}
-use Rattle.cond_jumps.proofs.EvenLemmas.{listed_even, paths_even, frame_even}
+use Rattle.cond_jumps.proofs.EvenLemmas.{listed_even, paths_even}
 use Rattle.call_jumps.specs.Conjoined.{conjoined, HasMembers}
 
 pub conjoined_even : (w : ℕ) (v : Environment) → IsEvenEnvironment w v → (es : List TypedExpression) → IsEvenPlan w (conjoined v es)

@@ -1,9 +1,8 @@
 -- What stands for the columns of the ensures of a procedure without body.
-use Rattle.std.proofs.Common.{◌≡◌, ◌⊎◌, inl, inr, ℕ, zero, suc, ◌+◌, ◌<◌, ◌≤◌, Bool, true, false, not, ◌||◌, cond, nat_eq, List, [], ◌∷◌, ◌++◌, map, length, Option, None, Some, refl, sym, ◌∙◌, ap, subst, length-append, take, drop, arith}
-use Rattle.std.specs.Prelude.{filter, slice_get}
-use Rattle.std.specs.Option.{option_map}
+use Rattle.std.proofs.Common.{◌≡◌, inl, inr, ℕ, zero, suc, ◌+◌, ◌<◌, ◌≤◌, Bool, true, false, not, ◌||◌, cond, nat_eq, List, [], ◌∷◌, ◌++◌, map, length, Option, None, Some, refl, ◌∙◌, subst, length-append, take, drop, arith}
+use Rattle.std.specs.Prelude.{slice_get}
 use Rattle.std.specs.List.{AllByRecursion}
-use Rattle.std.proofs.lemmas.Bool.{eqb-true, eqb-false}
+use Rattle.std.proofs.lemmas.Bool.{eqb-true}
 use Rattle.std.proofs.lemmas.Bool.Decides.{nat_tests}
 use Rattle.std.proofs.lemmas.List.{append-nil}
 use Rattle.boogie_tree.specs.declared.tree.Ty.{Ty}
@@ -12,22 +11,22 @@ use Rattle.boogie_tree.specs.declared.tree.Column.TheVariants as columns
 use Rattle.boogie_tree.specs.declared.tree.VarInfo.{VarInfo}
 use Rattle.typed_tree.specs.TypedTree.{TypedExpression, TypedInvariant, TypedProcedure}
 use Rattle.letter_acts.specs.Frames.{Columns}
-use Rattle.cond_jumps.specs.Conjunctions.{Conjunction, joined, each_with, Plan, Just, With, listed}
+use Rattle.cond_jumps.specs.Conjunctions.{joined, With, listed}
 use Rattle.cond_jumps.specs.Environments.{Environment}
-use Rattle.cond_jumps.specs.Frames.{place, frame_environment}
-use Rattle.cond_jumps.specs.Passing.{Standing, Same, Numbered, Passed, standing_type, standing_sum, standing_plan, standing_environment, left_in, locals_of, imported}
+use Rattle.cond_jumps.specs.Frames.{frame_environment}
+use Rattle.cond_jumps.specs.Passing.{Numbered, standing_type, standing_sum, standing_plan, standing_environment, left_in, locals_of, imported}
 use Rattle.boogie_points.specs.Actions.{ensured_conditions}
-use Rattle.lowered_steps.specs.Edges.{is_in, those_in, those_not_in, found_from, import_written, typed_column, left_if, left_at, found_or_0, result_at, results_at, all_hold, only_helpers, import_environment, import_list}
+use Rattle.lowered_steps.specs.Edges.{is_in, those_in, those_not_in, found_from, import_written, typed_column, left_if, left_at, found_or_0, results_at, all_hold, import_environment, import_list}
 use Rattle.call_jumps.specs.Reading.{Stand, read_by}
-use Rattle.call_jumps.specs.Readings.{IsNumbered, StandsFor, AllStand, Reads}
-use Rattle.call_jumps.specs.Stands.{nothing, numbered, place_stand, or_nothing, argument_stand, left_stand, ensures_stand, result_stand}
+use Rattle.call_jumps.specs.Readings.{IsNumbered, StandsFor, AllStand}
+use Rattle.call_jumps.specs.Stands.{or_nothing, argument_stand, left_stand, ensures_stand, result_stand}
 use Rattle.call_jumps.specs.Numbered.{numbered_columns}
 use Rattle.call_jumps.specs.Conjoined.{conjoined}
 use Rattle.call_jumps.specs.CallLists.{import_plan, import_base}
 use Rattle.call_jumps.specs.ImportView.{import_results, import_stands, import_conditions}
 use Rattle.call_jumps.proofs.PlaceLemmas.{found_inside, found_where_in, in_append}
 use Rattle.call_jumps.proofs.ReadingLemmas.{read_reads}
-use Rattle.call_jumps.proofs.StandLemmas.{nothing_stands, numbered_stands, placed_stands, argument_stands, numbered_is, numbered_width}
+use Rattle.call_jumps.proofs.StandLemmas.{nothing_stands, numbered_stands, placed_stands, argument_stands, numbered_is}
 
 -- ---- written columns
 

@@ -1,5 +1,5 @@
 -- The list of a call's arguments has one member, whose rows come argument by argument.
-use Rattle.std.proofs.Common.{◌≡◌, ℕ, zero, suc, ◌+◌, ◌-◌, ◌<◌, ◌≤◌, Bool, true, false, ◌&&◌, ◌||◌, ℤ, pos, List, [], ◌∷◌, ◌++◌, map, length, get_or, drop, refl, sym, ◌∙◌, ap, subst, append_assoc, arith}
+use Rattle.std.proofs.Common.{◌≡◌, ℕ, zero, suc, ◌+◌, ◌<◌, ◌≤◌, Bool, true, false, ◌&&◌, ◌||◌, ℤ, pos, List, [], ◌∷◌, ◌++◌, map, length, get_or, drop, refl, sym, ◌∙◌, ap, subst, append_assoc, arith}
 use Rattle.std.specs.List.{list_all}
 use Rattle.std.proofs.lemmas.Bool.{and_parts}
 use Rattle.std.proofs.lemmas.List.{append-nil}
@@ -7,15 +7,14 @@ use Rattle.std.proofs.Math.Seq.{drop-cons}
 use Rattle.std.proofs.lemmas.List.Folds.{list_all-append}
 use Rattle.lin_rows.specs.Rows.{LinearRow}
 use Rattle.typed_tree.specs.TypedTree.{TypedExpression, Lit, Truth, Var, Old, Not, Neg, Bin}
-use Rattle.typed_tree.specs.Values.{truth}
 use Rattle.typed_tree.specs.TypedView.{expression}
 use Rattle.typed_tree.specs.declared.types.TExpr.{TExpr}
 use Rattle.typed_tree.specs.AffineForm.{fits}
-use Rattle.cond_jumps.specs.Conjunctions.{Conjunction, Jumps, joined, each_with, Plan, Just, Then, With, listed, is_long, is_wide, row_fits, list_fits, all_fit}
-use Rattle.cond_jumps.specs.Comparisons.{compared, equal, always}
+use Rattle.cond_jumps.specs.Conjunctions.{Conjunction, joined, Plan, Just, Then, With, listed, is_long, is_wide, row_fits, list_fits, all_fit}
+use Rattle.cond_jumps.specs.Comparisons.{compared, equal}
 use Rattle.cond_jumps.specs.Environments.{Environment}
-use Rattle.cond_jumps.specs.Forms.{Linear, Linears, number, column, minus, after}
-use Rattle.cond_jumps.specs.Moving.{moved_terms, moved_row, moved, IsEven, IsEvenSum, IsEvenPlan, IsEvenEnvironment}
+use Rattle.cond_jumps.specs.Forms.{number, column, minus, after}
+use Rattle.cond_jumps.specs.Moving.{moved_terms, moved_row, moved, IsEvenSum, IsEvenPlan, IsEvenEnvironment}
 use Rattle.cond_jumps.specs.Paths.{linear}
 use Rattle.cond_jumps.proofs.EvenLemmas.{listed_even, equal_even, linear_even}
 use Rattle.cond_jumps.proofs.MovingLemmas.{column_even}

@@ -1,10 +1,10 @@
 -- An expression with what stands for its columns reads as the expression does.
-use Rattle.std.proofs.Common.{◌≡◌, ℕ, ◌+◌, Bool, true, false, not, ℤ, pos, negsuc, ◌+ℤ◌, ◌-ℤ◌, ◌*ℤ◌, neg_ℤ, List, [], ◌∷◌, ◌++◌, Option, None, Some, refl, sym, ◌∙◌, ap, subst, arith}
+use Rattle.std.proofs.Common.{◌≡◌, ℕ, ◌+◌, Bool, true, false, not, ℤ, pos, negsuc, ◌+ℤ◌, ◌-ℤ◌, ◌*ℤ◌, neg_ℤ, [], ◌++◌, refl, sym, ◌∙◌, ap, subst, arith}
 use Rattle.std.proofs.lemmas.Int.{ints}
 use Rattle.std.proofs.lemmas.List.{append-nil}
-use Rattle.math_facts.specs.Terms.{coefficient, scaled, opposite}
+use Rattle.math_facts.specs.Terms.{coefficient, scaled}
 use Rattle.math_facts.proofs.Whole.{product_comm, distrib_left, product_neg_right}
-use Rattle.math_facts.proofs.TermLaws.{coefficient-append, coefficient-scaled}
+use Rattle.math_facts.proofs.TermLaws.{coefficient-append}
 use Rattle.lin_rows.specs.Rows.{LinearRow}
 use Rattle.boogie_tree.specs.declared.span.Span.{Span}
 use Rattle.boogie_tree.specs.declared.tree.Op.{Op}
@@ -13,14 +13,14 @@ use Rattle.boogie_tree.specs.declared.tree.Ty.TheVariants as types
 use Rattle.boogie_tree.specs.declared.tree.Column.{Column}
 use Rattle.typed_tree.specs.TypedTree.{TypedExpression, Lit, Truth, Var, Old, Not, Neg, Bin}
 use Rattle.typed_tree.specs.Typing.{is_some_of}
-use Rattle.typed_tree.specs.AffineForm.{divisor_of, read_at}
+use Rattle.typed_tree.specs.AffineForm.{read_at}
 use Rattle.cond_jumps.specs.Conjunctions.{Plan, Just, Then, With}
-use Rattle.cond_jumps.specs.Forms.{Linear, Linears, number, negated, after, plus, minus, times, divided, remaining}
+use Rattle.cond_jumps.specs.Forms.{Linear, Linears, number, negated, after, plus, minus, times}
 use Rattle.cond_jumps.specs.Comparisons.{compared, below, above, equal, alike, equal_sums, operation}
 use Rattle.cond_jumps.specs.Environments.{Environment}
-use Rattle.cond_jumps.specs.Paths.{constant_of, arithmetic, linear, is_truth, paths}
+use Rattle.cond_jumps.specs.Paths.{constant_of, linear, is_truth, paths}
 use Rattle.call_jumps.specs.Sums.{IsSame}
-use Rattle.call_jumps.specs.Reading.{Stand, constant_part, product, is_divisor_form, division, equality, rebuilt, is_truth_by, read_by}
+use Rattle.call_jumps.specs.Reading.{Stand, constant_part, product, division, equality, rebuilt, is_truth_by, read_by}
 use Rattle.call_jumps.specs.Readings.{AllStand, Reads}
 use Rattle.call_jumps.proofs.SumLemmas.{AreSame, IsBlind, same, same_through, negated_same, plus_same, minus_same, times_same, divided_same, remaining_same, below_same, above_same, equal_same, compared_same}
 

@@ -1,11 +1,10 @@
 -- What stands for the results, one after the other.
-use Rattle.std.proofs.Common.{◌≡◌, ℕ, ◌+◌, ◌<◌, List, [], ◌∷◌, ◌++◌, map, length, get_or, take, refl, sym, ◌∙◌, ap, append_assoc}
+use Rattle.std.proofs.Common.{◌≡◌, ℕ, ◌+◌, ◌<◌, List, [], ◌∷◌, ◌++◌, map, length, get_or, take, sym, ◌∙◌, ap, append_assoc}
 use Rattle.boogie_tree.specs.declared.tree.Ty.{Ty}
 use Rattle.boogie_tree.specs.declared.tree.VarInfo.{VarInfo}
 use Rattle.cond_jumps.proofs.MovingLemmas.{map_append}
 use Rattle.lowered_steps.specs.Edges.{result_at, results_at}
 use Rattle.call_jumps.specs.declared.standing.Standing.{Standing}
-use Rattle.call_jumps.specs.Reading.{Stand}
 use Rattle.call_jumps.specs.Stands.{stand_of, result_stand}
 use Rattle.call_jumps.proofs.PlaceLemmas.{one_result_more}
 

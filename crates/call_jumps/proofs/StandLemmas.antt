@@ -1,5 +1,5 @@
 -- What stands for the columns of a called procedure's conditions stands for them in the environment of the call.
-use Rattle.std.proofs.Common.{◌≡◌, ℕ, zero, suc, ◌+◌, ◌<◌, ◌≤◌, Bool, true, false, ℤ, pos, List, [], ◌∷◌, ◌++◌, map, length, nat_eq, Option, None, Some, if◌then◌else◌, refl, sym, ◌∙◌, ap, subst, arith}
+use Rattle.std.proofs.Common.{◌≡◌, ℕ, zero, suc, ◌+◌, ◌<◌, ◌≤◌, Bool, true, false, pos, List, [], ◌∷◌, ◌++◌, map, length, nat_eq, Option, None, Some, if◌then◌else◌, refl, ◌∙◌, ap, subst, arith}
 use Rattle.std.proofs.lemmas.Bool.{eqb-true, eqb-false}
 use Rattle.std.proofs.lemmas.Bool.Decides.{nat_tests}
 use Rattle.std.specs.Prelude.{slice_get}
@@ -10,18 +10,18 @@ use Rattle.boogie_tree.specs.declared.tree.Column.TheVariants as columns
 use Rattle.boogie_tree.specs.declared.tree.VarInfo.{VarInfo}
 use Rattle.typed_tree.specs.TypedTree.{TypedExpression}
 use Rattle.letter_acts.specs.Frames.{Columns}
-use Rattle.cond_jumps.specs.Conjunctions.{Plan, Just}
-use Rattle.cond_jumps.specs.Forms.{Linear, Linears, number, column}
+use Rattle.cond_jumps.specs.Conjunctions.{Just}
+use Rattle.cond_jumps.specs.Forms.{Linears, number, column}
 use Rattle.cond_jumps.specs.Comparisons.{never, named}
 use Rattle.cond_jumps.specs.Environments.{Environment, type_in}
 use Rattle.cond_jumps.specs.Paths.{linear, paths}
 use Rattle.cond_jumps.specs.Frames.{same_column, place_from, or_else, place, sum_at, plan_at, frame_environment}
 use Rattle.cond_jumps.specs.Lists.{path_plan}
-use Rattle.cond_jumps.specs.Passing.{Standing, Same, Numbered, Passed, standing_type, standing_sum, standing_plan, standing_environment, passed}
+use Rattle.cond_jumps.specs.Passing.{Passed, standing_type, standing_sum, standing_plan, standing_environment, passed}
 use Rattle.cond_jumps.proofs.EvenLemmas.{place_inside}
 use Rattle.call_jumps.specs.Sums.{IsSame}
-use Rattle.call_jumps.specs.Reading.{Stand, read_by}
-use Rattle.call_jumps.specs.Readings.{IsNumbered, StandsFor, AllStand, Reads}
+use Rattle.call_jumps.specs.Reading.{read_by}
+use Rattle.call_jumps.specs.Readings.{IsNumbered, StandsFor, AllStand}
 use Rattle.call_jumps.specs.Stands.{nothing, numbered, place_stand, or_nothing, frame_stand, argument_stand, requires_stand}
 use Rattle.call_jumps.specs.Numbered.{plain, numbered_columns}
 use Rattle.call_jumps.specs.CallLists.{passed_plan}

@@ -1,7 +1,6 @@
 -- Sums that give the same rows: operators keep them, and comparisons cannot tell them apart.
-use Rattle.std.proofs.Common.{◌≡◌, ℕ, ◌+◌, ℤ, pos, negsuc, ◌+ℤ◌, ◌-ℤ◌, ◌*ℤ◌, neg_ℤ, List, [], ◌∷◌, ◌++◌, refl, sym, ◌∙◌, ap, arith}
+use Rattle.std.proofs.Common.{◌≡◌, ℕ, ◌+◌, ℤ, pos, ◌+ℤ◌, ◌-ℤ◌, ◌*ℤ◌, neg_ℤ, List, [], ◌∷◌, ◌++◌, refl, sym, ◌∙◌, ap}
 use Rattle.std.specs.Prelude.{unsigned_abs}
-use Rattle.std.proofs.lemmas.Int.{ints}
 use Rattle.math_facts.specs.Terms.{coefficient, scaled, opposite}
 use Rattle.math_facts.proofs.TermLaws.{coefficient-append, coefficient-scaled, coefficient-opposite}
 use Rattle.lin_rows.specs.declared.types.RowKind.{RowKind}
@@ -9,7 +8,6 @@ use Rattle.lin_rows.specs.declared.types.RowKind.TheVariants.{Le, Eq}
 use Rattle.lin_rows.specs.Rows.{LinearRow}
 use Rattle.lin_rows.specs.Sums.{row_of, summed}
 use Rattle.lin_rows.proofs.SummedLaws.{coefficient-summed, AscendsFrom-summed, HasNoZero-summed, summed_from_coefficients}
-use Rattle.cond_jumps.specs.Conjunctions.{Conjunction}
 use Rattle.cond_jumps.specs.Forms.{Linear, Linears, negated, after, plus, minus, times, quotient_rows, divided, remaining}
 use Rattle.cond_jumps.specs.Comparisons.{compared, below, above, equal}
 use Rattle.call_jumps.specs.Sums.{IsSame}

@@ -1,5 +1,5 @@
 -- Conditions of called procedures written over numbered columns: the column with number i is the local with that number.
-use Rattle.std.specs.Prelude.{ℕ, pos, Bool, true, false, Option, Some, if◌then◌else◌}
+use Rattle.std.specs.Prelude.{pos, Bool, true, false, Option, Some, if◌then◌else◌}
 use Rattle.boogie_tree.specs.declared.span.Span.{Span}
 use Rattle.boogie_tree.specs.declared.tree.Op.{Op}
 use Rattle.boogie_tree.specs.declared.tree.Op.TheVariants as ops

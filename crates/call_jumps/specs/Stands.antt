@@ -1,6 +1,5 @@
 -- What stands for the columns of conditions: those of a frame, and those of a procedure that is called from it.
 use Rattle.std.specs.Prelude.{ℕ, ◌+◌, pos, false, List, map, Option, None, Some, slice_get}
-use Rattle.std.specs.Option.{option_map}
 use Rattle.boogie_tree.specs.declared.span.Span.{Span}
 use Rattle.boogie_tree.specs.declared.tree.Ty.{Ty}
 use Rattle.boogie_tree.specs.declared.tree.Column.{Column}

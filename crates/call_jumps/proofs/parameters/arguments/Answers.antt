@@ -1,4 +1,4 @@
-use Rattle.std.proofs.Common.{◌≡◌, ◌<◌, List, map, length, refl, sym, subst, arith}
+use Rattle.std.proofs.Common.{◌<◌, List, map, length, refl, sym, subst, arith}
 use Rattle.lin_rows.specs.Rows.{LinearRow}
 use Rattle.typed_tree.specs.declared.types.TExpr.{TExpr}
 use Rattle.typed_tree.specs.TypedView.{expression}
