@@ -6,7 +6,7 @@ use Rattle.boogie_tree.specs.declared.tree.VarInfo.{VarInfo}
 use Rattle.typed_tree.specs.TypedTree.{TypedExpression, Lit, Truth, Var, Old, Not, Neg, Bin, TypedInvariant, TypedStatement, Assert, Assume, Havoc, Assign, Call, If, While, Break, Goto, Return, Label, TypedBlock, Empty, Then, TypedProcedure, TypedProgram}
 use Rattle.typing_rules.specs.Counts.{checked_at_call}
 use Rattle.letter_acts.specs.Frames.{Columns}
-use Rattle.cond_jumps.specs.Conjunctions.{Plan, Just, With, is_wide, all_fit}
+use Rattle.cond_jumps.specs.Conjunctions.{Plan, is_wide, all_fit}
 use Rattle.cond_jumps.specs.Paths.{paths}
 use Rattle.cond_jumps.specs.Frames.{frame_environment}
 use Rattle.cond_jumps.specs.Passing.{passed, standing_environment}
@@ -17,7 +17,7 @@ use Rattle.boogie_points.specs.Actions.{Action, action_at, plain_conditions, fre
 use Rattle.boogie_points.specs.Starts.{targets_at}
 use Rattle.boogie_places.specs.Places.{Place, parts_from, program_places}
 use Rattle.lowered_steps.specs.ProgramFrames.{frame_at, width_at}
-use Rattle.lowered_steps.specs.Edges.{import_written, import_environment, those_in, only_helpers, all_hold, parameters_get, columns_before_locals, numbers_in}
+use Rattle.lowered_steps.specs.Edges.{import_written, import_environment, those_in, all_hold, parameters_get, columns_before_locals, numbers_in}
 
 -- ---- the lists that the edges of a place need
 
@@ -33,13 +33,13 @@ abbrev pub passed_needed : Columns → List TypedExpression → TypedExpression 
 passed_needed frame args e want =
     record { plan = paths (standing_environment (frame_environment frame) (passed args)) false e want; base = length frame }
 
--- all ensures of a procedure without body together
+-- all ensures of a procedure without body together, behind a helper for each modified global that is a target, too
 abbrev pub import_needed : Columns → List VarInfo → Option TypedProcedure → List TypedExpression → List ℕ → List Needed
 import_needed frame globals None args targets = []
 import_needed frame globals (Some q) args targets =
     record {
-      plan = With (Just (only_helpers (length (those_in targets q.modifies)))) (all_hold (import_environment frame globals q args targets) (ensured_conditions q.specs));
-      base = length frame + length (import_written q.modifies targets);
+      plan = all_hold (import_environment frame globals q args targets) (ensured_conditions q.specs);
+      base = length frame + length (import_written q.modifies targets) + length (those_in targets q.modifies);
     }
     ∷ []
 
