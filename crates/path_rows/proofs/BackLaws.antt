@@ -1,20 +1,18 @@
 -- A return at a point: where the call is open, it leads from the states at the exit and before the call to the state after.
-use Rattle.std.proofs.Common.{◌≡◌, ◌↔◌, ◌∙◌, ℕ, ◌+◌, ◌<◌, ◌≤◌, ℤ, List, [], ◌∷◌, ◌++◌, length, take, drop, refl, sym, ap, subst, arith}
+use Rattle.std.proofs.Common.{◌≡◌, ◌∙◌, ℕ, ℤ, List, ◌++◌, length, take, drop, sym, ap, subst}
 use Rattle.std.specs.Prelude.{map, slice_index}
-use Rattle.std.specs.List.{AllByRecursion}
 use Rattle.std.proofs.lemmas.List.{map-append, take-map, drop-map}
 use Rattle.boogie_tree.specs.declared.tree.VarInfo.{VarInfo}
 use Rattle.lin_rows.specs.Rows.{LinearRow}
 use Rattle.lin_rows.specs.Points.{point_of}
-use Rattle.letter_acts.specs.Frames.{Columns, IsState, IsFrame, places, is_result, globals_of, constants_of, results_of, olds_of, globals_from}
+use Rattle.letter_acts.specs.Frames.{Columns, IsState, IsFrame, globals_of, constants_of, results_of, olds_of, globals_from}
 use Rattle.letter_acts.specs.Values.{picked, put_all}
 use Rattle.letter_acts.specs.Meaning.{returned_values, BackLeads}
 use Rattle.letter_acts.specs.Invariant.{BackIsActed}
 use Rattle.letter_acts.proofs.ListLemmas.{maps_equal, map_map}
-use Rattle.letter_acts.proofs.PointLemmas.{state_length}
-use Rattle.path_rows.specs.Versions.{returned, written_over, old_part, locals_of}
+use Rattle.path_rows.specs.Versions.{returned, old_part, locals_of}
 use Rattle.path_rows.specs.Solutions.{read}
-use Rattle.path_rows.proofs.ListLemmas.{length-read, read_written, read_picked}
+use Rattle.path_rows.proofs.ListLemmas.{read_written, read_picked}
 use Rattle.path_rows.proofs.RowLemmas.{taken_typed, states_joined}
 use Rattle.path_rows.proofs.LayoutLemmas.{laid_out}
 use Rattle.path_rows.proofs.CallLaws.{globals_of_state}

@@ -1,5 +1,5 @@
 -- The rows of a call hold at a point exactly where it leads from the state that the point has in the caller to that in the callee.
-use Rattle.std.proofs.Common.{◌≡◌, ◌↔◌, ◌∙◌, ℕ, ◌+◌, ◌<◌, ◌≤◌, ℤ, List, [], ◌∷◌, ◌++◌, length, take, drop, refl, sym, ap, subst, arith, append_assoc, length-append, take-append-drop}
+use Rattle.std.proofs.Common.{◌≡◌, ◌↔◌, ◌∙◌, ℕ, ◌+◌, ◌<◌, ℤ, List, [], ◌∷◌, ◌++◌, length, take, drop, refl, sym, ap, subst, arith, append_assoc, length-append, take-append-drop}
 use Rattle.std.specs.Prelude.{map, slice_index}
 use Rattle.std.specs.List.{AllByRecursion}
 use Rattle.std.proofs.lemmas.List.{map-append, take-map, length-take-le, length-map}
@@ -7,19 +7,19 @@ use Rattle.boogie_tree.specs.declared.tree.VarInfo.{VarInfo}
 use Rattle.math_facts.specs.Terms.{IsBelow}
 use Rattle.lin_rows.specs.Rows.{LinearRow, Holds}
 use Rattle.lin_rows.specs.Points.{point_of}
-use Rattle.letter_acts.specs.Frames.{Columns, IsState, IsFrame, globals_of, variables_of, globals_from, old_columns}
+use Rattle.letter_acts.specs.Frames.{Columns, IsState, IsFrame, globals_of, variables_of, globals_from}
 use Rattle.letter_acts.specs.Acts.{Alphabet, frame_of}
 use Rattle.letter_acts.specs.Values.{picked}
 use Rattle.letter_acts.specs.Invariant.{CallIsActed, call_width, MayName}
-use Rattle.letter_acts.proofs.ListLemmas.{all_weaker, all_from_members}
+use Rattle.letter_acts.proofs.ListLemmas.{all_from_members}
 use Rattle.letter_acts.proofs.PointLemmas.{state_length}
 use Rattle.letter_acts.proofs.FrameLemmas.{variable_below}
 use Rattle.path_rows.specs.Rows.{bounds, types_of}
-use Rattle.path_rows.specs.Versions.{columns_from, Stage, rows_in, call_part, entered, entry_rows, locals_of, old_part}
+use Rattle.path_rows.specs.Versions.{columns_from, Stage, rows_in, call_part, entered, locals_of, old_part}
 use Rattle.path_rows.specs.Solutions.{read, CallObeyed}
 use Rattle.path_rows.proofs.ListLemmas.{all_joined, length-columns_from, length-read, length-read_from, read_picked, split_same}
 use Rattle.path_rows.proofs.RowLemmas.{rows_read, entries_read, bounds_read, states_joined, states_split}
-use Rattle.path_rows.proofs.LayoutLemmas.{LaidOut, laid_out, length-globals_from}
+use Rattle.path_rows.proofs.LayoutLemmas.{laid_out, length-globals_from}
 
 -- what is known of the frames of a call, where the caller's frame has these versions
 pub record CallFrames (globals : List VarInfo) (caller callee : Columns) (here : List ℕ) : Type 0 where

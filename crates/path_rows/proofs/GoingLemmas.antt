@@ -1,16 +1,15 @@
 -- The letter by which the automaton goes on: its act may be read, and the path goes on behind it.
-use Rattle.std.proofs.Common.{◌≡◌, ◌≢◌, ◌∙◌, ◌⊎◌, ℕ, zero, suc, ◌+◌, ◌<◌, ◌≤◌, Bool, List, [], ◌∷◌, ◌++◌, length, Option, None, Some, refl, sym, ap, subst, inl, inr, arith}
-use Rattle.std.specs.Prelude.{map, slice_get}
-use Rattle.std.specs.List.{AllByRecursion}
+use Rattle.std.proofs.Common.{◌≡◌, ◌∙◌, ℕ, zero, suc, ◌<◌, ◌≤◌, List, [], ◌∷◌, length, Option, Some, refl, sym, ap, subst, arith}
+use Rattle.std.specs.Prelude.{slice_get}
 use Rattle.boogie_tree.specs.declared.tree.VarInfo.{VarInfo}
-use Rattle.lin_rows.specs.Rows.{LinearRow, IsRow}
+use Rattle.lin_rows.specs.Rows.{LinearRow}
 use Rattle.nwa_base.specs.declared.letters.Kind.{Kind}
 use Rattle.nwa_base.specs.declared.letters.Kind.TheVariants as kinds
 use Rattle.nwa_base.specs.declared.letters.Letter.{Letter}
 use Rattle.nwa_base.specs.Members.{Member}
 use Rattle.nwa_base.specs.Acceptance.{Follows, AcceptsFrom}
 use Rattle.letter_acts.specs.Frames.{Columns, IsFrame, globals_of}
-use Rattle.letter_acts.specs.Acts.{PlainAct, inside_act, call_act, back_act, Alphabet, frame_of, act_of, kind_of}
+use Rattle.letter_acts.specs.Acts.{PlainAct, inside_act, call_act, back_act, frame_of, act_of, kind_of}
 use Rattle.letter_acts.specs.Invariant.{Graph, IsGraph, alphabet_of, IsPlaceOf}
 use Rattle.letter_acts.specs.Kept.{Keeps}
 use Rattle.letter_acts.proofs.KnownLemmas.{frames_laid_out, act_found}
@@ -20,7 +19,7 @@ use Rattle.path_rows.specs.Drafts.{CanGoOn}
 use Rattle.path_rows.proofs.LayoutLemmas.{laid_out}
 use Rattle.path_rows.proofs.EdgeLemmas.{inside_acts, call_acts, back_acts}
 use Rattle.path_rows.proofs.SaidLaws.{acted}
-use Rattle.path_rows.proofs.StageLemmas.{inside_fits, inside_versions, inside_saved, saved_kept, call_fits, call_versions, call_apart, Returns, back_fits, back_versions, back_apart}
+use Rattle.path_rows.proofs.StageLemmas.{inside_fits, inside_versions, inside_saved, call_fits, call_versions, call_apart, Returns, back_fits, back_versions, back_apart}
 
 -- what stands at a place of a list of procedures
 same_proc : (procs : List ℕ) (q a b : ℕ) → IsPlaceOf procs a q → IsPlaceOf procs b q → a ≡ b

@@ -1,26 +1,22 @@
 -- A point that meets the rows of an accepted word reads as frame states that obey it.
-use Rattle.std.proofs.Common.{◌≡◌, ◌≢◌, ◌↔◌, ◌∙◌, ◌⊎◌, ℕ, zero, suc, ◌+◌, ◌<◌, ◌≤◌, Bool, ℤ, List, [], ◌∷◌, ◌++◌, length, Option, None, Some, refl, sym, ap, subst, inl, inr, arith}
-use Rattle.std.specs.Prelude.{map, slice_get, unwrap_or}
+use Rattle.std.proofs.Common.{◌≡◌, ◌≢◌, ◌∙◌, ◌⊎◌, ℕ, suc, ◌<◌, ℤ, List, [], ◌∷◌, length, Option, Some, refl, sym, ap, subst, inl, inr}
+use Rattle.std.specs.Prelude.{map, slice_get}
 use Rattle.std.specs.List.{AllByRecursion}
-use Rattle.boogie_tree.specs.declared.tree.VarInfo.{VarInfo}
 use Rattle.lin_rows.specs.Rows.{LinearRow, Holds}
 use Rattle.nwa_base.specs.declared.letters.Kind.{Kind}
 use Rattle.nwa_base.specs.declared.letters.Kind.TheVariants.{Inside, Call, Back}
 use Rattle.nwa_base.specs.declared.letters.Letter.{Letter}
 use Rattle.nwa_base.specs.Members.{Member}
-use Rattle.nwa_base.specs.Automata.{Automaton}
-use Rattle.nwa_base.specs.Acceptance.{Follows, AcceptsFrom, Accepts}
+use Rattle.nwa_base.specs.Acceptance.{Follows, AcceptsFrom}
 use Rattle.letter_acts.specs.Frames.{Columns, IsState, IsFrame}
-use Rattle.letter_acts.specs.Acts.{PlainAct, inside_act, call_act, back_act, Alphabet, frame_of, act_of, named_act}
+use Rattle.letter_acts.specs.Acts.{PlainAct, inside_act, call_act, back_act, frame_of, act_of}
 use Rattle.letter_acts.specs.Meaning.{Situation, ActInside, ActCalls, ActReturns, ReturnsFrom, InsideLeads, CallLeads, BackLeads, returned_values}
 use Rattle.letter_acts.specs.Ways.{Leads, GoesThrough}
-use Rattle.letter_acts.specs.Feasible.{IsSituation, meaning}
-use Rattle.letter_acts.specs.Invariant.{Graph, IsGraph, alphabet_of, IsPlaceOf, InsideIsActed, CallIsActed, BackIsActed, InsideFollows, WritesNoOld}
-use Rattle.letter_acts.specs.Known.{InsideKnown, CallKnown, BackKnown}
-use Rattle.letter_acts.proofs.ListLemmas.{all_member, same_or_not}
+use Rattle.letter_acts.specs.Feasible.{meaning}
+use Rattle.letter_acts.specs.Invariant.{Graph, IsGraph, alphabet_of, IsPlaceOf, CallIsActed}
 use Rattle.letter_acts.proofs.PointLemmas.{state_length}
 use Rattle.letter_acts.proofs.WayLemmas.{leads_with}
-use Rattle.letter_acts.proofs.KnownLemmas.{frames_laid_out, inside_edge_known, call_edge_known, back_edge_known}
+use Rattle.letter_acts.proofs.KnownLemmas.{frames_laid_out}
 use Rattle.path_rows.specs.Versions.{Stage, Part, rows_in, inside_part, call_part, back_part, part_of, act_part, return_part}
 use Rattle.path_rows.specs.Paths.{path_along}
 use Rattle.path_rows.specs.Solutions.{read, ActObeyed, ObeyedAlong, BackObeyed, ReturnObeyed}

@@ -1,6 +1,6 @@
 -- The rows of an inside letter hold at a point exactly where it leads from the state that the point has to the next.
-use Rattle.std.proofs.Common.{◌≡◌, ◌↔◌, ◌∙◌, ℕ, ◌+◌, ◌<◌, ◌≤◌, ℤ, List, [], ◌∷◌, ◌++◌, length, refl, sym, ap, subst, arith, append_assoc, length-append}
-use Rattle.std.specs.Prelude.{false, map, slice_index}
+use Rattle.std.proofs.Common.{◌≡◌, ◌↔◌, ◌∙◌, ℕ, ◌+◌, ◌<◌, ℤ, List, ◌++◌, length, refl, sym, ap, subst, arith, append_assoc, length-append}
+use Rattle.std.specs.Prelude.{false}
 use Rattle.std.specs.List.{AllByRecursion}
 use Rattle.std.proofs.lemmas.List.{map-append}
 use Rattle.math_facts.specs.Terms.{IsBelow}
@@ -8,12 +8,12 @@ use Rattle.lin_rows.specs.Rows.{LinearRow, Holds}
 use Rattle.lin_rows.specs.Points.{point_of}
 use Rattle.letter_acts.specs.Frames.{Columns, IsState}
 use Rattle.letter_acts.specs.Acts.{Alphabet, frame_of}
-use Rattle.letter_acts.specs.Values.{picked, put_all}
+use Rattle.letter_acts.specs.Values.{picked}
 use Rattle.letter_acts.specs.Invariant.{MayWrite, InsideIsActed, inside_width}
 use Rattle.letter_acts.proofs.ListLemmas.{all_weaker, some_within}
 use Rattle.letter_acts.proofs.PointLemmas.{state_length, picked_put}
-use Rattle.path_rows.specs.Rows.{renamed, bounds, types_at}
-use Rattle.path_rows.specs.Versions.{columns_from, Stage, rows_in, inside_part, written_over}
+use Rattle.path_rows.specs.Rows.{bounds, types_at}
+use Rattle.path_rows.specs.Versions.{columns_from, Stage, rows_in, inside_part}
 use Rattle.path_rows.specs.Solutions.{read, InsideObeyed}
 use Rattle.path_rows.proofs.ListLemmas.{all_joined, columns_split, length-columns_from, length-read, length-read_from, read_written}
 use Rattle.path_rows.proofs.RowLemmas.{rows_read, AreTyped, written_read, put_typed, picked_typed}

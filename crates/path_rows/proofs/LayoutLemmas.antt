@@ -1,11 +1,10 @@
 -- How frames are laid out: the constants and globals, then the old columns, then the locals.
-use Rattle.std.proofs.Common.{◌≡◌, ◌∙◌, ℕ, suc, ◌+◌, ◌≤◌, Bool, true, false, List, [], ◌∷◌, ◌++◌, length, refl, sym, ap, subst, arith, length-append, append-nil}
-use Rattle.std.specs.Prelude.{filter, not, map}
+use Rattle.std.proofs.Common.{◌≡◌, ◌∙◌, ℕ, suc, ◌≤◌, Bool, true, false, List, [], ◌∷◌, ◌++◌, length, refl, sym, ap, arith, length-append, append-nil}
+use Rattle.std.specs.Prelude.{filter, not}
 use Rattle.std.proofs.lemmas.List.{length-map}
 use Rattle.std.proofs.lemmas.List.Elements.{filter-append}
 use Rattle.boogie_tree.specs.declared.tree.VarInfo.{VarInfo}
-use Rattle.boogie_tree.specs.declared.tree.Column.{Column}
-use Rattle.boogie_tree.specs.declared.tree.Column.TheVariants.{Global, Old, Local}
+use Rattle.boogie_tree.specs.declared.tree.Column.TheVariants.{Old, Local}
 use Rattle.letter_acts.specs.Frames.{Columns, IsFrame, added, globals_from, old_columns, locals_from, is_local, globals_of, variables_of, olds_from, olds_of}
 use Rattle.letter_acts.proofs.FrameLemmas.{global_count, olds_are, olds_of_variables}
 use Rattle.path_rows.specs.Versions.{is_old, locals_of, old_part}

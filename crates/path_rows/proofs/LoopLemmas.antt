@@ -1,6 +1,6 @@
 -- Lists that loops make from the front: what one step more adds.
-use Rattle.std.proofs.Common.{◌≡◌, ◌∙◌, ℕ, zero, suc, ◌+◌, ◌<◌, ◌≤◌, Bool, true, false, cond, List, [], ◌∷◌, ◌++◌, length, take, drop, get_or, append_assoc, Option, None, Some, refl, sym, ap, subst, arith}
-use Rattle.std.specs.Prelude.{map, filter, reverse, slice_set, slice_index}
+use Rattle.std.proofs.Common.{◌≡◌, ◌∙◌, ℕ, zero, suc, ◌+◌, ◌<◌, ◌≤◌, Bool, true, false, cond, List, [], ◌∷◌, ◌++◌, length, take, drop, get_or, append_assoc, Option, Some, refl, sym, ap, subst, arith}
+use Rattle.std.specs.Prelude.{map, filter, reverse, slice_set}
 use Rattle.std.specs.Global.{Vec}
 use Rattle.std.specs.List.{AllByRecursion}
 use Rattle.std.proofs.lemmas.List.{append-nil, take_more, drop_more, length-take-le, map-append, reverse-append}
@@ -8,7 +8,7 @@ use Rattle.std.proofs.lemmas.List.Elements.{filter-append}
 use Rattle.boogie_tree.specs.declared.tree.Column.{Column}
 use Rattle.boogie_tree.specs.declared.tree.VarInfo.{VarInfo}
 use Rattle.boogie_tree.specs.declared.tree.Ty.{Ty}
-use Rattle.lin_rows.specs.Rows.{LinearRow, IsRow}
+use Rattle.lin_rows.specs.Rows.{LinearRow}
 use Rattle.letter_acts.specs.Frames.{Columns, added, places}
 use Rattle.letter_acts.proofs.ListLemmas.{places-append, all_append}
 use Rattle.path_rows.specs.Rows.{equal_row, bounds_of, bounds, types_of}

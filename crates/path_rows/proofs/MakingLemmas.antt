@@ -1,5 +1,5 @@
 -- Words that are read to their end, and the systems that are made of what was read.
-use Rattle.std.proofs.Common.{◌≡◌, ◌↔◌, ◌∙◌, ℕ, zero, suc, ◌+◌, ◌^◌, ◌<◌, ◌≤◌, ℤ, List, [], ◌∷◌, ◌++◌, length, drop, get_or, Option, Some, refl, sym, ap, subst, inl, arith}
+use Rattle.std.proofs.Common.{◌≡◌, ◌↔◌, ◌∙◌, ℕ, zero, suc, ◌+◌, ◌^◌, ◌<◌, ◌≤◌, ℤ, List, [], ◌∷◌, ◌++◌, length, drop, get_or, refl, sym, ap, subst, arith}
 use Rattle.std.specs.Prelude.{map, slice_get, unwrap_or}
 use Rattle.std.specs.Global.{Vec}
 use Rattle.std.specs.List.{AllByRecursion}
@@ -17,9 +17,9 @@ use Rattle.letter_acts.specs.Feasible.{IsFeasible}
 use Rattle.letter_acts.specs.Invariant.{Graph, IsGraph, alphabet_of}
 use Rattle.letter_acts.specs.Kept.{Keeps}
 use Rattle.path_rows.specs.declared.drafts.Draft.{Draft}
-use Rattle.path_rows.specs.Versions.{columns_from, Stage, part_of}
+use Rattle.path_rows.specs.Versions.{Stage, part_of}
 use Rattle.path_rows.specs.Paths.{Path, PlainPath, IsPathOf, start_frame, first_stage, path_of}
-use Rattle.path_rows.specs.Stages.{VersionsAt, ComesTo, GoesOnBy}
+use Rattle.path_rows.specs.Stages.{GoesOnBy}
 use Rattle.path_rows.specs.Drafts.{Reads, LeadsTo, IsDone, IsStart, CanGoOn, stage_of}
 use Rattle.path_rows.proofs.ListLemmas.{length-columns_from}
 use Rattle.path_rows.proofs.SolvedLaws.{below_columns}

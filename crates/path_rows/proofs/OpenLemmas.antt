@@ -1,6 +1,6 @@
 -- An open call: what a call ties between the state before it and each state of the callee until it returns.
-use Rattle.std.proofs.Common.{◌≡◌, ◌↔◌, ◌∙◌, ◌⊎◌, ℕ, zero, suc, ◌+◌, ◌-◌, ◌<◌, ◌≤◌, Bool, true, false, ℤ, ◌+ℤ◌, ◌*ℤ◌, List, [], ◌∷◌, ◌++◌, length, Option, None, Some, refl, sym, ap, subst, inl, inr, arith, length-append}
-use Rattle.std.specs.Prelude.{map, not, ◌&&◌, slice_get, IsSomeAnd}
+use Rattle.std.proofs.Common.{◌≡◌, ◌∙◌, ◌⊎◌, ℕ, zero, suc, ◌+◌, ◌-◌, ◌<◌, Bool, true, false, ℤ, ◌+ℤ◌, ◌*ℤ◌, List, [], ◌∷◌, ◌++◌, length, Option, None, Some, refl, sym, ap, subst, inl, inr, arith, length-append}
+use Rattle.std.specs.Prelude.{not, ◌&&◌, slice_get, IsSomeAnd}
 use Rattle.std.specs.List.{AllByRecursion}
 use Rattle.std.proofs.lemmas.Bool.{false≢true}
 use Rattle.boogie_tree.specs.declared.tree.VarInfo.{VarInfo}
@@ -10,13 +10,12 @@ use Rattle.math_facts.specs.Terms.{dot}
 use Rattle.lin_rows.specs.Rows.{LinearRow, Stands, Holds}
 use Rattle.lin_rows.specs.Points.{point_of}
 use Rattle.nwa_base.specs.Members.{Member}
-use Rattle.letter_acts.specs.Frames.{Columns, IsFrame, IsState, added, places, is_global, is_global_column, is_old_column, is_local_column, is_constant, is_variable, is_parameter, is_result, olds_from, old_at, globals_of, constants_of, variables_of, results_of, olds_of}
-use Rattle.letter_acts.specs.Acts.{Alphabet, PlainAct, frame_of}
+use Rattle.letter_acts.specs.Frames.{Columns, IsFrame, added, places, is_global, is_global_column, is_old_column, is_local_column, is_constant, is_variable, is_parameter, is_result, olds_from, old_at, constants_of, variables_of, results_of, olds_of}
+use Rattle.letter_acts.specs.Acts.{Alphabet, frame_of}
 use Rattle.letter_acts.specs.Values.{RowsHold}
 use Rattle.letter_acts.specs.Meaning.{CallLeads, InsideLeads, BackLeads}
-use Rattle.letter_acts.specs.Reading.{InsideReads, CallReads, BackReads}
 use Rattle.letter_acts.specs.Invariant.{MayWrite, MayTarget, MayName, IsOld, InsideIsActed, BackIsActed}
-use Rattle.letter_acts.proofs.ListLemmas.{below_or_from, member_or_not, all_member}
+use Rattle.letter_acts.proofs.ListLemmas.{below_or_from, all_member}
 use Rattle.letter_acts.proofs.PointLemmas.{point_of-left, point_of-right}
 use Rattle.letter_acts.proofs.ReadingLemmas.{inside_read, call_read, back_read}
 use Rattle.path_rows.proofs.ListLemmas.{all_from}

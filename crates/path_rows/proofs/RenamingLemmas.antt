@@ -5,7 +5,7 @@ use Rattle.std.specs.List.{AllByRecursion}
 use Rattle.std.proofs.lemmas.Int.{ints}
 use Rattle.std.proofs.lemmas.Bool.{eqb-true}
 use Rattle.math_facts.specs.Fits.{Fits}
-use Rattle.math_facts.specs.Terms.{coefficient, IsBelow}
+use Rattle.math_facts.specs.Terms.{coefficient}
 use Rattle.lin_rows.specs.Rows.{LinearRow, AscendsFrom, IsCoefficient, IsRow}
 use Rattle.lin_rows.specs.Sums.{SumsFit}
 use Rattle.nwa_base.specs.Members.{Member}

@@ -1,6 +1,6 @@
 -- Where the rows of a word hold: rows with renamed columns, columns that are equal, and bounds.
-use Rattle.std.proofs.Common.{◌≡◌, ◌↔◌, ◌∙◌, ◌⊎◌, ℕ, zero, suc, ◌+◌, ◌<◌, ℤ, pos, negsuc, ◌+ℤ◌, ◌*ℤ◌, ◌≤ℤ◌, List, [], ◌∷◌, ◌++◌, length, Option, None, Some, refl, sym, ap, subst, inl, inr, arith}
-use Rattle.std.specs.Prelude.{map, slice_index, slice_get, slice_set}
+use Rattle.std.proofs.Common.{◌≡◌, ◌↔◌, ◌⊎◌, ℕ, zero, suc, ℤ, pos, negsuc, ◌+ℤ◌, ◌*ℤ◌, ◌≤ℤ◌, List, [], ◌∷◌, ◌++◌, length, Option, None, Some, refl, sym, ap, subst, inl, inr, arith}
+use Rattle.std.specs.Prelude.{map, slice_index, slice_set}
 use Rattle.std.specs.List.{AllByRecursion}
 use Rattle.std.proofs.lemmas.Int.{ints}
 use Rattle.boogie_tree.specs.declared.tree.Ty.{Ty}
@@ -11,7 +11,6 @@ use Rattle.lin_rows.specs.declared.types.RowKind.TheVariants.{Le, Eq}
 use Rattle.lin_rows.specs.Rows.{LinearRow, Stands, Holds}
 use Rattle.lin_rows.specs.Points.{point_of}
 use Rattle.lin_rows.proofs.HoldsLaws.{holds-row_of}
-use Rattle.nwa_base.specs.Members.{Member}
 use Rattle.letter_acts.specs.Frames.{Columns, IsState, IsValue}
 use Rattle.letter_acts.specs.Values.{picked, put_all}
 use Rattle.letter_acts.specs.Invariant.{type_at, Take}

@@ -1,16 +1,16 @@
 -- The rows of a word hold at a point that leads by each letter to the next.
-use Rattle.std.proofs.Common.{◌≡◌, ℕ, zero, suc, ℤ, List, [], ◌∷◌, Option, None, Some, refl, sym, ap, subst}
+use Rattle.std.proofs.Common.{◌≡◌, ℕ, zero, suc, ℤ, List, [], ◌∷◌, Option, None, Some, refl, subst}
 use Rattle.std.specs.Prelude.{slice_get}
 use Rattle.std.specs.List.{AllByRecursion}
-use Rattle.lin_rows.specs.Rows.{LinearRow, Holds}
+use Rattle.lin_rows.specs.Rows.{Holds}
 use Rattle.nwa_base.specs.declared.letters.Letter.{Letter}
-use Rattle.letter_acts.specs.Frames.{Columns, IsFrame}
+use Rattle.letter_acts.specs.Frames.{Columns}
 use Rattle.letter_acts.specs.Acts.{PlainAct, inside_act, call_act, back_act, Alphabet, frame_of, act_of}
-use Rattle.letter_acts.specs.Invariant.{Graph, IsGraph, alphabet_of, IsActed, InsideIsActed, CallIsActed}
+use Rattle.letter_acts.specs.Invariant.{Graph, IsGraph, alphabet_of, IsActed, CallIsActed}
 use Rattle.letter_acts.proofs.KnownLemmas.{act_found, frames_laid_out}
 use Rattle.path_rows.specs.Versions.{Stage, rows_in, part_of, act_part, return_part, back_part}
 use Rattle.path_rows.specs.Paths.{path_along}
-use Rattle.path_rows.specs.Solutions.{ActObeyed, ObeyedAlong, ReturnObeyed}
+use Rattle.path_rows.specs.Solutions.{ActObeyed, ObeyedAlong}
 use Rattle.path_rows.proofs.ListLemmas.{all_joined}
 use Rattle.path_rows.proofs.InsideLaws.{inside_said}
 use Rattle.path_rows.proofs.CallLaws.{call_said}

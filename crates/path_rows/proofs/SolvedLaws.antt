@@ -15,20 +15,18 @@ use Rattle.letter_acts.specs.Values.{picked, put_all}
 use Rattle.letter_acts.specs.Meaning.{Situation, InsideLeads, CallLeads, BackLeads, ActInside, ActCalls, ActReturns, ReturnsFrom, returned_values}
 use Rattle.letter_acts.specs.Ways.{Leads, GoesThrough}
 use Rattle.letter_acts.specs.Feasible.{meaning}
-use Rattle.letter_acts.specs.Invariant.{Graph, IsGraph, alphabet_of, CallIsActed}
+use Rattle.letter_acts.specs.Invariant.{Graph, IsGraph, alphabet_of}
 use Rattle.letter_acts.proofs.ListLemmas.{all_weaker, all_append}
 use Rattle.letter_acts.proofs.PointLemmas.{point_of-left, point_of-right, state_length}
-use Rattle.letter_acts.proofs.WayLemmas.{leads_stack}
 use Rattle.letter_acts.proofs.KnownLemmas.{frames_laid_out}
 use Rattle.path_rows.specs.Versions.{columns_from, Stage, Part, written_over, entered, returned, locals_of, old_part, inside_part, call_part, back_part, return_part, part_of, act_part}
 use Rattle.path_rows.specs.Paths.{path_along, first_stage}
-use Rattle.path_rows.specs.Solutions.{read, ActObeyed, ObeyedAlong, InsideObeyed, CallObeyed, BackObeyed, ReturnObeyed}
-use Rattle.path_rows.proofs.ListLemmas.{length-columns_from, length-read, read_written}
+use Rattle.path_rows.specs.Solutions.{read, ActObeyed, ObeyedAlong, BackObeyed, ReturnObeyed}
+use Rattle.path_rows.proofs.ListLemmas.{length-read, read_written}
 use Rattle.path_rows.proofs.LayoutLemmas.{laid_out}
 use Rattle.path_rows.proofs.CallLaws.{olds_at, entry_read}
 use Rattle.path_rows.proofs.BackLaws.{returned_read}
 use Rattle.path_rows.proofs.OpenLemmas.{results_within}
-use Rattle.path_rows.proofs.SaidLaws.{acted}
 
 -- ---- columns below a number
 

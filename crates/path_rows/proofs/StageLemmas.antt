@@ -1,29 +1,29 @@
 -- Where a path has come to: each letter that the automaton follows may be read there, and leads on.
-use Rattle.std.proofs.Common.{◌≡◌, ◌≢◌, ◌∙◌, ◌⊎◌, ℕ, zero, suc, ◌+◌, ◌-◌, ◌^◌, ◌<◌, ◌≤◌, Bool, true, false, ℤ, List, [], ◌∷◌, ◌++◌, length, take, drop, Option, None, Some, refl, sym, ap, subst, inl, inr, arith, length-append, length-drop}
+use Rattle.std.proofs.Common.{◌≡◌, ◌∙◌, ℕ, zero, suc, ◌+◌, ◌-◌, ◌<◌, ◌≤◌, Bool, true, false, ℤ, List, [], ◌∷◌, ◌++◌, length, take, drop, Option, None, Some, refl, sym, ap, subst, inl, inr, arith, length-append, length-drop}
 use Rattle.std.specs.Prelude.{map, not, ◌&&◌, slice_index, slice_get, IsSomeAnd}
 use Rattle.std.specs.List.{AllByRecursion}
 use Rattle.std.proofs.lemmas.Bool.{false≢true}
 use Rattle.std.proofs.lemmas.List.{length-take-le}
 use Rattle.boogie_tree.specs.declared.tree.Column.{Column}
-use Rattle.boogie_tree.specs.declared.tree.Column.TheVariants.{Global, Old, Local}
+use Rattle.boogie_tree.specs.declared.tree.Column.TheVariants.{Global, Old}
 use Rattle.boogie_tree.specs.declared.tree.VarInfo.{VarInfo}
 use Rattle.math_facts.specs.Terms.{IsBelow}
-use Rattle.lin_rows.specs.Rows.{LinearRow, IsRow}
+use Rattle.lin_rows.specs.Rows.{LinearRow}
 use Rattle.nwa_base.specs.Members.{Member}
-use Rattle.letter_acts.specs.Frames.{Columns, IsFrame, added, places, is_global, is_result, is_parameter, is_global_column, is_local_column, is_old_column, globals_from, old_columns, globals_of, variables_of, results_of}
+use Rattle.letter_acts.specs.Frames.{Columns, IsFrame, added, places, is_result, is_parameter, is_local_column, is_old_column, globals_from, old_columns, globals_of, variables_of, results_of}
 use Rattle.letter_acts.specs.Acts.{Alphabet, frame_of}
-use Rattle.letter_acts.specs.Invariant.{Graph, alphabet_of, AreDistinct, MayWrite, MayTarget, MayName, InsideIsActed, CallIsActed, BackIsActed, inside_width, call_width}
+use Rattle.letter_acts.specs.Invariant.{Graph, alphabet_of, AreDistinct, MayWrite, MayTarget, MayName, InsideIsActed, CallIsActed, BackIsActed, inside_width}
 use Rattle.letter_acts.proofs.ListLemmas.{all_weaker, some_within, below_or_from}
 use Rattle.letter_acts.proofs.FrameLemmas.{variable_below}
 use Rattle.path_rows.specs.Versions.{columns_from, Stage, written_over, entered, returned, locals_of, old_part, inside_part, call_part}
-use Rattle.path_rows.specs.Stages.{AreVersions, VersionsAt, AreApart, AreSaved, ComesTo, NamesDiffer, RowsAreNamed, InsideFits, CallFits, BackFits}
+use Rattle.path_rows.specs.Stages.{AreVersions, AreApart, AreSaved, NamesDiffer, InsideFits, CallFits, BackFits}
 use Rattle.path_rows.proofs.ListLemmas.{length-columns_from}
-use Rattle.path_rows.proofs.LayoutLemmas.{LaidOut, laid_out, length-globals_from}
+use Rattle.path_rows.proofs.LayoutLemmas.{laid_out, length-globals_from}
 use Rattle.path_rows.proofs.CallLaws.{CallFrames, olds_at, entered_length, call_names_length, call_below}
 use Rattle.path_rows.proofs.OpenLemmas.{results_within, at_place}
 use Rattle.path_rows.proofs.SolvedLaws.{Below, below_more, below_columns, all_written, below_entered, below_returned}
 use Rattle.path_rows.proofs.RenamingLemmas.{numbers_differ}
-use Rattle.path_rows.proofs.DifferLemmas.{member_joined, distinct_joined, distinct_written, length_written, written_cases, StandsAt, place_of, taken_at, dropped_at, distinct_taken, distinct_dropped, index_left, index_right, index_taken, index_dropped, columns_within, columns_distinct, columns_at, places_distinct, indexed_member, distinct_indexed, member_below, index_below}
+use Rattle.path_rows.proofs.DifferLemmas.{member_joined, distinct_joined, distinct_written, length_written, written_cases, taken_at, dropped_at, distinct_taken, distinct_dropped, index_left, index_right, index_taken, index_dropped, columns_within, columns_distinct, columns_at, places_distinct, indexed_member, distinct_indexed, member_below, index_below}
 
 -- ---- rows
 

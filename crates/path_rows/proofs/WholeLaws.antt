@@ -1,6 +1,6 @@
 -- The rows of a whole word: what a point that meets them says, and the point of frame states that obey it.
-use Rattle.std.proofs.Common.{◌≡◌, ◌↔◌, ◌∙◌, ℕ, zero, suc, ◌+◌, ◌<◌, ℤ, pos, List, [], ◌∷◌, ◌++◌, length, Option, None, Some, refl, sym, ap, subst, inl, inr, arith, append-nil}
-use Rattle.std.specs.Prelude.{map, slice_get, unwrap_or}
+use Rattle.std.proofs.Common.{◌≡◌, ◌↔◌, ◌∙◌, ℕ, zero, suc, ◌<◌, ℤ, pos, List, [], ◌∷◌, ◌++◌, length, Option, Some, refl, sym, subst, inl, arith}
+use Rattle.std.specs.Prelude.{slice_get, unwrap_or}
 use Rattle.std.specs.List.{AllByRecursion}
 use Rattle.lin_rows.specs.Rows.{Holds}
 use Rattle.lin_rows.specs.Points.{point_of}
@@ -12,7 +12,7 @@ use Rattle.nwa_base.specs.Acceptance.{Accepts, Follows, AcceptsFrom}
 use Rattle.boogie_tree.specs.declared.tree.Ty.{Ty}
 use Rattle.boogie_tree.specs.declared.tree.Ty.TheVariants as types
 use Rattle.letter_acts.specs.Frames.{Columns, IsState, IsValue}
-use Rattle.letter_acts.specs.Acts.{PlainAct, inside_act, call_act, back_act, Alphabet, frame_of, act_of}
+use Rattle.letter_acts.specs.Acts.{PlainAct, frame_of}
 use Rattle.letter_acts.specs.Meaning.{Situation, ActInside, ActCalls}
 use Rattle.letter_acts.specs.Ways.{Leads, GoesThrough}
 use Rattle.letter_acts.specs.Feasible.{Obeys, IsFeasible, meaning}
@@ -20,15 +20,14 @@ use Rattle.letter_acts.specs.Invariant.{Graph, IsGraph, alphabet_of, IsPlaceOf}
 use Rattle.letter_acts.proofs.PointLemmas.{state_length}
 use Rattle.letter_acts.proofs.WayLemmas.{along_by_stack}
 use Rattle.path_rows.specs.Rows.{bounds, types_of}
-use Rattle.path_rows.specs.Versions.{columns_from, Stage}
 use Rattle.path_rows.specs.Paths.{start_frame, first_stage, path_along, path_of}
-use Rattle.path_rows.specs.Solutions.{read, Solves, AreReadOff, ReadOff, SolvedBy}
+use Rattle.path_rows.specs.Solutions.{read, Solves, ReadOff, SolvedBy}
 use Rattle.path_rows.proofs.ListLemmas.{all_joined}
 use Rattle.path_rows.proofs.RowLemmas.{bounds_read}
 use Rattle.path_rows.proofs.EdgeLemmas.{inside_acts, call_acts}
-use Rattle.path_rows.proofs.HeardLaws.{Stands, Comes, Heard, heard}
+use Rattle.path_rows.proofs.HeardLaws.{Heard, heard}
 use Rattle.path_rows.proofs.SaidLaws.{all_get, said}
-use Rattle.path_rows.proofs.SolvedLaws.{Below, below_columns, Built, first_read, built_first, Extends, extends}
+use Rattle.path_rows.proofs.SolvedLaws.{Built, first_read, built_first, extends}
 
 -- the procedure of the start
 abbrev pub start_proc : Graph → ℕ

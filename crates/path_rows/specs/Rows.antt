@@ -1,5 +1,5 @@
 -- Rows over columns that are numbered anew, columns that are equal, and the bounds of booleans.
-use Rattle.std.specs.Prelude.{ℕ, suc, pos, ℤ, negsuc, List, [], ◌∷◌, ◌++◌, map, Option, None, Some}
+use Rattle.std.specs.Prelude.{ℕ, suc, pos, negsuc, List, [], ◌∷◌, ◌++◌, map, Option, None, Some}
 use Rattle.boogie_tree.specs.declared.tree.Ty.{Ty}
 use Rattle.boogie_tree.specs.declared.tree.Ty.TheVariants as types
 use Rattle.lin_rows.specs.declared.types.RowKind.TheVariants.{Le, Eq}

@@ -5,7 +5,6 @@ use Rattle.lin_rows.specs.Rows.{LinearRow, Holds}
 use Rattle.nwa_base.specs.declared.letters.Letter.{Letter}
 use Rattle.letter_acts.specs.Frames.{Columns, IsState}
 use Rattle.letter_acts.specs.Acts.{PlainAct, inside_act, call_act, back_act, Alphabet, frame_of, act_of}
-use Rattle.letter_acts.specs.Values.{RowsHold}
 use Rattle.letter_acts.specs.Meaning.{Situation, InsideLeads, CallLeads, BackLeads}
 use Rattle.letter_acts.specs.Feasible.{Obeys}
 use Rattle.letter_acts.specs.Invariant.{Graph, alphabet_of}

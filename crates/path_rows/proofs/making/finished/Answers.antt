@@ -1,8 +1,6 @@
-use Rattle.std.proofs.Common.{◌≡◌, ◌∙◌, [], List, sym, ap, subst}
-use Rattle.std.specs.Global.{Vec, Global}
+use Rattle.std.proofs.Common.{◌∙◌, sym, ap, subst}
 use Rattle.nwa_base.specs.Automata.{IsAutomaton}
-use Rattle.lin_rows.specs.declared.systems.System.{System}
-use Rattle.lin_rows.specs.Systems.{members_of, groups_of, rows_of}
+use Rattle.lin_rows.specs.Systems.{members_of, rows_of}
 use Rattle.path_rows.specs.Paths.{PlainPath, IsPathOf}
 use Rattle.path_rows.proofs.MakingLemmas.{made_path, path_exact}
 use Rattle.path_rows.proofs.making.finished.Goals as goal

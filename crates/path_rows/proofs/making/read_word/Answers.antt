@@ -1,4 +1,4 @@
-use Rattle.std.proofs.Common.{◌≡◌, List, get_or, sym, subst}
+use Rattle.std.proofs.Common.{get_or, sym, subst}
 use Rattle.nwa_base.specs.declared.letters.Letter.{Letter}
 use Rattle.nwa_base.specs.declared.letters.Kind.TheVariants.{Inside}
 use Rattle.nwa_base.specs.Acceptance.{Accepts}

@@ -1,4 +1,4 @@
-use Rattle.std.proofs.Common.{◌∙◌, ◌++◌, ◌∷◌, [], List, ap}
+use Rattle.std.proofs.Common.{◌∙◌, ◌++◌, ◌∷◌, [], ap}
 use Rattle.lin_rows.specs.Rows.{LinearRow, IsRow}
 use Rattle.path_rows.proofs.LoopLemmas.{entries_next, all_pushed}
 use Rattle.path_rows.proofs.rows.entry_rows.Goals as goal

@@ -1,4 +1,3 @@
-use Rattle.std.proofs.Common.{◌∙◌, sym}
 use Rattle.path_rows.proofs.LoopLemmas.{written_next, written_short, written_ends}
 use Rattle.path_rows.proofs.versions.write_over.Goals as goal
 

@@ -1,5 +1,4 @@
-use Rattle.std.proofs.Common.{◌≡◌, ◌<◌, length, drop}
-use Rattle.std.specs.List.{AllByRecursion}
+use Rattle.std.proofs.Common.{◌≡◌, drop}
 use Rattle.path_rows.specs.Versions.{written_over}
 use Rattle.path_rows.proofs.versions.write_over.Given as goal
 
