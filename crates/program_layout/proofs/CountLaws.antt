@@ -1,7 +1,7 @@
 -- How many conditions, assertions and places procedures have.
-use Rattle.std.proofs.Common.{◌≡◌, ℕ, zero, suc, ◌+◌, List, [], ◌∷◌, length, refl, arith}
+use Rattle.std.proofs.Common.{◌≡◌, ◌+◌, List, [], ◌∷◌, length, refl, arith}
 use Rattle.typed_tree.specs.TypedTree.{TypedSpecification, Requires, Ensures, TypedProcedure}
-use Rattle.typing_rules.specs.Counts.{all_ensures, body_assertions, body_points, all_places}
+use Rattle.typing_rules.specs.Counts.{all_ensures, all_places}
 use Rattle.boogie_points.specs.Actions.{ensured_conditions, assertions_before, points_before}
 use Rattle.boogie_points.proofs.ConditionLaws.{free_requires_counted}
 

@@ -1,13 +1,12 @@
 -- How many places a program has.
 use Rattle.std.proofs.Common.{◌≡◌, ℕ, zero, suc, ◌+◌, Bool, true, false, List, [], ◌∷◌, ◌++◌, map, length, Option, None, Some, slice_get, refl, ap, ◌∙◌, arith, IsTrue}
 use Rattle.std.proofs.lemmas.List.{length-append, length-map}
-use Rattle.typed_tree.specs.TypedTree.{TypedStatement, Assert, Assume, Havoc, Assign, Call, If, While, Break, Goto, Return, Label, TypedBlock, Empty, Then, TypedSpecification, TypedProcedure, TypedProgram}
+use Rattle.typed_tree.specs.TypedTree.{TypedStatement, Assert, Assume, Havoc, Assign, Call, If, While, Break, Goto, Return, Label, TypedBlock, Empty, Then, TypedProcedure, TypedProgram}
 use Rattle.typing_rules.specs.ValidProgram.{is_valid}
 use Rattle.typing_rules.specs.Counts.{plain_invariants, plain_requires, checked_at_call, assertions, points, block_assertions, block_points, body_points}
 use Rattle.typing_rules.proofs.ValidLaws as valid
-use Rattle.letter_acts.specs.declared.sites.Site.{Site}
 use Rattle.boogie_points.specs.Points.{Todo, Start, Entry, Point, at_exit, before, past}
-use Rattle.boogie_points.specs.Actions.{free_conditions, ensured_conditions, plain_conditions, start_conditions, first_assertion, first_place, assertions_before, points_before}
+use Rattle.boogie_points.specs.Actions.{free_conditions, ensured_conditions, start_conditions, first_assertion, first_place, assertions_before, points_before}
 use Rattle.boogie_points.proofs.ConditionLaws.{plain_requires_counted, free_requires_counted}
 use Rattle.boogie_places.specs.Places.{parts_from, at_statement, points_in, points_of, points_of_body, start_points, count_from, Place, located, points_with, places_from, starts_if_any, program_places}
 use Rattle.lowered_graph.specs.Arcs.{first_error}

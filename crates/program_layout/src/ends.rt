@@ -14,7 +14,8 @@ fn is_label(statement: &TStmt) -> bool
         TStmt::Label(_) => true,
         TStmt::Assert(_, _) | TStmt::Assume(_, _) | TStmt::Havoc(_, _) => false,
         TStmt::Assign(_, _, _) | TStmt::Call(_, _, _, _) | TStmt::If(_, _, _, _) => false,
-        TStmt::While(_, _, _, _) | TStmt::Break(_, _) | TStmt::Goto(_, _) | TStmt::Return(_) => false,
+        TStmt::While(_, _, _, _) | TStmt::Break(_, _) | TStmt::Goto(_, _) | TStmt::Return(_) =>
+            false,
     }
 }
 

@@ -61,7 +61,11 @@ fn frame_of(alloc: Global, globals: &[VarInfo], locals: &[VarInfo]) -> Result<Fr
 }
 
 /// The frame of each procedure.
-pub(crate) fn frames_of(alloc: Global, globals: &[VarInfo], procs: &[TProc]) -> Result<Vec<Frame>, AllocError>
+pub(crate) fn frames_of(
+    alloc: Global,
+    globals: &[VarInfo],
+    procs: &[TProc],
+) -> Result<Vec<Frame>, AllocError>
     requires globals { length globals.now < 2 ^ 32 }
     requires locals { (n : ℕ) → IfSome (slice_get (map view.procedure procs.now) n) (λ q. length q.locals < 2 ^ 32) }
     ensures { IfOk result (λ fs. plain_frames fs.items ≡ map (λ q. frame_with globals.now q.locals) (map view.procedure procs.now)) }

@@ -40,18 +40,23 @@ fn joined(alloc: Global, op: Op) -> Result<TExpr, Fail> {
 
 /// `procedure main() { g := 0; call inc(); assert g <= 1; }` and `procedure inc() { g := g + 1; }`
 fn program(alloc: Global) -> Result<Typed, Fail> {
-    let globals = vec![in alloc; VarInfo {
-        name: Text::new(b"g".to_vec(alloc)?),
-        ty: Ty::Int,
-        constant: false,
-    }]?;
+    let globals = vec![in alloc;
+        VarInfo {
+            name: Text::new(b"g".to_vec(alloc)?),
+            ty: Ty::Int,
+            constant: false,
+        },
+    ]?;
     let main = vec![in alloc;
         assign(alloc, made(TExprKind::Lit(0)))?,
         TStmt::Call(HERE, Vec::new(alloc), 1, Vec::new(alloc)),
         TStmt::Assert(HERE, joined(alloc, Op::Le)?),
     ]?;
     let inc = vec![in alloc; assign(alloc, joined(alloc, Op::Add)?)?]?;
-    let procs = vec![in alloc; procedure(alloc, "main", main)?, procedure(alloc, "inc", inc)?]?;
+    let procs = vec![in alloc;
+        procedure(alloc, "main", main)?,
+        procedure(alloc, "inc", inc)?,
+    ]?;
     let program = typed(alloc, globals, Vec::new(alloc), procs, 0)?;
     Ok(program.ok_or("the program is not typed")?)
 }
