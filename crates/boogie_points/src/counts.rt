@@ -10,7 +10,7 @@ use typed_tree::{TInv, TProc, TSpec, TStmt};
 
 /// The requires that a call asserts.
 #[tactic(auto, using(crate::proofs::ConditionLaws::plain_step))]
-pub(crate) fn demanded(specs: &[TSpec]) -> usize
+pub fn demanded(specs: &[TSpec]) -> usize
     ensures { result ≡ length (plain_conditions (map view.specification specs.now)) }
 {
     let mut count = 0;
@@ -24,7 +24,7 @@ pub(crate) fn demanded(specs: &[TSpec]) -> usize
 
 /// The requires that are assumed at the entry.
 #[tactic(auto, using(crate::proofs::ConditionLaws::free_step))]
-pub(crate) fn granted(specs: &[TSpec]) -> usize
+pub fn granted(specs: &[TSpec]) -> usize
     ensures { result ≡ length (free_conditions (map view.specification specs.now)) }
 {
     let mut count = 0;
@@ -37,7 +37,7 @@ pub(crate) fn granted(specs: &[TSpec]) -> usize
 }
 
 /// The conditions that are checked: those that are not free.
-pub(crate) fn plain_count(conditions: &[TInv]) -> u32
+pub fn plain_count(conditions: &[TInv]) -> u32
     requires { spec.plain_invariants (map view.invariant conditions.now) < 2 ^ 32 }
     ensures { result ≡ spec.plain_invariants (map view.invariant conditions.now) }
 {
@@ -52,7 +52,7 @@ pub(crate) fn plain_count(conditions: &[TInv]) -> u32
 
 /// The requires that a call of that procedure asserts.
 #[tactic(auto, using(crate::proofs::ConditionLaws::plain_requires_counted))]
-pub(crate) fn at_call(procs: &[TProc], callee: u32) -> u32
+pub fn at_call(procs: &[TProc], callee: u32) -> u32
     requires { spec.checked_at_call (slice_get (map view.procedure procs.now) callee) < 2 ^ 32 }
     ensures { result ≡ spec.checked_at_call (slice_get (map view.procedure procs.now) callee) }
 {
@@ -64,7 +64,7 @@ pub(crate) fn at_call(procs: &[TProc], callee: u32) -> u32
 
 /// The assertions of a statement. It recurses as deep as statements are nested, as dropping one does.
 #[cycle(assertions)]
-pub(crate) fn assertions(procs: &[TProc], counted: &TStmt) -> u32
+pub fn assertions(procs: &[TProc], counted: &TStmt) -> u32
     requires { spec.assertions (map view.procedure procs.now) (view.statement counted.now) < 2 ^ 32 }
     ensures { result ≡ spec.assertions (map view.procedure procs.now) (view.statement counted.now) }
 {
@@ -86,7 +86,7 @@ pub(crate) fn assertions(procs: &[TProc], counted: &TStmt) -> u32
 
 /// The assertions of the statements of a list.
 #[cycle(assertions)]
-pub(crate) fn block_assertions(procs: &[TProc], listed: &[TStmt]) -> u32
+pub fn block_assertions(procs: &[TProc], listed: &[TStmt]) -> u32
     requires { spec.block_assertions (map view.procedure procs.now) (view.statements listed.now) < 2 ^ 32 }
     ensures { result ≡ spec.block_assertions (map view.procedure procs.now) (view.statements listed.now) }
 {
@@ -99,7 +99,7 @@ pub(crate) fn block_assertions(procs: &[TProc], listed: &[TStmt]) -> u32
 
 /// The points of a statement.
 #[cycle(places)]
-pub(crate) fn points(procs: &[TProc], counted: &TStmt) -> u32
+pub fn points(procs: &[TProc], counted: &TStmt) -> u32
     requires { spec.points (map view.procedure procs.now) (view.statement counted.now) < 2 ^ 32 }
     ensures { result ≡ spec.points (map view.procedure procs.now) (view.statement counted.now) }
 {
@@ -122,7 +122,7 @@ pub(crate) fn points(procs: &[TProc], counted: &TStmt) -> u32
 
 /// The points of the statements of a list.
 #[cycle(places)]
-pub(crate) fn block_points(procs: &[TProc], listed: &[TStmt]) -> u32
+pub fn block_points(procs: &[TProc], listed: &[TStmt]) -> u32
     requires { spec.block_points (map view.procedure procs.now) (view.statements listed.now) < 2 ^ 32 }
     ensures { result ≡ spec.block_points (map view.procedure procs.now) (view.statements listed.now) }
 {
@@ -134,7 +134,7 @@ pub(crate) fn block_points(procs: &[TProc], listed: &[TStmt]) -> u32
 }
 
 /// The ensures of a procedure.
-pub(crate) fn all_ensures(specs: &[TSpec]) -> u32
+pub fn all_ensures(specs: &[TSpec]) -> u32
     requires { spec.all_ensures (map view.specification specs.now) < 2 ^ 32 }
     ensures { result ≡ spec.all_ensures (map view.specification specs.now) }
 {
@@ -149,7 +149,7 @@ pub(crate) fn all_ensures(specs: &[TSpec]) -> u32
 
 /// The ensures that are asserted, among the first so many.
 #[tactic(auto, using(crate::proofs::ConditionLaws::taken))]
-pub(crate) fn plain_before(specs: &[TSpec], part: usize) -> u32
+pub fn plain_before(specs: &[TSpec], part: usize) -> u32
     requires { spec.plain_ensures (map view.specification specs.now) < 2 ^ 32 }
     ensures { result ≡ spec.plain_invariants (take part (ensured_conditions (map view.specification specs.now))) }
 {
@@ -186,7 +186,7 @@ fn is_asserted(said: &TSpec) -> u32
 }
 
 /// The ensures that are asserted.
-pub(crate) fn plain_ensures(specs: &[TSpec]) -> u32
+pub fn plain_ensures(specs: &[TSpec]) -> u32
     requires { spec.plain_ensures (map view.specification specs.now) < 2 ^ 32 }
     ensures { result ≡ spec.plain_ensures (map view.specification specs.now) }
 {

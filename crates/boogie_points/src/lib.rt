@@ -5,7 +5,7 @@ mod acting;
 mod actions;
 mod blocks;
 mod conditions;
-mod counts;
+pub mod counts;
 mod going;
 mod numbers;
 mod points;

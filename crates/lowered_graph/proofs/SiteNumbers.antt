@@ -360,7 +360,8 @@ before_next procs (p ∷ ps) q qs =
     let e : suc (length ps) + 1 ≡ suc (length ps + 1) = omega arith in
     rw e (let h = before_next procs ps q qs in omega arith)
 
-abbrev assertions_of_all : List TypedProcedure → List TypedProcedure → ℕ
+-- how many assertions these procedures have
+abbrev pub assertions_of_all : List TypedProcedure → List TypedProcedure → ℕ
 assertions_of_all procs [] = 0
 assertions_of_all procs (q ∷ qs) = body_assertions procs q.specs q.body + assertions_of_all procs qs
 
@@ -399,8 +400,9 @@ counted_by f (x ∷ xs) n (suc k) e =
     let both : f x ∷ map f xs ≡ n ∷ count_from (n + 1) (length xs) = cc in
     both
 
-pub sites_numbered : (t : TypedProgram) → IsTrue (is_valid t) → map number_of_site (program_sites t) ≡ count_from 1 (length (program_sites t))
-sites_numbered t v =
+-- their numbers, as many as the procedures have assertions
+pub sites_counted : (t : TypedProgram) → IsTrue (is_valid t) → map number_of_site (program_sites t) ≡ count_from 1 (assertions_of_all t.procs t.procs)
+sites_counted t v =
     let entry = valid.entry t v in
     let q : TypedProcedure = entry.0 in
     let b : TypedBlock = entry.1 in
@@ -415,8 +417,10 @@ sites_numbered t v =
     let of_starts : place_ids t starts ≡ [] = ap (λ (o : Option TypedProcedure). place_ids t (located t.entry (starts_if_any t o))) entry.2 ∙ none in
     let first : first_assertion t.procs 0 ≡ 1 = (let e = none_before t.procs t.procs in omega arith) in
     let of_all : place_ids t all ≡ count_from 1 (assertions_of_all t.procs t.procs) = from_ids t [] t.procs refl ∙ ap (λ (i : ℕ). count_from i (assertions_of_all t.procs t.procs)) first in
-    counted_by number_of_site (program_sites t) 1 (assertions_of_all t.procs t.procs)
-    (place_ids-append t starts all ∙ ap (λ (l : List ℕ). l ++ place_ids t all) of_starts ∙ of_all)
+    place_ids-append t starts all ∙ ap (λ (l : List ℕ). l ++ place_ids t all) of_starts ∙ of_all
+
+pub sites_numbered : (t : TypedProgram) → IsTrue (is_valid t) → map number_of_site (program_sites t) ≡ count_from 1 (length (program_sites t))
+sites_numbered t v = counted_by number_of_site (program_sites t) 1 (assertions_of_all t.procs t.procs) (sites_counted t v)
 
 -- ---- each site is that of an assertion
 

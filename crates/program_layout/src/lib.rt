@@ -1,0 +1,13 @@
+//! The layout of a program: the frames of its procedures, and where the numbers of its places, assertions and columns begin.
+#![tactic(auto)]
+
+mod ends;
+mod frames;
+mod layouts;
+mod marks;
+#[cfg(test)]
+mod tests;
+
+pub use ends::has_ended;
+pub use layouts::{Layout, lay_out};
+pub use marks::Marks;
