@@ -1,7 +1,9 @@
 -- Lists of which each member has a value, read from the front.
-use Rattle.std.proofs.Common.{◌≡◌, ◌∙◌, ℕ, ◌+◌, ◌<◌, ◌≤◌, List, [], ◌∷◌, ◌++◌, length, drop, get_or, Option, None, Some, refl, sym, ap, append_assoc, arith}
-use Rattle.std.specs.Prelude.{map}
-use Rattle.std.proofs.lemmas.List.{append-nil, drop_all, drop_more}
+use Rattle.std.proofs.Common.{◌≡◌, ◌↔◌, ◌∙◌, ℕ, zero, suc, ◌+◌, ◌<◌, ◌≤◌, Bool, true, List, [], ◌∷◌, ◌++◌, length, drop, get_or, Option, None, Some, refl, sym, ap, append_assoc, arith}
+use Rattle.std.specs.Prelude.{map, IsSome, IfSome}
+use Rattle.std.specs.List.{list_all}
+use Rattle.std.proofs.lemmas.List.{drop_more}
+use Rattle.proof_form.proofs.RunLaws.{both_hold}
 use Rattle.proof_names.specs.Options.{with_first, all_some}
 
 -- values in front of others, if these are there
@@ -14,19 +16,9 @@ pub record Found {X Y : Type 0} (f : X → Option Y) (xs : List X) (i : ℕ) (ys
   pub within : i ≤ length xs
   pub all : all_some (map f xs) ≡ with_front ys (all_some (map f (drop i xs)))
 
-front_nil : {X : Type 0} (o : Option (List X)) → o ≡ with_front [] o
-front_nil None = refl
-front_nil (Some xs) = refl
-
 front_more : {X : Type 0} (xs : List X) (x : X) (o : Option (List X)) → with_front xs (with_first (Some x) o) ≡ with_front (xs ++ x ∷ []) o
 front_more xs x None = refl
 front_more xs x (Some ys) = ap Some (sym (append_assoc xs (x ∷ []) ys))
-
-pub found_begins : {X Y : Type 0} (f : X → Option Y) (xs : List X) (i : ℕ) (ys : List Y) → i ≡ 0 → ys ≡ [] → Found f xs i ys
-found_begins f xs i ys e n = record {
-  within = omega arith;
-  all = front_nil (all_some (map f xs)) ∙ ap (λ l. with_front l (all_some (map f xs))) (sym n) ∙ ap (λ (k : ℕ). with_front ys (all_some (map f (drop k xs)))) (sym e);
-}
 
 next_is : {X Y : Type 0} (f : X → Option Y) (xs : List X) (i : ℕ) (x : X) → i < length xs → x ≡ get_or xs i x →
     all_some (map f (drop i xs)) ≡ with_first (f x) (all_some (map f (drop (i + 1) xs)))
@@ -41,15 +33,6 @@ found_on f xs i ys more x y h l e s m = record {
       h.all ∙ ap (λ o. with_front ys o) (next_is f xs i x l e) ∙ ap (λ o. with_front ys (with_first o (all_some (map f (drop (i + 1) xs))))) s ∙
       front_more ys y (all_some (map f (drop (i + 1) xs))) ∙ ap (λ zs. with_front zs (all_some (map f (drop (i + 1) xs)))) (sym m);
 }
-
-pub found_stops : {X Y : Type 0} (f : X → Option Y) (xs : List X) (i : ℕ) (ys : List Y) (x : X) → Found f xs i ys → i < length xs →
-    x ≡ get_or xs i x → f x ≡ None → all_some (map f xs) ≡ None
-found_stops f xs i ys x h l e s =
-    h.all ∙ ap (λ o. with_front ys o) (next_is f xs i x l e) ∙ ap (λ o. with_front ys (with_first o (all_some (map f (drop (i + 1) xs))))) s
-
-pub found_all : {X Y : Type 0} (f : X → Option Y) (xs : List X) (i : ℕ) (ys : List Y) → Found f xs i ys → length xs ≤ i → all_some (map f xs) ≡ Some ys
-found_all f xs i ys h l =
-    h.all ∙ ap (λ zs. with_front ys (all_some (map f zs))) (drop_all i xs l) ∙ ap Some (append-nil ys)
 
 -- the first value and the others
 pub record Front {X : Type 0} (o : Option X) (os : Option (List X)) (zs : List X) : Type 0 where
@@ -84,3 +67,18 @@ parted f (x ∷ xs) ys zs e =
       others = p.others;
       joined = h.joined ∙ ap (λ l. h.first ∷ l) p.joined;
     }
+
+-- a test that all members pass is passed by each
+pub passes_at : {X : Type 0} (p : X → Bool) (xs : List X) (i : ℕ) (x : X) → list_all p xs ≡ true → i < length xs → x ≡ get_or xs i x → p x ≡ true
+passes_at p [] i x h l e = absurd (omega arith)
+passes_at p (y ∷ ys) zero x h l e = ap p e ∙ (both_hold (p y) (list_all p ys) h).0
+passes_at p (y ∷ ys) (suc i) x h l e = passes_at p ys i x (both_hold (p y) (list_all p ys) h).1 (omega arith) e
+
+pub mapped_twice : {X Y Z : Type 0} (f : Y → Z) (h : X → Y) (xs : List X) → map f (map h xs) ≡ map (λ x. f (h x)) xs
+mapped_twice f h [] = refl
+mapped_twice f h (x ∷ xs) = ap (λ ys. f (h x) ∷ ys) (mapped_twice f h xs)
+
+-- a value that is there exactly where a fact holds
+pub found_where : {X : Type 0} (P : Type 0) (r : Option X) (x : X) → P → (IsSome r ↔ P) → IfSome r (λ y. y ≡ x) → r ≡ Some x
+found_where P None x p h v = absurd (let k = h.1 p in cc)
+found_where P (Some y) x p h v = ap Some v

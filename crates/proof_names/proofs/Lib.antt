@@ -1,3 +1,11 @@
 pub mod AllLaws
+pub mod NumberLaws
+pub mod AtomLaws
+pub mod RefutationLaws
 pub mod SpelledLaws
+pub mod PredLaws
+pub mod WidthLaws
+pub mod TripleLaws
 pub mod PairLaws
+pub mod ItemLaws
+pub mod OutlineLaws

@@ -2,7 +2,7 @@
 use Rattle.std.proofs.Common.{◌≡◌, ◌∙◌, ◌⊎◌, ℕ, zero, suc, ◌+◌, ◌<◌, List, [], ◌∷◌, ◌++◌, length, get_or, length-append, Option, None, Some, refl, sym, ap, subst, inl, inr, arith}
 use Rattle.std.specs.Prelude.{map, slice_get}
 use Rattle.std.specs.Option.{option_map, option_and_then}
-use Rattle.triple_rows.proofs.ListLaws.{within, something_at}
+use Rattle.triple_rows.proofs.ListLaws.{within, something_at, got_map}
 use Rattle.proof_names.specs.Pairs.{ArePaired, IsFirstWithout, IsAt}
 
 -- the member at a place that exists
@@ -22,15 +22,6 @@ pub record SoFar {X Y : Type 0} (R : ℕ → X → Y → Type 0) (xs : List X) (
   pub count : length ys ≡ i
   pub related : (k : ℕ) (x : X) (y : Y) → slice_get xs k ≡ Some x → slice_get ys k ≡ Some y → R k x y
 
-pub so_far_none : {X Y : Type 0} (R : ℕ → X → Y → Type 0) (xs : List X) (i : ℕ) (ys : List Y) → i ≡ 0 → ys ≡ [] → SoFar R xs i ys
-so_far_none {X} {Y} R xs i ys e n = record {
-  count = ap length n ∙ sym e;
-  related = λ k x y g h. let j : slice_get {X = Y} [] k ≡ Some y = subst (λ (l : List Y). slice_get l k ≡ Some y) n h in absurd (nothing k y j);
-}
-  where
-    nothing : (k : ℕ) (y : Y) → slice_get {X = Y} [] k ≡ Some y → ⊥
-    nothing k y h = cc
-
 pub so_far_on : {X Y : Type 0} (R : ℕ → X → Y → Type 0) (xs : List X) (i : ℕ) (ys more : List Y) (x : X) (y : Y) → SoFar R xs i ys →
     slice_get xs i ≡ Some x → R i x y → more ≡ ys ++ y ∷ [] → SoFar R xs (i + 1) more
 so_far_on {X} {Y} R xs i ys more x y h g r e = record {
@@ -47,9 +38,6 @@ so_far_on {X} {Y} R xs i ys more x y h g r e = record {
         let c : x ≡ a = let w : slice_get xs i ≡ Some a = subst (λ (n : ℕ). slice_get xs n ≡ Some a) (sym j) p in cc in
         subst (λ (n : ℕ). R n a b) j (subst (λ (z : Y). R i a z) t (subst (λ (z : X). R i z y) c r))
 
-pub so_far_all : {X Y : Type 0} (R : ℕ → X → Y → Type 0) (xs : List X) (i : ℕ) (ys : List Y) → SoFar R xs i ys → i ≡ length xs → ArePaired R xs ys
-so_far_all R xs i ys h e = record { count = h.count ∙ e; related = h.related }
-
 pub so_far_stops : {X Y : Type 0} (R : ℕ → X → Y → Type 0) (xs : List X) (i : ℕ) (ys : List Y) (x : X) → SoFar R xs i ys → slice_get xs i ≡ Some x →
     ((y : Y) → R i x y → ⊥) → IsFirstWithout R xs i
 so_far_stops R xs i ys x h g none = record {
@@ -61,6 +49,16 @@ so_far_stops R xs i ys x h g none = record {
 
 pub stops_at : {X Y : Type 0} (R : ℕ → X → Y → Type 0) (xs : List X) (first item i : ℕ) → item ≡ first + i → IsFirstWithout R xs i → IsAt R xs first item
 stops_at R xs first item i e h = record { place = i; counted = e; is_first = h }
+
+-- ---- the same where the members are seen by a view
+
+pub so_far_mapped : {W X Y : Type 0} (f : W → X) (R : ℕ → X → Y → Type 0) (ws : List W) (i : ℕ) (ys more : List Y) (w : W) (y : Y) → SoFar R (map f ws) i ys →
+    i < length ws → w ≡ get_or ws i w → R i (f w) y → more ≡ ys ++ y ∷ [] → SoFar R (map f ws) (i + 1) more
+so_far_mapped f R ws i ys more w y h l e r m = so_far_on R (map f ws) i ys more (f w) y h (got_map f ws i w (is_got ws i w l e)) r m
+
+pub stops_mapped : {W X Y : Type 0} (f : W → X) (R : ℕ → X → Y → Type 0) (ws : List W) (first item i : ℕ) (ys : List Y) (w : W) → SoFar R (map f ws) i ys →
+    i < length ws → w ≡ get_or ws i w → ((y : Y) → R i (f w) y → ⊥) → item ≡ first + i → IsAt R (map f ws) first item
+stops_mapped f R ws first item i ys w h l e n c = stops_at R (map f ws) first item i c (so_far_stops R (map f ws) i ys (f w) h (got_map f ws i w (is_got ws i w l e)) n)
 
 -- ---- what stands at a place of the other list
 

@@ -5,5 +5,6 @@ pub mod Columns
 pub mod Predicates
 pub mod Refutations
 pub mod Outlines
+pub mod Scopes
 pub mod Naming
 pub mod Items

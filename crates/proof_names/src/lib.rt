@@ -2,6 +2,17 @@
 //! names. The first line that names what does not exist, or what is of another scope, is told apart.
 #![tactic(auto)]
 
+mod columns;
+mod fault;
+mod naming;
+mod nodes;
+mod numbers;
 mod outlines;
+mod predicates;
+mod refutations;
+mod steps;
+mod triples;
 
+pub use fault::NameFault;
+pub use naming::outline;
 pub use outlines::{Listed, NamedNode, NamedStep, NamedTriple, Outline};

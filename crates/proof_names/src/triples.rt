@@ -1,0 +1,369 @@
+//! The triples that lines name.
+
+ghost use Rattle.std.specs.Prelude.{◌≡◌, ◌≤◌, ◌^◌, Some, map, filter, count_by, length, not, IsTrue, IfOk, MatchOption, slice_get};
+ghost use Rattle.std.specs.Option.{option_map};
+ghost use Rattle.letter_acts.specs.Acts.{plain_act};
+ghost use Rattle.letter_acts.specs.Frames.{is_global, is_variable};
+ghost use Rattle.letter_acts.specs.Kept.{Keeps};
+ghost use Rattle.letter_acts.specs.Invariant.{alphabet_of, is_global_at, written_by, BackIsActedFrom};
+ghost use Rattle.proof_form.specs.Lines as lines;
+ghost use Rattle.proof_form.specs.Refutations as form;
+ghost use Rattle.proof_names.specs.declared.outlines.NamedTriple.{NamedTriple};
+ghost use Rattle.proof_names.specs.Naming as spec;
+ghost use Rattle.proof_names.specs.Naming.{NamesTriple};
+ghost use Rattle.proof_names.specs.Scopes.{call_scopes, back_scopes};
+
+use crate::columns::columns_of;
+use crate::numbers::{index_in, short_in};
+use crate::outlines::{Listed, NamedTriple};
+use crate::refutations::{is_named, refutation_of};
+use boogie_tree::{Column, VarInfo};
+use letter_acts::{Act, Icfg};
+use proof_form::{RNode, TripleLine};
+use std::alloc::{AllocError, Global};
+use triple_rows::{PredNode, Scoped, Triple, agrees, pred};
+
+/// The predicate that is true or false in a procedure.
+fn truth(alloc: Global, proc: u32, value: bool) -> Result<Option<Scoped>, AllocError>
+    ensures { IfOk result (λ o. o ≡ Some (spec.truth_in proc value)) }
+{
+    let mut nodes = Vec::new(alloc);
+    nodes.push(PredNode::Truth(value))?;
+    match pred(nodes) {
+        Some(pred) => Ok(Some(Scoped { proc, pred })),
+        None => Ok(None),
+    }
+}
+
+/// The predicate with this number, for a letter of the procedure.
+fn scoped_at(
+    alloc: Global,
+    preds: &[Scoped],
+    proc: u32,
+    number: usize,
+) -> Result<Option<Scoped>, AllocError>
+    ensures { IfOk result (λ o. o ≡ spec.scoped_at (slice_get preds.now) proc number) }
+{
+    if number < 2 {
+        return truth(alloc, proc, number == 0);
+    }
+    match preds.get(number - 2) {
+        Some(scoped) => Ok(Some(scoped.copy()?)),
+        None => Ok(None),
+    }
+}
+
+/// The numbers of a triple's line.
+fn listed_of(line: &TripleLine) -> Option<Listed>
+    ensures { result ≡ spec.listed_of (lines.triple line.now) }
+{
+    Some(match line {
+        TripleLine::Inside {
+            from,
+            letter,
+            to,
+            ..
+        } => Listed::Inside {
+            from: index_in(from)?,
+            letter: short_in(letter)?,
+            to: index_in(to)?,
+        },
+        TripleLine::Call {
+            from,
+            letter,
+            to,
+            ..
+        } => Listed::Call {
+            from: index_in(from)?,
+            letter: short_in(letter)?,
+            to: index_in(to)?,
+        },
+        TripleLine::Back {
+            exit,
+            before,
+            letter,
+            to,
+            ..
+        } => Listed::Back {
+            exit: index_in(exit)?,
+            before: index_in(before)?,
+            letter: short_in(letter)?,
+            to: index_in(to)?,
+        },
+    })
+}
+
+fn proof_in(line: &TripleLine) -> &[RNode]
+    ensures { map form.plain result.now ≡ spec.proof_in (lines.triple line.now) }
+{
+    match line {
+        TripleLine::Inside { proof, .. }
+        | TripleLine::Call { proof, .. }
+        | TripleLine::Back { proof, .. } => proof.as_slice(),
+    }
+}
+
+/// The act of a letter.
+fn act_of(icfg: &Icfg, letter: u32) -> Option<&Act>
+    ensures value { option_map (λ a. plain_act a.now) result ≡ slice_get icfg.now.acts letter }
+    ensures valid { Keeps icfg.now }
+{
+    icfg.acts().get(letter as usize)
+}
+
+/// The triple with these numbers of an inside letter.
+fn inside_at(
+    alloc: Global,
+    icfg: &Icfg,
+    preds: &[Scoped],
+    from: usize,
+    letter: u32,
+    to: usize,
+) -> Result<Option<Triple>, AllocError>
+    ensures { IfOk result (λ o. o ≡ spec.inside_at (slice_get preds.now) from letter to (slice_get icfg.now.acts letter)) }
+{
+    let Some(Act::Inside { proc, .. }) = act_of(icfg, letter) else {
+        return Ok(None);
+    };
+    let Some(from) = scoped_at(alloc, preds, *proc, from)? else {
+        return Ok(None);
+    };
+    match scoped_at(alloc, preds, *proc, to)? {
+        Some(to) => Ok(Some(Triple::Inside { from, letter, to })),
+        None => Ok(None),
+    }
+}
+
+/// The triple with these numbers of a call letter.
+fn call_at(
+    alloc: Global,
+    icfg: &Icfg,
+    preds: &[Scoped],
+    from: usize,
+    letter: u32,
+    to: usize,
+) -> Result<Option<Triple>, AllocError>
+    ensures { IfOk result (λ o. o ≡ spec.call_at (slice_get preds.now) from letter to (slice_get icfg.now.acts letter)) }
+{
+    let Some(Act::Call { caller, callee, .. }) = act_of(icfg, letter) else {
+        return Ok(None);
+    };
+    let Some(from) = scoped_at(alloc, preds, *caller, from)? else {
+        return Ok(None);
+    };
+    match scoped_at(alloc, preds, *callee, to)? {
+        Some(to) => Ok(Some(Triple::Call { from, letter, to })),
+        None => Ok(None),
+    }
+}
+
+/// The caller and the callee of a call letter.
+fn call_scopes(icfg: &Icfg, letter: u32) -> Option<(u32, u32)>
+    ensures { result ≡ call_scopes (slice_get icfg.now.acts letter) }
+{
+    match act_of(icfg, letter) {
+        Some(Act::Call { caller, callee, .. }) => Some((*caller, *callee)),
+        _ => None,
+    }
+}
+
+/// The caller and the callee of a return letter.
+fn back_scopes(icfg: &Icfg, letter: u32) -> Option<(u32, u32)>
+    ensures { result ≡ back_scopes icfg.now.acts (slice_get icfg.now.acts letter) }
+{
+    match act_of(icfg, letter) {
+        Some(Act::Back { call, .. }) => call_scopes(icfg, *call),
+        _ => None,
+    }
+}
+
+/// The triple with these numbers of a return letter.
+fn back_at(
+    alloc: Global,
+    icfg: &Icfg,
+    preds: &[Scoped],
+    exit: usize,
+    before: usize,
+    letter: u32,
+    to: usize,
+) -> Result<Option<Triple>, AllocError>
+    ensures { IfOk result (λ o. o ≡ spec.back_at icfg.now.acts (slice_get preds.now) exit before letter to (slice_get icfg.now.acts letter)) }
+{
+    let Some((caller, callee)) = back_scopes(icfg, letter) else {
+        return Ok(None);
+    };
+    let Some(exit) = scoped_at(alloc, preds, callee, exit)? else {
+        return Ok(None);
+    };
+    let Some(before) = scoped_at(alloc, preds, caller, before)? else {
+        return Ok(None);
+    };
+    match scoped_at(alloc, preds, caller, to)? {
+        Some(to) => Ok(Some(Triple::Back {
+            exit,
+            before,
+            letter,
+            to,
+        })),
+        None => Ok(None),
+    }
+}
+
+/// The triple with these numbers.
+fn triple_at(
+    alloc: Global,
+    icfg: &Icfg,
+    preds: &[Scoped],
+    listed: Listed,
+) -> Result<Option<Triple>, AllocError>
+    ensures { IfOk result (λ o. o ≡ spec.triple_at icfg.now.acts (slice_get preds.now) listed) }
+{
+    match listed {
+        Listed::Inside { from, letter, to } => inside_at(alloc, icfg, preds, from, letter, to),
+        Listed::Call { from, letter, to } => call_at(alloc, icfg, preds, from, letter, to),
+        Listed::Back {
+            exit,
+            before,
+            letter,
+            to,
+        } => back_at(alloc, icfg, preds, exit, before, letter, to),
+    }
+}
+
+/// How many columns a return writes in the frame of its caller.
+fn written_count(frame: &[(Column, VarInfo)], targets: &[u32]) -> usize
+    requires { length (written_by frame.now targets.now) ≤ 2 ^ 32 }
+    ensures { result ≡ length (written_by frame.now targets.now) }
+{
+    variable_count(frame) + local_targets(frame, targets)
+}
+
+/// How many globals may change.
+fn variable_count(frame: &[(Column, VarInfo)]) -> usize
+    ensures { result ≡ count_by is_variable frame.now }
+{
+    frame
+        .iter()
+        .filter(|column| is_global(column) && !column.1.constant)
+        .count()
+}
+
+/// How many targets are no globals.
+fn local_targets(frame: &[(Column, VarInfo)], targets: &[u32]) -> usize
+    ensures { result ≡ length (filter (λ t. not (is_global_at frame.now t)) targets.now) }
+{
+    targets
+        .iter()
+        .filter(|target| !is_global_at(frame, **target))
+        .count()
+}
+
+fn is_global(column: &(Column, VarInfo)) -> bool
+    ensures { result ≡ is_global column.now }
+{
+    match column.0 {
+        Column::Global(_) => true,
+        Column::Old(_) | Column::Local(_) => false,
+    }
+}
+
+fn is_global_at(frame: &[(Column, VarInfo)], column: u32) -> bool
+    ensures { result ≡ is_global_at frame.now column }
+{
+    match frame.get(column as usize) {
+        Some(column) => is_global(column),
+        None => false,
+    }
+}
+
+/// How many columns the system of a return has, by its call letter and its targets.
+fn return_width(icfg: &Icfg, call: u32, targets: &[u32]) -> usize
+    requires { BackIsActedFrom (alphabet_of icfg.now) targets.now (slice_get icfg.now.acts call) }
+    ensures { result ≡ spec.return_width (alphabet_of icfg.now) targets.now (slice_get icfg.now.acts call) }
+{
+    match act_of(icfg, call) {
+        Some(
+            Act::Call {
+                caller,
+                callee,
+                helpers,
+                ..
+            },
+        ) => {
+            let frame = columns_of(icfg, *caller);
+            columns_of(icfg, *callee).len()
+                + frame.len()
+                + written_count(frame, targets)
+                + *helpers as usize
+        }
+        _ => 0,
+    }
+}
+
+/// How many columns the system of a triple with this letter has.
+fn width(icfg: &Icfg, letter: u32) -> usize
+    ensures { result ≡ spec.width (alphabet_of icfg.now) (slice_get icfg.now.acts letter) }
+{
+    match act_of(icfg, letter) {
+        Some(
+            Act::Inside {
+                proc,
+                written,
+                helpers,
+                ..
+            },
+        ) => columns_of(icfg, *proc).len() + written.len() + *helpers as usize,
+        Some(
+            Act::Call {
+                caller,
+                callee,
+                helpers,
+                ..
+            },
+        ) => columns_of(icfg, *caller).len() + columns_of(icfg, *callee).len() + *helpers as usize,
+        Some(Act::Back { call, targets }) => return_width(icfg, *call, targets),
+        None => 0,
+    }
+}
+
+fn letter_in(listed: Listed) -> u32
+    ensures { result ≡ spec.letter_in listed }
+{
+    match listed {
+        Listed::Inside { letter, .. } | Listed::Call { letter, .. } | Listed::Back { letter, .. } =>
+            letter,
+    }
+}
+
+/// The triple that a line names.
+pub(crate) fn triple_named(
+    alloc: Global,
+    icfg: &Icfg,
+    preds: &[Scoped],
+    line: &TripleLine,
+) -> Result<Option<NamedTriple>, AllocError>
+    requires { IsTrue (lines.is_triple (lines.triple line.now)) }
+    ensures { IfOk result (λ o. MatchOption o
+        ((t : NamedTriple) → NamesTriple icfg.now (slice_get preds.now) (lines.triple line.now) t → ⊥)
+        (NamesTriple icfg.now (slice_get preds.now) (lines.triple line.now))) }
+{
+    let Some(listed) = listed_of(line) else {
+        return Ok(None);
+    };
+    let Some(triple) = triple_at(alloc, icfg, preds, listed)? else {
+        return Ok(None);
+    };
+    let nodes = proof_in(line);
+    if !agrees(icfg, &triple) {
+        return Ok(None);
+    }
+    if !is_named(width(icfg, letter_in(listed)), nodes) {
+        return Ok(None);
+    }
+    let proof = refutation_of(alloc, nodes)?;
+    Ok(Some(NamedTriple {
+        listed,
+        triple,
+        proof,
+    }))
+}
