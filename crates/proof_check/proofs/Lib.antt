@@ -7,3 +7,9 @@ pub mod EntryLaws
 pub mod MarkLaws
 pub mod RefutingLaws
 pub mod FirstLaws
+pub mod WalkLaws
+pub mod SoundLaws
+pub mod CoverLaws
+pub mod OutcomeLaws
+pub mod UniqueLaws
+pub mod ExistLaws

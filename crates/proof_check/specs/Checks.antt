@@ -1,5 +1,5 @@
 -- The six checks of an annotation, and the first that fails, at its first item.
-use Rattle.std.specs.Prelude.{◌≡◌, ℕ, ◌+◌, ◌<◌, Some, Result, Ok, Err, slice_get}
+use Rattle.std.specs.Prelude.{◌≡◌, ℕ, ◌+◌, ◌<◌, Option, None, Some, Result, Ok, Err, slice_get}
 use Rattle.letter_acts.specs.Invariant.{Graph}
 use Rattle.proof_form.specs.Annotations.{Content}
 use Rattle.proof_names.specs.declared.outlines.NamedTriple.{NamedTriple}
@@ -57,6 +57,12 @@ abbrev pub IsOutcome : {U : Type 0} → (ℕ → Type 0) → RejectCause → Res
 IsOutcome P c (Ok u) = (i : ℕ) → P i
 IsOutcome P c (Err (At item cause)) = (cause ≡ c) × ((i : ℕ) → i < item → P i) × (P item → ⊥)
 IsOutcome P c (Err Memory) = Unit {0}
+
+-- the refusal of the item at this place behind the first of its kind, or want of memory
+abbrev pub IsRefusal : Option ℕ → ℕ → RejectCause → Reject → Type 0
+IsRefusal first place cause Memory = Unit {0}
+IsRefusal None place cause (At item c) = ⊥
+IsRefusal (Some n) place cause (At item c) = (item ≡ n + place) × (c ≡ cause)
 
 -- the first of the checks of what lines name that fails, and its first item
 pub record IsFirstIn (g : Graph) (a : Content) (s : Sketch) (item : ℕ) (cause : RejectCause) : Type 0 where

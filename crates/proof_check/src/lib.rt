@@ -2,13 +2,15 @@
 //! feasible.
 #![tactic(auto)]
 
+mod checking;
+mod covering;
 mod index;
 pub mod laws;
 mod places;
 mod plan;
 mod refuting;
 mod rejects;
+mod sound;
 
-pub use places::{first_open_error, has_start};
-pub use refuting::first_bad_triple;
+pub use checking::check;
 pub use rejects::{Reject, RejectCause};
