@@ -1,0 +1,199 @@
+-- How the edges of lists add up, and what is wrong with several lists together.
+use Rattle.std.proofs.Common.{◌≡◌, ◌∙◌, ℕ, zero, suc, ◌+◌, ◌<◌, Bool, true, false, not, ◌||◌, List, [], ◌∷◌, ◌++◌, map, length, get_or, take, refl, sym, ap, subst, Ok, Err, Some, arith}
+use Rattle.std.proofs.lemmas.List.{take_more}
+use Rattle.std.specs.Prelude.{Result, IfOk, IsOk, Vec}
+use Rattle.std.specs.Global.{Global}
+use Rattle.std.specs.List.{list_any, AllByRecursion}
+use Rattle.boogie_tree.specs.declared.tree.VarInfo.{VarInfo}
+use Rattle.typed_tree.specs.TypedTree.{TypedExpression, TypedProcedure, TypedProgram}
+use Rattle.letter_acts.specs.Frames.{Columns}
+use Rattle.letter_acts.specs.Acts.{call_act, inside_act}
+use Rattle.letter_table.specs.Letters.{Arc, Lettered, call_arc, inside_arc, with_arc, with_arcs}
+use Rattle.cond_jumps.specs.declared.conj.Conj.{Conj}
+use Rattle.cond_jumps.specs.Conjs.{conjunction, conjunctions}
+use Rattle.cond_jumps.specs.Conjunctions.{Conjunction, is_wide, all_fit}
+use Rattle.lowered_graph.specs.Items.{Needed, import_needed}
+use Rattle.lowered_parts.specs.Parts.{Walked, Leads, IsTrouble, some_is_wide, some_is_big}
+use Rattle.lowered_parts.specs.Lists.{entered_arcs, list_arcs}
+use Rattle.cond_jumps.specs.declared.fault.JumpFault.{JumpFault}
+use Rattle.cond_jumps.specs.declared.fault.JumpFault.TheVariants.{TooWide, TooBig, Memory}
+use Rattle.place_edges.specs.declared.faults.Trouble.{Trouble}
+use Rattle.place_edges.specs.Answered.{IsAnswer, IsImported, IsMade, IsRefused, IsTold, ensures_needed}
+use Rattle.call_jumps.specs.CallLists.{import_base, import_plan}
+use Rattle.call_jumps.specs.declared.imports.Import.{Import}
+use Rattle.lowered_steps.specs.Edges.{import_list, import_written}
+use Rattle.program_layout.specs.declared.marks.Marks.{Marks}
+
+pub arcs_joined : (d : Lettered) (xs ys : List Arc) → with_arcs d (xs ++ ys) ≡ with_arcs (with_arcs d xs) ys
+arcs_joined d [] ys = refl
+arcs_joined d (x ∷ xs) ys = arcs_joined (with_arc d x) xs ys
+
+-- one member more of a list
+pub member_joined : (d : Lettered) (n place to : ℕ) (written : List ℕ) (cs : List Conj) (c : Conj) →
+    with_arcs d (list_arcs n place written (conjunctions (cs ++ c ∷ [])) to)
+    ≡ with_arc (with_arcs d (list_arcs n place written (conjunctions cs) to)) (inside_arc place (inside_act n written (conjunction c).helpers (conjunction c).rows) to)
+member_joined d n place to written [] c = refl
+member_joined d n place to written (x ∷ xs) c =
+    member_joined (with_arc d (inside_arc place (inside_act n written (conjunction x).helpers (conjunction x).rows) to)) n place to written xs c
+
+apart : false ≡ true → ⊥
+apart e = cc
+
+-- ---- what is wrong with several lists
+
+any_joined : (xs ys : List Needed) (f : Needed → Bool) → list_any f (xs ++ ys) ≡ (list_any f xs || list_any f ys)
+any_joined [] ys f = refl
+any_joined (x ∷ xs) ys f = by_first (f x) (list_any f xs) (list_any f ys) (list_any f (xs ++ ys)) (any_joined xs ys f)
+  where
+    by_first : (a b c d : Bool) → d ≡ (b || c) → (a || d) ≡ ((a || b) || c)
+    by_first true b c d e = refl
+    by_first false b c d e = e
+
+first_false : (a b : Bool) → (a || b) ≡ false → a ≡ false
+first_false true b e = cc
+first_false false b e = refl
+
+second_false : (a b : Bool) → (a || b) ≡ false → b ≡ false
+second_false true b e = cc
+second_false false b e = e
+
+pub trouble_joined : (ns ms : List Needed) (w v b c : Bool) → IsTrouble ns w b → IsTrouble ms v c → IsTrouble (ns ++ ms) (w || v) (b || c)
+trouble_joined ns ms w v b c s t = record {
+  wide = ap (λ x. x || v) s.wide ∙ (ap (λ x. some_is_wide ns || x) t.wide ∙ sym (any_joined ns ms (λ n. is_wide n.plan n.base)));
+  big = λ e. ap (λ x. x || c) (s.big (first_false w v e))
+      ∙ (ap (λ x. some_is_big ns || x) (t.big (second_false w v e)) ∙ sym (any_joined ns ms (λ n. not (all_fit n.plan n.base))));
+}
+
+-- one part after another
+pub leads_joined : (xs ys : List Arc) (ns ms : List Needed) (w v b c : Bool) (old mid new : Walked) → Leads xs ns w b old mid → Leads ys ms v c mid new →
+    Leads (xs ++ ys) (ns ++ ms) (w || v) (b || c) old new
+leads_joined xs ys ns ms w v b c old mid new l m = record {
+  trouble = trouble_joined ns ms w v b c l.trouble m.trouble;
+  program = m.program ∙ l.program;
+  sites = m.sites ∙ l.sites;
+  fault = m.fault ∙ l.fault;
+  edges = λ e f. m.edges (second_false w v e) (second_false b c f)
+      ∙ (ap (λ d. with_arcs d ys) (l.edges (first_false w v e) (first_false b c f)) ∙ sym (arcs_joined old.lettered xs ys));
+}
+
+-- and the second said of the program that it finds
+pub leads_then : (xs : List Arc) (ys : TypedProgram → List Arc) (ns : List Needed) (ms : TypedProgram → List Needed) (w v b c x y : Bool) (old mid new : Walked) →
+    x ≡ (w || v) → y ≡ (b || c) → Leads xs ns w b old mid → Leads (ys mid.program) (ms mid.program) v c mid new → Leads (xs ++ ys old.program) (ns ++ ms old.program) x y old new
+leads_then xs ys ns ms w v b c x y old mid new e f l m =
+    let second : Leads (ys old.program) (ms old.program) v c mid new = subst (λ (t : TypedProgram). Leads (ys t) (ms t) v c mid new) l.program m in
+    let both : Leads (xs ++ ys old.program) (ns ++ ms old.program) (w || v) (b || c) old new =
+    leads_joined xs (ys old.program) ns (ms old.program) w v b c old mid new l second in
+    let wide : Leads (xs ++ ys old.program) (ns ++ ms old.program) x (b || c) old new =
+    subst (λ (z : Bool). Leads (xs ++ ys old.program) (ns ++ ms old.program) z (b || c) old new) (sym e) both in
+    subst (λ (z : Bool). Leads (xs ++ ys old.program) (ns ++ ms old.program) x z old new) (sym f) wide
+
+-- ---- one list
+
+pub answered : (cs : List Conjunction) (k : Needed) (r : Result (Vec Conj Global) JumpFault) → IfOk r (λ v. conjunctions v.items ≡ cs) →
+    (IsOk r → is_wide k.plan k.base ≡ false) → (IsOk r → all_fit k.plan k.base ≡ true) → (r ≡ Err TooWide → is_wide k.plan k.base ≡ true) →
+    (r ≡ Err TooBig → (is_wide k.plan k.base ≡ false) × (all_fit k.plan k.base ≡ false)) → IsAnswer cs k r
+answered cs k (Ok v) l n f w b = (l, (n refl, f refl))
+answered cs k (Err TooWide) l n f w b = w refl
+answered cs k (Err TooBig) l n f w b = b refl
+answered cs k (Err Memory) l n f w b = tt
+
+-- edges by a list with which nothing is wrong
+pub led : (xs : List Arc) (k : Needed) (old new : Walked) → IsMade k → new ≡ record old { lettered = with_arcs old.lettered xs } → Leads xs (k ∷ []) false false old new
+led xs k old new m e = record {
+  trouble = record {
+    wide = sym (ap (λ x. x || false) m.0);
+    big = λ h. sym (ap (λ x. not x || false) m.1);
+  };
+  program = ap (λ w. w.program) e;
+  sites = ap (λ w. w.sites) e;
+  fault = ap (λ w. w.fault) e;
+  edges = λ h i. ap (λ w. w.lettered) e;
+}
+
+-- no edges by a list that was not made
+pub not_led : (xs : List Arc) (k : Needed) (f : JumpFault) (x : Trouble) (old : Walked) → IsRefused k f → IsTold f x → Leads xs (k ∷ []) x.wide x.big old old
+not_led xs k TooWide x old r t = record {
+  trouble = record {
+    wide = t.0 ∙ sym (ap (λ z. z || false) r);
+    big = λ h. absurd (apart (sym h ∙ t.0));
+  };
+  program = refl;
+  sites = refl;
+  fault = refl;
+  edges = λ h i. absurd (apart (sym h ∙ t.0));
+}
+not_led xs k TooBig x old r t = record {
+  trouble = record {
+    wide = t.0 ∙ sym (ap (λ z. z || false) r.0);
+    big = λ h. t.1 ∙ sym (ap (λ z. not z || false) r.1);
+  };
+  program = refl;
+  sites = refl;
+  fault = refl;
+  edges = λ h i. absurd (apart (sym i ∙ t.1));
+}
+not_led xs k Memory x old r t = absurd t
+
+-- ---- lists of columns
+
+pub each_of : {X : Type 0} (P : X → Type 0) (xs : List X) (i : ℕ) (d : X) → i < length xs → AllByRecursion P xs → P (get_or xs i d)
+each_of P [] i d h a = absurd (omega arith)
+each_of P (x ∷ xs) zero d h a = a.0
+each_of P (x ∷ xs) (suc i) d h a = each_of P xs i d (omega arith) a.1
+
+map_joined : {X Y : Type 0} (f : X → Y) (xs : List X) (y : X) → map f (xs ++ y ∷ []) ≡ map f xs ++ f y ∷ []
+map_joined f [] y = refl
+map_joined f (x ∷ xs) y = ap (λ zs. f x ∷ zs) (map_joined f xs y)
+
+pub one_more : {X Y : Type 0} (f : X → Y) (xs : List X) (i : ℕ) (d : X) → i < length xs → map f (take (i + 1) xs) ≡ map f (take i xs) ++ f (get_or xs i d) ∷ []
+one_more f xs i d h = ap (map f) (take_more xs i d h) ∙ map_joined f (take i xs) (get_or xs i d)
+
+-- ---- calls
+
+pub told_refused : {E : Type 0} (xs : List Arc) (k : Needed) (f : JumpFault) (r : Result Trouble E) (old : Walked) → IsRefused k f → IfOk r (IsTold f) →
+    IfOk r (λ x. Leads xs (k ∷ []) x.wide x.big old old)
+told_refused xs k f (Ok x) old h t = not_led xs k f x old h t
+told_refused xs k f (Err e) old h t = tt
+
+-- a call by its one conjunction
+pub entered : (n f place after : ℕ) (c : Conjunction) (cs : List Conjunction) (m l : Marks) (us ts : List ℕ) (k : Needed) (old new : Walked) →
+    c ∷ [] ≡ cs → m ≡ l → us ≡ ts → IsMade k →
+    new ≡ record old { lettered = with_arc old.lettered (call_arc place (call_act n f c.helpers c.rows) m.entry m.returns us after) } →
+    Leads (entered_arcs n f place l.entry l.returns ts after cs) (k ∷ []) false false old new
+entered n f place after c cs m l us ts k old new e d u made g =
+    let one : Leads (entered_arcs n f place m.entry m.returns us after (c ∷ [])) (k ∷ []) false false old new =
+    led (entered_arcs n f place m.entry m.returns us after (c ∷ [])) k old new made g in
+    let listed : Leads (entered_arcs n f place m.entry m.returns us after cs) (k ∷ []) false false old new =
+    subst (λ (x : List Conjunction). Leads (entered_arcs n f place m.entry m.returns us after x) (k ∷ []) false false old new) e one in
+    let marked : Leads (entered_arcs n f place l.entry l.returns us after cs) (k ∷ []) false false old new =
+    subst (λ (x : Marks). Leads (entered_arcs n f place x.entry x.returns us after cs) (k ∷ []) false false old new) d listed in
+    subst (λ (x : List ℕ). Leads (entered_arcs n f place l.entry l.returns x after cs) (k ∷ []) false false old new) u marked
+
+pub import_answered : (frame : Columns) (globals : List VarInfo) (q : TypedProcedure) (args : List TypedExpression) (ts : List ℕ) (r : Result Import JumpFault) →
+    IfOk r (λ i. i.written.items ≡ import_written q.modifies ts) → IfOk r (λ i. conjunctions i.conjs.items ≡ import_list frame globals q args ts) →
+    (IsOk r → is_wide (import_plan frame globals q args ts) (import_base frame q ts) ≡ false) →
+    (IsOk r → all_fit (import_plan frame globals q args ts) (import_base frame q ts) ≡ true) →
+    (r ≡ Err TooWide → is_wide (import_plan frame globals q args ts) (import_base frame q ts) ≡ true) →
+    (r ≡ Err TooBig → (is_wide (import_plan frame globals q args ts) (import_base frame q ts) ≡ false)
+    × (all_fit (import_plan frame globals q args ts) (import_base frame q ts) ≡ false)) →
+    IsImported frame globals q args ts r
+import_answered frame globals q args ts (Ok i) s l n f w b = (s, l, (n refl, f refl))
+import_answered frame globals q args ts (Err TooWide) s l n f w b = w refl
+import_answered frame globals q args ts (Err TooBig) s l n f w b = b refl
+import_answered frame globals q args ts (Err Memory) s l n f w b = tt
+
+-- a call of a procedure without body
+pub import_led : (n place after : ℕ) (frame : Columns) (globals : List VarInfo) (q : TypedProcedure) (args : List TypedExpression) (us ts written : List ℕ) (cs : List Conjunction)
+    (old new : Walked) → us ≡ ts → written ≡ import_written q.modifies us → cs ≡ import_list frame globals q args us → IsMade (ensures_needed frame globals q args us) →
+    new ≡ record old { lettered = with_arcs old.lettered (list_arcs n place written cs after) } →
+    Leads (list_arcs n place (import_written q.modifies ts) (import_list frame globals q args ts) after) (import_needed frame globals (Some q) args ts) false false old new
+import_led n place after frame globals q args us ts written cs old new u s l made g =
+    let given : Leads (list_arcs n place written cs after) (ensures_needed frame globals q args us ∷ []) false false old new =
+    led (list_arcs n place written cs after) (ensures_needed frame globals q args us) old new made g in
+    let listed : Leads (list_arcs n place written (import_list frame globals q args us) after) (ensures_needed frame globals q args us ∷ []) false false old new =
+    subst (λ (x : List Conjunction). Leads (list_arcs n place written x after) (ensures_needed frame globals q args us ∷ []) false false old new) l given in
+    let wrote : Leads (list_arcs n place (import_written q.modifies us) (import_list frame globals q args us) after) (ensures_needed frame globals q args us ∷ []) false false old new =
+    subst (λ (x : List ℕ). Leads (list_arcs n place x (import_list frame globals q args us) after) (ensures_needed frame globals q args us ∷ []) false false old new) s listed in
+    subst
+    (λ (x : List ℕ). Leads (list_arcs n place (import_written q.modifies x) (import_list frame globals q args x) after) (import_needed frame globals (Some q) args x) false false old new)
+    u wrote
