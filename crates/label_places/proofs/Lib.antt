@@ -1,0 +1,3 @@
+pub mod LabelNumbers
+pub mod LastLabels
+pub mod LabelSteps

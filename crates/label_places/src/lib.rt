@@ -1,0 +1,10 @@
+//! Where the labels of a procedure lead.
+#![tactic(auto)]
+
+mod ends;
+mod labels;
+#[cfg(test)]
+mod tests;
+
+pub use ends::before_last_labels;
+pub use labels::labels_of;
