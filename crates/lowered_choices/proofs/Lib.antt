@@ -1,0 +1,5 @@
+mod WholeCalls
+mod LastStep
+mod ReadOff
+mod ToldLetters
+pub mod ToldTraces
