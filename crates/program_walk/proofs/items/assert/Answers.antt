@@ -1,0 +1,8 @@
+use Rattle.typed_tree.specs.TypedView as view
+use Rattle.program_walk.proofs.ItemSteps.{assert_led}
+use Rattle.program_walk.proofs.items.assert.Goals as goal
+
+pub returns-clause-item : goal.returns-clause-item
+returns-clause-item c =
+    assert_led c.args.span c.args.number c.args.here.proc c.args.here.place c.args.to c.error_place-wrong.result (view.expression c.args.cond.now) c.in_ok-trouble.trouble.wide c.in_ok-trouble.trouble.big
+    c.layout.result.now c.args.lowering.now c.assertion.new.self c.test.new.lowering c.note.new.self c.in_ok-assertion.ensures c.layout.ensures c.error_place-wrong.ensures c.in_ok-trouble.ensures c.note.ensures

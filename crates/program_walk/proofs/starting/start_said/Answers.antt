@@ -1,0 +1,10 @@
+use Rattle.typed_tree.specs.TypedView as view
+use Rattle.typing_rules.specs.TypedParts.{typed_program}
+use Rattle.place_edges.specs.WalkedParts.{walked}
+use Rattle.program_walk.proofs.StartSteps.{said_one}
+use Rattle.program_walk.proofs.starting.start_said.Goals as goal
+
+pub returns-clause-starts : goal.returns-clause-starts
+returns-clause-starts c = λ rest.
+    said_one (typed_program c.args.lowering.now.parts) c.args.number (view.invariant c.in-Some.condition.now) _ rest (walked c.args.lowering.now) (walked c.start_condition.new.lowering)
+    c.in-Some.ensures c.in_ok-start_condition.ensures.starts

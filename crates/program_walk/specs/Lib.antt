@@ -1,0 +1,4 @@
+pub mod Bounds
+pub mod Walks
+pub mod Calls
+pub mod Conditions
