@@ -1,0 +1,3 @@
+pub mod SiteCounts
+pub mod PlaceOwners
+pub mod BodyEnds

@@ -1,0 +1,7 @@
+use Rattle.std.proofs.Common.{◌≡◌, ◌++◌}
+use Rattle.typing_rules.specs.TypedParts.{typed_program}
+use Rattle.icfg_lower.specs.Owners.{site_owners_from}
+use Rattle.icfg_lower.proofs.building.add_all_sites.Given as goal
+
+abbrev pub invariant-loop-proc : goal.invariant-loop-proc
+invariant-loop-proc l = l.owners.items ++ site_owners_from (typed_program l.layout) l.proc ≡ l.fn.owners.items ++ site_owners_from (typed_program l.layout) 0

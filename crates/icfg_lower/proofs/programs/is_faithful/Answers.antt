@@ -1,0 +1,5 @@
+use Rattle.typing_rules.specs.TypedParts.{typed_program}
+use Rattle.icfg_lower.proofs.programs.is_faithful.Goals as goal
+
+pub returns : goal.returns
+returns c = c.lowering_is_faithful.ensures (typed_program c.args.program.now) c.globals-globals.ensures.valid

@@ -1,0 +1,3 @@
+pub mod Bodies
+pub mod Owners
+pub mod Built

@@ -1,0 +1,238 @@
+//! The graph of what has been lowered.
+
+ghost use Rattle.std.specs.Prelude.{◌≡◌, ◌+◌, ◌<◌, ◌++◌, map, length, replicate, IfOk, OnOk};
+ghost use Rattle.std.specs.Option.{option_map};
+ghost use Rattle.typed_tree.specs.TypedView as view;
+ghost use Rattle.typing_rules.specs.TypedParts.{typed_program};
+ghost use Rattle.letter_acts.specs.Invariant.{site_places};
+ghost use Rattle.letter_table.specs.Letters as letters;
+ghost use Rattle.lowered_graph.specs.Arcs.{program_arcs};
+ghost use Rattle.lowered_graph.specs.Lowered.{counted_procs, entry_of, exit_of, place_owners, program_sites, lowered};
+ghost use Rattle.icfg_lower.specs.Bodies.{body_marks};
+ghost use Rattle.icfg_lower.specs.Owners.{owners_from, site_owners_from};
+ghost use Rattle.icfg_lower.specs.Built.{plain_lettered};
+
+use boogie_tree::Text;
+use letter_acts::{Icfg, Site, icfg};
+use letter_table::Lettered;
+use nwa_base::{Letter, Nwa, NwaFault, empty};
+use program_layout::{Layout, Marks};
+use std::alloc::{AllocError, Global};
+use typed_tree::TProc;
+
+/// Makes the places where assertions fail final.
+fn set_finals(nwa: &mut Nwa, sites: &[Site]) -> Result<(), NwaFault>
+    ensures { OnOk result (nwa.new ≡ record nwa.old { finals = nwa.old.finals ++ site_places sites.now }) }
+{
+    for site in sites {
+        nwa.set_final(site.place)?;
+    }
+    Ok(())
+}
+
+/// Adds edges by inside letters.
+fn add_insides(nwa: &mut Nwa, edges: &[(u32, Letter, u32)]) -> Result<(), NwaFault>
+    ensures { OnOk result (nwa.new ≡ record nwa.old { insides = nwa.old.insides ++ edges.now }) }
+{
+    for (from, letter, to) in edges {
+        nwa.add_inside(*from, *letter, *to)?;
+    }
+    Ok(())
+}
+
+/// Adds edges by call letters.
+fn add_calls(nwa: &mut Nwa, edges: &[(u32, Letter, u32)]) -> Result<(), NwaFault>
+    ensures { OnOk result (nwa.new ≡ record nwa.old { calls = nwa.old.calls ++ edges.now }) }
+{
+    for (from, letter, to) in edges {
+        nwa.add_call(*from, *letter, *to)?;
+    }
+    Ok(())
+}
+
+/// Adds edges by returns.
+fn add_backs(nwa: &mut Nwa, edges: &[(u32, u32, Letter, u32)]) -> Result<(), NwaFault>
+    ensures { OnOk result (nwa.new ≡ record nwa.old { backs = nwa.old.backs ++ edges.now }) }
+{
+    for (from, before, letter, to) in edges {
+        nwa.add_back(*from, *before, *letter, *to)?;
+    }
+    Ok(())
+}
+
+/// The automaton with these edges, which starts at place 0 and whose final states are the places where assertions fail.
+fn automaton(
+    alloc: Global,
+    states: u32,
+    sites: &[Site],
+    lettered: &Lettered,
+) -> Result<Nwa, NwaFault>
+    ensures { IfOk result (λ m. m ≡ record { states = states; start = 0; finals = site_places sites.now; insides = lettered.now.insides.items; calls = lettered.now.calls.items; backs = lettered.now.backs.items }) }
+{
+    let mut nwa = empty(alloc, states, 0)?;
+    set_finals(&mut nwa, sites)?;
+    add_insides(&mut nwa, &lettered.insides)?;
+    add_calls(&mut nwa, &lettered.calls)?;
+    add_backs(&mut nwa, &lettered.backs)?;
+    Ok(nwa)
+}
+
+/// How many procedures there are.
+fn procedures(layout: &Layout<'_>) -> u32
+    ensures { result ≡ length (typed_program layout.now).procs }
+{
+    layout.program().procs().len() as u32
+}
+
+/// Adds a procedure so many times.
+fn add_owner(owners: &mut Vec<u32>, proc: u32, count: u32) -> Result<(), AllocError>
+    ensures { OnOk result (owners.new.items ≡ owners.old.items ++ replicate count proc) }
+{
+    for _place in 0..count {
+        owners.push(proc)?;
+    }
+    Ok(())
+}
+
+/// Adds a procedure once for each of its places.
+fn add_places(layout: &Layout<'_>, proc: u32, owners: &mut Vec<u32>) -> Result<(), AllocError>
+    requires { proc < length (typed_program layout.now).procs }
+    ensures { OnOk result (owners.new.items ++ owners_from (typed_program layout.now) (proc + 1) ≡ owners.old.items ++ owners_from (typed_program layout.now) proc) }
+{
+    let Some(marks) = layout.marks(proc) else {
+        return Ok(());
+    };
+    add_owner(owners, proc, marks.end - marks.entry)
+}
+
+/// Adds a procedure once for each of its assertions.
+fn add_sites(layout: &Layout<'_>, proc: u32, owners: &mut Vec<u32>) -> Result<(), AllocError>
+    requires { proc < length (typed_program layout.now).procs }
+    ensures { OnOk result (owners.new.items ++ site_owners_from (typed_program layout.now) (proc + 1) ≡ owners.old.items ++ site_owners_from (typed_program layout.now) proc) }
+{
+    let Some(marks) = layout.marks(proc) else {
+        return Ok(());
+    };
+    add_owner(owners, proc, marks.last - marks.first)
+}
+
+/// Adds the procedures in order, each once for each of its places.
+fn add_all_places(layout: &Layout<'_>, owners: &mut Vec<u32>) -> Result<(), AllocError>
+    ensures { OnOk result (owners.new.items ≡ owners.old.items ++ owners_from (typed_program layout.now) 0) }
+{
+    for proc in 0..procedures(layout) {
+        add_places(layout, proc, owners)?;
+    }
+    Ok(())
+}
+
+/// Adds the procedures in order, each once for each of its assertions.
+fn add_all_sites(layout: &Layout<'_>, owners: &mut Vec<u32>) -> Result<(), AllocError>
+    ensures { OnOk result (owners.new.items ≡ owners.old.items ++ site_owners_from (typed_program layout.now) 0) }
+{
+    for proc in 0..procedures(layout) {
+        add_sites(layout, proc, owners)?;
+    }
+    Ok(())
+}
+
+/// The procedure of each place: of the start and its conditions the entry procedure, then of the places of each procedure, then of
+/// the places where its assertions fail.
+fn owners_of(alloc: Global, layout: &Layout<'_>) -> Result<Vec<u32>, AllocError>
+    ensures { IfOk result (λ os. os.items ≡ place_owners (typed_program layout.now)) }
+{
+    let mut owners = Vec::new(alloc);
+    let entry = layout.program().entry();
+    add_owner(&mut owners, entry, 1 + layout.start_conditions())?;
+    add_all_places(layout, &mut owners)?;
+    add_all_sites(layout, &mut owners)?;
+    Ok(owners)
+}
+
+/// The numbers of a procedure, where it has a body.
+fn body_marks(layout: &Layout<'_>, proc: u32) -> Option<Marks>
+    ensures { result ≡ body_marks (typed_program layout.now) proc }
+{
+    let listed = layout.program().procs().get(proc as usize)?;
+    match &listed.body {
+        Some(_) => layout.marks(proc),
+        None => None,
+    }
+}
+
+/// Where the body of a procedure begins, if it has one.
+fn entry_of(layout: &Layout<'_>, proc: u32) -> Option<u32>
+    ensures { result ≡ option_map (λ m. m.entry) (body_marks (typed_program layout.now) proc) }
+{
+    let marks = body_marks(layout, proc)?;
+    Some(marks.entry)
+}
+
+/// Where the body of a procedure returns, if it has one.
+fn exit_of(layout: &Layout<'_>, proc: u32) -> Option<u32>
+    ensures { result ≡ option_map (λ m. m.returns) (body_marks (typed_program layout.now) proc) }
+{
+    let marks = body_marks(layout, proc)?;
+    Some(marks.returns)
+}
+
+/// Where the body of each procedure begins.
+fn entries_of(alloc: Global, layout: &Layout<'_>) -> Result<Vec<Option<u32>>, AllocError>
+    ensures { IfOk result (λ es. es.items ≡ map (entry_of (typed_program layout.now)) (counted_procs 0 (typed_program layout.now).procs)) }
+{
+    let mut found = Vec::new(alloc);
+    for proc in 0..procedures(layout) {
+        found.push(entry_of(layout, proc))?;
+    }
+    Ok(found)
+}
+
+/// Where the body of each procedure returns.
+fn exits_of(alloc: Global, layout: &Layout<'_>) -> Result<Vec<Option<u32>>, AllocError>
+    ensures { IfOk result (λ es. es.items ≡ map (exit_of (typed_program layout.now)) (counted_procs 0 (typed_program layout.now).procs)) }
+{
+    let mut found = Vec::new(alloc);
+    for proc in 0..procedures(layout) {
+        found.push(exit_of(layout, proc))?;
+    }
+    Ok(found)
+}
+
+/// The names of the procedures.
+fn names_of(alloc: Global, procs: &[TProc]) -> Result<Vec<Text>, AllocError>
+    ensures { IfOk result (λ ns. ns.items ≡ map (λ q. q.name) (map view.procedure procs.now)) }
+{
+    let mut found = Vec::with_capacity(alloc, procs.len())?;
+    for listed in procs {
+        found.push(listed.name.copy()?)?;
+    }
+    Ok(found)
+}
+
+/// The graph of a program whose edges and assertions these are. That of a typed program keeps the invariant of graphs wherever the
+/// numbers of the columns of its acts have 32 bits (`lowered_graph::laws::lowered_programs_are_graphs`). So it is refused only where
+/// such a number passes 32 bits, and this is answered as want of memory.
+pub(crate) fn graph(
+    alloc: Global,
+    layout: Layout<'_>,
+    sites: Vec<Site>,
+    lettered: Lettered,
+) -> Result<Icfg, AllocError>
+    requires sites { sites.items ≡ map (λ s. s.1) (program_sites (typed_program layout)) }
+    requires lettered { plain_lettered lettered ≡ letters.lettered (program_arcs (typed_program layout)) }
+    ensures { IfOk result (λ i. i ≡ lowered (typed_program layout.entry)) }
+{
+    let Ok(nwa) = automaton(alloc, layout.places(), &sites, &lettered) else {
+        return Err(AllocError);
+    };
+    let names = names_of(alloc, layout.program().procs())?;
+    let owners = owners_of(alloc, &layout)?;
+    let entries = entries_of(alloc, &layout)?;
+    let exits = exits_of(alloc, &layout)?;
+    let frames = layout.into_frames();
+    let acts = lettered.acts;
+    match icfg(nwa, acts, frames, names, owners, entries, exits, sites) {
+        Some(found) => Ok(found),
+        None => Err(AllocError),
+    }
+}
