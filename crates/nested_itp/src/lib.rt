@@ -1,5 +1,5 @@
-//! Nested interpolants: from a refutation of the rows of a word a predicate for each of its positions, and a proved triple for
-//! each of its letters.
+//! Nested interpolants: the prefix predicates of a word under a refutation of its rows, with a proved triple for each letter.
+//! Here are their definition, the laws of it in [`laws`], and the sums and joins from which they are computed.
 #![tactic(auto)]
 
 mod faults;
