@@ -1,21 +1,20 @@
 -- The parts of a call, one after another.
-use Rattle.std.proofs.Common.{◌≡◌, ℕ, zero, suc, ◌+◌, ◌<◌, ◌≤◌, ◌^◌, Bool, true, false, ◌||◌, List, [], ◌∷◌, ◌++◌, map, length, drop, get_or, length-append, Option, None, Some, refl, sym, ap, ◌∙◌, subst, arith}
+use Rattle.std.proofs.Common.{◌≡◌, ℕ, zero, suc, ◌+◌, ◌<◌, ◌≤◌, ◌^◌, Bool, false, ◌||◌, List, [], ◌∷◌, ◌++◌, map, length, drop, get_or, length-append, Option, None, Some, refl, sym, ap, ◌∙◌, subst, arith}
 use Rattle.std.proofs.lemmas.List.{drop_more}
 use Rattle.std.specs.Prelude.{Result, Ok, Err, IfOk, OnOk, slice_get}
 use Rattle.boogie_tree.specs.declared.span.Span.{Span}
 use Rattle.boogie_tree.specs.declared.tree.Column.{Column}
 use Rattle.typed_tree.specs.TypedTree.{TypedExpression, TypedInvariant, TypedSpecification, Call, TypedBlock, TypedProcedure, TypedProgram}
-use Rattle.typing_rules.specs.Counts.{checked_at_call, plain_requires}
+use Rattle.typing_rules.specs.Counts.{checked_at_call}
 use Rattle.typing_rules.specs.TypedParts.{TypedParts, typed_program}
-use Rattle.boogie_points.specs.Points.{Todo, settled, past}
 use Rattle.boogie_points.specs.Actions.{plain_conditions, first_assertion, first_place}
 use Rattle.boogie_points.proofs.ConditionLaws.{plain_requires_counted, plain_step}
-use Rattle.boogie_places.specs.Places.{Place, at_statement, located, parts_from}
+use Rattle.boogie_places.specs.Places.{at_statement, located, parts_from}
 use Rattle.lowered_steps.specs.ProgramFrames.{frame_at}
 use Rattle.lowered_steps.specs.Edges.{call_list, numbers_in}
-use Rattle.lowered_graph.specs.Arcs.{place_number, error_place}
+use Rattle.lowered_graph.specs.Arcs.{error_place}
 use Rattle.lowered_graph.specs.Items.{import_needed, call_needed}
-use Rattle.lowered_parts.specs.Parts.{Walked, Leads, Adds}
+use Rattle.lowered_parts.specs.Parts.{Walked, Leads}
 use Rattle.lowered_parts.specs.Lists.{demand_arcs, demand_needed, entered_arcs}
 use Rattle.lowered_parts.specs.Making.{Makes, asserted, noted}
 use Rattle.lowered_parts.specs.Items.{site_of, PlacesMade}
@@ -24,10 +23,8 @@ use Rattle.lowered_parts.proofs.ActionArcs.{unseen_list}
 use Rattle.lowered_parts.proofs.Calls as calls
 use Rattle.lowered_parts.proofs.Bodies as bodies
 use Rattle.program_layout.specs.Layouts.{marks_of, marks_with}
-use Rattle.place_edges.specs.Faults.{fault_of}
-use Rattle.lowered_graph.specs.Items.{earlier}
 use Rattle.place_edges.specs.WalkedParts.{WalkedParts, walked}
-use Rattle.program_walk.specs.Bounds.{IsAssertion, HasNumbers}
+use Rattle.program_walk.specs.Bounds.{HasNumbers}
 use Rattle.program_walk.specs.Walks.{PlainlyAdds}
 use Rattle.program_walk.specs.Calls.{AreLeft, PartsMade, CallMade}
 

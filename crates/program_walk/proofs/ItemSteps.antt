@@ -1,5 +1,5 @@
 -- Items of one place, from the edges and the fault that is noted.
-use Rattle.std.proofs.Common.{◌≡◌, Bool, List, [], ◌∷◌, refl, sym, ap, ◌∙◌, subst}
+use Rattle.std.proofs.Common.{◌≡◌, Bool, List, [], ◌∷◌, sym, ap, ◌∙◌, subst}
 use Rattle.std.specs.Prelude.{IsSome, slice_get, ℕ}
 use Rattle.boogie_tree.specs.declared.span.Span.{Span}
 use Rattle.typed_tree.specs.TypedTree.{TypedExpression, TypedProgram}

@@ -1,27 +1,26 @@
 -- Steps of the loops over the variables of a havoc, the invariants of a loop, and labels.
-use Rattle.std.proofs.Common.{◌≡◌, ◌≢◌, ℕ, zero, suc, ◌+◌, ◌<◌, ◌≤◌, ◌^◌, Bool, true, false, not, List, [], ◌∷◌, ◌++◌, map, length, take, get_or, Option, None, Some, refl, sym, ap, ◌∙◌, subst, arith}
+use Rattle.std.proofs.Common.{◌≡◌, ℕ, zero, suc, ◌+◌, ◌<◌, ◌≤◌, ◌^◌, Bool, true, false, not, List, [], ◌∷◌, ◌++◌, map, length, take, get_or, None, Some, refl, sym, ap, ◌∙◌, subst, arith}
 use Rattle.std.specs.Prelude.{Result, Ok, Err, OnOk, slice_get, nat_lt, nat_eq, if◌then◌else◌}
 use Rattle.std.specs.List.{AllByRecursion}
-use Rattle.std.proofs.lemmas.List.{map-append, take_more, length-map}
+use Rattle.std.proofs.lemmas.List.{map-append, take_more}
 use Rattle.std.proofs.lemmas.Option.{slice_get_within, slice_get-get_or, slice_get-map}
 use Rattle.std.proofs.lemmas.Bool.Decides.{nat_tests}
 use Rattle.boogie_tree.specs.declared.span.Span.{Span}
 use Rattle.boogie_tree.specs.declared.tree.Column.{Column}
-use Rattle.typed_tree.specs.TypedTree.{TypedGuard, TypedInvariant, TypedStatement, Havoc, While, Break, Goto, Return, TypedBlock, Then, TypedProcedure, TypedProgram}
-use Rattle.typing_rules.specs.Counts.{one_if, one_if_plain, plain_invariants}
+use Rattle.typed_tree.specs.TypedTree.{TypedGuard, TypedInvariant, Havoc, While, Break, Goto, Return, TypedBlock, Then, TypedProcedure, TypedProgram}
+use Rattle.typing_rules.specs.Counts.{one_if, plain_invariants}
 use Rattle.std.specs.Option.{option_map}
-use Rattle.boogie_points.specs.Points.{Todo, Point, settled, past, found_block}
+use Rattle.boogie_points.specs.Points.{Todo, settled, past, found_block}
 use Rattle.boogie_points.specs.Actions.{way_to, first_assertion, first_place, free_conditions}
 use Rattle.boogie_points.proofs.ConditionLaws.{taken_less}
 use Rattle.boogie_places.specs.Places.{at_statement, parts_from, located}
 use Rattle.lowered_steps.specs.ProgramFrames.{frame_at, number_in}
 use Rattle.lowered_graph.specs.Arcs.{place_number}
-use Rattle.lowered_graph.specs.Lowered.{program_sites}
 use Rattle.lowered_parts.specs.Parts.{Walked, Leads, Adds}
 use Rattle.lowered_parts.specs.Lists.{skip_arcs}
 use Rattle.lowered_parts.specs.Making.{MakesItem}
 use Rattle.lowered_parts.specs.Items.{checked_sites, checked_arcs, checked_needed, ways_arcs}
-use Rattle.lowered_parts.proofs.Joining.{both_lead, nothing, no_more}
+use Rattle.lowered_parts.proofs.Joining.{both_lead, no_more}
 use Rattle.lowered_parts.proofs.Numbers.{part_added, no_parts}
 use Rattle.lowered_parts.proofs.Statements.{havoc_added, invariant_added, break_added, return_added, goto_added, no_goto_added}
 use Rattle.program_layout.specs.Layouts.{StandsIn}

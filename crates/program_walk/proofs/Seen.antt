@@ -1,5 +1,5 @@
 -- Statements of the code as the tree has them.
-use Rattle.std.proofs.Common.{◌≡◌, ℕ, List, map, rules}
+use Rattle.std.proofs.Common.{◌≡◌, ℕ, map, rules}
 use Rattle.std.specs.declared.alloc.Global.{Global}
 use Rattle.std.specs.declared.vec.Vec.{Vec}
 use Rattle.boogie_tree.specs.declared.span.Span.{Span}

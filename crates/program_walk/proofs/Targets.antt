@@ -1,16 +1,15 @@
 -- The targets of a typed body stand in its frame.
-use Rattle.std.proofs.Common.{◌≡◌, ◌⊎◌, ℕ, zero, suc, ◌+◌, ◌≤◌, Bool, true, false, not, ◌&&◌, List, [], ◌∷◌, ◌++◌, length, Option, None, Some, IsSome, slice_get, inl, inr, refl, sym, ap, subst, ◌∙◌, arith, IsTrue, Contains, if◌then◌else◌}
+use Rattle.std.proofs.Common.{◌≡◌, ℕ, zero, suc, ◌+◌, ◌≤◌, Bool, true, false, not, ◌&&◌, List, [], ◌∷◌, ◌++◌, length, Option, Some, IsSome, slice_get, inl, inr, refl, sym, ap, subst, ◌∙◌, arith, IsTrue, Contains, if◌then◌else◌}
 use Rattle.std.specs.Prelude.{nat_eq}
 use Rattle.std.specs.Option.{is_some}
 use Rattle.std.specs.List.{AllByRecursion, list_all}
 use Rattle.std.proofs.lemmas.Bool.Decides.{nat_tests}
 use Rattle.std.proofs.lemmas.Option.{slice_get_within, get_or_from_slice_get}
-use Rattle.boogie_tree.specs.declared.span.Span.{Span}
 use Rattle.boogie_tree.specs.declared.tree.Column.{Column}
 use Rattle.boogie_tree.specs.declared.tree.Column.TheVariants as columns
 use Rattle.boogie_tree.specs.declared.tree.VarInfo.{VarInfo}
 use Rattle.typed_tree.specs.TypedTree.{TypedExpression, TypedStatement, Assert, Assume, Havoc, Assign, Call, If, While, Break, Goto, Return, Label, TypedBlock, Empty, Then, TypedProcedure, TypedProgram}
-use Rattle.typing_rules.specs.Rules.{Context, within, looped, context_of, is_writable, is_statement, meets, is_call, are_targets, values_agree, all_differ, same_column}
+use Rattle.typing_rules.specs.Rules.{Context, within, looped, context_of, is_writable, meets, is_call, are_targets, values_agree, all_differ, same_column}
 use Rattle.typed_tree.specs.AffineForm.{is_empty}
 use Rattle.typed_tree.specs.Scope.{variable_at}
 use Rattle.typed_tree.specs.KeptRules.{is_right}

@@ -1,17 +1,17 @@
 -- The statements of a block, one after another, and those inside them.
-use Rattle.std.proofs.Common.{◌≡◌, ℕ, zero, suc, ◌+◌, ◌<◌, ◌≤◌, ◌^◌, Bool, true, false, not, ◌&&◌, List, [], ◌∷◌, ◌++◌, map, length, drop, reverse, get_or, Option, None, Some, refl, sym, ap, ◌∙◌, subst, arith}
-use Rattle.std.specs.Prelude.{slice_get, unwrap_or, nat_lt, nat_le, nat_eq, if◌then◌else◌}
-use Rattle.std.specs.List.{AllByRecursion, list_all}
-use Rattle.std.proofs.lemmas.List.{drop_more, drop_all, reverse-append, length-map}
+use Rattle.std.proofs.Common.{◌≡◌, ℕ, zero, suc, ◌+◌, ◌<◌, ◌≤◌, ◌^◌, Bool, true, false, List, [], ◌∷◌, ◌++◌, map, length, drop, get_or, Some, refl, sym, ap, ◌∙◌, subst, arith}
+use Rattle.std.specs.Prelude.{slice_get, unwrap_or, nat_lt, nat_le, if◌then◌else◌}
+use Rattle.std.specs.List.{list_all}
+use Rattle.std.proofs.lemmas.List.{drop_more, drop_all, reverse-append}
 use Rattle.std.proofs.lemmas.Bool.Decides.{nat_tests}
 use Rattle.boogie_tree.specs.declared.span.Span.{Span}
 use Rattle.boogie_tree.specs.declared.tree.Column.{Column}
 use Rattle.typed_tree.specs.declared.types.TStmt.{TStmt}
 use Rattle.typed_tree.specs.TypedView as view
-use Rattle.typed_tree.specs.TypedTree.{TypedExpression, TypedGuard, TypedInvariant, TypedStatement, Assert, Assume, Havoc, Assign, Call, If, While, Break, Goto, Return, Label, TypedBlock, Empty, Then, TypedProcedure, TypedProgram}
+use Rattle.typed_tree.specs.TypedTree.{TypedExpression, TypedGuard, TypedInvariant, TypedStatement, Assert, Assume, Havoc, Assign, Call, If, While, Break, Goto, Return, Label, TypedBlock, Then, TypedProcedure, TypedProgram}
 use Rattle.typing_rules.specs.Counts.{assertions, points, block_assertions, block_points, plain_invariants}
 use Rattle.letter_acts.specs.Frames.{Columns}
-use Rattle.boogie_points.specs.Points.{Todo, Point, settled, past, broken}
+use Rattle.boogie_points.specs.Points.{Todo, settled, past}
 use Rattle.boogie_points.specs.Stacks.{is_label}
 use Rattle.boogie_places.specs.Places.{at_statement, parts_from, located, points_in, points_of}
 use Rattle.cond_jumps.specs.Lists.{path_list, assign_list}
@@ -25,8 +25,8 @@ use Rattle.lowered_parts.specs.Making.{MakesItem}
 use Rattle.lowered_parts.specs.Items.{checked_sites, checked_arcs, checked_needed, only_labels}
 use Rattle.lowered_parts.proofs.Joining.{nothing}
 use Rattle.lowered_parts.proofs.Numbers.{both_added, part_added, number_here, number_ended, number_left}
-use Rattle.lowered_parts.proofs.Statements.{assert_added, assume_added, assign_added, if_added, if_joined, loop_added, loop_joined}
-use Rattle.program_walk.specs.Bounds.{HasNumbers, TargetsStand, AllTargetsStand, StatementFits, BlockFits}
+use Rattle.lowered_parts.proofs.Statements.{assert_added, assume_added, assign_added, if_added, if_joined, loop_added}
+use Rattle.program_walk.specs.Bounds.{StatementFits, BlockFits}
 use Rattle.program_walk.specs.Walks.{ForkAdds, HeadAdds, IsElse, IsInside, behind_loop, IsBody, AreLoops, InvariantsAdd, PlainlyAdds, StatementAdds, BlockAdds}
 
 -- ---- labels at the end of a block

@@ -1,14 +1,13 @@
 -- Bodies and whole programs, from their parts.
-use Rattle.std.proofs.Common.{◌≡◌, ℕ, zero, suc, ◌+◌, ◌<◌, ◌≤◌, ◌^◌, Bool, true, false, List, [], ◌∷◌, ◌++◌, map, length, take, get_or, Option, None, Some, refl, sym, ap, ◌∙◌, subst, arith, IsTrue}
-use Rattle.std.specs.Prelude.{Result, Ok, Err, OnOk, slice_get, unwrap_or, reverse}
-use Rattle.std.proofs.lemmas.List.{take_more}
+use Rattle.std.proofs.Common.{◌≡◌, ℕ, zero, suc, ◌+◌, ◌<◌, ◌≤◌, ◌^◌, false, List, [], ◌∷◌, ◌++◌, length, take, Some, refl, sym, ap, ◌∙◌, subst, arith, IsTrue}
+use Rattle.std.specs.Prelude.{Result, Ok, Err, OnOk, slice_get, unwrap_or}
 use Rattle.typed_tree.specs.TypedTree.{TypedSpecification, TypedBlock, TypedProcedure, TypedProgram}
 use Rattle.typing_rules.specs.Counts.{block_assertions, block_points, body_assertions, body_points, plain_invariants, plain_ensures, all_ensures, free_requires}
 use Rattle.typing_rules.specs.ValidProgram.{is_valid}
-use Rattle.boogie_points.specs.Points.{Todo, at_exit, settled, broken}
+use Rattle.boogie_points.specs.Points.{at_exit}
 use Rattle.boogie_points.specs.Actions.{assertions_before, points_before, first_assertion, first_place, free_conditions, ensured_conditions}
 use Rattle.boogie_points.proofs.ConditionLaws.{free_requires_counted, plain_ensures_counted}
-use Rattle.boogie_places.specs.Places.{Place, located, points_of, points_with, start_points, places_from}
+use Rattle.boogie_places.specs.Places.{located, points_of, points_with, places_from}
 use Rattle.letter_table.specs.Letters.{with_arc, no_letters}
 use Rattle.lowered_steps.specs.ProgramFrames.{frame_at}
 use Rattle.lowered_graph.specs.Arcs.{place_number, first_error, start_arc}

@@ -1,5 +1,5 @@
 -- What the walk asks of a statement: its numbers are those of the program, and its targets stand in the frame.
-use Rattle.std.specs.Prelude.{◌≡◌, ℕ, ◌+◌, ◌^◌, ◌<◌, ◌≤◌, false, Bool, List, length, IsSome, slice_get}
+use Rattle.std.specs.Prelude.{◌≡◌, ℕ, ◌+◌, ◌^◌, ◌<◌, ◌≤◌, false, Bool, length, IsSome, slice_get}
 use Rattle.std.specs.List.{AllByRecursion}
 use Rattle.typed_tree.specs.TypedTree.{TypedStatement, Havoc, Assign, Call, If, While, TypedBlock, Empty, Then, TypedProcedure, TypedProgram}
 use Rattle.typing_rules.specs.Counts.{assertions, points, block_assertions, block_points, plain_invariants}

@@ -1,8 +1,8 @@
-use Rattle.std.proofs.Common.{◌≡◌, ◌∙◌, ◌+◌, ◌<◌, ◌^◌, ℕ, List, Some, refl, sym, ap, subst, map, length, arith}
+use Rattle.std.proofs.Common.{◌≡◌, ◌∙◌, ◌+◌, ◌<◌, ◌^◌, List, Some, refl, sym, ap, subst, map, length, arith}
 use Rattle.std.specs.Prelude.{slice_get}
 use Rattle.std.specs.List.{AllByRecursion}
 use Rattle.typed_tree.specs.TypedView as view
-use Rattle.typed_tree.specs.TypedTree.{TypedInvariant, TypedSpecification, TypedProcedure, TypedProgram}
+use Rattle.typed_tree.specs.TypedTree.{TypedSpecification, TypedProcedure, TypedProgram}
 use Rattle.typing_rules.specs.TypedParts.{TypedParts, typed_program}
 use Rattle.boogie_points.specs.Actions.{plain_conditions}
 use Rattle.lowered_steps.specs.ProgramFrames.{frame_at}

@@ -1,4 +1,4 @@
-use Rattle.std.proofs.Common.{◌∙◌, ap, map}
+use Rattle.std.proofs.Common.{map}
 use Rattle.typed_tree.specs.TypedView as view
 use Rattle.typing_rules.specs.TypedParts.{typed_program}
 use Rattle.place_edges.specs.WalkedParts.{walked}

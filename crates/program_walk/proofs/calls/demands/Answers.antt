@@ -1,4 +1,4 @@
-use Rattle.std.proofs.Common.{◌≡◌, ◌∙◌, ◌+◌, ◌∷◌, [], ◌++◌, List, refl, sym, ap, subst, map, drop, length}
+use Rattle.std.proofs.Common.{◌∙◌, ◌+◌, ◌∷◌, [], ◌++◌, List, refl, sym, subst, map, drop}
 use Rattle.typed_tree.specs.TypedView as view
 use Rattle.typed_tree.specs.TypedTree.{TypedInvariant, TypedProgram}
 use Rattle.typing_rules.specs.TypedParts.{typed_program}

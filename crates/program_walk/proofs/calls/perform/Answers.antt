@@ -1,4 +1,4 @@
-use Rattle.std.proofs.Common.{ap, map, Some}
+use Rattle.std.proofs.Common.{ap, map}
 use Rattle.std.specs.Option.{option_map}
 use Rattle.typed_tree.specs.TypedView as view
 use Rattle.typing_rules.specs.TypedParts.{typed_program}

@@ -1,4 +1,4 @@
-use Rattle.std.proofs.Common.{◌≡◌, ◌∙◌, ℕ, List, [], Some, refl, sym, ap, subst, map, IsTrue}
+use Rattle.std.proofs.Common.{◌≡◌, ◌∙◌, List, Some, ap, subst, map, IsTrue}
 use Rattle.std.specs.Prelude.{slice_get}
 use Rattle.typed_tree.specs.TypedView as view
 use Rattle.typed_tree.specs.TypedTree.{TypedSpecification, TypedBlock, TypedProcedure, TypedProgram}

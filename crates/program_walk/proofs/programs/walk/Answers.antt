@@ -1,5 +1,5 @@
 use Rattle.std.proofs.Common.{◌≡◌, ◌∙◌, ap}
-use Rattle.typing_rules.specs.TypedParts.{TypedParts, typed_program}
+use Rattle.typing_rules.specs.TypedParts.{typed_program}
 use Rattle.place_edges.specs.WalkedParts.{walked}
 use Rattle.program_walk.proofs.WholeSteps.{whole_program}
 use Rattle.program_walk.proofs.programs.walk.Goals as goal

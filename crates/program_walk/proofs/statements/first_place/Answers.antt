@@ -1,4 +1,3 @@
-use Rattle.typed_tree.specs.TypedView as view
 use Rattle.program_walk.proofs.WalkSteps.{all_labels, some_left}
 use Rattle.program_walk.proofs.statements.first_place.Goals as goal
 

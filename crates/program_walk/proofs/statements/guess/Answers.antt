@@ -1,4 +1,4 @@
-use Rattle.std.proofs.Common.{◌≡◌, sym, subst, ap, ◌∙◌}
+use Rattle.std.proofs.Common.{sym, subst}
 use Rattle.typing_rules.specs.TypedParts.{TypedParts, typed_program}
 use Rattle.lowered_steps.specs.ProgramFrames.{frame_at}
 use Rattle.program_layout.specs.Layouts.{StandsIn}

@@ -1,4 +1,4 @@
-use Rattle.std.proofs.Common.{◌∙◌, refl}
+use Rattle.std.proofs.Common.{◌∙◌}
 use Rattle.std.proofs.lemmas.Option.{slice_get-get_or}
 use Rattle.boogie_tree.specs.declared.tree.Column.TheVariants.{Global}
 use Rattle.typing_rules.specs.TypedParts.{typed_program}

@@ -1,7 +1,7 @@
 use Rattle.std.proofs.Common.{◌∙◌, refl, sym}
 use Rattle.typing_rules.specs.TypedParts.{typed_program}
 use Rattle.place_edges.specs.WalkedParts.{walked}
-use Rattle.program_walk.proofs.LoopSteps.{on_ok, goes_to, goes_out}
+use Rattle.program_walk.proofs.LoopSteps.{on_ok, goes_to}
 use Rattle.program_walk.proofs.statements.jump.Goals as goal
 
 pub returns-clause-added : goal.returns-clause-added

@@ -1,4 +1,4 @@
-use Rattle.std.proofs.Common.{IsSome, slice_get, arith, ◌≡◌, ◌∙◌, ◌+◌, ℕ, List, refl, sym, ap, subst, map, drop, length}
+use Rattle.std.proofs.Common.{◌≡◌, ◌∙◌, ◌+◌, ℕ, List, refl, sym, ap, subst, map, drop, length}
 use Rattle.std.proofs.lemmas.List.{length-map}
 use Rattle.boogie_tree.specs.declared.tree.Column.{Column}
 use Rattle.typed_tree.specs.declared.types.TExpr.{TExpr}
@@ -6,13 +6,12 @@ use Rattle.typed_tree.specs.declared.types.TInv.{TInv}
 use Rattle.typed_tree.specs.declared.types.TStmt.{TStmt}
 use Rattle.typed_tree.specs.TypedView as view
 use Rattle.typed_tree.specs.TypedTree.{TypedStatement, TypedBlock, Then, TypedProcedure, TypedProgram, Havoc, Assign, Call, If, While, Goto}
-use Rattle.typing_rules.specs.Counts.{assertions, points, block_assertions, block_points}
+use Rattle.typing_rules.specs.Counts.{assertions, points}
 use Rattle.typing_rules.specs.TypedParts.{TypedParts, typed_program}
 use Rattle.lowered_steps.specs.ProgramFrames.{frame_at}
 use Rattle.place_edges.specs.WalkedParts.{walked}
 use Rattle.program_walk.specs.Bounds.{BlockFits}
 use Rattle.program_walk.specs.Walks.{StatementAdds, BlockAdds}
-use Rattle.program_walk.proofs.ItemSteps.{still_there}
 use Rattle.program_walk.proofs.LoopSteps.{on_ok}
 use Rattle.program_walk.proofs.Seen.{assert_seen, assume_seen, havoc_seen, assign_seen, call_seen, if_seen, while_seen, goto_seen}
 use Rattle.program_walk.proofs.WalkSteps as step
