@@ -1,5 +1,5 @@
 -- To which procedures the places of a program belong, by how many each has.
-use Rattle.std.proofs.Common.{◌≡◌, ◌∙◌, ℕ, zero, suc, ◌+◌, ◌-◌, ◌≤◌, Bool, false, true, List, [], ◌∷◌, ◌++◌, map, length, replicate, drop, Option, None, Some, slice_get, refl, sym, ap, arith, append_assoc, IsTrue, Result, Ok, Err}
+use Rattle.std.proofs.Common.{◌≡◌, ◌∙◌, ℕ, zero, suc, ◌+◌, ◌-◌, Bool, false, true, List, [], ◌∷◌, ◌++◌, map, length, replicate, drop, Option, None, Some, slice_get, refl, sym, ap, arith, append_assoc, IsTrue, Result, Ok, Err}
 use Rattle.std.specs.Prelude.{OnOk}
 use Rattle.std.specs.Option.{option_map}
 use Rattle.std.proofs.lemmas.Option.{same_Some}
@@ -198,12 +198,6 @@ record IsMarked (t : TypedProgram) (n : ℕ) (m : Marks) : Type 0 where
 marked : (t : TypedProgram) (n : ℕ) (m : Marks) (o : Option TypedProcedure) → slice_get t.procs n ≡ o → option_map (λ q. marks_of t (n, q)) o ≡ Some m → IsMarked t n m
 marked t n m None e h = absurd (cc)
 marked t n m (Some q) e h = record { procedure = q; is = e; marks = sym (same_Some (marks_of t (n, q)) m h) }
-
-pub places_in_order : (t : TypedProgram) (n : ℕ) (m : Marks) → option_map (λ q. marks_of t (n, q)) (slice_get t.procs n) ≡ Some m → m.entry ≤ m.end
-places_in_order t n m h = let k = marked t n m (slice_get t.procs n) refl h in omega (arith, places_marked t n k.procedure m k.marks)
-
-pub assertions_in_order : (t : TypedProgram) (n : ℕ) (m : Marks) → option_map (λ q. marks_of t (n, q)) (slice_get t.procs n) ≡ Some m → m.first ≤ m.last
-assertions_in_order t n m h = let k = marked t n m (slice_get t.procs n) refl h in omega (arith, assertions_marked t n k.procedure m k.marks)
 
 pub places_added : (t : TypedProgram) (n : ℕ) (m : Marks) (old new : List ℕ) → option_map (λ q. marks_of t (n, q)) (slice_get t.procs n) ≡ Some m → new ≡ old ++ replicate (m.end - m.entry) n →
     new ++ owners_from t (n + 1) ≡ old ++ owners_from t n
