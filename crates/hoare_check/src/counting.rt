@@ -151,7 +151,8 @@ pub(crate) fn columns_of(icfg: &Icfg, triple: &Triple) -> Option<u32>
     ensures { IfSome result (λ n. n ≡ columns_of (alphabet_of icfg.now) triple.now) }
 {
     let letter = match triple {
-        Triple::Inside { letter, .. } | Triple::Call { letter, .. } | Triple::Back { letter, .. } => *letter,
+        Triple::Inside { letter, .. } | Triple::Call { letter, .. } | Triple::Back { letter, .. } =>
+            *letter,
     };
     let Some(act) = icfg.acts().get(letter as usize) else {
         return Some(0);
