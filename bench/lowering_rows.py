@@ -8,23 +8,53 @@ import pathlib
 import sys
 
 rows = []
+
+
 def row(text, owners, procs, letters, insides, calls=(), backs=(), fails=()):
+    """A program with its automaton."""
     out = []
     for frame, entry, exit in procs:
-        out.append("frame" + "".join(" " + c for c in frame.split()))
+        out.append("frame" + words(frame))
         out.append("proc no entry no exit" if entry is None else f"proc entry {entry} exit {exit}")
-    out.append("places" + "".join(f" {o}" for o in owners))
-    for n, l in enumerate(letters): out.append(f"{n} {l}")
-    out.append("".join(f"{e} " for e in insides.split()))
-    for c in calls: out.append("call " + c)
-    for b in backs: out.append("back " + b)
-    for n, (line, place) in enumerate(fails, 1): out.append(f"fails {n} line {line} at {place}")
+    out.append("places" + "".join(f" {owner}" for owner in owners))
+    out += [f"{number} {letter}" for number, letter in enumerate(letters)]
+    out.append("".join(f"{edge} " for edge in insides.split()))
+    out += ["call " + call for call in calls]
+    out += ["back " + back for back in backs]
+    out += [f"fails {number} line {line} at {place}" for number, (line, place) in enumerate(fails, 1)]
     out.append("---")
     rows.append((text.strip("\n"), "\n".join(out)))
-def fault(text, said): rows.append((text.strip("\n"), said))
-def IN(p, writes="", rows="", h=0): return f"in {p} +{h} writes" + "".join(f" {w}" for w in writes.split()) + ":" + "".join(f" {r.strip()};" for r in rows.split(";") if r.strip() or False)
-def CALL(p, q, rows="", h=0): return f"call {p} {q} +{h}:" + "".join(f" {r.strip()};" for r in rows.split(";") if r.strip())
-def BACK(c, targets=""): return f"back {c} gives" + "".join(f" {t}" for t in targets.split())
+
+
+def fault(text, said):
+    """A program that cannot be lowered."""
+    rows.append((text.strip("\n"), said))
+
+
+def words(listed):
+    return "".join(" " + each for each in listed.split())
+
+
+def written(listed):
+    return "".join(f" {each.strip()};" for each in listed.split(";") if each.strip())
+
+
+def IN(proc, writes="", listed="", helpers=0):
+    """An inside letter of a procedure: the columns that it writes, its rows, and how many helpers they have."""
+    return f"in {proc} +{helpers} writes{words(writes)}:{written(listed)}"
+
+
+def CALL(caller, callee, listed="", helpers=0):
+    """A call letter."""
+    return f"call {caller} {callee} +{helpers}:{written(listed)}"
+
+
+def BACK(call, targets=""):
+    """The return letter of a call letter, with the columns that the results go to."""
+    return f"back {call} gives{words(targets)}"
+
+
+# the letter of the start of a program without globals that vary, and a skip
 E0 = IN(0)
 
 # ---- single statements
@@ -123,7 +153,6 @@ row("procedure inc(a: int) returns (r: int)\n{\n  r := a + 1;\n}\nprocedure main
     [IN(1), IN(0,"1","-1*0 1*2 = 1"), CALL(1,0,"1*1 = 2"), BACK(2,"0"), IN(1,"","1*0 = 3"), IN(1,"","1*0 <= 2"), IN(1,"","-1*0 <= -4")],
     "0-0-3 1-1-2 4-4-5 4-5-6 4-6-6", ["3-2-1"], ["2 3-3-4"], [(8,6)])
 # each plain requires is asserted at the call, over the arguments; rows without terms stay
-def IN_(p, *rows): return f"in {p} +0 writes:" + "".join(f" {r};" for r in rows)
 row("procedure f(a: int)\n  requires a > 0;\n  free requires a > 1;\n  requires a > 2;\n{\n}\nprocedure main() {\n  call f(5);\n}",
     [1,0,0,1,1,1,1,1,1], [("l0",1,2),("",3,6)],
     [IN(1), IN(0,"","-1*0 <= -2"), IN(1,"","<= 4"), IN(1,"","<= -5"), IN(1,"","<= 2"), IN(1,"","<= -3"), CALL(1,0,"1*0 = 5"), BACK(6)],
