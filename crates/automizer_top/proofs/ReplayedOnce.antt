@@ -18,7 +18,7 @@ use Rattle.trace_replay.proofs.FailureLaws.{failure_text_injective, no_failure_t
 use Rattle.trace_replay.proofs.ReplayRuns.{GoesBy, made_by}
 use Rattle.trace_replay.proofs.ReplayTurns.{Replayed, IsTurn, fails_turn, one_end}
 use Rattle.trace_replay.proofs.ReplayLaws.{choices_among-append, choices_among-one, front_fits, back_fits, one_assertion_replays, replays_and_stops, one_cause}
-use Rattle.automizer_top.specs.Report.{Answer, answer, rejected_line, cause_name, replayed_answer, stopped_answer, second_limit, IsFailureText, ReportsFailure, failure_too_long, no_failure, replayed, stopped}
+use Rattle.automizer_top.specs.Report.{Answer, answer, syntax_answer, replayed_answer, stopped_answer, second_limit, IsFailureText, ReportsFailure, failure_too_long, no_failure, replayed, stopped}
 
 -- ---- where a failure fails
 
@@ -94,7 +94,7 @@ failure_once t second a b (failure_too_long x e past is) (stopped y g step cause
 failure_once t second a b (no_failure x line e l fault is) (failure_too_long y d past is') = absurd (too_long_or_not y x second d e past l)
 failure_once t second a b (no_failure x line e l fault is) (no_failure y line' d l' fault' is') =
     let mine : IsFirstFault x line' = subst (λ (bytes : List ℕ). IsFirstFault bytes line') (sym (same_second x y second e d)) fault' in
-    is ∙ ap (λ n. answer (rejected_line n (codes "Syntax")) 1) (one_first_fault x line line' fault mine) ∙ sym is'
+    is ∙ ap syntax_answer (one_first_fault x line line' fault mine) ∙ sym is'
 failure_once t second a b (no_failure x line e l fault is) (replayed y g id d l' k r is') = absurd (faulty_or_not x y second line g e d fault k)
 failure_once t second a b (no_failure x line e l fault is) (stopped y g step cause d l' k s is') = absurd (faulty_or_not x y second line g e d fault k)
 failure_once t second a b (replayed x f id e l h r is) (failure_too_long y d past is') = absurd (too_long_or_not y x second d e past l)

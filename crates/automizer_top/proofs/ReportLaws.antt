@@ -1,4 +1,4 @@
--- Cases of the report, and what an accepted proof is worth.
+-- Cases of the report, and what an accepted annotation is worth.
 use Rattle.std.proofs.lemmas.List.{length-append}
 use Rattle.std.proofs.Common.{◌≡◌, ℕ, zero, suc, ◌+◌, ◌<◌, ◌≤◌, List, [], ◌∷◌, ◌++◌, length, get_or, take, Option, None, Some, Err, ap, refl, sym, ◌∙◌, subst, arith, ◌⊎◌, inl, inr}
 use Rattle.std.specs.Prelude.{◌≢◌, Result, Ok, IfOk, IfSome, IsSome, codes}
@@ -11,27 +11,32 @@ use Rattle.boogie_parse.specs.declared.fault.Fault.{Fault}
 use Rattle.boogie_parse.specs.declared.fault.Fault.TheVariants as faults
 use Rattle.boogie_parse.specs.GrammarLimits.{IsProgram}
 use Rattle.boogie_parse.specs.WholeText.{read_text}
-use Rattle.boogie_parse.specs.Straight.{Program}
-use Rattle.boogie_parse.specs.FirstForm.{IsFirstForm}
-use Rattle.boogie_parse.proofs.FirstFormLaws.{well_formed}
+use Rattle.typed_tree.specs.TypedTree.{TypedProgram}
+use Rattle.typed_tree.specs.declared.fault.TypeFault.{TypeFault}
+use Rattle.typed_tree.specs.declared.fault.TypeFault.TheVariants as type_faults
+use Rattle.letter_acts.specs.Invariant.{Graph}
+use Rattle.lowered_graph.specs.Items.{ItemFault, TooWide, TooBig}
+use Rattle.lowered_graph.specs.Lowered.{lowered}
 use Rattle.automizer_top.specs.declared.answer.Answer as code
 use Rattle.automizer_top.specs.declared.reporting.Halt.{Halt}
 use Rattle.automizer_top.specs.declared.words.Mode.{Mode}
 use Rattle.automizer_top.specs.declared.words.Mode.TheVariants.{Check, Replay, Print}
-use Rattle.automizer_top.specs.StraightCheck.{Verdict, accepted, syntax, bad_triple, Judges}
-use Rattle.typed_tree.specs.TypedTree.{TypedProgram}
-use Rattle.boogie_types.specs.Resolved.{resolved_program}
-use Rattle.trace_replay.specs.FailureText.{PlainFailure}
-use Rattle.trace_replay.specs.declared.causes.ReplayCause.{ReplayCause}
-use Rattle.trace_replay.specs.declared.causes.ReplayCause.TheVariants as causes
-use Rattle.typed_tree.specs.declared.fault.TypeFault.{TypeFault}
-use Rattle.typed_tree.specs.declared.fault.TypeFault.TheVariants as type_faults
 use Rattle.automizer_top.specs.Refusals.{refusal}
 use Rattle.automizer_top.specs.TypeRefusals.{type_refusal}
-use Rattle.automizer_top.specs.Answers.{answered, Asks, program_name}
-use Rattle.automizer_top.specs.Report.{Answer, answer, program_limit, second_limit, verdict_answer, RefusesProgram, too_long, no_program, ReportsPrint, refused_print, printed, ReportsCheck, refused_check, ill_typed, no_first_form, IsTyped, IsIllTyped, second_too_long, judged, entry, IsTypedText, IsFailureText, ReportsFailure, failure_too_long, no_failure, replayed, stopped, ReportsReplay, refused_replay, ill_typed_replay, of_typed, replayed_answer, stopped_answer, AskCheck, AskReplay, AskPrint, Reports, usage, printing, checked, replaying, PrintsProgram, ProgramIsSafe, ProgramFails, WhereTold}
-use Rattle.automizer_top.proofs.Safety.{refuted_is_safe}
+use Rattle.automizer_top.specs.LoweringRefusals.{lowering_refusal}
+use Rattle.automizer_top.specs.Answers.{answered, Asks, program_name, IsGraphOf, HasNoErrorWord, TextIsSafe, CheckedIsSafe}
+use Rattle.automizer_top.specs.Report.{Answer, answer, program_limit, second_limit, accepted_answer, RefusesProgram, too_long, no_program, ReportsPrint, refused_print, printed, RefusesTyped, refused_text, ill_typed, RefusesLowering, ReportsProof, proof_too_long, no_annotation, accepted, rejected, ReportsCheck, refused_check, not_lowered, of_lowered, IsTypedText, ReportsFailure, failure_too_long, no_failure, replayed, stopped, ReportsReplay, refused_replay, of_typed, AskCheck, AskReplay, AskPrint, Reports, usage, printing, checked, replaying, PrintsProgram, AsksForCheck, ProgramIsSafe, ProgramFails, WhereTold}
 use Rattle.automizer_top.proofs.PrintedTexts.{begins_otherwise}
+use Rattle.automizer_top.proofs.SafetyLaws.{graph_is_safe}
+use Rattle.automizer_top.proofs.TypedTexts.{one_typed}
+
+abbrev Texts : Type 0
+Texts = List (List ℕ × List ℕ)
+
+-- what holds of all texts holds of those that are told
+told : (P : Texts → Type 0) (texts : Option Texts) → ((shown : Texts) → P shown) → IfSome texts P
+told P None h = tt
+told P (Some shown) h = h shown
 
 -- ---- what is answered to a program text
 
@@ -49,87 +54,74 @@ fault_answered text f (Err e) l read is no_memory = tt
 pub program_printed : (text out : List ℕ) (ds : List Declaration) → length text ≤ program_limit → IsProgram text ds → out ≡ program_text ds → ReportsPrint text (answer out 0)
 program_printed text out ds l w is = printed ds l w (ap (λ (bytes : List ℕ). answer bytes 0) is)
 
--- the text is no program, whatever the second text
-pub fault_reported : (program name : List ℕ) (f : Fault) (a : Answer) (texts : Option (List (List ℕ × List ℕ))) → length program ≤ program_limit → read_text program ≡ Err f →
-    a ≡ answer (refusal f) 3 → IfSome texts (λ shown. ReportsCheck program (text_named name shown) a)
-fault_reported program name f a None l e is = tt
-fault_reported program name f a (Some shown) l e is = refused_check (no_program f l e is)
+-- ---- what is answered to a program text and to an annotation
 
--- the program breaks a typing rule
-pub rule_reported : (program name : List ℕ) (ds : List Declaration) (f : TypeFault) (texts : Option (List (List ℕ × List ℕ))) → length program ≤ program_limit → IsProgram program ds →
-    IsIllTyped ds f → IfSome texts (λ shown. ReportsCheck program (text_named name shown) (answer (type_refusal f) 3))
-rule_reported program name ds f None l w broken = tt
-rule_reported program name ds f (Some shown) l w broken = ill_typed ds f l w broken refl
+-- the program is refused, whatever the second text
+pub refused_reported : (program name : List ℕ) (a : Answer) (texts : Option Texts) → RefusesTyped program a → IfSome texts (λ shown. ReportsCheck program (text_named name shown) a)
+refused_reported program name a texts h = told (λ shown. ReportsCheck program (text_named name shown) a) texts (λ shown. refused_check h)
 
--- the program is not in the first form
-pub form_reported : (program name : List ℕ) (ds : List Declaration) (texts : Option (List (List ℕ × List ℕ))) → length program ≤ program_limit → IsProgram program ds → IsTyped ds →
-    ((p : Program) → IsFirstForm ds p → ⊥) → IfSome texts (λ shown. ReportsCheck program (text_named name shown) (answer (codes "refused Form\n") 3))
-form_reported program name ds None l w t none = tt
-form_reported program name ds (Some shown) l w t none = no_first_form ds l w t none refl
+-- it cannot be lowered
+pub lowering_reported : (program name : List ℕ) (t : TypedProgram) (a : Answer) (texts : Option Texts) → IsTypedText program t → RefusesLowering t a →
+    IfSome texts (λ shown. ReportsCheck program (text_named name shown) a)
+lowering_reported program name t a texts w h = told (λ shown. ReportsCheck program (text_named name shown) a) texts (λ shown. not_lowered t w h)
+
+of_graph : (program : List ℕ) (second : Option (List ℕ)) (t : TypedProgram) (g : Graph) (a : Answer) → IsTypedText program t → IsGraphOf t g → ReportsProof g second a →
+    ReportsCheck program second a
+of_graph program second t g a w h r = of_lowered t w h.fits (subst (λ (x : Graph). ReportsProof x second a) h.value r)
 
 -- the second text is past its limit
-pub second_reported : (program name : List ℕ) (ds : List Declaration) (p : Program) (texts : Option (List (List ℕ × List ℕ))) → length program ≤ program_limit → IsProgram program ds → IsTyped ds → IsFirstForm ds p →
+pub second_reported : (program name : List ℕ) (t : TypedProgram) (g : Graph) (texts : Option Texts) → IsTypedText program t → IsGraphOf t g →
     IfSome texts (λ shown. IsSome (text_named name shown) × IfSome (text_named name shown) (λ text. second_limit < length text)) →
     IfSome texts (λ shown. ReportsCheck program (text_named name shown) (answer (codes "refused TooLong\n") 3))
-second_reported program name ds p None l w t f h = tt
-second_reported program name ds p (Some shown) l w t f h = by_text (text_named name shown) refl h.0 h.1
+second_reported program name t g None w k h = tt
+second_reported program name t g (Some shown) w k h = by_text (text_named name shown) refl h.0 h.1
   where
     by_text : (found : Option (List ℕ)) → text_named name shown ≡ found → IsSome found → IfSome found (λ text. second_limit < length text) →
         ReportsCheck program (text_named name shown) (answer (codes "refused TooLong\n") 3)
     by_text None e some past = cc
-    by_text (Some text) e some past = second_too_long ds p text l w t f e past refl
+    by_text (Some text) e some past = of_graph program (text_named name shown) t g (answer (codes "refused TooLong\n") 3) w k (proof_too_long text e past refl)
 
--- the second text gets a verdict
-pub verdict_reported : (program name text : List ℕ) (ds : List Declaration) (p : Program) (verdict : Verdict) (texts : Option (List (List ℕ × List ℕ))) → length program ≤ program_limit → IsProgram program ds → IsTyped ds → IsFirstForm ds p →
-    IfSome texts (λ shown. (text_named name shown ≡ Some text) × (length text ≤ second_limit)) → Judges p text verdict →
-    IfSome texts (λ shown. ReportsCheck program (text_named name shown) (verdict_answer verdict))
-verdict_reported program name text ds p verdict None l w t f h j = tt
-verdict_reported program name text ds p verdict (Some shown) l w t f h j = judged ds p text verdict l w t f h.0 h.1 j refl
+-- the second text is read, and gets this answer
+pub proof_reported : (program name text : List ℕ) (t : TypedProgram) (g : Graph) (a : Answer) (texts : Option Texts) → IsTypedText program t → IsGraphOf t g →
+    IfSome texts (λ shown. (text_named name shown ≡ Some text) × (length text ≤ second_limit)) → ReportsProof g (Some text) a →
+    IfSome texts (λ shown. ReportsCheck program (text_named name shown) a)
+proof_reported program name text t g a None w k h r = tt
+proof_reported program name text t g a (Some shown) w k h r =
+    of_graph program (text_named name shown) t g a w k (subst (λ (o : Option (List ℕ)). ReportsProof g o a) (sym h.0) r)
 
 -- ---- what is answered to a program text and to a failure
 
--- the text is no program, whatever the second text
-pub fault_replayed : (program name : List ℕ) (f : Fault) (a : Answer) (texts : Option (List (List ℕ × List ℕ))) → length program ≤ program_limit → read_text program ≡ Err f →
-    a ≡ answer (refusal f) 3 → IfSome texts (λ shown. ReportsReplay program (text_named name shown) a)
-fault_replayed program name f a None l e is = tt
-fault_replayed program name f a (Some shown) l e is = refused_replay (no_program f l e is)
-
--- the program breaks a typing rule
-pub rule_replayed : (program name : List ℕ) (ds : List Declaration) (f : TypeFault) (a : Answer) (texts : Option (List (List ℕ × List ℕ))) → length program ≤ program_limit → IsProgram program ds →
-    IsIllTyped ds f → a ≡ answer (type_refusal f) 3 → IfSome texts (λ shown. ReportsReplay program (text_named name shown) a)
-rule_replayed program name ds f a None l w broken is = tt
-rule_replayed program name ds f a (Some shown) l w broken is = ill_typed_replay ds f l w broken is
-
-typed_text : (program : List ℕ) (ds : List Declaration) (t : TypedProgram) → length program ≤ program_limit → IsProgram program ds → resolved_program ds entry ≡ Some t → IsTypedText program t
-typed_text program ds t l w e = record { short = l; tree = ds; spelled = w; typed = e }
+-- the program is refused, whatever the second text
+pub refused_replayed : (program name : List ℕ) (a : Answer) (texts : Option Texts) → RefusesTyped program a → IfSome texts (λ shown. ReportsReplay program (text_named name shown) a)
+refused_replayed program name a texts h = told (λ shown. ReportsReplay program (text_named name shown) a) texts (λ shown. refused_replay h)
 
 -- the failure is past its limit
-pub failure_refused : (program name : List ℕ) (ds : List Declaration) (t : TypedProgram) (texts : Option (List (List ℕ × List ℕ))) → length program ≤ program_limit → IsProgram program ds → resolved_program ds entry ≡ Some t →
+pub failure_refused : (program name : List ℕ) (t : TypedProgram) (texts : Option Texts) → IsTypedText program t →
     IfSome texts (λ shown. IsSome (text_named name shown) × IfSome (text_named name shown) (λ text. second_limit < length text)) →
     IfSome texts (λ shown. ReportsReplay program (text_named name shown) (answer (codes "refused TooLong\n") 3))
-failure_refused program name ds t None l w e h = tt
-failure_refused program name ds t (Some shown) l w e h = by_text (text_named name shown) refl h.0 h.1
+failure_refused program name t None w h = tt
+failure_refused program name t (Some shown) w h = by_text (text_named name shown) refl h.0 h.1
   where
     by_text : (found : Option (List ℕ)) → text_named name shown ≡ found → IsSome found → IfSome found (λ text. second_limit < length text) →
         ReportsReplay program (text_named name shown) (answer (codes "refused TooLong\n") 3)
     by_text None d some past = cc
-    by_text (Some text) d some past = of_typed t (typed_text program ds t l w e) (failure_too_long text d past refl)
+    by_text (Some text) d some past = of_typed t w (failure_too_long text d past refl)
 
 -- the second text has this outcome
-pub outcome_reported : (program name text : List ℕ) (ds : List Declaration) (t : TypedProgram) (a : Answer) (texts : Option (List (List ℕ × List ℕ))) → length program ≤ program_limit → IsProgram program ds → resolved_program ds entry ≡ Some t →
+pub outcome_reported : (program name text : List ℕ) (t : TypedProgram) (a : Answer) (texts : Option Texts) → IsTypedText program t →
     IfSome texts (λ shown. (text_named name shown ≡ Some text) × (length text ≤ second_limit)) → ReportsFailure t (Some text) a →
     IfSome texts (λ shown. ReportsReplay program (text_named name shown) a)
-outcome_reported program name text ds t a None l w e h r = tt
-outcome_reported program name text ds t a (Some shown) l w e h r =
-    of_typed t (typed_text program ds t l w e) (subst (λ (o : Option (List ℕ)). ReportsFailure t o a) (sym h.0) r)
+outcome_reported program name text t a None w h r = tt
+outcome_reported program name text t a (Some shown) w h r =
+    of_typed t w (subst (λ (o : Option (List ℕ)). ReportsFailure t o a) (sym h.0) r)
 
 -- ---- what is answered to words
 
 -- a program text that is past its limit is refused, whatever the words ask for
 too_long_asked : (words : List (List ℕ)) (mode : Mode) (text : List ℕ) (shown : List (List ℕ × List ℕ)) → Asks words mode →
     text_named (program_name mode) shown ≡ Some text → program_limit < length text → Reports words shown (answer (codes "refused TooLong\n") 3)
-too_long_asked words (Check program second) text shown ask e past = checked program.now second.now text ask e (refused_check (too_long past refl))
-too_long_asked words (Replay program second) text shown ask e past = replaying program.now second.now text ask e (refused_replay (too_long past refl))
+too_long_asked words (Check program second) text shown ask e past = checked program.now second.now text ask e (refused_check (refused_text (too_long past refl)))
+too_long_asked words (Replay program second) text shown ask e past = replaying program.now second.now text ask e (refused_replay (refused_text (too_long past refl)))
 too_long_asked words (Print program) text shown ask e past = printing program.now text ask e (refused_print (too_long past refl))
 
 -- the program text is past its limit
@@ -195,7 +187,7 @@ print_reported words mode program name text a (Some shown) ask is same h r =
     let named : name ≡ program.now = same ∙ ap program_name is in
     printing program.now text asked (ap (λ (n : List ℕ). text_named n shown) (sym named) ∙ h.0) r
 
--- ---- what is accepted is safe
+-- ---- what has the status 0
 
 three_is_not_zero : (n : ℕ) → n ≡ 3 → n ≡ 0 → ⊥
 three_is_not_zero n d e = omega arith
@@ -205,20 +197,29 @@ refused_is_not_zero : (text : List ℕ) (a : Answer) → RefusesProgram text a �
 refused_is_not_zero text a (too_long past is) z = three_is_not_zero a.status (ap (λ (b : Answer). b.status) is) z
 refused_is_not_zero text a (no_program f l r is) z = three_is_not_zero a.status (ap (λ (b : Answer). b.status) is) z
 
-safe_by_check : (words : List (List ℕ)) (texts : List (List ℕ × List ℕ)) (program second text : List ℕ) (a : Answer) → AskCheck words program second →
-    text_named program texts ≡ Some text → ReportsCheck text (text_named second texts) a → a.status ≡ 0 → ProgramIsSafe words texts
-safe_by_check words texts program second text a asked found (refused_check r) zero_status = absurd (refused_is_not_zero text a r zero_status)
-safe_by_check words texts program second text a asked found (ill_typed ds f l w broken is) zero_status = absurd (let e : 3 ≡ 0 = sym (ap (λ (b : Answer). b.status) is) ∙ zero_status in omega arith)
-safe_by_check words texts program second text a asked found (no_first_form ds l w t none is) zero_status = absurd (let e : 3 ≡ 0 = sym (ap (λ (b : Answer). b.status) is) ∙ zero_status in omega arith)
-safe_by_check words texts program second text a asked found (second_too_long ds p other l w t f e past is) zero_status = absurd (let e : 3 ≡ 0 = sym (ap (λ (b : Answer). b.status) is) ∙ zero_status in omega arith)
-safe_by_check words texts program second text a asked found (judged ds p other verdict l w t f e m j is) zero_status =
-    by_verdict verdict j (sym (ap (λ (b : Answer). b.status) is) ∙ zero_status)
-  where
-    by_verdict : (v : Verdict) → Judges p other v → (verdict_answer v).status ≡ 0 → ProgramIsSafe words texts
-    by_verdict accepted (leaves, lines, refuted) z =
-        (program, second, text, p, record { asked = asked; found = found; tree = ds; spelled = w; read = f; safe = refuted_is_safe p leaves (well_formed ds p f) refuted })
-    by_verdict (syntax line) k z = absurd (omega arith)
-    by_verdict (bad_triple line) k z = absurd (omega arith)
+typed_is_not_zero : (text : List ℕ) (a : Answer) → RefusesTyped text a → a.status ≡ 0 → ⊥
+typed_is_not_zero text a (refused_text r) z = refused_is_not_zero text a r z
+typed_is_not_zero text a (ill_typed ds f l w broken is) z = three_is_not_zero a.status (ap (λ (b : Answer). b.status) is) z
+
+lowering_is_not_zero : (t : TypedProgram) (a : Answer) → RefusesLowering t a → a.status ≡ 0 → ⊥
+lowering_is_not_zero t a h z = three_is_not_zero a.status (ap (λ (b : Answer). b.status) h.is) z
+
+-- an accepted program keeps the typing rules
+pub record IsAccepted (text : List ℕ) (a : Answer) : Type 0 where
+  pub meant : TypedProgram
+  pub typed : IsTypedText text meant
+  pub is : a ≡ accepted_answer
+
+proof_zero : (g : Graph) (second : Option (List ℕ)) (a : Answer) → ReportsProof g second a → a.status ≡ 0 → a ≡ accepted_answer
+proof_zero g second a (proof_too_long x e past is) z = absurd (three_is_not_zero a.status (ap (λ (b : Answer). b.status) is) z)
+proof_zero g second a (no_annotation x line e l wrong is) z = absurd (let d : 1 ≡ 0 = sym (ap (λ (b : Answer). b.status) is) ∙ z in omega arith)
+proof_zero g second a (accepted x w e l s p is) z = is
+proof_zero g second a (rejected x w item cause e l s first is) z = absurd (let d : 1 ≡ 0 = sym (ap (λ (b : Answer). b.status) is) ∙ z in omega arith)
+
+check_zero : (text : List ℕ) (second : Option (List ℕ)) (a : Answer) → ReportsCheck text second a → a.status ≡ 0 → IsAccepted text a
+check_zero text second a (refused_check r) z = absurd (typed_is_not_zero text a r z)
+check_zero text second a (not_lowered t w r) z = absurd (lowering_is_not_zero t a r z)
+check_zero text second a (of_lowered t w none r) z = record { meant = t; typed = w; is = proof_zero (lowered t) second a r z }
 
 printed_by : (words : List (List ℕ)) (texts : List (List ℕ × List ℕ)) (program text : List ℕ) (a : Answer) → AskPrint words program →
     text_named program texts ≡ Some text → ReportsPrint text a → a.status ≡ 0 → PrintsProgram words texts
@@ -235,16 +236,24 @@ fails_by words texts program second text t a asked found typed (stopped x f step
 
 replayed_by : (words : List (List ℕ)) (texts : List (List ℕ × List ℕ)) (program second text : List ℕ) (a : Answer) → AskReplay words program second →
     text_named program texts ≡ Some text → ReportsReplay text (text_named second texts) a → a.status ≡ 0 → ProgramFails words texts
-replayed_by words texts program second text a asked found (refused_replay r) zero_status = absurd (refused_is_not_zero text a r zero_status)
-replayed_by words texts program second text a asked found (ill_typed_replay ds f l w broken is) zero_status = absurd (let e : 3 ≡ 0 = sym (ap (λ (b : Answer). b.status) is) ∙ zero_status in omega arith)
+replayed_by words texts program second text a asked found (refused_replay r) zero_status = absurd (typed_is_not_zero text a r zero_status)
 replayed_by words texts program second text a asked found (of_typed t h of) zero_status = fails_by words texts program second text t a asked found h of zero_status
 
+-- what is accepted is safe, where that is so of the program whose check is asked for
+accepted_is_safe : (words : List (List ℕ)) (texts : Texts) (program second text : List ℕ) (a : Answer) → AskCheck words program second → text_named program texts ≡ Some text →
+    IsAccepted text a → (a ≡ accepted_answer → CheckedIsSafe words texts) → ProgramIsSafe words texts
+accepted_is_safe words texts program second text a asked found h safe =
+    let asks : AsksForCheck words texts h.meant = record { program = program; second = second; asked = asked; text = text; found = found; typed = h.typed } in
+    (h.meant, asks, safe h.is h.meant asks)
+
 -- an answer of status 0 is a printed program, or is safe, or fails
-reports_safe : (words : List (List ℕ)) (texts : List (List ℕ × List ℕ)) (a : Answer) → Reports words texts a → a.status ≡ 0 → PrintsProgram words texts ⊎ (ProgramIsSafe words texts ⊎ ProgramFails words texts)
-reports_safe words texts a (usage none no_replay no_print is) zero_status = absurd (let e : 4 ≡ 0 = sym (ap (λ (b : Answer). b.status) is) ∙ zero_status in omega arith)
-reports_safe words texts a (printing program text asked found print) zero_status = inl (printed_by words texts program text a asked found print zero_status)
-reports_safe words texts a (checked program second text asked found check) zero_status = inr (inl (safe_by_check words texts program second text a asked found check zero_status))
-reports_safe words texts a (replaying program second text asked found replay) zero_status = inr (inr (replayed_by words texts program second text a asked found replay zero_status))
+reports_safe : (words : List (List ℕ)) (texts : Texts) (a : Answer) → Reports words texts a → (a ≡ accepted_answer → CheckedIsSafe words texts) → a.status ≡ 0 →
+    PrintsProgram words texts ⊎ (ProgramIsSafe words texts ⊎ ProgramFails words texts)
+reports_safe words texts a (usage none no_replay no_print is) safe z = absurd (let e : 4 ≡ 0 = sym (ap (λ (b : Answer). b.status) is) ∙ z in omega arith)
+reports_safe words texts a (printing program text asked found print) safe z = inl (printed_by words texts program text a asked found print z)
+reports_safe words texts a (checked program second text asked found check) safe z =
+    inr (inl (accepted_is_safe words texts program second text a asked found (check_zero text (text_named second texts) a check z) safe))
+reports_safe words texts a (replaying program second text asked found replay) safe z = inr (inr (replayed_by words texts program second text a asked found replay z))
 
 -- `accepted` has `c` as its second byte, and no other answer has
 abbrev second_of : Answer → ℕ
@@ -276,17 +285,27 @@ rule_begins (type_faults.BadGoto at) b = omega arith
 rule_begins (type_faults.TooBig at) b = omega arith
 rule_begins type_faults.Memory b = omega arith
 
-check_begins : (text : List ℕ) (second : Option (List ℕ)) (a : Answer) → ReportsCheck text second a → second_of a ≡ 99 → a.status ≡ 0
-check_begins text second a (refused_check r) begin = absurd (refused_begins text a r begin)
-check_begins text second a (ill_typed ds f l w broken is) begin = absurd (rule_begins f (sym (ap second_of is) ∙ begin))
-check_begins text second a (no_first_form ds l w t none is) begin = absurd (let e : 101 ≡ 99 = sym (ap second_of is) ∙ begin in omega arith)
-check_begins text second a (second_too_long ds p other l w t f e past is) begin = absurd (let e : 101 ≡ 99 = sym (ap second_of is) ∙ begin in omega arith)
-check_begins text second a (judged ds p other verdict l w t f e m j is) begin = ap (λ (b : Answer). b.status) is ∙ by_verdict verdict (sym (ap second_of is) ∙ begin)
+typed_begins : (text : List ℕ) (a : Answer) → RefusesTyped text a → second_of a ≡ 99 → ⊥
+typed_begins text a (refused_text r) begin = refused_begins text a r begin
+typed_begins text a (ill_typed ds f l w broken is) begin = rule_begins f (sym (ap second_of is) ∙ begin)
+
+lowering_begins : (t : TypedProgram) (a : Answer) → RefusesLowering t a → second_of a ≡ 99 → ⊥
+lowering_begins t a h begin = by_fault h.fault (sym (ap second_of h.is) ∙ begin)
   where
-    by_verdict : (v : Verdict) → second_of (verdict_answer v) ≡ 99 → (verdict_answer v).status ≡ 0
-    by_verdict accepted b = refl
-    by_verdict (syntax line) b = absurd (omega arith)
-    by_verdict (bad_triple line) b = absurd (omega arith)
+    by_fault : (f : ItemFault) → get_or (lowering_refusal f) 1 0 ≡ 99 → ⊥
+    by_fault (TooWide at) b = omega arith
+    by_fault (TooBig at) b = omega arith
+
+proof_begins : (g : Graph) (second : Option (List ℕ)) (a : Answer) → ReportsProof g second a → second_of a ≡ 99 → a ≡ accepted_answer
+proof_begins g second a (proof_too_long x e past is) begin = absurd (let same : 101 ≡ 99 = sym (ap second_of is) ∙ begin in omega arith)
+proof_begins g second a (no_annotation x line e l wrong is) begin = absurd (let same : 101 ≡ 99 = sym (ap second_of is) ∙ begin in omega arith)
+proof_begins g second a (accepted x w e l s p is) begin = is
+proof_begins g second a (rejected x w item cause e l s first is) begin = absurd (let same : 101 ≡ 99 = sym (ap second_of is) ∙ begin in omega arith)
+
+check_begins : (text : List ℕ) (second : Option (List ℕ)) (a : Answer) → ReportsCheck text second a → second_of a ≡ 99 → IsAccepted text a
+check_begins text second a (refused_check r) begin = absurd (typed_begins text a r begin)
+check_begins text second a (not_lowered t w r) begin = absurd (lowering_begins t a r begin)
+check_begins text second a (of_lowered t w none r) begin = record { meant = t; typed = w; is = proof_begins (lowered t) second a r begin }
 
 print_begins : (text : List ℕ) (a : Answer) → ReportsPrint text a → second_of a ≡ 99 → ⊥
 print_begins text a (refused_print r) begin = refused_begins text a r begin
@@ -299,17 +318,16 @@ failure_begins t second a (replayed x f id e l h r is) begin = absurd (let same 
 failure_begins t second a (stopped x f step cause e l h s is) begin = absurd (let same : 101 ≡ 99 = sym (ap second_of is) ∙ begin in omega arith)
 
 replay_begins : (text : List ℕ) (second : Option (List ℕ)) (a : Answer) → ReportsReplay text second a → second_of a ≡ 99 → ⊥
-replay_begins text second a (refused_replay r) begin = refused_begins text a r begin
-replay_begins text second a (ill_typed_replay ds f l w broken is) begin = rule_begins f (sym (ap second_of is) ∙ begin)
+replay_begins text second a (refused_replay r) begin = typed_begins text a r begin
 replay_begins text second a (of_typed t h of) begin = failure_begins t second a of begin
 
 -- an answer that begins as `accepted` does is safe
-reports_begin : (words : List (List ℕ)) (texts : List (List ℕ × List ℕ)) (a : Answer) → Reports words texts a → second_of a ≡ 99 → ProgramIsSafe words texts
-reports_begin words texts a (usage none no_replay no_print is) begin = absurd (let e : 115 ≡ 99 = sym (ap second_of is) ∙ begin in omega arith)
-reports_begin words texts a (printing program text asked found print) begin = absurd (print_begins text a print begin)
-reports_begin words texts a (checked program second text asked found check) begin =
-    safe_by_check words texts program second text a asked found check (check_begins text (text_named second texts) a check begin)
-reports_begin words texts a (replaying program second text asked found replay) begin = absurd (replay_begins text (text_named second texts) a replay begin)
+reports_begin : (words : List (List ℕ)) (texts : Texts) (a : Answer) → Reports words texts a → (a ≡ accepted_answer → CheckedIsSafe words texts) → second_of a ≡ 99 → ProgramIsSafe words texts
+reports_begin words texts a (usage none no_replay no_print is) safe begin = absurd (let e : 115 ≡ 99 = sym (ap second_of is) ∙ begin in omega arith)
+reports_begin words texts a (printing program text asked found print) safe begin = absurd (print_begins text a print begin)
+reports_begin words texts a (checked program second text asked found check) safe begin =
+    accepted_is_safe words texts program second text a asked found (check_begins text (text_named second texts) a check begin) safe
+reports_begin words texts a (replaying program second text asked found replay) safe begin = absurd (replay_begins text (text_named second texts) a replay begin)
 
 seam : (b xs : List ℕ) → get_or (b ++ xs) (suc (length b)) 0 ≡ get_or xs 1 0
 seam [] xs = refl
@@ -343,25 +361,51 @@ nothing_is_safe words (Some shown) (Some before) = λ e.
     absurd (omega arith)
 
 -- where a front of an answer was taken, and is `accepted`, the program is safe
-pub front_is_safe : (words : List (List ℕ)) (texts : Option (List (List ℕ × List ℕ))) (old new : Option (List ℕ)) (a : Answer) →
-    IfSome texts (λ shown. Reports words shown a) → IfSome old (λ before. GainsFront a.bytes before new) →
+pub front_is_safe : (words : List (List ℕ)) (texts : Option Texts) (old new : Option (List ℕ)) (a : Answer) →
+    IfSome texts (λ shown. Reports words shown a) → (a ≡ accepted_answer → IfSome texts (λ shown. CheckedIsSafe words shown)) → IfSome old (λ before. GainsFront a.bytes before new) →
     WhereTold texts old (λ shown before. new ≡ Some (before ++ codes "accepted\n") → ProgramIsSafe words shown)
-front_is_safe words None old new a r g = tt
-front_is_safe words (Some shown) None new a r g = tt
-front_is_safe words (Some shown) (Some before) new a r (k, l, taken) = λ e.
-    reports_begin words shown a r (second_taken k a.bytes (begins before (take k a.bytes) (sym taken ∙ e)))
+front_is_safe words None old new a r s g = tt
+front_is_safe words (Some shown) None new a r s g = tt
+front_is_safe words (Some shown) (Some before) new a r s (k, l, taken) = λ e.
+    reports_begin words shown a r s (second_taken k a.bytes (begins before (take k a.bytes) (sym taken ∙ e)))
 
 -- and where all of it was
-pub whole_is_safe : (words : List (List ℕ)) (texts : Option (List (List ℕ × List ℕ))) (old new : Option (List ℕ)) (a : Answer) →
-    IfSome texts (λ shown. Reports words shown a) → IfSome old (λ before. new ≡ Some (before ++ a.bytes)) →
+pub whole_is_safe : (words : List (List ℕ)) (texts : Option Texts) (old new : Option (List ℕ)) (a : Answer) →
+    IfSome texts (λ shown. Reports words shown a) → (a ≡ accepted_answer → IfSome texts (λ shown. CheckedIsSafe words shown)) → IfSome old (λ before. new ≡ Some (before ++ a.bytes)) →
     WhereTold texts old (λ shown before. new ≡ Some (before ++ codes "accepted\n") → ProgramIsSafe words shown)
-whole_is_safe words None old new a r g = tt
-whole_is_safe words (Some shown) None new a r g = tt
-whole_is_safe words (Some shown) (Some before) new a r taken = λ e.
-    reports_begin words shown a r (begins before a.bytes (sym taken ∙ e))
+whole_is_safe words None old new a r s g = tt
+whole_is_safe words (Some shown) None new a r s g = tt
+whole_is_safe words (Some shown) (Some before) new a r s taken = λ e.
+    reports_begin words shown a r s (begins before a.bytes (sym taken ∙ e))
 
 -- an answer of status 0 is a printed program, or is safe, or fails
-pub zero_is_safe : (words : List (List ℕ)) (texts : Option (List (List ℕ × List ℕ))) (a : Answer) → IfSome texts (λ shown. Reports words shown a) → a.status ≡ 0 →
+pub zero_is_safe : (words : List (List ℕ)) (texts : Option Texts) (a : Answer) → IfSome texts (λ shown. Reports words shown a) →
+    (a ≡ accepted_answer → IfSome texts (λ shown. CheckedIsSafe words shown)) → a.status ≡ 0 →
     IfSome texts (λ shown. PrintsProgram words shown ⊎ (ProgramIsSafe words shown ⊎ ProgramFails words shown))
-zero_is_safe words None a r z = tt
-zero_is_safe words (Some shown) a r z = reports_safe words shown a r z
+zero_is_safe words None a r s z = tt
+zero_is_safe words (Some shown) a r s z = reports_safe words shown a r s z
+
+-- ---- what is accepted is safe
+
+-- where the graph has no error word, the program of the text is safe
+pub text_is_safe : (text : List ℕ) (t : TypedProgram) (g : Graph) → IsTypedText text t → IsGraphOf t g → HasNoErrorWord g → TextIsSafe text
+text_is_safe text t g w h none = λ u k. graph_is_safe u g (subst (λ (v : TypedProgram). IsGraphOf v g) (sym (one_typed text t u w k)) h) none
+
+-- the words ask for the check of a program that is safe
+pub check_is_safe : (words : List (List ℕ)) (mode : Mode) (program second : Bor (List ℕ)) (name text : List ℕ) (r : Result code.Answer Halt) (texts : Option Texts) →
+    Asks words mode → mode ≡ Check program second → name ≡ program_name mode → IfSome texts (λ shown. (text_named name shown ≡ Some text) × (length text ≤ program_limit)) →
+    IfOk r (λ a. answered a ≡ accepted_answer → TextIsSafe text) →
+    IfOk r (λ a. answered a ≡ accepted_answer → IfSome texts (λ shown. CheckedIsSafe words shown))
+check_is_safe words mode program second name text (Err e) texts ask is same h s = tt
+check_is_safe words mode program second name text (Ok a) None ask is same h s = λ e. tt
+check_is_safe words mode program second name text (Ok a) (Some shown) ask is same h s = λ e t k.
+    let asked : AskCheck words program.now second.now = subst (Asks words) is ask in
+    let named : name ≡ k.program = same ∙ ap program_name is ∙ second_word program.now k.program second.now k.second (sym asked ∙ k.asked) in
+    let read : k.text ≡ text = one_text k.text text (sym k.found ∙ ap (λ (n : List ℕ). text_named n shown) (sym named) ∙ h.0) in
+    s e t (subst (λ (x : List ℕ). IsTypedText x t) read k.typed)
+  where
+    second_word : (p q x y : List ℕ) → codes "check" ∷ p ∷ x ∷ [] ≡ codes "check" ∷ q ∷ y ∷ [] → p ≡ q
+    second_word p q x y e = cc
+
+    one_text : (x y : List ℕ) → Some x ≡ Some y → x ≡ y
+    one_text x y e = cc

@@ -1,12 +1,22 @@
 -- The code's answers and questions as contracts see them.
-use Rattle.std.specs.Prelude.{ℕ, List, codes}
+use Rattle.std.specs.Prelude.{◌≡◌, ℕ, List, None, codes}
 use Rattle.automizer_top.specs.declared.answer.Answer.{Answer}
-use Rattle.automizer_top.specs.declared.answer.Answer.TheVariants.{Usage, TooLong, Refused, IllTyped, Form, Printed, Judged, NoFailure, Replayed, Stopped}
+use Rattle.automizer_top.specs.declared.answer.Answer.TheVariants.{Usage, TooLong, Refused, IllTyped, TooWide, TooBig, Printed, Syntax, Accepted, Rejected, Replayed, Stopped}
 use Rattle.automizer_top.specs.declared.words.Mode.{Mode}
 use Rattle.automizer_top.specs.declared.words.Mode.TheVariants.{Check, Replay, Print}
 use Rattle.automizer_top.specs.Refusals.{refusal}
 use Rattle.automizer_top.specs.TypeRefusals.{type_refusal}
-use Rattle.automizer_top.specs.Verdicts.{verdict}
+use Rattle.typed_tree.specs.TypedTree.{TypedProgram}
+use Rattle.boogie_run.specs.Runs.{IsSafe}
+use Rattle.nwa_base.specs.declared.letters.Letter.{Letter}
+use Rattle.nwa_base.specs.Acceptance.{Accepts}
+use Rattle.letter_acts.specs.Feasible.{IsFeasible}
+use Rattle.letter_acts.specs.Invariant.{Graph, alphabet_of}
+use Rattle.lowered_graph.specs.Items as items
+use Rattle.lowered_graph.specs.Items.{first_fault}
+use Rattle.lowered_graph.specs.Lowered.{lowered}
+use Rattle.lowered_graph.specs.Laws.{IsFaithful}
+use Rattle.automizer_top.specs.LoweringRefusals.{lowering_refusal}
 use Rattle.automizer_top.specs.Report as report
 
 abbrev pub answered : Answer → report.Answer
@@ -14,10 +24,12 @@ answered Usage = report.answer report.usage_line 4
 answered TooLong = report.answer (codes "refused TooLong\n") 3
 answered (Refused f) = report.answer (refusal f) 3
 answered (IllTyped f) = report.answer (type_refusal f) 3
-answered Form = report.answer (codes "refused Form\n") 3
+answered (TooWide at) = report.answer (lowering_refusal (items.TooWide at)) 3
+answered (TooBig at) = report.answer (lowering_refusal (items.TooBig at)) 3
 answered (Printed text) = report.answer text.items 0
-answered (Judged v) = report.verdict_answer (verdict v)
-answered (NoFailure line) = report.answer (report.rejected_line line (codes "Syntax")) 1
+answered (Syntax line) = report.syntax_answer line
+answered Accepted = report.accepted_answer
+answered (Rejected item cause) = report.rejected_answer item cause
 answered (Replayed id) = report.replayed_answer id
 answered (Stopped step cause) = report.stopped_answer step cause
 
@@ -38,3 +50,21 @@ abbrev pub program_name : Mode → List ℕ
 program_name (Check program second) = program.now
 program_name (Replay program second) = program.now
 program_name (Print program) = program.now
+
+-- the graph of a program that can be lowered
+pub record IsGraphOf (t : TypedProgram) (g : Graph) : Type 0 where
+  pub value : g ≡ lowered t
+  pub fits : first_fault t ≡ None
+  pub faithful : IsFaithful t g
+
+-- no word that the automaton accepts is feasible
+abbrev pub HasNoErrorWord : Graph → Type 0
+HasNoErrorWord g = (w : List Letter) → Accepts g.automaton w → IsFeasible (alphabet_of g) w → ⊥
+
+-- the program of the text is safe, if it keeps the typing rules
+abbrev pub TextIsSafe : List ℕ → Type 0
+TextIsSafe text = (t : TypedProgram) → report.IsTypedText text t → IsSafe t
+
+-- the program whose check the words ask for is safe
+abbrev pub CheckedIsSafe : List (List ℕ) → List (List ℕ × List ℕ) → Type 0
+CheckedIsSafe words texts = (t : TypedProgram) → report.AsksForCheck words texts t → IsSafe t

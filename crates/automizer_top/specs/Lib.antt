@@ -1,16 +1,5 @@
-pub mod StraightRun
-pub mod StraightRows
-pub mod ProofText
-pub mod StraightCheck
 pub mod Refusals
 pub mod TypeRefusals
+pub mod LoweringRefusals
 pub mod Report
-pub mod ProofReading
-pub mod LeafTest
-pub mod Walk
-pub mod NamedRows
-pub mod Labels
-pub mod Verdicts
 pub mod Answers
-pub mod ProofPieces
-pub mod ProofLeaves

@@ -1,5 +1,5 @@
 -- What the program answers to its words and the texts that they name.
-use Rattle.std.specs.Prelude.{◌≡◌, ℕ, ◌-◌, ◌^◌, ◌<◌, ◌≤◌, List, [], ◌∷◌, ◌++◌, length, Option, Some, Err, codes, IfSome, ◌⊎◌}
+use Rattle.std.specs.Prelude.{◌≡◌, ℕ, ◌+◌, ◌-◌, ◌^◌, ◌<◌, ◌≤◌, IsTrue, List, [], ◌∷◌, ◌++◌, length, Option, None, Some, Err, codes, IfSome, ◌⊎◌}
 use Rattle.std.specs.Fmt.{decimal}
 use Rattle.outer_io.specs.Texts.{text_named, GainsFront}
 use Rattle.boogie_tree.specs.Tree.{Declaration}
@@ -7,24 +7,31 @@ use Rattle.boogie_tree.specs.Printing.{program_text}
 use Rattle.boogie_parse.specs.declared.fault.Fault.{Fault}
 use Rattle.boogie_parse.specs.GrammarLimits.{IsProgram}
 use Rattle.boogie_parse.specs.WholeText.{read_text}
-use Rattle.boogie_parse.specs.Straight.{Program}
-use Rattle.boogie_parse.specs.FirstForm.{IsFirstForm}
 use Rattle.typed_tree.specs.TypedTree.{TypedProgram}
 use Rattle.typed_tree.specs.declared.fault.TypeFault.{TypeFault}
 use Rattle.typed_tree.specs.declared.fault.TypeFault.TheVariants as type_faults
 use Rattle.boogie_types.specs.Resolved.{resolved_program}
 use Rattle.boogie_types.specs.BrokenNames.{IsTypeFault}
+use Rattle.boogie_run.specs.Runs.{IsSafe}
+use Rattle.boogie_run.specs.declared.types.AssertId.{AssertId}
+use Rattle.letter_acts.specs.Invariant.{Graph}
+use Rattle.lowered_graph.specs.Items.{ItemFault, first_fault}
+use Rattle.lowered_graph.specs.Lowered.{lowered}
+use Rattle.proof_form.specs.Annotations.{Content, is_annotation, safe_text}
+use Rattle.proof_form.specs.Standing.{lines_of, FirstWrongOfText}
+use Rattle.proof_check.specs.declared.rejects.RejectCause.{RejectCause}
+use Rattle.proof_check.specs.declared.rejects.RejectCause.TheVariants as rejects
+use Rattle.proof_check.specs.Proves.{Proves}
+use Rattle.proof_check.specs.Checks.{IsFirst}
 use Rattle.trace_replay.specs.FailureText.{PlainFailure, IsInBounds, failure_text}
 use Rattle.trace_replay.specs.FailureFaults.{IsFirstFault}
 use Rattle.trace_replay.specs.Replays.{IsReplayed}
 use Rattle.trace_replay.specs.ReplayCauses.{StopsAt}
 use Rattle.trace_replay.specs.declared.causes.ReplayCause.{ReplayCause}
 use Rattle.trace_replay.specs.declared.causes.ReplayCause.TheVariants as causes
-use Rattle.boogie_run.specs.declared.types.AssertId.{AssertId}
 use Rattle.automizer_top.specs.Refusals.{refusal}
 use Rattle.automizer_top.specs.TypeRefusals.{type_refusal}
-use Rattle.automizer_top.specs.StraightRun.{IsSafe}
-use Rattle.automizer_top.specs.StraightCheck.{Verdict, accepted, syntax, bad_triple, Judges}
+use Rattle.automizer_top.specs.LoweringRefusals.{lowering_refusal}
 
 -- the bytes that are written, and the status
 pub record Answer : Type 0 where
@@ -41,7 +48,7 @@ program_limit = 1048576
 abbrev pub second_limit : ℕ
 second_limit = 2 ^ 63 - 1
 
--- the words ask for a check of the program of that name by the proof of that name
+-- the words ask for a check of the program of that name by the annotation of that name
 abbrev pub AskCheck : List (List ℕ) → List ℕ → List ℕ → Type 0
 AskCheck words program second = words ≡ codes "check" ∷ program ∷ second ∷ []
 
@@ -59,10 +66,25 @@ answer bytes status = record { bytes = bytes; status = status }
 abbrev pub rejected_line : ℕ → List ℕ → List ℕ
 rejected_line line cause = codes "rejected " ++ decimal line ++ 32 ∷ (cause ++ 10 ∷ [])
 
-abbrev pub verdict_answer : Verdict → Answer
-verdict_answer accepted = answer (codes "accepted\n") 0
-verdict_answer (syntax line) = answer (rejected_line line (codes "Syntax")) 1
-verdict_answer (bad_triple line) = answer (rejected_line line (codes "BadTriple")) 1
+-- the second text is not in its grammar: its first wrong line
+abbrev pub syntax_answer : ℕ → Answer
+syntax_answer line = answer (rejected_line line (codes "Syntax")) 1
+
+-- the annotation proves the program
+abbrev pub accepted_answer : Answer
+accepted_answer = answer (codes "accepted\n") 0
+
+abbrev pub reject_name : RejectCause → List ℕ
+reject_name rejects.BadTriple = codes "BadTriple"
+reject_name rejects.NoStart = codes "NoStart"
+reject_name rejects.OpenError = codes "OpenError"
+reject_name rejects.MissingStep = codes "MissingStep"
+reject_name rejects.BadStep = codes "BadStep"
+reject_name rejects.BadName = codes "BadName"
+
+-- A check of the annotation fails at this item. Item 0 stands on line 4, and the number of all items stands for the line `end`.
+abbrev pub rejected_answer : ℕ → RejectCause → Answer
+rejected_answer item cause = answer (rejected_line (item + 4) (reject_name cause)) 1
 
 abbrev pub cause_name : ReplayCause → List ℕ
 cause_name causes.Blocked = codes "Blocked"
@@ -83,10 +105,6 @@ stopped_answer step cause = answer (rejected_line step (cause_name cause)) 1
 abbrev pub entry : List ℕ
 entry = codes "main"
 
--- the typing rules hold
-abbrev pub IsTyped : List Declaration → Type 0
-IsTyped ds = (t : TypedProgram) × (resolved_program ds entry ≡ Some t)
-
 -- a typing rule is broken, and the fault names it
 abbrev pub IsIllTyped : List Declaration → TypeFault → Type 0
 IsIllTyped ds f = IsTypeFault ds entry f × (f ≡ type_faults.Memory → ⊥)
@@ -102,20 +120,12 @@ pub data ReportsPrint (program : List ℕ) (a : Answer) : Type 0 where
   printed : (ds : List Declaration) → length program ≤ program_limit → IsProgram program ds → a ≡ answer (program_text ds) 0 →
       ReportsPrint program a
 
--- What is answered to a program text and to what the second name stands for. The cases exclude each other. Of several typing
--- rules that are broken any may be named.
-pub data ReportsCheck (program : List ℕ) (second : Option (List ℕ)) (a : Answer) : Type 0 where
-  refused_check : RefusesProgram program a → ReportsCheck program second a
+-- What is answered to a program text that is refused before it is run or lowered: it is no program, or it breaks a typing rule. Of
+-- several rules that are broken any may be named.
+pub data RefusesTyped (program : List ℕ) (a : Answer) : Type 0 where
+  refused_text : RefusesProgram program a → RefusesTyped program a
   ill_typed : (ds : List Declaration) (f : TypeFault) → length program ≤ program_limit → IsProgram program ds → IsIllTyped ds f →
-      a ≡ answer (type_refusal f) 3 → ReportsCheck program second a
-  no_first_form : (ds : List Declaration) → length program ≤ program_limit → IsProgram program ds → IsTyped ds →
-      ((p : Program) → IsFirstForm ds p → ⊥) → a ≡ answer (codes "refused Form\n") 3 → ReportsCheck program second a
-  second_too_long : (ds : List Declaration) (p : Program) (text : List ℕ) → length program ≤ program_limit → IsProgram program ds →
-      IsTyped ds → IsFirstForm ds p → second ≡ Some text → second_limit < length text → a ≡ answer (codes "refused TooLong\n") 3 →
-      ReportsCheck program second a
-  judged : (ds : List Declaration) (p : Program) (text : List ℕ) (verdict : Verdict) → length program ≤ program_limit →
-      IsProgram program ds → IsTyped ds → IsFirstForm ds p → second ≡ Some text → length text ≤ second_limit → Judges p text verdict →
-      a ≡ verdict_answer verdict → ReportsCheck program second a
+      a ≡ answer (type_refusal f) 3 → RefusesTyped program a
 
 -- The text is that of a program that keeps the typing rules; this is what it means.
 pub record IsTypedText (program : List ℕ) (t : TypedProgram) : Type 0 where
@@ -123,6 +133,38 @@ pub record IsTypedText (program : List ℕ) (t : TypedProgram) : Type 0 where
   pub tree : List Declaration
   pub spelled : IsProgram program tree
   pub typed : resolved_program tree entry ≡ Some t
+
+-- The text is the `safe` text of this annotation.
+pub record IsSafeText (text : List ℕ) (w : Content) : Type 0 where
+  pub rounds : ℕ
+  pub small : rounds < 2 ^ 64
+  pub lines : IsTrue (is_annotation w)
+  pub spelled : text ≡ safe_text rounds w
+
+-- What is answered to a program that cannot be lowered: the first item in its text with a fault decides.
+pub record RefusesLowering (t : TypedProgram) (a : Answer) : Type 0 where
+  pub fault : ItemFault
+  pub first : first_fault t ≡ Some fault
+  pub is : a ≡ answer (lowering_refusal fault) 3
+
+-- What is answered to the graph of a program and to the annotation that the second name stands for. The cases exclude each other.
+pub data ReportsProof (g : Graph) (second : Option (List ℕ)) (a : Answer) : Type 0 where
+  proof_too_long : (text : List ℕ) → second ≡ Some text → second_limit < length text → a ≡ answer (codes "refused TooLong\n") 3 →
+      ReportsProof g second a
+  no_annotation : (text : List ℕ) (line : ℕ) → second ≡ Some text → length text ≤ second_limit → FirstWrongOfText (lines_of text) line →
+      a ≡ syntax_answer line → ReportsProof g second a
+  accepted : (text : List ℕ) (w : Content) → second ≡ Some text → length text ≤ second_limit → IsSafeText text w → Proves g w →
+      a ≡ accepted_answer → ReportsProof g second a
+  rejected : (text : List ℕ) (w : Content) (item : ℕ) (cause : RejectCause) → second ≡ Some text → length text ≤ second_limit →
+      IsSafeText text w → IsFirst g w item cause → a ≡ rejected_answer item cause → ReportsProof g second a
+
+-- What is answered to a program text and to what the second name stands for, where it is to be checked. The cases exclude each
+-- other. A program that is refused, also one that cannot be lowered, is so whatever the second name stands for.
+pub data ReportsCheck (program : List ℕ) (second : Option (List ℕ)) (a : Answer) : Type 0 where
+  refused_check : RefusesTyped program a → ReportsCheck program second a
+  not_lowered : (t : TypedProgram) → IsTypedText program t → RefusesLowering t a → ReportsCheck program second a
+  of_lowered : (t : TypedProgram) → IsTypedText program t → first_fault t ≡ None → ReportsProof (lowered t) second a →
+      ReportsCheck program second a
 
 -- The text is that of a failure.
 pub record IsFailureText (text : List ℕ) (f : PlainFailure) : Type 0 where
@@ -134,7 +176,7 @@ pub data ReportsFailure (t : TypedProgram) (second : Option (List ℕ)) (a : Ans
   failure_too_long : (text : List ℕ) → second ≡ Some text → second_limit < length text → a ≡ answer (codes "refused TooLong\n") 3 →
       ReportsFailure t second a
   no_failure : (text : List ℕ) (line : ℕ) → second ≡ Some text → length text ≤ second_limit → IsFirstFault text line →
-      a ≡ answer (rejected_line line (codes "Syntax")) 1 → ReportsFailure t second a
+      a ≡ syntax_answer line → ReportsFailure t second a
   replayed : (text : List ℕ) (f : PlainFailure) (id : AssertId) → second ≡ Some text → length text ≤ second_limit → IsFailureText text f →
       IsReplayed t f.steps f.choices id → a ≡ replayed_answer id → ReportsFailure t second a
   stopped : (text : List ℕ) (f : PlainFailure) (step : ℕ) (cause : ReplayCause) → second ≡ Some text → length text ≤ second_limit →
@@ -143,9 +185,7 @@ pub data ReportsFailure (t : TypedProgram) (second : Option (List ℕ)) (a : Ans
 -- What is answered to a program text and to what the second name stands for, where it is to be replayed. The cases exclude each
 -- other. A program that is refused is so whatever the second name stands for.
 pub data ReportsReplay (program : List ℕ) (second : Option (List ℕ)) (a : Answer) : Type 0 where
-  refused_replay : RefusesProgram program a → ReportsReplay program second a
-  ill_typed_replay : (ds : List Declaration) (f : TypeFault) → length program ≤ program_limit → IsProgram program ds → IsIllTyped ds f →
-      a ≡ answer (type_refusal f) 3 → ReportsReplay program second a
+  refused_replay : RefusesTyped program a → ReportsReplay program second a
   of_typed : (t : TypedProgram) → IsTypedText program t → ReportsFailure t second a → ReportsReplay program second a
 
 -- The report: to words that ask for none of these the usage line, to others what the named texts give.
@@ -168,17 +208,18 @@ abbrev pub PrintsProgram : List (List ℕ) → List (List ℕ × List ℕ) → T
 PrintsProgram words texts = (program text : List ℕ) × (ds : List Declaration) × AskPrint words program
     × (text_named program texts ≡ Some text) × IsProgram text ds
 
--- The words ask for a check of a program that stands in the texts, is in the first form, and is safe.
-pub record AsksForSafe (words : List (List ℕ)) (texts : List (List ℕ × List ℕ)) (program second text : List ℕ) (p : Program) : Type 0 where
+-- The words ask for a check of this program, which stands in the texts and keeps the typing rules.
+pub record AsksForCheck (words : List (List ℕ)) (texts : List (List ℕ × List ℕ)) (t : TypedProgram) : Type 0 where
+  pub program : List ℕ
+  pub second : List ℕ
   pub asked : AskCheck words program second
+  pub text : List ℕ
   pub found : text_named program texts ≡ Some text
-  pub tree : List Declaration
-  pub spelled : IsProgram text tree
-  pub read : IsFirstForm tree p
-  pub safe : IsSafe p
+  pub typed : IsTypedText text t
 
+-- The program whose check they ask for is safe: no run of it fails an assertion.
 abbrev pub ProgramIsSafe : List (List ℕ) → List (List ℕ × List ℕ) → Type 0
-ProgramIsSafe words texts = (program second text : List ℕ) × (p : Program) × AsksForSafe words texts program second text p
+ProgramIsSafe words texts = (t : TypedProgram) × AsksForCheck words texts t × IsSafe t
 
 -- The words ask for the replay of a failure of a program, both of which stand in the texts, and its values lead to the failure of
 -- this assertion.

@@ -2,15 +2,17 @@ ghost use Rattle.std.specs.Prelude.{◌≡◌, IfOk};
 ghost use Rattle.std.specs.String.{string_bytes};
 ghost use Rattle.automizer_top.specs.Answers.{answered};
 ghost use Rattle.automizer_top.specs.Refusals.{what_name, which_name, refusal};
-ghost use Rattle.automizer_top.specs.Report.{cause_name, replayed_answer, verdict_answer};
+ghost use Rattle.automizer_top.specs.Report.{cause_name, reject_name, rejected_answer, replayed_answer};
 ghost use Rattle.automizer_top.specs.TypeRefusals.{rule_line, type_refusal};
-ghost use Rattle.automizer_top.specs.Verdicts.{verdict as pure_verdict};
 
-use crate::check::Verdict;
 use boogie_parse::{Fault, What, Which};
 use boogie_types::{Span, TypeFault};
+use proof_check::RejectCause;
 use std::alloc::{AllocError, Global};
 use trace_replay::{AssertId, ReplayCause};
+
+/// The line of an annotation on which its first item stands.
+const FIRST_ITEM_LINE: u128 = 4;
 
 /// What the program answers, before it is written.
 #[derive(Debug, Drop)]
@@ -23,14 +25,18 @@ pub(crate) enum Answer {
     Refused(Fault),
     /// The program breaks this typing rule.
     IllTyped(TypeFault),
-    /// The program is not in the first form.
-    Form,
+    /// The item there is too wide to be lowered.
+    TooWide(Span),
+    /// A number of the item there is too big to be lowered.
+    TooBig(Span),
     /// The text of the program.
     Printed(Vec<u8>),
-    /// What the proof text gets.
-    Judged(Verdict),
-    /// The second text is that of no failure: its first wrong line.
-    NoFailure { line: u64 },
+    /// The second text is not in its grammar: its first wrong line.
+    Syntax { line: u64 },
+    /// The annotation proves the program.
+    Accepted,
+    /// A check of the annotation fails at this item, or at its end.
+    Rejected { item: u64, cause: RejectCause },
     /// This assertion fails as the values say.
     Replayed(AssertId),
     /// The values do not lead to a failure.
@@ -50,10 +56,12 @@ impl Answer {
             Answer::TooLong => String::from_str(alloc, "refused TooLong\n")?,
             Answer::Refused(fault) => refusal_text(alloc, &fault)?,
             Answer::IllTyped(fault) => type_refusal_text(alloc, &fault)?,
-            Answer::Form => String::from_str(alloc, "refused Form\n")?,
+            Answer::TooWide(at) => rule_line(alloc, "TooWide", at)?,
+            Answer::TooBig(at) => rule_line(alloc, "TooBig", at)?,
             Answer::Printed(text) => return Ok(text),
-            Answer::Judged(verdict) => verdict_text(alloc, verdict)?,
-            Answer::NoFailure { line } => format!(in alloc; "rejected {line} Syntax\n")?,
+            Answer::Syntax { line } => format!(in alloc; "rejected {line} Syntax\n")?,
+            Answer::Accepted => String::from_str(alloc, "accepted\n")?,
+            Answer::Rejected { item, cause } => rejected_text(alloc, item, cause)?,
             Answer::Replayed(id) => replayed_text(alloc, id)?,
             Answer::Stopped { step, cause } => {
                 let name = cause_name(cause);
@@ -69,10 +77,14 @@ impl Answer {
     {
         match self {
             Answer::Usage => 4,
-            Answer::TooLong | Answer::Refused(_) | Answer::IllTyped(_) | Answer::Form => 3,
-            Answer::Printed(_) | Answer::Judged(Verdict::Accepted) | Answer::Replayed(_) => 0,
-            Answer::Judged(Verdict::Syntax(_) | Verdict::BadTriple(_))
-            | Answer::NoFailure { line: _ }
+            Answer::TooLong
+            | Answer::Refused(_)
+            | Answer::IllTyped(_)
+            | Answer::TooWide(_)
+            | Answer::TooBig(_) => 3,
+            Answer::Printed(_) | Answer::Accepted | Answer::Replayed(_) => 0,
+            Answer::Syntax { line: _ }
+            | Answer::Rejected { item: _, cause: _ }
             | Answer::Stopped { step: _, cause: _ } => 1,
         }
     }
@@ -123,7 +135,7 @@ fn refusal_text(alloc: Global, fault: &Fault) -> Result<String, AllocError>
     }
 }
 
-/// The line of a program that breaks a typing rule there.
+/// The line of a program that breaks a rule there.
 fn rule_line(alloc: Global, rule: &str, at: Span) -> Result<String, AllocError>
     ensures { IfOk result (λ text. string_bytes text ≡ rule_line rule.now at) }
 {
@@ -150,14 +162,28 @@ fn type_refusal_text(alloc: Global, fault: &TypeFault) -> Result<String, AllocEr
     }
 }
 
-fn verdict_text(alloc: Global, verdict: Verdict) -> Result<String, AllocError>
-    ensures { IfOk result (λ text. string_bytes text ≡ (verdict_answer (pure_verdict verdict)).bytes) }
+/// The name of a check of an annotation.
+fn reject_name(cause: RejectCause) -> &'static str
+    ensures { result.now ≡ reject_name cause }
 {
-    match verdict {
-        Verdict::Accepted => String::from_str(alloc, "accepted\n"),
-        Verdict::Syntax(line) => format!(in alloc; "rejected {line} Syntax\n"),
-        Verdict::BadTriple(line) => format!(in alloc; "rejected {line} BadTriple\n"),
+    match cause {
+        RejectCause::BadTriple => "BadTriple",
+        RejectCause::NoStart => "NoStart",
+        RejectCause::OpenError => "OpenError",
+        RejectCause::MissingStep => "MissingStep",
+        RejectCause::BadStep => "BadStep",
+        RejectCause::BadName => "BadName",
     }
+}
+
+/// The line of an annotation that a check refuses at this item. The number of a line may have more than 64 bits where that of an
+/// item has 64.
+fn rejected_text(alloc: Global, item: u64, cause: RejectCause) -> Result<String, AllocError>
+    ensures { IfOk result (λ text. string_bytes text ≡ (rejected_answer item cause).bytes) }
+{
+    let line = u128::from(item) + FIRST_ITEM_LINE;
+    let name = reject_name(cause);
+    format!(in alloc; "rejected {line} {name}\n")
 }
 
 /// The name of why a replay stops.

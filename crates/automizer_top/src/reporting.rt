@@ -1,24 +1,25 @@
-ghost use Rattle.std.specs.Prelude.{◌≡◌, ◌≢◌, ◌≤◌, ◌<◌, length, map, Some, Err, IfOk, IfSome, IsSome, MatchOption, vec_len};
+ghost use Rattle.std.specs.Prelude.{◌≡◌, ◌≢◌, ◌≤◌, ◌<◌, length, map, Some, Err, IfOk, IfSome, IsSome, MatchOption, MatchResult, vec_len};
 ghost use Rattle.std.specs.String.{string_bytes};
 ghost use Rattle.outer_io.specs.Faults.{Rose};
 ghost use Rattle.outer_io.specs.Texts.{text_named};
-ghost use Rattle.automizer_top.specs.declared.reporting.Halt.TheVariants.{Fault, Memory};
 ghost use Rattle.typed_tree.specs.declared.fault.TypeFault.TheVariants as TypeFault;
-ghost use Rattle.automizer_top.specs.Answers.{answered};
+ghost use Rattle.typing_rules.specs.TypedParts.{typed_program};
+ghost use Rattle.automizer_top.specs.declared.reporting.Halt.TheVariants.{Fault, Memory};
+ghost use Rattle.automizer_top.specs.Answers.{answered, IsGraphOf, HasNoErrorWord, TextIsSafe, CheckedIsSafe};
 ghost use Rattle.automizer_top.specs.Refusals.{refusal};
 ghost use Rattle.automizer_top.specs.TypeRefusals.{type_refusal};
-ghost use Rattle.automizer_top.specs.Report.{answer, Reports, ReportsPrint, ReportsCheck, ReportsReplay, ReportsFailure, IsTyped, IsIllTyped};
-ghost use Rattle.typing_rules.specs.TypedParts.{typed_program};
-ghost use Rattle.boogie_tree.specs.View.{program as tree};
-ghost use Rattle.boogie_parse.specs.PrintedTokens.{IsSpellableProgram};
+ghost use Rattle.automizer_top.specs.Report.{answer, accepted_answer, IsTypedText, RefusesTyped, RefusesLowering, Reports, ReportsPrint, ReportsProof, ReportsCheck, ReportsReplay, ReportsFailure};
 
 use crate::answer::Answer;
-use crate::check::judged;
 use crate::words::{Mode, asked};
-use boogie_parse::{Fault, parse, straight_of};
-use boogie_tree::{Program, print};
+use boogie_parse::{Fault, parse};
+use boogie_tree::print;
 use boogie_types::{TypeFault, Typed, resolve};
+use icfg_lower::{LowerFault, lower};
+use letter_acts::Icfg;
 use outer_io::{ReadFault, Shelf, read_all};
+use proof_check::{Reject, check};
+use proof_form::{ProofFault, read_safe};
 use std::alloc::{AllocError, Global};
 use trace_replay::{FailureFault, ReplayFault, read_failure, replay};
 
@@ -94,16 +95,6 @@ fn printed(alloc: Global, text: &[u8]) -> Result<Answer, AllocError>
     }
 }
 
-/// The fault, where it is one of the program.
-fn found(fault: TypeFault) -> Result<Option<TypeFault>, AllocError>
-    ensures { IfOk result (λ o. (o ≡ Some fault) × (fault ≢ TypeFault.Memory)) }
-{
-    match fault {
-        TypeFault::Memory => Err(AllocError),
-        fault => Ok(Some(fault)),
-    }
-}
-
 /// What is answered to a program that breaks a typing rule.
 fn ill_typed(fault: TypeFault) -> Result<Answer, AllocError>
     ensures answer { IfOk result (λ a. answered a ≡ answer (type_refusal fault) 3) }
@@ -115,18 +106,56 @@ fn ill_typed(fault: TypeFault) -> Result<Answer, AllocError>
     }
 }
 
-/// The typing rule that a program breaks; none where they hold.
-fn broken_rule(alloc: Global, program: Program) -> Result<Option<TypeFault>, AllocError>
-    requires { IsSpellableProgram (tree program) }
-    ensures { IfOk result (λ broken. MatchOption broken (IsTyped (tree program)) (IsIllTyped (tree program))) }
+/// The typed program of a text, or what is answered where it is the text of none.
+fn typed(alloc: Global, text: &[u8]) -> Result<Result<Typed, Answer>, AllocError>
+    requires { length text.now ≤ PROGRAM_LIMIT }
+    ensures { IfOk result (λ r. MatchResult r
+        (λ t. IsTypedText text.now (typed_program t))
+        (λ a. RefusesTyped text.now (answered a))) }
 {
+    let program = match parse(alloc, text) {
+        Ok(program) => program,
+        Err(fault) => return Ok(Err(refused(fault)?)),
+    };
     match resolve(alloc, program, ENTRY) {
-        Ok(_typed) => Ok(None),
-        Err(fault) => found(fault),
+        Ok(typed) => Ok(Ok(typed)),
+        Err(fault) => Ok(Err(ill_typed(fault)?)),
     }
 }
 
-/// What is answered to a program text and to the text of that name.
+/// The graph of a program, or what is answered where it cannot be lowered.
+fn graph(alloc: Global, program: &Typed) -> Result<Result<Icfg, Answer>, AllocError>
+    ensures { IfOk result (λ r. MatchResult r
+        (IsGraphOf (typed_program program.now))
+        (λ a. RefusesLowering (typed_program program.now) (answered a))) }
+{
+    match lower(alloc, program) {
+        Ok(icfg) => Ok(Ok(icfg)),
+        Err(LowerFault::TooWide(at)) => Ok(Err(Answer::TooWide(at))),
+        Err(LowerFault::TooBig(at)) => Ok(Err(Answer::TooBig(at))),
+        Err(LowerFault::Memory) => Err(AllocError),
+    }
+}
+
+/// What is answered to a graph and to the text of an annotation.
+fn judged(alloc: Global, icfg: &Icfg, text: &[u8]) -> Result<Answer, AllocError>
+    requires { length text.now ≤ SECOND_LIMIT }
+    ensures reported { IfOk result (λ a. ReportsProof icfg.now (Some text.now) (answered a)) }
+    ensures accepted { IfOk result (λ a. answered a ≡ accepted_answer → HasNoErrorWord icfg.now) }
+{
+    let proof = match read_safe(alloc, text) {
+        Ok((_rounds, proof)) => proof,
+        Err(ProofFault::Syntax { line }) => return Ok(Answer::Syntax { line }),
+        Err(ProofFault::Memory) => return Err(AllocError),
+    };
+    match check(alloc, icfg, &proof) {
+        Ok(()) => Ok(Answer::Accepted),
+        Err(Reject::At { item, cause }) => Ok(Answer::Rejected { item, cause }),
+        Err(Reject::Memory) => Err(AllocError),
+    }
+}
+
+/// What is answered to a program text and to the annotation in the text of that name.
 fn checked<H: Shelf>(
     alloc: Global,
     shelf: &mut H,
@@ -137,25 +166,23 @@ fn checked<H: Shelf>(
     ensures texts { H.texts shelf.new ≡ H.texts shelf.old }
     ensures reported { IfOk result (λ a. IfSome (H.texts shelf.old) (λ shown.
         ReportsCheck text.now (text_named second.now shown) (answered a))) }
+    ensures accepted { IfOk result (λ a. answered a ≡ accepted_answer → TextIsSafe text.now) }
     ensures fault { result ≡ Err Halt.Fault → Rose (H.faults shelf.old) (H.faults shelf.new) }
     ensures no_fault { result ≢ Err Halt.Fault → H.faults shelf.new ≡ H.faults shelf.old }
     ensures never_falls { H.faults shelf.old ≤ H.faults shelf.new }
 {
-    let program = match parse(alloc, text) {
+    let program = match typed(alloc, text)? {
         Ok(program) => program,
-        Err(fault) => return Ok(refused(fault)?),
+        Err(answer) => return Ok(answer),
     };
-    let straight = straight_of(alloc, &program)?;
-    if let Some(fault) = broken_rule(alloc, program)? {
-        return Ok(Answer::IllTyped(fault));
-    }
-    let Some(straight) = straight else {
-        return Ok(Answer::Form);
+    let icfg = match graph(alloc, &program)? {
+        Ok(icfg) => icfg,
+        Err(answer) => return Ok(answer),
     };
     let Some(proof) = text_within(alloc, shelf, second, SECOND_LIMIT)? else {
         return Ok(Answer::TooLong);
     };
-    Ok(Answer::Judged(judged(alloc, &straight, &proof)?))
+    Ok(judged(alloc, &icfg, &proof)?)
 }
 
 /// What is answered to a program and to the text of a failure.
@@ -165,7 +192,7 @@ fn outcome(alloc: Global, program: &Typed, text: &[u8]) -> Result<Answer, AllocE
 {
     let failure = match read_failure(alloc, text) {
         Ok(failure) => failure,
-        Err(FailureFault::Syntax { line }) => return Ok(Answer::NoFailure { line }),
+        Err(FailureFault::Syntax { line }) => return Ok(Answer::Syntax { line }),
         Err(FailureFault::Memory) => return Err(AllocError),
     };
     match replay(alloc, program, &failure.trail) {
@@ -190,18 +217,14 @@ fn replayed<H: Shelf>(
     ensures no_fault { result ≢ Err Halt.Fault → H.faults shelf.new ≡ H.faults shelf.old }
     ensures never_falls { H.faults shelf.old ≤ H.faults shelf.new }
 {
-    let program = match parse(alloc, text) {
+    let program = match typed(alloc, text)? {
         Ok(program) => program,
-        Err(fault) => return Ok(refused(fault)?),
-    };
-    let typed = match resolve(alloc, program, ENTRY) {
-        Ok(typed) => typed,
-        Err(fault) => return Ok(ill_typed(fault)?),
+        Err(answer) => return Ok(answer),
     };
     let Some(failure) = text_within(alloc, shelf, second, SECOND_LIMIT)? else {
         return Ok(Answer::TooLong);
     };
-    Ok(outcome(alloc, &typed, &failure)?)
+    Ok(outcome(alloc, &program, &failure)?)
 }
 
 /// What the program answers to its words: its report.
@@ -213,6 +236,8 @@ pub(crate) fn reported<H: Shelf>(
     ensures texts { H.texts shelf.new ≡ H.texts shelf.old }
     ensures reported { IfOk result (λ a. IfSome (H.texts shelf.old) (λ shown.
         Reports (map string_bytes words.now) shown (answered a))) }
+    ensures accepted { IfOk result (λ a. answered a ≡ accepted_answer → IfSome (H.texts shelf.old) (λ shown.
+        CheckedIsSafe (map string_bytes words.now) shown)) }
     ensures fault { result ≡ Err Halt.Fault → Rose (H.faults shelf.old) (H.faults shelf.new) }
     ensures no_fault { result ≢ Err Halt.Fault → H.faults shelf.new ≡ H.faults shelf.old }
     ensures never_falls { H.faults shelf.old ≤ H.faults shelf.new }

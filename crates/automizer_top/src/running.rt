@@ -27,7 +27,7 @@ pub fn run<R, H: Shelf, K: Sink>(
         IfSome (H.texts shelf.old) (λ shown. (a : Answer) ×
         Answers (map string_bytes words.now) shown (K.taken sink.old) (K.taken sink.new) result a) }
 
-    // Status 0 says that a program was printed, that none of its runs fails an assertion, or that one was replayed that does.
+    // Status 0 says that a program was printed, that no run of a checked one fails an assertion, or that one was replayed that does.
     // `accepted` says the second.
     ensures accepted_is_safe { result ≡ 0 → IfSome (H.texts shelf.old) (λ shown.
         PrintsProgram (map string_bytes words.now) shown ⊎ (ProgramIsSafe (map string_bytes words.now) shown ⊎ ProgramFails (map string_bytes words.now) shown)) }

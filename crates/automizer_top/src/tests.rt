@@ -3,21 +3,39 @@ use outer_io::{MemShelf, MemSink};
 use std::alloc::{AllocError, Global};
 use std::test::Fail;
 
+mod checking;
 mod replaying;
 mod typing;
 
 const INCREMENT: &str = "procedure main() {\n  var x: int;\n  x := 1;\n  assert x >= 1;\n}\n";
 
-const PROOF: &str = "straight 1\nassertion 1 1 (leaf 0:-1 1:1)\nend\n";
+/// Its annotation. Behind the assignment x is at least 1; the first triple is the assignment's, the second that of the failure.
+const PROOF: &str = "safe
+rounds 1
+annotation 1
+pred 2 main (le -1 -1 l:x)
+triple in 0 1 2 (leaf 0:-1 1:1)
+triple in 2 3 1 (leaf 0:1 1:1)
+node 0 0 0
+node 1 1 0
+node 2 2 0 2
+node 3 3 0
+node 4 4 0 1
+step 0 0 1
+step 1 1 2
+step 2 2 3
+step 2 3 4
+end
+";
 
-/// The program as the text `p` and its proof as the text `q`.
+/// The program as the text `p` and the second text as `q`.
 fn texts(
     alloc: Global,
     program: &[u8],
-    proof: &[u8],
+    second: &[u8],
 ) -> Result<Vec<(String, Vec<u8>)>, AllocError> {
     let mut texts = Vec::new(alloc);
-    for (name, text) in [("p", program), ("q", proof)] {
+    for (name, text) in [("p", program), ("q", second)] {
         let name = String::from_str(alloc, name)?;
         texts.push((name, text.to_vec(alloc)?))?;
     }
@@ -59,91 +77,6 @@ fn answered(
 /// What `check p q` writes, and its status.
 fn check(alloc: Global, program: &[u8], proof: &[u8]) -> Result<(String, u8), Fail> {
     answered(alloc, "check", program, proof)
-}
-
-#[test]
-fn proofs_of_straight_lines(rt: HostRuntime) -> Result<(), Fail> {
-    let equal = "procedure main() { var x: int; x := 1; assert x == 1; }";
-    // Row 0 is x = 1, row 1 the way to fail: x <= 0, or for the second way of == x >= 2.
-    for (program, proof, output, status) in [
-        (INCREMENT, PROOF, "accepted\n", 0),
-        (
-            INCREMENT,
-            "straight 1\nassertion 1 1 (leaf 0:1 1:1)\nend\n",
-            "rejected 2 BadTriple\n",
-            1,
-        ),
-        (
-            INCREMENT,
-            "straight 1\nassertion 1 1 (leaf 0:-1 1:-1)\nend\n",
-            "rejected 2 BadTriple\n",
-            1,
-        ),
-        (
-            INCREMENT,
-            "straight 1\nassertion 1 1 (leaf 0:-1 1:1)\n",
-            "rejected 3 Syntax\n",
-            1,
-        ),
-        (
-            equal,
-            "straight 1\nassertion 1 1 (leaf 0:-1 1:1)\nassertion 1 2 (leaf 0:1 1:1)\nend\n",
-            "accepted\n",
-            0,
-        ),
-        (equal, PROOF, "rejected 3 Syntax\n", 1),
-        // Row 0 is x = -2, row 1 the way to fail, x = 3.
-        (
-            "procedure main() { var x: int; x := -(2); assert x != 3; }",
-            "straight 1\nassertion 1 1 (leaf 0:1 1:-1)\nend\n",
-            "accepted\n",
-            0,
-        ),
-        ("", PROOF, "refused NoEntry 1 1\n", 3),
-        ("", "", "refused NoEntry 1 1\n", 3),
-        ("procedure main() { x }", PROOF, "refused Syntax 1 22\n", 3),
-        ("procedure main() { }", "straight 1\nend\n", "accepted\n", 0),
-        ("procedure main() { }", "", "rejected 1 Syntax\n", 1),
-        (INCREMENT, "", "rejected 1 Syntax\n", 1),
-    ] {
-        let (written, given) = check(rt.alloc(), program.as_bytes(), proof.as_bytes())?;
-        assert_eq!(rt; written.as_str(), output, "{program} by {proof}");
-        assert_eq!(rt; given, status, "{program} by {proof}");
-    }
-    Ok(())
-}
-
-#[test]
-fn assumptions_and_assertions_help_later_ones(rt: HostRuntime) -> Result<(), Fail> {
-    // Rows: 0 y - x <= 0, 1 x = 3 (a new column), 2 y >= 4 (the first way to fail), then without it 2 y <= 3, 3 y >= 5.
-    let program = "procedure main() { var x, y: int; assume y <= x; x := 3; assume y <= 3; \
-        assert y <= 3; assert y < 5; }";
-    for (proof, output) in [
-        (
-            "straight 1\nassertion 1 1 (leaf 2:1 3:1)\nassertion 2 1 (leaf 3:1 4:1)\nend\n",
-            "accepted\n",
-        ),
-        (
-            "straight 1\nassertion 1 1 (leaf 2:1 3:1)\nassertion 2 1 (leaf 2:1 4:1)\nend\n",
-            "accepted\n",
-        ),
-        (
-            "straight 1\nassertion 1 1 (leaf 2:1 3:1)\nassertion 2 1 (leaf 0:1 4:1)\nend\n",
-            "rejected 3 BadTriple\n",
-        ),
-        (
-            "straight 1\nassertion 1 1 (leaf 3:1 2:1)\nassertion 2 1 (leaf 3:1 4:1)\nend\n",
-            "rejected 2 BadTriple\n",
-        ),
-        (
-            "straight 1\nassertion 1 1 (leaf 2:1 5:1)\nassertion 2 1 (leaf 3:1 4:1)\nend\n",
-            "rejected 2 BadTriple\n",
-        ),
-    ] {
-        let (written, _status) = check(rt.alloc(), program.as_bytes(), proof.as_bytes())?;
-        assert_eq!(rt; written.as_str(), output, "{proof}");
-    }
-    Ok(())
 }
 
 #[test]
@@ -226,7 +159,7 @@ fn texts_past_the_limit_and_odd_bytes(rt: HostRuntime) -> Result<(), Fail> {
         ),
         (
             INCREMENT.as_bytes(),
-            b"straight 1\n\x80\n".as_slice(),
+            b"safe\n\x80\n".as_slice(),
             "rejected 2 Syntax\n",
         ),
     ] {
@@ -244,8 +177,7 @@ fn front(text: &[u8], length: usize) -> &[u8] {
     text.get(..length).unwrap_or(text)
 }
 
-// An empty text is a program, but not of the first form. The program is whole without its last newline; the proof is not,
-// and the line in which it ends is the wrong one.
+// The program is whole without its last newline; the annotation is not, and the line in which it ends is the wrong one.
 #[test]
 fn texts_cut_off(rt: HostRuntime) -> Result<(), Fail> {
     let alloc = rt.alloc();

@@ -1,11 +1,11 @@
 //! Programs that keep the typing rules, or break one of them.
 
-use super::check;
+use super::answered;
 use std::alloc::{AllocError, Global};
 use std::test::Fail;
 
 // In each table: the rule that is broken, none where all hold, and a program of one line in which `@` stands where it is broken and is left
-// out: before the name, the expression, or the statement where the rule is on what it writes. No program is in the first form.
+// out: before the name, the expression, or the statement where the rule is on what it writes.
 const NAMES: [(&str, &str); 36] = [
     ("Twice", "var x: int; var @x: int; procedure main() { }"),
     ("Twice", "const c: int; var @c: bool; procedure main() { }"),
@@ -278,26 +278,28 @@ const CALLS: [(&str, &str); 35] = [
     ("Unknown", "procedure p() { assert @x; }"),
 ];
 
-/// The program without the mark, and the line that `check` prints.
-fn refused(alloc: Global, rule: &str, marked: &str) -> Result<(String, String), AllocError> {
+/// The program without the mark, the line that `replay` prints of it with an empty text, and the status.
+fn refused(alloc: Global, rule: &str, marked: &str) -> Result<(String, String, u8), AllocError> {
     let mut program = String::new(alloc);
-    let mut line = String::from_str(alloc, "refused Form\n")?;
+    let mut line = String::from_str(alloc, "rejected 1 Syntax\n")?;
+    let mut status = 1;
     for (place, part) in marked.split('@').enumerate() {
         if place == 1 {
             let column = program.len().saturating_add(1);
             line = format!(in alloc; "refused {rule} 1 {column}\n")?;
+            status = 3;
         }
         program.push_str(part)?;
     }
-    Ok((program, line))
+    Ok((program, line, status))
 }
 
-/// The first program of a table that `check` answers otherwise, with its answer.
+/// The first program of a table that `replay` answers otherwise, with its answer.
 fn first_wrong(alloc: Global, table: &[(&str, &str)]) -> Result<Option<String>, Fail> {
     for (rule, marked) in table {
-        let (program, line) = refused(alloc, rule, marked)?;
-        let (written, status) = check(alloc, program.as_bytes(), b"")?;
-        if written.as_str() != line.as_str() || status != 3 {
+        let (program, line, status) = refused(alloc, rule, marked)?;
+        let (written, given) = answered(alloc, "replay", program.as_bytes(), b"")?;
+        if written.as_str() != line.as_str() || given != status {
             return Ok(Some(format!(in alloc; "{marked}: {written}")?));
         }
     }

@@ -1,7 +1,7 @@
 use Rattle.std.proofs.Common.{map}
 use Rattle.std.specs.String.{string_bytes}
 use Rattle.automizer_top.specs.Answers.{answered}
-use Rattle.automizer_top.proofs.ReportLaws.{program_reported, check_answered, replay_answered, print_reported}
+use Rattle.automizer_top.proofs.ReportLaws.{program_reported, check_answered, check_is_safe, replay_answered, print_reported}
 use Rattle.automizer_top.proofs.reporting.reported.Goals as goal
 
 pub returns-in_default-2-clause-reported : goal.returns-in_default-2-clause-reported
@@ -22,6 +22,13 @@ returns-in-Check-clause-reported g c =
     (g.H.Shelf.texts c.args.shelf.now) c.in-Some.ensures c.in-Check.is c.program.ensures
     (rw c.in-Some-2.is at c.in_ok-text.ensures.found)
     (rw (← c.in_ok-text.ensures.texts, ← c.deref-in-Check.ensures.value) c.checked.ensures.reported)
+
+pub returns-in-Check-clause-accepted : goal.returns-in-Check-clause-accepted
+returns-in-Check-clause-accepted g c =
+    check_is_safe (map string_bytes c.args.words.now) c.in-Some.mode c.in-Check.program c.in-Check.second c.program.result.now c.in-Some-2.text.items c.checked.result
+    (g.H.Shelf.texts c.args.shelf.now) c.in-Some.ensures c.in-Check.is c.program.ensures
+    (rw c.in-Some-2.is at c.in_ok-text.ensures.found)
+    (rw (← c.deref-in-Check.ensures.value) c.checked.ensures.accepted)
 
 pub returns-clause-reported : goal.returns-clause-reported
 returns-clause-reported g c =

@@ -20,18 +20,18 @@ returns-in_default-clause-accepted_text_is_safe g c =
 
 pub returns-in-Ok-write_all-clause-accepted_is_safe : goal.returns-in-Ok-write_all-clause-accepted_is_safe
 returns-in-Ok-write_all-clause-accepted_is_safe g c =
-    λ z. zero_is_safe (map string_bytes c.args.words.now) (g.H.Shelf.texts c.args.shelf.now) (answered c.in-Ok.answer) c.in-Ok.ensures.reported (sym c.status-status.ensures ∙ z)
+    λ z. zero_is_safe (map string_bytes c.args.words.now) (g.H.Shelf.texts c.args.shelf.now) (answered c.in-Ok.answer) c.in-Ok.ensures.reported c.in-Ok.ensures.accepted (sym c.status-status.ensures ∙ z)
 
 pub returns-in-Ok-write_all-clause-accepted_text_is_safe : goal.returns-in-Ok-write_all-clause-accepted_text_is_safe
 returns-in-Ok-write_all-clause-accepted_text_is_safe g c =
     let bytes : c.deref.result.now ≡ (answered c.in-Ok.answer).bytes = c.deref.ensures.value ∙ c.in-Ok-text.ensures in
     whole_is_safe (map string_bytes c.args.words.now) (g.H.Shelf.texts c.args.shelf.now) (g.K.Sink.taken c.args.sink.now) (g.K.Sink.taken c.write_all.new.sink) (answered c.in-Ok.answer)
-    c.in-Ok.ensures.reported
+    c.in-Ok.ensures.reported c.in-Ok.ensures.accepted
     (subst (λ (bs : List ℕ). IfSome (g.K.Sink.taken c.args.sink.now) (λ before. g.K.Sink.taken c.write_all.new.sink ≡ Some (before ++ bs))) bytes c.in-Ok-write_all.ensures.whole)
 
 pub returns-clause-accepted_text_is_safe : goal.returns-clause-accepted_text_is_safe
 returns-clause-accepted_text_is_safe g c =
     let bytes : c.deref.result.now ≡ (answered c.in-Ok.answer).bytes = c.deref.ensures.value ∙ c.in-Ok-text.ensures in
     front_is_safe (map string_bytes c.args.words.now) (g.H.Shelf.texts c.args.shelf.now) (g.K.Sink.taken c.args.sink.now) (g.K.Sink.taken c.write_all.new.sink) (answered c.in-Ok.answer)
-    c.in-Ok.ensures.reported
+    c.in-Ok.ensures.reported c.in-Ok.ensures.accepted
     (subst (λ (bs : List ℕ). IfSome (g.K.Sink.taken c.args.sink.now) (λ before. GainsFront bs before (g.K.Sink.taken c.write_all.new.sink))) bytes c.in-Err.ensures.front)
