@@ -1,17 +1,7 @@
-pub mod OptionParts
 pub mod TokenExtents
 pub mod FirstMark
 pub mod Blanks
-pub mod Differ
-pub mod NameLaws
-mod FormLaws
-mod FormValue
-mod FormRowLaws
-pub mod FirstFormLaws
-mod StepLaws
 pub mod LiteralLaws
-pub mod ColumnLaws
-pub mod ClaimLaws
 pub mod EnclosedLaws
 pub mod FrontLaws
 pub mod PieceTurns
@@ -48,8 +38,6 @@ pub mod TokenFaults
 mod SettledTools
 mod SettledExpressions
 mod SettledPrograms
-pub mod BodyLengths
-pub mod FirstFormLengths
 mod PrintedPieces
 mod PrintedTexts
 mod PrintedExpressions

@@ -1,16 +1,7 @@
 pub mod Bytes
 pub mod Tokens
-pub mod Differ
 pub mod Literals
-pub mod Straight
-pub mod Claims
-pub mod Forms
-pub mod FormRows
-pub mod FirstForm
-pub mod WellFormed
 pub mod Class
-pub mod Tidy
-pub mod Names
 pub mod Places
 pub mod Pieces
 pub mod Attributes
@@ -37,7 +28,6 @@ pub mod StatementViews
 pub mod ProgramViews
 pub mod ProgramSpelling
 pub mod ProgramGrowth
-pub mod BodyLengths
 pub mod Settled
 pub mod WholeText
 pub mod PrintedTokens

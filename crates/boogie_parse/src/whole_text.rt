@@ -1,7 +1,6 @@
 //! Programs of whole texts.
 
-ghost use Rattle.std.specs.Prelude.{◌≡◌, ℕ, ◌+◌, ◌<◌, ◌≤◌, ◌^◌, List, length, Ok, Err, IfOk, IfErr};
-ghost use Rattle.std.specs.List.{AllByRecursion};
+ghost use Rattle.std.specs.Prelude.{◌≡◌, ℕ, ◌+◌, ◌<◌, ◌^◌, List, length, Ok, Err, IfOk, IfErr};
 ghost use Rattle.boogie_tree.specs.Tree.{Declaration};
 ghost use Rattle.boogie_tree.specs.View.{program};
 ghost use Rattle.boogie_parse.specs.declared.fault.Fault.{Fault};
@@ -11,7 +10,6 @@ ghost use Rattle.boogie_parse.specs.ListViews.{Gives};
 ghost use Rattle.boogie_parse.specs.PrintedTokens.{IsSpellableProgram};
 ghost use Rattle.boogie_parse.specs.Respelled.{IsProgramAgain};
 ghost use Rattle.boogie_tree.specs.Printing.{program_text};
-ghost use Rattle.boogie_parse.specs.BodyLengths.{body_length};
 ghost use Rattle.boogie_parse.specs.WholeText.{end_of, read_text, IsOrMemory, IsOutside, IfSyntax, IfLimit, IsLimitAt, IfTokenFault, IsFaultOf};
 
 #[cfg(test)]
@@ -76,9 +74,4 @@ pub fn texts_are_read()
     ensures sound { (text : List ℕ) (ds : List Declaration) → read_text text ≡ Ok ds → IsProgram text ds }
     ensures complete { (text : List ℕ) (ds : List Declaration) → IsProgram text ds → read_text text ≡ Ok ds }
     ensures faults { (text : List ℕ) (f : Fault) → read_text text ≡ Err f → IsFaultOf text f }
-{}
-
-/// A program has no more statements in a body than its text has bytes.
-pub fn bodies_are_short()
-    ensures { (text : List ℕ) (ds : List Declaration) → IsProgram text ds → AllByRecursion (λ d. body_length d ≤ length text) ds }
 {}
