@@ -5,6 +5,7 @@ use std::test::Fail;
 
 mod checking;
 mod replaying;
+mod rows;
 mod typing;
 
 const INCREMENT: &str = "procedure main() {\n  var x: int;\n  x := 1;\n  assert x >= 1;\n}\n";
@@ -79,56 +80,98 @@ fn check(alloc: Global, program: &[u8], proof: &[u8]) -> Result<(String, u8), Fa
     answered(alloc, "check", program, proof)
 }
 
-#[test]
-fn words_and_devices(rt: HostRuntime) -> Result<(), Fail> {
-    let usage =
-        "usage: automizer MODE PROGRAM [SECOND] [--entry NAME] [--rounds N] [--workers N] [--depth N]\n";
-    let alloc = rt.alloc();
-    // In pieces of 7 bytes the program takes the calls 1 to 10: it is begun, has 57 bytes, and then nothing is left.
-    for (mode, program, second, shelf_fails, sink_fails, output, status) in [
-        ("check", "p", "q", 0, 0, "accepted\n", 0),
-        ("check", "p", "", 0, 0, "", 5),
-        ("check", "other", "q", 0, 0, "", 5),
-        ("verify", "p", "q", 0, 0, usage, 4),
-        ("replay", "p", "q", 0, 0, "rejected 1 Syntax\n", 1),
-        ("replay", "p", "", 0, 0, "", 5),
-        ("replay", "other", "q", 0, 0, "", 5),
-        ("replay", "p", "q", 12, 0, "", 5),
-        ("replay", "p", "q", 0, 2, "rejecte", 5),
-        ("p", "check", "q", 0, 0, usage, 4),
-        ("check", "p", "q", 1, 0, "", 5),
-        ("check", "p", "q", 2, 0, "", 5),
-        ("check", "p", "q", 12, 0, "", 5),
-        ("check", "p", "q", 0, 1, "", 5),
-        ("check", "p", "q", 0, 2, "accepte", 5),
-        ("check", "p", "q", 0, 3, "accepted\n", 0),
-    ] {
-        let words = all_words(alloc, &[mode, program, second])?;
-        let texts = texts(alloc, INCREMENT.as_bytes(), PROOF.as_bytes())?;
-        let mut shelf = MemShelf::new(texts, 7, vec![in alloc; shelf_fails]?);
-        let mut sink = MemSink::new(alloc, 7, vec![in alloc; sink_fails]?);
-        let given = run(&(), alloc, &words, &mut shelf, &mut sink);
-        assert_eq!(rt; sink.taken(), output.as_bytes(), "{words:?}");
-        assert_eq!(rt; given, status, "{words:?}");
+/// Words, joined by `/`, the number of the call on the shelf and of the one on the sink that fail, 0 for none, the status, and behind it what is
+/// written, in which `$` is the end of a line. In pieces of 7 bytes the program takes the calls 1 to 10: it is begun, has 57 bytes,
+/// and then nothing is left.
+const CALLS: &str = "check/p/q 0 0 0:accepted$
+check/p/ 0 0 5:
+check/other/q 0 0 5:
+replay/p/q 0 0 1:rejected 1 Syntax$
+replay/p/ 0 0 5:
+replay/other/q 0 0 5:
+replay/p/q 12 0 5:
+replay/p/q 0 2 5:rejecte
+print/other 0 0 5:
+check/p/q 1 0 5:
+check/p/q 2 0 5:
+check/p/q 12 0 5:
+check/p/q 0 1 5:
+check/p/q 0 2 5:accepte
+check/p/q 0 3 0:accepted$
+";
+
+/// Faulty words, joined by `/`.
+const FAULTY: &str = "verify/p/q
+p/check/q
+check/p
+replay/p
+print
+print/p/q
+verify/p
+";
+
+/// The words that are joined by `/`.
+fn parted(alloc: Global, joined: &str) -> Result<Vec<String>, AllocError> {
+    let mut words = Vec::new(alloc);
+    for word in joined.split('/') {
+        words.push(String::from_str(alloc, word)?)?;
     }
-    for (words, output, status) in [
-        (["check", "p"].as_slice(), usage, 4),
-        (["replay", "p"].as_slice(), usage, 4),
-        (["print"].as_slice(), usage, 4),
-        (["print", "p", "q"].as_slice(), usage, 4),
-        (["verify", "p"].as_slice(), usage, 4),
-        (["print", "p"].as_slice(), "", 5),
-    ] {
-        let words = all_words(alloc, words)?;
+    Ok(words)
+}
+
+/// The status and what is written, in which `$` is the end of a line, where these calls on the shelf and on the sink fail.
+fn under_faults(
+    alloc: Global,
+    words: &[String],
+    shelf_fails: u64,
+    sink_fails: u64,
+) -> Result<String, Fail> {
+    let texts = texts(alloc, INCREMENT.as_bytes(), PROOF.as_bytes())?;
+    let mut shelf = MemShelf::new(texts, 7, vec![in alloc; shelf_fails]?);
+    let mut sink = MemSink::new(alloc, 7, vec![in alloc; sink_fails]?);
+    let status = run(&(), alloc, words, &mut shelf, &mut sink);
+    let output = String::from_utf8(sink.taken().to_vec(alloc)?)?;
+    let output = output.replace(alloc, '\n', "$")?;
+    Ok(format!(in alloc; "{status}:{output}")?)
+}
+
+/// The first row of `CALLS` that is answered otherwise, with its answer.
+fn first_wrong_call(alloc: Global) -> Result<Option<String>, Fail> {
+    for row in CALLS.lines() {
+        let (joined, rest) = row.split_once(' ').unwrap_or((row, ""));
+        let (shelf_fails, rest) = rest.split_once(' ').unwrap_or((rest, ""));
+        let (sink_fails, wanted) = rest.split_once(' ').unwrap_or((rest, ""));
+        let words = parted(alloc, joined)?;
+        let given = under_faults(alloc, &words, shelf_fails.parse()?, sink_fails.parse()?)?;
+        if given.as_str() != wanted {
+            return Ok(Some(format!(in alloc; "{row}: {given}")?));
+        }
+    }
+    Ok(None)
+}
+
+/// The first faulty words that are answered by another text than the usage line, or with another status than 4.
+fn first_other_than_usage(alloc: Global) -> Result<Option<&'static str>, AllocError> {
+    let usage =
+        b"usage: automizer MODE PROGRAM [SECOND] [--entry NAME] [--rounds N] [--workers N] [--depth N]\n";
+    for joined in FAULTY.lines() {
+        let words = parted(alloc, joined)?;
         let mut shelf = MemShelf::new(Vec::new(alloc), 7, Vec::new(alloc));
         let mut sink = MemSink::new(alloc, 100, Vec::new(alloc));
-        assert_eq!(rt;
-            run(&(), alloc, &words, &mut shelf, &mut sink),
-            status,
-            "{words:?}"
-        );
-        assert_eq!(rt; sink.taken(), output.as_bytes(), "{words:?}");
+        let status = run(&(), alloc, &words, &mut shelf, &mut sink);
+        if status != 4 || sink.taken() != usage.as_slice() {
+            return Ok(Some(joined));
+        }
     }
+    Ok(None)
+}
+
+#[test]
+fn words_and_devices(rt: HostRuntime) -> Result<(), Fail> {
+    let wrong = first_wrong_call(rt.alloc())?;
+    assert!(rt; wrong.is_none(), "{wrong:?}");
+    let wrong = first_other_than_usage(rt.alloc())?;
+    assert!(rt; wrong.is_none(), "{wrong:?}");
     Ok(())
 }
 
@@ -216,7 +259,18 @@ fn printed(alloc: Global, program: &[u8]) -> Result<(String, u8), Fail> {
     Ok((String::from_utf8(sink.taken().to_vec(alloc)?)?, status))
 }
 
-const COUNTER: &str = "// a counter with a flag
+/// Programs, behind `>` the lines that are written of them, and behind `= ` the status.
+const PRINTED: &str = "= 0
+procedure main(){var x,y:int; x:=1 ;assert {:msg \"m\"} (x>=1)&&true; /* c */ }
+>procedure main()
+>{
+>  var x: int;
+>  var y: int;
+>  x := 1;
+>  assert x >= 1 && true;
+>}
+= 0
+// a counter with a flag
 const limit: int;
 axiom 0 <= limit;
 var {:tracked} count: int;
@@ -239,9 +293,38 @@ procedure main() modifies count; {
   { call stop := advance(true); /* again */ }
   assert count >= 0 && (count == limit ==> stop);
 }
-";
-
-const COUNTER_PRINTED: &str = "const limit: int;
+>const limit: int;
+>axiom 0 <= limit;
+>var count: int;
+>procedure advance(up: bool) returns (done: bool)
+>  requires 0 <= count && count <= limit;
+>  modifies count;
+>  ensures 0 <= count && count <= limit;
+>  ensures done <==> count == limit;
+>{
+>  if (*) {
+>    goto skip;
+>  }
+>  if (up && count < limit) {
+>    count := count + 1;
+>  }
+>  skip:
+>  done := count == limit;
+>}
+>procedure main()
+>  modifies count;
+>{
+>  var stop: bool;
+>  count, stop := 0, false;
+>  while (!stop)
+>    invariant 0 <= count && count <= limit;
+>  {
+>    call stop := advance(true);
+>  }
+>  assert count >= 0 && (count == limit ==> stop);
+>}
+= 0
+const limit: int;
 axiom 0 <= limit;
 var count: int;
 procedure advance(up: bool) returns (done: bool)
@@ -271,41 +354,86 @@ procedure main()
   }
   assert count >= 0 && (count == limit ==> stop);
 }
+>const limit: int;
+>axiom 0 <= limit;
+>var count: int;
+>procedure advance(up: bool) returns (done: bool)
+>  requires 0 <= count && count <= limit;
+>  modifies count;
+>  ensures 0 <= count && count <= limit;
+>  ensures done <==> count == limit;
+>{
+>  if (*) {
+>    goto skip;
+>  }
+>  if (up && count < limit) {
+>    count := count + 1;
+>  }
+>  skip:
+>  done := count == limit;
+>}
+>procedure main()
+>  modifies count;
+>{
+>  var stop: bool;
+>  count, stop := 0, false;
+>  while (!stop)
+>    invariant 0 <= count && count <= limit;
+>  {
+>    call stop := advance(true);
+>  }
+>  assert count >= 0 && (count == limit ==> stop);
+>}
+= 0
+procedure main() { assert 170141183460469231731687303715884105727 > 0; }
+>procedure main()
+>{
+>  assert 170141183460469231731687303715884105727 > 0;
+>}
+= 0
+procedure main() { assert 170141183460469231731687303715884105728 > 0; }
+>refused Limit literal 1 27
+= 3
+procedure main() { var a, b, c: bool; assert a && b || c; }
+>refused Syntax 1 53
+= 3
+var m: [int]int;
+>refused Unsupported map 1 8
+= 3
+
+
+ const c: real;
+>refused Unsupported real 3 11
+= 3
 ";
+
+/// The first program that is printed otherwise, with its answer.
+fn first_wrong_print(alloc: Global) -> Result<Option<String>, Fail> {
+    let mut program = String::new(alloc);
+    let mut wanted = String::new(alloc);
+    for line in PRINTED.lines() {
+        if let Some(rest) = line.strip_prefix('>') {
+            rows::push_line(&mut wanted, rest)?;
+        } else if let Some(answer) = line.strip_prefix("= ") {
+            let (output, status) = printed(alloc, program.as_bytes())?;
+            let given = format!(in alloc; "{status} {output}")?;
+            let wanted_now = format!(in alloc; "{answer} {wanted}")?;
+            if given.as_str() != wanted_now.as_str() {
+                return Ok(Some(format!(in alloc; "{program}{given}")?));
+            }
+            program = String::new(alloc);
+            wanted = String::new(alloc);
+        } else {
+            rows::push_line(&mut program, line)?;
+        }
+    }
+    Ok(None)
+}
 
 #[test]
 fn programs_are_printed(rt: HostRuntime) -> Result<(), Fail> {
-    for (program, output, status) in [
-        ("", "", 0),
-        (
-            "procedure main(){var x,y:int; x:=1 ;assert {:msg \"m\"} (x>=1)&&true; /* c */ }",
-            "procedure main()\n{\n  var x: int;\n  var y: int;\n  x := 1;\n  assert x >= 1 && true;\n}\n",
-            0,
-        ),
-        (COUNTER, COUNTER_PRINTED, 0),
-        (COUNTER_PRINTED, COUNTER_PRINTED, 0),
-        (
-            "procedure main() { assert 170141183460469231731687303715884105727 > 0; }",
-            "procedure main()\n{\n  assert 170141183460469231731687303715884105727 > 0;\n}\n",
-            0,
-        ),
-        (
-            "procedure main() { assert 170141183460469231731687303715884105728 > 0; }",
-            "refused Limit literal 1 27\n",
-            3,
-        ),
-        (
-            "procedure main() { var a, b, c: bool; assert a && b || c; }",
-            "refused Syntax 1 53\n",
-            3,
-        ),
-        ("var m: [int]int;", "refused Unsupported map 1 8\n", 3),
-        ("\n\n const c: real;", "refused Unsupported real 3 11\n", 3),
-    ] {
-        let (written, given) = printed(rt.alloc(), program.as_bytes())?;
-        assert_eq!(rt; written.as_str(), output, "{program}");
-        assert_eq!(rt; given, status, "{program}");
-    }
+    let wrong = first_wrong_print(rt.alloc())?;
+    assert!(rt; wrong.is_none(), "{wrong:?}");
     Ok(())
 }
 
