@@ -15,8 +15,6 @@ mod judgement;
 mod piece;
 mod runs;
 mod scan;
-#[cfg(test)]
-mod tests;
 mod token;
 
 use crate::fault::Fault;

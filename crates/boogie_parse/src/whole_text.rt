@@ -12,9 +12,6 @@ ghost use Rattle.boogie_parse.specs.Respelled.{IsProgramAgain};
 ghost use Rattle.boogie_tree.specs.Printing.{program_text};
 ghost use Rattle.boogie_parse.specs.WholeText.{end_of, read_text, IsOrMemory, IsOutside, IfSyntax, IfLimit, IsLimitAt, IfTokenFault, IsFaultOf};
 
-#[cfg(test)]
-mod tests;
-
 use crate::fault::Fault;
 use crate::grammar::parser::Parser;
 use crate::lexer::{behind, lex};
