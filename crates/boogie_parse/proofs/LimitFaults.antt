@@ -1,6 +1,6 @@
 -- A limit is a fault only where the program is past it: with the same room of that kind and more of the others it stays one, and what is in the grammar and
 -- within that limit is read.
-use Rattle.std.proofs.Common.{◌≡◌, ℕ, ◌+◌, ◌<◌, ◌≤◌, List, Result, Ok, Err, IfErr, inl, inr, map, subst, arith}
+use Rattle.std.proofs.Common.{◌≡◌, ℕ, ◌+◌, ◌<◌, ◌≤◌, List, Result, Ok, Err, IfErr, inl, inr, subst, arith}
 use Rattle.std.specs.List.{AllByRecursion}
 use Rattle.std.proofs.lemmas.Bool.{cases_lt}
 use Rattle.boogie_tree.specs.declared.span.Span.{Span}
@@ -10,19 +10,18 @@ use Rattle.boogie_parse.specs.declared.fault.Fault.TheVariants as faults
 use Rattle.boogie_parse.specs.declared.fault.Which.{Which}
 use Rattle.boogie_parse.specs.declared.fault.Which.TheVariants as limits
 use Rattle.boogie_parse.specs.declared.symbols.Symbol.{Symbol}
-use Rattle.boogie_parse.specs.Symbols.{symbol}
 use Rattle.boogie_parse.specs.GrammarProgram.{ReadsProgram, joined}
-use Rattle.boogie_parse.specs.GrammarLimits.{IsShallow, IsShallowDeclaration, variables_of, procedures_of, IsInGrammar}
+use Rattle.boogie_parse.specs.GrammarLimits.{IsShallow, IsShallowDeclaration, variables_of, procedures_of}
 use Rattle.boogie_parse.specs.ListReading.{expression_at}
 use Rattle.boogie_parse.specs.ProgramReading.{program_at}
 use Rattle.boogie_parse.specs.ProgramGrowth.{Keeps}
-use Rattle.boogie_parse.specs.WholeText.{end_of, read_text, IsPast}
+use Rattle.boogie_parse.specs.WholeText.{IsPast}
 use Rattle.boogie_parse.proofs.ConditionComplete.{expression_at-complete}
 use Rattle.boogie_parse.proofs.ProgramComplete.{program-joined}
 use Rattle.boogie_parse.proofs.ProgramRoom.{same, program_keeps}
 use Rattle.boogie_parse.proofs.ExpressionRefusals.{IsRefusal}
 use Rattle.boogie_parse.proofs.ProgramRefusals.{IsOfPrograms, program_refusals}
-use Rattle.boogie_parse.proofs.SyntaxFaults.{all_variables, few_enough, Kinds, roomier, level, wide, wide-read, wide-keeps, no_fault, Faults, with_tokens}
+use Rattle.boogie_parse.proofs.SyntaxFaults.{all_variables, few_enough, Kinds, roomier, level, wide, wide-read, wide-keeps, no_fault, Faults}
 
 many_variables : (end : Span) (p b : ℕ) (ts : List Symbol) (groups : List (List Declaration)) (line col : ℕ) → ReadsProgram p b ts groups → Faults end ts (faults.Limit limits.Variables line col) →
     AllByRecursion (λ ds. variables_of ds ≤ 1000) groups → ⊥

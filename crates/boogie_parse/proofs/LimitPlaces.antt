@@ -2,7 +2,6 @@
 use Rattle.std.proofs.Common.{◌≡◌, ℕ, zero, suc, Bool, true, false, List, [], ◌∷◌, ◌++◌, Option, None, Some, Result, Ok, Err, IfErr, map, refl, sym, ap, subst, ◌∙◌, if◌then◌else◌}
 use Rattle.std.specs.List.{AllByRecursion}
 use Rattle.boogie_tree.specs.declared.span.Span.{Span}
-use Rattle.boogie_tree.specs.Tree.{Declaration}
 use Rattle.boogie_parse.specs.declared.fault.Fault.{Fault}
 use Rattle.boogie_parse.specs.declared.fault.Fault.TheVariants as faults
 use Rattle.boogie_parse.specs.declared.fault.Which.{Which}
@@ -15,7 +14,7 @@ use Rattle.boogie_parse.specs.Attributes.{begins_attribute, braced_length}
 use Rattle.boogie_parse.specs.Lexed.{left_out, beside, supported, judged, inside_attribute, attribute, found_in, with_token, tokens_or_fault, lexed}
 use Rattle.boogie_parse.specs.Symbols.{symbol}
 use Rattle.boogie_parse.specs.WholeText.{end_of, read_tokens, read_text, IfLimit, IsLimitAt}
-use Rattle.boogie_parse.proofs.SyntaxFaults.{Faults, with_tokens}
+use Rattle.boogie_parse.proofs.SyntaxFaults.{with_tokens}
 use Rattle.boogie_parse.proofs.SettledPrograms.{limit_settled}
 use Rattle.boogie_parse.proofs.LimitFaults.{limit_past}
 

@@ -6,11 +6,10 @@ use Rattle.boogie_tree.specs.Tree.{Declaration}
 use Rattle.boogie_tree.specs.View.{program}
 use Rattle.boogie_parse.specs.declared.fault.Fault.{Fault}
 use Rattle.boogie_parse.specs.declared.fault.Fault.TheVariants as faults
-use Rattle.boogie_parse.specs.declared.fault.Which.{Which}
 use Rattle.boogie_parse.specs.declared.lexer.token.Token.{Token}
 use Rattle.boogie_parse.specs.Lexed.{lexed}
 use Rattle.boogie_parse.specs.Symbols.{symbol}
-use Rattle.boogie_parse.specs.GrammarLimits.{IsInGrammar, IsProgram}
+use Rattle.boogie_parse.specs.GrammarLimits.{IsProgram}
 use Rattle.boogie_parse.specs.ProgramSpelling.{Spells}
 use Rattle.boogie_parse.specs.ListReading.{expression_at}
 use Rattle.boogie_parse.specs.ListViews.{Gives}
