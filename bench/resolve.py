@@ -1,5 +1,5 @@
 #!/usr/bin/env python3
-"""Times `check` on programs of doubled sizes that keep the typing rules and are not in the first form, in one run, and prints the ratios: resolve.py [PROGRAM]
+"""Times typing by `replay` on programs of doubled sizes that keep the typing rules, with a second text that is no failure, in one run, and prints the ratios: resolve.py [PROGRAM]
 
 It wants the proved program: cd crates/automizer && rt run"""
 import pathlib
@@ -50,9 +50,9 @@ def timed(program: str, path: str) -> float:
     best = None
     for _ in range(5):
         begin = time.perf_counter()
-        run = subprocess.run([program, "check", path, path], capture_output=True)
+        run = subprocess.run([program, "replay", path, path], capture_output=True)
         took = time.perf_counter() - begin
-        assert (run.returncode, run.stdout) == (3, b"refused Form\n"), (run.returncode, run.stdout)
+        assert (run.returncode, run.stdout) == (1, b"rejected 1 Syntax\n"), (run.returncode, run.stdout)
         best = took if best is None else min(best, took)
     return best
 
