@@ -1,0 +1,6 @@
+//! What Decide says of the rows of a word: whether it is feasible.
+#![tactic(auto)]
+
+mod deciding;
+
+pub use deciding::{Finding, decide_path, plain_path};
