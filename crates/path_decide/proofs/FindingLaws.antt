@@ -1,11 +1,13 @@
 -- What is found of a word by an answer of Decide on a system of its rows.
-use Rattle.std.proofs.Common.{◌≡◌, ℕ, ℤ, List, [], ◌∷◌, length, map, refl, sym, subst, Some}
+use mathlib.Core.Path.{fun_ext}
+use Rattle.std.proofs.Common.{◌≡◌, ℕ, zero, suc, ℤ, List, [], ◌∷◌, length, map, refl, sym, subst, Some}
 use Rattle.std.specs.Prelude.{Result, Ok, Err, IfOk}
 use Rattle.std.specs.declared.alloc.AllocError.{AllocError}
 use Rattle.std.specs.List.{AllByRecursion}
 use Rattle.std.proofs.lemmas.Option.{same_Some, none-some}
 use Rattle.lin_rows.specs.declared.systems.System.{System}
 use Rattle.lin_rows.specs.Rows.{LinearRow, Holds}
+use Rattle.lin_rows.specs.Points.{point_of}
 use Rattle.lin_rows.specs.Tightening.{tightened}
 use Rattle.lin_rows.specs.Systems.{Meets, rows_of, groups_of}
 use Rattle.lin_rows.proofs.SystemLaws.{meets_open}
@@ -20,7 +22,7 @@ use Rattle.int_decide.specs.Decide.{decide, decide_rows, decide_groups}
 use Rattle.int_decide.specs.Decisions.{Decision, refuted, whole, gap, WhereRefuted}
 use Rattle.int_decide.specs.Numbers.{RowsFit, GroupsFit, LeavesFit, DecideFits}
 use Rattle.int_decide.specs.Sizes.{group_count}
-use Rattle.int_decide.specs.Worth.{point_of}
+use Rattle.int_decide.specs.Worth as worth
 use Rattle.nwa_base.specs.declared.letters.Letter.{Letter}
 use Rattle.letter_acts.specs.Invariant.{Graph}
 use Rattle.path_rows.specs.Paths.{path_of}
@@ -68,11 +70,21 @@ fit_all g w n d s h p = record {
 refutes_path : (g : Graph) (w : List Letter) (n d : ℕ) (s : System) (nodes : List PlainNode) → IsSystemOf g w n s → Refutes nodes s → RefutesPath g w nodes
 refutes_path g w n d s nodes h r = subst (λ (x : Goal). Refute nodes (x ∷ [])) (goal_is g w n s h) r
 
-whole_point : (g : Graph) (w : List Letter) (n d : ℕ) (s : System) (values : List ℤ) → IsSystemOf g w n s → decide n d s ≡ whole values → Meets (point_of values) s →
+same_at : (values : List ℤ) (c : ℕ) → worth.point_of values c ≡ point_of values c
+same_at [] c = refl
+same_at (v ∷ vs) zero = refl
+same_at (v ∷ vs) (suc c) = same_at vs c
+
+-- a point of the definition of Decide is the one of rows
+same_point : (values : List ℤ) → worth.point_of values ≡ point_of values
+same_point values = fun_ext (λ c. same_at values c)
+
+whole_point : (g : Graph) (w : List Letter) (n d : ℕ) (s : System) (values : List ℤ) → IsSystemOf g w n s → decide n d s ≡ whole values → Meets (worth.point_of values) s →
     path_decision g d w ≡ whole values × AllByRecursion (Holds (point_of values)) (path_of g w).rows
 whole_point g w n d s values h e m =
     let f = decision_is g w n d s h in
-    (cc, subst (λ (rows : List LinearRow). AllByRecursion (Holds (point_of values)) rows) h.rows (meets_open (point_of values) s m).0)
+    (cc, subst (λ (point : ℕ → ℤ). AllByRecursion (Holds point) (path_of g w).rows) (same_point values)
+        (subst (λ (rows : List LinearRow). AllByRecursion (Holds (worth.point_of values)) rows) h.rows (meets_open (worth.point_of values) s m).0))
 
 -- what is found of the word by this answer
 pub found_by : (g : Graph) (w : List Letter) (n d : ℕ) (s : System) (answer : Result Answer DecideFault) (f : Finding) → IsSystemOf g w n s →

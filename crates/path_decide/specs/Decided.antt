@@ -3,13 +3,14 @@ use Rattle.std.specs.Prelude.{◌≡◌, ℕ, ℤ, List, [], ◌∷◌, length, 
 use Rattle.std.specs.List.{AllByRecursion}
 use Rattle.math_facts.specs.Fits.{Fits}
 use Rattle.lin_rows.specs.Rows.{LinearRow, Holds}
+use Rattle.lin_rows.specs.Points.{point_of}
 use Rattle.lin_rows.specs.Tightening.{tightened}
 use Rattle.farkas_check.specs.Nodes.{PlainNode}
 use Rattle.farkas_check.specs.Refutes.{Goal, Refute}
 use Rattle.int_decide.specs.Decisions.{Decision, refuted, whole, gap, WhereRefuted}
 use Rattle.int_decide.specs.Decide.{decide_rows}
 use Rattle.int_decide.specs.Numbers.{RowsFit, LeavesFit}
-use Rattle.int_decide.specs.Worth.{point_of, IsTreeOf}
+use Rattle.int_decide.specs.Worth.{IsTreeOf}
 use Rattle.nwa_base.specs.declared.letters.Letter.{Letter}
 use Rattle.letter_acts.specs.Invariant.{Graph}
 use Rattle.path_rows.specs.Paths.{path_of}
