@@ -1,0 +1,8 @@
+mod NumeralLaws
+mod CorrespondLaws
+mod ShapeLaws
+mod NameLaws
+mod AtomLaws
+mod RefutationLaws
+mod TripleLaws
+mod DraftLaws

@@ -1,0 +1,4 @@
+pub mod Correspond
+pub mod Drafts
+pub mod Nodes
+pub mod Spelled

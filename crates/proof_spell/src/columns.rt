@@ -1,0 +1,44 @@
+//! The texts that name procedures and columns.
+
+ghost use Rattle.std.specs.Prelude.{◌≡◌, [], ◌∷◌, IfOk};
+ghost use Rattle.letter_acts.specs.Acts.{frame_of};
+ghost use Rattle.letter_acts.specs.Invariant.{alphabet_of};
+ghost use Rattle.letter_acts.specs.Kept.{Keeps};
+ghost use Rattle.proof_names.specs.Columns as spec;
+
+use boogie_tree::{Column, Text, VarInfo};
+use letter_acts::Icfg;
+use std::alloc::{AllocError, Global};
+
+/// The columns of a procedure, none where there is no such procedure.
+pub(crate) fn columns_of(icfg: &Icfg, proc: u32) -> &[(Column, VarInfo)]
+    ensures value { result.now ≡ frame_of (alphabet_of icfg.now) proc }
+    ensures valid { Keeps icfg.now }
+{
+    match icfg.frames().get(proc as usize) {
+        Some(frame) => frame.columns.as_slice(),
+        None => &[],
+    }
+}
+
+/// The letter before the colon that stands before the name of a column.
+fn mark(column: Column) -> u8
+    ensures { spec.mark column ≡ result ∷ 58 ∷ [] }
+{
+    match column {
+        Column::Global(_) => b'g',
+        Column::Old(_) => b'o',
+        Column::Local(_) => b'l',
+    }
+}
+
+/// The text that names a column.
+pub(crate) fn column_text(alloc: Global, column: &(Column, VarInfo)) -> Result<Text, AllocError>
+    ensures { IfOk result (λ t. t ≡ spec.column_text column.now) }
+{
+    let mut text = Vec::new(alloc);
+    text.push(mark(column.0))?;
+    text.push(b':')?;
+    text.extend_from_slice(column.1.name.bytes())?;
+    Ok(Text::new(text))
+}

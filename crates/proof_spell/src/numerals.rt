@@ -1,0 +1,53 @@
+//! The numerals of numbers.
+
+ghost use Rattle.std.specs.Prelude.{◌≡◌, pos, IfOk};
+ghost use Rattle.std.specs.Fmt.{decimal};
+ghost use Rattle.math_facts.specs.Fits.{Fits};
+ghost use Rattle.proof_spell.specs.Spelled.{Writes, WritesIndex, WritesShort};
+
+use boogie_tree::Text;
+use proof_form::Numeral;
+use std::alloc::{AllocError, Global};
+
+/// The decimal digits of a number.
+fn digits(alloc: Global, number: u128) -> Result<Text, AllocError>
+    ensures { IfOk result (λ t. t ≡ decimal number) }
+{
+    let text = format!(in alloc; "{number}")?;
+    Ok(Text::new(text.into_bytes()))
+}
+
+/// The numeral of a number that is not negative.
+pub(crate) fn natural(alloc: Global, number: u64) -> Result<Numeral, AllocError>
+    ensures { IfOk result (λ n. Writes n (pos number)) }
+{
+    Ok(Numeral {
+        negative: false,
+        digits: digits(alloc, u128::from(number))?,
+    })
+}
+
+/// The numeral of a member of a list.
+pub(crate) fn index(alloc: Global, number: usize) -> Result<Numeral, AllocError>
+    ensures { IfOk result (λ n. WritesIndex n number) }
+{
+    natural(alloc, number as u64)
+}
+
+/// The numeral of a letter or a place.
+pub(crate) fn short(alloc: Global, number: u32) -> Result<Numeral, AllocError>
+    ensures { IfOk result (λ n. WritesShort n number) }
+{
+    natural(alloc, u64::from(number))
+}
+
+/// The numeral of a number.
+pub(crate) fn integer(alloc: Global, number: i128) -> Result<Numeral, AllocError>
+    requires { Fits number }
+    ensures { IfOk result (λ n. Writes n number) }
+{
+    Ok(Numeral {
+        negative: number < 0,
+        digits: digits(alloc, number.unsigned_abs())?,
+    })
+}
