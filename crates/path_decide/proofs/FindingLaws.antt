@@ -82,9 +82,11 @@ same_point values = fun_ext (λ c. same_at values c)
 whole_point : (g : Graph) (w : List Letter) (n d : ℕ) (s : System) (values : List ℤ) → IsSystemOf g w n s → decide n d s ≡ whole values → Meets (worth.point_of values) s →
     path_decision g d w ≡ whole values × AllByRecursion (Holds (point_of values)) (path_of g w).rows
 whole_point g w n d s values h e m =
-    let f = decision_is g w n d s h in
-    (cc, subst (λ (point : ℕ → ℤ). AllByRecursion (Holds point) (path_of g w).rows) (same_point values)
-        (subst (λ (rows : List LinearRow). AllByRecursion (Holds (worth.point_of values)) rows) h.rows (meets_open (worth.point_of values) s m).0))
+    let f = decision_is g w n d s h in (
+      cc,
+      subst (λ (point : ℕ → ℤ). AllByRecursion (Holds point) (path_of g w).rows) (same_point values)
+          (subst (λ (rows : List LinearRow). AllByRecursion (Holds (worth.point_of values)) rows) h.rows (meets_open (worth.point_of values) s m).0),
+    )
 
 -- what is found of the word by this answer
 pub found_by : (g : Graph) (w : List Letter) (n d : ℕ) (s : System) (answer : Result Answer DecideFault) (f : Finding) → IsSystemOf g w n s →

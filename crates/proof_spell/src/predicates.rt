@@ -2,7 +2,6 @@
 
 ghost use Rattle.std.specs.Prelude.{◌≡◌, length, slice_get, IfOk, IsTrue, Some};
 ghost use Rattle.std.specs.List.{AllByRecursion};
-
 ghost use Rattle.triple_rows.specs.Predicates.{IsAtom};
 ghost use Rattle.math_facts.specs.Terms.{IsBelow};
 ghost use Rattle.proof_form.specs.Predicates as form;

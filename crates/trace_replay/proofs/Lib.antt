@@ -16,3 +16,5 @@ pub mod ReplaySteps
 pub mod ReplayCode
 pub mod ReplayFound
 pub mod ReplayFailures
+pub mod ToldEnds
+pub mod ToldSites

@@ -5,3 +5,4 @@ pub mod Replays
 pub mod ReplayCauses
 pub mod NextChoices
 pub mod ReplayAnswers
+pub mod ToldRuns

@@ -2,6 +2,7 @@
 #![tactic(auto)]
 
 mod causes;
+mod choosing;
 mod failure;
 pub mod laws;
 mod numerals;
@@ -14,6 +15,7 @@ mod writing;
 
 pub use boogie_run::{AssertId, Choice};
 pub use causes::{ReplayCause, ReplayFault};
+pub use choosing::choices_of;
 pub use failure::{Failure, FailureFault, Trail};
 pub use reading::read_failure;
 pub use replaying::replay;

@@ -1,0 +1,5 @@
+pub mod PlaceKinds
+pub mod Steps
+pub mod ReadLetters
+pub mod Ways
+pub mod Told

@@ -1,0 +1,5 @@
+pub mod Kinds
+pub mod Walks
+pub mod Telling
+pub mod Made
+pub mod Views
