@@ -115,7 +115,7 @@ last_sum limit b parts q h r own upto =
 
 -- ---- the tree of a refutation of rows
 
-abbrev rows_goal : Branch → Goal
+abbrev pub rows_goal : Branch → Goal
 rows_goal b = record { rows = b.rows; groups = [] }
 
 refutes_tree : (t : Tree) (ns : List PlainNode) (rows : List LinearRow) (gs : List Goal) → Refute (prefix_of t ++ ns) (record { rows = rows; groups = [] } ∷ gs) →

@@ -46,6 +46,12 @@ scoped_at g w t q = record { proc = q.scope.proc; pred = prefix_of (predicate_at
 abbrev pub prefix_predicates : Graph → List Letter → Tree → List Scoped
 prefix_predicates g w t = map (scoped_at g w t) (positions_of g w)
 
+-- the predicates are the prefix predicates of the word under the refutation with these nodes
+pub record ArePredicates (g : Graph) (w : List Letter) (nodes : List PlainNode) (preds : List Scoped) : Type 0 where
+  pub tree : Tree
+  pub spelled : nodes_of tree ≡ nodes
+  pub preds_are : preds ≡ prefix_predicates g w tree
+
 -- the triple of a return, with the predicates before the calls that are open, innermost first
 abbrev pub return_triple : ℕ → Scoped → List Scoped → Scoped → List Triple
 return_triple letter exit [] to = []

@@ -10,7 +10,7 @@ use nwa_base::Groups;
 use std::alloc::{AllocError, Global};
 
 /// The parts of a leaf by the stamps of their rows.
-fn parts_by_stamp(
+pub(crate) fn parts_by_stamp(
     alloc: Global,
     stamps: &[u64],
     parts: &[(u32, i128)],

@@ -1,6 +1,6 @@
 //! Running sums of a leaf's rows.
 
-ghost use Rattle.std.specs.Prelude.{◌*ℤ◌, OnOk};
+ghost use Rattle.std.specs.Prelude.{◌≡◌, ℕ, pos, ◌*ℤ◌, IfOk, OnOk, length};
 ghost use Rattle.std.specs.List.{AllByRecursion};
 
 use crate::wide::Wide;
@@ -25,6 +25,24 @@ impl Running {
     ghost use Rattle.math_facts.specs.Fits.{Fits};
     ghost use Rattle.nested_itp.specs.Wides.{value_of};
     ghost use Rattle.nested_itp.specs.Runnings.{value_at, AreCounted, AddsTerm, AddsTerms, AddsBound, AddsRow, ProductsFit, PartsFit, AddsParts};
+
+    /// What no row adds up to, over so many versions.
+    pub(crate) fn start(alloc: Global, width: usize) -> Result<Self, AllocError>
+        ensures width { IfOk result (λ r. length r.columns.items ≡ width) }
+        ensures columns { IfOk result (λ r. (v : ℕ) → value_at r.columns.items v ≡ pos 0) }
+        ensures bound { IfOk result (λ r. value_of r.bound ≡ pos 0) }
+        ensures counted { IfOk result AreCounted }
+    {
+        let mut columns = Vec::with_capacity(alloc, width)?;
+        for _v in 0..width {
+            columns.push(Wide::zero())?;
+        }
+        Ok(Running {
+            columns,
+            bound: Wide::zero(),
+            count: 0,
+        })
+    }
 
     /// Adds a number at a version. One that stands in no frame is left out.
     fn add_term(&mut self, column: Col, number: i128) -> Result<(), AllocError>
