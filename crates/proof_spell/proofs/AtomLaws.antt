@@ -17,14 +17,14 @@ use Rattle.triple_rows.specs.declared.predicates.PredNode.{PredNode}
 use Rattle.triple_rows.specs.declared.predicates.PredNode.TheVariants.{Atom, And, Or}
 use Rattle.triple_rows.specs.declared.triples.Scoped.{Scoped}
 use Rattle.triple_rows.specs.Predicates as preds
-use Rattle.triple_rows.specs.Predicates.{Formula, Formulas, formula_count, prefix_of, prefixes_of, formula_of, IsTree, AreTrees, IsAtom, IsTruth, IsOver, AreOver, nesting, SpellsPredicate}
+use Rattle.triple_rows.specs.Predicates.{Formula, Formulas, prefix_of, prefixes_of, formula_of, IsTree, AreTrees, IsAtom, IsTruth, IsOver, AreOver, nesting, SpellsPredicate}
 use Rattle.triple_rows.proofs.FormulaLaws.{prefix_read}
 use Rattle.triple_rows.proofs.ListLaws.{all_joined, all_at}
 use Rattle.proof_form.specs.declared.numerals.Numeral.{Numeral}
 use Rattle.proof_form.specs.declared.predicates.PNode.{PNode}
 use Rattle.proof_form.specs.Names.{is_column}
 use Rattle.proof_form.specs.Predicates as form
-use Rattle.proof_form.specs.Predicates.{PredicateNode, atom, and_of, or_of, is_term, is_node, parts, height_of, heights, are_low, is_predicate}
+use Rattle.proof_form.specs.Predicates.{PredicateNode, atom, and_of, or_of, is_term, is_node, parts, height_of, heights, are_low}
 use Rattle.proof_form.specs.Trees.{is_tree, tree_count, have_parts}
 use Rattle.proof_form.specs.Refutations.{is_some_list}
 use Rattle.proof_names.specs.Numbers.{number_in}

@@ -6,7 +6,7 @@ use Rattle.std.proofs.lemmas.Bool.{le-leb}
 use Rattle.triple_rows.specs.declared.predicates.PredNode.{PredNode}
 use Rattle.triple_rows.specs.declared.predicates.PredNode.TheVariants.{Truth, Atom, And, Or}
 use Rattle.triple_rows.specs.Predicates as preds
-use Rattle.triple_rows.specs.Predicates.{Formula, Formulas, formula_count, prefix_of, prefixes_of, IsTree, AreTrees, nesting, deepest}
+use Rattle.triple_rows.specs.Predicates.{Formula, Formulas, formula_count, prefix_of, prefixes_of, nesting, deepest}
 use Rattle.proof_form.specs.Trees.{tree_count, have_parts, is_tree}
 use Rattle.proof_form.specs.Predicates.{PredicateNode, atom, and_of, or_of, parts, highest, height_of, heights, are_low}
 

@@ -1,0 +1,3 @@
+mod WordLaws
+mod ScopeLaws
+mod ProvingLaws

@@ -1,0 +1,2 @@
+pub mod Unwindings
+pub mod Unwound
