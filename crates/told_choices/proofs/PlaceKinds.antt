@@ -1,21 +1,21 @@
 -- The kinds read off the statements are those of the places.
-use Rattle.std.proofs.Common.{◌≡◌, ◌∙◌, ℕ, zero, suc, ◌+◌, ◌-◌, ◌<◌, ◌≤◌, Bool, true, false, List, [], ◌∷◌, ◌++◌, map, length, replicate, Option, None, Some, refl, inl, inr, sym, ap, arith, length-append}
+use Rattle.std.proofs.Common.{◌≡◌, ◌∙◌, ℕ, zero, suc, ◌+◌, ◌-◌, ◌<◌, Bool, true, false, List, [], ◌∷◌, ◌++◌, map, length, Option, None, Some, refl, inl, inr, sym, ap, arith, length-append}
 use Rattle.std.specs.Prelude.{take, slice_get}
 use Rattle.std.proofs.lemmas.List.{map-append, length-map, replicate-append-replicate}
 use Rattle.std.proofs.lemmas.Option.{slice_get_past, slice_get_cases}
 use Rattle.boogie_tree.specs.declared.span.Span.{Span}
 use Rattle.boogie_tree.specs.declared.tree.Column.{Column}
 use Rattle.typed_tree.specs.TypedTree.{TypedExpression, TypedGuard, Any, Cond, TypedInvariant, TypedStatement, Assert, Assume, Havoc, Assign, Call, If, While, Break, Goto, Return, Label, TypedBlock, Empty, Then, TypedProcedure, TypedProgram}
-use Rattle.typing_rules.specs.Counts.{assertions, points, block_assertions, block_points, plain_invariants, plain_requires, checked_at_call}
-use Rattle.boogie_points.specs.Points.{Todo, Stage, Start, Entry, Body, Exit, Point, at_exit, before, settled, past}
-use Rattle.boogie_points.specs.Actions.{Action, next_part, guarded, checked, plain_conditions, free_conditions, ensured_conditions, chosen_columns, unseen_action, called_action, call_action, call_if_any, head_action, havoc_action, entry_action, exit_action, start_conditions, start_action, first_assertion, first_place, first_point, stage_action, body_or_leave, procedure_action, action_at}
+use Rattle.typing_rules.specs.Counts.{assertions, points, block_assertions, block_points, plain_invariants, checked_at_call}
+use Rattle.boogie_points.specs.Points.{Todo, Start, Entry, Point, at_exit, before, settled, past}
+use Rattle.boogie_points.specs.Actions.{next_part, guarded, checked, plain_conditions, free_conditions, ensured_conditions, chosen_columns, unseen_action, called_action, call_action, call_if_any, head_action, havoc_action, entry_action, exit_action, start_conditions, start_action, first_assertion, first_place, first_point, stage_action, body_or_leave, procedure_action}
 use Rattle.boogie_points.specs.Starts.{targets_at}
 use Rattle.boogie_points.proofs.ConditionLaws.{plain_requires_counted}
-use Rattle.boogie_places.specs.Places.{Place, parts_from, at_statement, points_in, points_of, points_of_body, start_points, located, points_with, places_from, starts_if_any, program_places}
+use Rattle.boogie_places.specs.Places.{parts_from, at_statement, points_in, points_of, points_of_body, start_points, located, points_with, places_from, starts_if_any}
 use Rattle.letter_acts.specs.Frames.{Columns}
 use Rattle.lowered_steps.specs.ProgramFrames.{frame_at, number_in}
 use Rattle.lowered_steps.specs.Edges.{numbers_in}
-use Rattle.told_choices.specs.Kinds.{PlainKind, Silent, Guesses, Picks, Enters, Imports, kind_of, kind_at, place_kinds}
+use Rattle.told_choices.specs.Kinds.{PlainKind, Silent, Guesses, Imports, kind_of, kind_at, place_kinds}
 use Rattle.told_choices.specs.Walks.{silent, guess, guard_kind, goto_kind, called_kind, call_kinds, statement_kinds, block_kinds, body_kinds, kinds_from, start_kinds, program_kinds}
 
 -- ---- kinds of actions

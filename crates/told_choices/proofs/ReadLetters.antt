@@ -1,5 +1,5 @@
 -- The positions of a word are read letter by letter.
-use Rattle.std.proofs.Common.{◌≡◌, ◌∙◌, ℕ, zero, suc, ◌+◌, ◌^◌, ◌<◌, ◌≤◌, ℤ, List, [], ◌∷◌, ◌++◌, map, length, drop, Option, None, Some, refl, sym, ap, subst, arith, append_assoc, append-nil, length-append}
+use Rattle.std.proofs.Common.{◌≡◌, ◌∙◌, ℕ, zero, suc, ◌+◌, ◌^◌, ◌≤◌, ℤ, List, [], ◌∷◌, ◌++◌, map, length, drop, Option, None, Some, refl, sym, ap, subst, arith, append_assoc, append-nil, length-append}
 use Rattle.std.specs.Prelude.{slice_get}
 use Rattle.std.proofs.lemmas.List.{length-map}
 use Rattle.nwa_base.specs.declared.letters.Letter.{Letter}
@@ -8,7 +8,7 @@ use Rattle.nwa_base.specs.Runs.{StepsOn}
 use Rattle.letter_acts.specs.Frames.{Columns}
 use Rattle.letter_acts.specs.Acts.{PlainAct, inside_act, call_act, back_act, Alphabet, frame_of, act_of}
 use Rattle.letter_acts.specs.Invariant.{Graph, alphabet_of}
-use Rattle.path_rows.specs.Versions.{columns_from, Stage, act_part, part_of, return_part, back_part, rows_in}
+use Rattle.path_rows.specs.Versions.{columns_from, Stage, act_part, part_of, return_part, back_part}
 use Rattle.path_rows.specs.Paths.{repeated, path_along, start_frame, first_stage, path_of}
 use Rattle.path_rows.specs.Solutions.{read}
 use Rattle.lowered_choices.specs.Traces.{Position}

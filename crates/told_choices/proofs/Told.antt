@@ -1,5 +1,5 @@
 -- The choices that the table and the inside edges tell of positions along a run are those of the trace.
-use Rattle.std.proofs.Common.{◌≡◌, ◌∙◌, ℕ, zero, suc, ◌+◌, ◌-◌, ◌<◌, ◌≤◌, ℤ, pos, Bool, true, false, nat_eq, List, [], ◌∷◌, ◌++◌, map, take, drop, length, Option, None, Some, inl, inr, refl, sym, ap, subst, arith, append_assoc, eq-eqb, IsTrue}
+use Rattle.std.proofs.Common.{◌≡◌, ◌∙◌, ℕ, zero, suc, ◌+◌, ◌-◌, ◌≤◌, ℤ, pos, Bool, true, false, nat_eq, List, [], ◌∷◌, ◌++◌, map, take, drop, length, Option, None, Some, inl, inr, refl, sym, ap, subst, arith, append_assoc, eq-eqb, IsTrue}
 use Rattle.std.specs.Prelude.{slice_get, slice_index, if◌then◌else◌}
 use Rattle.std.specs.Option.{option_map}
 use Rattle.std.specs.List.{AllByRecursion}
@@ -12,8 +12,7 @@ use Rattle.nwa_base.specs.declared.letters.Kind.TheVariants as kinds
 use Rattle.nwa_base.specs.declared.letters.Letter.{Letter}
 use Rattle.nwa_base.specs.Members.{Member}
 use Rattle.nwa_base.specs.Edges.{leaving}
-use Rattle.nwa_base.specs.Words.{match_back}
-use Rattle.nwa_base.specs.Runs.{StepsTo, StepsOn, BeginsIn, IsAcceptingRun}
+use Rattle.nwa_base.specs.Runs.{StepsTo, StepsOn, IsAcceptingRun}
 use Rattle.letter_acts.specs.Acts.{Alphabet, act_of}
 use Rattle.letter_acts.specs.Invariant.{IsGraph, alphabet_of}
 use Rattle.boogie_points.specs.Points.{Point}
@@ -21,10 +20,10 @@ use Rattle.boogie_points.specs.Actions as actions
 use Rattle.boogie_points.specs.Actions.{Action, action_at}
 use Rattle.boogie_places.specs.Places.{Place, IsOneOf, IsPlaceIn, count_from, number_of, program_places, onward}
 use Rattle.lowered_steps.specs.ProgramFrames.{frame_at, number_in}
-use Rattle.lowered_steps.specs.Edges.{At, Wrong, columns_before_locals, numbers_in}
+use Rattle.lowered_steps.specs.Edges.{columns_before_locals, numbers_in}
 use Rattle.boogie_points.specs.Starts.{targets_at}
-use Rattle.lowered_runs.specs.Choices.{place_number as number_at, way_to, call_choices, choices_of, spot_choices, told_choices, machine_choices}
-use Rattle.lowered_graph.specs.Arcs.{place_number, return_point, return_place, program_arcs}
+use Rattle.lowered_runs.specs.Choices.{place_number as number_at, way_to, call_choices, choices_of, spot_choices, told_choices}
+use Rattle.lowered_graph.specs.Arcs.{place_number, return_point, program_arcs}
 use Rattle.lowered_graph.specs.LetterLaws.{CallOf, BackOf}
 use Rattle.lowered_graph.specs.Lowered.{lowered}
 use Rattle.letter_table.specs.Letters.{lettered}
@@ -40,7 +39,7 @@ use Rattle.path_rows.specs.Paths.{start_frame, first_stage}
 use Rattle.path_rows.specs.Solutions.{read}
 use Rattle.path_traces.specs.Solved.{helper_columns, position_at, positions_from, next_positions}
 use Rattle.told_choices.specs.Kinds.{PlainKind, kind_of, kind_at, place_kinds}
-use Rattle.told_choices.specs.Telling.{first_to, kind_choices, choices_if_any, letter_choices, further_choices, first_choices, all_choices}
+use Rattle.told_choices.specs.Telling.{first_to, kind_choices, choices_if_any, letter_choices, further_choices, all_choices}
 use Rattle.told_choices.proofs.Ways.{pick_ends, pick_way}
 
 -- ---- places by their numbers

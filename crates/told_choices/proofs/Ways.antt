@@ -1,22 +1,20 @@
 -- Which way is chosen: the first inside edge from a place that leads to the next one.
-use Rattle.std.proofs.Common.{◌≡◌, ◌∙◌, ℕ, zero, suc, ◌+◌, ◌-◌, ◌<◌, ◌≤◌, Bool, true, false, nat_eq, List, [], ◌∷◌, ◌++◌, map, length, Option, None, Some, inl, inr, refl, sym, ap, subst, arith, append_assoc, append-nil, eq-eqb, ne_eqb, IsTrue}
+use Rattle.std.proofs.Common.{◌≡◌, ◌∙◌, ℕ, zero, suc, ◌+◌, ◌-◌, ◌<◌, ◌≤◌, Bool, true, false, nat_eq, List, [], ◌∷◌, ◌++◌, map, length, Some, refl, sym, ap, arith, append_assoc, append-nil, eq-eqb, ne_eqb, IsTrue}
 use Rattle.std.specs.Prelude.{slice_get, if◌then◌else◌}
-use Rattle.typed_tree.specs.TypedTree.{TypedExpression, TypedProgram}
+use Rattle.typed_tree.specs.TypedTree.{TypedProgram}
 use Rattle.typing_rules.specs.ValidProgram.{is_valid}
 use Rattle.nwa_base.specs.declared.letters.Letter.{Letter}
-use Rattle.nwa_base.specs.Members.{Member}
 use Rattle.nwa_base.specs.Edges.{leaving}
-use Rattle.letter_acts.specs.Acts.{PlainAct, inside_act, call_act}
 use Rattle.letter_table.specs.Letters.{Arc, inside_arc, call_arc, Lettered, with_arc, with_arcs, no_letters, numbered_letter}
 use Rattle.cond_jumps.specs.Conjunctions.{Conjunction}
 use Rattle.boogie_points.specs.Points.{Point}
 use Rattle.boogie_points.specs.Actions as actions
 use Rattle.boogie_points.specs.Actions.{Action, action_at}
 use Rattle.boogie_points.specs.Starts.{start_point_of}
-use Rattle.boogie_places.specs.Places.{Place, IsOneOf, count_from, number_of, program_places}
+use Rattle.boogie_places.specs.Places.{Place, count_from, number_of, program_places}
 use Rattle.lowered_steps.specs.Edges.{Edge, inside_edges, call_list, skips}
 use Rattle.lowered_runs.specs.Choices.{way_to}
-use Rattle.lowered_graph.specs.Arcs.{place_number, spot_number, return_place, inside_arcs, call_arcs, action_arcs, arcs_at, arcs_of, start_arc, program_arcs}
+use Rattle.lowered_graph.specs.Arcs.{place_number, spot_number, inside_arcs, call_arcs, action_arcs, arcs_at, arcs_of, program_arcs}
 use Rattle.lowered_graph.specs.Lowered.{lowered}
 use Rattle.lowered_graph.proofs.KnownPlaces.{PlaceLaws}
 use Rattle.told_choices.specs.Telling.{first_to}

@@ -1,5 +1,5 @@
 -- The choices of a run, told of its positions by a table of the kinds of its places and by the inside edges of its graph.
-use Rattle.std.specs.Prelude.{ℕ, zero, suc, ◌+◌, ◌-◌, ℤ, pos, nat_eq, List, [], ◌∷◌, ◌++◌, map, take, drop, length, Option, None, Some, slice_get, if◌then◌else◌}
+use Rattle.std.specs.Prelude.{ℕ, suc, ◌+◌, ◌-◌, ℤ, pos, nat_eq, List, [], ◌∷◌, ◌++◌, map, take, drop, length, Option, None, Some, slice_get, if◌then◌else◌}
 use Rattle.std.specs.List.{AllByRecursion}
 use Rattle.math_facts.specs.Fits.{Fits}
 use Rattle.lin_rows.specs.Points.{point_of}

@@ -4,7 +4,6 @@ ghost use Rattle.std.specs.Prelude.{◌≡◌, ◌++◌, map, replicate, IfOk, O
 ghost use Rattle.std.specs.Option.{option_copied};
 ghost use Rattle.math_facts.specs.Fits.{Fits};
 ghost use Rattle.std.specs.List.{AllByRecursion};
-ghost use Rattle.typed_tree.specs.TypedView as view;
 ghost use Rattle.typing_rules.specs.TypedParts.{typed_program};
 ghost use Rattle.letter_acts.specs.Values.{picked};
 ghost use Rattle.lowered_steps.specs.Edges as edges;

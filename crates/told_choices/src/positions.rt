@@ -1,13 +1,13 @@
 //! The positions behind the letters of a word: their places, and the values that the point has there.
 
-ghost use Rattle.std.specs.Prelude.{◌≡◌, ◌+◌, ◌≤◌, ◌^◌, None, Some, map, length, filter, IfOk, slice_get};
+ghost use Rattle.std.specs.Prelude.{◌≡◌, ◌+◌, ◌≤◌, ◌^◌, None, Some, map, length, filter, IfOk};
 ghost use Rattle.std.specs.Option.{option_map};
 ghost use Rattle.std.specs.List.{AllByRecursion};
 ghost use Rattle.math_facts.specs.Fits.{Fits};
 ghost use Rattle.lin_rows.specs.Points.{point_of};
 ghost use Rattle.nwa_base.specs.Letters.{same_letter};
 ghost use Rattle.nwa_base.specs.Runs.{IsAcceptingRun};
-ghost use Rattle.letter_acts.specs.Acts.{plain_act, kind_of, call_of, act_of, frame_of};
+ghost use Rattle.letter_acts.specs.Acts.{plain_act, kind_of, call_of, act_of};
 ghost use Rattle.letter_acts.specs.Frames.{is_local};
 ghost use Rattle.letter_acts.specs.Invariant.{alphabet_of};
 ghost use Rattle.path_rows.specs.Paths.{path_of};

@@ -1,6 +1,6 @@
 //! What the statements of a body choose, in the order of the text.
 
-ghost use Rattle.std.specs.Prelude.{◌≡◌, ◌++◌, ◌∷◌, [], map, length, IfOk, OnOk, slice_get};
+ghost use Rattle.std.specs.Prelude.{◌≡◌, ◌++◌, [], map, length, IfOk, OnOk, slice_get};
 ghost use Rattle.boogie_points.specs.Actions.{ensured_conditions};
 ghost use Rattle.typed_tree.specs.TypedView as view;
 ghost use Rattle.told_choices.specs.Walks as walks;

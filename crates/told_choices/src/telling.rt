@@ -1,18 +1,14 @@
 //! The choices of the letters of a word.
 
-ghost use Rattle.std.specs.Prelude.{◌≡◌, ◌+◌, ◌++◌, ◌∷◌, [], map, drop, IfOk, OnOk};
+ghost use Rattle.std.specs.Prelude.{◌≡◌, ◌+◌, ◌++◌, map, drop, IfOk, OnOk};
 ghost use Rattle.std.specs.List.{AllByRecursion};
 ghost use Rattle.math_facts.specs.Fits.{Fits};
 ghost use Rattle.lin_rows.specs.Points.{point_of};
 ghost use Rattle.typing_rules.specs.TypedParts.{typed_program};
-ghost use Rattle.nwa_base.specs.Edges.{leaving};
 ghost use Rattle.nwa_base.specs.Runs.{IsAcceptingRun};
-ghost use Rattle.letter_acts.specs.Invariant.{Graph};
-ghost use Rattle.lin_rows.specs.Rows.{Holds};
 ghost use Rattle.lowered_steps.specs.Edges.{columns_before_locals};
 ghost use Rattle.lowered_graph.specs.Lowered.{lowered};
 ghost use Rattle.lowered_choices.specs.Choices.{trace_choices};
-ghost use Rattle.path_rows.specs.Paths.{path_of};
 ghost use Rattle.path_traces.specs.Solved.{next_positions};
 ghost use Rattle.told_choices.specs.Telling.{first_to, first_choices, kind_choices, letter_choices, all_choices, ChoicesFit, PositionFits};
 ghost use Rattle.told_choices.specs.Views.{plain_kind, plain_kinds, plain_position, plain_positions};

@@ -1,5 +1,5 @@
 -- The run of a program that a whole point of a word's rows and an accepting run over the word tell: whether its values fit, and where one does not.
-use Rattle.std.specs.Prelude.{◌≡◌, ℕ, ◌+◌, ℤ, List, [], ◌∷◌, ◌++◌, length, Option}
+use Rattle.std.specs.Prelude.{◌≡◌, ℕ, ◌+◌, ℤ, List, ◌∷◌, ◌++◌, length, Option}
 use Rattle.typed_tree.specs.TypedTree.{TypedProgram}
 use Rattle.nwa_base.specs.declared.letters.Letter.{Letter}
 use Rattle.nwa_base.specs.Members.{Member}

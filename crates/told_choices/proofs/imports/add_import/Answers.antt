@@ -1,11 +1,10 @@
-use Rattle.std.proofs.Common.{◌≡◌, ◌∙◌, ℕ, ℤ, List, ◌++◌, map, Option, None, Some, length, sym, ap}
+use Rattle.std.proofs.Common.{◌≡◌, ◌∙◌, ◌++◌, map, Option, None, Some, length, sym, ap}
 use Rattle.std.specs.Prelude.{slice_get}
 use Rattle.typed_tree.specs.TypedTree.{TypedProcedure}
 use Rattle.typed_tree.specs.TypedView as view
-use Rattle.boogie_tree.specs.declared.tree.VarInfo.{VarInfo}
 use Rattle.boogie_points.specs.Actions.{ensured_conditions}
 use Rattle.letter_acts.specs.Values.{picked}
-use Rattle.lowered_imports.specs.Imports.{import_choices, told_globals}
+use Rattle.lowered_imports.specs.Imports.{told_globals}
 use Rattle.lowered_runs.specs.Choices.{call_choices}
 use Rattle.told_choices.proofs.Steps.{no_step, import_told}
 use Rattle.told_choices.proofs.imports.add_import.Goals as goal

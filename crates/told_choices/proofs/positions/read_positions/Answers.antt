@@ -1,10 +1,9 @@
-use Rattle.std.proofs.Common.{◌≡◌, ◌∙◌, ℕ, zero, suc, ◌+◌, ◌^◌, ◌<◌, ◌≤◌, ℤ, List, [], ◌∷◌, ◌++◌, map, length, get_or, Option, Some, refl, sym, ap, subst, arith}
+use Rattle.std.proofs.Common.{◌≡◌, ◌∙◌, ℕ, ◌+◌, ◌^◌, ◌<◌, ◌≤◌, List, [], ◌∷◌, ◌++◌, map, length, get_or, Option, Some, refl, sym, ap, subst, arith}
 use Rattle.std.specs.Prelude.{slice_get}
 use Rattle.std.specs.Option.{option_map}
 use Rattle.std.specs.List.{AllByRecursion}
 use Rattle.std.proofs.lemmas.List.{map-append}
 use Rattle.std.proofs.lemmas.Option.{slice_get-map, slice_get-get_or, slice_get_read}
-use Rattle.math_facts.specs.Fits.{Fits}
 use Rattle.lin_rows.specs.Points.{point_of}
 use Rattle.nwa_base.specs.declared.letters.Letter.{Letter}
 use Rattle.nwa_base.specs.declared.letters.Kind.TheVariants.{Inside}
@@ -13,7 +12,7 @@ use Rattle.letter_acts.specs.Invariant.{alphabet_of}
 use Rattle.path_rows.specs.Solutions.{read}
 use Rattle.lowered_choices.specs.Traces as traces
 use Rattle.path_traces.specs.Solved.{helper_columns, next_positions}
-use Rattle.told_choices.specs.Made.{columns_made, helpers_end}
+use Rattle.told_choices.specs.Made.{columns_made}
 use Rattle.told_choices.specs.Telling.{PositionFits}
 use Rattle.told_choices.specs.Views.{plain_position, plain_positions}
 use Rattle.told_choices.proofs.Steps.{all_snoc}

@@ -1,10 +1,9 @@
-use Rattle.std.proofs.Common.{◌≡◌, ◌∙◌, ℕ, List, [], ◌∷◌, ◌++◌, map, Option, None, Some, length, ap}
+use Rattle.std.proofs.Common.{◌≡◌, ◌∙◌, [], ◌∷◌, ◌++◌, map, Option, None, Some, length, ap}
 use Rattle.std.specs.Prelude.{slice_get}
 use Rattle.typed_tree.specs.TypedTree.{TypedProcedure}
 use Rattle.typed_tree.specs.TypedView as view
 use Rattle.boogie_points.specs.Actions.{plain_conditions}
-use Rattle.told_choices.specs.Kinds.{PlainKind}
-use Rattle.told_choices.specs.Walks.{silent, called_kind, call_kinds}
+use Rattle.told_choices.specs.Walks.{silent, call_kinds}
 use Rattle.told_choices.specs.Views.{plain_kind, plain_kinds}
 use Rattle.told_choices.proofs.Steps.{kind_pushed, two_steps}
 use Rattle.told_choices.proofs.statements.add_call.Goals as goal

@@ -1,4 +1,4 @@
-use Rattle.std.proofs.Common.{◌≡◌, ◌∙◌, ℕ, ◌≤◌, List, ◌++◌, map, Option, Some, refl, length, sym, ap, arith}
+use Rattle.std.proofs.Common.{◌≡◌, ◌∙◌, ◌≤◌, List, ◌++◌, map, Some, refl, length, sym, ap, arith}
 use Rattle.std.specs.Prelude.{slice_get}
 use Rattle.std.specs.Option.{option_map}
 use Rattle.std.proofs.lemmas.List.{length-map}
@@ -7,8 +7,6 @@ use Rattle.typed_tree.specs.TypedTree.{TypedProcedure}
 use Rattle.typed_tree.specs.TypedView as view
 use Rattle.typed_tree.specs.declared.types.TProc.{TProc}
 use Rattle.typing_rules.specs.TypedParts.{typed_program}
-use Rattle.lowered_steps.specs.ProgramFrames.{frame_at}
-use Rattle.told_choices.specs.Kinds.{PlainKind}
 use Rattle.told_choices.specs.Walks.{body_kinds}
 use Rattle.told_choices.specs.Views.{plain_kinds}
 use Rattle.told_choices.proofs.Steps.{kinds_step, kinds_done}

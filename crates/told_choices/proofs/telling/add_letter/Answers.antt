@@ -1,4 +1,4 @@
-use Rattle.std.proofs.Common.{◌≡◌, ◌∙◌, ℕ, ◌-◌, List, ◌++◌, Option, None, Some, sym, ap}
+use Rattle.std.proofs.Common.{◌≡◌, ◌∙◌, ◌-◌, ◌++◌, Option, None, Some, sym, ap}
 use Rattle.std.specs.Prelude.{slice_get}
 use Rattle.typing_rules.specs.TypedParts.{typed_program}
 use Rattle.nwa_base.specs.Edges.{leaving}

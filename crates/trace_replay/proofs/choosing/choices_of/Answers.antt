@@ -14,7 +14,7 @@ use Rattle.lowered_choices.specs.Choices.{trace_choices, FailsAtLast}
 use Rattle.path_rows.specs.Paths.{path_of}
 use Rattle.path_traces.specs.Solved.{next_positions}
 use Rattle.trace_replay.specs.FailureText.{numbers}
-use Rattle.trace_replay.specs.ToldRuns.{told_run, IsTrailOf, IsFaultIn, ToldFails, IsToldFault}
+use Rattle.trace_replay.specs.ToldRuns.{told_run, IsTrailOf, IsFaultIn, IsToldFault}
 use Rattle.trace_replay.proofs.ToldSites.{EndsAtSite, ends_at_site, told_fails, told_fault, if_ok, if_err}
 use Rattle.trace_replay.proofs.choosing.choices_of.Goals as goal
 
