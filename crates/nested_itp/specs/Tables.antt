@@ -91,15 +91,3 @@ abbrev pub table_along : List ℕ → List Position → List PlainNode → List 
 table_along columns qs [] bs = []
 table_along columns qs (n ∷ ns) [] = []
 table_along columns qs (n ∷ ns) (b ∷ bs) = row_of_node columns qs n b ∷ table_along columns qs ns (branches_after columns n b bs)
-
--- its node at a position
-abbrev pub node_of_node : List ℕ → Position → PlainNode → Branch → PredNode
-node_of_node columns q (leaf parts) b = leaf_node b parts q
-node_of_node columns q (cut c k) b = cut_node_at (column_stamp columns c) q
-node_of_node columns q (cases n) b = And 2
-
--- at one position
-abbrev pub nodes_along : List ℕ → Position → List PlainNode → List Branch → List PredNode
-nodes_along columns q [] bs = []
-nodes_along columns q (n ∷ ns) [] = []
-nodes_along columns q (n ∷ ns) (b ∷ bs) = node_of_node columns q n b ∷ nodes_along columns q ns (branches_after columns n b bs)
