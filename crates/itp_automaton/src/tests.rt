@@ -9,12 +9,12 @@ use crate::{Certified, certified, saturate};
 use graphs::{assertion, atom, call, truth};
 use hoare_check::prove;
 use letter_acts::Icfg;
-use nwa_base::{Kind, Letter, accepts, word};
+use nwa_base::{Kind, Letter, Word, accepts, word};
 use std::alloc::Global;
 use std::process::Abort;
 use std::test::Fail;
 use std::thread::Threads;
-use triple_rows::{Proof, Triple, agrees};
+use triple_rows::{Proof, Scoped, Triple, agrees};
 
 /// The inside letter with this number.
 fn letter(id: u32) -> Letter {
@@ -28,39 +28,69 @@ fn letter(id: u32) -> Letter {
 /// A type that threads may share.
 fn shared<T: Send + Sync>(_value: &T) {}
 
-/// The states are true, false and x >= 1. The word `0 1 3` is accepted, its letters lead to true, x >= 1 and false. Where the
-/// assertion holds, x >= 1 follows, which is no edge of the word, and false does not.
-#[test]
-fn more_than_the_edges_of_a_word(rt: HostRuntime) -> Result<(), Fail> {
-    let alloc = rt.alloc();
-    let graph = assertion(alloc)?;
+/// The saturated automaton over the predicates.
+fn saturated<R: Threads + Sync>(
+    rt: &R,
+    alloc: Global,
+    graph: &Icfg,
+    preds: Vec<Scoped>,
+) -> Result<Certified, Fail> {
+    Ok(saturate(rt, alloc, graph, preds, Vec::new(alloc))?)
+}
+
+/// x >= 1, and false, which is listed though it is a state anyway.
+fn of_assertion(alloc: Global) -> Result<Vec<Scoped>, Fail> {
     let mut preds = Vec::new(alloc);
     preds.push(atom(alloc, 0, &[(0, -1)], -1)?)?;
     preds.push(truth(alloc, 0, false)?)?;
-    let made = saturate(&rt, alloc, &graph, preds, Vec::new(alloc))?;
-    shared(&made);
-    assert_eq!(rt; made.preds().len(), 3);
-    assert_eq!(rt; made.nwa().start(), 0);
-    assert!(rt; made.nwa().has_inside(0, letter(1), 2));
-    assert!(rt; made.nwa().has_inside(2, letter(3), 1));
-    assert!(rt; made.nwa().has_inside(0, letter(2), 2));
-    assert!(rt; !made.nwa().has_inside(0, letter(2), 1));
-    assert!(rt; !made.nwa().has_inside(0, letter(3), 1));
-    let error = word([letter(0), letter(1), letter(3)].to_vec(alloc)?).ok_or("no word")?;
-    assert!(rt; accepts(alloc, made.nwa(), &error)?);
-    Ok(())
+    Ok(preds)
 }
 
-/// The automaton of x <= 5 and y <= 3 in `main`, states 4 and 5, and r <= 5 and r <= n in `same`, states 6 and 7. States 0 and 1
-/// are true and false of `main`, 2 and 3 of `same`.
-fn returning<R: Threads + Sync>(rt: &R, alloc: Global) -> Result<Certified, Fail> {
-    let graph = call(alloc)?;
+/// x <= 5 and y <= 3 in `main`, states 4 and 5, and r <= 5 and r <= n in `same`, states 6 and 7. States 0 and 1 are true and
+/// false of `main`, 2 and 3 of `same`.
+fn of_call(alloc: Global) -> Result<Vec<Scoped>, Fail> {
     let mut preds = Vec::new(alloc);
     preds.push(atom(alloc, 0, &[(0, 1)], 5)?)?;
     preds.push(atom(alloc, 0, &[(1, 1)], 3)?)?;
     preds.push(atom(alloc, 1, &[(1, 1)], 5)?)?;
     preds.push(atom(alloc, 1, &[(0, -1), (1, 1)], 0)?)?;
-    Ok(saturate(rt, alloc, &graph, preds, Vec::new(alloc))?)
+    Ok(preds)
+}
+
+/// The states of an edge, its letter, and whether there is one. The states are true, false and x >= 1.
+const INSIDES: [(u32, u32, u32, bool); 5] = [
+    // the letters of the word `0 1 3`
+    (0, 1, 2, true),
+    (2, 3, 1, true),
+    // where the assertion holds, x >= 1 follows, which is no edge of the word, and false does not
+    (0, 2, 2, true),
+    (0, 2, 1, false),
+    (0, 3, 1, false),
+];
+
+#[test]
+fn more_than_the_edges_of_a_word(rt: HostRuntime) -> Result<(), Fail> {
+    let graph = assertion(rt.alloc())?;
+    let made = saturated(&rt, rt.alloc(), &graph, of_assertion(rt.alloc())?)?;
+    shared(&made);
+    for (from, number, to, wanted) in INSIDES {
+        assert_eq!(rt; made.nwa().has_inside(from, letter(number), to), wanted);
+    }
+    Ok(())
+}
+
+/// The word `0 1 3`, which runs into the assertion's failure.
+fn failing(alloc: Global) -> Result<Word, Fail> {
+    let letters = [letter(0), letter(1), letter(3)].to_vec(alloc)?;
+    Ok(word(letters).ok_or("no word")?)
+}
+
+#[test]
+fn words_with_the_predicates_are_accepted(rt: HostRuntime) -> Result<(), Fail> {
+    let graph = assertion(rt.alloc())?;
+    let made = saturated(&rt, rt.alloc(), &graph, of_assertion(rt.alloc())?)?;
+    assert!(rt; accepts(rt.alloc(), made.nwa(), &failing(rt.alloc())?)?);
+    Ok(())
 }
 
 /// The states at the exit, before the call and after the return, and whether there is an edge.
@@ -81,7 +111,8 @@ const RETURNS: [(u32, u32, u32, bool); 8] = [
 
 #[test]
 fn returns_hold_by_exit_and_caller(rt: HostRuntime) -> Result<(), Fail> {
-    let made = returning(&rt, rt.alloc())?;
+    let graph = call(rt.alloc())?;
+    let made = saturated(&rt, rt.alloc(), &graph, of_call(rt.alloc())?)?;
     let back = Letter {
         id: 1,
         kind: Kind::Back,
