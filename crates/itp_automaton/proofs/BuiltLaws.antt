@@ -1,26 +1,25 @@
 -- Automata to which the edges of proofs are added.
-use Rattle.std.proofs.Common.{◌≡◌, ◌∙◌, ◌⊎◌, ℕ, zero, suc, ◌+◌, ◌<◌, ◌≤◌, Bool, true, false, List, [], ◌∷◌, ◌++◌, length, Option, None, Some, refl, sym, ap, subst, inl, inr, arith}
+use Rattle.std.proofs.Common.{◌≡◌, ◌∙◌, ℕ, zero, suc, ◌+◌, ◌<◌, true, false, List, [], ◌∷◌, ◌++◌, length, None, Some, refl, sym, ap, subst, inl, inr, arith}
 use Rattle.std.specs.Prelude.{slice_get}
 use Rattle.std.specs.List.{AllByRecursion}
 use Rattle.nwa_base.specs.declared.letters.Letter.{Letter}
 use Rattle.nwa_base.specs.Members.{Member}
 use Rattle.nwa_base.specs.Automata.{Automaton}
 use Rattle.nwa_base.proofs.MemberLemmas.{member_front, member_rest, member_split}
-use Rattle.letter_acts.specs.Acts.{PlainAct, Alphabet, letter_of}
+use Rattle.letter_acts.specs.Acts.{Alphabet, letter_of}
 use Rattle.letter_acts.specs.Invariant.{Graph, IsGraph, alphabet_of, IsPlaceOf}
 use Rattle.itp_automaton.specs.Settling.{NamesStates}
 use Rattle.itp_automaton.proofs.StateLaws.{below_or_last, member_at}
 use Rattle.itp_automaton.proofs.EdgeLaws.{place_below}
-use Rattle.triple_rows.specs.declared.predicates.PredNode.{PredNode}
 use Rattle.triple_rows.specs.declared.triples.Scoped.{Scoped}
 use Rattle.triple_rows.specs.declared.triples.Triple.{Triple}
 use Rattle.triple_rows.specs.declared.triples.Triple.TheVariants as triples
 use Rattle.triple_rows.specs.Predicates.{formula_of}
 use Rattle.triple_rows.specs.Triples.{Agrees, HasTarget, IsValid}
-use Rattle.triple_rows.specs.Proofs.{PlainProof, IsProofOver}
+use Rattle.triple_rows.specs.Proofs.{PlainProof}
 use Rattle.triple_rows.proofs.ValidLaws.{refuted_valid}
-use Rattle.itp_automaton.specs.Certified.{Certificate, IsTruthAt, IsProved, InsideIsProved, CallIsProved, BackIsProved, IsCertified}
-use Rattle.itp_automaton.specs.Making.{truth_of, IsProofFor, HasEdge, HasInside, HasCall, HasBack}
+use Rattle.itp_automaton.specs.Certified.{IsTruthAt, IsProved, IsCertified}
+use Rattle.itp_automaton.specs.Making.{truth_of, IsProofFor, HasEdge}
 use Rattle.itp_automaton.specs.Edges.{IsFalseAt, MarksFalse, IsMarkedBelow, IsBegun, IsInsideOf, IsCallOf, IsBackOf, IsBuilt, AddsInside, AddsCall, AddsBack, AddsEdge}
 
 -- ---- what stays where a proof is added

@@ -1,16 +1,10 @@
 -- Edges that are added one by one.
-use Rattle.std.proofs.Common.{◌≡◌, ◌≢◌, ◌↔◌, ◌∙◌, ◌⊎◌, ℕ, zero, suc, ◌<◌, ◌≤◌, Bool, true, false, List, [], ◌∷◌, ◌++◌, length, Option, None, Some, refl, sym, ap, subst, inl, inr, arith}
+use Rattle.std.proofs.Common.{◌≡◌, ℕ, zero, suc, ◌<◌, List, [], ◌∷◌, length, Option, None, Some, refl, inl, inr, arith}
 use Rattle.std.specs.Prelude.{slice_get}
-use Rattle.std.specs.List.{AllByRecursion}
 use Rattle.nwa_base.specs.declared.letters.Kind.TheVariants as kinds
-use Rattle.nwa_base.specs.declared.letters.Letter.{Letter}
-use Rattle.nwa_base.specs.Members.{Member}
-use Rattle.nwa_base.specs.Automata.{Automaton, IsOutside, IsOutsideBack}
-use Rattle.nwa_base.proofs.MemberLemmas.{member_front, member_rest, member_split}
-use Rattle.letter_acts.specs.Acts.{PlainAct, inside_act, call_act, back_act, Alphabet, letter_of, kind_of}
-use Rattle.letter_acts.specs.Invariant.{Graph, alphabet_of, IsPlaceOf}
+use Rattle.nwa_base.specs.Automata.{IsOutside, IsOutsideBack}
+use Rattle.letter_acts.specs.Acts.{PlainAct, inside_act, call_act, back_act, Alphabet, kind_of}
 use Rattle.triple_rows.specs.declared.triples.Scoped.{Scoped}
-use Rattle.triple_rows.specs.declared.triples.Triple.{Triple}
 use Rattle.triple_rows.specs.declared.triples.Triple.TheVariants as triples
 use Rattle.triple_rows.specs.Triples.{InsideAgrees, CallAgrees, BackAgrees, Agrees}
 

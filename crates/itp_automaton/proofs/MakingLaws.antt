@@ -1,14 +1,13 @@
 -- Certified automata of given predicates and proofs.
-use Rattle.std.proofs.Common.{◌≡◌, ◌↔◌, ◌∙◌, ◌⊎◌, ℕ, ◌<◌, Bool, true, false, List, [], ◌∷◌, length, map, Option, None, Some, Result, Ok, Err, refl, sym, ap, subst, inl, inr, arith}
+use Rattle.std.proofs.Common.{◌≡◌, ◌↔◌, ◌∙◌, ℕ, ◌<◌, true, false, List, [], ◌∷◌, length, Option, None, Some, Result, Ok, Err, sym, ap, subst, inl, inr, arith}
 use Rattle.std.specs.Prelude.{slice_get, IsSome, IfSome, IfOk}
 use Rattle.std.specs.List.{AllByRecursion}
 use Rattle.nwa_base.specs.Members.{Member}
-use Rattle.nwa_base.specs.Automata.{Automaton}
 use Rattle.std.proofs.lemmas.List.{length-map}
 use Rattle.letter_acts.specs.declared.frames.Frame.{Frame}
 use Rattle.letter_acts.specs.Frames.{Columns}
 use Rattle.letter_acts.specs.Acts.{PlainAct, inside_act, call_act, back_act, Alphabet, plain_frames}
-use Rattle.letter_acts.specs.Invariant.{Graph, alphabet_of, IsPlaceOf}
+use Rattle.letter_acts.specs.Invariant.{Graph, alphabet_of}
 use Rattle.triple_rows.specs.declared.triples.Scoped.{Scoped}
 use Rattle.triple_rows.specs.declared.triples.Triple.{Triple}
 use Rattle.triple_rows.specs.declared.triples.Triple.TheVariants as triples
@@ -18,7 +17,6 @@ use Rattle.itp_automaton.specs.Certified.{Certificate}
 use Rattle.itp_automaton.specs.Making.{truth_of, named_in, IsStateFor, NameStatesFor, IsProofFor, AreStates, HasStates}
 use Rattle.itp_automaton.specs.Settling.{NamesStates}
 use Rattle.itp_automaton.specs.Edges.{IsBuilt}
-use Rattle.itp_automaton.proofs.BuiltLaws.{all_of, all_member}
 
 -- the predicate's procedure exists
 abbrev Exists : Alphabet → Scoped → Type 0

@@ -1,5 +1,5 @@
 -- An automaton with the triples along a word accepts the word.
-use Rattle.std.proofs.Common.{◌≡◌, ◌∙◌, ◌⊎◌, ℕ, zero, suc, ◌<◌, Bool, true, false, List, [], ◌∷◌, ◌++◌, length, map, Option, None, Some, refl, sym, ap, subst, inl, inr, arith}
+use Rattle.std.proofs.Common.{◌≡◌, ◌∙◌, ℕ, suc, true, false, List, [], ◌∷◌, ◌++◌, length, map, Option, Some, refl, sym, ap, subst, inl, inr, arith}
 use Rattle.std.specs.Prelude.{slice_get}
 use Rattle.std.specs.List.{AllByRecursion}
 use Rattle.nwa_base.specs.declared.letters.Kind.{Kind}
@@ -8,19 +8,18 @@ use Rattle.nwa_base.specs.declared.letters.Letter.{Letter}
 use Rattle.nwa_base.specs.Members.{Member}
 use Rattle.nwa_base.specs.Automata.{Automaton}
 use Rattle.nwa_base.specs.Acceptance.{Follows, AcceptsFrom, Accepts}
-use Rattle.nwa_base.proofs.MemberLemmas.{member_front, member_rest, member_split, member_map, member_from_map}
-use Rattle.letter_acts.specs.Acts.{PlainAct, inside_act, call_act, back_act, Alphabet, letter_of}
+use Rattle.nwa_base.proofs.MemberLemmas.{member_front, member_split, member_map, member_from_map}
+use Rattle.letter_acts.specs.Acts.{PlainAct, inside_act, call_act, back_act, letter_of}
 use Rattle.letter_acts.specs.Invariant.{Graph, IsGraph, AreDistinct, IsPlaceOf, alphabet_of}
 use Rattle.letter_acts.specs.Known.{InsideKnown, CallKnown, BackKnown}
 use Rattle.letter_acts.proofs.KnownLemmas.{inside_edge_known, call_edge_known, back_edge_known}
-use Rattle.triple_rows.specs.declared.predicates.PredNode.{PredNode}
 use Rattle.triple_rows.specs.declared.predicates.PredNode.TheVariants.{Truth}
 use Rattle.triple_rows.specs.declared.triples.Scoped.{Scoped}
 use Rattle.triple_rows.specs.declared.triples.Triple.{Triple}
 use Rattle.triple_rows.specs.declared.triples.Triple.TheVariants as triples
 use Rattle.triple_rows.specs.Triples.{InsideAgrees, CallAgrees, Agrees}
 use Rattle.triple_rows.specs.Proofs.{PlainProof}
-use Rattle.nested_itp.specs.Interpolants.{return_triple, letter_triple, left, saved_after, triples_along, BeginsTrue, EndsFalse}
+use Rattle.nested_itp.specs.Interpolants.{letter_triple, left, saved_after, triples_along, BeginsTrue, EndsFalse}
 use Rattle.itp_automaton.specs.Certified.{Certificate}
 use Rattle.itp_automaton.specs.Making.{truth_of, named_in, IsStateFor, NameStatesFor, IsProofFor, HasStates, HasEdge, HasEdges}
 use Rattle.itp_automaton.specs.Words.{AreAlong}

@@ -1,5 +1,5 @@
 -- What is built of settled proofs is saturated.
-use Rattle.std.proofs.Common.{◌≡◌, ◌↔◌, ◌∙◌, ℕ, ◌<◌, Bool, List, [], ◌∷◌, length, Option, None, Some, refl, sym, ap, subst}
+use Rattle.std.proofs.Common.{◌≡◌, ◌∙◌, ℕ, ◌<◌, Bool, List, [], ◌∷◌, length, Some, refl, sym, subst}
 use Rattle.std.specs.Prelude.{slice_get}
 use Rattle.std.specs.List.{AllByRecursion}
 use Rattle.nwa_base.specs.declared.letters.Letter.{Letter}
@@ -15,8 +15,8 @@ use Rattle.triple_rows.specs.Proofs.{PlainProof}
 use Rattle.hoare_check.specs.Decided.{RefutesUncut}
 use Rattle.itp_automaton.specs.Certified.{Certificate}
 use Rattle.itp_automaton.specs.Saturated.{IsSaturated, HasTruth}
-use Rattle.itp_automaton.specs.Making.{truth_of, IsProofFor, NameStatesFor, AreStates, HasStates, HasInside, HasCall, HasBack, HasEdge, HasEdges}
-use Rattle.itp_automaton.specs.Settling.{NamesStates, IsGrounded, Adds, SettledBelow, letter_in}
+use Rattle.itp_automaton.specs.Making.{truth_of, IsProofFor, NameStatesFor, AreStates, HasInside, HasCall, HasBack, HasEdge, HasEdges}
+use Rattle.itp_automaton.specs.Settling.{NamesStates, IsGrounded, SettledBelow, letter_in}
 use Rattle.itp_automaton.specs.Edges.{IsBuilt}
 use Rattle.itp_automaton.proofs.StateLaws.{member_at, place_of, one_place}
 use Rattle.itp_automaton.proofs.EdgeLaws.{place_below}

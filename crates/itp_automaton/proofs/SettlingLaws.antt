@@ -1,7 +1,7 @@
 -- Triples that are tried one after another until all are settled.
-use Rattle.std.proofs.Common.{◌≡◌, ◌∙◌, ◌⊎◌, ℕ, suc, ◌+◌, ◌<◌, ◌≤◌, true, List, [], ◌∷◌, ◌++◌, length, take, Option, None, Some, Result, Ok, Err, append_assoc, refl, sym, ap, subst, inl, inr, arith}
+use Rattle.std.proofs.Common.{◌≡◌, ◌∙◌, ℕ, ◌+◌, List, [], ◌∷◌, ◌++◌, length, Option, None, Some, Result, Ok, Err, append_assoc, refl, sym, ap, subst, inl, inr}
 use Rattle.std.proofs.lemmas.List.{append-nil}
-use Rattle.std.specs.Prelude.{slice_get, OnOk}
+use Rattle.std.specs.Prelude.{OnOk}
 use Rattle.std.specs.List.{AllByRecursion, AllZip, filter_map}
 use Rattle.nwa_base.specs.Members.{Member}
 use Rattle.nwa_base.proofs.MemberLemmas.{member_front, member_rest, member_split}
@@ -9,14 +9,13 @@ use Rattle.letter_acts.specs.Acts.{Alphabet}
 use Rattle.triple_rows.specs.declared.triples.Scoped.{Scoped}
 use Rattle.triple_rows.specs.declared.triples.Triple.{Triple}
 use Rattle.triple_rows.specs.Triples.{IsScoped, Agrees}
-use Rattle.triple_rows.specs.Proofs.{PlainProof, IsProofOver}
+use Rattle.triple_rows.specs.Proofs.{PlainProof}
 use Rattle.hoare_check.specs.Decided.{RefutesUncut, MayProve}
 use Rattle.itp_automaton.specs.declared.sources.Source.{Source}
 use Rattle.itp_automaton.specs.declared.sources.Source.TheVariants.{Inside, Call, Back}
-use Rattle.itp_automaton.specs.Making.{IsProofFor}
-use Rattle.itp_automaton.specs.Settling.{IsListed, IsSettled, NamesStates, IsGrounded, letter_in, IsWithin, triple_from, AgreesTo, IsFrom, AreSources, AreTriplesFrom, Adds, SettledFrom, SettledBy, SettledBelow}
+use Rattle.itp_automaton.specs.Settling.{IsSettled, NamesStates, IsGrounded, letter_in, IsWithin, triple_from, AgreesTo, AreSources, AreTriplesFrom, Adds, SettledFrom, SettledBy, SettledBelow}
 use Rattle.itp_automaton.proofs.StateLaws.{below_or_last}
-use Rattle.itp_automaton.proofs.BuiltLaws.{all_of, all_member, all_push}
+use Rattle.itp_automaton.proofs.BuiltLaws.{all_member, all_push}
 use Rattle.itp_automaton.proofs.SourceLaws.{state_listed}
 
 -- ---- the answers that are proofs

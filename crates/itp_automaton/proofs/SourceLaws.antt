@@ -1,6 +1,6 @@
 -- Sources: all triples over the states by a letter whose kinds and scopes agree come from them.
-use Rattle.std.proofs.Common.{◌≡◌, ◌∙◌, ◌⊎◌, ℕ, zero, suc, ◌<◌, ◌≤◌, true, List, [], ◌∷◌, ◌++◌, length, map, get_or, Option, None, Some, refl, sym, ap, subst, inl, inr, arith}
-use Rattle.std.specs.Prelude.{slice_get, slice_index_or}
+use Rattle.std.proofs.Common.{◌≡◌, ◌∙◌, ℕ, zero, suc, ◌<◌, List, [], ◌∷◌, length, map, Option, None, Some, refl, sym, ap, subst, inl, inr, arith}
+use Rattle.std.specs.Prelude.{slice_get}
 use Rattle.std.specs.List.{AllByRecursion, flat_map}
 use Rattle.nwa_base.specs.Members.{Member}
 use Rattle.nwa_base.proofs.MemberLemmas.{member_front, member_rest, member_split, member_map, member_from_map}
@@ -11,8 +11,7 @@ use Rattle.triple_rows.specs.declared.triples.Triple.TheVariants as triples
 use Rattle.triple_rows.specs.Triples.{IsScoped, InsideAgrees, CallAgrees, ReturnAgrees, BackAgrees, Agrees}
 use Rattle.itp_automaton.specs.declared.sources.Source.{Source}
 use Rattle.itp_automaton.specs.declared.sources.Source.TheVariants.{Inside, Call, Back}
-use Rattle.itp_automaton.specs.Making.{truth_of}
-use Rattle.itp_automaton.specs.Settling.{NamesStates, letter_in, state_at, IsWithin, triple_from, AgreesTo, IsFrom, AreSources, IsStateIn, AreStatesIn, AreReturnSources, AreActSources}
+use Rattle.itp_automaton.specs.Settling.{NamesStates, letter_in, state_at, IsWithin, AgreesTo, IsFrom, AreSources, IsStateIn, AreStatesIn, AreReturnSources, AreActSources}
 use Rattle.itp_automaton.proofs.StateLaws.{place_of}
 use Rattle.itp_automaton.proofs.EdgeLaws.{place_below}
 use Rattle.itp_automaton.proofs.BuiltLaws.{all_of, all_member}

@@ -1,12 +1,12 @@
 -- States: predicates, each once.
-use Rattle.std.proofs.Common.{◌≡◌, ◌∙◌, ◌⊎◌, ℕ, zero, suc, ◌+◌, ◌<◌, ◌≤◌, Bool, true, false, List, [], ◌∷◌, ◌++◌, length, take, get_or, Option, None, Some, refl, sym, ap, subst, inl, inr, arith}
+use Rattle.std.proofs.Common.{◌≡◌, ◌∙◌, ◌⊎◌, ℕ, zero, suc, ◌+◌, ◌<◌, ◌≤◌, Bool, true, false, List, [], ◌∷◌, ◌++◌, length, take, get_or, Some, refl, sym, ap, subst, inl, inr, arith}
 use Rattle.std.specs.Prelude.{slice_get}
 use Rattle.std.proofs.lemmas.List.{take_more}
 use Rattle.nwa_base.specs.Members.{Member}
 use Rattle.nwa_base.proofs.MemberLemmas.{member_front, member_rest, member_split}
 use Rattle.letter_acts.specs.Invariant.{AreDistinct}
 use Rattle.triple_rows.specs.declared.triples.Scoped.{Scoped}
-use Rattle.itp_automaton.specs.Making.{truth_of, IsStateFor, AreStates}
+use Rattle.itp_automaton.specs.Making.{truth_of, AreStates}
 use Rattle.itp_automaton.specs.States.{AddsState}
 
 -- ---- members by their places

@@ -1,5 +1,5 @@
 -- What a certified automaton is made of: proofs for an alphabet, and the predicates that their triples name.
-use Rattle.std.specs.Prelude.{◌≡◌, ◌⊎◌, ℕ, ◌<◌, Bool, true, false, List, [], ◌∷◌, length, Option, Some, slice_get}
+use Rattle.std.specs.Prelude.{◌≡◌, ◌⊎◌, ℕ, ◌<◌, Bool, true, false, List, [], ◌∷◌, length, Some, slice_get}
 use Rattle.std.specs.List.{AllByRecursion}
 use Rattle.nwa_base.specs.Members.{Member}
 use Rattle.nwa_base.specs.Automata.{Automaton}

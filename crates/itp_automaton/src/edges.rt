@@ -1,12 +1,9 @@
 //! Edges between states, one for each proved triple.
 
-ghost use Rattle.std.specs.Prelude.{◌≡◌, ◌<◌, ◌≤◌, ◌↔◌, ℕ, List, Err, Ok, Some, true, false, [], ◌∷◌, IsTrue, IfOk, OnOk, MatchBool, length, slice_get};
-ghost use Rattle.nwa_base.specs.Members.{Member};
+ghost use Rattle.std.specs.Prelude.{◌≡◌, ◌<◌, Err, Ok, Some, true, false, IfOk, MatchBool, length};
 ghost use Rattle.letter_acts.specs.Invariant.{alphabet_of};
-ghost use Rattle.triple_rows.specs.declared.predicates.PredNode.TheVariants.{Truth};
 ghost use Rattle.triple_rows.specs.declared.triples.Triple.TheVariants as triples;
 ghost use Rattle.triple_rows.specs.Triples.{Agrees};
-ghost use Rattle.itp_automaton.specs.Making.{truth_of, named_in};
 ghost use Rattle.itp_automaton.specs.Settling.{NamesStates};
 ghost use Rattle.itp_automaton.specs.Edges.{AddsInside, AddsCall, AddsBack, AddsEdge};
 

@@ -20,6 +20,3 @@ pub use building::build_along;
 pub use faults::BuildFault;
 pub use making::certified;
 pub use saturating::saturate;
-
-#[cfg(test)]
-mod tests;

@@ -2,7 +2,6 @@
 
 ghost use Rattle.std.specs.Prelude.{◌≡◌, ◌<◌, ◌++◌, IfOk, OnOk, List, length};
 ghost use Rattle.std.specs.List.{AllByRecursion, filter_map};
-ghost use Rattle.nwa_base.specs.Members.{Member};
 ghost use Rattle.letter_acts.specs.Invariant.{alphabet_of};
 ghost use Rattle.triple_rows.specs.declared.triples.Scoped.{Scoped};
 ghost use Rattle.triple_rows.specs.declared.triples.Triple.{Triple};

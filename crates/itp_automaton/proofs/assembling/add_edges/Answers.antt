@@ -1,4 +1,4 @@
-use Rattle.std.proofs.Common.{◌≡◌, ◌∙◌, ℕ, ◌<◌, List, length, ap, sym, subst, true, take}
+use Rattle.std.proofs.Common.{List, sym, subst, true, take}
 use Rattle.triple_rows.specs.Proofs.{PlainProof}
 use Rattle.itp_automaton.specs.Edges.{IsBuilt}
 use Rattle.itp_automaton.proofs.StateLaws.{take_next}

@@ -1,4 +1,4 @@
-use Rattle.std.proofs.Common.{◌≡◌, sym, subst, true, refl}
+use Rattle.std.proofs.Common.{sym, subst, true, refl}
 use Rattle.letter_acts.specs.Kept.{Keeps}
 use Rattle.letter_acts.specs.Invariant.{IsGraph, alphabet_of}
 use Rattle.itp_automaton.specs.Certified.{IsCertified}

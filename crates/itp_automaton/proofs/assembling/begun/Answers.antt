@@ -1,7 +1,7 @@
 use Rattle.std.proofs.Common.{◌≡◌, ℕ, ◌<◌, length, subst, arith}
 use Rattle.itp_automaton.specs.Edges.{IsMarkedBelow}
 use Rattle.itp_automaton.proofs.StateLaws.{got_at}
-use Rattle.itp_automaton.proofs.BuiltLaws.{marked_none, marked_more, marked_built}
+use Rattle.itp_automaton.proofs.BuiltLaws.{marked_more, marked_built}
 use Rattle.itp_automaton.proofs.assembling.begun.Goals as goal
 
 pub loop-q-preserved : goal.loop-q-preserved

@@ -1,9 +1,9 @@
-use Rattle.std.proofs.Common.{◌≡◌, List, sym, subst}
+use Rattle.std.proofs.Common.{List, subst}
 use Rattle.letter_acts.specs.Kept.{Keeps}
 use Rattle.letter_acts.specs.Invariant.{IsGraph, alphabet_of}
 use Rattle.triple_rows.specs.declared.triples.Scoped.{Scoped}
 use Rattle.triple_rows.specs.Proofs.{PlainProof}
-use Rattle.itp_automaton.specs.Making.{NameStatesFor, HasStates, HasEdges}
+use Rattle.itp_automaton.specs.Making.{HasStates, HasEdges}
 use Rattle.itp_automaton.proofs.RunLaws.{accepts_along, along_states}
 use Rattle.itp_automaton.proofs.building.build_along.Goals as goal
 

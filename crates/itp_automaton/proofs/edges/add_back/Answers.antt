@@ -1,4 +1,4 @@
-use Rattle.std.proofs.Common.{◌≡◌, ◌∙◌, ap}
+use Rattle.std.proofs.Common.{◌∙◌, ap}
 use Rattle.letter_acts.specs.Invariant.{alphabet_of}
 use Rattle.itp_automaton.proofs.EdgeLaws.{back_act_of}
 use Rattle.itp_automaton.proofs.edges.add_back.Goals as goal

@@ -1,5 +1,5 @@
 use Rattle.std.proofs.Common.{◌≡◌, ◌∙◌, ap, refl, sym, rules, to_z-of_z}
-use Rattle.std.specs.Prelude.{IsTrue, FitsSigned}
+use Rattle.std.specs.Prelude.{FitsSigned}
 use Rattle.std.specs.Int.{w128}
 use Rattle.lin_rows.specs.Rows.{LinearRow}
 use Rattle.itp_automaton.proofs.equality.same_row.Goals as goal

@@ -1,4 +1,4 @@
-use Rattle.std.proofs.Common.{◌≡◌, ℕ, List, length, subst}
+use Rattle.std.proofs.Common.{ℕ, subst}
 use Rattle.letter_acts.specs.Invariant.{alphabet_of}
 use Rattle.itp_automaton.specs.Making.{AreStates}
 use Rattle.itp_automaton.proofs.MakingLaws.{built_states, frame_count}

@@ -1,4 +1,3 @@
-use Rattle.std.proofs.Common.{◌≡◌}
 use Rattle.itp_automaton.proofs.SettlingLaws.{kept_some, kept_none}
 use Rattle.itp_automaton.proofs.settling.keep.Goals as goal
 

@@ -1,9 +1,9 @@
-use Rattle.std.proofs.Common.{◌≡◌, ◌∙◌, ◌+◌, List, [], ◌∷◌, ◌++◌, take, refl, sym, ap, subst}
+use Rattle.std.proofs.Common.{◌∙◌, ◌+◌, List, [], ◌∷◌, ◌++◌, take, refl, sym, ap, subst}
 use Rattle.std.proofs.lemmas.Bool.{false≢true}
 use Rattle.letter_acts.specs.Invariant.{alphabet_of}
 use Rattle.triple_rows.specs.declared.triples.Scoped.{Scoped}
 use Rattle.triple_rows.specs.declared.triples.Triple.{Triple}
-use Rattle.itp_automaton.specs.Settling.{triple_from, AreTriplesFrom}
+use Rattle.itp_automaton.specs.Settling.{AreTriplesFrom}
 use Rattle.itp_automaton.proofs.StateLaws.{got_at, take_next, member_at}
 use Rattle.itp_automaton.proofs.SettlingLaws.{triple_found, triple_left}
 use Rattle.itp_automaton.proofs.settling.triples_from.Goals.{then-is_scoped+in_ok-triple+in_ok-push, else-is_scoped}

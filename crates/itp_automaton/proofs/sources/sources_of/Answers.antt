@@ -1,4 +1,4 @@
-use Rattle.std.proofs.Common.{◌≡◌, Some, ap}
+use Rattle.std.proofs.Common.{Some}
 use Rattle.letter_acts.specs.Acts.{plain_act}
 use Rattle.letter_acts.specs.Invariant.{alphabet_of}
 use Rattle.itp_automaton.proofs.AnswerLaws.{ok_so}

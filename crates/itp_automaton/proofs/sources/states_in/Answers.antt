@@ -1,4 +1,4 @@
-use Rattle.std.proofs.Common.{◌≡◌, ◌∙◌, ◌⊎◌, ℕ, ◌+◌, ◌<◌, true, List, [], ◌∷◌, ◌++◌, length, get_or, inl, inr, refl, sym, ap, subst, arith}
+use Rattle.std.proofs.Common.{◌≡◌, ◌∙◌, ℕ, ◌+◌, ◌<◌, true, List, [], ◌∷◌, ◌++◌, length, get_or, inl, inr, refl, sym, ap, subst, arith}
 use Rattle.std.proofs.lemmas.Bool.{false≢true}
 use Rattle.std.specs.List.{AllByRecursion}
 use Rattle.nwa_base.specs.Members.{Member}
@@ -7,7 +7,7 @@ use Rattle.letter_acts.specs.Acts.{Alphabet}
 use Rattle.letter_acts.specs.Invariant.{alphabet_of}
 use Rattle.triple_rows.specs.declared.triples.Scoped.{Scoped}
 use Rattle.triple_rows.specs.Triples.{IsScoped}
-use Rattle.itp_automaton.specs.Settling.{state_at, IsStateIn, AreStatesIn}
+use Rattle.itp_automaton.specs.Settling.{state_at, IsStateIn}
 use Rattle.itp_automaton.proofs.StateLaws.{below_or_last, got_at}
 use Rattle.itp_automaton.proofs.BuiltLaws.{all_push}
 use Rattle.itp_automaton.proofs.SourceLaws.{state_stands}

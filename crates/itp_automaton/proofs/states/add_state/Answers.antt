@@ -1,8 +1,7 @@
-use Rattle.std.proofs.Common.{◌≡◌, ◌∙◌, ap, sym, subst}
+use Rattle.std.proofs.Common.{sym, subst}
 use Rattle.triple_rows.specs.declared.triples.Scoped.{Scoped}
 use Rattle.std.proofs.Common.{List}
 use Rattle.nwa_base.specs.Members.{Member}
-use Rattle.std.specs.Prelude.{slice_get}
 use Rattle.itp_automaton.specs.States.{AddsState}
 use Rattle.itp_automaton.proofs.StateLaws.{added, there_already}
 use Rattle.itp_automaton.proofs.states.add_state.Goals as goal
