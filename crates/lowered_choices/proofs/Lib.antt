@@ -1,5 +1,5 @@
 mod WholeCalls
 mod LastStep
-mod ReadOff
+pub mod ReadOff
 mod ToldLetters
 pub mod ToldTraces
