@@ -4,5 +4,5 @@
 mod counting;
 mod proving;
 
-pub use proving::{prove, prove_all};
+pub use proving::prove;
 pub use triple_rows::Proof;
