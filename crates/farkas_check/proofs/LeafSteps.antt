@@ -3,6 +3,7 @@ use Rattle.std.proofs.Common.{◌≡◌, ◌↔◌, ℕ, zero, suc, ◌+◌, ◌
 use Rattle.std.specs.List.{AllByRecursion}
 use Rattle.std.proofs.lemmas.Int.{ints}
 use Rattle.std.proofs.lemmas.List.{drop_more, drop_all}
+use Rattle.math_facts.specs.Fits.{Fits}
 use Rattle.math_facts.specs.Terms.{coefficient}
 use Rattle.lin_rows.specs.declared.types.RowKind.{RowKind}
 use Rattle.lin_rows.specs.declared.types.RowKind.TheVariants.{Le, Eq}
@@ -10,11 +11,12 @@ use Rattle.lin_rows.specs.Rows.{LinearRow, AscendsFrom}
 use Rattle.lin_rows.specs.Combinations.{row_at, Multiplies, IsPart, combined, RunFits, Contradicts}
 use Rattle.farkas_check.specs.Leaves.{PartSum, columns_of, MayFollow, RowFits, AddsRow, CanAdd, AddsPart, IsContradiction}
 
--- The sum so far with these parts says `0 <= c` with `c < 0`, and each number on the way fits. The parts ascend by row, from
+-- The sum so far with these parts says `0 <= c` with `c < 0`, and each multiplier and each number on the way fits. The parts ascend by row, from
 -- the number next on.
 pub record ContradictsFrom (rows : List LinearRow) (next : ℕ) (sum : PartSum) (parts : List (ℕ × ℤ)) : Type 0 where
   pub ascends : AscendsFrom next parts
   pub each : AllByRecursion (IsPart rows) parts
+  pub multipliers_fit : AllByRecursion (λ t. Fits t.1) parts
   pub columns_fit : (c : ℕ) → RunFits (λ r. coefficient c r.terms) rows (columns_of sum c) parts
   pub bound_fits : RunFits (λ r. r.bound) rows sum.bound parts
   pub columns_vanish : (c : ℕ) → columns_of sum c +ℤ combined (λ r. coefficient c r.terms) rows parts ≡ pos 0
@@ -30,10 +32,11 @@ row_at_read (r ∷ rs) (suc k) x l e = row_at_read rs k x (omega arith) e
 
 -- a part that passes each test may follow
 pub MayFollow-read : (rows : List LinearRow) (next n : ℕ) (m : ℤ) (row : LinearRow) (kind : RowKind) →
-    next ≤ n → n < length rows → row ≡ get_or rows n row → kind ≡ row.kind → Multiplies m kind → MayFollow rows next (n, m)
-MayFollow-read rows next n m row kind a l r k f = record {
+    next ≤ n → n < length rows → row ≡ get_or rows n row → kind ≡ row.kind → Multiplies m kind → Fits m → MayFollow rows next (n, m)
+MayFollow-read rows next n m row kind a l r k f b = record {
   ascends = a;
   is_part = record { exists = l; multiplies = subst (λ (v : LinearRow). Multiplies m v.kind) (row_at_read rows n row l r) (subst (Multiplies m) k f) };
+  fits = b;
 }
 
 -- and one that may follow passes the test of its multiplier
@@ -68,6 +71,7 @@ ContradictsFrom_more rows next sum t after new rest a = (to, from)
     to b = record {
       ascends = (a.follows.ascends, subst (λ (n : ℕ). AscendsFrom n rest) a.after_is b.ascends);
       each = (a.follows.is_part, b.each);
+      multipliers_fit = (a.follows.fits, b.multipliers_fit);
       columns_fit = λ c. (
         a.adds.fits.terms.products c,
         a.adds.fits.terms.sums c,
@@ -89,6 +93,7 @@ ContradictsFrom_more rows next sum t after new rest a = (to, from)
     from b = record {
       ascends = subst (λ (n : ℕ). AscendsFrom n rest) (sym a.after_is) b.ascends.1;
       each = b.each.1;
+      multipliers_fit = b.multipliers_fit.1;
       columns_fit = λ c. subst (λ (z : ℤ). RunFits (λ r. coefficient c r.terms) rows z rest) (sym (a.adds.columns c)) (b.columns_fit c).2;
       bound_fits = subst (λ (z : ℤ). RunFits (λ r. r.bound) rows z rest) (sym a.adds.bound) b.bound_fits.2;
       columns_vanish = λ c.
@@ -102,7 +107,7 @@ ContradictsFrom_more rows next sum t after new rest a = (to, from)
 ContradictsFrom_none : (rows : List LinearRow) (next : ℕ) (sum : PartSum) (t : ℕ × ℤ) (rest : List (ℕ × ℤ)) →
     (CanAdd rows next sum t → ⊥) → ContradictsFrom rows next sum (t ∷ rest) → ⊥
 ContradictsFrom_none rows next sum t rest none b = none (record {
-  follows = record { ascends = b.ascends.0; is_part = b.each.0 };
+  follows = record { ascends = b.ascends.0; is_part = b.each.0; fits = b.multipliers_fit.0 };
   fits = record {
     terms = record { products = λ c. (b.columns_fit c).0; sums = λ c. (b.columns_fit c).1 };
     bound_product = b.bound_fits.0;
@@ -117,6 +122,7 @@ ContradictsFrom_start rows parts sum none nought = (
   λ b. record {
     ascends = b.ascends;
     each = b.each;
+    multipliers_fit = b.multipliers_fit;
     columns_fit = λ c. subst (λ (z : ℤ). RunFits (λ r. coefficient c r.terms) rows z parts) (none c) (b.columns_fit c);
     bound_fits = subst (λ (z : ℤ). RunFits (λ r. r.bound) rows z parts) nought b.bound_fits;
     columns_vanish = λ c. let e = b.columns_vanish c in let f = none c in omega (arith, ints);
@@ -125,6 +131,7 @@ ContradictsFrom_start rows parts sum none nought = (
   λ b. record {
     ascends = b.ascends;
     each = b.each;
+    multipliers_fit = b.multipliers_fit;
     columns_fit = λ c. subst (λ (z : ℤ). RunFits (λ r. coefficient c r.terms) rows z parts) (sym (none c)) (b.columns_fit c);
     bound_fits = subst (λ (z : ℤ). RunFits (λ r. r.bound) rows z parts) (sym nought) b.bound_fits;
     columns_vanish = λ c. let e = b.columns_vanish c in let f = none c in omega (arith, ints);
@@ -142,6 +149,7 @@ ContradictsFrom_end rows next sum = (
   λ n. record {
     ascends = tt;
     each = tt;
+    multipliers_fit = tt;
     columns_fit = λ c. tt;
     bound_fits = tt;
     columns_vanish = λ c. let f = n.columns_vanish c in omega (arith, ints);

@@ -24,10 +24,11 @@ pub record AreKept (kept : List (ℕ × ℤ)) : Type 0 where
   pub fits : (c : ℕ) → Fits (or_zero (lookup (nat_eq c) kept))
   pub not_zero : (c : ℕ) → lookup (nat_eq c) kept ≢ Some (pos 0)
 
--- the part's row exists and has at least the number next, and its multiplier may stand at this row
+-- the part's row exists and has at least the number next, and its multiplier fits and may stand at this row
 pub record MayFollow (rows : List LinearRow) (next : ℕ) (t : ℕ × ℤ) : Type 0 where
   pub ascends : next ≤ t.0
   pub is_part : IsPart rows t
+  pub fits : Fits t.1
 
 -- the product of each term with m fits, and so does its sum with the number of its column
 pub record TermsFit (columns : ℕ → ℤ) (m : ℤ) (ts : List (ℕ × ℤ)) : Type 0 where

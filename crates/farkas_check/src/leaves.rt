@@ -1,4 +1,5 @@
 ghost use Rattle.std.specs.Prelude.{◌≡◌, ◌↔◌, ℕ, ℤ, IfOk, IsTrue, MatchOption};
+ghost use Rattle.math_facts.specs.Fits.{Fits};
 ghost use Rattle.lin_rows.specs.Combinations.{Multiplies, Contradicts};
 ghost use Rattle.farkas_check.specs.Leaves.{MayFollow, CanAdd, AddsPart};
 
@@ -6,8 +7,8 @@ use crate::sums::Sum;
 use lin_rows::{Row, RowKind};
 use std::alloc::{AllocError, Global};
 
-/// Whether the rows, added up with the multipliers of the parts, say `0 <= c` with `c < 0`, and each product and each
-/// running sum fits.
+/// Whether the rows, added up with the multipliers of the parts, say `0 <= c` with `c < 0`, and each multiplier, each
+/// product and each running sum fits.
 pub(crate) fn contradicts(
     alloc: Global,
     rows: &[Row],
@@ -56,12 +57,12 @@ fn may_follow(rows: &[Row], next: usize, place: usize, multiplier: i128) -> bool
     place >= next && place < rows.len() && multiplies(multiplier, rows[place].kind())
 }
 
-/// Whether a row of that kind may be taken so many times.
+/// Whether the multiplier fits, and a row of that kind may be taken so many times.
 fn multiplies(multiplier: i128, kind: RowKind) -> bool
-    ensures { IsTrue result ↔ Multiplies multiplier kind }
+    ensures { IsTrue result ↔ (Fits multiplier × Multiplies multiplier kind) }
 {
     match kind {
         RowKind::Le => multiplier > 0,
-        RowKind::Eq => multiplier != 0,
+        RowKind::Eq => multiplier != 0 && multiplier != i128::MIN,
     }
 }

@@ -10,7 +10,7 @@ use std::marker::Model;
 #[derive(Debug, Drop, PartialEq, Eq)]
 pub enum Node {
     /// The rows with these numbers, ascending from 0 on, each taken as often as its multiplier says, add up to `0 <= c`
-    /// with `c < 0`. No multiplier is 0, and that of an inequality is positive.
+    /// with `c < 0`. Each multiplier fits and is not 0, and that of an inequality is positive.
     Leaf(Vec<(u32, i128)>),
     /// Two trees, one for `col <= k` and one for `col > k`.
     Cut {

@@ -71,6 +71,13 @@ const LEAVES: [(&[Said], Parts, bool); 22] = [
     (NEVER, &[(0, MOST)], true),
     // the product is -2^127
     (&[(&[], EQ, 1)], &[(0, i128::MIN)], false),
+    // a multiplier has to fit, also of a row that adds nothing
+    (&[(&[], EQ, 0), (&[], LE, -1)], &[(0, -MOST), (1, 1)], true),
+    (
+        &[(&[], EQ, 0), (&[], LE, -1)],
+        &[(0, i128::MIN), (1, 1)],
+        false,
+    ),
     // the bounds add up to 2^127-1, 0, 1 and -1
     (
         &[

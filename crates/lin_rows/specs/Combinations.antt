@@ -36,10 +36,11 @@ RunFits number rows sum (t ∷ ts) =
     let product = t.1 *ℤ number (row_at rows t.0) in
     Fits product × Fits (sum +ℤ product) × RunFits number rows (sum +ℤ product) ts
 
--- The combination says `0 <= c` with `c < 0`, and each number on the way fits. The parts ascend by row.
+-- The combination says `0 <= c` with `c < 0`, and each multiplier and each number on the way fits. The parts ascend by row.
 pub record Contradicts (rows : List LinearRow) (parts : List (ℕ × ℤ)) : Type 0 where
   pub ascends : AscendsFrom 0 parts
   pub each : AllByRecursion (IsPart rows) parts
+  pub multipliers_fit : AllByRecursion (λ part. Fits part.1) parts
   pub columns_fit : (c : ℕ) → RunFits (λ r. coefficient c r.terms) rows (pos 0) parts
   pub bound_fits : RunFits (λ r. r.bound) rows (pos 0) parts
   pub columns_vanish : (c : ℕ) → combined (λ r. coefficient c r.terms) rows parts ≡ pos 0

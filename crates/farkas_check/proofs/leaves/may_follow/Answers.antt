@@ -10,7 +10,7 @@ returns-then-place-rows c =
     let tests = simp to_z-of_z at c.multiplies.ensures in (
       λ yes.
           MayFollow-read c.args.rows.now c.args.next c.args.place c.args.multiplier c.index-rows-place.result c.kind.result c.if-place-rows.true.0 c.if-place-rows.true.1
-          c.index-rows-place.is c.kind.ensures (tests.0 yes),
+          c.index-rows-place.is c.kind.ensures (tests.0 yes).1 (tests.0 yes).0,
       λ may.
-          tests.1 (MayFollow-multiplies c.args.rows.now c.args.next c.args.place c.args.multiplier c.index-rows-place.result c.kind.result c.index-rows-place.is c.kind.ensures may),
+          tests.1 (may.fits, MayFollow-multiplies c.args.rows.now c.args.next c.args.place c.args.multiplier c.index-rows-place.result c.kind.result c.index-rows-place.is c.kind.ensures may),
     )
