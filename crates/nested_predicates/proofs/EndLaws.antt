@@ -21,12 +21,12 @@ use Rattle.farkas_check.specs.Trees.{Tree, leaf_tree, cut_tree, cases_tree, pref
 use Rattle.triple_rows.specs.declared.triples.Scoped.{Scoped}
 use Rattle.triple_rows.specs.Predicates.{Formula, truth}
 use Rattle.triple_rows.specs.Predicates as preds
-use Rattle.nested_itp.specs.Stamps.{column_stamp, stamps_of}
-use Rattle.nested_itp.specs.Positions.{Scope, returned_by, has_return, scopes_after, Position, innermost, position_at, positions_along, start_scope, is_counted}
-use Rattle.nested_itp.specs.Sums.{Branch, root_of, with_cut, parts_upto, column_upto, bound_upto, known_sum, column_sums, terms_from, is_not_negative, inequality, coefficients_at, bound_at, sum_at}
-use Rattle.nested_itp.specs.Joins.{joined, joined_at, simplified, predicate_at}
-use Rattle.nested_itp.specs.Interpolants.{RefutesRows, scoped_at, prefix_predicates, BeginsTrue, EndsFalse}
-use Rattle.nested_itp.proofs.StampLaws.{IsWithin, index_within, stamp_within, columns_of_word_within, IsStamped, root_stamped, cut_stamped}
+use Rattle.nested_predicates.specs.Stamps.{column_stamp, stamps_of}
+use Rattle.nested_predicates.specs.Positions.{Scope, returned_by, has_return, scopes_after, Position, innermost, position_at, positions_along, start_scope, is_counted}
+use Rattle.nested_predicates.specs.Sums.{Branch, root_of, with_cut, parts_upto, column_upto, bound_upto, known_sum, column_sums, terms_from, is_not_negative, inequality, coefficients_at, bound_at, sum_at}
+use Rattle.nested_predicates.specs.Joins.{joined, joined_at, simplified, predicate_at}
+use Rattle.nested_predicates.specs.Interpolants.{RefutesRows, scoped_at, prefix_predicates, BeginsTrue, EndsFalse}
+use Rattle.nested_predicates.proofs.StampLaws.{IsWithin, index_within, stamp_within, columns_of_word_within, IsStamped, root_stamped, cut_stamped}
 
 -- ---- parts of which none or all are counted
 

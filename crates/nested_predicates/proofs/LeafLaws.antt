@@ -14,17 +14,17 @@ use Rattle.letter_acts.specs.Invariant.{Graph, alphabet_of}
 use Rattle.path_rows.specs.Versions.{Stage, part_of}
 use Rattle.path_rows.specs.Paths.{start_frame, first_stage, path_along, path_of}
 use Rattle.triple_rows.specs.declared.predicates.PredNode.{PredNode}
-use Rattle.nested_itp.specs.declared.wide.Wide.{Wide}
-use Rattle.nested_itp.specs.declared.running.Running.{Running}
-use Rattle.nested_itp.specs.declared.bases.Base.{Base}
-use Rattle.nested_itp.specs.Wides.{value_of}
-use Rattle.nested_itp.specs.Positions.{Scope, position_at, positions_of, start_scope, has_return, known_columns, callee_of, scopes_after}
-use Rattle.nested_itp.specs.Sums.{Branch, parts_upto, inequality, terms_from}
-use Rattle.nested_itp.specs.Runnings.{value_at, AreCounted, AddsParts, differences, parts_at}
-use Rattle.nested_itp.specs.Bases.{AreMade, CanRead, IsNothing, Enters, first_columns, first_bound, node_of, IsSummed, IsBase, AreBases}
-use Rattle.nested_itp.specs.Layouts.{HasStamps, leaf_node}
-use Rattle.nested_itp.proofs.WordLaws.{IsRead, start_read, next_read, front_letter, all_read}
-use Rattle.nested_itp.proofs.PassLaws.{StartsEmpty, summed_next, sum_read, bases_after}
+use Rattle.nested_predicates.specs.declared.wide.Wide.{Wide}
+use Rattle.nested_predicates.specs.declared.running.Running.{Running}
+use Rattle.nested_predicates.specs.declared.bases.Base.{Base}
+use Rattle.nested_predicates.specs.Wides.{value_of}
+use Rattle.nested_predicates.specs.Positions.{Scope, position_at, positions_of, start_scope, has_return, known_columns, callee_of, scopes_after}
+use Rattle.nested_predicates.specs.Sums.{Branch, parts_upto, inequality, terms_from}
+use Rattle.nested_predicates.specs.Runnings.{value_at, AreCounted, AddsParts, differences, parts_at}
+use Rattle.nested_predicates.specs.Bases.{AreMade, CanRead, IsNothing, Enters, first_columns, first_bound, node_of, IsSummed, IsBase, AreBases}
+use Rattle.nested_predicates.specs.Layouts.{HasStamps, leaf_node}
+use Rattle.nested_predicates.proofs.WordLaws.{IsRead, start_read, next_read, front_letter, all_read}
+use Rattle.nested_predicates.proofs.PassLaws.{StartsEmpty, summed_next, sum_read, bases_after}
 
 -- ---- nothing has a stamp below 2
 

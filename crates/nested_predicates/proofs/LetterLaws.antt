@@ -10,9 +10,9 @@ use Rattle.nwa_base.specs.Acceptance.{Follows, AcceptsFrom, Accepts}
 use Rattle.letter_acts.specs.Acts.{act_of}
 use Rattle.letter_acts.specs.Invariant.{Graph, IsGraph, alphabet_of, InsideFollows, CallFollows, BackFollows}
 use Rattle.letter_acts.specs.Kept.{Keeps}
-use Rattle.nested_itp.specs.declared.layout.Layout.{Layout}
-use Rattle.nested_itp.specs.Walking.{AreLetters}
-use Rattle.nested_itp.specs.Layouts.{IsLayout}
+use Rattle.nested_predicates.specs.declared.layout.Layout.{Layout}
+use Rattle.nested_predicates.specs.Walking.{AreLetters}
+use Rattle.nested_predicates.specs.Layouts.{IsLayout}
 
 pub kept_graph : (g : Graph) → Keeps g → IsGraph g
 unfolding Keeps

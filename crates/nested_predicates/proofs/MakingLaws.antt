@@ -22,13 +22,13 @@ use Rattle.farkas_check.specs.Nodes.{PlainNode}
 use Rattle.farkas_check.specs.Refutes.{at_most, above}
 use Rattle.farkas_check.specs.Trees.{Tree, leaf_tree, cut_tree, cases_tree, prefix_of, TreeRefutes}
 use Rattle.triple_rows.specs.declared.predicates.PredNode.{PredNode}
-use Rattle.nested_itp.specs.Stamps.{stamps_of}
-use Rattle.nested_itp.specs.Positions.{Scope, scopes_after, positions_along, start_scope, positions_of}
-use Rattle.nested_itp.specs.Sums.{Branch, root_of, with_cut}
-use Rattle.nested_itp.specs.Interpolants.{RefutesRows, HasCutsUpTo, prefix_predicates, scoped_at, EndsFalse}
-use Rattle.nested_itp.specs.Tables.{table_along}
-use Rattle.nested_itp.specs.Spelled.{IsTableOf}
-use Rattle.nested_itp.proofs.EndLaws.{rows_goal, tree_refutes, ends_false}
+use Rattle.nested_predicates.specs.Stamps.{stamps_of}
+use Rattle.nested_predicates.specs.Positions.{Scope, scopes_after, positions_along, start_scope, positions_of}
+use Rattle.nested_predicates.specs.Sums.{Branch, root_of, with_cut}
+use Rattle.nested_predicates.specs.Interpolants.{RefutesRows, HasCutsUpTo, prefix_predicates, scoped_at, EndsFalse}
+use Rattle.nested_predicates.specs.Tables.{table_along}
+use Rattle.nested_predicates.specs.Spelled.{IsTableOf}
+use Rattle.nested_predicates.proofs.EndLaws.{rows_goal, tree_refutes, ends_false}
 
 -- ---- no tree refutes rows that the point 0 meets
 

@@ -10,22 +10,22 @@ use Rattle.math_facts.proofs.Whole.{product_zero_right}
 use Rattle.lin_rows.specs.Rows.{LinearRow, AscendsFrom, IsRow}
 use Rattle.lin_rows.specs.Combinations.{row_at, IsPart, combined, RunFits, Contradicts}
 use Rattle.lin_rows.proofs.Ascending.{coefficient_below, coefficient_first, coefficient_rest}
-use Rattle.nested_itp.specs.declared.wide.Wide.{Wide}
-use Rattle.nested_itp.specs.declared.running.Running.{Running}
-use Rattle.nested_itp.specs.declared.bases.Base.{Base}
-use Rattle.nested_itp.specs.Wides.{value_of}
+use Rattle.nested_predicates.specs.declared.wide.Wide.{Wide}
+use Rattle.nested_predicates.specs.declared.running.Running.{Running}
+use Rattle.nested_predicates.specs.declared.bases.Base.{Base}
+use Rattle.nested_predicates.specs.Wides.{value_of}
 use Rattle.nwa_base.specs.declared.letters.Kind.{Kind}
 use Rattle.nwa_base.specs.declared.letters.Kind.TheVariants.{Inside, Call, Back}
 use Rattle.nwa_base.specs.declared.letters.Letter.{Letter}
 use Rattle.letter_acts.specs.Frames.{Columns}
 use Rattle.letter_acts.specs.Acts.{PlainAct, Alphabet, frame_of}
-use Rattle.nested_itp.specs.Positions.{Scope, no_scope, Position, innermost, position_at, known_columns, callee_scope, has_return, scopes_after, callee_of}
-use Rattle.nested_itp.specs.Positions as positions
-use Rattle.nested_itp.specs.Sums.{Branch, parts_upto, column_upto, bound_upto, known_sum, column_sums, sum_at, inequality, terms_from}
-use Rattle.nested_itp.specs.Runnings.{value_at, ProductsFit, PartsFit, AddsParts, behind_first, differences, parts_at}
-use Rattle.nested_itp.specs.Bases.{AreMade, known_value, IsEntered, bases_left, Enters, first_columns, first_bound, node_of, IsSummed, known_sum_at, IsBase, AreBases}
-use Rattle.nested_itp.proofs.SumLaws.{fits_zero}
-use Rattle.nested_itp.proofs.BaseLaws.{known_made}
+use Rattle.nested_predicates.specs.Positions.{Scope, no_scope, Position, innermost, position_at, known_columns, callee_scope, has_return, scopes_after, callee_of}
+use Rattle.nested_predicates.specs.Positions as positions
+use Rattle.nested_predicates.specs.Sums.{Branch, parts_upto, column_upto, bound_upto, known_sum, column_sums, sum_at, inequality, terms_from}
+use Rattle.nested_predicates.specs.Runnings.{value_at, ProductsFit, PartsFit, AddsParts, behind_first, differences, parts_at}
+use Rattle.nested_predicates.specs.Bases.{AreMade, known_value, IsEntered, bases_left, Enters, first_columns, first_bound, node_of, IsSummed, known_sum_at, IsBase, AreBases}
+use Rattle.nested_predicates.proofs.SumLaws.{fits_zero}
+use Rattle.nested_predicates.proofs.BaseLaws.{known_made}
 
 -- ---- the parts up to the next stamp
 

@@ -14,20 +14,20 @@ use Rattle.triple_rows.specs.declared.predicates.PredNode.{PredNode}
 use Rattle.triple_rows.specs.declared.predicates.PredNode.TheVariants.{And, Or}
 use Rattle.triple_rows.specs.declared.triples.Scoped.{Scoped}
 use Rattle.triple_rows.specs.Predicates.{Formula, prefix_of, formulas, first_formula}
-use Rattle.nested_itp.specs.Stamps.{column_stamp, stamps_of}
-use Rattle.nested_itp.specs.Positions.{Position, is_counted, positions_of}
-use Rattle.nested_itp.specs.Sums.{Branch, root_of, with_cut, inequality, terms_from, coefficients_at, bound_at}
-use Rattle.nested_itp.specs.Joins.{joined, joined_at, simplified}
-use Rattle.nested_itp.specs.Simplifying.{AreJoined}
-use Rattle.nested_itp.specs.Interpolants.{cuts_on_branch, scoped_at}
-use Rattle.nested_itp.specs.Bases.{node_of}
-use Rattle.nested_itp.specs.Layouts.{leaf_node}
-use Rattle.nested_itp.specs.Tables.{cut_node_at, table_along}
-use Rattle.nested_itp.specs.Spelled.{SpellsAt, CanSpell, IsTableOf}
-use Rattle.nested_itp.specs.Spots.{spot_at}
-use Rattle.nested_itp.specs.declared.spots.Spot.{Spot}
-use Rattle.nested_itp.proofs.EndLaws.{rows_goal, tree_refutes}
-use Rattle.nested_itp.proofs.SpellingLaws.{predicate_spells}
+use Rattle.nested_predicates.specs.Stamps.{column_stamp, stamps_of}
+use Rattle.nested_predicates.specs.Positions.{Position, is_counted, positions_of}
+use Rattle.nested_predicates.specs.Sums.{Branch, root_of, with_cut, inequality, terms_from, coefficients_at, bound_at}
+use Rattle.nested_predicates.specs.Joins.{joined, joined_at, simplified}
+use Rattle.nested_predicates.specs.Simplifying.{AreJoined}
+use Rattle.nested_predicates.specs.Interpolants.{cuts_on_branch, scoped_at}
+use Rattle.nested_predicates.specs.Bases.{node_of}
+use Rattle.nested_predicates.specs.Layouts.{leaf_node}
+use Rattle.nested_predicates.specs.Tables.{cut_node_at, table_along}
+use Rattle.nested_predicates.specs.Spelled.{SpellsAt, CanSpell, IsTableOf}
+use Rattle.nested_predicates.specs.Spots.{spot_at}
+use Rattle.nested_predicates.specs.declared.spots.Spot.{Spot}
+use Rattle.nested_predicates.proofs.EndLaws.{rows_goal, tree_refutes}
+use Rattle.nested_predicates.proofs.SpellingLaws.{predicate_spells}
 
 -- ---- the tree is read from its nodes
 

@@ -6,8 +6,8 @@ use Rattle.std.proofs.lemmas.List.{drop_more, reverse-append}
 use Rattle.nwa_base.specs.declared.letters.Kind.{Kind}
 use Rattle.nwa_base.specs.declared.letters.Kind.TheVariants.{Inside, Call, Back}
 use Rattle.nwa_base.specs.declared.letters.Letter.{Letter}
-use Rattle.nested_itp.specs.Positions.{returned_by, has_return}
-use Rattle.nested_itp.specs.Walking.{unmatched_before, unmatched, return_tests}
+use Rattle.nested_predicates.specs.Positions.{returned_by, has_return}
+use Rattle.nested_predicates.specs.Walking.{unmatched_before, unmatched, return_tests}
 
 same_test : (a b c d : ℕ) → (a < b → c < d) → (b ≤ a → d ≤ c) → nat_lt a b ≡ nat_lt c d
 same_test a b c d f g = by_test (nat_lt a b) refl

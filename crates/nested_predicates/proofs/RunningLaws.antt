@@ -11,10 +11,10 @@ use Rattle.std.proofs.lemmas.Int.{ints}
 use Rattle.std.proofs.lemmas.Bool.{ne_eqb}
 use Rattle.std.proofs.lemmas.List.{drop_all}
 use Rattle.std.proofs.Math.Seq.{drop-cons}
-use Rattle.nested_itp.specs.declared.wide.Wide.{Wide}
-use Rattle.nested_itp.specs.declared.running.Running.{Running}
-use Rattle.nested_itp.specs.Wides.{value_of, AreParts, KeepsCount}
-use Rattle.nested_itp.specs.Runnings.{value_at, AreCounted, SameWidth, AddsTerm, AddsTerms, AddsBound, AddsRow, AddsParts}
+use Rattle.nested_predicates.specs.declared.wide.Wide.{Wide}
+use Rattle.nested_predicates.specs.declared.running.Running.{Running}
+use Rattle.nested_predicates.specs.Wides.{value_of, AreParts, KeepsCount}
+use Rattle.nested_predicates.specs.Runnings.{value_at, AreCounted, SameWidth, AddsTerm, AddsTerms, AddsBound, AddsRow, AddsParts}
 
 -- ---- one more
 

@@ -6,12 +6,12 @@ use Rattle.lin_rows.specs.Rows.{LinearRow}
 use Rattle.triple_rows.specs.declared.predicates.PredNode.{PredNode}
 use Rattle.triple_rows.specs.declared.predicates.PredNode.TheVariants.{Truth, Atom, And, Or}
 use Rattle.triple_rows.specs.Predicates.{Formula, truth, atom, and_of, or_of, IsTruth, prefix_of, formulas, first_formula, formula_of}
-use Rattle.nested_itp.specs.declared.joins.Part.{Part}
-use Rattle.nested_itp.specs.declared.joins.Part.TheVariants as parts
-use Rattle.nested_itp.specs.declared.joins.Simplifier.{Simplifier}
-use Rattle.nested_itp.specs.Joins.{and_joined, or_joined, simplified, both_of}
-use Rattle.nested_itp.specs.Simplifying.{CanJoin, AreJoined, SpellsJoined, with_node, Spell, HasRead, FindsParts, Reads, joined_by, JoinsTwo, decides, decided, join_node, JoinsParts}
-use Rattle.nested_itp.proofs.SpellingLaws.{and_true, or_false}
+use Rattle.nested_predicates.specs.declared.joins.Part.{Part}
+use Rattle.nested_predicates.specs.declared.joins.Part.TheVariants as parts
+use Rattle.nested_predicates.specs.declared.joins.Simplifier.{Simplifier}
+use Rattle.nested_predicates.specs.Joins.{and_joined, or_joined, simplified, both_of}
+use Rattle.nested_predicates.specs.Simplifying.{CanJoin, AreJoined, SpellsJoined, with_node, Spell, HasRead, FindsParts, Reads, joined_by, JoinsTwo, decides, decided, join_node, JoinsParts}
+use Rattle.nested_predicates.proofs.SpellingLaws.{and_true, or_false}
 
 -- what is behind the first tree, where the nodes are cut back to as many
 cut_back : (xs front rest : List PredNode) (n : ℕ) → reverse xs ≡ front ++ rest → length rest ≡ n → reverse (take n xs) ≡ rest

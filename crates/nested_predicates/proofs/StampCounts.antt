@@ -15,9 +15,9 @@ use Rattle.letter_acts.specs.Invariant.{Graph, alphabet_of, type_at}
 use Rattle.path_rows.specs.Rows.{bounds, types_of, types_at}
 use Rattle.path_rows.specs.Versions.{Stage, Part, rows_in, entry_rows, locals_of, old_part, inside_part, call_part, return_part, back_part, part_of, act_part}
 use Rattle.path_rows.specs.Paths.{repeated, start_frame, first_stage}
-use Rattle.nested_itp.specs.declared.stamps.Stamps.{Stamps}
-use Rattle.nested_itp.specs.Stamps.{stamp_of, callee_stamp, row_stamps, call_stamps, column_stamps, stamps_along, stamps_of}
-use Rattle.nested_itp.specs.Walking.{is_boolean, is_bool, is_bool_at, ReadsLetter}
+use Rattle.nested_predicates.specs.declared.stamps.Stamps.{Stamps}
+use Rattle.nested_predicates.specs.Stamps.{stamp_of, callee_stamp, row_stamps, call_stamps, column_stamps, stamps_along, stamps_of}
+use Rattle.nested_predicates.specs.Walking.{is_boolean, is_bool, is_bool_at, ReadsLetter}
 
 -- ---- so many times one stamp
 

@@ -12,8 +12,8 @@ use Rattle.letter_acts.specs.Invariant.{Graph, alphabet_of}
 use Rattle.path_rows.specs.Rows.{bounds, types_of}
 use Rattle.path_rows.specs.Versions.{Stage, Part, rows_in, locals_of, old_part, part_of}
 use Rattle.path_rows.specs.Paths.{repeated, start_frame, first_stage, path_along, path_of}
-use Rattle.nested_itp.specs.Stamps.{stamp_of, callee_stamp, row_stamps, call_stamps, column_stamps, stamps_along, stamps_of, column_stamp}
-use Rattle.nested_itp.specs.Sums.{Branch, root_of, with_cut}
+use Rattle.nested_predicates.specs.Stamps.{stamp_of, callee_stamp, row_stamps, call_stamps, column_stamps, stamps_along, stamps_of, column_stamp}
+use Rattle.nested_predicates.specs.Sums.{Branch, root_of, with_cut}
 
 -- a stamp that is counted at some position below a limit
 abbrev pub IsWithin : ℕ → ℕ → Type 0

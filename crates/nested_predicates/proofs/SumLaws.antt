@@ -14,10 +14,10 @@ use Rattle.lin_rows.proofs.Ascending.{AscendsFrom_less, coefficient_first, coeff
 use Rattle.lin_rows.proofs.SummedLaws.{summed_from_coefficients}
 use Rattle.triple_rows.specs.declared.predicates.PredNode.TheVariants.{Atom}
 use Rattle.triple_rows.specs.Predicates.{prefix_of}
-use Rattle.nested_itp.specs.declared.wide.Wide.{Wide}
-use Rattle.nested_itp.specs.Wides.{value_of, HasRoom}
-use Rattle.nested_itp.specs.Sums.{terms_from, inequality}
-use Rattle.nested_itp.specs.Runnings.{value_at, behind_first, differences, AreSumTerms}
+use Rattle.nested_predicates.specs.declared.wide.Wide.{Wide}
+use Rattle.nested_predicates.specs.Wides.{value_of, HasRoom}
+use Rattle.nested_predicates.specs.Sums.{terms_from, inequality}
+use Rattle.nested_predicates.specs.Runnings.{value_at, behind_first, differences, AreSumTerms}
 
 -- ---- numbers at places
 

@@ -16,17 +16,17 @@ use Rattle.farkas_check.specs.Nodes.{PlainNode, leaf, cut, cases, plain, plain_n
 use Rattle.farkas_check.specs.declared.refutations.Node.{Node}
 use Rattle.farkas_check.specs.Refutes.{Goal, at_most, above, Refute}
 use Rattle.triple_rows.specs.declared.predicates.PredNode.{PredNode}
-use Rattle.nested_itp.specs.declared.branches.Branches.{Branches}
-use Rattle.nested_itp.specs.Stamps.{stamps_of, column_stamp}
-use Rattle.nested_itp.specs.declared.branches.Waiting.{Waiting}
-use Rattle.nested_itp.specs.declared.spots.Spot.{Spot}
-use Rattle.nested_itp.specs.Spots.{spot_at}
-use Rattle.nested_itp.specs.Positions.{Scope, scopes_after, Position, position_at, positions_along, start_scope, positions_of}
-use Rattle.nested_itp.specs.Sums.{Branch, root_of, with_cut}
-use Rattle.nested_itp.specs.Interpolants.{RefutesRows}
-use Rattle.nested_itp.specs.Layouts.{HasStamps, leaf_node}
-use Rattle.nested_itp.proofs.StampLaws.{IsWithin, IsStamped, stamp_within, columns_of_word_within, root_stamped}
-use Rattle.nested_itp.specs.Tables.{upto, entered, Wait, branch_of, HasNext, Await, CanTake, row_of_node, branches_after, IsGood, cut_nodes_from, cut_node_at, table_along}
+use Rattle.nested_predicates.specs.declared.branches.Branches.{Branches}
+use Rattle.nested_predicates.specs.Stamps.{stamps_of, column_stamp}
+use Rattle.nested_predicates.specs.declared.branches.Waiting.{Waiting}
+use Rattle.nested_predicates.specs.declared.spots.Spot.{Spot}
+use Rattle.nested_predicates.specs.Spots.{spot_at}
+use Rattle.nested_predicates.specs.Positions.{Scope, scopes_after, Position, position_at, positions_along, start_scope, positions_of}
+use Rattle.nested_predicates.specs.Sums.{Branch, root_of, with_cut}
+use Rattle.nested_predicates.specs.Interpolants.{RefutesRows}
+use Rattle.nested_predicates.specs.Layouts.{HasStamps, leaf_node}
+use Rattle.nested_predicates.proofs.StampLaws.{IsWithin, IsStamped, stamp_within, columns_of_word_within, root_stamped}
+use Rattle.nested_predicates.specs.Tables.{upto, entered, Wait, branch_of, HasNext, Await, CanTake, row_of_node, branches_after, IsGood, cut_nodes_from, cut_node_at, table_along}
 
 -- what a branch has to refute
 abbrev pub goal_at : Branch → Goal

@@ -10,9 +10,9 @@ use Rattle.nwa_base.specs.Words.{goes_on, are_matched}
 use Rattle.triple_rows.specs.declared.triples.Scoped.{Scoped}
 use Rattle.triple_rows.specs.declared.triples.Triple.{Triple}
 use Rattle.triple_rows.specs.declared.triples.Triple.TheVariants as triples
-use Rattle.nested_itp.specs.Interpolants.{letter_triple, saved_after, triples_along}
-use Rattle.nested_itp.specs.Saved.{scoped_in, saved_at, calls_after, FindsCall}
-use Rattle.nested_itp.proofs.WordLaws.{front_letter}
+use Rattle.nested_predicates.specs.Interpolants.{letter_triple, saved_after, triples_along}
+use Rattle.nested_predicates.specs.Saved.{scoped_in, saved_at, calls_after, FindsCall}
+use Rattle.nested_predicates.proofs.WordLaws.{front_letter}
 
 pub scoped_found : (preds : List Scoped) (k : ℕ) (d : Scoped) → k < length preds → get_or preds k d ≡ scoped_in preds k
 scoped_found [] k d l = absurd (omega (arith, l))

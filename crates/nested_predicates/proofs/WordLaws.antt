@@ -8,11 +8,11 @@ use Rattle.letter_acts.specs.Acts.{PlainAct, Alphabet, act_of}
 use Rattle.letter_acts.specs.Invariant.{Graph, alphabet_of}
 use Rattle.path_rows.specs.Versions.{Stage, part_of}
 use Rattle.path_rows.specs.Paths.{start_frame, first_stage, path_along, path_of}
-use Rattle.nested_itp.specs.declared.spots.Spot.{Spot}
-use Rattle.nested_itp.specs.Positions.{Scope, has_return, scopes_after, callee_of, Position, innermost, position_at, positions_along, start_scope, positions_of}
-use Rattle.nested_itp.specs.Positions as positions
-use Rattle.nested_itp.specs.Walking.{return_tests}
-use Rattle.nested_itp.specs.Spots.{spot_of, spot_at, innermost_spot, without_first, spots_after}
+use Rattle.nested_predicates.specs.declared.spots.Spot.{Spot}
+use Rattle.nested_predicates.specs.Positions.{Scope, has_return, scopes_after, callee_of, Position, innermost, position_at, positions_along, start_scope, positions_of}
+use Rattle.nested_predicates.specs.Positions as positions
+use Rattle.nested_predicates.specs.Walking.{return_tests}
+use Rattle.nested_predicates.specs.Spots.{spot_of, spot_at, innermost_spot, without_first, spots_after}
 
 -- the positions behind the one after so many letters
 abbrev pub later : Alphabet → ℕ → Stage → List Scope → List Letter → List Position

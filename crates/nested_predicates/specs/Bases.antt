@@ -6,13 +6,13 @@ use Rattle.nwa_base.specs.declared.letters.Kind.TheVariants.{Inside, Call, Back}
 use Rattle.triple_rows.specs.declared.predicates.PredNode.{PredNode}
 use Rattle.triple_rows.specs.declared.predicates.PredNode.TheVariants.{Truth, Atom, And, Or}
 use Rattle.triple_rows.specs.Predicates.{Formula, truth, atom, and_of, or_of}
-use Rattle.nested_itp.specs.declared.wide.Wide.{Wide}
-use Rattle.nested_itp.specs.declared.running.Running.{Running}
-use Rattle.nested_itp.specs.declared.bases.Base.{Base}
-use Rattle.nested_itp.specs.Wides.{value_of, HasRoom}
-use Rattle.nested_itp.specs.Positions.{Scope}
-use Rattle.nested_itp.specs.Sums.{Branch, column_upto, bound_upto, known_sum}
-use Rattle.nested_itp.specs.Runnings.{value_at, AreCounted}
+use Rattle.nested_predicates.specs.declared.wide.Wide.{Wide}
+use Rattle.nested_predicates.specs.declared.running.Running.{Running}
+use Rattle.nested_predicates.specs.declared.bases.Base.{Base}
+use Rattle.nested_predicates.specs.Wides.{value_of, HasRoom}
+use Rattle.nested_predicates.specs.Positions.{Scope}
+use Rattle.nested_predicates.specs.Sums.{Branch, column_upto, bound_upto, known_sum}
+use Rattle.nested_predicates.specs.Runnings.{value_at, AreCounted}
 
 -- the number of a version, 0 of none
 abbrev pub known_value : List Wide → Option ℕ → ℤ

@@ -16,8 +16,8 @@ use Rattle.triple_rows.specs.declared.triples.Triple.{Triple}
 use Rattle.triple_rows.specs.declared.triples.Triple.TheVariants.{Inside, Call, Back}
 use Rattle.triple_rows.specs.Predicates.{prefix_of}
 use Rattle.triple_rows.specs.Proofs.{PlainProof, IsProofOver}
-use Rattle.nested_itp.specs.Positions.{Position, positions_of}
-use Rattle.nested_itp.specs.Joins.{predicate_at}
+use Rattle.nested_predicates.specs.Positions.{Position, positions_of}
+use Rattle.nested_predicates.specs.Joins.{predicate_at}
 
 -- how many cuts lie on the branch of a tree that has most
 abbrev mutual

@@ -5,9 +5,9 @@ use Rattle.letter_acts.specs.Invariant.{Graph}
 use Rattle.farkas_check.specs.Refutes.{at_most, above}
 use Rattle.farkas_check.specs.Trees.{Tree, leaf_tree, cut_tree, cases_tree}
 use Rattle.triple_rows.specs.Predicates.{Formula, Formulas, truth, atom, and_of, or_of, no_formula, one_more}
-use Rattle.nested_itp.specs.Stamps.{column_stamp, stamps_of}
-use Rattle.nested_itp.specs.Positions.{Position, is_counted}
-use Rattle.nested_itp.specs.Sums.{Branch, root_of, with_cut, sum_at}
+use Rattle.nested_predicates.specs.Stamps.{column_stamp, stamps_of}
+use Rattle.nested_predicates.specs.Positions.{Position, is_counted}
+use Rattle.nested_predicates.specs.Sums.{Branch, root_of, with_cut, sum_at}
 
 abbrev pub both_of : Formula → Formula → Formulas
 both_of a b = one_more a (one_more b no_formula)

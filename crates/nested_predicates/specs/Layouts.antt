@@ -3,14 +3,14 @@ use Rattle.std.specs.Prelude.{◌≡◌, ℕ, ℤ, ◌<◌, ◌≤◌, ◌^◌, 
 use Rattle.std.specs.List.{AllByRecursion}
 use Rattle.nwa_base.specs.declared.letters.Letter.{Letter}
 use Rattle.letter_acts.specs.Invariant.{Graph, alphabet_of}
-use Rattle.nested_itp.specs.declared.layout.Layout.{Layout}
-use Rattle.nested_itp.specs.Stamps.{stamps_of}
+use Rattle.nested_predicates.specs.declared.layout.Layout.{Layout}
+use Rattle.nested_predicates.specs.Stamps.{stamps_of}
 use Rattle.triple_rows.specs.declared.predicates.PredNode.{PredNode}
-use Rattle.nested_itp.specs.Positions.{Position, positions_of}
-use Rattle.nested_itp.specs.Sums.{Branch, sum_at}
-use Rattle.nested_itp.specs.Bases.{node_of}
-use Rattle.nested_itp.specs.Walking.{AreLetters, return_tests}
-use Rattle.nested_itp.specs.Spots.{spot_at}
+use Rattle.nested_predicates.specs.Positions.{Position, positions_of}
+use Rattle.nested_predicates.specs.Sums.{Branch, sum_at}
+use Rattle.nested_predicates.specs.Bases.{node_of}
+use Rattle.nested_predicates.specs.Walking.{AreLetters, return_tests}
+use Rattle.nested_predicates.specs.Spots.{spot_at}
 
 -- it is that of this word, whose letters are in the alphabet
 pub record IsLayout (g : Graph) (w : List Letter) (l : Layout) : Type 0 where

@@ -11,7 +11,7 @@ use Rattle.letter_acts.specs.Acts.{PlainAct, inside_act, call_act, back_act, Alp
 use Rattle.letter_acts.specs.Invariant.{Graph, alphabet_of}
 use Rattle.path_rows.specs.Versions.{Stage, part_of}
 use Rattle.path_rows.specs.Paths.{start_frame, first_stage}
-use Rattle.nested_itp.specs.Stamps.{stamp_of}
+use Rattle.nested_predicates.specs.Stamps.{stamp_of}
 
 -- what a letter of that kind says of a call that is open before it, where so many later calls are open
 abbrev pub returned_by : Kind → ℕ → (ℕ → Bool) → Bool

@@ -5,9 +5,9 @@ use Rattle.math_facts.specs.Fits.{Fits}
 use Rattle.math_facts.specs.Terms.{coefficient}
 use Rattle.lin_rows.specs.Rows.{LinearRow, AscendsFrom}
 use Rattle.lin_rows.specs.Combinations.{combined, row_at}
-use Rattle.nested_itp.specs.declared.wide.Wide.{Wide}
-use Rattle.nested_itp.specs.declared.running.Running.{Running}
-use Rattle.nested_itp.specs.Wides.{value_of, AreParts}
+use Rattle.nested_predicates.specs.declared.wide.Wide.{Wide}
+use Rattle.nested_predicates.specs.declared.running.Running.{Running}
+use Rattle.nested_predicates.specs.Wides.{value_of, AreParts}
 
 -- the number at a place, 0 past the end
 abbrev pub value_at : List Wide → ℕ → ℤ

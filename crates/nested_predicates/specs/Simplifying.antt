@@ -3,10 +3,10 @@ use Rattle.std.specs.Prelude.{◌≡◌, ◌≤◌, Bool, true, false, not, ◌|
 use Rattle.triple_rows.specs.declared.predicates.PredNode.{PredNode}
 use Rattle.triple_rows.specs.declared.predicates.PredNode.TheVariants.{Truth, Atom, And, Or}
 use Rattle.triple_rows.specs.Predicates.{Formula, truth, atom, and_of, or_of, IsTruth, prefix_of, bundled, formulas}
-use Rattle.nested_itp.specs.declared.joins.Part.{Part}
-use Rattle.nested_itp.specs.declared.joins.Part.TheVariants as parts
-use Rattle.nested_itp.specs.declared.joins.Simplifier.{Simplifier}
-use Rattle.nested_itp.specs.Joins.{and_joined, or_joined, simplified}
+use Rattle.nested_predicates.specs.declared.joins.Part.{Part}
+use Rattle.nested_predicates.specs.declared.joins.Part.TheVariants as parts
+use Rattle.nested_predicates.specs.declared.joins.Simplifier.{Simplifier}
+use Rattle.nested_predicates.specs.Joins.{and_joined, or_joined, simplified}
 
 -- a node takes two trees of those behind it, or none
 abbrev pub CanJoin : PredNode → List Formula → Type 0

@@ -8,13 +8,13 @@ use Rattle.farkas_check.specs.Trees.{Tree}
 use Rattle.farkas_check.specs.Trees as trees
 use Rattle.triple_rows.specs.declared.predicates.PredNode.{PredNode}
 use Rattle.triple_rows.specs.Predicates.{Formula, prefix_of, formula_of, IsPredicate}
-use Rattle.nested_itp.specs.Stamps.{stamps_of}
-use Rattle.nested_itp.specs.Positions.{positions_of}
-use Rattle.nested_itp.specs.Sums.{root_of}
-use Rattle.nested_itp.specs.Joins.{simplified}
-use Rattle.nested_itp.specs.Simplifying.{SpellsJoined}
-use Rattle.nested_itp.specs.Interpolants.{cuts_on_branch, RefutesRows}
-use Rattle.nested_itp.specs.Tables.{table_along}
+use Rattle.nested_predicates.specs.Stamps.{stamps_of}
+use Rattle.nested_predicates.specs.Positions.{positions_of}
+use Rattle.nested_predicates.specs.Sums.{root_of}
+use Rattle.nested_predicates.specs.Joins.{simplified}
+use Rattle.nested_predicates.specs.Simplifying.{SpellsJoined}
+use Rattle.nested_predicates.specs.Interpolants.{cuts_on_branch, RefutesRows}
+use Rattle.nested_predicates.specs.Tables.{table_along}
 
 -- the nodes at the position spell the formula
 abbrev pub SpellsAt : List (Vec PredNode) → ℕ → Formula → Type 0

@@ -2,9 +2,9 @@
 use Rattle.std.specs.Prelude.{ℕ, Bool, List, [], ◌∷◌, if◌then◌else◌}
 use Rattle.nwa_base.specs.declared.letters.Kind.{Kind}
 use Rattle.nwa_base.specs.declared.letters.Kind.TheVariants.{Inside, Call, Back}
-use Rattle.nested_itp.specs.declared.spots.Spot.{Spot}
-use Rattle.nested_itp.specs.Stamps.{stamp_of}
-use Rattle.nested_itp.specs.Positions.{Scope, Position}
+use Rattle.nested_predicates.specs.declared.spots.Spot.{Spot}
+use Rattle.nested_predicates.specs.Stamps.{stamp_of}
+use Rattle.nested_predicates.specs.Positions.{Scope, Position}
 
 -- of an open frame
 abbrev pub spot_of : Scope → Spot

@@ -10,8 +10,8 @@ use Rattle.nwa_base.specs.declared.letters.Letter.{Letter}
 use Rattle.letter_acts.specs.Invariant.{Graph}
 use Rattle.path_rows.specs.Paths.{path_of}
 use Rattle.triple_rows.specs.Predicates.{Formula, truth, atom}
-use Rattle.nested_itp.specs.Stamps.{stamps_of}
-use Rattle.nested_itp.specs.Positions.{Position}
+use Rattle.nested_predicates.specs.Stamps.{stamps_of}
+use Rattle.nested_predicates.specs.Positions.{Position}
 
 -- the rows that hold on a branch of a refutation, which its leaf adds up: those of the word, tightened, and then those of the
 -- branch's cuts; and their stamps

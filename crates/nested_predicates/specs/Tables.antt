@@ -9,13 +9,13 @@ use Rattle.farkas_check.specs.Nodes.{PlainNode, leaf, cut, cases}
 use Rattle.farkas_check.specs.Refutes.{at_most, above}
 use Rattle.triple_rows.specs.declared.predicates.PredNode.{PredNode}
 use Rattle.triple_rows.specs.declared.predicates.PredNode.TheVariants.{And, Or}
-use Rattle.nested_itp.specs.declared.branches.Waiting.{Waiting}
-use Rattle.nested_itp.specs.declared.branches.Branches.{Branches}
-use Rattle.nested_itp.specs.declared.spots.Spot.{Spot}
-use Rattle.nested_itp.specs.Stamps.{column_stamp}
-use Rattle.nested_itp.specs.Positions.{Position, is_counted}
-use Rattle.nested_itp.specs.Sums.{Branch, with_cut}
-use Rattle.nested_itp.specs.Layouts.{HasStamps, leaf_node}
+use Rattle.nested_predicates.specs.declared.branches.Waiting.{Waiting}
+use Rattle.nested_predicates.specs.declared.branches.Branches.{Branches}
+use Rattle.nested_predicates.specs.declared.spots.Spot.{Spot}
+use Rattle.nested_predicates.specs.Stamps.{column_stamp}
+use Rattle.nested_predicates.specs.Positions.{Position, is_counted}
+use Rattle.nested_predicates.specs.Sums.{Branch, with_cut}
+use Rattle.nested_predicates.specs.Layouts.{HasStamps, leaf_node}
 
 -- ---- branches
 

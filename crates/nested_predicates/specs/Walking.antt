@@ -12,9 +12,9 @@ use Rattle.letter_acts.specs.Frames.{Columns}
 use Rattle.letter_acts.specs.Acts.{Alphabet, act_of}
 use Rattle.letter_acts.specs.Invariant.{type_at}
 use Rattle.path_rows.specs.Versions.{Stage, part_of}
-use Rattle.nested_itp.specs.declared.stamps.Stamps.{Stamps}
-use Rattle.nested_itp.specs.Stamps.{row_stamps, column_stamps}
-use Rattle.nested_itp.specs.Positions.{has_return}
+use Rattle.nested_predicates.specs.declared.stamps.Stamps.{Stamps}
+use Rattle.nested_predicates.specs.Stamps.{row_stamps, column_stamps}
+use Rattle.nested_predicates.specs.Positions.{has_return}
 
 -- each letter is one of the alphabet
 abbrev pub AreLetters : Alphabet → List Letter → Type 0

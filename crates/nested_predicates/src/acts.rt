@@ -5,8 +5,8 @@ ghost use Rattle.letter_acts.specs.Acts.{plain_act, act_of, frame_of};
 ghost use Rattle.letter_acts.specs.Frames.{is_local, is_variable};
 ghost use Rattle.letter_acts.specs.Invariant.{alphabet_of};
 ghost use Rattle.path_rows.specs.Versions.{is_old, locals_of, old_part};
-ghost use Rattle.nested_itp.specs.Positions.{start_proc};
-ghost use Rattle.nested_itp.specs.Walking.{is_bool, is_bool_at};
+ghost use Rattle.nested_predicates.specs.Positions.{start_proc};
+ghost use Rattle.nested_predicates.specs.Walking.{is_bool, is_bool_at};
 
 use boogie_tree::{Column, Ty, VarInfo};
 use letter_acts::{Act, Icfg};

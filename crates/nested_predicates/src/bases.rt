@@ -5,11 +5,11 @@ ghost use Rattle.letter_acts.specs.Acts.{act_of, frame_of};
 ghost use Rattle.letter_acts.specs.Invariant.{alphabet_of};
 ghost use Rattle.std.specs.List.{AllByRecursion};
 ghost use Rattle.triple_rows.specs.Predicates.{prefix_of};
-ghost use Rattle.nested_itp.specs.Wides.{value_of, HasRoom};
-ghost use Rattle.nested_itp.specs.Positions.{known_at, known_columns, callee_of};
-ghost use Rattle.nested_itp.specs.Sums.{terms_from, inequality};
-ghost use Rattle.nested_itp.specs.Runnings.{AreCounted, differences};
-ghost use Rattle.nested_itp.specs.Bases.{known_value, AreMade, CanRead, IsTaken, IsNothing, IsEntered, Enters, first_columns, first_bound, node_of};
+ghost use Rattle.nested_predicates.specs.Wides.{value_of, HasRoom};
+ghost use Rattle.nested_predicates.specs.Positions.{known_at, known_columns, callee_of};
+ghost use Rattle.nested_predicates.specs.Sums.{terms_from, inequality};
+ghost use Rattle.nested_predicates.specs.Runnings.{AreCounted, differences};
+ghost use Rattle.nested_predicates.specs.Bases.{known_value, AreMade, CanRead, IsTaken, IsNothing, IsEntered, Enters, first_columns, first_bound, node_of};
 
 use crate::acts::frame_at;
 use crate::faults::ItpFault;

@@ -25,8 +25,8 @@ pub(crate) struct Branches {
 }
 
 impl Branches {
-    ghost use Rattle.nested_itp.specs.Sums.{Branch, with_cut};
-    ghost use Rattle.nested_itp.specs.Tables.{entered, branch_of, HasNext, Await};
+    ghost use Rattle.nested_predicates.specs.Sums.{Branch, with_cut};
+    ghost use Rattle.nested_predicates.specs.Tables.{entered, branch_of, HasNext, Await};
 
     /// The root, whose rows have these stamps.
     pub(crate) fn root(alloc: Global, rows: Vec<Row>, stamps: Vec<u64>) -> Result<Self, AllocError>

@@ -15,7 +15,7 @@ pub enum ItpFault {
 }
 
 impl From<AllocError> for ItpFault {
-    ghost use Rattle.nested_itp.specs.declared.faults.ItpFault.TheVariants.{Memory};
+    ghost use Rattle.nested_predicates.specs.declared.faults.ItpFault.TheVariants.{Memory};
 
     ghost from_gives = { λ _ e. e ≡ Memory };
 
@@ -25,7 +25,7 @@ impl From<AllocError> for ItpFault {
 }
 
 impl<T: Drop> From<AllocFailed<T>> for ItpFault {
-    ghost use Rattle.nested_itp.specs.declared.faults.ItpFault.TheVariants.{Memory};
+    ghost use Rattle.nested_predicates.specs.declared.faults.ItpFault.TheVariants.{Memory};
 
     ghost from_gives = { λ _ e. e ≡ Memory };
 

@@ -22,8 +22,8 @@ pub(crate) struct Simplifier {
     pub(crate) parts: Vec<Part>,
 }
 
-ghost use Rattle.nested_itp.specs.Joins.{simplified};
-ghost use Rattle.nested_itp.specs.Simplifying.{SpellsJoined, decides, decided, join_node};
+ghost use Rattle.nested_predicates.specs.Joins.{simplified};
+ghost use Rattle.nested_predicates.specs.Simplifying.{SpellsJoined, decides, decided, join_node};
 
 /// The nodes of a predicate without truth values in it, or of one alone, where each `And` and `Or` had two parts.
 pub(crate) fn without_truth(
@@ -47,7 +47,7 @@ pub(crate) fn without_truth(
 impl Simplifier {
     ghost use Rattle.std.specs.Prelude.{List, ◌∷◌, [], Bool, ◌||◌, ◌&&◌, reverse, take, if◌then◌else◌};
     ghost use Rattle.triple_rows.specs.Predicates.{Formula, prefix_of};
-    ghost use Rattle.nested_itp.specs.Simplifying.{Spell, FindsParts, Reads, JoinsTwo, JoinsParts, IsTree};
+    ghost use Rattle.nested_predicates.specs.Simplifying.{Spell, FindsParts, Reads, JoinsTwo, JoinsParts, IsTree};
 
     /// Reads the node in front of the trees.
     fn read(&mut self, node: PredNode) -> Result<(), AllocError>

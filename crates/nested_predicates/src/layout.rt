@@ -3,7 +3,7 @@
 ghost use Rattle.std.specs.Prelude.{IfOk, OnOk};
 ghost use Rattle.letter_acts.specs.Kept.{Keeps};
 ghost use Rattle.path_rows.specs.Paths.{IsPathOf};
-ghost use Rattle.nested_itp.specs.Layouts.{IsLayout};
+ghost use Rattle.nested_predicates.specs.Layouts.{IsLayout};
 
 use crate::returns::returns;
 use crate::spots::{Spot, spots};

@@ -4,7 +4,7 @@ ghost use Rattle.std.specs.Prelude.{◌≡◌, ◌<◌, ℕ, nat_eq, IfOk, lengt
 ghost use Rattle.std.specs.HashMap.{get};
 ghost use Rattle.std.specs.List.{AllByRecursion};
 ghost use Rattle.nwa_base.specs.Groups.{grouped};
-ghost use Rattle.nested_itp.specs.Runnings.{parts_at};
+ghost use Rattle.nested_predicates.specs.Runnings.{parts_at};
 
 use nwa_base::Groups;
 use std::alloc::{AllocError, Global};

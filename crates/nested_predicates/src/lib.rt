@@ -24,5 +24,5 @@ mod versions;
 mod wide;
 
 pub use faults::ItpFault;
-pub use making::prefix_predicates;
+pub use making::{PrefixSums, prefix_predicates, prefix_sums};
 pub use triples::triples_of;

@@ -2,7 +2,8 @@
 
 ghost use Rattle.std.specs.Prelude.{◌≡◌, suc, IfOk, length};
 ghost use Rattle.path_rows.specs.Paths.{IsPathOf};
-ghost use Rattle.nested_itp.specs.Interpolants.{ArePredicates, RefutesRows, HasCutsUpTo, BeginsTrue, EndsFalse};
+ghost use Rattle.nested_predicates.specs.Interpolants.{ArePredicates, RefutesRows, HasCutsUpTo, BeginsTrue, EndsFalse};
+ghost use Rattle.nested_predicates.specs.Walking.{return_tests};
 
 use crate::faults::ItpFault;
 use crate::layout::Layout;
@@ -12,7 +13,46 @@ use farkas_check::Refutation;
 use letter_acts::Icfg;
 use path_rows::PathSystem;
 use std::alloc::Global;
-use triple_rows::Scoped;
+use triple_rows::{PredNode, Scoped};
+
+/// The prefix predicates of a word, and what they are made of.
+#[derive(Drop)]
+pub struct PrefixSums {
+    /// The predicates, one for each position.
+    pub preds: Vec<Scoped>,
+    /// For each node of the refutation the node that stands for it at each position: a leaf's sum, or at a cut `Or` where it
+    /// is counted and else `And`.
+    pub table: Vec<Vec<PredNode>>,
+    /// For each letter whether a call in its place has a return in the word.
+    pub returned: Vec<bool>,
+}
+
+/// The prefix predicates of a word under a refutation of its rows, no branch of which has more than 64 cuts, with what they
+/// are made of. Each leaf costs the time of its rows and of the frames' widths along the word.
+pub fn prefix_sums(
+    alloc: Global,
+    icfg: &Icfg,
+    path: &PathSystem,
+    proof: &Refutation,
+) -> Result<PrefixSums, ItpFault>
+    requires path { IsPathOf icfg.now path.now }
+    requires refutes { RefutesRows proof.now path.now.rows }
+    requires cuts { HasCutsUpTo 64 proof.now }
+    ensures value { IfOk result (λ s. ArePredicates icfg.now path.now.word proof.now s.preds.items) }
+    ensures first { IfOk result (λ s. BeginsTrue s.preds.items) }
+    ensures last { IfOk result (λ s. EndsFalse s.preds.items) }
+    ensures predicates { IfOk result (λ s. length s.preds.items ≡ suc (length path.now.word)) }
+    ensures returned { IfOk result (λ s. s.returned.items ≡ return_tests path.now.word) }
+{
+    let layout = Layout::of(alloc, icfg, path)?;
+    let table = node_table(alloc, icfg, path, &layout, proof.nodes())?;
+    let preds = predicates(alloc, icfg, path, &layout, &table)?;
+    Ok(PrefixSums {
+        preds,
+        table,
+        returned: layout.returned,
+    })
+}
 
 /// The prefix predicates of a word under a refutation of its rows, no branch of which has more than 64 cuts, one for each
 /// position. Each leaf costs the time of its rows and of the frames' widths along the word.
@@ -30,7 +70,5 @@ pub fn prefix_predicates(
     ensures last { IfOk result (λ v. EndsFalse v.items) }
     ensures predicates { IfOk result (λ v. length v.items ≡ suc (length path.now.word)) }
 {
-    let layout = Layout::of(alloc, icfg, path)?;
-    let table = node_table(alloc, icfg, path, &layout, proof.nodes())?;
-    Ok(predicates(alloc, icfg, path, &layout, &table)?)
+    Ok(prefix_sums(alloc, icfg, path, proof)?.preds)
 }

@@ -5,9 +5,9 @@ ghost use Rattle.std.specs.List.{AllByRecursion};
 ghost use Rattle.lin_rows.specs.Rows.{IsRow};
 ghost use Rattle.lin_rows.specs.Combinations.{Contradicts};
 ghost use Rattle.path_rows.specs.Paths.{IsPathOf};
-ghost use Rattle.nested_itp.specs.Positions.{positions_of};
-ghost use Rattle.nested_itp.specs.Bases.{node_of};
-ghost use Rattle.nested_itp.specs.Layouts.{IsLayout, leaf_node, HasStamps};
+ghost use Rattle.nested_predicates.specs.Positions.{positions_of};
+ghost use Rattle.nested_predicates.specs.Bases.{node_of};
+ghost use Rattle.nested_predicates.specs.Layouts.{IsLayout, leaf_node, HasStamps};
 
 use crate::bases::{Base, enter, sum_in};
 use crate::faults::ItpFault;

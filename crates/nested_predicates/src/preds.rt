@@ -3,10 +3,10 @@
 ghost use Rattle.std.specs.Prelude.{◌≡◌, IfOk};
 ghost use Rattle.farkas_check.specs.Trees.{Tree};
 ghost use Rattle.triple_rows.specs.Predicates.{Formula, prefix_of};
-ghost use Rattle.nested_itp.specs.Joins.{simplified};
-ghost use Rattle.nested_itp.specs.Interpolants.{prefix_predicates};
-ghost use Rattle.nested_itp.specs.Layouts.{IsLayout};
-ghost use Rattle.nested_itp.specs.Spelled.{SpellsAt, CanSpell, IsTableOf};
+ghost use Rattle.nested_predicates.specs.Joins.{simplified};
+ghost use Rattle.nested_predicates.specs.Interpolants.{prefix_predicates};
+ghost use Rattle.nested_predicates.specs.Layouts.{IsLayout};
+ghost use Rattle.nested_predicates.specs.Spelled.{SpellsAt, CanSpell, IsTableOf};
 
 use crate::joins::without_truth;
 use crate::layout::Layout;

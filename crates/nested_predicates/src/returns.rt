@@ -1,7 +1,7 @@
 //! Which calls of a word have a return in it.
 
 ghost use Rattle.std.specs.Prelude.{◌≡◌, ◌<◌, ◌^◌, IfOk};
-ghost use Rattle.nested_itp.specs.Walking.{unmatched_before, return_tests};
+ghost use Rattle.nested_predicates.specs.Walking.{unmatched_before, return_tests};
 
 use nwa_base::{Kind, Letter};
 use std::alloc::{AllocError, Global};

@@ -23,8 +23,8 @@ const MOST_TERMS: u64 = 576460752303423488;
 
 impl Running {
     ghost use Rattle.math_facts.specs.Fits.{Fits};
-    ghost use Rattle.nested_itp.specs.Wides.{value_of};
-    ghost use Rattle.nested_itp.specs.Runnings.{value_at, AreCounted, AddsTerm, AddsTerms, AddsBound, AddsRow, ProductsFit, PartsFit, AddsParts};
+    ghost use Rattle.nested_predicates.specs.Wides.{value_of};
+    ghost use Rattle.nested_predicates.specs.Runnings.{value_at, AreCounted, AddsTerm, AddsTerms, AddsBound, AddsRow, ProductsFit, PartsFit, AddsParts};
 
     /// What no row adds up to, over so many versions.
     pub(crate) fn start(alloc: Global, width: usize) -> Result<Self, AllocError>

@@ -3,9 +3,9 @@
 ghost use Rattle.std.specs.Prelude.{◌≡◌, ◌<◌, ◌^◌, IsSome, IfOk, OnOk, map, reverse, length};
 ghost use Rattle.letter_acts.specs.Acts.{act_of};
 ghost use Rattle.letter_acts.specs.Invariant.{alphabet_of};
-ghost use Rattle.nested_itp.specs.Positions.{callee_of, positions_of};
-ghost use Rattle.nested_itp.specs.Walking.{AreLetters, return_tests};
-ghost use Rattle.nested_itp.specs.Spots.{innermost_spot, spots_after, spot_at};
+ghost use Rattle.nested_predicates.specs.Positions.{callee_of, positions_of};
+ghost use Rattle.nested_predicates.specs.Walking.{AreLetters, return_tests};
+ghost use Rattle.nested_predicates.specs.Spots.{innermost_spot, spots_after, spot_at};
 
 use crate::acts::{act_at, start_proc};
 use letter_acts::{Act, Icfg};

@@ -6,7 +6,7 @@ ghost use Rattle.letter_acts.specs.Invariant.{alphabet_of};
 ghost use Rattle.path_rows.specs.Paths.{repeated};
 ghost use Rattle.path_rows.specs.Versions.{locals_of, old_part};
 ghost use Rattle.letter_acts.specs.Frames.{variables_of};
-ghost use Rattle.nested_itp.specs.Walking.{is_bool};
+ghost use Rattle.nested_predicates.specs.Walking.{is_bool};
 
 use crate::acts::{
     act_at, bool_count, bool_count_at, bool_local_count, bool_old_count, frame_at, local_count,
@@ -46,8 +46,8 @@ impl Stamps {
     ghost use Rattle.std.specs.Prelude.{suc};
     ghost use Rattle.path_rows.specs.Rows.{bounds, types_of};
     ghost use Rattle.letter_acts.specs.Frames.{is_variable};
-    ghost use Rattle.nested_itp.specs.Stamps.{stamp_of, stamps_of};
-    ghost use Rattle.nested_itp.specs.Walking.{is_bool_at, AreLetters, ReadsLetter};
+    ghost use Rattle.nested_predicates.specs.Stamps.{stamp_of, stamps_of};
+    ghost use Rattle.nested_predicates.specs.Walking.{is_bool_at, AreLetters, ReadsLetter};
 
     /// Those of a word.
     pub(crate) fn of(alloc: Global, icfg: &Icfg, letters: &[Letter]) -> Result<Stamps, AllocError>

@@ -5,9 +5,9 @@ ghost use Rattle.std.specs.List.{AllByRecursion};
 ghost use Rattle.math_facts.specs.Fits.{Fits};
 ghost use Rattle.lin_rows.specs.Sums.{led_by};
 ghost use Rattle.triple_rows.specs.Predicates.{prefix_of};
-ghost use Rattle.nested_itp.specs.Wides.{value_of, HasRoom};
-ghost use Rattle.nested_itp.specs.Sums.{terms_from, inequality};
-ghost use Rattle.nested_itp.specs.Runnings.{value_at, AreCounted, differences, AreSumTerms};
+ghost use Rattle.nested_predicates.specs.Wides.{value_of, HasRoom};
+ghost use Rattle.nested_predicates.specs.Sums.{terms_from, inequality};
+ghost use Rattle.nested_predicates.specs.Runnings.{value_at, AreCounted, differences, AreSumTerms};
 
 use crate::faults::ItpFault;
 use crate::running::Running;

@@ -6,12 +6,12 @@ ghost use Rattle.lin_rows.specs.Rows.{IsRow};
 ghost use Rattle.lin_rows.specs.Tightening.{tightened};
 ghost use Rattle.farkas_check.specs.Nodes.{plain, plain_nodes};
 ghost use Rattle.path_rows.specs.Paths.{IsPathOf};
-ghost use Rattle.nested_itp.specs.Stamps.{stamps_of, column_stamp};
-ghost use Rattle.nested_itp.specs.Positions.{positions_of};
-ghost use Rattle.nested_itp.specs.Sums.{Branch, root_of};
-ghost use Rattle.nested_itp.specs.Interpolants.{RefutesRows};
-ghost use Rattle.nested_itp.specs.Layouts.{IsLayout};
-ghost use Rattle.nested_itp.specs.Tables.{branch_of, Await, IsGood, CanTake, row_of_node, branches_after, cut_node, cut_nodes_from, table_along};
+ghost use Rattle.nested_predicates.specs.Stamps.{stamps_of, column_stamp};
+ghost use Rattle.nested_predicates.specs.Positions.{positions_of};
+ghost use Rattle.nested_predicates.specs.Sums.{Branch, root_of};
+ghost use Rattle.nested_predicates.specs.Interpolants.{RefutesRows};
+ghost use Rattle.nested_predicates.specs.Layouts.{IsLayout};
+ghost use Rattle.nested_predicates.specs.Tables.{branch_of, Await, IsGood, CanTake, row_of_node, branches_after, cut_node, cut_nodes_from, table_along};
 
 use crate::branches::Branches;
 use crate::faults::ItpFault;

@@ -2,8 +2,8 @@
 
 ghost use Rattle.std.specs.Prelude.{◌≡◌, ◌<◌, suc, [], ◌∷◌, IfOk, OnOk, length, reverse};
 ghost use Rattle.std.specs.List.{AllByRecursion};
-ghost use Rattle.nested_itp.specs.Interpolants.{letter_triple, triples_along};
-ghost use Rattle.nested_itp.specs.Saved.{scoped_in, saved_at, calls_after, FindsCall};
+ghost use Rattle.nested_predicates.specs.Interpolants.{letter_triple, triples_along};
+ghost use Rattle.nested_predicates.specs.Saved.{scoped_in, saved_at, calls_after, FindsCall};
 
 use nwa_base::{Kind, Letter, Word};
 use std::alloc::{AllocError, Global};

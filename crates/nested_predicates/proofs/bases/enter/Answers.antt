@@ -4,10 +4,10 @@ use Rattle.nwa_base.specs.declared.letters.Kind.{Kind}
 use Rattle.letter_acts.specs.Frames.{Columns}
 use Rattle.letter_acts.specs.Acts.{act_of, frame_of}
 use Rattle.letter_acts.specs.Invariant.{alphabet_of}
-use Rattle.nested_itp.specs.declared.bases.Base.{Base}
-use Rattle.nested_itp.specs.Positions.{known_columns, callee_of}
-use Rattle.nested_itp.specs.Bases.{IsEntered, Enters}
-use Rattle.nested_itp.proofs.bases.enter.Goals as goal
+use Rattle.nested_predicates.specs.declared.bases.Base.{Base}
+use Rattle.nested_predicates.specs.Positions.{known_columns, callee_of}
+use Rattle.nested_predicates.specs.Bases.{IsEntered, Enters}
+use Rattle.nested_predicates.proofs.bases.enter.Goals as goal
 
 pub returns-in_ok-push-in-Call-clause-value : goal.returns-in_ok-push-in-Call-clause-value
 returns-in_ok-push-in-Call-clause-value c =

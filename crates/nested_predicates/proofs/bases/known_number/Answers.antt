@@ -1,7 +1,7 @@
 use Rattle.std.proofs.Common.{◌∙◌, ◌≡◌, ◌<◌, sym, length, Some}
-use Rattle.nested_itp.specs.Positions.{known_at}
-use Rattle.nested_itp.proofs.BaseLaws.{known_made, known_found, known_room}
-use Rattle.nested_itp.proofs.bases.known_number.Goals as goal
+use Rattle.nested_predicates.specs.Positions.{known_at}
+use Rattle.nested_predicates.proofs.BaseLaws.{known_made, known_found, known_room}
+use Rattle.nested_predicates.proofs.bases.known_number.Goals as goal
 
 pub returns-in-Some-clause-value : goal.returns-in-Some-clause-value
 returns-in-Some-clause-value c =

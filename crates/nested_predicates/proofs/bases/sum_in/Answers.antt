@@ -1,13 +1,13 @@
 use Rattle.std.proofs.Common.{◌∙◌, ◌≡◌, ◌∷◌, [], List, ℤ, ◌-ℤ◌, ap, reverse, arith}
 use Rattle.std.proofs.lemmas.Grind.{common_steps}
-use Rattle.nested_itp.specs.Wides.{value_of}
+use Rattle.nested_predicates.specs.Wides.{value_of}
 use Rattle.triple_rows.specs.Predicates.{prefix_of}
-use Rattle.nested_itp.specs.declared.wide.Wide.{Wide}
-use Rattle.nested_itp.specs.Sums.{terms_from, inequality}
-use Rattle.nested_itp.specs.Runnings.{differences}
-use Rattle.nested_itp.specs.Bases.{first_columns, first_bound, node_of}
-use Rattle.nested_itp.proofs.BaseLaws.{sum_node, if_ok}
-use Rattle.nested_itp.proofs.bases.sum_in.Goals as goal
+use Rattle.nested_predicates.specs.declared.wide.Wide.{Wide}
+use Rattle.nested_predicates.specs.Sums.{terms_from, inequality}
+use Rattle.nested_predicates.specs.Runnings.{differences}
+use Rattle.nested_predicates.specs.Bases.{first_columns, first_bound, node_of}
+use Rattle.nested_predicates.proofs.BaseLaws.{sum_node, if_ok}
+use Rattle.nested_predicates.proofs.bases.sum_in.Goals as goal
 
 pub returns-in-Some : goal.returns-in-Some
 returns-in-Some c =

@@ -1,6 +1,6 @@
 use Rattle.std.proofs.Common.{rules}
-use Rattle.nested_itp.proofs.SimplifyingLaws.{node_finds, node_read, one_tree_left}
-use Rattle.nested_itp.proofs.joins.without_truth.Goals as goal
+use Rattle.nested_predicates.proofs.SimplifyingLaws.{node_finds, node_read, one_tree_left}
+use Rattle.nested_predicates.proofs.joins.without_truth.Goals as goal
 
 pub read-requires : goal.read-requires
 read-requires c =

@@ -1,5 +1,5 @@
-use Rattle.nested_itp.proofs.EndLaws.{begins_true}
-use Rattle.nested_itp.proofs.laws.first_predicate_is_true.Goals as goal
+use Rattle.nested_predicates.proofs.EndLaws.{begins_true}
+use Rattle.nested_predicates.proofs.laws.first_predicate_is_true.Goals as goal
 
 pub returns : goal.returns
 returns c = begins_true

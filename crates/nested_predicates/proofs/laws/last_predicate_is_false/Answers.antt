@@ -3,9 +3,9 @@ use Rattle.nwa_base.specs.declared.letters.Letter.{Letter}
 use Rattle.letter_acts.specs.Invariant.{Graph}
 use Rattle.path_rows.specs.Paths.{path_of}
 use Rattle.farkas_check.specs.Trees.{Tree, prefix_of}
-use Rattle.nested_itp.specs.Interpolants.{RefutesRows, prefix_predicates, EndsFalse}
-use Rattle.nested_itp.proofs.EndLaws.{ends_false}
-use Rattle.nested_itp.proofs.laws.last_predicate_is_false.Goals as goal
+use Rattle.nested_predicates.specs.Interpolants.{RefutesRows, prefix_predicates, EndsFalse}
+use Rattle.nested_predicates.proofs.EndLaws.{ends_false}
+use Rattle.nested_predicates.proofs.laws.last_predicate_is_false.Goals as goal
 
 ends : (g : Graph) (w : List Letter) (t : Tree) → w ≢ [] → RefutesRows (prefix_of t) (path_of g w).rows → EndsFalse (prefix_predicates g w t)
 ends g [] t n r = absurd (n refl)

@@ -1,5 +1,5 @@
-use Rattle.nested_itp.proofs.SpellingLaws.{predicate_over}
-use Rattle.nested_itp.proofs.laws.prefix_predicates_are_over_frames.Goals as goal
+use Rattle.nested_predicates.proofs.SpellingLaws.{predicate_over}
+use Rattle.nested_predicates.proofs.laws.prefix_predicates_are_over_frames.Goals as goal
 
 pub returns : goal.returns
 returns c = predicate_over

@@ -6,14 +6,14 @@ use Rattle.letter_acts.specs.Acts.{act_of}
 use Rattle.letter_acts.specs.Invariant.{alphabet_of}
 use Rattle.path_rows.specs.Paths.{path_of}
 use Rattle.triple_rows.specs.declared.predicates.PredNode.{PredNode}
-use Rattle.nested_itp.specs.declared.bases.Base.{Base}
-use Rattle.nested_itp.specs.Walking.{AreLetters}
-use Rattle.nested_itp.specs.Sums.{Branch}
-use Rattle.nested_itp.proofs.StampCounts.{letter_at}
-use Rattle.nested_itp.proofs.WordLaws.{test_at, tests_counted}
-use Rattle.nested_itp.proofs.PassLaws.{parts_fit}
-use Rattle.nested_itp.proofs.LeafLaws.{items_of, AllMade, summed_first, parts_named, made_wider, made_at, all_made_wider, all_made_below, sums_start, sums_next, sums_done, node_open, letter_is, within_word, position_within, first_within, versions_are}
-use Rattle.nested_itp.proofs.passes.leaf_sums.Goals as goal
+use Rattle.nested_predicates.specs.declared.bases.Base.{Base}
+use Rattle.nested_predicates.specs.Walking.{AreLetters}
+use Rattle.nested_predicates.specs.Sums.{Branch}
+use Rattle.nested_predicates.proofs.StampCounts.{letter_at}
+use Rattle.nested_predicates.proofs.WordLaws.{test_at, tests_counted}
+use Rattle.nested_predicates.proofs.PassLaws.{parts_fit}
+use Rattle.nested_predicates.proofs.LeafLaws.{items_of, AllMade, summed_first, parts_named, made_wider, made_at, all_made_wider, all_made_below, sums_start, sums_next, sums_done, node_open, letter_is, within_word, position_within, first_within, versions_are}
+use Rattle.nested_predicates.proofs.passes.leaf_sums.Goals as goal
 
 pub parts_by_stamp-requires : goal.parts_by_stamp-requires
 parts_by_stamp-requires c = parts_named (record { rows = c.args.rows.now; stamps = c.args.stamps.now }) c.args.parts.now c.requires.stamped c.requires.leaf.each

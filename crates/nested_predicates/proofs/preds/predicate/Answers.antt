@@ -1,10 +1,10 @@
 use Rattle.std.proofs.Common.{◌≡◌, ◌∙◌, List, sym, ap, subst}
 use Rattle.triple_rows.specs.declared.predicates.PredNode.{PredNode}
 use Rattle.triple_rows.specs.Predicates.{Formula, prefix_of, formula_of}
-use Rattle.nested_itp.specs.Joins.{simplified}
-use Rattle.nested_itp.specs.Simplifying.{SpellsJoined}
-use Rattle.nested_itp.proofs.PredLaws.{has_nodes, same_nodes, some_not}
-use Rattle.nested_itp.proofs.preds.predicate.Goals as goal
+use Rattle.nested_predicates.specs.Joins.{simplified}
+use Rattle.nested_predicates.specs.Simplifying.{SpellsJoined}
+use Rattle.nested_predicates.proofs.PredLaws.{has_nodes, same_nodes, some_not}
+use Rattle.nested_predicates.proofs.preds.predicate.Goals as goal
 
 pub nodes_at-requires : goal.nodes_at-requires
 nodes_at-requires c = has_nodes c.args.position c.args.table.now (prefix_of c.requires.0) c.requires.1

@@ -1,9 +1,9 @@
 use Rattle.std.proofs.Common.{◌≡◌, ◌∙◌, ◌<◌, List, length, get_or, map, refl, ap, arith}
-use Rattle.nested_itp.specs.Positions.{Position, positions_of}
-use Rattle.nested_itp.specs.Interpolants.{scoped_at}
-use Rattle.nested_itp.specs.declared.spots.Spot.{Spot}
-use Rattle.nested_itp.proofs.PredLaws.{formula_at, can_spell, spells_at, position_found, predicate_next, all_positions, spots_counted}
-use Rattle.nested_itp.proofs.preds.predicates.Goals as goal
+use Rattle.nested_predicates.specs.Positions.{Position, positions_of}
+use Rattle.nested_predicates.specs.Interpolants.{scoped_at}
+use Rattle.nested_predicates.specs.declared.spots.Spot.{Spot}
+use Rattle.nested_predicates.proofs.PredLaws.{formula_at, can_spell, spells_at, position_found, predicate_next, all_positions, spots_counted}
+use Rattle.nested_predicates.proofs.preds.predicates.Goals as goal
 
 pub loop-position-init : goal.loop-position-init
 loop-position-init c = λ t h. c.in_ok-preds.ensures.items

@@ -1,9 +1,9 @@
 use Rattle.std.proofs.Common.{◌≡◌, map, take}
 use Rattle.farkas_check.specs.Trees.{Tree}
-use Rattle.nested_itp.specs.Positions.{positions_of}
-use Rattle.nested_itp.specs.Interpolants.{scoped_at}
-use Rattle.nested_itp.specs.Spelled.{IsTableOf}
-use Rattle.nested_itp.proofs.preds.predicates.Given as goal
+use Rattle.nested_predicates.specs.Positions.{positions_of}
+use Rattle.nested_predicates.specs.Interpolants.{scoped_at}
+use Rattle.nested_predicates.specs.Spelled.{IsTableOf}
+use Rattle.nested_predicates.proofs.preds.predicates.Given as goal
 
 abbrev pub invariant-loop-position : goal.invariant-loop-position
 invariant-loop-position l =

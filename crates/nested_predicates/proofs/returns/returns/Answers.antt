@@ -1,8 +1,8 @@
 use Rattle.std.proofs.Common.{◌-◌, get_or, length, refl}
 use Rattle.nwa_base.specs.declared.letters.Letter.{Letter}
 use Rattle.nwa_base.specs.declared.letters.Kind.TheVariants.{Inside}
-use Rattle.nested_itp.proofs.ReturnLaws.{one_more, unmatched_next, tests_next}
-use Rattle.nested_itp.proofs.returns.returns.Goals as goal
+use Rattle.nested_predicates.proofs.ReturnLaws.{one_more, unmatched_next, tests_next}
+use Rattle.nested_predicates.proofs.returns.returns.Goals as goal
 
 pub loop-i-preserved : goal.loop-i-preserved
 loop-i-preserved c =

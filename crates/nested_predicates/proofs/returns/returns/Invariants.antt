@@ -1,6 +1,6 @@
 use Rattle.std.proofs.Common.{◌≡◌, ◌≤◌, ◌-◌, reverse, length, drop}
-use Rattle.nested_itp.specs.Walking.{unmatched, return_tests}
-use Rattle.nested_itp.proofs.returns.returns.Given as goal
+use Rattle.nested_predicates.specs.Walking.{unmatched, return_tests}
+use Rattle.nested_predicates.proofs.returns.returns.Given as goal
 
 abbrev pub invariant-loop-i : goal.invariant-loop-i
 invariant-loop-i l = record {

@@ -1,10 +1,10 @@
 use Rattle.std.proofs.Common.{get_or, refl, ap, false, ◌∙◌, ◌≡◌, Bool, List, [], ◌∷◌, ◌++◌, ℕ, length, reverse, arith}
 use Rattle.nwa_base.specs.declared.letters.Letter.{Letter}
 use Rattle.nwa_base.specs.declared.letters.Kind.TheVariants.{Inside}
-use Rattle.nested_itp.specs.declared.spots.Spot.{Spot}
-use Rattle.nested_itp.specs.Spots.{innermost_spot}
-use Rattle.nested_itp.proofs.WordLaws.{spots_start, spots_next, spots_done, test_at, tests_counted}
-use Rattle.nested_itp.proofs.spots.spots.Goals as goal
+use Rattle.nested_predicates.specs.declared.spots.Spot.{Spot}
+use Rattle.nested_predicates.specs.Spots.{innermost_spot}
+use Rattle.nested_predicates.proofs.WordLaws.{spots_start, spots_next, spots_done, test_at, tests_counted}
+use Rattle.nested_predicates.proofs.spots.spots.Goals as goal
 
 pub loop-i-init : goal.loop-i-init
 loop-i-init c =

@@ -1,10 +1,10 @@
 use Rattle.std.proofs.Common.{◌≡◌, ◌∙◌, ℤ, ◌-ℤ◌, ap, subst}
 use Rattle.std.specs.Prelude.{MatchOption}
 use Rattle.math_facts.specs.Fits.{Fits}
-use Rattle.nested_itp.specs.Wides.{value_of}
-use Rattle.nested_itp.specs.Runnings.{value_at}
-use Rattle.nested_itp.proofs.SumLaws.{value_found}
-use Rattle.nested_itp.proofs.sums.difference.Goals as goal
+use Rattle.nested_predicates.specs.Wides.{value_of}
+use Rattle.nested_predicates.specs.Runnings.{value_at}
+use Rattle.nested_predicates.proofs.SumLaws.{value_found}
+use Rattle.nested_predicates.proofs.sums.difference.Goals as goal
 
 pub returns : goal.returns
 returns c =

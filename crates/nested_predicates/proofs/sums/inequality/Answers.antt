@@ -1,8 +1,8 @@
 use Rattle.std.proofs.Common.{◌≢◌, ◌∙◌, length, Err, ap, rules, FitsSigned}
 use Rattle.std.specs.Int.{w128}
 use Rattle.std.proofs.lemmas.Int.{to_z-of_z}
-use Rattle.nested_itp.proofs.SumLaws.{sums_fit, atom_of}
-use Rattle.nested_itp.proofs.sums.inequality.Goals as goal
+use Rattle.nested_predicates.proofs.SumLaws.{sums_fit, atom_of}
+use Rattle.nested_predicates.proofs.sums.inequality.Goals as goal
 
 pub unreachable-requires : goal.unreachable-requires
 unreachable-requires c =

@@ -1,7 +1,7 @@
 use Rattle.std.proofs.Common.{◌∙◌, ℕ, ℤ, List, subst, sym}
-use Rattle.nested_itp.specs.Runnings.{differences, AreSumTerms}
-use Rattle.nested_itp.proofs.SumLaws.{are_sum_terms}
-use Rattle.nested_itp.proofs.sums.sum.Goals as goal
+use Rattle.nested_predicates.specs.Runnings.{differences, AreSumTerms}
+use Rattle.nested_predicates.proofs.SumLaws.{are_sum_terms}
+use Rattle.nested_predicates.proofs.sums.sum.Goals as goal
 
 pub inequality-requires-clause-terms : goal.inequality-requires-clause-terms
 inequality-requires-clause-terms c =

@@ -2,10 +2,10 @@ use Rattle.std.proofs.Common.{◌≡◌, ◌∙◌, ◌+◌, ℤ, ◌-ℤ◌, Li
 use Rattle.std.specs.Int.{w128}
 use Rattle.std.proofs.lemmas.Int.{to_z-of_z}
 use Rattle.math_facts.specs.Fits.{Fits}
-use Rattle.nested_itp.specs.Wides.{value_of}
-use Rattle.nested_itp.specs.Runnings.{value_at, differences}
-use Rattle.nested_itp.proofs.SumLaws.{next_number, column_read, column_past, columns_read, none_then}
-use Rattle.nested_itp.proofs.sums.terms.Goals as goal
+use Rattle.nested_predicates.specs.Wides.{value_of}
+use Rattle.nested_predicates.specs.Runnings.{value_at, differences}
+use Rattle.nested_predicates.proofs.SumLaws.{next_number, column_read, column_past, columns_read, none_then}
+use Rattle.nested_predicates.proofs.sums.terms.Goals as goal
 
 pub returns-in_default-clause-past : goal.returns-in_default-clause-past
 returns-in_default-clause-past c _ h =

@@ -1,6 +1,6 @@
 use Rattle.std.proofs.Common.{◌∙◌, sym}
-use Rattle.nested_itp.proofs.SumLaws.{value_found, value_past, room_found}
-use Rattle.nested_itp.proofs.sums.wide_at.Goals as goal
+use Rattle.nested_predicates.proofs.SumLaws.{value_found, value_past, room_found}
+use Rattle.nested_predicates.proofs.sums.wide_at.Goals as goal
 
 pub returns-then-place-known-clause-value : goal.returns-then-place-known-clause-value
 returns-then-place-known-clause-value c = value_found c.args.known.now c.args.place _ c.if-place-known.true

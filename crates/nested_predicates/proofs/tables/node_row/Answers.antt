@@ -4,16 +4,16 @@ use Rattle.std.specs.Global.{Vec}
 use Rattle.std.proofs.lemmas.Int.{to_z-of_z}
 use Rattle.farkas_check.specs.Nodes.{PlainNode, plain, cut}
 use Rattle.triple_rows.specs.declared.predicates.PredNode.{PredNode}
-use Rattle.nested_itp.specs.Stamps.{stamps_of}
-use Rattle.nested_itp.specs.Positions.{positions_of}
-use Rattle.nested_itp.specs.Layouts.{leaf_node}
-use Rattle.nested_itp.specs.Tables.{branch_of, Await, CanTake, branches_after, row_of_node}
-use Rattle.nested_itp.proofs.BaseLaws.{if_ok}
-use Rattle.nested_itp.proofs.TableLaws.{cut_is, leaf_is, leaf_contradicts, good_stamps, ok_anyway}
+use Rattle.nested_predicates.specs.Stamps.{stamps_of}
+use Rattle.nested_predicates.specs.Positions.{positions_of}
+use Rattle.nested_predicates.specs.Layouts.{leaf_node}
+use Rattle.nested_predicates.specs.Tables.{branch_of, Await, CanTake, branches_after, row_of_node}
+use Rattle.nested_predicates.proofs.BaseLaws.{if_ok}
+use Rattle.nested_predicates.proofs.TableLaws.{cut_is, leaf_is, leaf_contradicts, good_stamps, ok_anyway}
 use Rattle.std.proofs.Common.{map}
 use Rattle.lin_rows.specs.Rows.{LinearRow, IsRow}
 use Rattle.std.specs.List.{AllByRecursion}
-use Rattle.nested_itp.proofs.tables.node_row.Goals as goal
+use Rattle.nested_predicates.proofs.tables.node_row.Goals as goal
 
 pub leaf_sums-requires-clause-rows : goal.leaf_sums-requires-clause-rows
 leaf_sums-requires-clause-rows c = subst (λ (l : List LinearRow). AllByRecursion IsRow l) (sym c.deref.ensures.value) c.requires.good.rows

@@ -6,12 +6,12 @@ use Rattle.farkas_check.specs.declared.refutations.Node.{Node}
 use Rattle.farkas_check.specs.declared.refutations.Node.TheVariants.{Cases}
 use Rattle.farkas_check.specs.Nodes.{plain, plain_nodes}
 use Rattle.triple_rows.specs.declared.predicates.PredNode.{PredNode}
-use Rattle.nested_itp.specs.Stamps.{stamps_of}
-use Rattle.nested_itp.specs.Positions.{positions_of}
-use Rattle.nested_itp.specs.Sums.{Branch}
-use Rattle.nested_itp.specs.Tables.{Await, CanTake, IsGood, branches_after, row_of_node}
-use Rattle.nested_itp.proofs.TableLaws.{Next, next_of, some_waits, table_next, root_counts, table_start, node_front, table_done}
-use Rattle.nested_itp.proofs.tables.node_table.Goals as goal
+use Rattle.nested_predicates.specs.Stamps.{stamps_of}
+use Rattle.nested_predicates.specs.Positions.{positions_of}
+use Rattle.nested_predicates.specs.Sums.{Branch}
+use Rattle.nested_predicates.specs.Tables.{Await, CanTake, IsGood, branches_after, row_of_node}
+use Rattle.nested_predicates.proofs.TableLaws.{Next, next_of, some_waits, table_next, root_counts, table_start, node_front, table_done}
+use Rattle.nested_predicates.proofs.tables.node_table.Goals as goal
 
 pub root-requires : goal.root-requires
 root-requires c =

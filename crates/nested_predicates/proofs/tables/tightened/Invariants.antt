@@ -2,7 +2,7 @@ use Rattle.std.proofs.Common.{◌≡◌, map, take}
 use Rattle.std.specs.List.{AllByRecursion}
 use Rattle.lin_rows.specs.Rows.{IsRow}
 use Rattle.lin_rows.specs.Tightening.{tightened}
-use Rattle.nested_itp.proofs.tables.tightened.Given as goal
+use Rattle.nested_predicates.proofs.tables.tightened.Given as goal
 
 abbrev pub invariant-loop-i : goal.invariant-loop-i
 invariant-loop-i l = record {

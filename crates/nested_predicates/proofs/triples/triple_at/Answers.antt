@@ -1,8 +1,8 @@
 use Rattle.std.proofs.Common.{◌≡◌, ◌∙◌, ◌+◌, ◌<◌, suc, length, get_or, reverse, ap, arith}
 use Rattle.std.proofs.lemmas.Grind.{common_steps}
-use Rattle.nested_itp.specs.Saved.{scoped_in, saved_at}
-use Rattle.nested_itp.proofs.TripleLaws.{scoped_found, below_first, inside_made, call_made, back_made}
-use Rattle.nested_itp.proofs.triples.triple_at.Goals as goal
+use Rattle.nested_predicates.specs.Saved.{scoped_in, saved_at}
+use Rattle.nested_predicates.proofs.TripleLaws.{scoped_found, below_first, inside_made, call_made, back_made}
+use Rattle.nested_predicates.proofs.triples.triple_at.Goals as goal
 
 pub returns-in-Inside : goal.returns-in-Inside
 returns-in-Inside c =

@@ -4,10 +4,10 @@ use Rattle.nwa_base.specs.declared.letters.Letter.{Letter}
 use Rattle.nwa_base.specs.declared.letters.Kind.TheVariants.{Inside}
 use Rattle.nwa_base.specs.Words.{are_matched}
 use Rattle.triple_rows.specs.declared.triples.Triple.{Triple}
-use Rattle.nested_itp.specs.Interpolants.{letter_triple}
-use Rattle.nested_itp.specs.Saved.{scoped_in, saved_at, FindsCall}
-use Rattle.nested_itp.proofs.TripleLaws.{no_triples, finds_call, triples_next, triples_done}
-use Rattle.nested_itp.proofs.triples.triples_of.Goals as goal
+use Rattle.nested_predicates.specs.Interpolants.{letter_triple}
+use Rattle.nested_predicates.specs.Saved.{scoped_in, saved_at, FindsCall}
+use Rattle.nested_predicates.proofs.TripleLaws.{no_triples, finds_call, triples_next, triples_done}
+use Rattle.nested_predicates.proofs.triples.triples_of.Goals as goal
 
 pub loop-at-init : goal.loop-at-init
 loop-at-init c =

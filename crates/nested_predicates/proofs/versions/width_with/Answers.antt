@@ -1,6 +1,6 @@
 use Rattle.std.proofs.Common.{arith}
-use Rattle.nested_itp.proofs.BaseLaws.{below_next}
-use Rattle.nested_itp.proofs.versions.width_with.Goals as goal
+use Rattle.nested_predicates.proofs.BaseLaws.{below_next}
+use Rattle.nested_predicates.proofs.versions.width_with.Goals as goal
 
 pub loop-i-preserved : goal.loop-i-preserved
 loop-i-preserved c =

@@ -1,6 +1,6 @@
 use Rattle.std.proofs.Common.{◌<◌, ◌≤◌, take}
 use Rattle.std.specs.List.{AllByRecursion}
-use Rattle.nested_itp.proofs.versions.width_with.Given as goal
+use Rattle.nested_predicates.proofs.versions.width_with.Given as goal
 
 abbrev pub invariant-loop-i : goal.invariant-loop-i
 invariant-loop-i l = record {

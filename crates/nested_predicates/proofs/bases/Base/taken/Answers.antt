@@ -1,8 +1,8 @@
 use Rattle.std.proofs.Common.{refl, arith}
-use Rattle.nested_itp.specs.Positions.{known_columns}
-use Rattle.nested_itp.proofs.BaseLaws.{no_callee, no_entry, all_taken}
-use Rattle.nested_itp.proofs.bases.Base.taken.Goals as goal
-use Rattle.nested_itp.proofs.bases.Base.taken.Goals.{else-loop-j-test, then-loop-j-test+then-j-entry}
+use Rattle.nested_predicates.specs.Positions.{known_columns}
+use Rattle.nested_predicates.proofs.BaseLaws.{no_callee, no_entry, all_taken}
+use Rattle.nested_predicates.proofs.bases.Base.taken.Goals as goal
+use Rattle.nested_predicates.proofs.bases.Base.taken.Goals.{else-loop-j-test, then-loop-j-test+then-j-entry}
 
 pub returns : goal.returns
 returns c =

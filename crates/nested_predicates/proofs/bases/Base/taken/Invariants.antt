@@ -1,9 +1,9 @@
 use Rattle.std.proofs.Common.{◌≡◌, ◌++◌, map, drop}
 use Rattle.std.specs.List.{AllByRecursion}
-use Rattle.nested_itp.specs.Wides.{value_of, HasRoom}
-use Rattle.nested_itp.specs.Positions.{known_columns}
-use Rattle.nested_itp.specs.Bases.{known_value}
-use Rattle.nested_itp.proofs.bases.Base.taken.Given as goal
+use Rattle.nested_predicates.specs.Wides.{value_of, HasRoom}
+use Rattle.nested_predicates.specs.Positions.{known_columns}
+use Rattle.nested_predicates.specs.Bases.{known_value}
+use Rattle.nested_predicates.proofs.bases.Base.taken.Given as goal
 
 abbrev pub invariant-loop-j : goal.invariant-loop-j
 invariant-loop-j l = record {

@@ -1,9 +1,9 @@
 use Rattle.std.proofs.Common.{◌≡◌, List, ◌∷◌}
-use Rattle.nested_itp.specs.Sums.{Branch}
-use Rattle.nested_itp.specs.Tables.{entered, branch_of, Await}
-use Rattle.nested_itp.proofs.RunningLaws.{on_ok}
-use Rattle.nested_itp.proofs.TableLaws.{next_entered}
-use Rattle.nested_itp.proofs.branches.Branches.go_on.Goals as goal
+use Rattle.nested_predicates.specs.Sums.{Branch}
+use Rattle.nested_predicates.specs.Tables.{entered, branch_of, Await}
+use Rattle.nested_predicates.proofs.RunningLaws.{on_ok}
+use Rattle.nested_predicates.proofs.TableLaws.{next_entered}
+use Rattle.nested_predicates.proofs.branches.Branches.go_on.Goals as goal
 
 pub returns : goal.returns
 returns c =

@@ -1,9 +1,9 @@
 use Rattle.std.proofs.Common.{sym, subst, refl}
-use Rattle.nested_itp.specs.declared.joins.Part.{Part}
-use Rattle.nested_itp.specs.declared.joins.Part.TheVariants as parts
-use Rattle.nested_itp.specs.Simplifying.{JoinsParts}
-use Rattle.nested_itp.proofs.SimplifyingLaws.{nodes_beside, two_trees}
-use Rattle.nested_itp.proofs.joins.Simplifier.after_nodes.Goals as goal
+use Rattle.nested_predicates.specs.declared.joins.Part.{Part}
+use Rattle.nested_predicates.specs.declared.joins.Part.TheVariants as parts
+use Rattle.nested_predicates.specs.Simplifying.{JoinsParts}
+use Rattle.nested_predicates.proofs.SimplifyingLaws.{nodes_beside, two_trees}
+use Rattle.nested_predicates.proofs.joins.Simplifier.after_nodes.Goals as goal
 
 pub returns-in-Truth : goal.returns-in-Truth
 returns-in-Truth c =

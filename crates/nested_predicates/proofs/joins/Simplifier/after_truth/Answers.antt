@@ -1,9 +1,9 @@
 use Rattle.std.proofs.Common.{sym, subst}
-use Rattle.nested_itp.specs.declared.joins.Part.{Part}
-use Rattle.nested_itp.specs.declared.joins.Part.TheVariants as parts
-use Rattle.nested_itp.specs.Simplifying.{JoinsParts}
-use Rattle.nested_itp.proofs.SimplifyingLaws.{truth_beside}
-use Rattle.nested_itp.proofs.joins.Simplifier.after_truth.Goals as goal
+use Rattle.nested_predicates.specs.declared.joins.Part.{Part}
+use Rattle.nested_predicates.specs.declared.joins.Part.TheVariants as parts
+use Rattle.nested_predicates.specs.Simplifying.{JoinsParts}
+use Rattle.nested_predicates.proofs.SimplifyingLaws.{truth_beside}
+use Rattle.nested_predicates.proofs.joins.Simplifier.after_truth.Goals as goal
 
 pub returns-in-Nodes : goal.returns-in-Nodes
 returns-in-Nodes c =

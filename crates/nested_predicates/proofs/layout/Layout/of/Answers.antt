@@ -1,8 +1,8 @@
 use Rattle.std.proofs.Common.{◌∙◌, arith}
 use Rattle.letter_acts.specs.Invariant.{alphabet_of}
-use Rattle.nested_itp.specs.Walking.{AreLetters}
-use Rattle.nested_itp.proofs.LetterLaws.{accepted_letters, made_layout}
-use Rattle.nested_itp.proofs.layout.Layout.of.Goals as goal
+use Rattle.nested_predicates.specs.Walking.{AreLetters}
+use Rattle.nested_predicates.proofs.LetterLaws.{accepted_letters, made_layout}
+use Rattle.nested_predicates.proofs.layout.Layout.of.Goals as goal
 
 pub of-requires-clause-letters : goal.of-requires-clause-letters
 of-requires-clause-letters c =

@@ -1,8 +1,8 @@
 use Rattle.std.proofs.Common.{refl, arith, rules, FitsSigned}
 use Rattle.std.specs.Int.{w128}
 use Rattle.std.proofs.lemmas.Int.{to_z-of_z}
-use Rattle.nested_itp.proofs.RunningLaws.{bound_added}
-use Rattle.nested_itp.proofs.running.Running.add_bound.Goals as goal
+use Rattle.nested_predicates.proofs.RunningLaws.{bound_added}
+use Rattle.nested_predicates.proofs.running.Running.add_bound.Goals as goal
 
 pub returns : goal.returns
 returns c =

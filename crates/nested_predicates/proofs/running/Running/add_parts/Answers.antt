@@ -3,9 +3,9 @@ use Rattle.std.specs.Int.{w128}
 use Rattle.std.proofs.lemmas.Int.{to_z-of_z}
 use Rattle.lin_rows.specs.Rows.{LinearRow}
 use Rattle.lin_rows.specs.Combinations.{row_at}
-use Rattle.nested_itp.specs.Runnings.{ProductsFit, AddsRow}
-use Rattle.nested_itp.proofs.RunningLaws.{all_at, row_found, part_taken}
-use Rattle.nested_itp.proofs.running.Running.add_parts.Goals as goal
+use Rattle.nested_predicates.specs.Runnings.{ProductsFit, AddsRow}
+use Rattle.nested_predicates.proofs.RunningLaws.{all_at, row_found, part_taken}
+use Rattle.nested_predicates.proofs.running.Running.add_parts.Goals as goal
 
 pub add_row-requires-clause-fit : goal.add_row-requires-clause-fit
 add_row-requires-clause-fit c =

@@ -2,9 +2,9 @@ use Rattle.std.proofs.Common.{ℕ, ℤ, List, ◌*ℤ◌, refl, subst, rules, Fi
 use Rattle.std.specs.Int.{w128}
 use Rattle.std.proofs.lemmas.Int.{to_z-of_z}
 use Rattle.math_facts.specs.Fits.{Fits}
-use Rattle.nested_itp.specs.Runnings.{AddsRow, AddsTerms, AddsBound}
-use Rattle.nested_itp.proofs.RunningLaws.{row_added, on_ok}
-use Rattle.nested_itp.proofs.running.Running.add_row.Goals as goal
+use Rattle.nested_predicates.specs.Runnings.{AddsRow, AddsTerms, AddsBound}
+use Rattle.nested_predicates.proofs.RunningLaws.{row_added, on_ok}
+use Rattle.nested_predicates.proofs.running.Running.add_row.Goals as goal
 
 pub add_terms-requires-clause-fit : goal.add_terms-requires-clause-fit
 add_terms-requires-clause-fit c =

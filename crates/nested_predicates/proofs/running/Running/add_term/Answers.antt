@@ -1,10 +1,10 @@
 use Rattle.std.proofs.Common.{◌≡◌, ◌+ℤ◌, refl, subst, arith, rules, FitsSigned}
 use Rattle.std.specs.Int.{w128}
 use Rattle.std.proofs.lemmas.Int.{to_z-of_z}
-use Rattle.nested_itp.specs.declared.wide.Wide.{Wide}
-use Rattle.nested_itp.specs.Wides.{value_of, KeepsCount}
-use Rattle.nested_itp.proofs.RunningLaws.{term_added, term_left_out}
-use Rattle.nested_itp.proofs.running.Running.add_term.Goals as goal
+use Rattle.nested_predicates.specs.declared.wide.Wide.{Wide}
+use Rattle.nested_predicates.specs.Wides.{value_of, KeepsCount}
+use Rattle.nested_predicates.proofs.RunningLaws.{term_added, term_left_out}
+use Rattle.nested_predicates.proofs.running.Running.add_term.Goals as goal
 
 pub returns-then-column-len : goal.returns-then-column-len
 returns-then-column-len c =

@@ -2,8 +2,8 @@ use Rattle.std.proofs.Common.{ℕ, ℤ, pos, ◌*ℤ◌, get_or, refl, rules, Fi
 use Rattle.std.specs.Int.{w128}
 use Rattle.std.proofs.lemmas.Int.{to_z-of_z}
 use Rattle.math_facts.specs.Fits.{Fits}
-use Rattle.nested_itp.proofs.RunningLaws.{all_at, terms_done, term_taken}
-use Rattle.nested_itp.proofs.running.Running.add_terms.Goals as goal
+use Rattle.nested_predicates.proofs.RunningLaws.{all_at, terms_done, term_taken}
+use Rattle.nested_predicates.proofs.running.Running.add_terms.Goals as goal
 
 pub loop-i-preserved : goal.loop-i-preserved
 loop-i-preserved c =

@@ -1,6 +1,6 @@
 use Rattle.std.proofs.Common.{arith}
-use Rattle.nested_itp.proofs.BaseLaws.{no_zero, one_zero}
-use Rattle.nested_itp.proofs.running.Running.start.Goals as goal
+use Rattle.nested_predicates.proofs.BaseLaws.{no_zero, one_zero}
+use Rattle.nested_predicates.proofs.running.Running.start.Goals as goal
 
 pub loop-v-init : goal.loop-v-init
 loop-v-init c = no_zero c.in_ok-columns.columns.items c.in_ok-columns.ensures.items

@@ -3,8 +3,8 @@ use Rattle.letter_acts.specs.Acts.{frame_of}
 use Rattle.letter_acts.specs.Invariant.{alphabet_of}
 use Rattle.nwa_base.specs.declared.letters.Letter.{Letter}
 use Rattle.nwa_base.specs.declared.letters.Kind.TheVariants.{Inside}
-use Rattle.nested_itp.proofs.StampCounts.{stamps_start, stamps_next, stamps_done}
-use Rattle.nested_itp.proofs.stamps.Stamps.of.Goals as goal
+use Rattle.nested_predicates.proofs.StampCounts.{stamps_start, stamps_next, stamps_done}
+use Rattle.nested_predicates.proofs.stamps.Stamps.of.Goals as goal
 
 pub loop-i-init : goal.loop-i-init
 loop-i-init c = stamps_start c.args.icfg.now c.args.letters.now c.frame_at.result.now c.in_ok-stamps.stamps (c.frame_at.ensures ∙ ap (frame_of (alphabet_of c.args.icfg.now)) c.start_proc.ensures) c.in_ok-stamps.ensures.rows c.in_ok-stamps.ensures.columns

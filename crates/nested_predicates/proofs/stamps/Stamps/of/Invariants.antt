@@ -1,5 +1,5 @@
-use Rattle.nested_itp.proofs.StampCounts.{StampsLeft}
-use Rattle.nested_itp.proofs.stamps.Stamps.of.Given as goal
+use Rattle.nested_predicates.proofs.StampCounts.{StampsLeft}
+use Rattle.nested_predicates.proofs.stamps.Stamps.of.Given as goal
 
 abbrev pub invariant-loop-i : goal.invariant-loop-i
 invariant-loop-i l = StampsLeft l.icfg l.letters l.i l.stamps

@@ -3,9 +3,9 @@ use Rattle.letter_acts.specs.declared.acts.Act.{Act}
 use Rattle.letter_acts.specs.Acts.{plain_act}
 use Rattle.letter_acts.specs.Invariant.{alphabet_of}
 use Rattle.path_rows.specs.Paths.{repeated}
-use Rattle.nested_itp.specs.Walking.{ReadsLetter}
-use Rattle.nested_itp.proofs.StampCounts.{InsideRows, CallRows, CallColumns, both_ok, inside_given, call_given, back_read}
-use Rattle.nested_itp.proofs.stamps.Stamps.read.Goals as goal
+use Rattle.nested_predicates.specs.Walking.{ReadsLetter}
+use Rattle.nested_predicates.proofs.StampCounts.{InsideRows, CallRows, CallColumns, both_ok, inside_given, call_given, back_read}
+use Rattle.nested_predicates.proofs.stamps.Stamps.read.Goals as goal
 
 pub returns-in-Inside : goal.returns-in-Inside
 returns-in-Inside c =

@@ -5,15 +5,15 @@ use Rattle.farkas_check.specs.Trees.{IsPrefixList}
 use Rattle.farkas_check.proofs.TreeLaws.{is_tree_is}
 use Rattle.triple_rows.specs.declared.predicates.PredNode.{PredNode}
 use Rattle.triple_rows.specs.declared.triples.Scoped.{Scoped}
-use Rattle.nested_itp.specs.Stamps.{stamps_of}
-use Rattle.nested_itp.specs.Positions.{positions_of}
-use Rattle.nested_itp.specs.Sums.{root_of}
-use Rattle.nested_itp.specs.Interpolants.{RefutesRows, BeginsTrue, EndsFalse}
-use Rattle.nested_itp.specs.Tables.{table_along}
-use Rattle.nested_itp.specs.Spelled.{IsTableOf}
-use Rattle.nested_itp.proofs.EndLaws.{begins_true}
-use Rattle.nested_itp.proofs.MakingLaws.{table_of_tree, ends, predicates_counted}
-use Rattle.nested_itp.proofs.making.prefix_predicates.Goals as goal
+use Rattle.nested_predicates.specs.Stamps.{stamps_of}
+use Rattle.nested_predicates.specs.Positions.{positions_of}
+use Rattle.nested_predicates.specs.Sums.{root_of}
+use Rattle.nested_predicates.specs.Interpolants.{RefutesRows, BeginsTrue, EndsFalse}
+use Rattle.nested_predicates.specs.Tables.{table_along}
+use Rattle.nested_predicates.specs.Spelled.{IsTableOf}
+use Rattle.nested_predicates.proofs.EndLaws.{begins_true}
+use Rattle.nested_predicates.proofs.MakingLaws.{table_of_tree, ends, predicates_counted}
+use Rattle.nested_predicates.proofs.making.prefix_sums.Goals as goal
 
 pub node_table-requires-clause-refutes : goal.node_table-requires-clause-refutes
 node_table-requires-clause-refutes c = subst (λ (ns : List PlainNode). RefutesRows ns c.args.path.now.rows) (sym c.nodes.ensures.value) c.requires.refutes
@@ -36,7 +36,7 @@ returns-clause-value c =
     (ap (λ (l : List (Vec PredNode)). map (λ (v : Vec PredNode). v.items) l) c.deref.ensures.value ∙ c.in_ok-table.ensures ∙
     ap (λ (ns : List PlainNode). table_along (stamps_of c.args.icfg.now c.args.path.now.word).columns (positions_of c.args.icfg.now c.args.path.now.word) ns
     (root_of c.args.icfg.now c.args.path.now.word ∷ [])) c.nodes.ensures.value) in
-    record { tree = t.0; spelled = t.1; preds_are = c.in_ok-predicates.ensures t.0 h }
+    record { tree = t.0; spelled = t.1; preds_are = c.in_ok-preds.ensures t.0 h }
 
 pub returns-clause-first : goal.returns-clause-first
 returns-clause-first c =
@@ -46,7 +46,7 @@ returns-clause-first c =
     (ap (λ (l : List (Vec PredNode)). map (λ (v : Vec PredNode). v.items) l) c.deref.ensures.value ∙ c.in_ok-table.ensures ∙
     ap (λ (ns : List PlainNode). table_along (stamps_of c.args.icfg.now c.args.path.now.word).columns (positions_of c.args.icfg.now c.args.path.now.word) ns
     (root_of c.args.icfg.now c.args.path.now.word ∷ [])) c.nodes.ensures.value) in
-    subst BeginsTrue (sym (c.in_ok-predicates.ensures t.0 h)) (begins_true c.args.icfg.now c.args.path.now.word t.0 h.refutes)
+    subst BeginsTrue (sym (c.in_ok-preds.ensures t.0 h)) (begins_true c.args.icfg.now c.args.path.now.word t.0 h.refutes)
 
 pub returns-clause-last : goal.returns-clause-last
 returns-clause-last c =
@@ -56,7 +56,7 @@ returns-clause-last c =
     (ap (λ (l : List (Vec PredNode)). map (λ (v : Vec PredNode). v.items) l) c.deref.ensures.value ∙ c.in_ok-table.ensures ∙
     ap (λ (ns : List PlainNode). table_along (stamps_of c.args.icfg.now c.args.path.now.word).columns (positions_of c.args.icfg.now c.args.path.now.word) ns
     (root_of c.args.icfg.now c.args.path.now.word ∷ [])) c.nodes.ensures.value) in
-    subst EndsFalse (sym (c.in_ok-predicates.ensures t.0 h)) (ends c.args.icfg.now c.args.path.now.word t.0 h.refutes)
+    subst EndsFalse (sym (c.in_ok-preds.ensures t.0 h)) (ends c.args.icfg.now c.args.path.now.word t.0 h.refutes)
 
 pub returns-clause-predicates : goal.returns-clause-predicates
 returns-clause-predicates c =
@@ -66,4 +66,7 @@ returns-clause-predicates c =
     (ap (λ (l : List (Vec PredNode)). map (λ (v : Vec PredNode). v.items) l) c.deref.ensures.value ∙ c.in_ok-table.ensures ∙
     ap (λ (ns : List PlainNode). table_along (stamps_of c.args.icfg.now c.args.path.now.word).columns (positions_of c.args.icfg.now c.args.path.now.word) ns
     (root_of c.args.icfg.now c.args.path.now.word ∷ [])) c.nodes.ensures.value) in
-    ap (λ (l : List Scoped). length l) (c.in_ok-predicates.ensures t.0 h) ∙ predicates_counted c.args.icfg.now c.args.path.now.word t.0
+    ap (λ (l : List Scoped). length l) (c.in_ok-preds.ensures t.0 h) ∙ predicates_counted c.args.icfg.now c.args.path.now.word t.0
+
+pub returns-clause-returned : goal.returns-clause-returned
+returns-clause-returned c = c.in_ok-layout.ensures.returned
