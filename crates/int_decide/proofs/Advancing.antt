@@ -93,6 +93,7 @@ leaf_contradicts rows parts gs c ns f h = (
   record {
     ascends = c.ascends;
     each = c.each;
+    multipliers_fit = h.0.multipliers_fit;
     columns_fit = h.0.columns_fit;
     bound_fits = h.0.bound_fits;
     columns_vanish = c.columns_vanish;

@@ -39,6 +39,7 @@ leaf_first parts g c = record {
     record {
       ascends = c.ascends;
       each = c.each;
+      multipliers_fit = h.0.multipliers_fit;
       columns_fit = h.0.columns_fit;
       bound_fits = h.0.bound_fits;
       columns_vanish = c.columns_vanish;
@@ -116,7 +117,7 @@ cases_fit refute fit n rows (members ∷ groups) f r = f (map (with_member (reco
 pub refuted_fits : (ns : List PlainNode) (gs : List Goal) → Refute ns gs → LeavesFit ns gs
 refuted_fits [] gs r = tt
 refuted_fits (n ∷ ns) [] r = tt
-refuted_fits (leaf parts ∷ ns) (g ∷ gs) r = (record { columns_fit = r.0.columns_fit; bound_fits = r.0.bound_fits }, refuted_fits ns gs r.1)
+refuted_fits (leaf parts ∷ ns) (g ∷ gs) r = (record { multipliers_fit = r.0.multipliers_fit; columns_fit = r.0.columns_fit; bound_fits = r.0.bound_fits }, refuted_fits ns gs r.1)
 refuted_fits (cut c k ∷ ns) (g ∷ gs) r = (r.0, r.1, refuted_fits ns (with_row g (at_most c k) ∷ with_row g (above c k) ∷ gs) r.2)
 refuted_fits (cases n ∷ ns) (g ∷ gs) r =
     cases_fit (λ goals. Refute ns (goals ++ gs)) (λ goals. LeavesFit ns (goals ++ gs)) n g.rows g.groups (λ goals k. refuted_fits ns (goals ++ gs) k) r

@@ -1,5 +1,6 @@
 -- When all numbers of Decide fit.
 use Rattle.std.specs.Prelude.{ℕ, zero, suc, ℤ, pos, List, [], ◌∷◌, ◌++◌, Option, None, Some, map}
+use Rattle.std.specs.List.{AllByRecursion}
 use Rattle.math_facts.specs.Fits.{Fits}
 use Rattle.math_facts.specs.Terms.{coefficient}
 use Rattle.frac.specs.Fractions.{Fraction}
@@ -48,10 +49,11 @@ GroupsFit (suc f) n d rows (g ∷ gs) = EachUntilWhole
     (λ m. decide_groups f n d (rows ++ map tightened (rows_of m)) (gs ++ groups_of m))
     (λ m. GroupsFit f n d (rows ++ map tightened (rows_of m)) (gs ++ groups_of m)) g
 
--- ---- the numbers of the refutation, where the answer is one: the products and running sums of its leaves, and the bounds
+-- ---- the numbers of the refutation, where the answer is one: the multipliers, products and running sums of its leaves, and the bounds
 -- of the rows of its cuts
 
 pub record LeafFits (rows : List LinearRow) (parts : List (ℕ × ℤ)) : Type 0 where
+  pub multipliers_fit : AllByRecursion (λ part. Fits part.1) parts
   pub columns_fit : (c : ℕ) → RunFits (λ r. coefficient c r.terms) rows (pos 0) parts
   pub bound_fits : RunFits (λ r. r.bound) rows (pos 0) parts
 
