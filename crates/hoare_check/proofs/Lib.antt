@@ -1,1 +1,3 @@
 mod CountLaws
+mod CutLaws
+mod ProvingLaws

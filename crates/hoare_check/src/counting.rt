@@ -1,9 +1,10 @@
 //! How many columns the system of a triple has.
 
-ghost use Rattle.std.specs.Prelude.{◌≡◌, ◌+◌, ◌<◌, ◌≤◌, ◌^◌, IfSome, Some, filter, length, not, slice_get};
+ghost use Rattle.std.specs.Prelude.{◌≡◌, ◌+◌, Some, filter, length, not, slice_get};
 ghost use Rattle.letter_acts.specs.Acts.{frame_of, back_act, plain_act};
 ghost use Rattle.letter_acts.specs.Frames.{is_variable, variables_of};
 ghost use Rattle.letter_acts.specs.Invariant.{alphabet_of, is_global_at, written_by};
+ghost use Rattle.hoare_check.specs.Counts.{IsCount};
 ghost use Rattle.hoare_check.specs.Decided.{inside_columns, call_columns, back_columns, return_columns, columns_of};
 
 use boogie_tree::{Column, VarInfo};
@@ -12,7 +13,7 @@ use triple_rows::Triple;
 
 /// The sum, where it has 32 bits.
 fn plus(count: u32, more: usize) -> Option<u32>
-    ensures { IfSome result (λ n. n ≡ count + more) }
+    ensures { IsCount (count + more) result }
 {
     count.checked_add(u32::try_from(more).ok()?)
 }
@@ -71,7 +72,7 @@ fn frame_at(icfg: &Icfg, proc: u32) -> &[(Column, VarInfo)]
 }
 
 fn inside_columns(icfg: &Icfg, act: &Act) -> Option<u32>
-    ensures { IfSome result (λ n. n ≡ inside_columns (alphabet_of icfg.now) (Some (plain_act act.now))) }
+    ensures { IsCount (inside_columns (alphabet_of icfg.now) (Some (plain_act act.now))) result }
 {
     match act {
         Act::Inside {
@@ -88,7 +89,7 @@ fn inside_columns(icfg: &Icfg, act: &Act) -> Option<u32>
 }
 
 fn call_columns(icfg: &Icfg, act: &Act) -> Option<u32>
-    ensures { IfSome result (λ n. n ≡ call_columns (alphabet_of icfg.now) (Some (plain_act act.now))) }
+    ensures { IsCount (call_columns (alphabet_of icfg.now) (Some (plain_act act.now))) result }
 {
     match act {
         Act::Call {
@@ -107,7 +108,7 @@ fn call_columns(icfg: &Icfg, act: &Act) -> Option<u32>
 /// The columns that a return with these targets writes.
 #[tactic(auto, using(crate::proofs::CountLaws::written_counted))]
 fn written(frame: &[(Column, VarInfo)], targets: &[u32]) -> Option<u32>
-    ensures { IfSome result (λ n. n ≡ length (written_by frame.now targets.now)) }
+    ensures { IsCount (length (written_by frame.now targets.now)) result }
 {
     let globals = plus(0, variables(frame))?;
     plus(globals, local_targets(frame, targets))
@@ -115,7 +116,7 @@ fn written(frame: &[(Column, VarInfo)], targets: &[u32]) -> Option<u32>
 
 /// Of a return with these targets from a call with this act.
 fn return_columns(icfg: &Icfg, targets: &[u32], act: &Act) -> Option<u32>
-    ensures { IfSome result (λ n. n ≡ return_columns (alphabet_of icfg.now) targets.now (Some (plain_act act.now))) }
+    ensures { IsCount (return_columns (alphabet_of icfg.now) targets.now (Some (plain_act act.now))) result }
 {
     match act {
         Act::Call {
@@ -135,7 +136,7 @@ fn return_columns(icfg: &Icfg, targets: &[u32], act: &Act) -> Option<u32>
 }
 
 fn back_columns(icfg: &Icfg, act: &Act) -> Option<u32>
-    ensures { IfSome result (λ n. n ≡ back_columns (alphabet_of icfg.now) (Some (plain_act act.now))) }
+    ensures { IsCount (back_columns (alphabet_of icfg.now) (Some (plain_act act.now))) result }
 {
     match act {
         Act::Back { call, targets } => match icfg.acts().get(*call as usize) {
@@ -148,7 +149,7 @@ fn back_columns(icfg: &Icfg, act: &Act) -> Option<u32>
 
 /// The columns of the system of a triple, where their number has 32 bits.
 pub(crate) fn columns_of(icfg: &Icfg, triple: &Triple) -> Option<u32>
-    ensures { IfSome result (λ n. n ≡ columns_of (alphabet_of icfg.now) triple.now) }
+    ensures { IsCount (columns_of (alphabet_of icfg.now) triple.now) result }
 {
     let letter = match triple {
         Triple::Inside { letter, .. } | Triple::Call { letter, .. } | Triple::Back { letter, .. } =>

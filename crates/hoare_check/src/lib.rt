@@ -2,7 +2,9 @@
 #![tactic(auto)]
 
 mod counting;
+mod cuts;
 mod proving;
 
-pub use proving::prove;
+pub use cuts::are_cuts_within;
+pub use proving::{prove, prove_all};
 pub use triple_rows::Proof;

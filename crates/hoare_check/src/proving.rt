@@ -1,6 +1,7 @@
 //! Proofs of triples.
 
-ghost use Rattle.std.specs.Prelude.{IfOk};
+ghost use Rattle.std.specs.Prelude.{◌≡◌, IfOk, Ok, map};
+ghost use Rattle.std.specs.List.{AllByRecursion, AllZip};
 ghost use Rattle.letter_acts.specs.Invariant.{alphabet_of};
 ghost use Rattle.triple_rows.specs.Triples.{Agrees};
 ghost use Rattle.hoare_check.specs.Decided.{MayProve};
@@ -9,7 +10,9 @@ use crate::counting::columns_of;
 use int_decide::{Answer, DecideFault, decide, measure};
 use letter_acts::Icfg;
 use lin_rows::RowFault;
+use rayon::prelude::*;
 use std::alloc::{AllocError, Global};
+use std::thread::Threads;
 use triple_rows::{Proof, Triple, proof, systems_of};
 
 /// The proof of a triple whose kind and scopes agree with its letter, by Decide without cuts. `None` only where Decide does not
@@ -35,4 +38,40 @@ pub fn prove(alloc: Global, icfg: &Icfg, triple: Triple) -> Result<Option<Proof>
         Ok(Answer::Whole(_)) | Err(DecideFault::Gap) | Err(DecideFault::Past) => Ok(None),
         Err(DecideFault::Memory) => Err(AllocError),
     }
+}
+
+/// What `prove` may answer for each of the triples, in order. They are tried in several threads.
+pub fn prove_all<R: Threads + Sync>(
+    rt: &R,
+    alloc: Global,
+    icfg: &Icfg,
+    triples: Vec<Triple>,
+) -> Result<Vec<Option<Proof>>, AllocError>
+    requires { AllByRecursion (Agrees (alphabet_of icfg.now)) triples.items }
+    ensures { IfOk result (λ proofs. AllZip (MayProve (alphabet_of icfg.now)) triples.items proofs.items) }
+{
+    let tried = triples
+        .into_par_iter()
+        .map(
+            |triple: Triple| -> Result<Option<Proof>, AllocError>
+                requires { Agrees (alphabet_of icfg.now) triple }
+                ensures { IfOk result (MayProve (alphabet_of icfg.entry.now) triple) }
+            { prove(alloc, icfg, triple) },
+        )
+        .collect::<Vec<_>>(rt, alloc)?;
+    gathered(alloc, tried)
+}
+
+/// All answers, or want of memory where one of them is that.
+fn gathered(
+    alloc: Global,
+    tried: Vec<Result<Option<Proof>, AllocError>>,
+) -> Result<Vec<Option<Proof>>, AllocError>
+    ensures { IfOk result (λ proofs. map Ok proofs.items ≡ tried.items) }
+{
+    let mut proofs = Vec::with_capacity(alloc, tried.len())?;
+    for answer in tried {
+        proofs.push(answer?)?;
+    }
+    Ok(proofs)
 }

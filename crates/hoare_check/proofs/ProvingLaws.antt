@@ -1,0 +1,55 @@
+-- What is answered of triples.
+use Rattle.std.proofs.Common.{◌≡◌, ◌↔◌, List, [], ◌∷◌, map, Option, None, Some, Result, Ok, Err, IsSome, IfSome, IfOk, Vec, Global, sym, ap, subst, ◌∙◌}
+use Rattle.std.specs.List.{AllZip}
+use Rattle.std.proofs.lemmas.Bool.{false≢true}
+use Rattle.letter_acts.specs.Acts.{Alphabet}
+use Rattle.farkas_check.specs.Nodes.{PlainNode}
+use Rattle.int_decide.specs.Worth.{IsTreeOf}
+use Rattle.triple_rows.specs.declared.triples.Triple.{Triple}
+use Rattle.triple_rows.specs.Triples.{Agrees, IsRefuted}
+use Rattle.triple_rows.specs.Proofs.{PlainProof}
+use Rattle.hoare_check.specs.Decided.{IsProofFor, MayProve, columns_of}
+use Rattle.hoare_check.proofs.CutLaws.{uncut_within}
+
+module _ (al : Alphabet) (triple : Triple) (nodes : List PlainNode) (a : Agrees al triple) (r : IsRefuted al triple nodes) (t : IsTreeOf 0 nodes) where
+  may_prove : (o : Option PlainProof) → (IsSome o ↔ IsRefuted al triple nodes) →
+      IfSome o (λ p. p ≡ record { triple = triple; refutation = nodes }) → MayProve al triple o
+  may_prove None found value = λ u. false≢true (found.1 r)
+  may_prove (Some p) found value = (
+    ap (λ (q : PlainProof). q.triple) value,
+    subst (IsProofFor al) (sym value) (record { agrees = a; over = r; within = uncut_within (columns_of al triple) nodes t }),
+  )
+
+  -- a refutation without cuts is a proof
+  pub uncut_proves : {E : Type 0} (o : Result (Option PlainProof) E) → IfOk o (λ x. IsSome x ↔ IsRefuted al triple nodes) →
+      IfOk o (λ x. IfSome x (λ p. p ≡ record { triple = triple; refutation = nodes })) → IfOk o (MayProve al triple)
+  uncut_proves (Ok x) found value = may_prove x found value
+  uncut_proves (Err e) found value = tt
+
+-- ---- all of them
+
+module _ {X Y : Type 0} (E : Type 0) (R : X → Y → Type 0) where
+  -- what holds of each answer holds of the values, where all are
+  values_of : (xs : List X) (ys : List Y) → AllZip (λ x (r : Result Y E). IfOk r (R x)) xs (map Ok ys) → AllZip R xs ys
+  values_of [] [] h = tt
+  values_of [] (y ∷ ys) h = absurd h
+  values_of (x ∷ xs) [] h = absurd h
+  values_of (x ∷ xs) (y ∷ ys) h = (h.0, values_of xs ys h.1)
+
+-- the triples of a list that is gone through in several threads
+abbrev pub triples_in : Option (Vec Triple Global) → List Triple
+triples_in None = []
+triples_in (Some v) = v.items
+
+-- each triple with its answer, where all are values
+abbrev pub AreTried : {E : Type 0} → Alphabet → List Triple → List (Result (Option PlainProof) E) → Type 0
+AreTried al triples tried = AllZip (λ t r. IfOk r (MayProve al t)) triples tried
+
+pub all_proved : {E : Type 0} (al given : Alphabet) (before now : Option (Vec Triple Global)) (triples listed : List Triple)
+    (tried answers : List (Result (Option PlainProof) E)) (proofs : List (Option PlainProof)) → given ≡ al → before ≡ now → triples_in now ≡ triples →
+    listed ≡ triples_in before → AreTried given listed tried → answers ≡ tried → map Ok proofs ≡ answers → AllZip (MayProve al) triples proofs
+all_proved {E} al given before now triples listed tried answers proofs same moved here from h said ends =
+    let places : listed ≡ triples = from ∙ ap triples_in moved ∙ here in
+    let ours : AreTried al listed tried = subst (λ (a : Alphabet). AreTried a listed tried) same h in
+    let each : AreTried al triples tried = subst (λ (ts : List Triple). AreTried al ts tried) places ours in
+    values_of E (MayProve al) triples proofs (subst (λ (rs : List (Result (Option PlainProof) E)). AreTried al triples rs) (sym (ends ∙ said)) each)
