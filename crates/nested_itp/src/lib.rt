@@ -1,0 +1,20 @@
+//! Nested interpolants: from a refutation of the rows of a word the prefix predicates of its positions, and a proved triple for
+//! each of its letters.
+#![tactic(auto)]
+
+mod claims;
+mod columns;
+mod drafts;
+mod frames;
+mod making;
+mod parts;
+mod proved;
+#[cfg(test)]
+mod tests;
+mod trees;
+mod triples;
+mod walks;
+
+pub use making::interpolants;
+pub use nested_predicates::ItpFault;
+pub use proved::Interpolants;
