@@ -1,21 +1,6 @@
 use super::*;
-use std::alloc::Global;
-use std::process::Abort;
+use std::alloc::{AllocError, Global};
 use std::test::Fail;
-
-/// The names of operators in the table, in postfix notation.
-const OPERATORS: [(&str, Op); 10] = [
-    ("+", Op::Add),
-    ("-", Op::Sub),
-    ("*", Op::Mul),
-    ("div", Op::Div),
-    ("mod", Op::Mod),
-    ("<", Op::Lt),
-    ("==", Op::Eq),
-    ("&&", Op::And),
-    ("==>", Op::Implies),
-    ("<==>", Op::Iff),
-];
 
 /// The expression in postfix notation. Each part stands in line 1, at the column that is the number of its word.
 fn expression(alloc: Global, postfix: &str) -> Result<TExpr, Fail> {
@@ -36,10 +21,33 @@ fn kind(alloc: Global, word: &str, parts: &mut Vec<TExpr>) -> Result<TExprKind, 
         return Ok(TExprKind::Bin(op, last(alloc, parts)?, right));
     }
     Ok(match word {
-        "true" => TExprKind::Truth(true),
         "old" => TExprKind::Old(last(alloc, parts)?),
         "not" => TExprKind::Not(last(alloc, parts)?),
         "neg" => TExprKind::Neg(last(alloc, parts)?),
+        _ => leaf(word)?,
+    })
+}
+
+fn operator(word: &str) -> Option<Op> {
+    match word {
+        "+" => Some(Op::Add),
+        "-" => Some(Op::Sub),
+        "*" => Some(Op::Mul),
+        "div" => Some(Op::Div),
+        "mod" => Some(Op::Mod),
+        "<" => Some(Op::Lt),
+        "==" => Some(Op::Eq),
+        "&&" => Some(Op::And),
+        "==>" => Some(Op::Implies),
+        "<==>" => Some(Op::Iff),
+        _ => None,
+    }
+}
+
+/// A truth value or a column, or else a number.
+fn leaf(word: &str) -> Result<TExprKind, Fail> {
+    Ok(match word {
+        "true" => TExprKind::Truth(true),
         "x" => TExprKind::Var(Column::Global(0)),
         "y" => TExprKind::Var(Column::Global(1)),
         "p" => TExprKind::Var(Column::Global(2)),
@@ -47,19 +55,16 @@ fn kind(alloc: Global, word: &str, parts: &mut Vec<TExpr>) -> Result<TExprKind, 
         "z" => TExprKind::Var(Column::Global(4)),
         "i" => TExprKind::Var(Column::Local(0)),
         "x@" => TExprKind::Var(Column::Old(0)),
-        "max" => TExprKind::Lit(i128::MAX),
-        "min" => TExprKind::Lit(i128::MIN),
-        _ => TExprKind::Lit(word.parse::<i128>().map_err(|_| "no number")?),
+        _ => TExprKind::Lit(number(word)?),
     })
 }
 
-fn operator(word: &str) -> Option<Op> {
-    for (spelling, op) in OPERATORS {
-        if spelling == word {
-            return Some(op);
-        }
+fn number(word: &str) -> Result<i128, Fail> {
+    match word {
+        "max" => Ok(i128::MAX),
+        "min" => Ok(i128::MIN),
+        _ => Ok(word.parse::<i128>()?),
     }
-    None
 }
 
 fn last(alloc: Global, parts: &mut Vec<TExpr>) -> Result<Box<TExpr>, Fail> {
@@ -67,17 +72,23 @@ fn last(alloc: Global, parts: &mut Vec<TExpr>) -> Result<Box<TExpr>, Fail> {
     Ok(Box::new(alloc, part)?)
 }
 
-fn variable(alloc: Global, ty: Ty, constant: bool) -> VarInfo {
-    VarInfo {
-        name: Text::new(Vec::new(alloc)),
-        ty,
-        constant,
+/// Variables without names: a letter for each, `p` for a truth value, `c` for a constant, and another for a whole number.
+fn variables(alloc: Global, letters: &[u8]) -> Result<Vec<VarInfo>, AllocError> {
+    let mut variables = Vec::new(alloc);
+    for letter in letters {
+        let ty = if *letter == b'p' { Ty::Bool } else { Ty::Int };
+        variables.push(VarInfo {
+            name: Text::new(Vec::new(alloc)),
+            ty,
+            constant: *letter == b'c',
+        })?;
     }
+    Ok(variables)
 }
 
-/// The type or the fault, and the column of the fault.
-fn shown(outcome: Result<Ty, TypeFault>) -> (&'static str, u32) {
-    match outcome {
+/// The type, or the fault and its place.
+fn outcome(found: Result<Ty, TypeFault>) -> (&'static str, u32) {
+    match found {
         Ok(Ty::Int) => ("int", 0),
         Ok(Ty::Bool) => ("bool", 0),
         Err(TypeFault::Unknown(at)) => ("Unknown", at.col),
@@ -89,115 +100,109 @@ fn shown(outcome: Result<Ty, TypeFault>) -> (&'static str, u32) {
     }
 }
 
-/// Tries the expression and its copy.
-fn assert_type(
-    rt: &impl Abort,
+/// Whether the expression and its copy have that type, or that fault at that column.
+fn has_type(
     alloc: Global,
     scope: &Scope<'_>,
-    postfix: &str,
+    expr: &TExpr,
     wanted: (&str, u32),
-) -> Result<(), Fail> {
-    let expr = expression(alloc, postfix)?;
+) -> Result<bool, AllocError> {
     let copied = expr.copy()?;
-    let first = shown(expression_type(alloc, scope, &expr));
-    let second = shown(expression_type(alloc, scope, &copied));
-    assert!(rt; first.0 == wanted.0, "{postfix}");
-    assert!(rt; first.1 == wanted.1, "{postfix}");
-    assert!(rt; second.0 == wanted.0, "{postfix}");
-    Ok(())
+    let first = outcome(expression_type(alloc, scope, expr));
+    let second = outcome(expression_type(alloc, scope, &copied));
+    Ok(first == wanted && second == wanted)
 }
 
-/// Two whole numbers x and y, a truth value p, a constant c, and a local i.
-const IN_BODIES: [(&str, &str, u32); 36] = [
-    ("x 1 +", "int", 0),
-    ("x y <", "bool", 0),
-    ("p p <", "Mismatch", 3),
-    ("p x &&", "Mismatch", 3),
-    ("x p ==", "Mismatch", 3),
-    ("p p ==", "bool", 0),
-    ("p x 0 < ==>", "bool", 0),
-    ("true p <==>", "bool", 0),
-    ("x not", "Mismatch", 2),
-    ("p not", "bool", 0),
-    ("p neg", "Mismatch", 2),
-    ("i neg", "int", 0),
-    ("x old", "int", 0),
-    ("x@", "Unknown", 1),
-    ("1 z +", "Unknown", 2),
-    // x*x has no constant factor
-    ("x x *", "NonLinear", 3),
-    ("x 2 *", "int", 0),
-    // the form of x-x is 0
-    ("x x - y *", "int", 0),
-    // at the entry x may have another value than now
-    ("x old x - y *", "NonLinear", 6),
-    ("x old x old - y *", "int", 0),
-    // for a local `old` changes nothing
-    ("i old i - y *", "int", 0),
-    // each div and mod is an atom of its own
-    ("x 2 div 3 *", "int", 0),
-    ("x 2 div y *", "NonLinear", 5),
-    ("x 2 div x 2 div - y *", "NonLinear", 9),
-    ("x 0 div", "ZeroDivisor", 2),
-    ("x 0 neg mod", "ZeroDivisor", 3),
-    ("x 2 neg mod", "int", 0),
-    ("x 2 neg neg div", "NonLinear", 4),
-    ("x y div", "NonLinear", 2),
-    ("x 1 1 + div", "NonLinear", 4),
-    ("max neg", "int", 0),
-    ("min", "TooBig", 1),
-    ("max 1 +", "TooBig", 3),
-    // the sum does not fit, though the whole is 2^127-1
-    ("max 1 + 1 -", "TooBig", 3),
-    // (2^127-1)*x + x
-    ("x max * x +", "TooBig", 5),
-    ("x max * y +", "int", 0),
-];
+/// The first row of another type or fault.
+fn first_wrong<'a>(
+    alloc: Global,
+    scope: &Scope<'_>,
+    rows: &'a str,
+) -> Result<Option<&'a str>, Fail> {
+    for row in rows.lines() {
+        let (postfix, wanted) = row.split_once(" : ").ok_or("no type")?;
+        let (name, col) = wanted.split_once(' ').unwrap_or((wanted, "0"));
+        let expr = expression(alloc, postfix)?;
+        if !has_type(alloc, scope, &expr, (name, col.parse()?))? {
+            return Ok(Some(row));
+        }
+    }
+    Ok(None)
+}
+
+/// Expressions in postfix notation over two whole numbers x and y, a truth value p, a constant c, and a local i; and the type of each, or its
+/// fault and the column of that. The product x*x has no constant factor, and that of x-x, whose form is 0, has one; at the entry x may have
+/// another value than now, while for a local `old` changes nothing. Each div and mod is an atom of its own. The sum of max and 1 does not fit,
+/// though the whole of which it is a part is 2^127-1; nor does that of max*x and x.
+const IN_BODIES: &str = "x 1 + : int
+x y < : bool
+p p < : Mismatch 3
+p x && : Mismatch 3
+x p == : Mismatch 3
+p p == : bool
+p x 0 < ==> : bool
+true p <==> : bool
+x not : Mismatch 2
+p not : bool
+p neg : Mismatch 2
+i neg : int
+x old : int
+x@ : Unknown 1
+1 z + : Unknown 2
+x x * : NonLinear 3
+x 2 * : int
+x x - y * : int
+x old x - y * : NonLinear 6
+x old x old - y * : int
+i old i - y * : int
+x 2 div 3 * : int
+x 2 div y * : NonLinear 5
+x 2 div x 2 div - y * : NonLinear 9
+x 0 div : ZeroDivisor 2
+x 0 neg mod : ZeroDivisor 3
+x 2 neg mod : int
+x 2 neg neg div : NonLinear 4
+x y div : NonLinear 2
+x 1 1 + div : NonLinear 4
+max neg : int
+min : TooBig 1
+max 1 + : TooBig 3
+max 1 + 1 - : TooBig 3
+x max * x + : TooBig 5
+x max * y + : int
+";
+
+const IN_AXIOMS: &str = "c 1 + : int
+x 1 + : Unknown 1
+i : Unknown 1
+c old : Mismatch 2
+";
 
 #[test]
 fn types_in_bodies(rt: HostRuntime) -> Result<(), Fail> {
-    let alloc = rt.alloc();
-    let globals = vec![in alloc;
-        variable(alloc, Ty::Int, false),
-        variable(alloc, Ty::Int, false),
-        variable(alloc, Ty::Bool, false),
-        variable(alloc, Ty::Int, true),
-    ]?;
-    let locals = vec![in alloc; variable(alloc, Ty::Int, false)]?;
+    let globals = variables(rt.alloc(), b"xypc")?;
+    let locals = variables(rt.alloc(), b"i")?;
     let scope = Scope {
         globals: &globals,
         variables: true,
         locals: &locals,
         old: true,
     };
-    for (postfix, name, col) in IN_BODIES {
-        assert_type(&rt, alloc, &scope, postfix, (name, col))?;
-    }
+    let wrong = first_wrong(rt.alloc(), &scope, IN_BODIES)?;
+    assert!(rt; wrong.is_none(), "{wrong:?}");
     Ok(())
 }
 
 #[test]
 fn types_in_axioms(rt: HostRuntime) -> Result<(), Fail> {
-    let alloc = rt.alloc();
-    let globals = vec![in alloc;
-        variable(alloc, Ty::Int, false),
-        variable(alloc, Ty::Int, false),
-        variable(alloc, Ty::Bool, false),
-        variable(alloc, Ty::Int, true),
-    ]?;
+    let globals = variables(rt.alloc(), b"xypc")?;
     let scope = Scope {
         globals: &globals,
         variables: false,
         locals: &[],
         old: false,
     };
-    for (postfix, name, col) in [
-        ("c 1 +", "int", 0),
-        ("x 1 +", "Unknown", 1),
-        ("i", "Unknown", 1),
-        ("c old", "Mismatch", 2),
-    ] {
-        assert_type(&rt, alloc, &scope, postfix, (name, col))?;
-    }
+    let wrong = first_wrong(rt.alloc(), &scope, IN_AXIOMS)?;
+    assert!(rt; wrong.is_none(), "{wrong:?}");
     Ok(())
 }
