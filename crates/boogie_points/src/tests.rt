@@ -273,7 +273,7 @@ fn told(action: &Action<'_>) -> (u8, u32) {
             span: _,
             cond: _,
             args: _,
-        } => (b'D', *number),
+        } => (b'Q', *number),
         Action::Write {
             targets: _,
             values: _,
@@ -385,10 +385,10 @@ fn from_entry(
 
 /// Twice into the loop and out by break, then by the first label and out of the second loop by goto.
 const THROUGH: &str =
-    "S S S C1 C2 S T P2/1 G G10 C3 C2 S T P2 J D4 K K10 R F1 P2 P2 T J D6 E2 J C7 S L";
+    "S S S C1 C2 S T P2/1 G G10 C3 C2 S T P2 J Q4 K K10 R F1 P2 P2 T J Q6 E2 J C7 S L";
 
 /// Past both loops, the second by its guard after one turn.
-const PAST: &str = "S S S C1 C2 S T/1 D4 K K10 R F1 P2 P2 T/1 C5 P2/1 D6 E2 J C7 S L";
+const PAST: &str = "S S S C1 C2 S T/1 Q4 K K10 R F1 P2 P2 T/1 C5 P2/1 Q6 E2 J C7 S L";
 
 /// The numbers of the assertions, in text order: the first assert 1, the plain invariant 2, the assert in the loop 3, the requires of the first call 4,
 /// the assert in the second loop 5, the requires of the second call 6, the plain ensures 7, and the ensures of the other procedure 8.
