@@ -22,7 +22,7 @@ const APART: &[Said] = &[(&[(0, 1)], LE, 2), (&[(0, -1)], LE, -3)];
 const NEVER: &[Said] = &[(&[], LE, -1)];
 
 /// Rows, the parts of a leaf, and whether the leaf refutes them.
-const LEAVES: [(&[Said], Parts, bool); 22] = [
+const LEAVES: [(&[Said], Parts, bool); 24] = [
     // 0 <= -1
     (APART, &[(0, 1), (1, 1)], true),
     (APART, &[(0, 2), (1, 2)], true),
