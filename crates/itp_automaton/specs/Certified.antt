@@ -1,15 +1,18 @@
 -- Automata whose states are predicates and whose edges are proved triples.
 use Rattle.std.specs.Prelude.{◌≡◌, ℕ, Bool, true, false, List, Some, length, slice_get}
+use Rattle.std.specs.List.{AllByRecursion}
 use Rattle.nwa_base.specs.declared.letters.Letter.{Letter}
 use Rattle.nwa_base.specs.Members.{Member}
 use Rattle.nwa_base.specs.Automata.{Automaton}
 use Rattle.letter_acts.specs.Acts.{Alphabet}
+use Rattle.letter_acts.specs.Feasible.{IsFeasible}
 use Rattle.triple_rows.specs.declared.triples.Scoped.{Scoped}
 use Rattle.triple_rows.specs.declared.triples.Triple.{Triple}
 use Rattle.triple_rows.specs.declared.triples.Triple.TheVariants as triples
 use Rattle.triple_rows.specs.Predicates.{truth, formula_of}
 use Rattle.triple_rows.specs.Triples.{Agrees, IsValid}
 use Rattle.triple_rows.specs.Proofs.{PlainProof, IsProofOver}
+use Rattle.hoare_check.specs.Decided.{AreCutsWithin, IsProofFor}
 
 -- predicates, which are the states; proofs of triples over them; and the automaton whose edges these are
 pub record Certificate : Type 0 where
@@ -21,7 +24,7 @@ pub record Certificate : Type 0 where
 abbrev pub IsTruthAt : List Scoped → ℕ → Bool → Type 0
 IsTruthAt preds q b = (p : Scoped) × (slice_get preds q ≡ Some p) × (formula_of p.pred ≡ truth b)
 
--- the triple agrees with its letter, is valid, and one of the proofs is of it
+-- The triple agrees with its letter, is valid, and one of the proofs is of it, with each cut at a column of the triple's system.
 pub record IsProved (al : Alphabet) (proofs : List PlainProof) (triple : Triple) : Type 0 where
   pub agrees : Agrees al triple
   pub valid : IsValid al triple
@@ -29,6 +32,7 @@ pub record IsProved (al : Alphabet) (proofs : List PlainProof) (triple : Triple)
   pub listed : Member proofs proof
   pub is : proof.triple ≡ triple
   pub over : IsProofOver al proof
+  pub within : AreCutsWithin al proof.triple proof.refutation
 
 -- the triple from state q by an inside letter to state e is proved
 pub record InsideIsProved (al : Alphabet) (c : Certificate) (q : ℕ) (a : Letter) (e : ℕ) : Type 0 where
@@ -56,11 +60,17 @@ pub record BackIsProved (al : Alphabet) (c : Certificate) (q p : ℕ) (a : Lette
   pub target : slice_get c.preds e ≡ Some after
   pub proved : IsProved al c.proofs (triples.Back exit before a.id after)
 
--- Certified: the states are the predicates, the start is true, the final states are false, and each edge is a proved triple.
+-- Certified: the states are the predicates, the proofs are for the alphabet, the start is true, the final states are false, and each edge is a
+-- proved triple.
 pub record IsCertified (al : Alphabet) (c : Certificate) : Type 0 where
   pub states : c.automaton.states ≡ length c.preds
+  pub proofs : AllByRecursion (IsProofFor al) c.proofs
   pub start : IsTruthAt c.preds c.automaton.start true
   pub finals : (q : ℕ) → Member c.automaton.finals q → IsTruthAt c.preds q false
   pub insides : (q e : ℕ) (a : Letter) → Member c.automaton.insides (q, a, e) → InsideIsProved al c q a e
   pub calls : (q e : ℕ) (a : Letter) → Member c.automaton.calls (q, a, e) → CallIsProved al c q a e
   pub backs : (q p e : ℕ) (a : Letter) → Member c.automaton.backs (q, p, a, e) → BackIsProved al c q p a e
+
+-- the word is feasible for an alphabet for which the automaton is certified
+abbrev pub IsFeasibleFor : Certificate → List Letter → Type 0
+IsFeasibleFor c w = (al : Alphabet) × IsCertified al c × IsFeasible al w

@@ -1,4 +1,25 @@
 //! Automata of predicates: certified, so that they accept no feasible word, and saturated.
 #![tactic(auto)]
 
+mod assembling;
+mod automata;
+mod building;
+mod edges;
+mod equality;
+mod faults;
 pub mod laws;
+mod letters;
+mod making;
+mod saturating;
+mod settling;
+mod sources;
+mod states;
+#[cfg(test)]
+mod tests;
+
+pub use automata::Certified;
+pub use building::{build, build_along};
+pub use faults::BuildFault;
+pub use making::certified;
+pub use saturating::saturate;
+pub use states::state_of;

@@ -1,0 +1,17 @@
+use Rattle.std.proofs.Common.{◌≡◌, ℕ, ◌<◌, length, subst, arith}
+use Rattle.itp_automaton.specs.Edges.{IsMarkedBelow}
+use Rattle.itp_automaton.proofs.StateLaws.{got_at}
+use Rattle.itp_automaton.proofs.BuiltLaws.{marked_more, marked_built}
+use Rattle.itp_automaton.proofs.assembling.begun.Goals as goal
+
+pub loop-q-preserved : goal.loop-q-preserved
+loop-q-preserved c =
+    let lt : c.loop-q.q < length c.args.states.now = omega arith in
+    marked_more c.loop-q.q c.in_ok-start.start c.args.states.now c.index-states-q.result c.loop-q.nwa c.mark.new.nwa c.loop-q.invariant
+    (got_at c.args.states.now c.loop-q.q c.index-states-q.result lt c.index-states-q.is) c.in_ok-mark.ensures
+
+pub returns-clause-built : goal.returns-clause-built
+returns-clause-built c =
+    let e : c.loop-q.q ≡ length c.args.states.now = omega arith in
+    marked_built c.args.icfg.now c.in_ok-start.start c.args.states.now c.loop-q.nwa (subst (λ (n : ℕ). IsMarkedBelow n c.in_ok-start.start c.args.states.now c.loop-q.nwa) e c.loop-q.invariant)
+    c.in_ok-start.ensures.start

@@ -1,0 +1,10 @@
+use Rattle.std.proofs.Common.{◌∙◌, ap}
+use Rattle.letter_acts.specs.Invariant.{alphabet_of}
+use Rattle.itp_automaton.proofs.EdgeLaws.{back_act_of}
+use Rattle.itp_automaton.proofs.edges.add_back.Goals as goal
+
+pub added-requires-clause-letter : goal.added-requires-clause-letter
+added-requires-clause-letter c e =
+    let act = back_act_of (alphabet_of c.args.icfg.now) c.args.letter c.args.exit.now c.args.before.now c.args.after.now c.requires.agrees in
+    let h = c.add_back.ensures.bad_letter.0 e in
+    h.3 (ap (λ l. l.kind) (c.letter_at.ensures act.0 act.1) ∙ act.2)

@@ -1,0 +1,6 @@
+use Rattle.std.proofs.Common.{◌≡◌, map, take}
+use Rattle.itp_automaton.specs.declared.sources.Source.TheVariants.{Call}
+use Rattle.itp_automaton.proofs.sources.call_sources.Given as goal
+
+abbrev pub invariant-loop-state : goal.invariant-loop-state
+invariant-loop-state l = l.sources.items ≡ map Call (take l.state-index l.states)

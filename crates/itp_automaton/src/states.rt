@@ -1,0 +1,90 @@
+//! The states: predicates, each once.
+
+ghost use Rattle.std.specs.Prelude.{◌≡◌, Some, [], IfOk, OnOk, MatchOption, slice_get};
+ghost use Rattle.nwa_base.specs.Members.{Member};
+ghost use Rattle.triple_rows.specs.Predicates.{SpellsPredicate};
+ghost use Rattle.itp_automaton.specs.Making.{truth_of, AreStates};
+ghost use Rattle.itp_automaton.specs.States.{AddsState};
+
+use crate::equality::is_same;
+use std::alloc::{AllocError, Global};
+use triple_rows::{PredNode, Scoped, pred};
+
+/// The state that is the predicate.
+pub fn state_of(states: &[Scoped], pred: &Scoped) -> Option<usize>
+    ensures { MatchOption result (Member states.now pred.now → ⊥) (λ q. (slice_get states.now q ≡ Some pred.now) × SpellsPredicate pred.now.pred) }
+{
+    for (q, state) in states.iter().enumerate() {
+        if is_same(state, pred) {
+            return Some(q);
+        }
+    }
+    None
+}
+
+/// The number of that state.
+pub(crate) fn state_number(states: &[Scoped], pred: &Scoped) -> Result<Option<u32>, AllocError>
+    ensures { IfOk result (λ o. MatchOption o (Member states.now pred.now → ⊥) (λ q. (slice_get states.now q ≡ Some pred.now) × SpellsPredicate pred.now.pred)) }
+{
+    match state_of(states, pred) {
+        None => Ok(None),
+        Some(q) => match u32::try_from(q) {
+            Ok(number) => Ok(Some(number)),
+            Err(_) => Err(AllocError),
+        },
+    }
+}
+
+/// Adds a predicate, unless it is there.
+fn add_state(states: &mut Vec<Scoped>, state: Scoped) -> Result<(), AllocError>
+    ensures { OnOk result (AddsState states.old.items state states.new.items) }
+{
+    match state_of(states, &state) {
+        Some(_) => Ok(()),
+        None => {
+            states.push(state)?;
+            Ok(())
+        }
+    }
+}
+
+/// True, or false, of a procedure.
+pub(crate) fn truth(alloc: Global, proc: u32, value: bool) -> Result<Scoped, AllocError>
+    ensures { IfOk result (λ s. s ≡ truth_of proc value) }
+{
+    let nodes = vec![in alloc; PredNode::Truth(value)]?;
+    let Some(pred) = pred(nodes) else {
+        unreachable!()
+    };
+    Ok(Scoped { proc, pred })
+}
+
+/// True and false of so many procedures.
+fn truths(alloc: Global, procedures: usize) -> Result<Vec<Scoped>, AllocError>
+    ensures { IfOk result (λ states. AreStates procedures [] states.items) }
+{
+    let Ok(count) = u32::try_from(procedures) else {
+        return Err(AllocError);
+    };
+    let mut states = Vec::new(alloc);
+    for proc in 0..count {
+        add_state(&mut states, truth(alloc, proc, true)?)?;
+        add_state(&mut states, truth(alloc, proc, false)?)?;
+    }
+    Ok(states)
+}
+
+/// True and false of so many procedures and the predicates of the list, each once.
+pub(crate) fn states_with(
+    alloc: Global,
+    procedures: usize,
+    preds: Vec<Scoped>,
+) -> Result<Vec<Scoped>, AllocError>
+    ensures { IfOk result (λ states. AreStates procedures preds.items states.items) }
+{
+    let mut states = truths(alloc, procedures)?;
+    for pred in preds {
+        add_state(&mut states, pred)?;
+    }
+    Ok(states)
+}
