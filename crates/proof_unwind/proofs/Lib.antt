@@ -1,0 +1,11 @@
+mod GrowingLaws
+mod ExploringLaws
+mod OpeningLaws
+mod FollowingLaws
+mod SteppingLaws
+mod SpotLaws
+mod LoopLaws
+mod StageLaws
+mod OpenedLaws
+mod ImageLaws
+mod OrderLaws

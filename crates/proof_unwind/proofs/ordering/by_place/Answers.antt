@@ -1,0 +1,42 @@
+use Rattle.std.proofs.Common.{◌≡◌, List, Some, subst, sym}
+use Rattle.std.specs.Prelude.{slice_get}
+use Rattle.proof_names.specs.Outlines.{Node}
+use Rattle.proof_unwind.specs.declared.spots.Spot.{Spot}
+use Rattle.proof_unwind.specs.Unwindings.{bare}
+use Rattle.proof_unwind.specs.Spots.{nodes_of}
+use Rattle.proof_unwind.proofs.ImageLaws.{exploring_renumbered, opened_renumbered}
+use Rattle.proof_unwind.proofs.OrderLaws.{IsOrdered, ordered, place_first}
+use Rattle.proof_unwind.proofs.ordering.by_place.Goals as goal
+
+pub placed-requires-clause-first : goal.placed-requires-clause-first
+placed-requires-clause-first c =
+    place_first (nodes_of c.deref.result.now) (subst (λ (l : List Spot). slice_get (nodes_of l) 0 ≡ Some bare) (sym c.deref.ensures.value) c.requires.first)
+
+pub returns-clause-exploring : goal.returns-clause-exploring
+returns-clause-exploring c =
+    let nodes : List Node = nodes_of c.args.found.now.nodes.items in
+    let new : List Node = nodes_of c.in_ok-nodes.nodes.items in
+    let o : IsOrdered nodes new c.args.found.now.steps c.in_ok-steps.steps =
+    ordered c.args.found.now.nodes.items c.deref.result.now c.deref-3.result.now c.in_ok-order.order.items c.deref-2.result.now c.deref-4.result.now c.in_ok-ranks.ranks.items
+    c.deref-5.result.now c.deref-6.result.now new c.args.found.now.steps c.in_ok-steps.steps c.deref.ensures.value c.deref-2.ensures.value c.deref-3.ensures.value c.deref-4.ensures.value
+    c.deref-5.ensures.value c.deref-6.ensures.value c.in_ok-order.ensures c.in_ok-ranks.ensures c.in_ok-nodes.ensures c.in_ok-steps.ensures c.requires.first in
+    λ m b x. exploring_renumbered m b nodes new o.number c.args.found.now.steps c.in_ok-steps.steps o.renumbered o.moved x
+
+pub returns-clause-opened : goal.returns-clause-opened
+returns-clause-opened c =
+    let nodes : List Node = nodes_of c.args.found.now.nodes.items in
+    let new : List Node = nodes_of c.in_ok-nodes.nodes.items in
+    let o : IsOrdered nodes new c.args.found.now.steps c.in_ok-steps.steps =
+    ordered c.args.found.now.nodes.items c.deref.result.now c.deref-3.result.now c.in_ok-order.order.items c.deref-2.result.now c.deref-4.result.now c.in_ok-ranks.ranks.items
+    c.deref-5.result.now c.deref-6.result.now new c.args.found.now.steps c.in_ok-steps.steps c.deref.ensures.value c.deref-2.ensures.value c.deref-3.ensures.value c.deref-4.ensures.value
+    c.deref-5.ensures.value c.deref-6.ensures.value c.in_ok-order.ensures c.in_ok-ranks.ensures c.in_ok-nodes.ensures c.in_ok-steps.ensures c.requires.first in
+    λ m b x v. opened_renumbered m b nodes new o.number c.args.found.now.steps c.in_ok-steps.steps o.renumbered o.moved x v
+
+pub returns-clause-ascend : goal.returns-clause-ascend
+returns-clause-ascend c =
+    let nodes : List Node = nodes_of c.args.found.now.nodes.items in
+    let new : List Node = nodes_of c.in_ok-nodes.nodes.items in
+    let o : IsOrdered nodes new c.args.found.now.steps c.in_ok-steps.steps =
+    ordered c.args.found.now.nodes.items c.deref.result.now c.deref-3.result.now c.in_ok-order.order.items c.deref-2.result.now c.deref-4.result.now c.in_ok-ranks.ranks.items
+    c.deref-5.result.now c.deref-6.result.now new c.args.found.now.steps c.in_ok-steps.steps c.deref.ensures.value c.deref-2.ensures.value c.deref-3.ensures.value c.deref-4.ensures.value
+    c.deref-5.ensures.value c.deref-6.ensures.value c.in_ok-order.ensures c.in_ok-ranks.ensures c.in_ok-nodes.ensures c.in_ok-steps.ensures c.requires.first in o.ascend
