@@ -1,3 +1,10 @@
 mod WordLaws
 mod ScopeLaws
 mod ProvingLaws
+mod ListLaws
+mod NumberLaws
+mod EdgeLaws
+mod UnionLaws
+mod TripleLaws
+mod SpreadLaws
+mod BuildLaws

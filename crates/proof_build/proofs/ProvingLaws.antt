@@ -29,8 +29,9 @@ use Rattle.proof_spell.specs.Drafts.{PlainShown, MayBeShown}
 use Rattle.proof_spell.specs.Spelled.{IsOutlined, Outlines}
 use Rattle.proof_check.specs.Steps.{IsNode, IsOpen, Lists, InsideIsSound, CallIsSound, BackIsSound, StepIsSound, ReturnIsSound, IsSound, BacksTo, HasSteps, HasBacks}
 use Rattle.proof_check.specs.Proves.{IsRefutedBy, IsShown, HasStart, HasStartIn, ErrorIsFalse, Proves}
-use Rattle.proof_build.specs.Unwindings.{Unwinding, node_at, place_of, entry_of, step_of, back_of, steps_of, draft_of, HasTriple}
-use Rattle.proof_build.specs.Unwound.{bare, AreCovering, IsUnwound}
+use Rattle.proof_unwind.specs.Unwindings.{node_at, place_of, entry_of, bare}
+use Rattle.proof_build.specs.Unwindings.{Unwinding, step_of, back_of, steps_of, draft_of, HasTriple}
+use Rattle.proof_build.specs.Unwound.{AreCovering, IsUnwound}
 use Rattle.proof_build.proofs.WordLaws.{node_is, node_there, error_has_false}
 use Rattle.proof_build.proofs.ScopeLaws.{all_of_member, back_kind, first_is}
 

@@ -25,8 +25,9 @@ use Rattle.proof_names.specs.Outlines.{Node}
 use Rattle.proof_spell.specs.Drafts as drafts
 use Rattle.proof_spell.specs.Drafts.{PlainShown, MayBeShown, MayStand, IsEntryOf, MayBeSpelled, AscendFrom}
 use Rattle.proof_check.proofs.NamedLaws.{inside_two, call_two, back_three}
-use Rattle.proof_build.specs.Unwindings.{Unwinding, node_at, place_of, entry_of, step_of, back_of, steps_of, draft_of}
-use Rattle.proof_build.specs.Unwound.{bare, IsUnwound}
+use Rattle.proof_unwind.specs.Unwindings.{node_at, place_of, entry_of, bare}
+use Rattle.proof_build.specs.Unwindings.{Unwinding, step_of, back_of, steps_of, draft_of}
+use Rattle.proof_build.specs.Unwound.{IsUnwound}
 use Rattle.proof_build.proofs.WordLaws.{node_is, node_there, kept_everywhere}
 
 pub all_of_member : {X : Type 0} (P : X → Type 0) (xs : List X) (x : X) → AllByRecursion P xs → Member xs x → P x
@@ -34,11 +35,11 @@ all_of_member P [] x h m = absurd m
 all_of_member P (y ∷ xs) x h (inl e) = subst P e h.0
 all_of_member P (y ∷ xs) x h (inr m) = all_of_member P xs x h.1 m
 
-all_from_members : {X : Type 0} (P : X → Type 0) (xs : List X) → ((x : X) → Member xs x → P x) → AllByRecursion P xs
+pub all_from_members : {X : Type 0} (P : X → Type 0) (xs : List X) → ((x : X) → Member xs x → P x) → AllByRecursion P xs
 all_from_members P [] h = tt
 all_from_members P (x ∷ xs) h = (h x (inl refl), all_from_members P xs (λ y m. h y (inr m)))
 
-same_proc : (procs : List ℕ) (p q place : ℕ) → IsPlaceOf procs p place → IsPlaceOf procs q place → p ≡ q
+pub same_proc : (procs : List ℕ) (p q place : ℕ) → IsPlaceOf procs p place → IsPlaceOf procs q place → p ≡ q
 same_proc procs p q place a b = cc
 
 -- ---- the places of procedures with bodies
@@ -68,10 +69,10 @@ exit_at procs p zero q e (o ∷ es) (x ∷ xs) i h s =
     exit_belongs procs o e q (subst (λ (n : ℕ). HasBody procs n o (Some e)) b (subst (λ (r : Option ℕ). HasBody procs p o r) a h.0))
 exit_at procs p (suc k) q e (o ∷ es) (x ∷ xs) i h s = exit_at procs (suc p) k q e es xs (omega arith) h.1 s
 
-call_ends : (g : Graph) (q e : ℕ) (a : Letter) → IsGraph g → (k : CallKnown g q a e) → IsPlaceOf g.place_procs k.callee e
+pub call_ends : (g : Graph) (q e : ℕ) (a : Letter) → IsGraph g → (k : CallKnown g q a e) → IsPlaceOf g.place_procs k.callee e
 call_ends g q e a i k = entry_at g.place_procs 0 k.callee k.callee e g.entries g.exits (omega arith) i.procedures.bodies k.enters
 
-back_leaves : (g : Graph) (q p e : ℕ) (r : Letter) → IsGraph g → (k : BackKnown g q p r e) → IsPlaceOf g.place_procs k.callee q
+pub back_leaves : (g : Graph) (q p e : ℕ) (r : Letter) → IsGraph g → (k : BackKnown g q p r e) → IsPlaceOf g.place_procs k.callee q
 back_leaves g q p e r i k = exit_at g.place_procs 0 k.callee k.callee q g.entries g.exits (omega arith) i.procedures.bodies k.leaves
 
 pub back_kind : (m : Automaton) (q p e : ℕ) (r : Letter) → IsAutomaton m → Member m.backs (q, p, r, e) → r.kind ≡ kinds.Back

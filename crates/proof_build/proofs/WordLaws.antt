@@ -12,7 +12,7 @@ use Rattle.nwa_base.proofs.WayLemmas.{moves_join, moves_below}
 use Rattle.proof_names.specs.Outlines.{Node}
 use Rattle.proof_spell.specs.Correspond.{Correspond}
 use Rattle.proof_check.specs.Steps.{IsOf, IsOpen}
-use Rattle.proof_build.specs.Unwindings.{node_at, place_of, IsAlong, IsReached, IsPart, Claims, Spreads}
+use Rattle.proof_unwind.specs.Unwindings.{node_at, place_of, IsAlong, IsReached, IsPart, Claims, Spreads}
 use Rattle.proof_build.specs.Unwound.{AreCovering}
 
 -- ---- nodes by number

@@ -1,22 +1,18 @@
 -- When an unwinding of a graph, by automata that accept all its error words, is one that an annotation may say.
-use Rattle.std.specs.Prelude.{◌≡◌, ℕ, ◌<◌, List, [], length, Some, slice_get}
+use Rattle.std.specs.Prelude.{◌≡◌, ℕ, ◌<◌, List, length, Some, slice_get}
 use Rattle.std.specs.List.{AllByRecursion}
 use Rattle.nwa_base.specs.declared.letters.Letter.{Letter}
 use Rattle.nwa_base.specs.Members.{Member}
 use Rattle.nwa_base.specs.Automata.{Automaton}
 use Rattle.nwa_base.specs.Acceptance.{Accepts}
 use Rattle.letter_acts.specs.Invariant.{Graph}
-use Rattle.proof_names.specs.Outlines.{Node}
 use Rattle.proof_spell.specs.Drafts.{MayBeNamed, MayBeShown, AscendFrom}
-use Rattle.proof_build.specs.Unwindings.{Unwinding, node_at, entry_of, IsAlong, IsClosed, IsShown, IsReached, IsPart, Spreads}
+use Rattle.proof_unwind.specs.Unwindings.{node_at, entry_of, bare, IsAlong, IsClosed, IsReached, IsPart, Spreads}
+use Rattle.proof_build.specs.Unwindings.{Unwinding, IsShown}
 
 -- each word that the automaton accepts is accepted by one of these
 abbrev pub AreCovering : Automaton → List Automaton → Type 0
 AreCovering m bs = (w : List Letter) → Accepts m w → (b : Automaton) × Member bs b × Accepts b w
-
--- the first node is an entry node at place 0 without predicates
-abbrev pub bare : Node
-bare = record { place = 0; entry = 0; preds = [] }
 
 -- Its nodes begin with that of place 0, its steps follow edges and show the predicates of their ends, all steps that are due are there, and
 -- each node is reached by steps over which the predicates of each automaton spread.

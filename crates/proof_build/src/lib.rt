@@ -1,4 +1,12 @@
-//! Annotations from certified automata: what unwindings of a graph are worth.
+//! Annotations from certified automata: an unwinding of the graph by predicates, and what unwindings are worth.
 #![tactic(auto)]
 
+mod building;
 pub mod laws;
+mod listing;
+mod numbers;
+mod spots;
+mod triples;
+mod unions;
+
+pub use building::build;

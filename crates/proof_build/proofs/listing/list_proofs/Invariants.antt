@@ -1,0 +1,9 @@
+use Rattle.std.proofs.Common.{take}
+use Rattle.proof_build.specs.Numbering.{AreNumbered, ListsMore}
+use Rattle.proof_build.proofs.listing.list_proofs.Given as goal
+
+abbrev pub invariant-loop-proof : goal.invariant-loop-proof
+invariant-loop-proof l = record {
+  more : ListsMore l.icfg l.initial.preds.items l.preds.items;
+  numbered : AreNumbered l.icfg l.preds.items (take l.proof-index l.proofs);
+}

@@ -1,0 +1,8 @@
+use Rattle.std.proofs.Common.{◌≡◌, ◌++◌, take}
+use Rattle.std.specs.List.{filter_map}
+use Rattle.proof_build.specs.Numbering.{number_at}
+use Rattle.proof_build.specs.Unions.{numbered}
+use Rattle.proof_build.proofs.unions.add_insides.Given as goal
+
+abbrev pub invariant-loop-edge : goal.invariant-loop-edge
+invariant-loop-edge l = l.union ≡ record l.initial.union { insides = l.initial.union.insides ++ filter_map (numbered (number_at l.numbers)) (take l.edge-index l.edges) }

@@ -1,0 +1,72 @@
+//! The annotation of a safe verdict.
+
+ghost use Rattle.std.specs.Prelude.{◌≡◌, [], IfOk, map};
+ghost use Rattle.std.specs.List.{AllByRecursion};
+ghost use Rattle.letter_acts.specs.Invariant.{alphabet_of};
+ghost use Rattle.itp_automaton.specs.Certified.{IsCertified};
+ghost use Rattle.proof_names.specs.Items.{Names};
+ghost use Rattle.proof_names.specs.Outlines.{Sketch};
+ghost use Rattle.proof_spell.specs.Drafts.{MayBeSpelled};
+ghost use Rattle.proof_spell.specs.Spelled.{Outlines, Spells};
+ghost use Rattle.proof_check.specs.Proves.{Proves};
+ghost use Rattle.proof_build.specs.Numbering.{StartHasBody};
+ghost use Rattle.proof_build.specs.Unwindings.{draft_of};
+ghost use Rattle.proof_build.specs.Unwound.{AreCovering};
+ghost use Rattle.proof_build.specs.Built.{unwinding_of, IsUnwoundBy};
+
+use crate::listing::listed_preds;
+use crate::spots::{named_nodes, named_steps};
+use crate::triples::triples_of;
+use crate::unions::union_of;
+use itp_automaton::Certified;
+use letter_acts::Icfg;
+use proof_form::Annotation;
+use proof_spell::{Shown, spell};
+use proof_unwind::{Unwound, unwind};
+use std::alloc::{AllocError, Global};
+use triple_rows::Scoped;
+
+/// The graph unwound by the union of the automata.
+fn unwound_by(
+    alloc: Global,
+    icfg: &Icfg,
+    preds: &[Scoped],
+    automata: &[&Certified],
+) -> Result<Unwound, AllocError>
+    ensures { IfOk result (IsUnwoundBy icfg.now preds.now (map (λ c. c.now) automata.now)) }
+{
+    prove!(icfg.nwa().start() < icfg.nwa().states());
+    let union = union_of(alloc, preds, automata)?;
+    unwind(alloc, icfg.nwa(), &union)
+}
+
+/// The annotation of predicates, triples, nodes and steps.
+fn spelled(
+    alloc: Global,
+    icfg: &Icfg,
+    preds: &[Scoped],
+    triples: &[Shown<'_>],
+    unwound: &Unwound,
+) -> Result<Annotation, AllocError>
+    requires { MayBeSpelled icfg.now (draft_of (unwinding_of preds.now triples.now unwound.now)) }
+    ensures spells { IfOk result (λ a. Spells icfg.now a (draft_of (unwinding_of preds.now triples.now unwound.now))) }
+    ensures names { IfOk result (λ a. (s : Sketch) × Names icfg.now a s × Outlines icfg.now s (draft_of (unwinding_of preds.now triples.now unwound.now))) }
+{
+    let nodes = named_nodes(alloc, &unwound.nodes)?;
+    let steps = named_steps(alloc, &unwound.steps)?;
+    spell(alloc, icfg, preds, triples, &nodes, &steps)
+}
+
+/// The annotation that the automata make, which `check` accepts.
+pub fn build(alloc: Global, icfg: &Icfg, automata: &[&Certified]) -> Result<Annotation, AllocError>
+    requires certified { AllByRecursion (IsCertified (alphabet_of icfg.now)) (map (λ c. c.now) automata.now) }
+    requires covering { AreCovering icfg.now.automaton (map (λ c. c.now.automaton) automata.now) }
+    requires body { StartHasBody icfg.now }
+    ensures proves { IfOk result (Proves icfg.now) }
+    ensures none { IfOk result (λ a. automata.now ≡ [] → (a.preds ≡ []) × (a.triples ≡ [])) }
+{
+    let preds = listed_preds(alloc, icfg, automata)?;
+    let triples = triples_of(alloc, &preds, automata)?;
+    let unwound = unwound_by(alloc, icfg, &preds, automata)?;
+    spelled(alloc, icfg, &preds, &triples, &unwound)
+}

@@ -1,0 +1,125 @@
+//! The triples of proofs, by the numbers of their predicates.
+
+ghost use Rattle.std.specs.Prelude.{IfOk, map};
+ghost use Rattle.triple_rows.specs.declared.triples.Triple.TheVariants as triples;
+ghost use Rattle.proof_spell.specs.Drafts.{plain};
+ghost use Rattle.proof_build.specs.Listing.{AreItsNumbers, Shows, AreTriplesOf};
+
+use crate::numbers::number_of;
+use itp_automaton::Certified;
+use proof_names::Listed;
+use proof_spell::Shown;
+use std::alloc::{AllocError, Global};
+use triple_rows::{Proof, Scoped, Triple};
+
+/// The numbers of an inside triple, if its predicates have numbers.
+fn listed_inside(
+    preds: &[Scoped],
+    from: &Scoped,
+    letter: u32,
+    to: &Scoped,
+) -> Result<Option<Listed>, AllocError>
+    ensures { IfOk result (AreItsNumbers preds.now (triples.Inside from.now letter to.now)) }
+{
+    let (Some(from), Some(to)) = (number_of(preds, from)?, number_of(preds, to)?) else {
+        return Ok(None);
+    };
+    Ok(Some(Listed::Inside {
+        from: from as usize,
+        letter,
+        to: to as usize,
+    }))
+}
+
+/// The numbers of a call triple, if its predicates have numbers.
+fn listed_call(
+    preds: &[Scoped],
+    from: &Scoped,
+    letter: u32,
+    to: &Scoped,
+) -> Result<Option<Listed>, AllocError>
+    ensures { IfOk result (AreItsNumbers preds.now (triples.Call from.now letter to.now)) }
+{
+    let (Some(from), Some(to)) = (number_of(preds, from)?, number_of(preds, to)?) else {
+        return Ok(None);
+    };
+    Ok(Some(Listed::Call {
+        from: from as usize,
+        letter,
+        to: to as usize,
+    }))
+}
+
+/// The numbers of a return triple, if its predicates have numbers.
+fn listed_back(
+    preds: &[Scoped],
+    exit: &Scoped,
+    before: &Scoped,
+    letter: u32,
+    to: &Scoped,
+) -> Result<Option<Listed>, AllocError>
+    ensures { IfOk result (AreItsNumbers preds.now (triples.Back exit.now before.now letter to.now)) }
+{
+    let (Some(exit), Some(before)) = (number_of(preds, exit)?, number_of(preds, before)?) else {
+        return Ok(None);
+    };
+    let Some(to) = number_of(preds, to)? else {
+        return Ok(None);
+    };
+    Ok(Some(Listed::Back {
+        exit: exit as usize,
+        before: before as usize,
+        letter,
+        to: to as usize,
+    }))
+}
+
+/// The numbers of a triple, if its predicates have numbers.
+fn listed(preds: &[Scoped], triple: &Triple) -> Result<Option<Listed>, AllocError>
+    ensures { IfOk result (AreItsNumbers preds.now triple.now) }
+{
+    match triple {
+        Triple::Inside { from, letter, to } => listed_inside(preds, from, *letter, to),
+        Triple::Call { from, letter, to } => listed_call(preds, from, *letter, to),
+        Triple::Back {
+            exit,
+            before,
+            letter,
+            to,
+        } => listed_back(preds, exit, before, *letter, to),
+    }
+}
+
+/// The triples and those of the proofs, each with its refutation.
+fn with_proofs<'a>(
+    preds: &[Scoped],
+    mut triples: Vec<Shown<'a>>,
+    proofs: &'a [Proof],
+) -> Result<Vec<Shown<'a>>, AllocError>
+    ensures { IfOk result (λ v. Shows preds.now proofs.now (map plain triples.entry.items) (map plain v.items)) }
+{
+    for proof in proofs {
+        if let Some(listed) = listed(preds, proof.triple())? {
+            triples.push(Shown {
+                listed,
+                proof: proof.refutation(),
+            })?;
+        }
+    }
+    Ok(triples)
+}
+
+/// The triples of all proofs whose predicates have numbers.
+pub(crate) fn triples_of<'a>(
+    alloc: Global,
+    preds: &[Scoped],
+    automata: &[&'a Certified],
+) -> Result<Vec<Shown<'a>>, AllocError>
+    ensures { IfOk result (λ v. AreTriplesOf preds.now (map (λ c. c.now) automata.now) (map plain v.items)) }
+{
+    let mut triples = Vec::new(alloc);
+    for automaton in automata {
+        triples = with_proofs(preds, triples, automaton.proofs())?;
+    }
+    Ok(triples)
+}
