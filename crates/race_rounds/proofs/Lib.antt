@@ -1,0 +1,5 @@
+pub mod TreeCuts
+pub mod NoPoints
+pub mod Published
+pub mod Says
+pub mod Turns

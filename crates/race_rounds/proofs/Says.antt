@@ -1,0 +1,48 @@
+-- What is found of a word by way of its graph, said of the program.
+use Rattle.std.proofs.Common.{◌≡◌, ℕ, ℤ, List, refl, sym, subst, ◌∙◌}
+use Rattle.std.specs.List.{AllByRecursion}
+use Rattle.math_facts.specs.Fits.{Fits}
+use Rattle.lin_rows.specs.Points.{point_of}
+use Rattle.farkas_check.specs.Nodes.{PlainNode}
+use Rattle.int_decide.specs.Decisions.{refuted, whole, gap}
+use Rattle.nwa_base.specs.declared.letters.Letter.{Letter}
+use Rattle.letter_acts.specs.Feasible.{IsFeasible}
+use Rattle.letter_acts.specs.Invariant.{Graph, alphabet_of}
+use Rattle.typed_tree.specs.TypedTree.{TypedProgram}
+use Rattle.lowered_graph.specs.Lowered.{lowered}
+use Rattle.path_decide.specs.Decided.{RefutesPath, path_decision, PathFits}
+use Rattle.trace_replay.specs.ToldRuns.{ToldPasses, IsToldFault}
+use Rattle.trace_replay.specs.declared.causes.ReplayCause.{ReplayCause}
+use Rattle.trace_replay.specs.declared.causes.ReplayCause.TheVariants as causes
+use Rattle.trace_replay.specs.declared.causes.ReplayFault.TheVariants.{At}
+use Rattle.race_core.specs.declared.ends.Cause.TheVariants.{Rounds, Whole, Number}
+use Rattle.race_core.specs.declared.ends.End.TheVariants.{Unknown}
+use Rattle.itp_automaton.specs.Certified.{Certificate}
+use Rattle.race_rounds.specs.Ends.{Options, NumberPasses, of_decide, of_predicates, of_run, SaysOfWord}
+use Rattle.race_rounds.specs.Rounds.{IsEvidence}
+
+pub decide_passes : (t : TypedProgram) (g : Graph) (d depth : ℕ) (w : List Letter) → g ≡ lowered t → d ≡ depth → (PathFits g depth w → ⊥) → NumberPasses t d w
+decide_passes t g d depth w e s n =
+    of_decide (subst (λ (x : ℕ). PathFits (lowered t) x w → ⊥) (sym s) (subst (λ (x : Graph). PathFits x depth w → ⊥) e n))
+
+pub predicates_pass : (t : TypedProgram) (g : Graph) (d depth : ℕ) (w : List Letter) (nodes : List PlainNode) → g ≡ lowered t → d ≡ depth →
+    path_decision g depth w ≡ refuted nodes → NumberPasses t d w
+predicates_pass t g d depth w nodes e s p =
+    of_predicates nodes (subst (λ (x : ℕ). path_decision (lowered t) x w ≡ refuted nodes) (sym s) (subst (λ (x : Graph). path_decision x depth w ≡ refuted nodes) e p))
+
+pub told_passes : (t : TypedProgram) (point : ℕ → ℤ) (w : List Letter) (step : ℕ) (cause : ReplayCause) → IsToldFault t point w (At step cause) → ToldPasses t point w step
+told_passes t point w step causes.Blocked h = absurd h
+told_passes t point w step causes.Ended h = absurd h
+told_passes t point w step causes.Short h = absurd h
+told_passes t point w step causes.Number h = h
+told_passes t point w step causes.BadChoice h = absurd h
+
+pub run_passes : (t : TypedProgram) (g : Graph) (d depth : ℕ) (w : List Letter) (values : List ℤ) (step : ℕ) → g ≡ lowered t → d ≡ depth →
+    path_decision g depth w ≡ whole values → ToldPasses t (point_of values) w step → NumberPasses t d w
+run_passes t g d depth w values step e s p h =
+    of_run values step (subst (λ (x : ℕ). path_decision (lowered t) x w ≡ whole values) (sym s) (subst (λ (x : Graph). path_decision x depth w ≡ whole values) e p)) h
+
+pub rounds_say : (t : TypedProgram) (g : Graph) (o : Options) (n : ℕ) (v w : List Letter) (nodes : List PlainNode) → g ≡ lowered t → v ≡ w → n ≡ o.rounds →
+    RefutesPath g v nodes → SaysOfWord t o n w (Unknown Rounds w)
+rounds_say t g o n v w nodes e s r h =
+    (refl, (r, (nodes, subst (λ (x : List Letter). RefutesPath (lowered t) x nodes) s (subst (λ (x : Graph). RefutesPath x v nodes) e h))))

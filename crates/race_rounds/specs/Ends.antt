@@ -1,0 +1,75 @@
+-- What an end of a race has to meet, over the program, the options and the history.
+use Rattle.std.specs.Prelude.{◌≡◌, ℕ, ℤ, List, Option, length}
+use Rattle.std.specs.List.{AllByRecursion}
+use Rattle.math_facts.specs.Fits.{Fits}
+use Rattle.lin_rows.specs.Points.{point_of}
+use Rattle.farkas_check.specs.Nodes.{PlainNode}
+use Rattle.int_decide.specs.Decisions.{refuted, whole, gap}
+use Rattle.nwa_base.specs.declared.letters.Letter.{Letter}
+use Rattle.nwa_base.specs.Automata.{Automaton}
+use Rattle.nwa_base.specs.Acceptance.{Accepts}
+use Rattle.letter_acts.specs.Feasible.{IsFeasible}
+use Rattle.letter_acts.specs.Invariant.{alphabet_of}
+use Rattle.typed_tree.specs.TypedTree.{TypedProgram}
+use Rattle.lowered_graph.specs.Lowered.{lowered}
+use Rattle.path_decide.specs.Decided.{RefutesPath, path_decision, PathFits}
+use Rattle.lowered_choices.specs.Choices.{FailsAtLast}
+use Rattle.trace_replay.specs.Replays.{choices_among, Replays}
+use Rattle.trace_replay.specs.ToldRuns.{ToldPasses}
+use Rattle.race_core.specs.declared.ends.Cause.{Cause}
+use Rattle.race_core.specs.declared.ends.Cause.TheVariants.{Rounds, Whole, Number}
+use Rattle.race_core.specs.declared.ends.End.{End}
+use Rattle.race_core.specs.declared.ends.End.TheVariants.{Safe, Unsafe, Unknown}
+use Rattle.race_core.specs.declared.events.Entry.{Entry}
+use Rattle.race_core.specs.Histories.{Removed}
+
+-- how long the history may be, and how many cuts a branch of Decide may have
+pub record Options : Type 0 where
+  pub rounds : ℕ
+  pub depth : ℕ
+
+-- ---- what is known of a word
+
+-- The run whose steps take these values and choices, one after another, fails an assertion with the last of them and not before, and the assertion
+-- is the one at which the choices replay.
+pub record FailsAfter (t : TypedProgram) (steps : ℕ) (choices : List ℤ) : Type 0 where
+  pub assertion : ℕ
+  pub taken : List (Option ℤ)
+  pub many : length taken ≡ steps
+  pub used : choices_among taken ≡ choices
+  pub fails : FailsAtLast t taken assertion
+  pub replays : Replays t steps choices assertion
+  pub fit : AllByRecursion Fits choices
+
+-- A number that does not fit: one of Decide on the rows of the word; one of the prefix predicates, or of the refutations of their triples, under
+-- Decide's own refutation, of which this says only that there is one; or a value of the run that Decide's point and an accepting run tell.
+pub data NumberPasses (t : TypedProgram) (depth : ℕ) (w : List Letter) : Type 0 where
+  of_decide : (PathFits (lowered t) depth w → ⊥) → NumberPasses t depth w
+  of_predicates : (nodes : List PlainNode) → path_decision (lowered t) depth w ≡ refuted nodes → NumberPasses t depth w
+  of_run : (values : List ℤ) (step : ℕ) → path_decision (lowered t) depth w ≡ whole values → ToldPasses t (point_of values) w step →
+      NumberPasses t depth w
+
+-- why nothing is known of a word, where the history has n entries
+abbrev pub CauseMeets : TypedProgram → Options → ℕ → Cause → List Letter → Type 0
+CauseMeets t o n Rounds w = (n ≡ o.rounds) × ((nodes : List PlainNode) × RefutesPath (lowered t) w nodes)
+CauseMeets t o n Whole w = path_decision (lowered t) o.depth w ≡ gap
+CauseMeets t o n Number w = NumberPasses t o.depth w
+
+-- what an end says of its word: it is feasible, and a run fails; or why nothing is known of it
+abbrev pub SaysOfWord : TypedProgram → Options → ℕ → List Letter → End → Type 0
+SaysOfWord t o n w Safe = ⊥
+SaysOfWord t o n w (Unsafe v steps choices) = (v ≡ w) × IsFeasible (alphabet_of (lowered t)) w × FailsAfter t steps choices.items
+SaysOfWord t o n w (Unknown cause v) = (v ≡ w) × CauseMeets t o n cause w
+
+-- ---- over a history
+
+module _ {E : Type 0} (automaton : E → Automaton) where
+  -- the word is one of the program, and no automaton of the history accepts it
+  pub record IsKept (program : Automaton) (h : List (Entry E)) (w : List Letter) : Type 0 where
+    pub error : Accepts program w
+    pub left : Removed automaton h w → ⊥
+
+  -- What an end has to meet: where it is Safe no word is kept; otherwise its word is, and the end says so much of it.
+  pub data EndMeets (t : TypedProgram) (o : Options) (h : List (Entry E)) (e : End) : Type 0 where
+    no_word : e ≡ Safe → ((w : List Letter) → IsKept (lowered t).automaton h w → ⊥) → EndMeets t o h e
+    one_word : (w : List Letter) → IsKept (lowered t).automaton h w → SaysOfWord t o (length h) w e → EndMeets t o h e

@@ -1,0 +1,58 @@
+-- What a round makes of a kept word, and of the state of a race.
+use Rattle.std.specs.Prelude.{◌≡◌, ◌≢◌, ℕ, suc, ◌-◌, List, length, Option, None, Some, IfSome}
+use Rattle.std.specs.List.{AllByRecursion}
+use Rattle.nwa_base.specs.declared.letters.Letter.{Letter}
+use Rattle.nwa_base.specs.Automata.{Automaton}
+use Rattle.nwa_base.specs.Acceptance.{Accepts}
+use Rattle.letter_acts.specs.Invariant.{Graph, alphabet_of}
+use Rattle.typed_tree.specs.TypedTree.{TypedProgram}
+use Rattle.lowered_graph.specs.Lowered.{lowered}
+use Rattle.race_core.specs.declared.ends.Cause.{Cause}
+use Rattle.race_core.specs.declared.ends.End.{End}
+use Rattle.race_core.specs.declared.events.Entry.{Entry}
+use Rattle.race_core.specs.Races.{Race}
+use Rattle.itp_automaton.specs.Certified.{Certificate, IsCertified}
+use Rattle.itp_automaton.specs.Saturated.{IsSaturated}
+use Rattle.race_rounds.specs.Ends.{Options, CauseMeets, SaysOfWord, EndMeets}
+use Rattle.race_rounds.specs.declared.refining.Refined.{Refined}
+use Rattle.race_rounds.specs.declared.refining.Refined.TheVariants as refined
+use Rattle.race_rounds.specs.declared.settling.Settled.{Settled}
+use Rattle.race_rounds.specs.declared.settling.Settled.TheVariants as settled
+
+-- an automaton of the alphabet of the graph that is certified, saturated, and accepts the word
+pub record IsEvidence (g : Graph) (w : List Letter) (c : Certificate) : Type 0 where
+  pub certified : IsCertified (alphabet_of g) c
+  pub saturated : IsSaturated (alphabet_of g) c
+  pub own : Accepts c.automaton w
+
+abbrev pub automaton_in : Certificate → Automaton
+automaton_in c = c.automaton
+
+-- what is made of a word whose rows are refuted
+abbrev pub IsRefined : TypedProgram → Options → ℕ → List Letter → Refined → Type 0
+IsRefined t o n w (refined.Evidence c) = IsEvidence (lowered t) w c
+IsRefined t o n w (refined.Unknown cause) = CauseMeets t o n cause w
+
+-- what is made of a kept word, where the history has n entries: an entry that may be added, or an end
+abbrev pub IsSettled : TypedProgram → Options → ℕ → List Letter → Settled → Type 0
+IsSettled t o n w (settled.Removed entry) = (n ≢ o.rounds) × (entry.word ≡ w) × IsEvidence (lowered t) w entry.evidence
+IsSettled t o n w (settled.Ended end) = SaysOfWord t o n w end
+
+-- the entry's automaton is one of the program, certified, saturated, and accepts its word
+abbrev pub IsOwn : TypedProgram → Entry Certificate → Type 0
+IsOwn t e = IsEvidence (lowered t) e.word e.evidence
+
+-- what one worker keeps: the race is one of the program, within the rounds, each entry is one of the program, and an end is met
+pub record IsRaceOf (t : TypedProgram) (o : Options) (r : Race Certificate) : Type 0 where
+  pub program : r.program ≡ (lowered t).automaton
+  pub limit : r.limit ≡ o.rounds
+  pub own : AllByRecursion (IsOwn t) r.history
+  pub end : IfSome r.end (EndMeets automaton_in t o r.history)
+
+-- how many rounds a race may still take, one more where it has not ended
+abbrev pub rounds_after : ℕ → Option End → ℕ
+rounds_after n None = suc n
+rounds_after n (Some e) = 0
+
+abbrev pub rounds_left : Race Certificate → ℕ
+rounds_left r = rounds_after (r.limit - length r.history) r.end

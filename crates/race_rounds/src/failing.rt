@@ -1,0 +1,61 @@
+//! From a whole point of a word's rows to an end.
+
+ghost use Rattle.std.specs.Prelude.{◌≡◌, ℕ, map, IfOk};
+ghost use Rattle.std.specs.List.{AllByRecursion};
+ghost use Rattle.nwa_base.specs.Acceptance.{Accepts};
+ghost use Rattle.letter_acts.specs.Feasible.{IsFeasible};
+ghost use Rattle.letter_acts.specs.Invariant.{alphabet_of};
+ghost use Rattle.typing_rules.specs.TypedParts.{typed_program};
+ghost use Rattle.lowered_graph.specs.Lowered.{lowered};
+ghost use Rattle.path_decide.specs.Decided.{IsWholePoint};
+ghost use Rattle.trace_replay.specs.FailureText.{numbers};
+ghost use Rattle.race_rounds.specs.Ends.{Options, SaysOfWord};
+
+use boogie_run::Choice;
+use letter_acts::Icfg;
+use nwa_base::Word;
+use race_core::{Cause, End};
+use std::alloc::{AllocError, Global};
+use trace_replay::{ReplayFault, choices_of};
+use typing_rules::Typed;
+
+/// The numbers of choices.
+fn numbers_of(alloc: Global, choices: &[Choice]) -> Result<Vec<i128>, AllocError>
+    ensures { IfOk result (λ v. v.items ≡ numbers choices.now) }
+{
+    let mut values = Vec::with_capacity(alloc, choices.len())?;
+    for choice in choices {
+        values.push(choice.0)?;
+    }
+    Ok(values)
+}
+
+/// The end that a whole point of the rows of a word makes: a run that fails, or that a value of the run does not fit.
+pub(crate) fn failing(
+    alloc: Global,
+    program: &Typed,
+    icfg: &Icfg,
+    depth: u32,
+    word: Word,
+    point: &[i128],
+) -> Result<End, AllocError>
+    requires lowered { icfg.now ≡ lowered (typed_program program.now) }
+    requires accepted { Accepts icfg.now.automaton word }
+    requires feasible { IsFeasible (alphabet_of icfg.now) word }
+    requires whole { IsWholePoint icfg.now depth word point.now }
+    ensures { (o : Options) (n : ℕ) → o.depth ≡ depth → IfOk result (SaysOfWord (typed_program program.now) o n word) }
+{
+    let _depth = depth;
+    match choices_of(alloc, program, icfg, &word, point) {
+        Ok(trail) => Ok(End::Unsafe {
+            word,
+            steps: trail.steps,
+            choices: numbers_of(alloc, &trail.choices)?,
+        }),
+        Err(ReplayFault::At { .. }) => Ok(End::Unknown {
+            cause: Cause::Number,
+            word,
+        }),
+        Err(ReplayFault::Memory) => Err(AllocError),
+    }
+}

@@ -1,0 +1,81 @@
+//! Automata of infeasible words, from refutations of the rows of one.
+
+ghost use Rattle.std.specs.Prelude.{◌≡◌, ◌≤◌, ℕ, IfOk, IfSome};
+ghost use Rattle.typed_tree.specs.TypedTree.{TypedProgram};
+ghost use Rattle.lowered_graph.specs.Lowered.{lowered};
+ghost use Rattle.path_rows.specs.Paths.{IsPathOf};
+ghost use Rattle.path_decide.specs.Decided.{IsRefutation};
+ghost use Rattle.nested_predicates.specs.Interpolants.{RefutesRows, HasCutsUpTo};
+ghost use Rattle.race_rounds.specs.Ends.{Options};
+ghost use Rattle.race_rounds.specs.Rounds.{IsEvidence, IsRefined};
+
+use farkas_check::Refutation;
+use itp_automaton::{BuildFault, Certified, build};
+use letter_acts::Icfg;
+use nested_itp::{ItpFault, interpolants};
+use path_decide::{Finding, plain_path};
+use path_rows::PathSystem;
+use race_core::Cause;
+use std::alloc::{AllocError, Global};
+use std::thread::Threads;
+
+/// What is made of a word whose rows are refuted.
+#[derive(Drop)]
+pub enum Refined {
+    /// An automaton of infeasible words that accepts it.
+    Evidence(Certified),
+    /// Why there is none.
+    Unknown(Cause),
+}
+
+/// The automaton under a refutation of the word's rows; `None` where a number of the prefix predicates does not fit.
+fn automaton_under<R: Threads + Sync>(
+    rt: &R,
+    alloc: Global,
+    icfg: &Icfg,
+    path: &PathSystem,
+    refutation: &Refutation,
+) -> Result<Option<Certified>, AllocError>
+    requires path { IsPathOf icfg.now path.now }
+    requires refutes { RefutesRows refutation.now path.now.rows }
+    requires cuts { HasCutsUpTo 64 refutation.now }
+    ensures { IfOk result (λ o. IfSome o (IsEvidence icfg.now path.now.word)) }
+{
+    let itp = match interpolants(alloc, icfg, path, refutation) {
+        Ok(itp) => itp,
+        Err(ItpFault::Past) => return Ok(None),
+        Err(ItpFault::Memory) => return Err(AllocError),
+    };
+    match build(rt, alloc, icfg, path.word(), &itp) {
+        Ok(automaton) => Ok(Some(automaton)),
+        Err(BuildFault::Memory) => Err(AllocError),
+    }
+}
+
+/// The automaton under the refutation that was found, else under Decide's own, else why there is none.
+pub(crate) fn refine<R: Threads + Sync>(
+    rt: &R,
+    alloc: Global,
+    icfg: &Icfg,
+    path: &PathSystem,
+    refutation: &Refutation,
+    depth: u32,
+) -> Result<Refined, AllocError>
+    requires path { IsPathOf icfg.now path.now }
+    requires refutation { IsRefutation icfg.now depth path.now.word refutation.now }
+    requires depth { depth ≤ 64 }
+    ensures { (t : TypedProgram) (o : Options) → icfg.now ≡ lowered t → o.depth ≡ depth → IfOk result (λ r. (n : ℕ) → IsRefined t o n path.now.word r) }
+{
+    if let Some(automaton) = automaton_under(rt, alloc, icfg, path, refutation)? {
+        return Ok(Refined::Evidence(automaton));
+    }
+    match plain_path(alloc, path, depth)? {
+        Finding::Refuted(own) => match automaton_under(rt, alloc, icfg, path, &own)? {
+            Some(automaton) => Ok(Refined::Evidence(automaton)),
+            None => Ok(Refined::Unknown(Cause::Number)),
+        },
+        Finding::Gap => Ok(Refined::Unknown(Cause::Whole)),
+        Finding::Past => Ok(Refined::Unknown(Cause::Number)),
+        Finding::Whole(_) => unreachable!(),
+    }
+}

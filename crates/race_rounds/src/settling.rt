@@ -1,0 +1,72 @@
+//! What comes of a kept word.
+
+ghost use Rattle.std.specs.Prelude.{◌≡◌, ◌≤◌, IfOk};
+ghost use Rattle.nwa_base.specs.Acceptance.{Accepts};
+ghost use Rattle.typing_rules.specs.TypedParts.{typed_program};
+ghost use Rattle.lowered_graph.specs.Lowered.{lowered};
+ghost use Rattle.race_rounds.specs.Ends.{Options};
+ghost use Rattle.race_rounds.specs.Rounds.{IsSettled};
+
+use crate::failing::failing;
+use crate::refining::{Refined, refine};
+use itp_automaton::Certified;
+use letter_acts::Icfg;
+use nwa_base::Word;
+use path_decide::{Finding, decide_path};
+use path_rows::rows_of;
+use race_core::{Cause, End, Entry};
+use std::alloc::{AllocError, Global};
+use std::thread::Threads;
+use typing_rules::Typed;
+
+/// What is made of a kept word.
+#[derive(Drop)]
+pub enum Settled {
+    /// An entry that removes it.
+    Removed(Entry<Certified>),
+    /// An end.
+    Ended(End),
+}
+
+/// What is made of a kept word: an entry with it, or an end. `version` is how many entries there are.
+pub(crate) fn settle<R: Threads + Sync>(
+    rt: &R,
+    alloc: Global,
+    program: &Typed,
+    icfg: &Icfg,
+    rounds: u64,
+    depth: u32,
+    version: u64,
+    word: Word,
+) -> Result<Settled, AllocError>
+    requires lowered { icfg.now ≡ lowered (typed_program program.now) }
+    requires accepted { Accepts icfg.now.automaton word }
+    requires depth { depth ≤ 64 }
+    ensures { (o : Options) → o.rounds ≡ rounds → o.depth ≡ depth → IfOk result (IsSettled (typed_program program.now) o version word) }
+{
+    let path = rows_of(alloc, icfg, &word)?;
+    match decide_path(alloc, &path, depth)? {
+        Finding::Refuted(refutation) => {
+            if version == rounds {
+                return Ok(unknown(Cause::Rounds, word));
+            }
+            match refine(rt, alloc, icfg, &path, &refutation, depth)? {
+                Refined::Evidence(evidence) => Ok(Settled::Removed(Entry { word, evidence })),
+                Refined::Unknown(cause) => Ok(unknown(cause, word)),
+            }
+        }
+        Finding::Whole(point) => {
+            let end = failing(alloc, program, icfg, depth, word, &point)?;
+            Ok(Settled::Ended(end))
+        }
+        Finding::Gap => Ok(unknown(Cause::Whole, word)),
+        Finding::Past => Ok(unknown(Cause::Number, word)),
+    }
+}
+
+/// That nothing is known of a word, for this cause.
+fn unknown(cause: Cause, word: Word) -> Settled
+    ensures { result ≡ Settled.Ended (End.Unknown cause word) }
+{
+    Settled::Ended(End::Unknown { cause, word })
+}

@@ -1,0 +1,52 @@
+-- The failure that a race ended with.
+use Rattle.std.proofs.Common.{◌≡◌, ℕ, ℤ, List, Option, Some, length, refl, sym, subst, ◌∙◌}
+use Rattle.std.specs.Prelude.{IfSome}
+use Rattle.std.specs.declared.vec.Vec.{Vec}
+use Rattle.std.specs.declared.alloc.Global.{Global}
+use Rattle.std.specs.List.{AllByRecursion}
+use Rattle.math_facts.specs.Fits.{Fits}
+use Rattle.nwa_base.specs.declared.letters.Letter.{Letter}
+use Rattle.typed_tree.specs.TypedTree.{TypedProgram}
+use Rattle.trace_replay.specs.declared.failure.Failure.{Failure}
+use Rattle.trace_replay.specs.Replays.{Replays, IsReplayed}
+use Rattle.race_core.specs.declared.ends.End.{End}
+use Rattle.race_core.specs.declared.ends.End.TheVariants.{Safe, Unsafe}
+use Rattle.race_core.specs.declared.events.Entry.{Entry}
+use Rattle.race_core.specs.Races.{Race}
+use Rattle.itp_automaton.specs.Certified.{Certificate}
+use Rattle.race_rounds.specs.Ends.{Options, FailsAfter, EndMeets, no_word, one_word}
+use Rattle.race_rounds.specs.Rounds.{automaton_in, IsRaceOf}
+use Rattle.race_verdicts.specs.Verdicts.{IsFailureBy, IsFailureOf}
+
+said : (t : TypedProgram) (o : Options) (h : List (Entry Certificate)) (w : List Letter) (steps : ℕ) (choices : Vec ℤ Global) →
+    EndMeets automaton_in t o h (Unsafe w steps choices) → FailsAfter t steps choices.items
+said t o h w steps choices (no_word e n) = absurd (cc)
+said t o h w steps choices (one_word v k s) = s.2
+
+fails : (t : TypedProgram) (o : Options) (r : Race Certificate) (w : List Letter) (steps : ℕ) (choices : Vec ℤ Global) → IsRaceOf t o r →
+    r.end ≡ Some (Unsafe w steps choices) → FailsAfter t steps choices.items
+fails t o r w steps choices race e =
+    said t o r.history w steps choices (subst (λ (x : Option End). IfSome x (EndMeets automaton_in t o r.history)) e race.end)
+
+pub replays : (t : TypedProgram) (o : Options) (r : Race Certificate) (w : List Letter) (steps : ℕ) (choices : Vec ℤ Global) → IsRaceOf t o r →
+    r.end ≡ Some (Unsafe w steps choices) → (i : ℕ) × Replays t steps choices.items i
+replays t o r w steps choices race e = let f = fails t o r w steps choices race e in (f.assertion, f.replays)
+
+pub values_fit : (t : TypedProgram) (o : Options) (r : Race Certificate) (w : List Letter) (steps : ℕ) (choices : Vec ℤ Global) → IsRaceOf t o r →
+    r.end ≡ Some (Unsafe w steps choices) → AllByRecursion Fits choices.items
+values_fit t o r w steps choices race e = (fails t o r w steps choices race e).fit
+
+pub failure : (t : TypedProgram) (o : Options) (r : Race Certificate) (w : List Letter) (rounds steps : ℕ) (choices : Vec ℤ Global) (f : Failure) → IsRaceOf t o r →
+    r.end ≡ Some (Unsafe w steps choices) → rounds ≡ length r.history → IsFailureBy t rounds steps choices.items f → IsFailureOf t r f
+failure t o r w rounds steps choices f race e n b = record {
+  word = w;
+  choices = choices;
+  end = e ∙ subst (λ (s : ℕ). Some (Unsafe w steps choices) ≡ Some (Unsafe w s choices)) (sym b.steps_are) refl;
+  failure = record {
+    rounds_are = b.rounds_are ∙ n;
+    steps_are = refl;
+    values_are = b.values_are;
+    replays = subst (λ (s : ℕ). IsReplayed t s choices.items f.id) (sym b.steps_are) b.replays;
+    bounds = b.bounds;
+  };
+}

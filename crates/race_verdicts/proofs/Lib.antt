@@ -1,0 +1,5 @@
+mod Accepted
+mod FailureLaws
+mod NoneLeft
+mod StartBodies
+mod Written

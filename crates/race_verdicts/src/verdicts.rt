@@ -1,0 +1,62 @@
+//! What is said of a race that has ended.
+
+ghost use Rattle.std.specs.Prelude.{◌≡◌, IfOk, IsSome};
+ghost use Rattle.typing_rules.specs.TypedParts.{typed_program};
+ghost use Rattle.lowered_graph.specs.Lowered.{lowered};
+ghost use Rattle.race_rounds.specs.Ends.{Options};
+ghost use Rattle.race_rounds.specs.Rounds.{IsRaceOf};
+ghost use Rattle.race_verdicts.specs.Verdicts.{IsVerdict};
+
+use crate::failures::failure_of;
+use crate::proving::annotation_of;
+use itp_automaton::Certified;
+use letter_acts::Icfg;
+use nwa_base::Word;
+use proof_form::Annotation;
+use race_core::{Cause, End, Shared};
+use std::alloc::{AllocError, Global};
+use trace_replay::Failure;
+use typing_rules::Typed;
+
+/// What is said of a program.
+#[derive(Drop)]
+pub enum Verdict {
+    /// No run of it fails an assertion; the annotation proves it.
+    Safe(Annotation),
+    /// A run of it fails an assertion.
+    Unsafe(Failure),
+    /// Nothing is known, for this cause, of the word.
+    Unknown {
+        /// Why.
+        cause: Cause,
+        /// An error word that is left.
+        word: Word,
+    },
+}
+
+/// What is said of the program of a race that has ended.
+pub fn verdict_of(
+    alloc: Global,
+    program: &Typed,
+    icfg: &Icfg,
+    race: &Shared<Certified>,
+) -> Result<Verdict, AllocError>
+    requires lowered { icfg.now ≡ lowered (typed_program program.now) }
+    requires race { (o : Options) × IsRaceOf (typed_program program.now) o race.now }
+    requires ended { IsSome race.now.end }
+    ensures { IfOk result (IsVerdict (typed_program program.now) race.now) }
+{
+    let rounds = race.version();
+    match race.end() {
+        Some(End::Safe) => Ok(Verdict::Safe(annotation_of(alloc, program, icfg, race)?)),
+        Some(End::Unsafe { steps, choices, .. }) => {
+            let failure = failure_of(alloc, program, rounds, *steps, choices)?;
+            Ok(Verdict::Unsafe(failure))
+        }
+        Some(End::Unknown { cause, word }) => Ok(Verdict::Unknown {
+            cause: *cause,
+            word: word.copy()?,
+        }),
+        None => unreachable!(),
+    }
+}
