@@ -7,6 +7,7 @@ use std::alloc::AllocError;
 use std::env;
 use std::io::ErrorKind;
 use std::process::ExitCode;
+use std::thread::Threads;
 
 /// The status where memory ran out.
 const NO_MEMORY: u8 = 6;
@@ -30,13 +31,21 @@ fn words(rt: &HostRuntime) -> Result<Vec<String>, AllocError> {
 }
 
 /// Runs the program over real files and the standard output, and answers its status.
-fn status(rt: &HostRuntime) -> Result<u8, AllocError> {
+fn status<R: Threads + Sync>(threads: &R, rt: &HostRuntime) -> Result<u8, AllocError> {
     let words = words(rt)?;
     let mut shelf = FileShelf::new(rt.clone()?);
     let mut sink = StdSink::new(rt.clone()?);
-    Ok(run(rt, rt.alloc(), &words, &mut shelf, &mut sink))
+    let mut closed = Vec::new(rt.alloc());
+    Ok(run(
+        threads,
+        rt.alloc(),
+        &words,
+        &mut shelf,
+        &mut sink,
+        &mut closed,
+    ))
 }
 
 fn main(rt: HostRuntime) -> ExitCode {
-    ExitCode::from(status(&rt).unwrap_or(NO_MEMORY))
+    ExitCode::from(status(&rt, &rt).unwrap_or(NO_MEMORY))
 }

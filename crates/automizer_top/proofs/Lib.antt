@@ -1,9 +1,14 @@
 pub mod WordLaws
 pub mod PrintedTexts
+pub mod VerdictTexts
 pub mod ParsedNames
 pub mod TypedTexts
 pub mod SafetyLaws
 pub mod ReportLaws
+pub mod VerdictLaws
 pub mod ReplayedOnce
 pub mod ProofOnce
 pub mod ReportUnique
+pub mod ConfirmedLaws
+pub mod AgreeLaws
+pub mod ClosedLaws

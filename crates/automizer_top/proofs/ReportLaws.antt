@@ -20,13 +20,14 @@ use Rattle.lowered_graph.specs.Lowered.{lowered}
 use Rattle.automizer_top.specs.declared.answer.Answer as code
 use Rattle.automizer_top.specs.declared.reporting.Halt.{Halt}
 use Rattle.automizer_top.specs.declared.words.Mode.{Mode}
-use Rattle.automizer_top.specs.declared.words.Mode.TheVariants.{Check, Replay, Print}
+use Rattle.automizer_top.specs.declared.words.Mode.TheVariants.{Check, Replay, Print, Verify}
 use Rattle.automizer_top.specs.Refusals.{refusal}
 use Rattle.automizer_top.specs.TypeRefusals.{type_refusal}
 use Rattle.automizer_top.specs.LoweringRefusals.{lowering_refusal}
-use Rattle.automizer_top.specs.Answers.{answered, Asks, program_name, IsGraphOf, HasNoErrorWord, TextIsSafe, CheckedIsSafe}
-use Rattle.automizer_top.specs.Report.{Answer, answer, program_limit, second_limit, accepted_answer, RefusesProgram, too_long, no_program, ReportsPrint, refused_print, printed, RefusesTyped, refused_text, ill_typed, RefusesLowering, ReportsProof, proof_too_long, no_annotation, accepted, rejected, ReportsCheck, refused_check, not_lowered, of_lowered, IsTypedText, ReportsFailure, failure_too_long, no_failure, replayed, stopped, ReportsReplay, refused_replay, of_typed, AskCheck, AskReplay, AskPrint, Reports, usage, printing, checked, replaying, PrintsProgram, AsksForCheck, ProgramIsSafe, ProgramFails, WhereTold}
+use Rattle.automizer_top.specs.Answers.{answered, Asks, program_name, IsGraphOf, HasNoErrorWord, TextIsSafe, CheckedIsSafe, VerifiedIsSafe}
+use Rattle.automizer_top.specs.Report.{Answer, answer, program_limit, second_limit, accepted_answer, RefusesProgram, too_long, no_program, ReportsPrint, refused_print, printed, RefusesTyped, refused_text, ill_typed, RefusesLowering, ReportsProof, proof_too_long, no_annotation, accepted, rejected, ReportsCheck, refused_check, not_lowered, of_lowered, IsTypedText, ReportsFailure, failure_too_long, no_failure, replayed, stopped, ReportsReplay, refused_replay, of_typed, AskCheck, AskReplay, AskPrint, AskVerify, ReportsVerdict, ReportsVerify, refused_verify, unlowered, decided, Reports, usage, printing, checked, replaying, verifying, PrintsProgram, AsksForCheck, AsksForVerdict, ProgramIsSafe, ProgramFails, WhereTold}
 use Rattle.automizer_top.proofs.PrintedTexts.{begins_otherwise}
+use Rattle.automizer_top.proofs.VerdictTexts.{verdict_begins}
 use Rattle.automizer_top.proofs.SafetyLaws.{graph_is_safe}
 use Rattle.automizer_top.proofs.TypedTexts.{one_typed}
 
@@ -123,6 +124,7 @@ too_long_asked : (words : List (List ℕ)) (mode : Mode) (text : List ℕ) (show
 too_long_asked words (Check program second) text shown ask e past = checked program.now second.now text ask e (refused_check (refused_text (too_long past refl)))
 too_long_asked words (Replay program second) text shown ask e past = replaying program.now second.now text ask e (refused_replay (refused_text (too_long past refl)))
 too_long_asked words (Print program) text shown ask e past = printing program.now text ask e (refused_print (too_long past refl))
+too_long_asked words (Verify program) text shown ask e past = verifying program.now text ask e (refused_verify (refused_text (too_long past refl)))
 
 -- the program text is past its limit
 pub program_reported : (words : List (List ℕ)) (mode : Mode) (name : List ℕ) (texts : Option (List (List ℕ × List ℕ))) → Asks words mode → name ≡ program_name mode →
@@ -187,7 +189,29 @@ print_reported words mode program name text a (Some shown) ask is same h r =
     let named : name ≡ program.now = same ∙ ap program_name is in
     printing program.now text asked (ap (λ (n : List ℕ). text_named n shown) (sym named) ∙ h.0) r
 
+-- the program text was read, and its verdict is asked for
+pub verify_reported : (words : List (List ℕ)) (mode : Mode) (program : Bor (List ℕ)) (name text : List ℕ) (a : Answer) (texts : Option (List (List ℕ × List ℕ))) →
+    Asks words mode → mode ≡ Verify program → name ≡ program_name mode →
+    IfSome texts (λ shown. (text_named name shown ≡ Some text) × (length text ≤ program_limit)) →
+    ReportsVerify text a → IfSome texts (λ shown. Reports words shown a)
+verify_reported words mode program name text a None ask is same h r = tt
+verify_reported words mode program name text a (Some shown) ask is same h r =
+    let asked : AskVerify words program.now = subst (Asks words) is ask in
+    let named : name ≡ program.now = same ∙ ap program_name is in
+    verifying program.now text asked (ap (λ (n : List ℕ). text_named n shown) (sym named) ∙ h.0) r
+
 -- ---- what has the status 0
+
+refused_is_three : (text : List ℕ) (a : Answer) → RefusesProgram text a → a.status ≡ 3
+refused_is_three text a (too_long past is) = ap (λ (b : Answer). b.status) is
+refused_is_three text a (no_program f l r is) = ap (λ (b : Answer). b.status) is
+
+pub typed_is_three : (text : List ℕ) (a : Answer) → RefusesTyped text a → a.status ≡ 3
+typed_is_three text a (refused_text r) = refused_is_three text a r
+typed_is_three text a (ill_typed ds f l w broken is) = ap (λ (b : Answer). b.status) is
+
+pub lowering_is_three : (t : TypedProgram) (a : Answer) → RefusesLowering t a → a.status ≡ 3
+lowering_is_three t a h = ap (λ (b : Answer). b.status) h.is
 
 three_is_not_zero : (n : ℕ) → n ≡ 3 → n ≡ 0 → ⊥
 three_is_not_zero n d e = omega arith
@@ -197,11 +221,11 @@ refused_is_not_zero : (text : List ℕ) (a : Answer) → RefusesProgram text a �
 refused_is_not_zero text a (too_long past is) z = three_is_not_zero a.status (ap (λ (b : Answer). b.status) is) z
 refused_is_not_zero text a (no_program f l r is) z = three_is_not_zero a.status (ap (λ (b : Answer). b.status) is) z
 
-typed_is_not_zero : (text : List ℕ) (a : Answer) → RefusesTyped text a → a.status ≡ 0 → ⊥
+pub typed_is_not_zero : (text : List ℕ) (a : Answer) → RefusesTyped text a → a.status ≡ 0 → ⊥
 typed_is_not_zero text a (refused_text r) z = refused_is_not_zero text a r z
 typed_is_not_zero text a (ill_typed ds f l w broken is) z = three_is_not_zero a.status (ap (λ (b : Answer). b.status) is) z
 
-lowering_is_not_zero : (t : TypedProgram) (a : Answer) → RefusesLowering t a → a.status ≡ 0 → ⊥
+pub lowering_is_not_zero : (t : TypedProgram) (a : Answer) → RefusesLowering t a → a.status ≡ 0 → ⊥
 lowering_is_not_zero t a h z = three_is_not_zero a.status (ap (λ (b : Answer). b.status) h.is) z
 
 -- an accepted program keeps the typing rules
@@ -244,16 +268,28 @@ accepted_is_safe : (words : List (List ℕ)) (texts : Texts) (program second tex
     IsAccepted text a → (a ≡ accepted_answer → CheckedIsSafe words texts) → ProgramIsSafe words texts
 accepted_is_safe words texts program second text a asked found h safe =
     let asks : AsksForCheck words texts h.meant = record { program = program; second = second; asked = asked; text = text; found = found; typed = h.typed } in
-    (h.meant, asks, safe h.is h.meant asks)
+    (h.meant, inl asks, safe h.is h.meant asks)
+
+-- a verdict of status 0 is asked for a program that is safe, where that is so of the program whose verdict is asked for
+verified_is_safe : (words : List (List ℕ)) (texts : Texts) (program text : List ℕ) (a : Answer) → AskVerify words program → text_named program texts ≡ Some text →
+    ReportsVerify text a → a.status ≡ 0 → VerifiedIsSafe words texts → ProgramIsSafe words texts
+verified_is_safe words texts program text a asked found (refused_verify r) z safe = absurd (typed_is_not_zero text a r z)
+verified_is_safe words texts program text a asked found (unlowered t w r) z safe = absurd (lowering_is_not_zero t a r z)
+verified_is_safe words texts program text a asked found (decided t w none v) z safe =
+    let asks : AsksForVerdict words texts t = record { program = program; asked = asked; text = text; found = found; typed = w } in
+    (t, inr asks, safe t asks)
 
 -- an answer of status 0 is a printed program, or is safe, or fails
-reports_safe : (words : List (List ℕ)) (texts : Texts) (a : Answer) → Reports words texts a → (a ≡ accepted_answer → CheckedIsSafe words texts) → a.status ≡ 0 →
+reports_safe : (words : List (List ℕ)) (texts : Texts) (a : Answer) → Reports words texts a → (a ≡ accepted_answer → CheckedIsSafe words texts) →
+    (a.status ≡ 0 → VerifiedIsSafe words texts) → a.status ≡ 0 →
     PrintsProgram words texts ⊎ (ProgramIsSafe words texts ⊎ ProgramFails words texts)
-reports_safe words texts a (usage none no_replay no_print is) safe z = absurd (let e : 4 ≡ 0 = sym (ap (λ (b : Answer). b.status) is) ∙ z in omega arith)
-reports_safe words texts a (printing program text asked found print) safe z = inl (printed_by words texts program text a asked found print z)
-reports_safe words texts a (checked program second text asked found check) safe z =
+reports_safe words texts a (usage none no_replay no_print no_verify is) safe verified z = absurd (let e : 4 ≡ 0 = sym (ap (λ (b : Answer). b.status) is) ∙ z in omega arith)
+reports_safe words texts a (printing program text asked found print) safe verified z = inl (printed_by words texts program text a asked found print z)
+reports_safe words texts a (checked program second text asked found check) safe verified z =
     inr (inl (accepted_is_safe words texts program second text a asked found (check_zero text (text_named second texts) a check z) safe))
-reports_safe words texts a (replaying program second text asked found replay) safe z = inr (inr (replayed_by words texts program second text a asked found replay z))
+reports_safe words texts a (replaying program second text asked found replay) safe verified z = inr (inr (replayed_by words texts program second text a asked found replay z))
+reports_safe words texts a (verifying program text asked found verify) safe verified z =
+    inr (inl (verified_is_safe words texts program text a asked found verify z (verified z)))
 
 -- `accepted` has `c` as its second byte, and no other answer has
 abbrev second_of : Answer → ℕ
@@ -321,13 +357,19 @@ replay_begins : (text : List ℕ) (second : Option (List ℕ)) (a : Answer) → 
 replay_begins text second a (refused_replay r) begin = typed_begins text a r begin
 replay_begins text second a (of_typed t h of) begin = failure_begins t second a of begin
 
+verify_begins : (text : List ℕ) (a : Answer) → ReportsVerify text a → second_of a ≡ 99 → ⊥
+verify_begins text a (refused_verify r) begin = typed_begins text a r begin
+verify_begins text a (unlowered t w r) begin = lowering_begins t a r begin
+verify_begins text a (decided t w none v) begin = verdict_begins (length v.race.history) v.verdict (sym (ap second_of v.is) ∙ begin)
+
 -- an answer that begins as `accepted` does is safe
 reports_begin : (words : List (List ℕ)) (texts : Texts) (a : Answer) → Reports words texts a → (a ≡ accepted_answer → CheckedIsSafe words texts) → second_of a ≡ 99 → ProgramIsSafe words texts
-reports_begin words texts a (usage none no_replay no_print is) safe begin = absurd (let e : 115 ≡ 99 = sym (ap second_of is) ∙ begin in omega arith)
+reports_begin words texts a (usage none no_replay no_print no_verify is) safe begin = absurd (let e : 115 ≡ 99 = sym (ap second_of is) ∙ begin in omega arith)
 reports_begin words texts a (printing program text asked found print) safe begin = absurd (print_begins text a print begin)
 reports_begin words texts a (checked program second text asked found check) safe begin =
     accepted_is_safe words texts program second text a asked found (check_begins text (text_named second texts) a check begin) safe
 reports_begin words texts a (replaying program second text asked found replay) safe begin = absurd (replay_begins text (text_named second texts) a replay begin)
+reports_begin words texts a (verifying program text asked found verify) safe begin = absurd (verify_begins text a verify begin)
 
 seam : (b xs : List ℕ) → get_or (b ++ xs) (suc (length b)) 0 ≡ get_or xs 1 0
 seam [] xs = refl
@@ -380,10 +422,10 @@ whole_is_safe words (Some shown) (Some before) new a r s taken = λ e.
 
 -- an answer of status 0 is a printed program, or is safe, or fails
 pub zero_is_safe : (words : List (List ℕ)) (texts : Option Texts) (a : Answer) → IfSome texts (λ shown. Reports words shown a) →
-    (a ≡ accepted_answer → IfSome texts (λ shown. CheckedIsSafe words shown)) → a.status ≡ 0 →
+    (a ≡ accepted_answer → IfSome texts (λ shown. CheckedIsSafe words shown)) → (a.status ≡ 0 → IfSome texts (λ shown. VerifiedIsSafe words shown)) → a.status ≡ 0 →
     IfSome texts (λ shown. PrintsProgram words shown ⊎ (ProgramIsSafe words shown ⊎ ProgramFails words shown))
-zero_is_safe words None a r s z = tt
-zero_is_safe words (Some shown) a r s z = reports_safe words shown a r s z
+zero_is_safe words None a r s v z = tt
+zero_is_safe words (Some shown) a r s v z = reports_safe words shown a r s v z
 
 -- ---- what is accepted is safe
 
@@ -406,6 +448,56 @@ check_is_safe words mode program second name text (Ok a) (Some shown) ask is sam
   where
     second_word : (p q x y : List ℕ) → codes "check" ∷ p ∷ x ∷ [] ≡ codes "check" ∷ q ∷ y ∷ [] → p ≡ q
     second_word p q x y e = cc
+
+    one_text : (x y : List ℕ) → Some x ≡ Some y → x ≡ y
+    one_text x y e = cc
+
+-- ---- what is verified is safe
+
+-- the words do not ask for a verdict
+abbrev pub IsNoVerify : Mode → Type 0
+IsNoVerify (Check program second) = Unit {0}
+IsNoVerify (Replay program second) = Unit {0}
+IsNoVerify (Print program) = Unit {0}
+IsNoVerify (Verify program) = ⊥
+
+three_is_not_two : (n : ℕ) → n ≡ 3 → n ≡ 2 → ⊥
+three_is_not_two n d e = omega arith
+
+abbrev first_word : List (List ℕ) → List ℕ
+first_word [] = []
+first_word (w ∷ ws) = w
+
+not_verified : (words : List (List ℕ)) (mode : Mode) (p : List ℕ) → Asks words mode → IsNoVerify mode → AskVerify words p → ⊥
+not_verified words (Check program second) p ask n v =
+    three_is_not_two (length words) (ap (λ (xs : List (List ℕ)). length xs) ask) (ap (λ (xs : List (List ℕ)). length xs) v)
+not_verified words (Replay program second) p ask n v =
+    three_is_not_two (length words) (ap (λ (xs : List (List ℕ)). length xs) ask) (ap (λ (xs : List (List ℕ)). length xs) v)
+not_verified words (Print program) p ask n v =
+    let five : length (first_word words) ≡ 5 = ap (λ (xs : List (List ℕ)). length (first_word xs)) ask in
+    let six : length (first_word words) ≡ 6 = ap (λ (xs : List (List ℕ)). length (first_word xs)) v in
+    omega arith
+not_verified words (Verify program) p ask n v = n
+
+-- the words do not ask for a verdict, so nothing is to be shown of one
+pub unverified : (words : List (List ℕ)) (mode : Mode) (r : Result code.Answer Halt) (texts : Option Texts) → Asks words mode → IsNoVerify mode →
+    IfOk r (λ a. (answered a).status ≡ 0 → IfSome texts (λ shown. VerifiedIsSafe words shown))
+unverified words mode (Err e) texts ask n = tt
+unverified words mode (Ok a) texts ask n = λ z. told (λ shown. VerifiedIsSafe words shown) texts (λ shown t k. absurd (not_verified words mode k.program ask n k.asked))
+
+-- the program is as safe as the text that was read
+pub verify_is_safe : (words : List (List ℕ)) (mode : Mode) (program : Bor (List ℕ)) (name text : List ℕ) (a : Answer) (texts : Option Texts) →
+    Asks words mode → mode ≡ Verify program → name ≡ program_name mode → IfSome texts (λ shown. (text_named name shown ≡ Some text) × (length text ≤ program_limit)) →
+    (a.status ≡ 0 → TextIsSafe text) → a.status ≡ 0 → IfSome texts (λ shown. VerifiedIsSafe words shown)
+verify_is_safe words mode program name text a None ask is same h s z = tt
+verify_is_safe words mode program name text a (Some shown) ask is same h s z = λ t k.
+    let asked : AskVerify words program.now = subst (Asks words) is ask in
+    let named : name ≡ k.program = same ∙ ap program_name is ∙ second_word program.now k.program (sym asked ∙ k.asked) in
+    let read : k.text ≡ text = one_text k.text text (sym k.found ∙ ap (λ (n : List ℕ). text_named n shown) (sym named) ∙ h.0) in
+    s z t (subst (λ (x : List ℕ). IsTypedText x t) read k.typed)
+  where
+    second_word : (p q : List ℕ) → codes "verify" ∷ p ∷ [] ≡ codes "verify" ∷ q ∷ [] → p ≡ q
+    second_word p q e = cc
 
     one_text : (x y : List ℕ) → Some x ≡ Some y → x ≡ y
     one_text x y e = cc

@@ -1,9 +1,9 @@
 -- The code's answers and questions as contracts see them.
-use Rattle.std.specs.Prelude.{◌≡◌, ℕ, List, None, codes}
+use Rattle.std.specs.Prelude.{◌≡◌, ℕ, List, [], ◌∷◌, None, codes}
 use Rattle.automizer_top.specs.declared.answer.Answer.{Answer}
-use Rattle.automizer_top.specs.declared.answer.Answer.TheVariants.{Usage, TooLong, Refused, IllTyped, TooWide, TooBig, Printed, Syntax, Accepted, Rejected, Replayed, Stopped}
+use Rattle.automizer_top.specs.declared.answer.Answer.TheVariants.{Usage, TooLong, Refused, IllTyped, TooWide, TooBig, Printed, Syntax, Accepted, Rejected, Replayed, Stopped, Decided}
 use Rattle.automizer_top.specs.declared.words.Mode.{Mode}
-use Rattle.automizer_top.specs.declared.words.Mode.TheVariants.{Check, Replay, Print}
+use Rattle.automizer_top.specs.declared.words.Mode.TheVariants.{Check, Replay, Print, Verify}
 use Rattle.automizer_top.specs.Refusals.{refusal}
 use Rattle.automizer_top.specs.TypeRefusals.{type_refusal}
 use Rattle.typed_tree.specs.TypedTree.{TypedProgram}
@@ -17,6 +17,7 @@ use Rattle.lowered_graph.specs.Items.{first_fault}
 use Rattle.lowered_graph.specs.Lowered.{lowered}
 use Rattle.lowered_graph.specs.Laws.{IsFaithful}
 use Rattle.automizer_top.specs.LoweringRefusals.{lowering_refusal}
+use Rattle.automizer_top.specs.Verdicts.{verdict_status}
 use Rattle.automizer_top.specs.Report as report
 
 abbrev pub answered : Answer → report.Answer
@@ -32,24 +33,28 @@ answered Accepted = report.accepted_answer
 answered (Rejected item cause) = report.rejected_answer item cause
 answered (Replayed id) = report.replayed_answer id
 answered (Stopped step cause) = report.stopped_answer step cause
+answered (Decided text verdict race) = record { bytes = text.items; status = verdict_status verdict; races = race ∷ [] }
 
 -- the words ask for nothing that the program does
 pub record AsksNothing (words : List (List ℕ)) : Type 0 where
   pub no_check : (program second : List ℕ) → report.AskCheck words program second → ⊥
   pub no_replay : (program second : List ℕ) → report.AskReplay words program second → ⊥
   pub no_print : (program : List ℕ) → report.AskPrint words program → ⊥
+  pub no_verify : (program : List ℕ) → report.AskVerify words program → ⊥
 
 -- the words ask for this
 abbrev pub Asks : List (List ℕ) → Mode → Type 0
 Asks words (Check program second) = report.AskCheck words program.now second.now
 Asks words (Replay program second) = report.AskReplay words program.now second.now
 Asks words (Print program) = report.AskPrint words program.now
+Asks words (Verify program) = report.AskVerify words program.now
 
 -- the name of the program text
 abbrev pub program_name : Mode → List ℕ
 program_name (Check program second) = program.now
 program_name (Replay program second) = program.now
 program_name (Print program) = program.now
+program_name (Verify program) = program.now
 
 -- the graph of a program that can be lowered
 pub record IsGraphOf (t : TypedProgram) (g : Graph) : Type 0 where
@@ -64,6 +69,10 @@ HasNoErrorWord g = (w : List Letter) → Accepts g.automaton w → IsFeasible (a
 -- the program of the text is safe, if it keeps the typing rules
 abbrev pub TextIsSafe : List ℕ → Type 0
 TextIsSafe text = (t : TypedProgram) → report.IsTypedText text t → IsSafe t
+
+-- the program whose verdict the words ask for is safe
+abbrev pub VerifiedIsSafe : List (List ℕ) → List (List ℕ × List ℕ) → Type 0
+VerifiedIsSafe words texts = (t : TypedProgram) → report.AsksForVerdict words texts t → IsSafe t
 
 -- the program whose check the words ask for is safe
 abbrev pub CheckedIsSafe : List (List ℕ) → List (List ℕ × List ℕ) → Type 0

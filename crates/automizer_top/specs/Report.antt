@@ -29,14 +29,21 @@ use Rattle.trace_replay.specs.Replays.{IsReplayed}
 use Rattle.trace_replay.specs.ReplayCauses.{StopsAt}
 use Rattle.trace_replay.specs.declared.causes.ReplayCause.{ReplayCause}
 use Rattle.trace_replay.specs.declared.causes.ReplayCause.TheVariants as causes
+use Rattle.race_core.specs.Races.{Race}
+use Rattle.itp_automaton.specs.Certified.{Certificate}
+use Rattle.race_verdicts.specs.declared.verdicts.Verdict.{Verdict}
+use Rattle.race_verdicts.specs.Verdicts.{IsVerdict}
+use Rattle.race_verdicts.specs.Texts.{verdict_text}
+use Rattle.automizer_top.specs.Verdicts.{default_options, IsClosedRace, verdict_status}
 use Rattle.automizer_top.specs.Refusals.{refusal}
 use Rattle.automizer_top.specs.TypeRefusals.{type_refusal}
 use Rattle.automizer_top.specs.LoweringRefusals.{lowering_refusal}
 
--- the bytes that are written, and the status
+-- the bytes that are written, the status, and the races that are closed
 pub record Answer : Type 0 where
   pub bytes : List ℕ
   pub status : ℕ
+  pub races : List (Race Certificate)
 
 abbrev pub usage_line : List ℕ
 usage_line = codes "usage: automizer MODE PROGRAM [SECOND] [--entry NAME] [--rounds N] [--workers N] [--depth N]\n"
@@ -60,8 +67,17 @@ AskReplay words program second = words ≡ codes "replay" ∷ program ∷ second
 abbrev pub AskPrint : List (List ℕ) → List ℕ → Type 0
 AskPrint words program = words ≡ codes "print" ∷ program ∷ []
 
+-- the words ask for the verdict on the program of that name
+abbrev pub AskVerify : List (List ℕ) → List ℕ → Type 0
+AskVerify words program = words ≡ codes "verify" ∷ program ∷ []
+
+-- an answer without a race
 abbrev pub answer : List ℕ → ℕ → Answer
-answer bytes status = record { bytes = bytes; status = status }
+answer bytes status = record { bytes = bytes; status = status; races = [] }
+
+-- a verdict, after as many rounds as the race has entries
+abbrev pub verdict_answer : Race Certificate → Verdict → Answer
+verdict_answer r v = record { bytes = verdict_text (length r.history) v; status = verdict_status v; races = r ∷ [] }
 
 abbrev pub rejected_line : ℕ → List ℕ → List ℕ
 rejected_line line cause = codes "rejected " ++ decimal line ++ 32 ∷ (cause ++ 10 ∷ [])
@@ -188,10 +204,27 @@ pub data ReportsReplay (program : List ℕ) (second : Option (List ℕ)) (a : An
   refused_replay : RefusesTyped program a → ReportsReplay program second a
   of_typed : (t : TypedProgram) → IsTypedText program t → ReportsFailure t second a → ReportsReplay program second a
 
+-- What is answered to a program that can be lowered, where its verdict is asked for: the verdict for which a race over it has ended.
+pub record ReportsVerdict (t : TypedProgram) (a : Answer) : Type 0 where
+  pub race : Race Certificate
+  pub verdict : Verdict
+  pub closed : IsClosedRace t default_options race
+  pub of_end : IsVerdict t race verdict
+  pub is : a ≡ verdict_answer race verdict
+
+-- What is answered to a program text whose verdict is asked for. The cases exclude each other; of several verdicts any may be told.
+pub data ReportsVerify (program : List ℕ) (a : Answer) : Type 0 where
+  refused_verify : RefusesTyped program a → ReportsVerify program a
+  unlowered : (t : TypedProgram) → IsTypedText program t → RefusesLowering t a → ReportsVerify program a
+  decided : (t : TypedProgram) → IsTypedText program t → first_fault t ≡ None → ReportsVerdict t a → ReportsVerify program a
+
 -- The report: to words that ask for none of these the usage line, to others what the named texts give.
 pub data Reports (words : List (List ℕ)) (texts : List (List ℕ × List ℕ)) (a : Answer) : Type 0 where
   usage : ((program second : List ℕ) → AskCheck words program second → ⊥) → ((program second : List ℕ) → AskReplay words program second → ⊥) →
-      ((program : List ℕ) → AskPrint words program → ⊥) → a ≡ answer usage_line 4 → Reports words texts a
+      ((program : List ℕ) → AskPrint words program → ⊥) → ((program : List ℕ) → AskVerify words program → ⊥) → a ≡ answer usage_line 4 →
+      Reports words texts a
+  verifying : (program text : List ℕ) → AskVerify words program → text_named program texts ≡ Some text → ReportsVerify text a →
+      Reports words texts a
   printing : (program text : List ℕ) → AskPrint words program → text_named program texts ≡ Some text → ReportsPrint text a →
       Reports words texts a
   checked : (program second text : List ℕ) → AskCheck words program second →
@@ -202,6 +235,11 @@ pub data Reports (words : List (List ℕ)) (texts : List (List ℕ × List ℕ))
 -- the answer says that a typing rule is broken
 abbrev pub IsTypingRefusal : Answer → Type 0
 IsTypingRefusal a = (f : TypeFault) × (a ≡ answer (type_refusal f) 3)
+
+-- the answer is a verdict on this program
+abbrev pub IsVerdictOn : List (List ℕ) → List (List ℕ × List ℕ) → TypedProgram → Answer → Type 0
+IsVerdictOn words texts t a = (program text : List ℕ) × AskVerify words program × (text_named program texts ≡ Some text)
+    × IsTypedText text t × ReportsVerdict t a
 
 -- The words ask for the printing of a program that stands in the texts.
 abbrev pub PrintsProgram : List (List ℕ) → List (List ℕ × List ℕ) → Type 0
@@ -217,9 +255,23 @@ pub record AsksForCheck (words : List (List ℕ)) (texts : List (List ℕ × Lis
   pub found : text_named program texts ≡ Some text
   pub typed : IsTypedText text t
 
--- The program whose check they ask for is safe: no run of it fails an assertion.
+-- The program has the same text in both, and the second name stands for the bytes of an answer, which are within their limit.
+pub record IsHandedOver (program second : List ℕ) (before after : List (List ℕ × List ℕ)) (a : Answer) : Type 0 where
+  pub same : text_named program after ≡ text_named program before
+  pub given : text_named second after ≡ Some a.bytes
+  pub short : length a.bytes ≤ second_limit
+
+-- The words ask for the verdict on this program, which stands in the texts and keeps the typing rules.
+pub record AsksForVerdict (words : List (List ℕ)) (texts : List (List ℕ × List ℕ)) (t : TypedProgram) : Type 0 where
+  pub program : List ℕ
+  pub asked : AskVerify words program
+  pub text : List ℕ
+  pub found : text_named program texts ≡ Some text
+  pub typed : IsTypedText text t
+
+-- The program whose check or verdict they ask for is safe: no run of it fails an assertion.
 abbrev pub ProgramIsSafe : List (List ℕ) → List (List ℕ × List ℕ) → Type 0
-ProgramIsSafe words texts = (t : TypedProgram) × AsksForCheck words texts t × IsSafe t
+ProgramIsSafe words texts = (t : TypedProgram) × (AsksForCheck words texts t ⊎ AsksForVerdict words texts t) × IsSafe t
 
 -- The words ask for the replay of a failure of a program, both of which stand in the texts, and its values lead to the failure of
 -- this assertion.
@@ -244,6 +296,19 @@ pub record Answers (words : List (List ℕ)) (texts : List (List ℕ × List ℕ
   pub reported : Reports words texts a
   pub status_is : status ≡ a.status
   pub taken : IfSome before (λ bytes. after ≡ Some (bytes ++ a.bytes))
+
+-- The same, and `closed` has gained the races of that answer.
+pub record Closes (words : List (List ℕ)) (texts : List (List ℕ × List ℕ)) (before after : Option (List ℕ)) (status : ℕ) (old new : List (Race Certificate)) : Type 0 where
+  pub given : Answer
+  pub answers : Answers words texts before after status given
+  pub gained : new ≡ old ++ given.races
+
+-- The sink has taken a front of the bytes of an answer that the report allows, and `closed` has gained its races.
+pub record ClosesAtFront (words : List (List ℕ)) (texts : List (List ℕ × List ℕ)) (before after : Option (List ℕ)) (old new : List (Race Certificate)) : Type 0 where
+  pub given : Answer
+  pub reported : Reports words texts given
+  pub taken : IfSome before (λ bytes. GainsFront given.bytes bytes after)
+  pub gained : new ≡ old ++ given.races
 
 -- The sink has taken nothing, or a front of the bytes of an answer that the report allows.
 abbrev pub TookFront : List (List ℕ) → List (List ℕ × List ℕ) → List ℕ → Option (List ℕ) → Type 0

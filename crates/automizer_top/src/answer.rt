@@ -1,13 +1,18 @@
 ghost use Rattle.std.specs.Prelude.{◌≡◌, IfOk};
+ghost use Rattle.std.specs.Option.{option_to_list};
 ghost use Rattle.std.specs.String.{string_bytes};
 ghost use Rattle.automizer_top.specs.Answers.{answered};
+ghost use Rattle.automizer_top.specs.Verdicts.{verdict_status};
 ghost use Rattle.automizer_top.specs.Refusals.{what_name, which_name, refusal};
 ghost use Rattle.automizer_top.specs.Report.{cause_name, reject_name, rejected_answer, replayed_answer};
 ghost use Rattle.automizer_top.specs.TypeRefusals.{rule_line, type_refusal};
 
 use boogie_parse::{Fault, What, Which};
 use boogie_types::{Span, TypeFault};
+use itp_automaton::Certified;
 use proof_check::RejectCause;
+use race_core::Shared;
+use race_verdicts::Verdict;
 use std::alloc::{AllocError, Global};
 use trace_replay::{AssertId, ReplayCause};
 
@@ -15,7 +20,7 @@ use trace_replay::{AssertId, ReplayCause};
 const FIRST_ITEM_LINE: u128 = 4;
 
 /// What the program answers, before it is written.
-#[derive(Debug, Drop)]
+#[derive(Drop)]
 pub(crate) enum Answer {
     /// The words are faulty.
     Usage,
@@ -32,21 +37,36 @@ pub(crate) enum Answer {
     /// The text of the program.
     Printed(Vec<u8>),
     /// The second text is not in its grammar: its first wrong line.
-    Syntax { line: u64 },
+    Syntax {
+        line: u64,
+    },
     /// The annotation proves the program.
     Accepted,
     /// A check of the annotation fails at this item, or at its end.
-    Rejected { item: u64, cause: RejectCause },
+    Rejected {
+        item: u64,
+        cause: RejectCause,
+    },
     /// This assertion fails as the values say.
     Replayed(AssertId),
     /// The values do not lead to a failure.
-    Stopped { step: u64, cause: ReplayCause },
+    Stopped {
+        step: u64,
+        cause: ReplayCause,
+    },
+    /// The text of a verdict, with the race that it is of.
+    Decided {
+        text: Vec<u8>,
+        verdict: Verdict,
+        race: Shared<Certified>,
+    },
 }
 
 impl Answer {
-    /// The bytes that are written.
-    pub fn text(self, alloc: Global) -> Result<Vec<u8>, AllocError>
-        ensures { IfOk result (λ text. text.items ≡ (answered self).bytes) }
+    /// The bytes that are written, and the race of a verdict.
+    pub fn output(self, alloc: Global) -> Result<(Vec<u8>, Option<Shared<Certified>>), AllocError>
+        ensures text { IfOk result (λ output. output.0.items ≡ (answered self).bytes) }
+        ensures race { IfOk result (λ output. option_to_list output.1 ≡ (answered self).races) }
     {
         let line = match self {
             Answer::Usage => String::from_str(
@@ -58,7 +78,7 @@ impl Answer {
             Answer::IllTyped(fault) => type_refusal_text(alloc, &fault)?,
             Answer::TooWide(at) => rule_line(alloc, "TooWide", at)?,
             Answer::TooBig(at) => rule_line(alloc, "TooBig", at)?,
-            Answer::Printed(text) => return Ok(text),
+            Answer::Printed(text) => return Ok((text, None)),
             Answer::Syntax { line } => format!(in alloc; "rejected {line} Syntax\n")?,
             Answer::Accepted => String::from_str(alloc, "accepted\n")?,
             Answer::Rejected { item, cause } => rejected_text(alloc, item, cause)?,
@@ -67,8 +87,13 @@ impl Answer {
                 let name = cause_name(cause);
                 format!(in alloc; "rejected {step} {name}\n")?
             }
+            Answer::Decided {
+                text,
+                verdict: _,
+                race,
+            } => return Ok((text, Some(race))),
         };
-        Ok(line.into_bytes())
+        Ok((line.into_bytes(), None))
     }
 
     /// The status of the program.
@@ -86,7 +111,19 @@ impl Answer {
             Answer::Syntax { line: _ }
             | Answer::Rejected { item: _, cause: _ }
             | Answer::Stopped { step: _, cause: _ } => 1,
+            Answer::Decided { verdict, .. } => verdict_status(verdict),
         }
+    }
+}
+
+/// The status of a verdict.
+fn verdict_status(verdict: &Verdict) -> u8
+    ensures { result ≡ verdict_status verdict.now }
+{
+    match verdict {
+        Verdict::Safe(_) => 0,
+        Verdict::Unsafe(_) => 1,
+        Verdict::Unknown { .. } => 2,
     }
 }
 

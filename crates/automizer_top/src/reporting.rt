@@ -5,10 +5,10 @@ ghost use Rattle.outer_io.specs.Texts.{text_named};
 ghost use Rattle.typed_tree.specs.declared.fault.TypeFault.TheVariants as TypeFault;
 ghost use Rattle.typing_rules.specs.TypedParts.{typed_program};
 ghost use Rattle.automizer_top.specs.declared.reporting.Halt.TheVariants.{Fault, Memory};
-ghost use Rattle.automizer_top.specs.Answers.{answered, IsGraphOf, HasNoErrorWord, TextIsSafe, CheckedIsSafe};
+ghost use Rattle.automizer_top.specs.Answers.{answered, IsGraphOf, HasNoErrorWord, TextIsSafe, CheckedIsSafe, VerifiedIsSafe};
 ghost use Rattle.automizer_top.specs.Refusals.{refusal};
 ghost use Rattle.automizer_top.specs.TypeRefusals.{type_refusal};
-ghost use Rattle.automizer_top.specs.Report.{answer, accepted_answer, IsTypedText, RefusesTyped, RefusesLowering, Reports, ReportsPrint, ReportsProof, ReportsCheck, ReportsReplay, ReportsFailure};
+ghost use Rattle.automizer_top.specs.Report.{answer, accepted_answer, IsTypedText, RefusesTyped, RefusesLowering, Reports, ReportsPrint, ReportsProof, ReportsCheck, ReportsReplay, ReportsFailure, ReportsVerdict, ReportsVerify};
 
 use crate::answer::Answer;
 use crate::words::{Mode, asked};
@@ -20,7 +20,10 @@ use letter_acts::Icfg;
 use outer_io::{ReadFault, Shelf, read_all};
 use proof_check::{Reject, check};
 use proof_form::{ProofFault, read_safe};
+use race_rounds::alone;
+use race_verdicts::{verdict_of, verdict_text};
 use std::alloc::{AllocError, Global};
+use std::thread::Threads;
 use trace_replay::{FailureFault, ReplayFault, read_failure, replay};
 
 /// The most bytes of a program text.
@@ -28,6 +31,12 @@ const PROGRAM_LIMIT: u64 = 1_048_576;
 
 /// The most bytes of a second text: the greatest length of a list of bytes.
 const SECOND_LIMIT: u64 = 9_223_372_036_854_775_807;
+
+/// How many rounds a race has at most.
+const ROUNDS: u64 = 1_000;
+
+/// How many cuts a branch of a refutation has at most.
+const DEPTH: u32 = 16;
 
 /// The name of the procedure at which runs begin.
 const ENTRY: &str = "main";
@@ -185,6 +194,46 @@ fn checked<H: Shelf>(
     Ok(judged(alloc, &icfg, &proof)?)
 }
 
+/// The verdict on a program by a race over its graph.
+fn decided<R: Threads + Sync>(
+    rt: &R,
+    alloc: Global,
+    program: &Typed,
+    icfg: &Icfg,
+) -> Result<Answer, AllocError>
+    requires { IsGraphOf (typed_program program.now) icfg.now }
+    ensures reported { IfOk result (λ a. ReportsVerdict (typed_program program.now) (answered a)) }
+    ensures safe { IfOk result (λ a. (answered a).status ≡ 0 → HasNoErrorWord icfg.now) }
+{
+    let race = alone(rt, alloc, program, icfg, ROUNDS, DEPTH)?;
+    let verdict = verdict_of(alloc, program, icfg, &race)?;
+    let text = verdict_text(alloc, race.version(), &verdict)?;
+    // Contracts alone speak of these.
+    let (_graph, _history, _room) = (icfg.nwa(), race.history(), race.sized());
+    Ok(Answer::Decided {
+        text,
+        verdict,
+        race,
+    })
+}
+
+/// What is answered to a program text whose verdict is asked for.
+fn verified<R: Threads + Sync>(rt: &R, alloc: Global, text: &[u8]) -> Result<Answer, AllocError>
+    requires { length text.now ≤ PROGRAM_LIMIT }
+    ensures reported { IfOk result (λ a. ReportsVerify text.now (answered a)) }
+    ensures safe { IfOk result (λ a. (answered a).status ≡ 0 → TextIsSafe text.now) }
+{
+    let program = match typed(alloc, text)? {
+        Ok(program) => program,
+        Err(answer) => return Ok(answer),
+    };
+    let icfg = match graph(alloc, &program)? {
+        Ok(icfg) => icfg,
+        Err(answer) => return Ok(answer),
+    };
+    decided(rt, alloc, &program, &icfg)
+}
+
 /// What is answered to a program and to the text of a failure.
 fn outcome(alloc: Global, program: &Typed, text: &[u8]) -> Result<Answer, AllocError>
     requires { length text.now ≤ SECOND_LIMIT }
@@ -228,7 +277,8 @@ fn replayed<H: Shelf>(
 }
 
 /// What the program answers to its words: its report.
-pub(crate) fn reported<H: Shelf>(
+pub(crate) fn reported<R: Threads + Sync, H: Shelf>(
+    rt: &R,
     alloc: Global,
     words: &[String],
     shelf: &mut H,
@@ -238,6 +288,8 @@ pub(crate) fn reported<H: Shelf>(
         Reports (map string_bytes words.now) shown (answered a))) }
     ensures accepted { IfOk result (λ a. answered a ≡ accepted_answer → IfSome (H.texts shelf.old) (λ shown.
         CheckedIsSafe (map string_bytes words.now) shown)) }
+    ensures verified { IfOk result (λ a. (answered a).status ≡ 0 → IfSome (H.texts shelf.old) (λ shown.
+        VerifiedIsSafe (map string_bytes words.now) shown)) }
     ensures fault { result ≡ Err Halt.Fault → Rose (H.faults shelf.old) (H.faults shelf.new) }
     ensures no_fault { result ≢ Err Halt.Fault → H.faults shelf.new ≡ H.faults shelf.old }
     ensures never_falls { H.faults shelf.old ≤ H.faults shelf.new }
@@ -250,6 +302,7 @@ pub(crate) fn reported<H: Shelf>(
     };
     match mode {
         Mode::Print { program: _ } => Ok(printed(alloc, &text)?),
+        Mode::Verify { program: _ } => Ok(verified(rt, alloc, &text)?),
         Mode::Check { program: _, second } => checked(alloc, shelf, &text, second),
         Mode::Replay { program: _, second } => replayed(alloc, shelf, &text, second),
     }

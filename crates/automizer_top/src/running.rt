@@ -1,11 +1,22 @@
-ghost use Rattle.std.specs.Prelude.{◌≡◌, ◌≢◌, ◌<◌, ◌++◌, ℕ, List, ◌⊎◌, Some, map, codes, IfSome};
+ghost use Rattle.std.specs.Prelude.{◌≡◌, ◌≢◌, ◌<◌, [], ◌∷◌, ◌++◌, ℕ, List, ◌⊎◌, Some, map, codes, IfSome, OnOk, OnErr};
+ghost use Rattle.std.specs.Option.{option_to_list};
 ghost use Rattle.std.specs.String.{string_bytes};
 ghost use Rattle.outer_io.specs.Faults.{Rose};
-ghost use Rattle.automizer_top.specs.Report.{Answer, Answers, Reports, WhereTold, TookFront, PrintsProgram, ProgramIsSafe, ProgramFails, IsTypingRefusal};
+ghost use Rattle.boogie_run.specs.declared.types.AssertId.{AssertId};
+ghost use Rattle.typed_tree.specs.TypedTree.{TypedProgram};
+ghost use Rattle.nwa_base.specs.declared.letters.Letter.{Letter};
+ghost use Rattle.nwa_base.specs.Acceptance.{Accepts};
+ghost use Rattle.lowered_graph.specs.Lowered.{lowered};
+ghost use Rattle.proof_form.specs.Annotations.{Content, safe_text};
+ghost use Rattle.automizer_top.specs.Report.{Answer, Answers, Reports, accepted_answer, replayed_answer, ReportsVerdict, IsHandedOver, WhereTold, TookFront, Closes, ClosesAtFront, PrintsProgram, ProgramIsSafe, ProgramFails, IsTypingRefusal, IsVerdictOn};
 
 use crate::reporting::{Halt, reported};
+use itp_automaton::Certified;
+use itp_automaton::laws::certified_words_are_infeasible;
 use outer_io::{Shelf, Sink, write_all};
-use std::alloc::Global;
+use race_core::Shared;
+use std::alloc::{AllocError, Global};
+use std::thread::Threads;
 
 /// The status where a call on the shelf or on the sink failed.
 const DEVICE: u8 = 5;
@@ -13,21 +24,40 @@ const DEVICE: u8 = 5;
 /// The status where memory ran out.
 const NO_MEMORY: u8 = 6;
 
+/// Adds a race to those that are closed.
+fn close(
+    closed: &mut Vec<Shared<Certified>>,
+    race: Option<Shared<Certified>>,
+) -> Result<(), AllocError>
+    ensures gained { OnOk result (closed.new.items ≡ closed.old.items ++ option_to_list race) }
+    ensures kept { OnErr result (closed.new.items ≡ closed.old.items) }
+{
+    if let Some(race) = race {
+        closed.push(race)?;
+    }
+    Ok(())
+}
+
 /// Does all that the program does, and answers its status. The words are those after the program's name; texts are read
-/// from the shelf by their names, and the output goes to the sink.
-pub fn run<R, H: Shelf, K: Sink>(
-    _rt: &R,
+/// from the shelf by their names, and the output goes to the sink. The race of a verdict is added to `closed`.
+pub fn run<R: Threads + Sync, H: Shelf, K: Sink>(
+    rt: &R,
     alloc: Global,
     words: &[String],
     shelf: &mut H,
     sink: &mut K,
+    closed: &mut Vec<Shared<Certified>>,
 ) -> u8
     // Where no call on the outside failed and memory did not run out, the status is that of the report, and so are the bytes.
     ensures report { (Rose (H.faults shelf.old) (H.faults shelf.new) → ⊥) → (Rose (K.faults sink.old) (K.faults sink.new) → ⊥) → result ≢ 6 →
         IfSome (H.texts shelf.old) (λ shown. (a : Answer) ×
         Answers (map string_bytes words.now) shown (K.taken sink.old) (K.taken sink.new) result a) }
 
-    // Status 0 says that a program was printed, that no run of a checked one fails an assertion, or that one was replayed that does.
+    // `closed` then gains the race of a verdict, and nothing else.
+    ensures closed { (Rose (H.faults shelf.old) (H.faults shelf.new) → ⊥) → (Rose (K.faults sink.old) (K.faults sink.new) → ⊥) → result ≢ 6 →
+        IfSome (H.texts shelf.old) (λ shown. Closes (map string_bytes words.now) shown (K.taken sink.old) (K.taken sink.new) result closed.old.items closed.new.items) }
+
+    // Status 0 says that a program was printed, that no run of a checked or verified one fails an assertion, or that one was replayed that does.
     // `accepted` says the second.
     ensures accepted_is_safe { result ≡ 0 → IfSome (H.texts shelf.old) (λ shown.
         PrintsProgram (map string_bytes words.now) shown ⊎ (ProgramIsSafe (map string_bytes words.now) shown ⊎ ProgramFails (map string_bytes words.now) shown)) }
@@ -41,19 +71,27 @@ pub fn run<R, H: Shelf, K: Sink>(
     ensures front { result ≡ 5 → WhereTold (H.texts shelf.old) (K.taken sink.old)
         (λ shown before. TookFront (map string_bytes words.now) shown before (K.taken sink.new)) }
 
-    // Status 6 takes nothing.
+    // Where the sink failed, `closed` has gained the race of the verdict that was written, and nothing where the shelf failed.
+    ensures closed_at_fault { result ≡ 5 → ((closed.new.items ≡ closed.old.items) × Rose (H.faults shelf.old) (H.faults shelf.new)) ⊎
+        IfSome (H.texts shelf.old) (λ shown. ClosesAtFront (map string_bytes words.now) shown (K.taken sink.old) (K.taken sink.new) closed.old.items closed.new.items) }
+
+    // Status 6 takes nothing, and closes nothing.
     ensures out_of_memory { result ≡ 6 → K.taken sink.new ≡ K.taken sink.old }
+    ensures closes_nothing { result ≡ 6 → closed.new.items ≡ closed.old.items }
     ensures texts { H.texts shelf.new ≡ H.texts shelf.old }
 {
-    let answer = match reported(alloc, words, shelf) {
+    let answer = match reported(rt, alloc, words, shelf) {
         Ok(answer) => answer,
         Err(Halt::Fault) => return DEVICE,
         Err(Halt::Memory) => return NO_MEMORY,
     };
     let status = answer.status();
-    let Ok(text) = answer.text(alloc) else {
+    let Ok((text, race)) = answer.output(alloc) else {
         return NO_MEMORY;
     };
+    if close(closed, race).is_err() {
+        return NO_MEMORY;
+    }
     match write_all(sink, &text) {
         Ok(()) => status,
         Err(_) => DEVICE,
@@ -61,8 +99,27 @@ pub fn run<R, H: Shelf, K: Sink>(
 }
 
 /// The report allows one answer at most, so each output comes exactly where its case holds; but of several typing rules that a
-/// program breaks any may be named.
+/// program breaks any may be named, and of several verdicts on one program any may be told.
 pub fn one_report()
-    ensures { (words : List (List ℕ)) (texts : List (List ℕ × List ℕ)) (a b : Answer) →
-        Reports words texts a → Reports words texts b → (a ≡ b) ⊎ (IsTypingRefusal a × IsTypingRefusal b) }
+    ensures { (words : List (List ℕ)) (texts : List (List ℕ × List ℕ)) (a b : Answer) → Reports words texts a → Reports words texts b →
+        (a ≡ b) ⊎ ((IsTypingRefusal a × IsTypingRefusal b) ⊎ ((t : TypedProgram) × IsVerdictOn words texts t a × IsVerdictOn words texts t b)) }
 {}
+
+/// What `verify` writes is confirmed where its bytes are handed over with the same program: `check` accepts each `safe`, and `replay`
+/// replays each `unsafe`.
+pub fn verdicts_are_confirmed()
+    ensures accepted { (program second : List ℕ) (before after : List (List ℕ × List ℕ)) (a b : Answer) → Reports (codes "verify" ∷ program ∷ []) before a → a.status ≡ 0 →
+        IsHandedOver program second before after a → Reports (codes "check" ∷ program ∷ second ∷ []) after b → b ≡ accepted_answer }
+    ensures replayed { (program second : List ℕ) (before after : List (List ℕ × List ℕ)) (a b : Answer) → Reports (codes "verify" ∷ program ∷ []) before a → a.status ≡ 1 →
+        IsHandedOver program second before after a → Reports (codes "replay" ∷ program ∷ second ∷ []) after b → (id : AssertId) × (b ≡ replayed_answer id) }
+{}
+
+/// Of two verdicts on one program not one is `safe` and the other `unsafe`; and where the program has no error word, the verdict is
+/// `safe` after no round.
+pub fn verdicts_agree()
+    ensures one { (t : TypedProgram) (a b : Answer) → ReportsVerdict t a → ReportsVerdict t b → a.status ≡ 0 → b.status ≡ 1 → ⊥ }
+    ensures at_once { (t : TypedProgram) (a : Answer) → ReportsVerdict t a → ((w : List Letter) → Accepts (lowered t).automaton w → ⊥) →
+        (w : Content) × (a.bytes ≡ safe_text 0 w) × (a.status ≡ 0) }
+{
+    certified_words_are_infeasible();
+}

@@ -2,11 +2,13 @@ use crate::run;
 use outer_io::{MemShelf, MemSink};
 use std::alloc::{AllocError, Global};
 use std::test::Fail;
+use std::thread::Threads;
 
 mod checking;
 mod replaying;
 mod rows;
 mod typing;
+mod verifying;
 
 const INCREMENT: &str = "procedure main() {\n  var x: int;\n  x := 1;\n  assert x >= 1;\n}\n";
 
@@ -52,7 +54,8 @@ fn all_words(alloc: Global, words: &[&str]) -> Result<Vec<String>, AllocError> {
 }
 
 /// What these words write where `p` and `q` are these texts, in pieces of at most 7 bytes, and the status.
-fn written(
+fn written<R: Threads + Sync>(
+    rt: &R,
     alloc: Global,
     words: &[String],
     program: &[u8],
@@ -60,24 +63,31 @@ fn written(
 ) -> Result<(String, u8), Fail> {
     let mut shelf = MemShelf::new(texts(alloc, program, second)?, 7, Vec::new(alloc));
     let mut sink = MemSink::new(alloc, 7, Vec::new(alloc));
-    let status = run(&(), alloc, words, &mut shelf, &mut sink);
+    let mut closed = Vec::new(alloc);
+    let status = run(rt, alloc, words, &mut shelf, &mut sink, &mut closed);
     Ok((String::from_utf8(sink.taken().to_vec(alloc)?)?, status))
 }
 
 /// What this mode writes of `p` and `q`, and its status.
-fn answered(
+fn answered<R: Threads + Sync>(
+    rt: &R,
     alloc: Global,
     mode: &str,
     program: &[u8],
     second: &[u8],
 ) -> Result<(String, u8), Fail> {
     let words = all_words(alloc, &[mode, "p", "q"])?;
-    written(alloc, &words, program, second)
+    written(rt, alloc, &words, program, second)
 }
 
 /// What `check p q` writes, and its status.
-fn check(alloc: Global, program: &[u8], proof: &[u8]) -> Result<(String, u8), Fail> {
-    answered(alloc, "check", program, proof)
+fn check<R: Threads + Sync>(
+    rt: &R,
+    alloc: Global,
+    program: &[u8],
+    proof: &[u8],
+) -> Result<(String, u8), Fail> {
+    answered(rt, alloc, "check", program, proof)
 }
 
 /// Words, joined by `/`, the number of the call on the shelf and of the one on the sink that fail, 0 for none, the status, and behind it what is
@@ -98,6 +108,11 @@ check/p/q 12 0 5:
 check/p/q 0 1 5:
 check/p/q 0 2 5:accepte
 check/p/q 0 3 0:accepted$
+verify/other 0 0 5:
+verify/p 1 0 5:
+verify/p 2 0 5:
+verify/p 0 1 5:
+verify/p 0 2 5:safe$ro
 ";
 
 /// Faulty words, joined by `/`.
@@ -107,7 +122,8 @@ check/p
 replay/p
 print
 print/p/q
-verify/p
+verify
+verify/p/
 ";
 
 /// The words that are joined by `/`.
@@ -120,7 +136,8 @@ fn parted(alloc: Global, joined: &str) -> Result<Vec<String>, AllocError> {
 }
 
 /// The status and what is written, in which `$` is the end of a line, where these calls on the shelf and on the sink fail.
-fn under_faults(
+fn under_faults<R: Threads + Sync>(
+    rt: &R,
     alloc: Global,
     words: &[String],
     shelf_fails: u64,
@@ -129,20 +146,21 @@ fn under_faults(
     let texts = texts(alloc, INCREMENT.as_bytes(), PROOF.as_bytes())?;
     let mut shelf = MemShelf::new(texts, 7, vec![in alloc; shelf_fails]?);
     let mut sink = MemSink::new(alloc, 7, vec![in alloc; sink_fails]?);
-    let status = run(&(), alloc, words, &mut shelf, &mut sink);
+    let mut closed = Vec::new(alloc);
+    let status = run(rt, alloc, words, &mut shelf, &mut sink, &mut closed);
     let output = String::from_utf8(sink.taken().to_vec(alloc)?)?;
     let output = output.replace(alloc, '\n', "$")?;
     Ok(format!(in alloc; "{status}:{output}")?)
 }
 
 /// The first row of `CALLS` that is answered otherwise, with its answer.
-fn first_wrong_call(alloc: Global) -> Result<Option<String>, Fail> {
+fn first_wrong_call<R: Threads + Sync>(rt: &R, alloc: Global) -> Result<Option<String>, Fail> {
     for row in CALLS.lines() {
         let (joined, rest) = row.split_once(' ').unwrap_or((row, ""));
         let (shelf_fails, rest) = rest.split_once(' ').unwrap_or((rest, ""));
         let (sink_fails, wanted) = rest.split_once(' ').unwrap_or((rest, ""));
         let words = parted(alloc, joined)?;
-        let given = under_faults(alloc, &words, shelf_fails.parse()?, sink_fails.parse()?)?;
+        let given = under_faults(rt, alloc, &words, shelf_fails.parse()?, sink_fails.parse()?)?;
         if given.as_str() != wanted {
             return Ok(Some(format!(in alloc; "{row}: {given}")?));
         }
@@ -151,14 +169,18 @@ fn first_wrong_call(alloc: Global) -> Result<Option<String>, Fail> {
 }
 
 /// The first faulty words that are answered by another text than the usage line, or with another status than 4.
-fn first_other_than_usage(alloc: Global) -> Result<Option<&'static str>, AllocError> {
+fn first_other_than_usage<R: Threads + Sync>(
+    rt: &R,
+    alloc: Global,
+) -> Result<Option<&'static str>, AllocError> {
     let usage =
         b"usage: automizer MODE PROGRAM [SECOND] [--entry NAME] [--rounds N] [--workers N] [--depth N]\n";
     for joined in FAULTY.lines() {
         let words = parted(alloc, joined)?;
         let mut shelf = MemShelf::new(Vec::new(alloc), 7, Vec::new(alloc));
         let mut sink = MemSink::new(alloc, 100, Vec::new(alloc));
-        let status = run(&(), alloc, &words, &mut shelf, &mut sink);
+        let mut closed = Vec::new(alloc);
+        let status = run(rt, alloc, &words, &mut shelf, &mut sink, &mut closed);
         if status != 4 || sink.taken() != usage.as_slice() {
             return Ok(Some(joined));
         }
@@ -168,9 +190,9 @@ fn first_other_than_usage(alloc: Global) -> Result<Option<&'static str>, AllocEr
 
 #[test]
 fn words_and_devices(rt: HostRuntime) -> Result<(), Fail> {
-    let wrong = first_wrong_call(rt.alloc())?;
+    let wrong = first_wrong_call(&rt, rt.alloc())?;
     assert!(rt; wrong.is_none(), "{wrong:?}");
-    let wrong = first_other_than_usage(rt.alloc())?;
+    let wrong = first_other_than_usage(&rt, rt.alloc())?;
     assert!(rt; wrong.is_none(), "{wrong:?}");
     Ok(())
 }
@@ -209,7 +231,8 @@ fn texts_past_the_limit_and_odd_bytes(rt: HostRuntime) -> Result<(), Fail> {
         let words = all_words(alloc, &["check", "p", "q"])?;
         let mut shelf = MemShelf::new(texts(alloc, program, proof)?, 65_536, Vec::new(alloc));
         let mut sink = MemSink::new(alloc, 100, Vec::new(alloc));
-        let _status = run(&(), alloc, &words, &mut shelf, &mut sink);
+        let mut closed = Vec::new(alloc);
+        let _status = run(&rt, alloc, &words, &mut shelf, &mut sink, &mut closed);
         assert_eq!(rt; sink.taken(), output.as_bytes());
     }
     Ok(())
@@ -227,18 +250,18 @@ fn texts_cut_off(rt: HostRuntime) -> Result<(), Fail> {
     let program = INCREMENT.as_bytes();
     let last = program.len().saturating_sub(1);
     for length in 1..last {
-        let (written, status) = check(alloc, front(program, length), PROOF.as_bytes())?;
+        let (written, status) = check(&rt, rt.alloc(), front(program, length), PROOF.as_bytes())?;
         assert!(rt;
             written.starts_with("refused Syntax "),
             "the first {length} bytes"
         );
         assert_eq!(rt; status, 3, "the first {length} bytes");
     }
-    let (written, _status) = check(alloc, front(program, last), PROOF.as_bytes())?;
+    let (written, _status) = check(&rt, rt.alloc(), front(program, last), PROOF.as_bytes())?;
     assert_eq!(rt; written.as_str(), "accepted\n");
     let mut line = 1u64;
     for (length, byte) in PROOF.bytes().enumerate() {
-        let (written, _status) = check(alloc, program, front(PROOF.as_bytes(), length))?;
+        let (written, _status) = check(&rt, rt.alloc(), program, front(PROOF.as_bytes(), length))?;
         assert_eq!(rt;
             written.as_str(),
             format!(in alloc; "rejected {line} Syntax\n")?.as_str()
@@ -251,11 +274,12 @@ fn texts_cut_off(rt: HostRuntime) -> Result<(), Fail> {
 }
 
 /// What `print p` writes and its status.
-fn printed(alloc: Global, program: &[u8]) -> Result<(String, u8), Fail> {
+fn printed<R: Threads + Sync>(rt: &R, alloc: Global, program: &[u8]) -> Result<(String, u8), Fail> {
     let words = all_words(alloc, &["print", "p"])?;
     let mut shelf = MemShelf::new(texts(alloc, program, b"")?, 65_536, Vec::new(alloc));
     let mut sink = MemSink::new(alloc, 100, Vec::new(alloc));
-    let status = run(&(), alloc, &words, &mut shelf, &mut sink);
+    let mut closed = Vec::new(alloc);
+    let status = run(rt, alloc, &words, &mut shelf, &mut sink, &mut closed);
     Ok((String::from_utf8(sink.taken().to_vec(alloc)?)?, status))
 }
 
@@ -408,14 +432,14 @@ var m: [int]int;
 ";
 
 /// The first program that is printed otherwise, with its answer.
-fn first_wrong_print(alloc: Global) -> Result<Option<String>, Fail> {
+fn first_wrong_print<R: Threads + Sync>(rt: &R, alloc: Global) -> Result<Option<String>, Fail> {
     let mut program = String::new(alloc);
     let mut wanted = String::new(alloc);
     for line in PRINTED.lines() {
         if let Some(rest) = line.strip_prefix('>') {
             rows::push_line(&mut wanted, rest)?;
         } else if let Some(answer) = line.strip_prefix("= ") {
-            let (output, status) = printed(alloc, program.as_bytes())?;
+            let (output, status) = printed(rt, alloc, program.as_bytes())?;
             let given = format!(in alloc; "{status} {output}")?;
             let wanted_now = format!(in alloc; "{answer} {wanted}")?;
             if given.as_str() != wanted_now.as_str() {
@@ -432,7 +456,7 @@ fn first_wrong_print(alloc: Global) -> Result<Option<String>, Fail> {
 
 #[test]
 fn programs_are_printed(rt: HostRuntime) -> Result<(), Fail> {
-    let wrong = first_wrong_print(rt.alloc())?;
+    let wrong = first_wrong_print(&rt, rt.alloc())?;
     assert!(rt; wrong.is_none(), "{wrong:?}");
     Ok(())
 }
@@ -460,7 +484,7 @@ fn long_programs_are_printed_or_refused(rt: HostRuntime) -> Result<(), Fail> {
         ),
         (nested(alloc, 201)?, "refused Limit nesting 1 227\n", 3),
     ] {
-        let (written, given) = printed(alloc, &program)?;
+        let (written, given) = printed(&rt, rt.alloc(), &program)?;
         assert_eq!(rt; written.as_str(), output);
         assert_eq!(rt; given, status, "{output}");
     }

@@ -11,6 +11,8 @@ pub(crate) enum Mode<'a> {
     Replay { program: &'a str, second: &'a str },
     /// `print PROGRAM`
     Print { program: &'a str },
+    /// `verify PROGRAM`
+    Verify { program: &'a str },
 }
 
 impl<'a> Mode<'a> {
@@ -21,7 +23,8 @@ impl<'a> Mode<'a> {
         match self {
             Mode::Check { program, second: _ }
             | Mode::Replay { program, second: _ }
-            | Mode::Print { program } => program,
+            | Mode::Print { program }
+            | Mode::Verify { program } => program,
         }
     }
 }
@@ -39,6 +42,19 @@ fn asked_of_two<'a>(mode: &str, program: &'a str, second: &'a str) -> Option<Mod
     }
 }
 
+/// What a mode with one name asks for.
+fn asked_of_one<'a>(mode: &str, program: &'a str) -> Option<Mode<'a>>
+    ensures { MatchOption result
+        (AsksNothing (mode.now ∷ program.now ∷ []))
+        (λ m. Asks (mode.now ∷ program.now ∷ []) m) }
+{
+    match mode {
+        "print" => Some(Mode::Print { program }),
+        "verify" => Some(Mode::Verify { program }),
+        _ => None,
+    }
+}
+
 /// What the words ask for; none where they are faulty.
 pub(crate) fn asked(words: &[String]) -> Option<Mode<'_>>
     ensures { MatchOption result
@@ -47,9 +63,7 @@ pub(crate) fn asked(words: &[String]) -> Option<Mode<'_>>
 {
     match words {
         [mode, program, second] => asked_of_two(mode.as_str(), program.as_str(), second.as_str()),
-        [mode, program] if mode.as_str() == "print" => Some(Mode::Print {
-            program: program.as_str(),
-        }),
+        [mode, program] => asked_of_one(mode.as_str(), program.as_str()),
         _ => None,
     }
 }

@@ -4,6 +4,7 @@ use super::rows::{answer, first_wrong, push_line};
 use super::{INCREMENT, all_words};
 use std::alloc::{AllocError, Global};
 use std::test::Fail;
+use std::thread::Threads;
 
 /// A call between a write and an assertion.
 const CALL: &str = "var g: int;
@@ -184,7 +185,7 @@ fn altered(alloc: Global, text: &str, old: &str, new: &str) -> Result<String, Al
 }
 
 /// The answer to the first change that is answered otherwise, behind the line that it changes.
-fn first_wrong_change(alloc: Global) -> Result<Option<String>, Fail> {
+fn first_wrong_change<R: Threads + Sync>(rt: &R, alloc: Global) -> Result<Option<String>, Fail> {
     let words = all_words(alloc, &["check", "p", "q"])?;
     let mut old = String::new(alloc);
     let mut new = String::new(alloc);
@@ -195,7 +196,7 @@ fn first_wrong_change(alloc: Global) -> Result<Option<String>, Fail> {
             push_line(&mut new, rest)?;
         } else {
             let proof = altered(alloc, CALL_PROOF, &old, &new)?;
-            let given = answer(alloc, &words, CALL, &proof)?;
+            let given = answer(rt, alloc, &words, CALL, &proof)?;
             if given.as_str().strip_suffix('\n') != line.strip_prefix("= ") {
                 return Ok(Some(format!(in alloc; "{old}: {given}")?));
             }
@@ -306,14 +307,14 @@ fn annotations_are_checked(rt: HostRuntime) -> Result<(), Fail> {
         (CALL, "1 rejected 4 BadName\n"),
         (INCREMENT, "1 rejected 4 BadName\n"),
     ] {
-        let given = answer(alloc, &words, program, FILL_PROOF)?;
+        let given = answer(&rt, rt.alloc(), &words, program, FILL_PROOF)?;
         assert_eq!(rt; given.as_str(), wanted, "{program}");
     }
-    let wrong = first_wrong(alloc, &["check", "p", "q"], "", SMALL)?;
+    let wrong = first_wrong(&rt, rt.alloc(), &["check", "p", "q"], "", SMALL)?;
     assert!(rt; wrong.is_none(), "{wrong:?}");
-    let wrong = first_wrong_change(alloc)?;
+    let wrong = first_wrong_change(&rt, rt.alloc())?;
     assert!(rt; wrong.is_none(), "{wrong:?}");
-    let wrong = first_wrong(alloc, &["check", "p", "none"], "", REFUSED)?;
+    let wrong = first_wrong(&rt, rt.alloc(), &["check", "p", "none"], "", REFUSED)?;
     assert!(rt; wrong.is_none(), "{wrong:?}");
     Ok(())
 }

@@ -640,7 +640,7 @@ procedure main() { assert false; }
 #[test]
 fn runs_are_replayed(rt: HostRuntime) -> Result<(), Fail> {
     for (second, front, table) in [("q", FRONT, RUNS), ("q", "", TEXTS), ("none", "", REFUSED)] {
-        let wrong = first_wrong(rt.alloc(), &["replay", "p", second], front, table)?;
+        let wrong = first_wrong(&rt, rt.alloc(), &["replay", "p", second], front, table)?;
         assert!(rt; wrong.is_none(), "{wrong:?}");
     }
     Ok(())

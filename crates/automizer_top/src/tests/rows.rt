@@ -6,6 +6,7 @@
 use super::{all_words, written};
 use std::alloc::{AllocError, Global};
 use std::test::Fail;
+use std::thread::Threads;
 
 /// Puts a line behind a text.
 pub(super) fn push_line(text: &mut String, line: &str) -> Result<(), AllocError> {
@@ -14,13 +15,14 @@ pub(super) fn push_line(text: &mut String, line: &str) -> Result<(), AllocError>
 }
 
 /// The status and what is written, as a row says it.
-pub(super) fn answer(
+pub(super) fn answer<R: Threads + Sync>(
+    rt: &R,
     alloc: Global,
     words: &[String],
     program: &str,
     second: &str,
 ) -> Result<String, Fail> {
-    let (output, status) = written(alloc, words, program.as_bytes(), second.as_bytes())?;
+    let (output, status) = written(rt, alloc, words, program.as_bytes(), second.as_bytes())?;
     if output.is_empty() {
         return Ok(format!(in alloc; "{status}\n")?);
     }
@@ -28,7 +30,8 @@ pub(super) fn answer(
 }
 
 /// The answer to the first row that is answered otherwise, behind its program. Each second text goes on behind `front`.
-pub(super) fn first_wrong(
+pub(super) fn first_wrong<R: Threads + Sync>(
+    rt: &R,
     alloc: Global,
     words: &[&str],
     front: &str,
@@ -41,7 +44,7 @@ pub(super) fn first_wrong(
         if let Some(rest) = line.strip_prefix('>') {
             push_line(&mut second, rest)?;
         } else if let Some(wanted) = line.strip_prefix("= ") {
-            let given = answer(alloc, &words, &program, &second)?;
+            let given = answer(rt, alloc, &words, &program, &second)?;
             if given.as_str().strip_suffix('\n') != Some(wanted) {
                 return Ok(Some(format!(in alloc; "{program}{given}")?));
             }

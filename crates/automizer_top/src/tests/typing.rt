@@ -3,6 +3,7 @@
 use super::answered;
 use std::alloc::{AllocError, Global};
 use std::test::Fail;
+use std::thread::Threads;
 
 /// In each line: the rule that is broken, or `none`, and a program in which `@` stands where it is broken and is left out: before the
 /// name, the expression, or the statement where the rule is on what it writes.
@@ -132,11 +133,11 @@ fn refused(alloc: Global, rule: &str, marked: &str) -> Result<(String, String, u
 }
 
 /// The first program that `replay` answers otherwise, with its answer.
-fn first_wrong(alloc: Global) -> Result<Option<String>, Fail> {
+fn first_wrong<R: Threads + Sync>(rt: &R, alloc: Global) -> Result<Option<String>, Fail> {
     for row in PROGRAMS.lines() {
         let (rule, marked) = row.split_once(' ').unwrap_or((row, ""));
         let (program, line, status) = refused(alloc, rule, marked)?;
-        let (written, given) = answered(alloc, "replay", program.as_bytes(), b"")?;
+        let (written, given) = answered(rt, alloc, "replay", program.as_bytes(), b"")?;
         if written.as_str() != line.as_str() || given != status {
             return Ok(Some(format!(in alloc; "{marked}: {written}")?));
         }
@@ -146,7 +147,7 @@ fn first_wrong(alloc: Global) -> Result<Option<String>, Fail> {
 
 #[test]
 fn typing_rules(rt: HostRuntime) -> Result<(), Fail> {
-    let wrong = first_wrong(rt.alloc())?;
+    let wrong = first_wrong(&rt, rt.alloc())?;
     assert!(rt; wrong.is_none(), "{wrong:?}");
     Ok(())
 }

@@ -1,7 +1,5 @@
 use Rattle.std.proofs.Common.{refl}
-use Rattle.typing_rules.specs.TypedParts.{typed_program}
 use Rattle.trace_replay.specs.FailureText.{plain}
-use Rattle.trace_replay.specs.ReplayAnswers.{IsStopOf}
 use Rattle.automizer_top.specs.Report.{IsFailureText, no_failure, replayed, stopped}
 use Rattle.automizer_top.proofs.reporting.outcome.Goals as goal
 

@@ -3,6 +3,7 @@ use Rattle.std.specs.Prelude.{IfSome}
 use Rattle.std.specs.String.{string_bytes}
 use Rattle.outer_io.specs.Texts.{GainsFront}
 use Rattle.automizer_top.specs.Answers.{answered}
+use Rattle.automizer_top.proofs.ClosedLaws.{is_not_five, is_not_six}
 use Rattle.automizer_top.proofs.ReportLaws.{nothing_is_safe, front_is_safe, whole_is_safe, zero_is_safe}
 use Rattle.automizer_top.proofs.running.run.Goals as goal
 
@@ -20,18 +21,33 @@ returns-in_default-clause-accepted_text_is_safe g c =
 
 pub returns-in-Ok-write_all-clause-accepted_is_safe : goal.returns-in-Ok-write_all-clause-accepted_is_safe
 returns-in-Ok-write_all-clause-accepted_is_safe g c =
-    λ z. zero_is_safe (map string_bytes c.args.words.now) (g.H.Shelf.texts c.args.shelf.now) (answered c.in-Ok.answer) c.in-Ok.ensures.reported c.in-Ok.ensures.accepted (sym c.status-status.ensures ∙ z)
+    λ z. zero_is_safe (map string_bytes c.args.words.now) (g.H.Shelf.texts c.args.shelf.now) (answered c.in-Ok.answer) c.in-Ok.ensures.reported c.in-Ok.ensures.accepted c.in-Ok.ensures.verified (sym c.status-status.ensures ∙ z)
 
 pub returns-in-Ok-write_all-clause-accepted_text_is_safe : goal.returns-in-Ok-write_all-clause-accepted_text_is_safe
 returns-in-Ok-write_all-clause-accepted_text_is_safe g c =
-    let bytes : c.deref.result.now ≡ (answered c.in-Ok.answer).bytes = c.deref.ensures.value ∙ c.in-Ok-text.ensures in
+    let bytes : c.deref.result.now ≡ (answered c.in-Ok.answer).bytes = c.deref.ensures.value ∙ c.in-Ok-output.ensures.text in
     whole_is_safe (map string_bytes c.args.words.now) (g.H.Shelf.texts c.args.shelf.now) (g.K.Sink.taken c.args.sink.now) (g.K.Sink.taken c.write_all.new.sink) (answered c.in-Ok.answer)
     c.in-Ok.ensures.reported c.in-Ok.ensures.accepted
     (subst (λ (bs : List ℕ). IfSome (g.K.Sink.taken c.args.sink.now) (λ before. g.K.Sink.taken c.write_all.new.sink ≡ Some (before ++ bs))) bytes c.in-Ok-write_all.ensures.whole)
 
 pub returns-clause-accepted_text_is_safe : goal.returns-clause-accepted_text_is_safe
 returns-clause-accepted_text_is_safe g c =
-    let bytes : c.deref.result.now ≡ (answered c.in-Ok.answer).bytes = c.deref.ensures.value ∙ c.in-Ok-text.ensures in
+    let bytes : c.deref.result.now ≡ (answered c.in-Ok.answer).bytes = c.deref.ensures.value ∙ c.in-Ok-output.ensures.text in
     front_is_safe (map string_bytes c.args.words.now) (g.H.Shelf.texts c.args.shelf.now) (g.K.Sink.taken c.args.sink.now) (g.K.Sink.taken c.write_all.new.sink) (answered c.in-Ok.answer)
     c.in-Ok.ensures.reported c.in-Ok.ensures.accepted
     (subst (λ (bs : List ℕ). IfSome (g.K.Sink.taken c.args.sink.now) (λ before. GainsFront bs before (g.K.Sink.taken c.write_all.new.sink))) bytes c.in-Err.ensures.front)
+
+pub returns-in-Ok-write_all-clause-device : goal.returns-in-Ok-write_all-clause-device
+returns-in-Ok-write_all-clause-device g c = λ e. absurd (is_not_five c.in-Ok.answer c.status-status.result c.status-status.ensures e)
+
+pub returns-in-Ok-write_all-clause-front : goal.returns-in-Ok-write_all-clause-front
+returns-in-Ok-write_all-clause-front g c = λ e. absurd (is_not_five c.in-Ok.answer c.status-status.result c.status-status.ensures e)
+
+pub returns-in-Ok-write_all-clause-closed_at_fault : goal.returns-in-Ok-write_all-clause-closed_at_fault
+returns-in-Ok-write_all-clause-closed_at_fault g c = λ e. absurd (is_not_five c.in-Ok.answer c.status-status.result c.status-status.ensures e)
+
+pub returns-in-Ok-write_all-clause-out_of_memory : goal.returns-in-Ok-write_all-clause-out_of_memory
+returns-in-Ok-write_all-clause-out_of_memory g c = λ e. absurd (is_not_six c.in-Ok.answer c.status-status.result c.status-status.ensures e)
+
+pub returns-in-Ok-write_all-clause-closes_nothing : goal.returns-in-Ok-write_all-clause-closes_nothing
+returns-in-Ok-write_all-clause-closes_nothing g c = λ e. absurd (is_not_six c.in-Ok.answer c.status-status.result c.status-status.ensures e)

@@ -1,4 +1,4 @@
-use Rattle.std.proofs.Common.{rules, ◌≡◌, ◌∷◌, [], refl}
+use Rattle.std.proofs.Common.{◌≡◌, ◌∷◌, []}
 use Rattle.automizer_top.proofs.WordLaws.{two_of, three_of}
 use Rattle.automizer_top.proofs.words.asked.Goals as goal
 
@@ -12,5 +12,4 @@ pub returns-in-len2 : goal.returns-in-len2
 returns-in-len2 c =
     let words : c.args.words.now ≡ c.mode-item.result ∷ c.program-item.result ∷ [] =
     two_of c.args.words.now c.mode-item.result c.program-item.result c.in-len2.len_at_least c.in-len2.len_below c.mode-item.is c.program-item.is in
-    let mode : c.as_str.result.now ≡ 112 ∷ 114 ∷ 105 ∷ 110 ∷ 116 ∷ [] = search rules in
-    rw (words, ← c.as_str.ensures.value, mode, c.as_str-in-len2.ensures.value) refl
+    rw (words, ← c.as_str.ensures.value, ← c.as_str-in-len2.ensures.value) c.asked_of_one.ensures

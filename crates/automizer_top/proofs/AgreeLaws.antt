@@ -1,0 +1,101 @@
+-- Two verdicts on one program do not contradict each other, and where it has no error word the verdict is `safe` after no round.
+use Rattle.std.proofs.Common.{◌≡◌, ℕ, ℤ, List, [], ◌∷◌, length, Option, Some, inl, inr, ap, refl, sym, ◌∙◌, subst, arith}
+use Rattle.std.specs.Prelude.{IfSome}
+use Rattle.std.specs.List.{AllByRecursion}
+use Rattle.std.specs.declared.vec.Vec.{Vec}
+use Rattle.std.specs.declared.alloc.Global.{Global}
+use Rattle.nwa_base.specs.declared.letters.Letter.{Letter}
+use Rattle.nwa_base.specs.Automata.{Automaton}
+use Rattle.nwa_base.specs.Acceptance.{Accepts}
+use Rattle.letter_acts.specs.Acts.{Alphabet}
+use Rattle.letter_acts.specs.Feasible.{IsFeasible}
+use Rattle.letter_acts.specs.Invariant.{alphabet_of}
+use Rattle.typed_tree.specs.TypedTree.{TypedProgram}
+use Rattle.lowered_graph.specs.Lowered.{lowered}
+use Rattle.proof_form.specs.Annotations.{Content, safe_text}
+use Rattle.race_core.specs.declared.ends.End.{End}
+use Rattle.race_core.specs.declared.ends.End.TheVariants as ends
+use Rattle.race_core.specs.declared.events.Entry.{Entry}
+use Rattle.race_core.specs.Histories.{Removed, IsLegal}
+use Rattle.race_core.specs.Races.{Race}
+use Rattle.itp_automaton.specs.Certified.{Certificate, IsCertified, IsFeasibleFor}
+use Rattle.race_rounds.specs.Ends.{Options, IsKept, EndMeets, no_word, one_word}
+use Rattle.race_rounds.specs.Rounds.{automaton_in, IsOwn, IsRaceOf}
+use Rattle.race_verdicts.specs.declared.verdicts.Verdict.{Verdict}
+use Rattle.race_verdicts.specs.declared.verdicts.Verdict.TheVariants.{Safe, Unsafe, Unknown}
+use Rattle.race_verdicts.specs.Verdicts.{IsVerdict}
+use Rattle.automizer_top.specs.Report.{Answer, verdict_answer, ReportsVerdict}
+
+-- no word that a certified automaton accepts is feasible
+abbrev pub CertifiedIsInfeasible : Type 0
+CertifiedIsInfeasible = (al : Alphabet) (c : Certificate) → IsCertified al c → (w : List Letter) → Accepts c.automaton w → IsFeasible al w → ⊥
+
+-- an end that the race has is met
+met : (t : TypedProgram) (o : Options) (r : Race Certificate) (e : End) → IsRaceOf t o r → r.end ≡ Some e → EndMeets automaton_in t o r.history e
+met t o r e race is = subst (λ (x : Option End). IfSome x (EndMeets automaton_in t o r.history)) is race.end
+
+-- ---- safe and unsafe
+
+removed_is_infeasible : CertifiedIsInfeasible → (t : TypedProgram) (h : List (Entry Certificate)) (w : List Letter) → AllByRecursion (IsOwn t) h →
+    IsFeasible (alphabet_of (lowered t)) w → Removed automaton_in h w → ⊥
+removed_is_infeasible law t [] w own f r = r
+removed_is_infeasible law t (e ∷ h) w own f (inl a) = law (alphabet_of (lowered t)) e.evidence own.0.certified w a f
+removed_is_infeasible law t (e ∷ h) w own f (inr r) = removed_is_infeasible law t h w own.1 f r
+
+none_kept : (t : TypedProgram) (o : Options) (h : List (Entry Certificate)) → EndMeets automaton_in t o h ends.Safe → (w : List Letter) →
+    IsKept automaton_in (lowered t).automaton h w → ⊥
+none_kept t o h (no_word e n) w k = n w k
+none_kept t o h (one_word v k s) w x = absurd s
+
+record IsErrorWord (t : TypedProgram) (w : List Letter) : Type 0 where
+  pub accepted : Accepts (lowered t).automaton w
+  pub feasible : IsFeasible (alphabet_of (lowered t)) w
+
+error_word : (t : TypedProgram) (o : Options) (h : List (Entry Certificate)) (w : List Letter) (steps : ℕ) (choices : Vec ℤ Global) →
+    EndMeets automaton_in t o h (ends.Unsafe w steps choices) → (v : List Letter) × IsErrorWord t v
+error_word t o h w steps choices (no_word e n) = absurd (cc)
+error_word t o h w steps choices (one_word v k s) = (v, record { accepted = k.error; feasible = s.1 })
+
+ends_safe : (t : TypedProgram) (r : Race Certificate) (v : Verdict) (a : Answer) → IsVerdict t r v → a ≡ verdict_answer r v → a.status ≡ 0 → r.end ≡ Some ends.Safe
+ends_safe t r (Safe w) a h is z = h.0
+ends_safe t r (Unsafe f) a h is z = absurd (let e : 1 ≡ 0 = sym (ap (λ (b : Answer). b.status) is) ∙ z in omega arith)
+ends_safe t r (Unknown cause w) a h is z = absurd (let e : 2 ≡ 0 = sym (ap (λ (b : Answer). b.status) is) ∙ z in omega arith)
+
+fails_at : (t : TypedProgram) (o : Options) (r : Race Certificate) (v : Verdict) (a : Answer) → IsRaceOf t o r → IsVerdict t r v → a ≡ verdict_answer r v → a.status ≡ 1 →
+    (w : List Letter) × IsErrorWord t w
+fails_at t o r (Safe w) a race h is z = absurd (let e : 0 ≡ 1 = sym (ap (λ (b : Answer). b.status) is) ∙ z in omega arith)
+fails_at t o r (Unsafe f) a race h is z = error_word t o r.history h.word f.trail.steps h.choices (met t o r (ends.Unsafe h.word f.trail.steps h.choices) race h.end)
+fails_at t o r (Unknown cause w) a race h is z = absurd (let e : 2 ≡ 1 = sym (ap (λ (b : Answer). b.status) is) ∙ z in omega arith)
+
+pub never_both : CertifiedIsInfeasible → (t : TypedProgram) (a b : Answer) → ReportsVerdict t a → ReportsVerdict t b → a.status ≡ 0 → b.status ≡ 1 → ⊥
+never_both law t a b v u z s =
+    let safe = met t _ v.race ends.Safe v.closed.race (ends_safe t v.race v.verdict a v.of_end v.is z) in
+    let e = fails_at t _ u.race u.verdict b u.closed.race u.of_end u.is s in
+    none_kept t _ v.race.history safe e.0
+    (record { error = e.1.accepted; left = λ r. removed_is_infeasible law t v.race.history e.0 v.closed.race.own e.1.feasible r })
+
+-- ---- no error word
+
+abbrev pub HasNoWord : TypedProgram → Type 0
+HasNoWord t = (w : List Letter) → Accepts (lowered t).automaton w → ⊥
+
+no_entry : (t : TypedProgram) (p : Automaton) (h : List (Entry Certificate)) → p ≡ (lowered t).automaton → HasNoWord t → IsLegal automaton_in IsFeasibleFor p h → h ≡ []
+no_entry t p [] is none l = refl
+no_entry t p (e ∷ h) is none l = absurd (none e.word (subst (λ (m : Automaton). Accepts m e.word) is l.0.error))
+
+only_safe : (t : TypedProgram) (o : Options) (h : List (Entry Certificate)) (e : End) → HasNoWord t → EndMeets automaton_in t o h e → e ≡ ends.Safe
+only_safe t o h e none (no_word is n) = is
+only_safe t o h e none (one_word w k s) = absurd (none w k.error)
+
+safe_at_once : (t : TypedProgram) (o : Options) (r : Race Certificate) (v : Verdict) (a : Answer) → HasNoWord t → IsRaceOf t o r → r.history ≡ [] → IsVerdict t r v →
+    a ≡ verdict_answer r v → (w : Content) × (a.bytes ≡ safe_text 0 w) × (a.status ≡ 0)
+safe_at_once t o r (Safe w) a none race empty h is =
+    (w, ap (λ (b : Answer). b.bytes) is ∙ ap (λ (x : List (Entry Certificate)). safe_text (length x) w) empty, ap (λ (b : Answer). b.status) is)
+safe_at_once t o r (Unsafe f) a none race empty h is =
+    absurd (let e = only_safe t o r.history (ends.Unsafe h.word f.trail.steps h.choices) none (met t o r (ends.Unsafe h.word f.trail.steps h.choices) race h.end) in let no : ⊥ = cc in no)
+safe_at_once t o r (Unknown cause w) a none race empty h is =
+    absurd (let e = only_safe t o r.history (ends.Unknown cause w) none (met t o r (ends.Unknown cause w) race h) in let no : ⊥ = cc in no)
+
+pub without_error_words : (t : TypedProgram) (a : Answer) → ReportsVerdict t a → HasNoWord t → (w : Content) × (a.bytes ≡ safe_text 0 w) × (a.status ≡ 0)
+without_error_words t a v none =
+    safe_at_once t _ v.race v.verdict a none v.closed.race (no_entry t v.race.program v.race.history v.closed.race.program none v.closed.legal) v.of_end v.is

@@ -1,0 +1,67 @@
+-- What a verdict is worth, and that it can be written.
+use Rattle.std.proofs.Common.{◌≡◌, ◌+◌, ◌≤◌, ℕ, List, length, ◌∷◌, [], ap, refl, sym, ◌∙◌, subst, arith}
+use Rattle.std.specs.Prelude.{IsTrue, Result, Ok, Err, IfOk}
+use Rattle.std.specs.declared.alloc.AllocError.{AllocError}
+use Rattle.nwa_base.specs.declared.letters.Letter.{Letter}
+use Rattle.nwa_base.specs.Acceptance.{Accepts}
+use Rattle.letter_acts.specs.Feasible.{IsFeasible}
+use Rattle.letter_acts.specs.Invariant.{Graph, IsGraph, alphabet_of}
+use Rattle.letter_acts.specs.Kept.{Keeps}
+use Rattle.typed_tree.specs.TypedTree.{TypedProgram}
+use Rattle.lowered_graph.specs.Lowered.{lowered}
+use Rattle.proof_form.specs.Annotations.{Content, is_annotation}
+use Rattle.proof_check.specs.Proves.{Proves}
+use Rattle.proof_check.proofs.ProvedLaws.{proved_infeasible}
+use Rattle.race_core.specs.Histories.{IsLegal}
+use Rattle.race_core.specs.Races.{Race}
+use Rattle.itp_automaton.specs.Certified.{Certificate, IsFeasibleFor}
+use Rattle.race_rounds.specs.Ends.{Options}
+use Rattle.race_rounds.specs.Rounds.{automaton_in, IsRaceOf}
+use Rattle.race_verdicts.specs.declared.verdicts.Verdict.{Verdict}
+use Rattle.race_verdicts.specs.declared.verdicts.Verdict.TheVariants.{Safe, Unsafe, Unknown}
+use Rattle.race_verdicts.specs.Verdicts.{IsVerdict}
+use Rattle.race_verdicts.specs.Texts.{verdict_text, ChoicesFit}
+use Rattle.automizer_top.specs.Verdicts.{default_options, IsClosedRace, verdict_status}
+use Rattle.automizer_top.specs.Report.{Answer, verdict_answer, IsTypedText, ReportsVerdict, ReportsVerify, decided}
+use Rattle.automizer_top.specs.Answers.{answered, IsGraphOf, HasNoErrorWord, TextIsSafe}
+use Rattle.automizer_top.specs.declared.answer.Answer as code
+use Rattle.automizer_top.proofs.ReportLaws.{text_is_safe}
+
+kept_graph : (g : Graph) → Keeps g → IsGraph g
+unfolding Keeps
+kept_graph g k = k
+
+-- the values of a verdict's failure fit
+pub fits : (t : TypedProgram) (r : Race Certificate) (v : Verdict) → IsVerdict t r v → ChoicesFit v
+fits t r (Safe a) h = tt
+fits t r (Unsafe f) h = h.failure.bounds.choices
+fits t r (Unknown cause w) h = tt
+
+pub reports : (t : TypedProgram) (r : Race Certificate) (v : Verdict) (text : List ℕ) (left rounds : ℕ) → IsRaceOf t default_options r → IsVerdict t r v →
+    IsLegal automaton_in IsFeasibleFor r.program r.history → left + length r.history ≡ r.limit → rounds ≡ length r.history → text ≡ verdict_text rounds v →
+    ReportsVerdict t (record { bytes = text; status = verdict_status v; races = r ∷ [] })
+reports t r v text left rounds race of_end legal room n same_text = record {
+  race = r;
+  verdict = v;
+  closed = record { race = race; legal = legal; within = let l = race.limit in omega (arith, room, l) };
+  of_end = of_end;
+  is = λ i. record { bytes = (same_text ∙ ap (λ (k : ℕ). verdict_text k v) n) i; status = verdict_status v; races = r ∷ [] };
+}
+
+-- the graph of a program that is said to be safe has no feasible error word
+pub safe_is_infeasible : (t : TypedProgram) (g : Graph) (r : Race Certificate) (v : Verdict) → IsGraphOf t g → Keeps g → IsVerdict t r v → verdict_status v ≡ 0 → HasNoErrorWord g
+safe_is_infeasible t g r (Safe a) h k s z = proved_infeasible g a (kept_graph g k) s.2 (subst (λ (x : Graph). Proves x a) (sym h.value) s.1)
+safe_is_infeasible t g r (Unsafe f) h k s z = absurd (omega arith)
+safe_is_infeasible t g r (Unknown cause w) h k s z = absurd (omega arith)
+
+-- ---- what was decided, of a text
+
+pub decided_reported : (text : List ℕ) (t : TypedProgram) (g : Graph) (r : Result code.Answer AllocError) → IsTypedText text t → IsGraphOf t g →
+    IfOk r (λ a. ReportsVerdict t (answered a)) → IfOk r (λ a. ReportsVerify text (answered a))
+decided_reported text t g (Ok a) w h v = decided t w h.fits v
+decided_reported text t g (Err e) w h v = tt
+
+pub decided_is_safe : (text : List ℕ) (t : TypedProgram) (g : Graph) (r : Result code.Answer AllocError) → IsTypedText text t → IsGraphOf t g →
+    IfOk r (λ a. (answered a).status ≡ 0 → HasNoErrorWord g) → IfOk r (λ a. (answered a).status ≡ 0 → TextIsSafe text)
+decided_is_safe text t g (Ok a) w h s = λ z. text_is_safe text t g w h (s z)
+decided_is_safe text t g (Err e) w h s = tt
