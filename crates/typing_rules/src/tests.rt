@@ -1,6 +1,7 @@
 use super::*;
 use boogie_tree::{Column, Span, Text, Ty, VarInfo};
-use std::alloc::{AllocError, Global};
+use std::alloc::Global;
+use std::process::Abort;
 use std::test::Fail;
 use typed_tree::{TExpr, TExprKind, TGuard, TProc, TStmt, TypeFault};
 
@@ -18,7 +19,7 @@ fn column(letter: u8) -> Column {
     }
 }
 
-fn columns(alloc: Global, letters: &[u8]) -> Result<Vec<Column>, AllocError> {
+fn columns(alloc: Global, letters: &[u8]) -> Result<Vec<Column>, Fail> {
     let mut found = Vec::new(alloc);
     for letter in letters {
         found.push(column(*letter))?;
@@ -27,7 +28,7 @@ fn columns(alloc: Global, letters: &[u8]) -> Result<Vec<Column>, AllocError> {
 }
 
 /// As many literals.
-fn literals(alloc: Global, count: usize) -> Result<Vec<TExpr>, AllocError> {
+fn literals(alloc: Global, count: usize) -> Result<Vec<TExpr>, Fail> {
     let mut made = Vec::new(alloc);
     for _more in 0..count {
         let kind = TExprKind::Lit(1);
@@ -42,18 +43,15 @@ fn read(letters: &[u8]) -> TExpr {
     TExpr { span: HERE, kind }
 }
 
-fn digit(byte: u8) -> u32 {
-    u32::from(byte.saturating_sub(b'0'))
-}
-
 fn number(digits: &[u8]) -> u32 {
-    digit(digits.first().copied().unwrap_or(b'0'))
+    let digit = digits.first().copied().unwrap_or(b'0');
+    u32::from(digit.saturating_sub(b'0'))
 }
 
-fn numbers(alloc: Global, digits: &[u8]) -> Result<Vec<u32>, AllocError> {
+fn labels(alloc: Global, digits: &[u8]) -> Result<Vec<u32>, Fail> {
     let mut found = Vec::new(alloc);
-    for byte in digits {
-        found.push(digit(*byte))?;
+    if !digits.is_empty() {
+        found.push(number(digits))?;
     }
     Ok(found)
 }
@@ -67,7 +65,7 @@ fn statement(alloc: Global, word: &str) -> Result<TStmt, Fail> {
         b'S' => TStmt::Assign(HERE, columns(alloc, rest)?, literals(alloc, rest.len())?),
         b'C' => TStmt::Call(HERE, Vec::new(alloc), number(rest), literals(alloc, 1)?),
         b'B' => TStmt::Break(HERE, number(rest)),
-        b'G' => TStmt::Goto(HERE, numbers(alloc, rest)?),
+        b'G' => TStmt::Goto(HERE, labels(alloc, rest)?),
         _ => TStmt::Label(number(rest)),
     })
 }
@@ -100,33 +98,32 @@ fn statements(alloc: Global, words: &str) -> Result<Vec<TStmt>, Fail> {
     Ok(listed)
 }
 
-/// Variables that are named by a letter each: p is a truth value, c and a are constant.
-fn variables(alloc: Global, letters: &[u8]) -> Result<Vec<VarInfo>, AllocError> {
-    let mut variables = Vec::new(alloc);
-    for letter in letters {
-        variables.push(VarInfo {
-            name: Text::new(Vec::from_slice(alloc, &[*letter])?),
-            ty: if *letter == b'p' { Ty::Bool } else { Ty::Int },
-            constant: *letter == b'c' || *letter == b'a',
-        })?;
-    }
-    Ok(variables)
+fn text(alloc: Global, name: &str) -> Result<Text, Fail> {
+    Ok(Text::new(name.as_bytes().to_vec(alloc)?))
 }
 
-/// A procedure without a body, with the parameter a and as results the other letters, that modifies these globals.
-fn declared(
-    alloc: Global,
-    name: &str,
-    letters: &[u8],
-    modified: &[u8],
-) -> Result<TProc, AllocError> {
-    let results = if letters.len() == 1 { 0 } else { 1 };
+fn variable(alloc: Global, name: &str, ty: Ty, constant: bool) -> Result<VarInfo, Fail> {
+    let name = text(alloc, name)?;
+    Ok(VarInfo { name, ty, constant })
+}
+
+fn globals(alloc: Global) -> Result<Vec<VarInfo>, Fail> {
+    Ok(vec![in alloc;
+        variable(alloc, "x", Ty::Int, false)?,
+        variable(alloc, "p", Ty::Bool, false)?,
+        variable(alloc, "c", Ty::Int, true)?,
+        variable(alloc, "y", Ty::Int, false)?,
+    ]?)
+}
+
+/// A procedure without a body, with a parameter, that modifies one global.
+fn declared(alloc: Global, name: &str, modified: u32) -> Result<TProc, Fail> {
     Ok(TProc {
-        name: Text::new(Vec::from_slice(alloc, name.as_bytes())?),
+        name: text(alloc, name)?,
         params: 1,
-        results,
-        locals: variables(alloc, letters)?,
-        modifies: numbers(alloc, modified)?,
+        results: 0,
+        locals: vec![in alloc; variable(alloc, "a", Ty::Int, true)?]?,
+        modifies: vec![in alloc; modified]?,
         specs: Vec::new(alloc),
         body: None,
     })
@@ -134,22 +131,26 @@ fn declared(
 
 /// A procedure with that body, which modifies x and p.
 fn implemented(alloc: Global, words: &str) -> Result<TProc, Fail> {
-    let mut made = declared(alloc, "main", b"ar", b"01")?;
-    made.body = Some(statements(alloc, words)?);
-    Ok(made)
+    let parameter = variable(alloc, "a", Ty::Int, true)?;
+    let outcome = variable(alloc, "r", Ty::Int, false)?;
+    Ok(TProc {
+        name: text(alloc, "main")?,
+        params: 1,
+        results: 1,
+        locals: vec![in alloc; parameter, outcome]?,
+        modifies: vec![in alloc; 0u32, 1]?,
+        specs: Vec::new(alloc),
+        body: Some(statements(alloc, words)?),
+    })
 }
 
 /// The procedure of that body, one of that name that modifies x, and one that modifies y.
 fn procs(alloc: Global, words: &str, name: &str) -> Result<Vec<TProc>, Fail> {
-    let mut procs = Vec::new(alloc);
-    procs.push(implemented(alloc, words)?)?;
-    procs.push(declared(alloc, name, b"a", b"0")?)?;
-    procs.push(declared(alloc, "other", b"a", b"3")?)?;
-    Ok(procs)
-}
-
-fn globals(alloc: Global) -> Result<Vec<VarInfo>, AllocError> {
-    variables(alloc, b"xpcy")
+    Ok(vec![in alloc;
+        implemented(alloc, words)?,
+        declared(alloc, name, 0)?,
+        declared(alloc, "other", 3)?,
+    ]?)
 }
 
 fn shown(outcome: Result<(), TypeFault>) -> &'static str {
@@ -165,64 +166,62 @@ fn shown(outcome: Result<(), TypeFault>) -> &'static str {
     }
 }
 
-/// Bodies, and the rule that each breaks. In the call of 0 a target is missing; a branch is no loop that can be left.
-const BODIES: &str = "Ap : kept
-Ax : Mismatch
-Hxr : kept
-H : Mismatch
-Hxx : Twice
-Hc : NotAssignable
-Ha : NotAssignable
-Hy : NotModified
-Sx : kept
-Sp : Mismatch
-S : Mismatch
-C1 : kept
-C0 : Mismatch
-C2 : NotModified
-C9 : Unknown
-B0 : BadGoto
-( ( B1 loop) loop) : kept
-( ( B1 if) loop) : BadGoto
-G : BadGoto
-L0 ( G0 if) : kept
-( L0 if) G0 : BadGoto
-( L0 if) ( G0 if) : BadGoto
-";
-
-/// The first row whose body breaks another rule.
-fn first_wrong_body(alloc: Global) -> Result<Option<&'static str>, Fail> {
-    let globals = globals(alloc)?;
-    for row in BODIES.lines() {
-        let (words, wanted) = row.split_once(" : ").ok_or("no rule")?;
-        let procs = procs(alloc, words, "f")?;
-        if shown(check_typing(alloc, &globals, &[], &procs)) != wanted {
-            return Ok(Some(row));
-        }
-    }
-    Ok(None)
-}
+/// Bodies, and the rule that each breaks.
+const BODIES: [(&str, &str); 22] = [
+    ("Ap", "kept"),
+    ("Ax", "Mismatch"),
+    ("Hxr", "kept"),
+    ("H", "Mismatch"),
+    ("Hxx", "Twice"),
+    ("Hc", "NotAssignable"),
+    ("Ha", "NotAssignable"),
+    ("Hy", "NotModified"),
+    ("Sx", "kept"),
+    ("Sp", "Mismatch"),
+    ("S", "Mismatch"),
+    ("C1", "kept"),
+    // a target is missing
+    ("C0", "Mismatch"),
+    ("C2", "NotModified"),
+    ("C9", "Unknown"),
+    ("B0", "BadGoto"),
+    ("( ( B1 loop) loop)", "kept"),
+    // the branch is no loop
+    ("( ( B1 if) loop)", "BadGoto"),
+    ("G", "BadGoto"),
+    ("L0 ( G0 if)", "kept"),
+    ("( L0 if) G0", "BadGoto"),
+    ("( L0 if) ( G0 if)", "BadGoto"),
+];
 
 #[test]
 fn rules_of_bodies(rt: HostRuntime) -> Result<(), Fail> {
-    let wrong = first_wrong_body(rt.alloc())?;
-    assert!(rt; wrong.is_none(), "{wrong:?}");
+    let alloc = rt.alloc();
+    let globals = globals(alloc)?;
+    let axioms = Vec::new(alloc);
+    for (words, wanted) in BODIES {
+        let procs = procs(alloc, words, "f")?;
+        let outcome = check_typing(alloc, &globals, &axioms, &procs);
+        assert!(rt; shown(outcome) == wanted, "{words}");
+    }
     Ok(())
 }
 
-/// Bodies, the name of the second procedure, the entry, and whether they make a typed program. Labels count from 0, in text order; the second
-/// procedure has no body.
-const PROGRAMS: &str = "Ap / f / 0 : typed
-Ax / f / 0 : not
-L0 ( L1 if) L2 / f / 0 : typed
-L1 L0 / f / 0 : not
-Ap / main / 0 : not
-Ap / 1f / 0 : not
-Ap / m:7 / 0 : typed
-Ap / m:1f / 0 : not
-Ap / f / 1 : not
-Ap / f / 3 : not
-";
+/// Bodies, the name of the second procedure, the entry, and whether they make a typed program.
+const PROGRAMS: [(&str, &str, u32, bool); 10] = [
+    ("Ap", "f", 0, true),
+    ("Ax", "f", 0, false),
+    ("L0 ( L1 if) L2", "f", 0, true),
+    // labels count from 0, in text order
+    ("L1 L0", "f", 0, false),
+    ("Ap", "main", 0, false),
+    ("Ap", "1f", 0, false),
+    ("Ap", "m:7", 0, true),
+    ("Ap", "m:1f", 0, false),
+    // the second procedure has no body
+    ("Ap", "f", 1, false),
+    ("Ap", "f", 3, false),
+];
 
 /// Whether it has the parts of the table, and that entry.
 fn has_parts(program: &Typed, entry: u32) -> bool {
@@ -239,22 +238,12 @@ fn is_program(alloc: Global, words: &str, name: &str, entry: u32) -> Result<bool
     }
 }
 
-/// The first row that makes a typed program where it should not, or none where it should.
-fn first_wrong_program(alloc: Global) -> Result<Option<&'static str>, Fail> {
-    for row in PROGRAMS.lines() {
-        let (made, wanted) = row.split_once(" : ").ok_or("no answer")?;
-        let (words, rest) = made.split_once(" / ").ok_or("no name")?;
-        let (name, entry) = rest.split_once(" / ").ok_or("no entry")?;
-        if is_program(alloc, words, name, entry.parse()?)? != (wanted == "typed") {
-            return Ok(Some(row));
-        }
-    }
-    Ok(None)
-}
-
 #[test]
 fn parts_of_programs(rt: HostRuntime) -> Result<(), Fail> {
-    let wrong = first_wrong_program(rt.alloc())?;
-    assert!(rt; wrong.is_none(), "{wrong:?}");
+    let alloc = rt.alloc();
+    for (words, name, entry, wanted) in PROGRAMS {
+        let outcome = is_program(alloc, words, name, entry)?;
+        assert!(rt; outcome == wanted, "{words} {name} {entry}");
+    }
     Ok(())
 }
