@@ -9,8 +9,6 @@ mod frames;
 mod making;
 mod parts;
 mod proved;
-#[cfg(test)]
-mod tests;
 mod trees;
 mod triples;
 mod walks;
