@@ -11,6 +11,7 @@ use Rattle.int_decide.specs.Decisions.{Decision, refuted, whole, gap, WhereRefut
 use Rattle.int_decide.specs.Decide.{decide_rows}
 use Rattle.int_decide.specs.Numbers.{RowsFit, LeavesFit}
 use Rattle.int_decide.specs.Worth.{IsTreeOf}
+use Rattle.difference_rows.specs.Differences.{IsDifference}
 use Rattle.nwa_base.specs.declared.letters.Letter.{Letter}
 use Rattle.letter_acts.specs.Invariant.{Graph}
 use Rattle.path_rows.specs.Paths.{path_of}
@@ -49,17 +50,31 @@ pub record IsRefutation (g : Graph) (d : ℕ) (w : List Letter) (nodes : List Pl
   pub refutes : RefutesPath g w nodes
   pub tree : IsTreeOf d nodes
 
+-- Decide has neither a refutation of the rows of the word nor a whole point of them, and they are not all difference rows
+pub record IsGap (g : Graph) (d : ℕ) (w : List Letter) : Type 0 where
+  pub decided : path_decision g d w ≡ gap
+  pub others : AllByRecursion IsDifference (path_of g w).rows → ⊥
+
+-- rows, as refutations take them, without groups
+abbrev pub goal_of_rows : List LinearRow → Goal
+goal_of_rows rows = record { rows = map tightened rows; groups = [] }
+
+-- a refutation of these rows, with d cuts on a branch at most
+pub record IsRowsRefutation (d : ℕ) (rows : List LinearRow) (nodes : List PlainNode) : Type 0 where
+  pub refutes : Refute nodes (goal_of_rows rows ∷ [])
+  pub tree : IsTreeOf d nodes
+
 -- What may be found of a word: a refutation of its rows, not necessarily Decide's own; Decide's whole point; that Decide has neither; or that a
 -- number of Decide does not fit.
 abbrev pub IsFinding : Graph → ℕ → List Letter → Finding → Type 0
 IsFinding g d w (Refuted nodes) = IsRefutation g d w nodes
 IsFinding g d w (Whole values) = IsWholePoint g d w values.items
-IsFinding g d w Gap = path_decision g d w ≡ gap
+IsFinding g d w Gap = IsGap g d w
 IsFinding g d w Past = PathFits g d w → ⊥
 
 -- What is found of a word by Decide itself: its own refutation, its whole point, or that it has neither; or that one of its numbers does not fit.
 abbrev pub IsPlainFinding : Graph → ℕ → List Letter → Finding → Type 0
 IsPlainFinding g d w (Refuted nodes) = (path_decision g d w ≡ refuted nodes) × IsRefutation g d w nodes
 IsPlainFinding g d w (Whole values) = IsWholePoint g d w values.items
-IsPlainFinding g d w Gap = path_decision g d w ≡ gap
+IsPlainFinding g d w Gap = IsGap g d w
 IsPlainFinding g d w Past = PathFits g d w → ⊥

@@ -1,14 +1,19 @@
 //! Decide of the rows of a word.
 
 ghost use Rattle.std.specs.Prelude.{◌≡◌, ◌+◌, ◌<◌, ◌^◌, IfOk, IfSome, Some};
+ghost use Rattle.std.specs.List.{AllByRecursion};
+ghost use Rattle.lin_rows.specs.Rows.{IsRow};
+ghost use Rattle.lin_rows.specs.Systems.{rows_of};
 ghost use Rattle.letter_acts.specs.Invariant.{Graph};
 ghost use Rattle.int_decide.specs.Sizes.{extent, SystemBelow};
 ghost use Rattle.path_rows.specs.Paths.{IsPathOf};
-ghost use Rattle.path_decide.specs.Decided.{IsFinding, IsPlainFinding};
+ghost use Rattle.path_decide.specs.Decided.{IsFinding, IsPlainFinding, IsRowsRefutation};
 ghost use Rattle.path_decide.specs.Found.{finding_of};
 
+use difference_rows::laws::differences_are_decided;
 use farkas_check::Refutation;
 use int_decide::{Answer, DecideFault, decide, measure, plain};
+use late_refutations::late;
 use lin_rows::System;
 use path_rows::PathSystem;
 use std::alloc::{AllocError, Global};
@@ -32,6 +37,8 @@ pub fn decide_path(alloc: Global, path: &PathSystem, depth: u32) -> Result<Findi
     ensures { (g : Graph) → IsPathOf g path.now → IfOk result (IsFinding g depth path.now.word) }
 {
     let system = path.system();
+    know_rows(system);
+    differences_are_decided();
     let Some(columns) = measured(system, path.column_at().len(), depth) else {
         return Err(AllocError);
     };
@@ -43,10 +50,28 @@ pub fn plain_path(alloc: Global, path: &PathSystem, depth: u32) -> Result<Findin
     ensures { (g : Graph) → IsPathOf g path.now → IfOk result (IsPlainFinding g depth path.now.word) }
 {
     let system = path.system();
+    know_rows(system);
+    differences_are_decided();
     let Some(columns) = measured(system, path.column_at().len(), depth) else {
         return Err(AllocError);
     };
     found(plain(alloc, system, columns, depth))
+}
+
+/// A refutation of the rows of a word by late ones, with at most `depth` cuts on a branch, from another; or that one again.
+pub fn late_path(
+    alloc: Global,
+    path: &PathSystem,
+    refutation: &Refutation,
+    depth: u32,
+) -> Result<Refutation, AllocError>
+    requires { IsRowsRefutation depth path.now.rows refutation.now }
+    ensures { IfOk result (IsRowsRefutation depth path.now.rows) }
+{
+    let Ok(columns) = u32::try_from(path.column_at().len()) else {
+        return refutation.copy();
+    };
+    late(alloc, path.system(), columns, refutation, depth)
 }
 
 /// The number of columns in 32 bits, where what Decide asks of its caller is met.
@@ -57,6 +82,15 @@ fn measured(system: &System, columns: usize, depth: u32) -> Option<u32>
     let extent = measure(system, columns)?;
     extent.checked_add(depth)?;
     Some(columns)
+}
+
+/// Reads the rows of a system, whose contracts then say what every row keeps.
+fn know_rows(system: &System)
+    ensures { AllByRecursion IsRow (rows_of system.now) }
+{
+    for row in &system.rows {
+        let _terms = row.terms();
+    }
 }
 
 /// What is found of a word by an answer of Decide.

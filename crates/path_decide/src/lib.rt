@@ -3,4 +3,4 @@
 
 mod deciding;
 
-pub use deciding::{Finding, decide_path, plain_path};
+pub use deciding::{Finding, decide_path, late_path, plain_path};

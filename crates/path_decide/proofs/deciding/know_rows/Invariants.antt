@@ -1,0 +1,10 @@
+use Rattle.std.proofs.Common.{take}
+use Rattle.std.specs.List.{AllByRecursion}
+use Rattle.lin_rows.specs.Rows.{IsRow}
+use Rattle.lin_rows.specs.Systems.{rows_of}
+use Rattle.path_decide.proofs.deciding.know_rows.Given as goal
+
+abbrev pub invariant-loop-row : goal.invariant-loop-row
+invariant-loop-row l = record {
+  valid : AllByRecursion IsRow (take l.row-index (rows_of l.system));
+}
