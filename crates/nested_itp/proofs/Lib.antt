@@ -1,1 +1,3 @@
+pub mod AgreeingLaws
+pub mod BuildingLaws
 pub mod CountLaws

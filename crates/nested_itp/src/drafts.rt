@@ -1,21 +1,24 @@
-//! The rows of a triple's system, in order, and its walk.
+//! The rows of a triple's system, in order, and its refutation.
+
+ghost use Rattle.std.specs.Prelude.{IsTrue, IfOk};
+ghost use Rattle.farkas_check.specs.Nodes.{plain_nodes, is_tree};
 
 use crate::claims::Claim;
 use crate::columns::Columns;
 use crate::frames::{Class, bounds_in, bounds_of, count_of, is_bool, is_of};
 use crate::parts::{Parts, Tie};
 use crate::trees::Tree;
-use crate::walks::Walk;
+use crate::walks::{Goal, Walk};
 use boogie_tree::{Column, VarInfo};
 use farkas_check::Node;
 use nested_predicates::ItpFault;
 use path_rows::PathSystem;
 use std::alloc::{AllocError, Global};
 
-/// The rows of a triple's system, put together in order, and its walk.
+/// The rows of a triple's system, put together in order.
 #[derive(Drop)]
 pub(crate) struct Draft {
-    walk: Walk,
+    goal: Goal,
     parts: Parts,
     /// The row that says `0 <= -1`, if there is one.
     never: Option<u32>,
@@ -37,7 +40,7 @@ impl Draft {
         }
         claims.push(Claim::of(alloc, tree, target, true)?)?;
         Ok(Draft {
-            walk: Walk::new(alloc, claims),
+            goal: Goal::new(alloc, claims),
             parts: Parts {
                 returns,
                 rows: Vec::new(alloc),
@@ -50,13 +53,13 @@ impl Draft {
 
     /// Adds what a claim says.
     pub(crate) fn claim(&mut self, tree: &Tree, claim: usize) -> Result<(), AllocError> {
-        if self.walk.is_false(claim) {
+        if self.goal.is_false(claim) {
             if self.never.is_none() {
-                self.never = Some(self.walk.rows());
+                self.never = Some(self.goal.rows());
             }
             self.skip(1);
         }
-        self.walk.expose(tree, claim, 0)
+        self.goal.expose(tree, claim, 0)
     }
 
     /// Adds rows that have the multipliers of rows of the word.
@@ -64,7 +67,7 @@ impl Draft {
         for k in 0..count {
             self.parts
                 .rows
-                .push((self.walk.rows(), first.saturating_add(k)))?;
+                .push((self.goal.rows(), first.saturating_add(k)))?;
             self.skip(1);
         }
         Ok(())
@@ -72,12 +75,12 @@ impl Draft {
 
     /// Adds rows that no leaf uses.
     pub(crate) fn skip(&mut self, count: usize) {
-        self.walk.add_rows(count);
+        self.goal.add_rows(count);
     }
 
     /// Adds a row that ties two frames.
     pub(crate) fn tie(&mut self, tie: Tie) -> Result<(), AllocError> {
-        self.parts.ties.push((self.walk.rows(), tie))?;
+        self.parts.ties.push((self.goal.rows(), tie))?;
         self.skip(1);
         Ok(())
     }
@@ -141,31 +144,27 @@ impl Draft {
         Ok(())
     }
 
-    /// The refutation.
+    /// The nodes of the refutation, which are those of one tree.
     pub(crate) fn nodes(
         self,
         alloc: Global,
         path: &PathSystem,
         nodes: &[Node],
         tree: &Tree,
-    ) -> Result<Vec<Node>, ItpFault> {
-        let Draft {
-            mut walk,
-            parts,
-            never,
-        } = self;
-        match never {
+    ) -> Result<Vec<Node>, ItpFault>
+        ensures { IfOk result (λ v. IsTrue (is_tree (plain_nodes v.items))) }
+    {
+        match self.never {
             Some(row) => Ok(falsity(alloc, row)?),
-            None => {
-                walk.run(path, nodes, tree, &parts)?;
-                Ok(walk.into_nodes())
-            }
+            None => Walk::new(self.goal).run(path, nodes, tree, &self.parts),
         }
     }
 }
 
 /// The refutation that uses the one row `0 <= -1`.
-fn falsity(alloc: Global, row: u32) -> Result<Vec<Node>, AllocError> {
+fn falsity(alloc: Global, row: u32) -> Result<Vec<Node>, AllocError>
+    ensures { IfOk result (λ v. IsTrue (is_tree (plain_nodes v.items))) }
+{
     let mut part = Vec::new(alloc);
     part.push((row, 1))?;
     let mut nodes = Vec::new(alloc);

@@ -1,10 +1,12 @@
 //! Nested interpolants made from a refutation.
 
-ghost use Rattle.std.specs.Prelude.{◌≡◌, suc, IfOk, length};
+ghost use Rattle.std.specs.Prelude.{◌≡◌, suc, IsTrue, IfOk, length};
+ghost use Rattle.farkas_check.specs.Nodes.{plain_nodes, is_tree};
 ghost use Rattle.letter_acts.specs.Invariant.{alphabet_of};
 ghost use Rattle.path_rows.specs.Paths.{IsPathOf};
 ghost use Rattle.nested_predicates.specs.Interpolants.{AreInterpolants, RefutesRows, HasCutsUpTo, BeginsTrue, EndsFalse};
 ghost use Rattle.std.specs.List.{AllByRecursion};
+ghost use Rattle.triple_rows.specs.Triples.{Agrees};
 ghost use Rattle.hoare_check.specs.Decided.{IsProofFor};
 ghost use Rattle.nested_itp.specs.Proofs.{AreProofsOf};
 
@@ -18,7 +20,7 @@ use nested_predicates::{ItpFault, prefix_sums, triples_of};
 use nwa_base::{Kind, Letter};
 use path_rows::PathSystem;
 use std::alloc::{AllocError, Global};
-use triple_rows::{Proof, Triple, agrees, proof};
+use triple_rows::{Proof, Triple, proof};
 
 /// The prefix predicates of a word under a refutation of its rows, no branch of which has more than 64 cuts, with a proved
 /// triple for each letter.
@@ -38,6 +40,7 @@ pub fn interpolants(
     ensures triples { IfOk result (λ i. length i.proofs ≡ length path.now.word) }
     ensures proved { IfOk result (λ i. AllByRecursion (IsProofFor (alphabet_of icfg.now)) i.proofs) }
 {
+    let _valid = icfg.acts();
     let sums = prefix_sums(alloc, icfg, path, proof)?;
     let letters = path.word().letters();
     let triples = triples_of(alloc, path.word(), &sums.preds)?;
@@ -66,6 +69,7 @@ fn proofs(
     returned: &[bool],
     triples: &[Triple],
 ) -> Result<Vec<Proof>, ItpFault>
+    requires { AllByRecursion (Agrees (alphabet_of icfg.now)) triples.now }
     ensures { IfOk result (λ v. AreProofsOf (alphabet_of icfg.now) triples.now v.items) }
 {
     let mut proofs = Vec::with_capacity(alloc, triples.len())?;
@@ -121,15 +125,17 @@ fn step(calls: &mut Vec<usize>, letters: &[Letter], at: usize) -> Result<(), All
     Ok(())
 }
 
-/// The proof of a triple by a refutation with these nodes. `Past` where they refute no system of the triple.
+/// The proof of a triple that agrees with its letter, by the refutation with these nodes. `Past` where it does not refute its system.
 fn proved(alloc: Global, icfg: &Icfg, triple: &Triple, nodes: Vec<Node>) -> Result<Proof, ItpFault>
+    requires agrees { Agrees (alphabet_of icfg.now) triple.now }
+    requires tree { IsTrue (is_tree (plain_nodes nodes.items)) }
     ensures triple { IfOk result (λ p. p.triple ≡ triple.now) }
     ensures proved { IfOk result (IsProofFor (alphabet_of icfg.now)) }
 {
     let Some(refutation) = tree(nodes) else {
-        return Err(ItpFault::Past);
+        unreachable!()
     };
-    if !agrees(icfg, triple) || !are_cuts_within(icfg, triple, &refutation) {
+    if !are_cuts_within(icfg, triple, &refutation) {
         return Err(ItpFault::Past);
     }
     match proof(alloc, icfg, triple.copy()?, refutation)? {

@@ -1,11 +1,16 @@
 //! The rows that a leaf of a triple's refutation adds.
 
+ghost use Rattle.std.specs.Prelude.{◌≡◌, pos};
+ghost use Rattle.std.specs.List.{AllByRecursion};
+ghost use Rattle.math_facts.specs.Fits.{Fits};
+ghost use Rattle.lin_rows.specs.Rows.{IsCoefficient};
+ghost use Rattle.lin_rows.specs.Tightening.{content};
+
 use crate::claims::Claim;
 use crate::columns::Columns;
 use crate::trees::Tree;
-use lin_rows::{Col, Row};
+use lin_rows::Col;
 use math_facts::greatest_divisor;
-use nested_predicates::ItpFault;
 use std::alloc::{AllocError, Global};
 use triple_rows::PredNode;
 
@@ -65,15 +70,12 @@ impl Parts {
         tree: &Tree,
         claims: &[Claim],
         node: usize,
-    ) -> Result<(), ItpFault> {
+    ) -> Result<(), AllocError> {
         let target = claims.len().saturating_sub(1);
         for i in 0..claims.len() {
             if i == target || !self.returns {
                 if let Some(PredNode::Atom(row)) = tree.at(node, claims[i].position) {
-                    let Some(times) = content(row) else {
-                        return Err(ItpFault::Past);
-                    };
-                    added.push((claims[i].number(node), times))?;
+                    added.push((claims[i].number(node), content(row.terms())))?;
                 }
             }
         }
@@ -100,31 +102,33 @@ impl Parts {
         tree: &Tree,
         claims: &[Claim],
         node: usize,
-    ) -> Result<(), ItpFault> {
+    ) -> Result<(), AllocError> {
         let after = claim_sum(tree, claims.last(), node);
         let before = claim_sum(tree, claims.first(), node);
         for i in 0..self.ties.len() {
             let (number, tie) = self.ties[i];
-            let Some(times) = tie_times(tie, before, after) else {
-                return Err(ItpFault::Past);
-            };
-            added.push((number, times))?;
+            added.push((number, tie_times(tie, before, after)))?;
         }
         Ok(())
     }
 }
 
-/// The multiplier of a row that ties two frames, `None` where it does not fit.
-fn tie_times(tie: Tie, before: &[(Col, i128)], after: &[(Col, i128)]) -> Option<i128> {
+/// The multiplier of a row that ties two frames.
+fn tie_times(tie: Tie, before: &[(Col, i128)], after: &[(Col, i128)]) -> i128
+    requires before { AllByRecursion IsCoefficient before.now }
+    requires after { AllByRecursion IsCoefficient after.now }
+{
     match tie {
-        Tie::Target(column) => Some(number_at(after, column)),
-        Tie::Opposite(column) => number_at(after, column).checked_neg(),
-        Tie::Source(column) => number_at(before, column).checked_neg(),
+        Tie::Target(column) => number_at(after, column),
+        Tie::Opposite(column) => -number_at(after, column),
+        Tie::Source(column) => -number_at(before, column),
     }
 }
 
 /// The terms of a claim's sum at a leaf.
-fn claim_sum<'a>(tree: &'a Tree, claim: Option<&Claim>, node: usize) -> &'a [(Col, i128)] {
+fn claim_sum<'a>(tree: &'a Tree, claim: Option<&Claim>, node: usize) -> &'a [(Col, i128)]
+    ensures { AllByRecursion IsCoefficient result.now }
+{
     match claim {
         Some(found) => match tree.at(node, found.position) {
             Some(PredNode::Atom(row)) => row.terms(),
@@ -135,21 +139,21 @@ fn claim_sum<'a>(tree: &'a Tree, claim: Option<&Claim>, node: usize) -> &'a [(Co
 }
 
 /// The greatest common divisor of the coefficients, which fits as they do.
-fn content(row: &Row) -> Option<i128> {
-    let terms = row.terms();
+fn content(terms: &[(Col, i128)]) -> i128
+    requires { AllByRecursion IsCoefficient terms.now }
+    ensures { result ≡ pos (content terms.now) }
+{
     let mut divisor = 0;
-    for i in 0..terms.len() {
-        divisor = greatest_divisor(divisor, terms[i].1.unsigned_abs());
+    for term in terms {
+        divisor = greatest_divisor(divisor, term.1.unsigned_abs());
     }
-    if divisor <= i128::MAX as u128 {
-        Some(divisor as i128)
-    } else {
-        None
-    }
+    divisor as i128
 }
 
 /// The number at a key, of pairs that ascend; 0 where there is none.
-pub(crate) fn number_at(pairs: &[(u32, i128)], key: usize) -> i128 {
+pub(crate) fn number_at(pairs: &[(u32, i128)], key: usize) -> i128
+    ensures { AllByRecursion IsCoefficient pairs.now → Fits result }
+{
     match pairs.get(pairs.partition_point(|pair| (pair.0 as usize) < key)) {
         Some(pair) if pair.0 as usize == key => pair.1,
         _ => 0,

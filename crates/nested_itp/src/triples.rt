@@ -1,5 +1,8 @@
 //! The refutation of a letter's triple.
 
+ghost use Rattle.std.specs.Prelude.{IsTrue, IfOk};
+ghost use Rattle.farkas_check.specs.Nodes.{plain_nodes, is_tree};
+
 use crate::columns::{Columns, first_of, narrowed};
 use crate::drafts::Draft;
 use crate::frames::{
@@ -39,7 +42,7 @@ impl Place {
     }
 }
 
-/// The nodes of the refutation of the triple of a letter, by the word's refutation with these nodes.
+/// The nodes of the refutation of the triple of a letter, by the word's refutation with these nodes. They are those of one tree.
 pub(crate) fn refutation(
     alloc: Global,
     icfg: &Icfg,
@@ -47,7 +50,9 @@ pub(crate) fn refutation(
     nodes: &[Node],
     tree: &Tree,
     place: Place,
-) -> Result<Vec<Node>, ItpFault> {
+) -> Result<Vec<Node>, ItpFault>
+    ensures { IfOk result (λ v. IsTrue (is_tree (plain_nodes v.items))) }
+{
     draft(alloc, icfg, path, tree, place)?.nodes(alloc, path, nodes, tree)
 }
 

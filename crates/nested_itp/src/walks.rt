@@ -1,5 +1,9 @@
 //! The walk along a word's tree that gives the refutation of a triple: through the cuts, and by cases through its groups.
 
+ghost use Rattle.std.specs.Prelude.{IsTrue, IfOk, OnOk};
+ghost use Rattle.farkas_check.specs.Nodes.{plain_nodes, is_tree};
+ghost use Rattle.nested_itp.specs.Building.{IsOpen, IsLeft, OneWaits};
+
 use crate::claims::{Claim, Gives};
 use crate::columns::narrowed;
 use crate::parts::{Meeting, Parts, in_order, number_at};
@@ -62,27 +66,35 @@ struct Waiting {
     choices: usize,
 }
 
-/// The walk of one triple.
+/// What is asked at a cut.
+#[derive(Clone, Copy)]
+enum Asked {
+    /// This part.
+    Part(usize),
+    /// A member of a group that is not open.
+    Group,
+    /// Nothing, since there is no such claim.
+    Nothing,
+}
+
+/// The goal at hand: what the system says of the predicates, how many rows there are, and the groups.
 #[derive(Drop)]
-pub(crate) struct Walk {
+pub(crate) struct Goal {
     alloc: Global,
-    /// What its system says of the predicates, of the target last.
+    /// What the system says of the predicates, of the target last.
     claims: Vec<Claim>,
-    /// How many rows the goal at hand has.
     rows: u32,
     /// The groups, by claim and node, of which those from `first` on are not taken away.
     groups: Vec<(usize, usize)>,
     first: usize,
     own: Vec<OwnCut>,
     choices: Vec<Choice>,
-    waiting: Vec<Waiting>,
-    nodes: Vec<Node>,
 }
 
-impl Walk {
-    /// A walk of these claims, with no row and no group.
-    pub(crate) fn new(alloc: Global, claims: Vec<Claim>) -> Walk {
-        Walk {
+impl Goal {
+    /// That of these claims, with no row and no group.
+    pub(crate) fn new(alloc: Global, claims: Vec<Claim>) -> Goal {
+        Goal {
             alloc,
             claims,
             rows: 0,
@@ -90,8 +102,6 @@ impl Walk {
             first: 0,
             own: Vec::new(alloc),
             choices: Vec::new(alloc),
-            waiting: Vec::new(alloc),
-            nodes: Vec::new(alloc),
         }
     }
 
@@ -165,20 +175,6 @@ impl Walk {
         Ok(())
     }
 
-    /// A part that waits, from here on.
-    fn wait(&mut self, spot: Spot, begin: Begin) -> Result<(), AllocError> {
-        self.waiting.push(Waiting {
-            spot,
-            begin,
-            rows: self.rows,
-            groups: self.groups.len(),
-            first: self.first,
-            own: self.own.len(),
-            choices: self.choices.len(),
-        })?;
-        Ok(())
-    }
-
     /// Notes what is chosen at a group.
     fn note(&mut self, claim: usize, node: usize, chosen: Option<bool>) {
         if let Some(found) = self.claims.get_mut(claim) {
@@ -197,31 +193,11 @@ impl Walk {
         }
     }
 
-    /// Opens the first group. The second member waits.
-    fn open_group(&mut self, tree: &Tree, spot: Spot) -> Result<Option<Spot>, AllocError> {
-        let Some(group) = self.groups.get(self.first) else {
-            return Ok(None);
-        };
-        let (claim, node) = *group;
+    /// Takes the first group away: its claim and its node.
+    fn take_group(&mut self) -> Option<(usize, usize)> {
+        let group = *self.groups.get(self.first)?;
         self.first = self.first.saturating_add(1);
-        self.nodes.push(Node::Cases(2))?;
-        self.wait(
-            spot,
-            Begin::Member(Choice {
-                claim,
-                node,
-                second: true,
-            }),
-        )?;
-        self.choose(
-            tree,
-            Choice {
-                claim,
-                node,
-                second: false,
-            },
-        )?;
-        Ok(Some(spot))
+        Some(group)
     }
 
     /// Adds the row of a cut of the triple's own.
@@ -252,6 +228,108 @@ impl Walk {
         }
     }
 
+    /// What is asked at a cut, whose second part begins there, by the claim that tells.
+    fn asked(&self, tree: &Tree, claim: usize, node: usize, second: usize) -> Asked {
+        let Some(found) = self.claims.get(claim) else {
+            return Asked::Nothing;
+        };
+        let first = node.saturating_add(1);
+        match (found.gives(tree, node, second), found.chosen(node)) {
+            (Gives::Part(part), _) => Asked::Part(part),
+            (Gives::Both, _) | (Gives::Group, Some(false)) => Asked::Part(first),
+            (Gives::Group, Some(true)) => Asked::Part(second),
+            (Gives::Group, None) => Asked::Group,
+        }
+    }
+
+    /// The parts of a leaf for one of the word's refutation, which has these parts.
+    fn leaf(
+        &self,
+        path: &PathSystem,
+        tree: &Tree,
+        parts: &Parts,
+        node: usize,
+        leaf: &[(u32, i128)],
+    ) -> Result<Vec<(u32, i128)>, AllocError> {
+        let mut added = Vec::new(self.alloc);
+        parts.add_atoms(&mut added, tree, &self.claims, node)?;
+        parts.add_rows(&mut added, leaf)?;
+        let rows = path.row_at().len();
+        for i in 0..self.own.len() {
+            let OwnCut { row, depth } = self.own[i];
+            added.push((row, number_at(leaf, rows.saturating_add(depth))))?;
+        }
+        parts.add_ties(&mut added, tree, &self.claims, node)?;
+        in_order(self.alloc, added)
+    }
+}
+
+/// The walk of one triple.
+#[derive(Drop)]
+pub(crate) struct Walk {
+    goal: Goal,
+    waiting: Vec<Waiting>,
+    nodes: Vec<Node>,
+}
+
+impl Walk {
+    /// A walk from a goal on.
+    pub(crate) fn new(goal: Goal) -> Walk
+        ensures { IsOpen result }
+    {
+        let alloc = goal.alloc;
+        Walk {
+            goal,
+            waiting: Vec::new(alloc),
+            nodes: Vec::new(alloc),
+        }
+    }
+
+    /// A part that waits, from here on.
+    fn wait(&mut self, spot: Spot, begin: Begin) -> Result<(), AllocError>
+        ensures { OnOk result (OneWaits self.old self.new) }
+    {
+        let goal = &self.goal;
+        let waiting = Waiting {
+            spot,
+            begin,
+            rows: goal.rows,
+            groups: goal.groups.len(),
+            first: goal.first,
+            own: goal.own.len(),
+            choices: goal.choices.len(),
+        };
+        self.waiting.push(waiting)?;
+        Ok(())
+    }
+
+    /// Opens the first group. The second member waits.
+    fn open_group(&mut self, tree: &Tree, spot: Spot) -> Result<Option<Spot>, AllocError>
+        ensures { OnOk result (IsOpen self.old → IsOpen self.new) }
+    {
+        let Some((claim, node)) = self.goal.take_group() else {
+            return Ok(None);
+        };
+        self.nodes.push(Node::Cases(2))?;
+        self.wait(
+            spot,
+            Begin::Member(Choice {
+                claim,
+                node,
+                second: true,
+            }),
+        )?;
+        self.goal.choose(
+            tree,
+            Choice {
+                claim,
+                node,
+                second: false,
+            },
+        )?;
+        Ok(Some(spot))
+    }
+
     /// Where the walk goes on at a cut, whose second part begins there; `None` where the refutation cannot go on.
     fn pass(
         &mut self,
@@ -261,13 +339,15 @@ impl Walk {
         cut: (u32, i128),
         spot: Spot,
         second: usize,
-    ) -> Result<Option<Spot>, AllocError> {
-        match parts.meeting(tree, &self.claims, spot.node) {
+    ) -> Result<Option<Spot>, AllocError>
+        ensures { OnOk result (IsOpen self.old → IsOpen self.new) }
+    {
+        match parts.meeting(tree, &self.goal.claims, spot.node) {
             Meeting::FirstHere => {
                 let col = parts.columns.place(path.column_at(), cut.0);
                 self.nodes.push(Node::Cut { col, k: cut.1 })?;
                 self.wait(spot.part(second), Begin::Side(spot.depth))?;
-                self.add_own(spot.depth)?;
+                self.goal.add_own(spot.depth)?;
                 Ok(Some(spot.part(spot.node.saturating_add(1))))
             }
             Meeting::ChosenBy(claim) => self.follow(tree, claim, spot, second),
@@ -281,20 +361,13 @@ impl Walk {
         claim: usize,
         spot: Spot,
         second: usize,
-    ) -> Result<Option<Spot>, AllocError> {
-        let Some(found) = self.claims.get(claim) else {
-            return Ok(None);
-        };
-        let first = spot.node.saturating_add(1);
-        match (
-            found.gives(tree, spot.node, second),
-            found.chosen(spot.node),
-        ) {
-            (Gives::Part(part), _) => Ok(Some(spot.part(part))),
-            (Gives::Both, _) => Ok(Some(spot.part(first))),
-            (Gives::Group, Some(true)) => Ok(Some(spot.part(second))),
-            (Gives::Group, Some(false)) => Ok(Some(spot.part(first))),
-            (Gives::Group, None) => self.open_group(tree, spot),
+    ) -> Result<Option<Spot>, AllocError>
+        ensures { OnOk result (IsOpen self.old → IsOpen self.new) }
+    {
+        match self.goal.asked(tree, claim, spot.node, second) {
+            Asked::Part(part) => Ok(Some(spot.part(part))),
+            Asked::Group => self.open_group(tree, spot),
+            Asked::Nothing => Ok(None),
         }
     }
 
@@ -306,12 +379,16 @@ impl Walk {
         tree: &Tree,
         parts: &Parts,
         from: Spot,
-    ) -> Result<(), ItpFault> {
+    ) -> Result<(), ItpFault>
+        ensures { OnOk result (IsOpen self.old → IsLeft self.new) }
+    {
         let mut spot = from;
         for _i in 0..u64::MAX {
             let next = match (nodes.get(spot.node), tree.second(spot.node)) {
                 (Some(Node::Leaf(leaf)), _) => {
-                    return self.add_leaf(path, tree, parts, spot.node, leaf);
+                    let found = self.goal.leaf(path, tree, parts, spot.node, leaf)?;
+                    self.add_leaf(found)?;
+                    return Ok(());
                 }
                 (Some(Node::Cut { col, k }), Some(second)) => {
                     self.pass(path, tree, parts, (*col, *k), spot, second)?
@@ -326,49 +403,34 @@ impl Walk {
         Err(ItpFault::Memory)
     }
 
-    /// Adds a leaf for one of the word's refutation, which has these parts.
-    fn add_leaf(
-        &mut self,
-        path: &PathSystem,
-        tree: &Tree,
-        parts: &Parts,
-        node: usize,
-        leaf: &[(u32, i128)],
-    ) -> Result<(), ItpFault> {
-        let mut added = Vec::new(self.alloc);
-        parts.add_atoms(&mut added, tree, &self.claims, node)?;
-        parts.add_rows(&mut added, leaf)?;
-        let rows = path.row_at().len();
-        for i in 0..self.own.len() {
-            let OwnCut { row, depth } = self.own[i];
-            added.push((row, number_at(leaf, rows.saturating_add(depth))))?;
-        }
-        parts.add_ties(&mut added, tree, &self.claims, node)?;
-        self.nodes.push(Node::Leaf(in_order(self.alloc, added)?))?;
+    /// Puts down a leaf with these parts.
+    fn add_leaf(&mut self, parts: Vec<(u32, i128)>) -> Result<(), AllocError>
+        ensures { OnOk result (IsOpen self.old → IsLeft self.new) }
+    {
+        self.nodes.push(Node::Leaf(parts))?;
         Ok(())
     }
 
-    /// The nodes of the triple's refutation.
+    /// The nodes of the triple's refutation, which are those of one tree.
     pub(crate) fn run(
-        &mut self,
+        self,
         path: &PathSystem,
         nodes: &[Node],
         tree: &Tree,
         parts: &Parts,
-    ) -> Result<(), ItpFault> {
-        self.descend(path, nodes, tree, parts, Spot { node: 0, depth: 0 })?;
+    ) -> Result<Vec<Node>, ItpFault>
+        requires { IsOpen self }
+        ensures { IfOk result (λ v. IsTrue (is_tree (plain_nodes v.items))) }
+    {
+        let mut walk = self;
+        walk.descend(path, nodes, tree, parts, Spot { node: 0, depth: 0 })?;
         for _i in 0..u64::MAX {
-            let Some(waiting) = self.waiting.pop() else {
-                return Ok(());
+            let Some(waiting) = walk.waiting.pop() else {
+                return Ok(walk.nodes);
             };
-            self.go_back(tree, waiting)?;
-            self.descend(path, nodes, tree, parts, waiting.spot)?;
+            walk.goal.go_back(tree, waiting)?;
+            walk.descend(path, nodes, tree, parts, waiting.spot)?;
         }
         Err(ItpFault::Memory)
-    }
-
-    /// What the walk has put down.
-    pub(crate) fn into_nodes(self) -> Vec<Node> {
-        self.nodes
     }
 }

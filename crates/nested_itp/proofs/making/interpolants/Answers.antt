@@ -4,11 +4,23 @@ use Rattle.nwa_base.specs.declared.letters.Letter.{Letter}
 use Rattle.nwa_base.specs.Words.{are_matched}
 use Rattle.triple_rows.specs.declared.triples.Scoped.{Scoped}
 use Rattle.triple_rows.specs.Proofs.{PlainProof}
-use Rattle.letter_acts.specs.Invariant.{alphabet_of}
-use Rattle.nested_predicates.specs.Interpolants.{PlainInterpolants, AreInterpolants, BeginsTrue, EndsFalse, triples_along}
+use Rattle.letter_acts.specs.Invariant.{Graph, alphabet_of}
+use Rattle.nested_predicates.specs.Interpolants.{PlainInterpolants, AreInterpolants, BeginsTrue, EndsFalse, prefix_predicates, triples_along}
+use Rattle.triple_rows.specs.Triples.{Agrees}
+use Rattle.nested_itp.proofs.AgreeingLaws.{triples_agree, kept_graph}
 use Rattle.hoare_check.specs.Decided.{IsProofFor}
 use Rattle.nested_itp.proofs.CountLaws.{proofs_counted, proved_over}
 use Rattle.nested_itp.proofs.making.interpolants.Goals as goal
+
+pub proofs-requires : goal.proofs-requires
+proofs-requires c =
+    let v = c.in_ok-sums.ensures.value in
+    let g : Graph = c.args.icfg.now in
+    let w : List Letter = c.args.path.now.word in
+    let ts : c.deref-3.result.now ≡ triples_along w (prefix_predicates g w v.tree) [] =
+    c.deref-3.ensures.value ∙ c.in_ok-triples.ensures ∙ ap (λ (u : List Letter). triples_along u c.deref.result.now []) c.word-2.ensures ∙
+    ap (λ (ps : List Scoped). triples_along w ps []) (c.deref.ensures.value ∙ v.preds_are) in
+    subst (AllByRecursion (Agrees (alphabet_of g))) (sym ts) (triples_agree g w v.tree (kept_graph g c.acts-valid.ensures.valid) c.requires.path.accepted)
 
 pub returns-clause-value : goal.returns-clause-value
 returns-clause-value c =
