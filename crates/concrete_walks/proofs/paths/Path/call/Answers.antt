@@ -1,0 +1,13 @@
+use Rattle.std.proofs.Common.{ℕ, List, [], ◌∷◌, ◌++◌, sym, subst, reverse}
+use Rattle.nwa_base.specs.declared.letters.Letter.{Letter}
+use Rattle.nwa_base.specs.Acceptance.{Moves}
+use Rattle.concrete_walks.proofs.PathLemmas.{call_on}
+use Rattle.concrete_walks.proofs.paths.Path.call.Goals as goal
+
+pub returns : goal.returns
+returns c =
+    subst (λ (w : List Letter). Moves c.args.nwa.now [] c.args.nwa.now.start w (reverse c.push-2.new.self.items) c.args.to) (sym c.in_ok-push.ensures.items)
+    (subst (λ (o : List ℕ). Moves c.args.nwa.now [] c.args.nwa.now.start (c.args.self.now.letters.items ++ c.args.letter ∷ []) (reverse o) c.args.to)
+    (sym c.in_ok-push-2.ensures.items)
+    (call_on c.args.nwa.now c.args.self.now.letters.items c.args.self.now.callers.items c.args.self.now.place c.args.to c.args.letter
+    c.states-states.ensures.valid c.requires.path c.requires.edge))

@@ -1,0 +1,15 @@
+//! Concrete walks: the automaton of a program run on numbers, along random edges, until an assertion fails. A walk finds a
+//! failure that lies deep; what it proposes is a word of the automaton.
+#![tactic(auto)]
+
+mod choices;
+mod moves;
+mod paths;
+mod random;
+mod situations;
+mod solving;
+mod stepping;
+mod walkers;
+mod walks;
+
+pub use walkers::Walker;

@@ -1,0 +1,68 @@
+ghost use Rattle.std.specs.Prelude.{◌≡◌, ◌||◌, IfOk, IfSome, Ok, None, true, false, is_some};
+ghost use Rattle.nwa_base.specs.Acceptance.{Accepts};
+
+use crate::choices::Choices;
+use crate::walks::{Lengths, walk};
+use letter_acts::Icfg;
+use nwa_base::Word;
+use std::alloc::{AllocError, Global};
+use std::marker::Model;
+
+/// What walks over a program. Contracts see whether it has found a word.
+#[derive(Drop)]
+pub struct Walker {
+    choices: Choices,
+    lengths: Lengths,
+    found: bool,
+}
+
+impl Model for Walker {
+    ghost use Rattle.concrete_walks.specs.Walkers.{Walking};
+
+    ghost Value = { Walking };
+
+    ghost view = { λ w. record { found = w.found } };
+}
+
+impl Walker {
+    /// The walker of a worker over a program. A worker's walks are the same in each run.
+    pub fn new(alloc: Global, icfg: &Icfg, worker: u64) -> Result<Walker, AllocError>
+        ensures { IfOk result (λ w. w.found ≡ false) }
+    {
+        Ok(Walker {
+            choices: Choices::new(alloc, icfg, worker)?,
+            lengths: Lengths::new(),
+            found: false,
+        })
+    }
+
+    /// Walks over the program, until a walk reaches a final state or some `moves` letters were tried, and answers the word along which
+    /// that walk went. After it has found one it walks no more.
+    pub fn slice(
+        &mut self,
+        alloc: Global,
+        icfg: &Icfg,
+        moves: u64,
+    ) -> Result<Option<Word>, AllocError>
+        ensures accepted { IfOk result (λ o. IfSome o (Accepts icfg.now.automaton)) }
+        ensures found { IfOk result (λ o. self.new.found ≡ (self.old.found || is_some o)) }
+        ensures once { self.old.found ≡ true → result ≡ Ok None }
+    {
+        if self.found || icfg.nwa().finals().is_empty() {
+            return Ok(None);
+        }
+        let mut tries = 0;
+        for _ in 0..moves {
+            if tries >= moves {
+                break;
+            }
+            let length = self.lengths.length();
+            if let Some(word) = walk(alloc, icfg, &mut self.choices, length, &mut tries)? {
+                self.found = true;
+                return Ok(Some(word));
+            }
+            self.lengths.count_walk();
+        }
+        Ok(None)
+    }
+}

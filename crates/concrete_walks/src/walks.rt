@@ -1,0 +1,83 @@
+//! One walk, and how long walks may be.
+
+ghost use Rattle.std.specs.Prelude.{IfOk, IfSome};
+ghost use Rattle.nwa_base.specs.Acceptance.{Accepts};
+
+use crate::choices::Choices;
+use crate::paths::Path;
+use crate::situations::Situation;
+use crate::stepping::step;
+use letter_acts::Icfg;
+use nwa_base::Word;
+use std::alloc::{AllocError, Global};
+
+/// How many letters the first walks may have.
+const FIRST_LENGTH: u32 = 50;
+
+/// How many letters a walk may have at most.
+const GREATEST_LENGTH: u32 = 2000;
+
+/// After so many walks they may be a quarter longer.
+const WALKS_OF_A_LENGTH: u32 = 50;
+
+/// How long walks may be.
+#[derive(Clone, Copy)]
+pub(crate) struct Lengths {
+    length: u32,
+    /// How many walks of this length were made.
+    walks: u32,
+}
+
+impl Lengths {
+    /// Those of the first walk.
+    pub fn new() -> Self {
+        Lengths {
+            length: FIRST_LENGTH,
+            walks: 0,
+        }
+    }
+
+    /// How many letters the next walk may have.
+    pub fn length(self) -> u32 {
+        self.length
+    }
+
+    /// One walk more was made.
+    pub fn count_walk(&mut self) {
+        self.walks = self.walks.saturating_add(1);
+        if self.walks >= WALKS_OF_A_LENGTH {
+            self.walks = 0;
+            self.length = self
+                .length
+                .saturating_add(self.length / 4)
+                .min(GREATEST_LENGTH);
+        }
+    }
+}
+
+/// Walks from the start for at most so many letters; the word of the walk, where it reaches a final state. `tries` counts the letters
+/// that were tried.
+pub(crate) fn walk(
+    alloc: Global,
+    icfg: &Icfg,
+    choices: &mut Choices,
+    length: u32,
+    tries: &mut u64,
+) -> Result<Option<Word>, AllocError>
+    ensures { IfOk result (λ o. IfSome o (Accepts icfg.now.automaton)) }
+{
+    let nwa = icfg.nwa();
+    let mut path = Path::new(alloc, nwa);
+    let mut situation = Situation::start(alloc, icfg, choices)?;
+    for _ in 0..length {
+        let (place, before) = (path.place(), path.before());
+        let Some(next) = step(icfg, place, before, &mut situation, choices, tries)? else {
+            return Ok(None);
+        };
+        path.go(nwa, next)?;
+        if nwa.is_final(path.place()) {
+            return Ok(path.word(nwa));
+        }
+    }
+    Ok(None)
+}
