@@ -1,3 +1,6 @@
 mod CountLaws
 mod CutLaws
 mod ProvingLaws
+mod MeetingLaws
+mod UnrefutedLaws
+mod PieceLaws

@@ -36,20 +36,24 @@ module _ {X Y : Type 0} (E : Type 0) (R : X → Y → Type 0) where
   values_of (x ∷ xs) [] h = absurd h
   values_of (x ∷ xs) (y ∷ ys) h = (h.0, values_of xs ys h.1)
 
--- the triples of a list that is gone through in several threads
-abbrev pub triples_in : Option (Vec Triple Global) → List Triple
-triples_in None = []
-triples_in (Some v) = v.items
+-- the pieces of a list that is gone through in several threads
+abbrev pub pieces_in : Option (Vec (Vec Triple Global) Global) → List (Vec Triple Global)
+pieces_in None = []
+pieces_in (Some v) = v.items
 
--- each triple with its answer, where all are values
-abbrev pub AreTried : {E : Type 0} → Alphabet → List Triple → List (Result (Option PlainProof) E) → Type 0
-AreTried al triples tried = AllZip (λ t r. IfOk r (MayProve al t)) triples tried
+-- each triple of the piece with its answer
+abbrev pub IsAnswered : Alphabet → Vec Triple Global → Vec (Option PlainProof) Global → Type 0
+IsAnswered al piece proofs = AllZip (MayProve al) piece.items proofs.items
 
-pub all_proved : {E : Type 0} (al given : Alphabet) (before now : Option (Vec Triple Global)) (triples listed : List Triple)
-    (tried answers : List (Result (Option PlainProof) E)) (proofs : List (Option PlainProof)) → given ≡ al → before ≡ now → triples_in now ≡ triples →
-    listed ≡ triples_in before → AreTried given listed tried → answers ≡ tried → map Ok proofs ≡ answers → AllZip (MayProve al) triples proofs
-all_proved {E} al given before now triples listed tried answers proofs same moved here from h said ends =
-    let places : listed ≡ triples = from ∙ ap triples_in moved ∙ here in
+-- each piece with its answers, where all are values
+abbrev pub AreTried : {E : Type 0} → Alphabet → List (Vec Triple Global) → List (Result (Vec (Option PlainProof) Global) E) → Type 0
+AreTried al pieces tried = AllZip (λ piece r. IfOk r (IsAnswered al piece)) pieces tried
+
+pub all_proved : {E : Type 0} (al given : Alphabet) (before now : Option (Vec (Vec Triple Global) Global)) (pieces listed : List (Vec Triple Global))
+    (tried answers : List (Result (Vec (Option PlainProof) Global) E)) (proofs : List (Vec (Option PlainProof) Global)) → given ≡ al → before ≡ now → pieces_in now ≡ pieces →
+    listed ≡ pieces_in before → AreTried given listed tried → answers ≡ tried → map Ok proofs ≡ answers → AllZip (IsAnswered al) pieces proofs
+all_proved {E} al given before now pieces listed tried answers proofs same moved here from h said ends =
+    let places : listed ≡ pieces = from ∙ ap pieces_in moved ∙ here in
     let ours : AreTried al listed tried = subst (λ (a : Alphabet). AreTried a listed tried) same h in
-    let each : AreTried al triples tried = subst (λ (ts : List Triple). AreTried al ts tried) places ours in
-    values_of E (MayProve al) triples proofs (subst (λ (rs : List (Result (Option PlainProof) E)). AreTried al triples rs) (sym (ends ∙ said)) each)
+    let each : AreTried al pieces tried = subst (λ (ps : List (Vec Triple Global)). AreTried al ps tried) places ours in
+    values_of E (IsAnswered al) pieces proofs (subst (λ (rs : List (Result (Vec (Option PlainProof) Global) E)). AreTried al pieces rs) (sym (ends ∙ said)) each)

@@ -3,6 +3,7 @@
 
 mod counting;
 mod cuts;
+mod meeting;
 mod proving;
 
 pub use cuts::are_cuts_within;

@@ -1,12 +1,13 @@
 //! Proofs of triples.
 
-ghost use Rattle.std.specs.Prelude.{◌≡◌, IfOk, Ok, map};
-ghost use Rattle.std.specs.List.{AllByRecursion, AllZip};
+ghost use Rattle.std.specs.Prelude.{◌≡◌, ◌++◌, IfOk, OnOk, Ok, map};
+ghost use Rattle.std.specs.List.{AllByRecursion, AllZip, flat_map};
 ghost use Rattle.letter_acts.specs.Invariant.{alphabet_of};
 ghost use Rattle.triple_rows.specs.Triples.{Agrees};
 ghost use Rattle.hoare_check.specs.Decided.{MayProve};
 
 use crate::counting::columns_of;
+use crate::meeting::is_met_by_one;
 use int_decide::{Answer, DecideFault, decide, measure};
 use letter_acts::Icfg;
 use lin_rows::RowFault;
@@ -15,9 +16,29 @@ use std::alloc::{AllocError, Global};
 use std::thread::Threads;
 use triple_rows::{Proof, Triple, proof, systems_of};
 
+/// How many pieces many triples are split into, at least.
+const PIECES: usize = 8;
+
+/// How many triples a piece has, at least: those of a piece are tried one after another, each at the points found before.
+const LEAST: usize = 64;
+
 /// The proof of a triple whose kind and scopes agree with its letter, by Decide without cuts. `None` only where Decide does not
 /// refute the triple's system so within the numbers that fit.
 pub fn prove(alloc: Global, icfg: &Icfg, triple: Triple) -> Result<Option<Proof>, AllocError>
+    requires { Agrees (alphabet_of icfg.now) triple }
+    ensures { IfOk result (MayProve (alphabet_of icfg.now) triple) }
+{
+    let mut points = Vec::new(alloc);
+    prove_at(alloc, icfg, triple, &mut points)
+}
+
+/// What `prove` may answer. Its system is not decided where one of the points meets it; a point that Decide finds is added.
+fn prove_at(
+    alloc: Global,
+    icfg: &Icfg,
+    triple: Triple,
+    points: &mut Vec<Vec<i128>>,
+) -> Result<Option<Proof>, AllocError>
     requires { Agrees (alphabet_of icfg.now) triple }
     ensures { IfOk result (MayProve (alphabet_of icfg.now) triple) }
 {
@@ -33,11 +54,68 @@ pub fn prove(alloc: Global, icfg: &Icfg, triple: Triple) -> Result<Option<Proof>
     let Some(_) = measure(&system, columns) else {
         return Err(AllocError);
     };
+    if is_met_by_one(&system, points) {
+        return Ok(None);
+    }
     match decide(alloc, &system, columns, 0) {
         Ok(Answer::Refuted(nodes)) => proof(alloc, icfg, triple, nodes),
-        Ok(Answer::Whole(_)) | Err(DecideFault::Gap) | Err(DecideFault::Past) => Ok(None),
+        Ok(Answer::Whole(point)) => {
+            points.push(point)?;
+            Ok(None)
+        }
+        Err(DecideFault::Gap) | Err(DecideFault::Past) => Ok(None),
         Err(DecideFault::Memory) => Err(AllocError),
     }
+}
+
+/// The number of a triple's letter.
+fn letter_in(triple: &Triple) -> u32 {
+    match triple {
+        Triple::Inside { letter, .. } | Triple::Call { letter, .. } | Triple::Back { letter, .. } =>
+            *letter,
+    }
+}
+
+/// What `prove` may answer for each of the triples, in order. Each is tried at the points found for those before by its letter.
+fn prove_each(
+    alloc: Global,
+    icfg: &Icfg,
+    triples: Vec<Triple>,
+) -> Result<Vec<Option<Proof>>, AllocError>
+    requires { AllByRecursion (Agrees (alphabet_of icfg.now)) triples.items }
+    ensures { IfOk result (λ proofs. AllZip (MayProve (alphabet_of icfg.now)) triples.items proofs.items) }
+{
+    let mut proofs = Vec::with_capacity(alloc, triples.len())?;
+    let mut points = Vec::new(alloc);
+    let mut last = None;
+    for triple in triples {
+        let letter = Some(letter_in(&triple));
+        if letter != last {
+            points.clear();
+            last = letter;
+        }
+        let answer = prove_at(alloc, icfg, triple, &mut points)?;
+        proofs.push(answer)?;
+    }
+    Ok(proofs)
+}
+
+/// The triples in pieces, in order.
+fn pieces_of(alloc: Global, triples: Vec<Triple>) -> Result<Vec<Vec<Triple>>, AllocError>
+    ensures { IfOk result (λ pieces. flat_map (λ piece. piece.items) pieces.items ≡ triples.items) }
+{
+    let size = (triples.len() / PIECES).max(LEAST);
+    let mut pieces = Vec::new(alloc);
+    let mut piece = Vec::new(alloc);
+    for triple in triples {
+        piece.push(triple)?;
+        if piece.len() >= size {
+            pieces.push(piece)?;
+            piece = Vec::new(alloc);
+        }
+    }
+    pieces.push(piece)?;
+    Ok(pieces)
 }
 
 /// What `prove` may answer for each of the triples, in order. They are tried in several threads.
@@ -50,13 +128,29 @@ pub fn prove_all<R: Threads + Sync>(
     requires { AllByRecursion (Agrees (alphabet_of icfg.now)) triples.items }
     ensures { IfOk result (λ proofs. AllZip (MayProve (alphabet_of icfg.now)) triples.items proofs.items) }
 {
-    let tried = triples
+    let pieces = pieces_of(alloc, triples)?;
+    let answers = prove_pieces(rt, alloc, icfg, pieces)?;
+    joined(alloc, answers)
+}
+
+/// What `prove` may answer for each of the triples in the pieces, which are tried in several threads.
+fn prove_pieces<R: Threads + Sync>(
+    rt: &R,
+    alloc: Global,
+    icfg: &Icfg,
+    pieces: Vec<Vec<Triple>>,
+) -> Result<Vec<Vec<Option<Proof>>>, AllocError>
+    requires { AllByRecursion (λ piece. AllByRecursion (Agrees (alphabet_of icfg.now)) piece.items) pieces.items }
+    ensures { IfOk result (λ answers. AllZip (λ piece proofs. AllZip (MayProve (alphabet_of icfg.now)) piece.items proofs.items) pieces.items answers.items) }
+{
+    let tried = pieces
         .into_par_iter()
+        .with_min_len(1)
         .map(
-            |triple: Triple| -> Result<Option<Proof>, AllocError>
-                requires { Agrees (alphabet_of icfg.now) triple }
-                ensures { IfOk result (MayProve (alphabet_of icfg.entry.now) triple) }
-            { prove(alloc, icfg, triple) },
+            |piece: Vec<Triple>| -> Result<Vec<Option<Proof>>, AllocError>
+                requires { AllByRecursion (Agrees (alphabet_of icfg.now)) piece.items }
+                ensures { IfOk result (λ proofs. AllZip (MayProve (alphabet_of icfg.entry.now)) piece.items proofs.items) }
+            { prove_each(alloc, icfg, piece) },
         )
         .collect::<Vec<_>>(rt, alloc)?;
     gathered(alloc, tried)
@@ -65,13 +159,34 @@ pub fn prove_all<R: Threads + Sync>(
 /// All answers, or want of memory where one of them is that.
 fn gathered(
     alloc: Global,
-    tried: Vec<Result<Option<Proof>, AllocError>>,
-) -> Result<Vec<Option<Proof>>, AllocError>
-    ensures { IfOk result (λ proofs. map Ok proofs.items ≡ tried.items) }
+    tried: Vec<Result<Vec<Option<Proof>>, AllocError>>,
+) -> Result<Vec<Vec<Option<Proof>>>, AllocError>
+    ensures { IfOk result (λ answers. map Ok answers.items ≡ tried.items) }
 {
-    let mut proofs = Vec::with_capacity(alloc, tried.len())?;
+    let mut answers = Vec::with_capacity(alloc, tried.len())?;
     for answer in tried {
-        proofs.push(answer?)?;
+        answers.push(answer?)?;
+    }
+    Ok(answers)
+}
+
+/// The answers of all pieces, in order.
+fn joined(alloc: Global, answers: Vec<Vec<Option<Proof>>>) -> Result<Vec<Option<Proof>>, AllocError>
+    ensures { IfOk result (λ proofs. proofs.items ≡ flat_map (λ piece. piece.items) answers.items) }
+{
+    let mut proofs = Vec::new(alloc);
+    for piece in answers {
+        add_all(piece, &mut proofs)?;
     }
     Ok(proofs)
+}
+
+/// Adds the answers of a piece.
+fn add_all(piece: Vec<Option<Proof>>, proofs: &mut Vec<Option<Proof>>) -> Result<(), AllocError>
+    ensures { OnOk result (proofs.new.items ≡ proofs.old.items ++ piece.items) }
+{
+    for answer in piece {
+        proofs.push(answer)?;
+    }
+    Ok(())
 }

@@ -1,18 +1,24 @@
-use Rattle.std.proofs.Common.{◌≡◌, ◌∙◌, IfOk, Ok, Err, Result, ap, sym}
+use Rattle.std.proofs.Common.{List, Option, sym, subst}
+use Rattle.std.specs.List.{AllByRecursion, AllZip}
 use Rattle.letter_acts.specs.Invariant.{alphabet_of}
 use Rattle.rayon.proofs.ListFacts.{IfOk-then}
-use Rattle.hoare_check.proofs.ProvingLaws.{all_proved}
+use Rattle.triple_rows.specs.declared.triples.Triple.{Triple}
+use Rattle.triple_rows.specs.Triples.{Agrees}
+use Rattle.triple_rows.specs.Proofs.{PlainProof}
+use Rattle.hoare_check.specs.Decided.{MayProve}
+use Rattle.hoare_check.proofs.PieceLaws.{all_of, in_pieces, pairs_joined}
 use Rattle.hoare_check.proofs.proving.prove_all.Goals as goal
 
--- what holds of the value of an `Ok`, where it is one
-at_ok : {T E : Type 0} (r : Result T E) (P : T → Type 0) (v : T) (Q : Type 0) → IfOk r P → r ≡ Ok v → ((x : T) → x ≡ v → P x → Q) → Q
-at_ok (Ok w) P v Q h e f = let same : w ≡ v = cc in f w same h
-at_ok (Err x) P v Q h e f = absurd cc
+pub prove_pieces-requires-after_bounds : goal.prove_pieces-requires-after_bounds
+prove_pieces-requires-after_bounds g c κs within =
+    let al = alphabet_of c.args.icfg.now in
+    in_pieces (Agrees al) c.in_ok-pieces.pieces.items (subst (λ (ts : List Triple). AllByRecursion (Agrees al) ts) (sym c.in_ok-pieces.ensures) c.requires)
 
 pub returns : goal.returns
 returns g c =
-    at_ok c.collect.result _ c.in_ok-tried.tried _ c.collect.ensures c.in_ok-tried.was (λ v same h.
-    IfOk-then c.gathered.result _ _ c.gathered.ensures (λ proofs e.
-    all_proved (alphabet_of c.args.icfg.now) (alphabet_of c.map.result.f.1.now) c.map.result.base.vec c.into_par_iter.result.vec c.args.triples.items
-    h.1.0 h.0 v.items proofs.items (ap (λ f. alphabet_of f.1.now) c.map.ensures.f) (ap (λ it. it.vec) c.map.ensures.base) c.into_par_iter.ensures
-    h.1.1 h.1.2 h.2 (e ∙ ap (λ w. w.items) (sym same))))
+    let al = alphabet_of c.args.icfg.now in
+    let pieces = c.in_ok-pieces.pieces.items in
+    let answers = c.in_ok-answers.answers.items in
+    IfOk-then c.joined.result _ _ c.joined.ensures (λ proofs e.
+    subst (λ (ps : List (Option PlainProof)). AllZip (MayProve al) c.args.triples.items ps) (sym e)
+    (subst (λ (ts : List Triple). AllZip (MayProve al) ts (all_of answers)) c.in_ok-pieces.ensures (pairs_joined (MayProve al) pieces answers c.in_ok-answers.ensures)))
