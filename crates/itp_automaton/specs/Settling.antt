@@ -1,5 +1,5 @@
 -- Triples that are tried one after another until all are settled.
-use Rattle.std.specs.Prelude.{◌≡◌, ℕ, ◌<◌, true, List, [], length, map, Option, None, Some, slice_get, slice_index_or}
+use Rattle.std.specs.Prelude.{◌≡◌, ◌⊎◌, ℕ, ◌<◌, true, List, [], length, map, Option, None, Some, slice_get, slice_index_or}
 use Rattle.std.specs.List.{AllByRecursion, flat_map}
 use Rattle.nwa_base.specs.Members.{Member}
 use Rattle.letter_acts.specs.Acts.{PlainAct, inside_act, call_act, back_act, Alphabet}
@@ -9,6 +9,7 @@ use Rattle.triple_rows.specs.declared.triples.Triple.TheVariants as triples
 use Rattle.triple_rows.specs.Triples.{Agrees, IsScoped}
 use Rattle.triple_rows.specs.Proofs.{PlainProof}
 use Rattle.hoare_check.specs.Decided.{RefutesUncut, IsProofFor}
+use Rattle.itp_automaton.specs.declared.settling.Work.{Work}
 use Rattle.itp_automaton.specs.declared.sources.Source.{Source}
 use Rattle.itp_automaton.specs.declared.sources.Source.TheVariants.{Inside, Call, Back}
 use Rattle.itp_automaton.specs.Making.{truth_of, named_in}
@@ -114,11 +115,38 @@ pub record AreTriplesFrom (al : Alphabet) (states : List Scoped) (letter proc : 
   pub named : AllByRecursion (NamesStates states) found
   pub all : (after : Scoped) → Member targets after → IsScoped al proc after → Member found (triple_from states source letter after)
 
--- the triples from a source by a letter to all states in the scope of the procedure are settled
-abbrev pub SettledFrom : Alphabet → List Scoped → ℕ → ℕ → List PlainProof → Source → Type 0
-SettledFrom al states letter proc proofs source =
-    (after : Scoped) → Member states after → IsScoped al proc after → IsSettled al proofs (triple_from states source letter after)
+-- ---- work that goes on
 
--- the triples over the states by this letter are settled
-abbrev pub SettledBy : Alphabet → List Scoped → List PlainProof → ℕ → Type 0
-SettledBy al states proofs letter = (t : Triple) → letter_in t ≡ letter → NamesStates states t → IsSettled al proofs t
+-- settled, or waiting to be tried
+abbrev pub IsDue : Alphabet → Work → Triple → Type 0
+IsDue al w t = IsSettled al w.proofs.items t ⊎ Member w.waiting.items t
+
+-- the triple agrees with its letter and is over the states
+pub record MayWait (al : Alphabet) (states : List Scoped) (t : Triple) : Type 0 where
+  pub agrees : Agrees al t
+  pub named : NamesStates states t
+
+-- of the triples those wait as well that are not listed
+pub record AddsWaiting (proofs : List PlainProof) (old triples new : List Triple) : Type 0 where
+  pub kept : (t : Triple) → Member old t → Member new t
+  pub added : (t : Triple) → Member triples t → IsListed proofs t ⊎ Member new t
+  pub only : (t : Triple) → Member new t → Member old t ⊎ Member triples t
+
+-- proofs are added alone, triples over the states alone wait, and what was settled or waiting is so still
+pub record GoesOn (al : Alphabet) (states : List Scoped) (old new : Work) : Type 0 where
+  pub adds : Adds al states old.proofs.items new.proofs.items
+  pub waiting : AllByRecursion (MayWait al states) new.waiting.items
+  pub due : (t : Triple) → IsDue al old t → IsDue al new t
+
+-- the triples from a source by a letter to all states in the scope of the procedure are settled or waiting
+abbrev pub DueFrom : Alphabet → List Scoped → ℕ → ℕ → Work → Source → Type 0
+DueFrom al states letter proc w source =
+    (after : Scoped) → Member states after → IsScoped al proc after → IsDue al w (triple_from states source letter after)
+
+-- the triples over the states by this letter are settled or waiting
+abbrev pub DueBy : Alphabet → List Scoped → Work → ℕ → Type 0
+DueBy al states w letter = (t : Triple) → letter_in t ≡ letter → NamesStates states t → Agrees al t → IsDue al w t
+
+-- those by letters below n
+abbrev pub DueBelow : Alphabet → List Scoped → Work → ℕ → Type 0
+DueBelow al states w n = (t : Triple) → letter_in t < n → NamesStates states t → Agrees al t → IsDue al w t

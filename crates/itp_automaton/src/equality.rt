@@ -1,10 +1,11 @@
-//! Whether predicates are equal.
+//! Whether predicates are equal, and triples.
 
 ghost use Rattle.std.specs.Prelude.{◌≡◌, ◌↔◌, IsTrue};
 ghost use Rattle.triple_rows.specs.Predicates.{SpellsPredicate};
+ghost use Rattle.triple_rows.specs.declared.triples.Triple.TheVariants as triples;
 
 use lin_rows::{Col, Row, RowKind};
-use triple_rows::{PredNode, Scoped};
+use triple_rows::{PredNode, Scoped, Triple};
 
 /// Whether the predicates are equal, with their procedures.
 pub(crate) fn is_same(a: &Scoped, b: &Scoped) -> bool
@@ -78,4 +79,62 @@ fn same_number(a: i128, b: i128) -> bool
     ensures { IsTrue result ↔ (a ≡ b) }
 {
     a == b
+}
+
+/// Whether the triples are equal.
+pub(crate) fn is_same_triple(a: &Triple, b: &Triple) -> bool
+    ensures { IsTrue result → a.now ≡ b.now }
+{
+    match a {
+        Triple::Inside { from, letter, to } => is_inside(b, from, *letter, to),
+        Triple::Call { from, letter, to } => is_call(b, from, *letter, to),
+        Triple::Back {
+            exit,
+            before,
+            letter,
+            to,
+        } => is_back(b, exit, before, *letter, to),
+    }
+}
+
+/// Whether this is the inside triple.
+fn is_inside(triple: &Triple, before: &Scoped, number: u32, after: &Scoped) -> bool
+    ensures { IsTrue result → triples.Inside before.now number after.now ≡ triple.now }
+{
+    match triple {
+        Triple::Inside { from, letter, to } => *letter == number
+            && is_same(before, from)
+            && is_same(after, to),
+        Triple::Call { .. } | Triple::Back { .. } => false,
+    }
+}
+
+/// Whether this is the call triple.
+fn is_call(triple: &Triple, source: &Scoped, id: u32, target: &Scoped) -> bool
+    ensures { IsTrue result → triples.Call source.now id target.now ≡ triple.now }
+{
+    match triple {
+        Triple::Call { from, letter, to } => *letter == id
+            && is_same(source, from)
+            && is_same(target, to),
+        Triple::Inside { .. } | Triple::Back { .. } => false,
+    }
+}
+
+/// Whether this is the return triple.
+fn is_back(triple: &Triple, left: &Scoped, caller: &Scoped, number: u32, after: &Scoped) -> bool
+    ensures { IsTrue result → triples.Back left.now caller.now number after.now ≡ triple.now }
+{
+    match triple {
+        Triple::Back {
+            exit,
+            before,
+            letter,
+            to,
+        } => *letter == number
+            && is_same(left, exit)
+            && is_same(caller, before)
+            && is_same(after, to),
+        Triple::Inside { .. } | Triple::Call { .. } => false,
+    }
 }

@@ -9,6 +9,7 @@ mod equality;
 mod faults;
 pub mod laws;
 mod letters;
+mod listing;
 mod making;
 mod saturating;
 mod settling;
