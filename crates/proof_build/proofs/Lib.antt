@@ -5,6 +5,9 @@ mod ListLaws
 mod NumberLaws
 mod EdgeLaws
 mod UnionLaws
+mod KeyLaws
 mod TripleLaws
 mod SpreadLaws
+mod ReachLaws
+mod NeedLaws
 mod BuildLaws

@@ -17,6 +17,7 @@ use Rattle.triple_rows.specs.Proofs.{PlainProof}
 use Rattle.triple_rows.proofs.ListLaws.{something_at}
 use Rattle.itp_automaton.specs.Certified.{Certificate, IsCertified}
 use Rattle.itp_automaton.specs.Making.{named_in}
+use Rattle.proof_names.specs.declared.outlines.Listed.{Listed}
 use Rattle.proof_names.specs.declared.outlines.Listed.TheVariants.{Inside, Call, Back}
 use Rattle.proof_names.specs.Columns.{has_entry}
 use Rattle.proof_names.specs.Outlines.{Node}
@@ -27,6 +28,7 @@ use Rattle.proof_unwind.specs.Exploring.{IsExploring}
 use Rattle.proof_build.specs.Unwindings.{HasTriple, IsShown}
 use Rattle.proof_build.specs.Numbering.{HasBody, StartHasBody, IsNumberOf, IsNumber, AreNumbers, AreListed, IsNumbered, AreNumbered, AreAllNumbered}
 use Rattle.proof_build.specs.Listing.{AreTriplesOf}
+use Rattle.proof_build.specs.Needs.{AreNeeded}
 use Rattle.proof_build.specs.Unions.{HasEdgesOf, IsUnionOf}
 use Rattle.proof_build.proofs.WordLaws.{node_is, kept_everywhere}
 use Rattle.proof_build.proofs.ScopeLaws.{all_of_member, same_proc, call_ends, back_leaves, back_kind}
@@ -195,38 +197,39 @@ module _ (g : Graph) (preds : List Scoped) (cs : List Certificate) (union : Auto
 
   -- ---- steps show listed triples
 
-  module _ (shown : List PlainShown) (ts : AreTriplesOf preds cs shown) where
+  module _ (needed : List Listed) (need : AreNeeded union nodes steps needed) (shown : List PlainShown) (ts : AreTriplesOf preds cs needed shown) where
     numbered_as : (c : Certificate) (number : ℕ → Option ℕ) (x q : ℕ) (s : Scoped) → AreNumbers preds c.preds number → slice_get c.preds x ≡ Some s → number x ≡ Some q → IsNumberOf preds s q
     numbered_as c number x q s n e f = subst (λ (o : Option ℕ). IsNumber preds s o) f (n.each x s e)
 
-    inside_listed : (q r : ℕ) (a : Letter) → Member union.insides (q, a, r) → HasTriple shown (Inside q a.id r)
-    inside_listed q r a e =
+    inside_listed : (q r : ℕ) (a : Letter) → Member union.insides (q, a, r) → Member needed (Inside q a.id r) → HasTriple shown (Inside q a.id r)
+    inside_listed q r a e m =
         let w = united.insides q r a e in
         let t = (cert_of w.certificate w.among).insides w.x w.y a w.edge in
-        listed_there g preds shown t.proved.proof (triples.Inside t.before a.id t.after) (Inside q a.id r) listed (ts.all w.certificate w.among t.proved.proof t.proved.listed) t.proved.is
-        (numbered_as w.certificate w.number w.x q t.before w.numbers t.source w.source, refl, numbered_as w.certificate w.number w.y r t.after w.numbers t.target w.target)
+        listed_there g preds needed shown t.proved.proof (triples.Inside t.before a.id t.after) (Inside q a.id r) listed (ts.all w.certificate w.among t.proved.proof t.proved.listed) t.proved.is
+        (numbered_as w.certificate w.number w.x q t.before w.numbers t.source w.source, refl, numbered_as w.certificate w.number w.y r t.after w.numbers t.target w.target) m
 
-    call_listed : (q r : ℕ) (a : Letter) → Member union.calls (q, a, r) → HasTriple shown (Call q a.id r)
-    call_listed q r a e =
+    call_listed : (q r : ℕ) (a : Letter) → Member union.calls (q, a, r) → Member needed (Call q a.id r) → HasTriple shown (Call q a.id r)
+    call_listed q r a e m =
         let w = united.calls q r a e in
         let t = (cert_of w.certificate w.among).calls w.x w.y a w.edge in
-        listed_there g preds shown t.proved.proof (triples.Call t.before a.id t.after) (Call q a.id r) listed (ts.all w.certificate w.among t.proved.proof t.proved.listed) t.proved.is
-        (numbered_as w.certificate w.number w.x q t.before w.numbers t.source w.source, refl, numbered_as w.certificate w.number w.y r t.after w.numbers t.target w.target)
+        listed_there g preds needed shown t.proved.proof (triples.Call t.before a.id t.after) (Call q a.id r) listed (ts.all w.certificate w.among t.proved.proof t.proved.listed) t.proved.is
+        (numbered_as w.certificate w.number w.x q t.before w.numbers t.source w.source, refl, numbered_as w.certificate w.number w.y r t.after w.numbers t.target w.target) m
 
-    back_listed : (q p r : ℕ) (a : Letter) → Member union.backs (q, p, a, r) → HasTriple shown (Back q p a.id r)
-    back_listed q p r a e =
+    back_listed : (q p r : ℕ) (a : Letter) → Member union.backs (q, p, a, r) → Member needed (Back q p a.id r) → HasTriple shown (Back q p a.id r)
+    back_listed q p r a e m =
         let w = united.backs q p r a e in
         let t = (cert_of w.certificate w.among).backs w.x w.z w.y a w.edge in
-        listed_there g preds shown t.proved.proof (triples.Back t.exit t.before a.id t.after) (Back q p a.id r) listed (ts.all w.certificate w.among t.proved.proof t.proved.listed) t.proved.is (
+        listed_there g preds needed shown t.proved.proof (triples.Back t.exit t.before a.id t.after) (Back q p a.id r) listed (ts.all w.certificate w.among t.proved.proof t.proved.listed) t.proved.is (
           numbered_as w.certificate w.number w.x q t.exit w.numbers t.source w.source,
           numbered_as w.certificate w.number w.z p t.before w.numbers t.caller w.caller,
           refl,
           numbered_as w.certificate w.number w.y r t.after w.numbers t.target w.target,
-        )
+        ) m
 
     pub steps_shown : IsShown shown nodes steps
     steps_shown = record {
-      insides = λ n a k e r f. (let w = exploring.shown.insides n a k e r f in (w.0, inside_listed w.0 r a w.1, w.2));
-      calls = λ n a k e r f. (let w = exploring.shown.calls n a k e r f in (w.0, call_listed w.0 r a w.1, w.2));
-      backs = λ x c a k e r f. (let w = exploring.shown.backs x c a k e r f in (w.0, w.1, back_listed w.0 w.1 r a w.2, w.3, w.4));
+      insides = λ n a k e r f. (let w = need.insides n a k e r f (exploring.shown.insides n a k e r f) in (w.source, inside_listed w.source r a w.edge w.listed, w.has));
+      calls = λ n a k e r f. (let w = need.calls n a k e r f (exploring.shown.calls n a k e r f) in (w.source, call_listed w.source r a w.edge w.listed, w.has));
+      backs = λ x c a k e r f.
+          (let w = need.backs x c a k e r f (exploring.shown.backs x c a k e r f) in (w.source, w.caller, back_listed w.source w.caller r a w.edge w.listed, w.has, w.called));
     }

@@ -1,17 +1,18 @@
 -- The triples of proofs, by number: lines can show them, and none is shown by two numbers.
 use Rattle.std.proofs.Common.{◌≡◌, ◌∙◌, ◌⊎◌, ℕ, List, [], ◌∷◌, ◌++◌, Option, None, Some, refl, sym, ap, subst, inl, inr, append_assoc}
-use Rattle.std.specs.Prelude.{slice_get}
+use Rattle.std.specs.Prelude.{Bool, true, false, Result, Ok, Err, IfOk, slice_get}
+use Rattle.std.specs.declared.alloc.AllocError.{AllocError}
 use Rattle.std.proofs.lemmas.List.{append-nil}
 use Rattle.std.specs.List.{AllByRecursion}
 use Rattle.std.specs.Option.{option_map}
 use Rattle.math_facts.specs.Fits.{Fits}
 use Rattle.lin_rows.specs.declared.systems.System.{System}
 use Rattle.nwa_base.specs.Members.{Member}
-use Rattle.nwa_base.proofs.MemberLemmas.{member_front, member_rest, member_split}
+use Rattle.nwa_base.proofs.MemberLemmas.{member_front, member_rest, member_split, member_map, member_from_map}
 use Rattle.farkas_check.specs.Nodes.{PlainNode, leaf, cut, cases}
 use Rattle.farkas_check.specs.Refutes.{Goal, Refute, goal_of, at_most, above, with_row}
 use Rattle.letter_acts.specs.Acts.{PlainAct, inside_act, call_act, back_act, Alphabet}
-use Rattle.letter_acts.specs.Invariant.{Graph, alphabet_of}
+use Rattle.letter_acts.specs.Invariant.{Graph, alphabet_of, AreDistinct}
 use Rattle.triple_rows.specs.declared.triples.Scoped.{Scoped}
 use Rattle.triple_rows.specs.declared.triples.Triple.{Triple}
 use Rattle.triple_rows.specs.declared.triples.Triple.TheVariants as triples
@@ -19,6 +20,7 @@ use Rattle.triple_rows.specs.Triples.{Agrees, InsideAgrees, CallAgrees, ReturnAg
 use Rattle.triple_rows.specs.Proofs.{PlainProof}
 use Rattle.hoare_check.specs.Decided.{inside_columns, call_columns, return_columns, back_columns, columns_of, IsCutWithin, IsProofFor}
 use Rattle.itp_automaton.specs.Certified.{Certificate}
+use Rattle.itp_automaton.proofs.StateLaws.{distinct_more}
 use Rattle.proof_names.specs.declared.outlines.Listed.{Listed}
 use Rattle.proof_names.specs.declared.outlines.Listed.TheVariants.{Inside, Call, Back}
 use Rattle.proof_names.specs.Options.{both}
@@ -26,7 +28,9 @@ use Rattle.proof_names.specs.Naming.{scoped_at, inside_at, call_at, return_at, b
 use Rattle.proof_spell.specs.Drafts.{PlainShown, IsWithin, MayBeShown}
 use Rattle.proof_build.specs.Unwindings.{HasTriple}
 use Rattle.proof_build.specs.Numbering.{IsNumberOf, AreListed}
-use Rattle.proof_build.specs.Listing.{IsListedAs, AreItsNumbers, IsOneOf, IsListedIn, Shows, AreTriplesOf}
+use Rattle.proof_build.specs.Noted.{IsInserted}
+use Rattle.proof_build.specs.Listing.{IsListedAs, AreItsNumbers, IsOneOf, IsListedIn, Shows, AreTriplesOf, listed_in, IsFirst, AreNumbersOf, AreNeededOnce}
+use Rattle.proof_build.proofs.ListLaws.{map_joined}
 use Rattle.proof_build.proofs.NumberLaws.{one_number}
 
 -- ---- the numbers of refutations
@@ -187,15 +191,17 @@ one_listing g preds (triples.Back exit before l after) (Back q p k r) (Back u x 
     let a = one_number g preds exit q u d h.0 i.0 in let e = one_number g preds before p x d h.1 i.1 in let b = h.2 ∙ sym i.2 in let c = one_number g preds after r w d h.3 i.3 in
     λ j. Back (a j) (e j) (b j) (c j)
 
-found_listing : (g : Graph) (preds : List Scoped) (shown : List PlainShown) (t : Triple) (o : Option Listed) (n : Listed) → AreListed g preds → AreItsNumbers preds t o →
-    ((m : Listed) → o ≡ Some m → HasTriple shown m) → IsListedAs preds t n → HasTriple shown n
-found_listing g preds shown t None n d a f h = absurd (a n h)
-found_listing g preds shown t (Some m) n d a f h = subst (λ (x : Listed). HasTriple shown x) (one_listing g preds t m n d a h) (f m refl)
+found_listing : (g : Graph) (preds : List Scoped) (needed : List Listed) (shown : List PlainShown) (t : Triple) (o : Option Listed) (n : Listed) → AreListed g preds → AreItsNumbers preds t o →
+    ((m : Listed) → o ≡ Some m → Member needed m → HasTriple shown m) → IsListedAs preds t n → Member needed n → HasTriple shown n
+found_listing g preds needed shown t None n d a f h k = absurd (a n h)
+found_listing g preds needed shown t (Some m) n d a f h k =
+    let e : m ≡ n = one_listing g preds t m n d a h in
+    subst (λ (x : Listed). HasTriple shown x) e (f m refl (subst (λ (x : Listed). Member needed x) (sym e) k))
 
-pub listed_there : (g : Graph) (preds : List Scoped) (shown : List PlainShown) (p : PlainProof) (t : Triple) (n : Listed) → AreListed g preds → IsListedIn preds shown p → p.triple ≡ t →
-    IsListedAs preds t n → HasTriple shown n
-listed_there g preds shown p t n d i e h =
-    found_listing g preds shown p.triple i.numbers n d i.are i.listed (subst (λ (x : Triple). IsListedAs preds x n) (sym e) h)
+pub listed_there : (g : Graph) (preds : List Scoped) (needed : List Listed) (shown : List PlainShown) (p : PlainProof) (t : Triple) (n : Listed) → AreListed g preds → IsListedIn preds needed shown p →
+    p.triple ≡ t → IsListedAs preds t n → Member needed n → HasTriple shown n
+listed_there g preds needed shown p t n d i e h k =
+    found_listing g preds needed shown p.triple i.numbers n d i.are i.listed (subst (λ (x : Triple). IsListedAs preds x n) (sym e) h) k
 
 -- ---- answers
 
@@ -224,80 +230,128 @@ back_lacks preds l exit before after (inr (inr f)) (Back q p k r) h = f r h.3
 
 -- ---- triples that are added one by one
 
-pub shows_none : (preds : List Scoped) (old : List PlainShown) → Shows preds [] old old
-shows_none preds old = record { rest = []; are = sym (append-nil old); each = λ t m. absurd m; all = λ p m. absurd m }
+pub shows_none : (preds : List Scoped) (needed : List Listed) (old : List PlainShown) → Shows preds needed [] old old
+shows_none preds needed old = record { rest = []; are = sym (append-nil old); each = λ t m. absurd m; all = λ p m. absurd m }
 
 there_still : (shown more : List PlainShown) (n : Listed) → HasTriple shown n → HasTriple (shown ++ more) n
 there_still shown more n h = (h.0, member_front shown more h.0 h.1, h.2)
 
-still_listed : (preds : List Scoped) (shown more new : List PlainShown) (p : PlainProof) → new ≡ shown ++ more → IsListedIn preds shown p → IsListedIn preds new p
-still_listed preds shown more new p e h = record {
+still_listed : (preds : List Scoped) (needed : List Listed) (shown more new : List PlainShown) (p : PlainProof) → new ≡ shown ++ more → IsListedIn preds needed shown p → IsListedIn preds needed new p
+still_listed preds needed shown more new p e h = record {
   numbers = h.numbers;
   are = h.are;
-  listed = λ n k. subst (λ (l : List PlainShown). HasTriple l n) (sym e) (there_still shown more n (h.listed n k));
+  listed = λ n k m. subst (λ (l : List PlainShown). HasTriple l n) (sym e) (there_still shown more n (h.listed n k m));
 }
 
 one_of_more : (preds : List Scoped) (ps more : List PlainProof) (t : PlainShown) → IsOneOf preds ps t → IsOneOf preds (ps ++ more) t
 one_of_more preds ps more t h = record { proof = h.proof; among = member_front ps more h.proof h.among; numbers = h.numbers; refutation = h.refutation }
 
--- one more proof, whose triple is added
-pub shows_more : (preds : List Scoped) (ps : List PlainProof) (p : PlainProof) (old mid new : List PlainShown) (t : PlainShown) → Shows preds ps old mid → IsListedAs preds p.triple t.listed →
-    t.proof ≡ p.refutation → new ≡ mid ++ t ∷ [] → Shows preds (ps ++ p ∷ []) old new
-shows_more preds ps p old mid new t h l r e = record {
-  rest = h.rest ++ t ∷ [];
-  are = e ∙ ap (λ (k : List PlainShown). k ++ t ∷ []) h.are ∙ append_assoc old h.rest (t ∷ []);
-  each = λ x m. elim (member_split h.rest (t ∷ []) x m) [
-    | inl k ↦ one_of_more preds ps (p ∷ []) x (h.each x k)
-    | inr k ↦ elim k [
-      | inl i ↦ subst (λ (y : PlainShown). IsOneOf preds (ps ++ p ∷ []) y) i (record { proof = p; among = member_rest ps (p ∷ []) p (inl refl); numbers = l; refutation = r })
-      | inr none ↦ absurd none
-    ]
-  ];
-  all = λ x m. elim (member_split ps (p ∷ []) x m) [
-    | inl k ↦ still_listed preds mid (t ∷ []) new x e (h.all x k)
-    | inr k ↦ elim k [
-      | inl i ↦ subst (λ (y : PlainProof). IsListedIn preds new y) i (record {
-        numbers = Some t.listed;
-        are = l;
-        listed = λ n d. subst (λ (s : List PlainShown). HasTriple s n) (sym e) (t, member_rest mid (t ∷ []) t (inl refl), (let q : t.listed ≡ n = cc in q));
-      })
-      | inr none ↦ absurd none
-    ]
-  ];
+one_of_rest : (preds : List Scoped) (ps more : List PlainProof) (t : PlainShown) → IsOneOf preds more t → IsOneOf preds (ps ++ more) t
+one_of_rest preds ps more t h = record { proof = h.proof; among = member_rest ps more h.proof h.among; numbers = h.numbers; refutation = h.refutation }
+
+one_proof : (preds : List Scoped) (needed : List Listed) (shown : List PlainShown) (p : PlainProof) → IsListedIn preds needed shown p → (x : PlainProof) → Member (p ∷ []) x → IsListedIn preds needed shown x
+one_proof preds needed shown p h x (inl i) = subst (λ (y : PlainProof). IsListedIn preds needed shown y) i h
+one_proof preds needed shown p h x (inr none) = absurd none
+
+one_triple : (preds : List Scoped) (ps : List PlainProof) (t : PlainShown) → IsOneOf preds ps t → (x : PlainShown) → Member (t ∷ []) x → IsOneOf preds ps x
+one_triple preds ps t h x (inl i) = subst (λ (y : PlainShown). IsOneOf preds ps y) i h
+one_triple preds ps t h x (inr none) = absurd none
+
+-- a proof whose triple is added
+pub shows_one : (preds : List Scoped) (needed : List Listed) (p : PlainProof) (old new : List PlainShown) (t : PlainShown) → IsListedAs preds p.triple t.listed → t.proof ≡ p.refutation →
+    new ≡ old ++ t ∷ [] → Shows preds needed (p ∷ []) old new
+shows_one preds needed p old new t l r e = record {
+  rest = t ∷ [];
+  are = e;
+  each = one_triple preds (p ∷ []) t (record { proof = p; among = inl refl; numbers = l; refutation = r });
+  all = one_proof preds needed new p (record {
+    numbers = Some t.listed;
+    are = l;
+    listed = λ n d k. subst (λ (s : List PlainShown). HasTriple s n) (sym e) (t, member_rest old (t ∷ []) t (inl refl), (let q : t.listed ≡ n = cc in q));
+  });
 }
 
--- one more proof, some predicate of which has no number
-pub shows_same : (preds : List Scoped) (ps : List PlainProof) (p : PlainProof) (old mid : List PlainShown) → Shows preds ps old mid → ((n : Listed) → IsListedAs preds p.triple n → ⊥) →
-    Shows preds (ps ++ p ∷ []) old mid
-shows_same preds ps p old mid h l = record {
-  rest = h.rest;
-  are = h.are;
-  each = λ x m. one_of_more preds ps (p ∷ []) x (h.each x m);
-  all = λ x m. elim (member_split ps (p ∷ []) x m) [
-    | inl k ↦ h.all x k
-    | inr k ↦ elim k [
-      | inl i ↦ subst (λ (y : PlainProof). IsListedIn preds mid y) i (record { numbers = None; are = l; listed = λ n d. absurd (cc) })
-      | inr none ↦ absurd none
-    ]
-  ];
+-- a proof whose triple is there, is not needed or has a predicate without a number
+pub shows_kept : (preds : List Scoped) (needed : List Listed) (p : PlainProof) (old : List PlainShown) (o : Option Listed) → AreItsNumbers preds p.triple o →
+    ((n : Listed) → o ≡ Some n → Member needed n → HasTriple old n) → Shows preds needed (p ∷ []) old old
+shows_kept preds needed p old o a f = record {
+  rest = [];
+  are = sym (append-nil old);
+  each = λ t m. absurd m;
+  all = one_proof preds needed old p (record { numbers = o; are = a; listed = f });
+}
+
+pub shows_joined : (preds : List Scoped) (needed : List Listed) (ps qs : List PlainProof) (old mid new : List PlainShown) → Shows preds needed ps old mid → Shows preds needed qs mid new →
+    Shows preds needed (ps ++ qs) old new
+shows_joined preds needed ps qs old mid new h k = record {
+  rest = h.rest ++ k.rest;
+  are = k.are ∙ ap (λ (l : List PlainShown). l ++ k.rest) h.are ∙ append_assoc old h.rest k.rest;
+  each = λ x m. elim (member_split h.rest k.rest x m) [ inl i ↦ one_of_more preds ps qs x (h.each x i) | inr i ↦ one_of_rest preds ps qs x (k.each x i) ];
+  all = λ x m. elim (member_split ps qs x m) [ inl i ↦ still_listed preds needed mid k.rest new x k.are (h.all x i) | inr i ↦ k.all x i ];
 }
 
 -- the proofs of one more certificate
-pub certificate_shown : (preds : List Scoped) (cs : List Certificate) (c : Certificate) (old new : List PlainShown) → AreTriplesOf preds cs old → Shows preds c.proofs old new →
-    AreTriplesOf preds (cs ++ c ∷ []) new
-certificate_shown preds cs c old new a s = record {
+pub certificate_shown : (preds : List Scoped) (needed : List Listed) (cs : List Certificate) (c : Certificate) (old new : List PlainShown) → AreTriplesOf preds cs needed old →
+    Shows preds needed c.proofs old new → AreTriplesOf preds (cs ++ c ∷ []) needed new
+certificate_shown preds needed cs c old new a s = record {
   each = λ t m. elim (member_split old s.rest t (subst (λ (l : List PlainShown). Member l t) s.are m)) [
     | inl k ↦ let e = a.each t k in (e.0, member_front cs (c ∷ []) e.0 e.1, e.2)
     | inr k ↦ (c, member_rest cs (c ∷ []) c (inl refl), s.each t k)
   ];
   all = λ d m. elim (member_split cs (c ∷ []) d m) [
-    | inl k ↦ λ p n. still_listed preds old s.rest new p s.are (a.all d k p n)
+    | inl k ↦ λ p n. still_listed preds needed old s.rest new p s.are (a.all d k p n)
     | inr k ↦ elim k [
-      | inl i ↦ subst (λ (x : Certificate). (p : PlainProof) → Member x.proofs p → IsListedIn preds new p) i s.all
+      | inl i ↦ subst (λ (x : Certificate). (p : PlainProof) → Member x.proofs p → IsListedIn preds needed new p) i s.all
       | inr none ↦ absurd none
     ]
   ];
 }
 
-pub no_triples : (preds : List Scoped) → AreTriplesOf preds [] []
-no_triples preds = record { each = λ t m. absurd m; all = λ c m. absurd m }
+pub no_triples : (preds : List Scoped) (needed : List Listed) → AreTriplesOf preds [] needed []
+no_triples preds needed = record { each = λ t m. absurd m; all = λ c m. absurd m }
+
+-- ---- each once
+
+pub first_inserted : (needed old new : List Listed) (t : Listed) (r : Result Bool AllocError) → Member needed t → IfOk r (λ b. IsInserted old t b new) → IfOk r (λ b. IsFirst needed old t b new)
+first_inserted needed old new t (Ok true) m h = (m, h.0, h.1)
+first_inserted needed old new t (Ok false) m h = (λ k. h.0, h.1)
+first_inserted needed old new t (Err e) m h = tt
+
+there_seen : (needed seen : List Listed) (shown : List PlainShown) (n : Listed) → AreNumbersOf needed seen shown → Member seen n → HasTriple shown n
+there_seen needed seen shown n h m = member_from_map (λ (t : PlainShown). t.listed) shown n (subst (λ (l : List Listed). Member l n) (sym h.are) m)
+
+-- a triple that is not the first with its numbers is there if it is needed
+pub not_first : (needed seen new : List Listed) (shown : List PlainShown) (o : Option Listed) (t : Listed) (b : Bool) → AreNumbersOf needed seen shown → IsFirst needed seen t b new → b ≡ false → o ≡ Some t →
+    (n : Listed) → o ≡ Some n → Member needed n → HasTriple shown n
+not_first needed seen new shown o t b h f e is n i m =
+    let k : IsFirst needed seen t false new = subst (λ (x : Bool). IsFirst needed seen t x new) e f in
+    let j : t ≡ n = cc in
+    there_seen needed seen shown n h (subst (λ (x : Listed). Member seen x) j (k.0 (subst (λ (x : Listed). Member needed x) (sym j) m)))
+
+pub numbers_kept : (needed seen new : List Listed) (shown : List PlainShown) (t : Listed) (b : Bool) → AreNumbersOf needed seen shown → IsFirst needed seen t b new → b ≡ false →
+    AreNumbersOf needed new shown
+numbers_kept needed seen new shown t b h f e =
+    let k : IsFirst needed seen t false new = subst (λ (x : Bool). IsFirst needed seen t x new) e f in
+    subst (λ (l : List Listed). AreNumbersOf needed l shown) (sym k.1) h
+
+pub numbers_more : (needed seen new : List Listed) (shown more : List PlainShown) (t : PlainShown) (b : Bool) → AreNumbersOf needed seen shown → IsFirst needed seen t.listed b new → b ≡ true →
+    more ≡ shown ++ t ∷ [] → AreNumbersOf needed new more
+numbers_more needed seen new shown more t b h f e is =
+    let k : IsFirst needed seen t.listed true new = subst (λ (x : Bool). IsFirst needed seen t.listed x new) e f in
+    record {
+      are = ap listed_in is ∙ map_joined (λ (x : PlainShown). x.listed) shown (t ∷ []) ∙ ap (λ (l : List Listed). l ++ t.listed ∷ []) h.are ∙ sym k.2;
+      once = subst (λ (l : List Listed). AreDistinct l) (sym k.2) (distinct_more seen t.listed h.once k.1);
+      within = λ x m. elim (member_split seen (t.listed ∷ []) x (subst (λ (l : List Listed). Member l x) k.2 m)) [
+        | inl i ↦ h.within x i
+        | inr i ↦ elim i [ inl j ↦ subst (λ (y : Listed). Member needed y) j k.0 | inr none ↦ absurd none ]
+      ];
+    }
+
+pub no_numbers : (needed seen : List Listed) → seen ≡ [] → AreNumbersOf needed seen []
+no_numbers needed seen e = subst (λ (l : List Listed). AreNumbersOf needed l []) (sym e) (record { are = refl; once = tt; within = λ t m. absurd m })
+
+pub needed_once : (needed seen : List Listed) (shown : List PlainShown) → AreNumbersOf needed seen shown → AreNeededOnce needed shown
+needed_once needed seen shown h = record {
+  once = subst (λ (l : List Listed). AreDistinct l) (sym h.are) h.once;
+  within = λ t m. h.within t.listed (subst (λ (l : List Listed). Member l t.listed) h.are (member_map (λ (x : PlainShown). x.listed) shown t m));
+}

@@ -4,3 +4,6 @@ pub mod Numbering
 pub mod Listing
 pub mod Unions
 pub mod Built
+pub mod Sketches
+pub mod Noted
+pub mod Needs

@@ -9,35 +9,35 @@ ghost use Rattle.proof_names.specs.Outlines.{Sketch};
 ghost use Rattle.proof_spell.specs.Drafts.{MayBeSpelled};
 ghost use Rattle.proof_spell.specs.Spelled.{Outlines, Spells};
 ghost use Rattle.proof_check.specs.Proves.{Proves};
+ghost use Rattle.proof_unwind.specs.Exploring.{IsOverPreds};
 ghost use Rattle.proof_build.specs.Numbering.{StartHasBody};
 ghost use Rattle.proof_build.specs.Unwindings.{draft_of};
 ghost use Rattle.proof_build.specs.Unwound.{AreCovering};
 ghost use Rattle.proof_build.specs.Built.{unwinding_of, IsUnwoundBy};
+ghost use Rattle.proof_build.specs.Sketches.{Says, AreReachable, AreInOrder, AreUsed, AreOnce};
 
 use crate::listing::listed_preds;
+use crate::needs::needed_by;
 use crate::spots::{named_nodes, named_steps};
 use crate::triples::triples_of;
 use crate::unions::union_of;
 use itp_automaton::Certified;
 use letter_acts::Icfg;
+use nwa_base::Nwa;
 use proof_form::Annotation;
 use proof_spell::{Shown, spell};
-use proof_unwind::{Unwound, unwind};
+use proof_unwind::{Unwound, by_place, unwind};
 use std::alloc::{AllocError, Global};
 use triple_rows::Scoped;
 
-/// The graph unwound by the union of the automata.
-fn unwound_by(
-    alloc: Global,
-    icfg: &Icfg,
-    preds: &[Scoped],
-    automata: &[&Certified],
-) -> Result<Unwound, AllocError>
-    ensures { IfOk result (IsUnwoundBy icfg.now preds.now (map (λ c. c.now) automata.now)) }
+/// The graph unwound by the union of the automata, its nodes in the order of their places.
+fn unwound_by(alloc: Global, icfg: &Icfg, union: &Nwa) -> Result<Unwound, AllocError>
+    requires { IsOverPreds union.now }
+    ensures { IfOk result (IsUnwoundBy icfg.now union.now) }
 {
     prove!(icfg.nwa().start() < icfg.nwa().states());
-    let union = union_of(alloc, preds, automata)?;
-    unwind(alloc, icfg.nwa(), &union)
+    let found = unwind(alloc, icfg.nwa(), union)?;
+    by_place(alloc, &found)
 }
 
 /// The annotation of predicates, triples, nodes and steps.
@@ -57,16 +57,23 @@ fn spelled(
     spell(alloc, icfg, preds, triples, &nodes, &steps)
 }
 
-/// The annotation that the automata make, which `check` accepts.
+/// The annotation that the automata make, which `check` accepts. Its nodes are reached from the first one, and their places ascend; each triple
+/// is used by a step, and listed once.
 pub fn build(alloc: Global, icfg: &Icfg, automata: &[&Certified]) -> Result<Annotation, AllocError>
     requires certified { AllByRecursion (IsCertified (alphabet_of icfg.now)) (map (λ c. c.now) automata.now) }
     requires covering { AreCovering icfg.now.automaton (map (λ c. c.now.automaton) automata.now) }
     requires body { StartHasBody icfg.now }
     ensures proves { IfOk result (Proves icfg.now) }
     ensures none { IfOk result (λ a. automata.now ≡ [] → (a.preds ≡ []) × (a.triples ≡ [])) }
+    ensures reachable { IfOk result (Says icfg.now AreReachable) }
+    ensures ascend { IfOk result (Says icfg.now AreInOrder) }
+    ensures used { IfOk result (Says icfg.now AreUsed) }
+    ensures once { IfOk result (Says icfg.now AreOnce) }
 {
     let preds = listed_preds(alloc, icfg, automata)?;
-    let triples = triples_of(alloc, &preds, automata)?;
-    let unwound = unwound_by(alloc, icfg, &preds, automata)?;
+    let union = union_of(alloc, &preds, automata)?;
+    let unwound = unwound_by(alloc, icfg, &union)?;
+    let needed = needed_by(alloc, &union, &unwound)?;
+    let triples = triples_of(alloc, &preds, &needed, automata)?;
     spelled(alloc, icfg, &preds, &triples, &unwound)
 }

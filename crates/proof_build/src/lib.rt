@@ -4,6 +4,8 @@
 mod building;
 pub mod laws;
 mod listing;
+mod needs;
+mod noted;
 mod numbers;
 mod spots;
 mod triples;

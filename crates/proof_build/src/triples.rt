@@ -1,10 +1,11 @@
 //! The triples of proofs, by the numbers of their predicates.
 
-ghost use Rattle.std.specs.Prelude.{IfOk, map};
+ghost use Rattle.std.specs.Prelude.{[], ◌∷◌, IfOk, map};
 ghost use Rattle.triple_rows.specs.declared.triples.Triple.TheVariants as triples;
 ghost use Rattle.proof_spell.specs.Drafts.{plain};
-ghost use Rattle.proof_build.specs.Listing.{AreItsNumbers, Shows, AreTriplesOf};
+ghost use Rattle.proof_build.specs.Listing.{AreItsNumbers, IsFirst, AreNumbersOf, AreNeededOnce, Shows, AreTriplesOf};
 
+use crate::noted::Noted;
 use crate::numbers::number_of;
 use itp_automaton::Certified;
 use proof_names::Listed;
@@ -90,36 +91,73 @@ fn listed(preds: &[Scoped], triple: &Triple) -> Result<Option<Listed>, AllocErro
     }
 }
 
-/// The triples and those of the proofs, each with its refutation.
+/// Whether the numbers are needed and were not seen; they are seen from now on.
+fn is_first(needed: &Noted, seen: &mut Noted, listed: Listed) -> Result<bool, AllocError>
+    ensures { IfOk result (λ first. IsFirst needed.now seen.old listed first seen.new) }
+{
+    if !needed.contains(listed) {
+        return Ok(false);
+    }
+    seen.insert(listed)
+}
+
+/// The triples and that of the proof with its refutation, if it is needed and not there yet.
+fn with_proof<'a>(
+    preds: &[Scoped],
+    needed: &Noted,
+    seen: &mut Noted,
+    mut triples: Vec<Shown<'a>>,
+    proof: &'a Proof,
+) -> Result<Vec<Shown<'a>>, AllocError>
+    requires { AreNumbersOf needed.now seen.old (map plain triples.items) }
+    ensures shows { IfOk result (λ v. Shows preds.now needed.now (proof.now ∷ []) (map plain triples.entry.items) (map plain v.items)) }
+    ensures numbers { IfOk result (λ v. AreNumbersOf needed.now seen.new (map plain v.items)) }
+{
+    let Some(listed) = listed(preds, proof.triple())? else {
+        return Ok(triples);
+    };
+    if !is_first(needed, seen, listed)? {
+        return Ok(triples);
+    }
+    triples.push(Shown {
+        listed,
+        proof: proof.refutation(),
+    })?;
+    Ok(triples)
+}
+
+/// The triples and those of the proofs that are needed and not there yet, each with its refutation.
 fn with_proofs<'a>(
     preds: &[Scoped],
+    needed: &Noted,
+    seen: &mut Noted,
     mut triples: Vec<Shown<'a>>,
     proofs: &'a [Proof],
 ) -> Result<Vec<Shown<'a>>, AllocError>
-    ensures { IfOk result (λ v. Shows preds.now proofs.now (map plain triples.entry.items) (map plain v.items)) }
+    requires { AreNumbersOf needed.now seen.old (map plain triples.items) }
+    ensures shows { IfOk result (λ v. Shows preds.now needed.now proofs.now (map plain triples.entry.items) (map plain v.items)) }
+    ensures numbers { IfOk result (λ v. AreNumbersOf needed.now seen.new (map plain v.items)) }
 {
     for proof in proofs {
-        if let Some(listed) = listed(preds, proof.triple())? {
-            triples.push(Shown {
-                listed,
-                proof: proof.refutation(),
-            })?;
-        }
+        triples = with_proof(preds, needed, seen, triples, proof)?;
     }
     Ok(triples)
 }
 
-/// The triples of all proofs whose predicates have numbers.
+/// The triples of the proofs that are needed, each once.
 pub(crate) fn triples_of<'a>(
     alloc: Global,
     preds: &[Scoped],
+    needed: &Noted,
     automata: &[&'a Certified],
 ) -> Result<Vec<Shown<'a>>, AllocError>
-    ensures { IfOk result (λ v. AreTriplesOf preds.now (map (λ c. c.now) automata.now) (map plain v.items)) }
+    ensures triples { IfOk result (λ v. AreTriplesOf preds.now (map (λ c. c.now) automata.now) needed.now (map plain v.items)) }
+    ensures once { IfOk result (λ v. AreNeededOnce needed.now (map plain v.items)) }
 {
+    let mut seen = Noted::new(alloc);
     let mut triples = Vec::new(alloc);
     for automaton in automata {
-        triples = with_proofs(preds, triples, automaton.proofs())?;
+        triples = with_proofs(preds, needed, &mut seen, triples, automaton.proofs())?;
     }
     Ok(triples)
 }

@@ -1,0 +1,7 @@
+use Rattle.std.proofs.Common.{take}
+use Rattle.proof_unwind.specs.Spots.{nodes_of}
+use Rattle.proof_build.specs.Needs.{NotesBackSteps}
+use Rattle.proof_build.proofs.needs.note_backs.Given as goal
+
+abbrev pub invariant-loop-step : goal.invariant-loop-step
+invariant-loop-step l = NotesBackSteps l.union.backs (nodes_of l.nodes) (take l.step-index l.steps) l.initial.noted l.noted
