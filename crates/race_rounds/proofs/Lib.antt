@@ -3,3 +3,4 @@ pub mod NoPoints
 pub mod Published
 pub mod Says
 pub mod Turns
+pub mod RowsRefuted

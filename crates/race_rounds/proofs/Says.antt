@@ -4,7 +4,7 @@ use Rattle.std.specs.List.{AllByRecursion}
 use Rattle.math_facts.specs.Fits.{Fits}
 use Rattle.lin_rows.specs.Points.{point_of}
 use Rattle.farkas_check.specs.Nodes.{PlainNode}
-use Rattle.int_decide.specs.Decisions.{refuted, whole, gap}
+use Rattle.int_decide.specs.Decisions.{refuted, whole}
 use Rattle.nwa_base.specs.declared.letters.Letter.{Letter}
 use Rattle.letter_acts.specs.Feasible.{IsFeasible}
 use Rattle.letter_acts.specs.Invariant.{Graph, alphabet_of}

@@ -4,7 +4,7 @@ use Rattle.std.specs.List.{AllByRecursion}
 use Rattle.math_facts.specs.Fits.{Fits}
 use Rattle.lin_rows.specs.Points.{point_of}
 use Rattle.farkas_check.specs.Nodes.{PlainNode}
-use Rattle.int_decide.specs.Decisions.{refuted, whole, gap}
+use Rattle.int_decide.specs.Decisions.{refuted, whole}
 use Rattle.nwa_base.specs.declared.letters.Letter.{Letter}
 use Rattle.nwa_base.specs.Automata.{Automaton}
 use Rattle.nwa_base.specs.Acceptance.{Accepts}
@@ -12,7 +12,7 @@ use Rattle.letter_acts.specs.Feasible.{IsFeasible}
 use Rattle.letter_acts.specs.Invariant.{alphabet_of}
 use Rattle.typed_tree.specs.TypedTree.{TypedProgram}
 use Rattle.lowered_graph.specs.Lowered.{lowered}
-use Rattle.path_decide.specs.Decided.{RefutesPath, path_decision, PathFits}
+use Rattle.path_decide.specs.Decided.{RefutesPath, path_decision, PathFits, IsGap}
 use Rattle.lowered_choices.specs.Choices.{FailsAtLast}
 use Rattle.trace_replay.specs.Replays.{choices_among, Replays}
 use Rattle.trace_replay.specs.ToldRuns.{ToldPasses}
@@ -52,7 +52,7 @@ pub data NumberPasses (t : TypedProgram) (depth : ℕ) (w : List Letter) : Type 
 -- why nothing is known of a word, where the history has n entries
 abbrev pub CauseMeets : TypedProgram → Options → ℕ → Cause → List Letter → Type 0
 CauseMeets t o n Rounds w = (n ≡ o.rounds) × ((nodes : List PlainNode) × RefutesPath (lowered t) w nodes)
-CauseMeets t o n Whole w = path_decision (lowered t) o.depth w ≡ gap
+CauseMeets t o n Whole w = IsGap (lowered t) o.depth w
 CauseMeets t o n Number w = NumberPasses t o.depth w
 
 -- what an end says of its word: it is feasible, and a run fails; or why nothing is known of it

@@ -13,7 +13,7 @@ use farkas_check::Refutation;
 use itp_automaton::{BuildFault, Certified, build};
 use letter_acts::Icfg;
 use nested_itp::{ItpFault, interpolants};
-use path_decide::{Finding, plain_path};
+use path_decide::{Finding, late_path, plain_path};
 use path_rows::PathSystem;
 use race_core::Cause;
 use std::alloc::{AllocError, Global};
@@ -52,7 +52,7 @@ fn automaton_under<R: Threads + Sync>(
     }
 }
 
-/// The automaton under the refutation that was found, else under Decide's own, else why there is none.
+/// The automaton under a late refutation, else under the one that was found, else under Decide's own, else why there is none.
 pub(crate) fn refine<R: Threads + Sync>(
     rt: &R,
     alloc: Global,
@@ -66,6 +66,10 @@ pub(crate) fn refine<R: Threads + Sync>(
     requires depth { depth ≤ 64 }
     ensures { (t : TypedProgram) (o : Options) → icfg.now ≡ lowered t → o.depth ≡ depth → IfOk result (λ r. (n : ℕ) → IsRefined t o n path.now.word r) }
 {
+    let late = late_path(alloc, path, refutation, depth)?;
+    if let Some(automaton) = automaton_under(rt, alloc, icfg, path, &late)? {
+        return Ok(Refined::Evidence(automaton));
+    }
     if let Some(automaton) = automaton_under(rt, alloc, icfg, path, refutation)? {
         return Ok(Refined::Evidence(automaton));
     }

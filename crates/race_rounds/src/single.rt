@@ -7,6 +7,7 @@ ghost use Rattle.race_rounds.specs.Ends.{Options};
 ghost use Rattle.race_rounds.specs.Rounds.{IsRaceOf};
 
 use crate::turning::turn;
+use concrete_walks::Walker;
 use itp_automaton::Certified;
 use letter_acts::Icfg;
 use race_core::{Shared, shared};
@@ -15,9 +16,9 @@ use std::sync::Arc;
 use std::thread::Threads;
 use typing_rules::Typed;
 
-/// The race of one worker over a program and its graph, to its end: it takes a kept word, decides its rows, and removes it with
-/// all words of an automaton of infeasible ones, or ends, after `rounds` entries at the latest. Decide has at most `depth` cuts
-/// on a branch.
+/// The race of one worker over a program and its graph, to its end: it takes a kept word, that of a walk where there is one,
+/// decides its rows, and removes it with all words of an automaton of infeasible ones, or ends, after `rounds` entries at the
+/// latest. Decide has at most `depth` cuts on a branch.
 pub fn alone<R: Threads + Sync>(
     rt: &R,
     alloc: Global,
@@ -34,8 +35,18 @@ pub fn alone<R: Threads + Sync>(
 {
     let program_automaton = Arc::new(alloc, icfg.nwa().copy()?)?;
     let mut state = shared::<Certified>(alloc, program_automaton, rounds)?;
+    let mut walker = Walker::new(alloc, icfg, 0)?;
     while state.end().is_none() {
-        turn(rt, alloc, program, icfg, rounds, depth, &mut state)?;
+        turn(
+            rt,
+            alloc,
+            program,
+            icfg,
+            rounds,
+            depth,
+            &mut walker,
+            &mut state,
+        )?;
     }
     Ok(state)
 }

@@ -9,10 +9,18 @@ use Rattle.race_rounds.specs.Rounds.{IsEvidence}
 use Rattle.race_rounds.proofs.TreeCuts.{few_cuts}
 use Rattle.race_rounds.proofs.NoPoints.{no_point}
 use Rattle.race_rounds.proofs.Says.{predicates_pass}
+use Rattle.race_rounds.proofs.RowsRefuted.{rows_refuted}
 use Rattle.race_rounds.proofs.refining.refine.Goals as goal
 
+pub late_path-requires : goal.late_path-requires
+late_path-requires g c =
+    rows_refuted c.args.icfg.now c.args.depth c.args.path.now.word c.args.path.now.rows c.args.refutation.now c.requires.path.rows c.requires.refutation
+
 pub automaton_under-requires-clause-cuts : goal.automaton_under-requires-clause-cuts
-automaton_under-requires-clause-cuts g c κs within = few_cuts c.args.depth c.args.refutation.now c.requires.depth c.requires.refutation.tree
+automaton_under-requires-clause-cuts g c κs within = few_cuts c.args.depth c.in_ok-late.late c.requires.depth c.in_ok-late.ensures.tree
+
+pub automaton_under-requires-2-clause-cuts : goal.automaton_under-requires-2-clause-cuts
+automaton_under-requires-2-clause-cuts g c κs within = few_cuts c.args.depth c.args.refutation.now c.requires.depth c.requires.refutation.tree
 
 pub returns-in-Some : goal.returns-in-Some
 returns-in-Some g c = λ t o e d n. subst (λ (x : Graph). IsEvidence x c.args.path.now.word c.in-Some.automaton) e
@@ -26,7 +34,11 @@ automaton_under-requires-in-Refuted-clause-cuts g c κs within =
 
 pub returns-in-Some-2 : goal.returns-in-Some-2
 returns-in-Some-2 g c = λ t o e d n. subst (λ (x : Graph). IsEvidence x c.args.path.now.word c.in-Some-2.automaton) e
-    (subst (λ (x : Option Certificate). IfSome x (IsEvidence c.args.icfg.now c.args.path.now.word)) c.in-Some-2.is c.in_ok-automaton-in-Refuted.ensures)
+    (subst (λ (x : Option Certificate). IfSome x (IsEvidence c.args.icfg.now c.args.path.now.word)) c.in-Some-2.is c.in_ok-automaton-2.ensures)
+
+pub returns-in-Some-3 : goal.returns-in-Some-3
+returns-in-Some-3 g c = λ t o e d n. subst (λ (x : Graph). IsEvidence x c.args.path.now.word c.in-Some-3.automaton) e
+    (subst (λ (x : Option Certificate). IfSome x (IsEvidence c.args.icfg.now c.args.path.now.word)) c.in-Some-3.is c.in_ok-automaton-in-Refuted.ensures)
 
 pub returns-in-Refuted : goal.returns-in-Refuted
 returns-in-Refuted g c = λ t o e d n.

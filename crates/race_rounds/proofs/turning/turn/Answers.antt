@@ -20,7 +20,7 @@ use Rattle.race_rounds.proofs.turning.turn.Goals as goal
 pub settle-requires-clause-accepted : goal.settle-requires-clause-accepted
 settle-requires-clause-accepted g c κs within =
     let t = typed_program c.args.program.now in
-    let f = subst (λ (x : Found). IsFound c.deref.result.now x) c.in-Word.is c.in_ok-find.ensures in
+    let f = subst (λ (x : Found). IsFound c.deref.result.now x) c.in-Word.is c.in_ok-kept_word.ensures in
     let a = subst (λ (m : Automaton). Accepts m c.in-Word.word) (c.deref.ensures ∙ c.kept.ensures.value) f in
     subst (λ (x : Graph). Accepts x.automaton c.in-Word.word) (sym c.requires.lowered)
     (kept t (record { rounds = c.args.rounds; depth = c.args.depth }) c.args.state.now c.in-Word.word (c.requires.race (record { rounds = c.args.rounds; depth = c.args.depth }) refl refl)
@@ -38,7 +38,7 @@ pub publish-requires-clause-kept : goal.publish-requires-clause-kept
 publish-requires-clause-kept g c =
     let o : Options = record { rounds = c.args.rounds; depth = c.args.depth } in
     let x = subst (λ (s : Settled). IsSettled (typed_program c.args.program.now) o c.version-version.result c.in-Word.word s) c.in-Removed.is (c.in_ok-end-in-Word.ensures o refl refl) in
-    let f = subst (λ (y : Found). IsFound c.deref.result.now y) c.in-Word.is c.in_ok-find.ensures in
+    let f = subst (λ (y : Found). IsFound c.deref.result.now y) c.in-Word.is c.in_ok-kept_word.ensures in
     subst (λ (w : List Letter). Accepts c.args.state.now.kept w) (sym x.1)
     (subst (λ (m : Automaton). Accepts m c.in-Word.word) (c.deref.ensures ∙ c.kept.ensures.value) f)
 
@@ -50,7 +50,7 @@ publish-requires-clause-own g c =
 
 pub returns-in-Empty-clause-race : goal.returns-in-Empty-clause-race
 returns-in-Empty-clause-race g c = λ o r d.
-    let f = subst (λ (x : Found). IsFound c.deref.result.now x) c.in-Empty.is c.in_ok-find.ensures in
+    let f = subst (λ (x : Found). IsFound c.deref.result.now x) c.in-Empty.is c.in_ok-kept_word.ensures in
     subst (λ (x : Race Certificate). IsRaceOf (typed_program c.args.program.now) o x) (sym c.finish.ensures)
     (empties (typed_program c.args.program.now) o c.args.state.now (c.requires.race o r d) c.kept.ensures.keeps
     (λ w a. f w (subst (λ (m : Automaton). Accepts m w) (sym (c.deref.ensures ∙ c.kept.ensures.value)) a)))
@@ -58,7 +58,7 @@ returns-in-Empty-clause-race g c = λ o r d.
 pub returns-in-Ended-clause-race : goal.returns-in-Ended-clause-race
 returns-in-Ended-clause-race g c = λ o r d.
     let x = subst (λ (s : Settled). IsSettled (typed_program c.args.program.now) o c.version-version.result c.in-Word.word s) c.in-Ended.is (c.in_ok-end-in-Word.ensures o r d) in
-    let f = subst (λ (y : Found). IsFound c.deref.result.now y) c.in-Word.is c.in_ok-find.ensures in
+    let f = subst (λ (y : Found). IsFound c.deref.result.now y) c.in-Word.is c.in_ok-kept_word.ensures in
     subst (λ (y : Race Certificate). IsRaceOf (typed_program c.args.program.now) o y) (sym c.finish-in-Ended.ensures)
     (ends (typed_program c.args.program.now) o c.args.state.now c.in-Word.word c.in-Ended.end (c.requires.race o r d) c.kept.ensures.keeps
     (subst (λ (m : Automaton). Accepts m c.in-Word.word) (c.deref.ensures ∙ c.kept.ensures.value) f)

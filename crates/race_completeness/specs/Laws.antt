@@ -1,0 +1,25 @@
+-- What holds of the ends of races.
+use Rattle.std.specs.Prelude.{◌≤◌, ◌<◌, List, length}
+use Rattle.nwa_base.specs.declared.letters.Letter.{Letter}
+use Rattle.nwa_base.specs.Automata.{Automaton}
+use Rattle.typed_tree.specs.TypedTree.{TypedProgram}
+use Rattle.lowered_graph.specs.Lowered.{lowered}
+use Rattle.itp_automaton.specs.Certified.{Certificate, IsFeasibleFor}
+use Rattle.race_core.specs.declared.ends.Cause.TheVariants.{Rounds}
+use Rattle.race_core.specs.declared.ends.End.TheVariants.{Unknown}
+use Rattle.race_core.specs.declared.events.Entry.{Entry}
+use Rattle.race_core.specs.Histories.{IsLegal}
+use Rattle.race_rounds.specs.Ends.{Options, IsKept, EndMeets}
+use Rattle.race_rounds.specs.Rounds.{automaton_in}
+use Rattle.race_completeness.specs.Words.{HasWordsAmong}
+
+-- A legal history is shorter than each list of all words of the program, where a word is kept.
+abbrev pub HistoriesAreShort : Type 0
+HistoriesAreShort = (program : Automaton) (h : List (Entry Certificate)) (w : List Letter) (ws : List (List Letter)) →
+    IsLegal automaton_in IsFeasibleFor program h → IsKept automaton_in program h w → HasWordsAmong program ws → length h < length ws
+
+-- Where the words of a program are no more than the rounds, and the history is legal, the end is not that the rounds are over.
+abbrev pub RoundsAreEnough : Type 0
+RoundsAreEnough = (t : TypedProgram) (o : Options) (h : List (Entry Certificate)) (w : List Letter) (ws : List (List Letter)) →
+    HasWordsAmong (lowered t).automaton ws → length ws ≤ o.rounds → IsLegal automaton_in IsFeasibleFor (lowered t).automaton h →
+    EndMeets automaton_in t o h (Unknown Rounds w) → ⊥

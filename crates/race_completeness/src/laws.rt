@@ -1,0 +1,13 @@
+//! What no end of a race is.
+
+ghost use Rattle.race_completeness.specs.Laws as law;
+
+/// A legal history together with one word that is kept are as many different words of the program.
+pub fn histories_are_short()
+    ensures { law.HistoriesAreShort }
+{}
+
+/// Where the program has no more words than rounds, no race over it ends because its rounds are over.
+pub fn rounds_are_enough()
+    ensures { law.RoundsAreEnough }
+{}
