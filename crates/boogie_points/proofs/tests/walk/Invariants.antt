@@ -4,5 +4,5 @@ use Rattle.boogie_points.specs.Room.{PointHasRoom}
 use Rattle.boogie_points.specs.View.{point_of}
 use Rattle.boogie_points.proofs.tests.walk.Given as goal
 
-abbrev pub invariant-loop-kind : goal.invariant-loop-kind
-invariant-loop-kind g l = PointHasRoom (map view.procedure l.program.procs) (point_of l.point)
+abbrev pub invariant-loop-word : goal.invariant-loop-word
+invariant-loop-word l = PointHasRoom (map view.procedure l.program.procs) (point_of l.point)
