@@ -67,11 +67,11 @@ fails_at t o r (Safe w) a race h is z = absurd (let e : 0 ≡ 1 = sym (ap (λ (b
 fails_at t o r (Unsafe f) a race h is z = error_word t o r.history h.word f.trail.steps h.choices (met t o r (ends.Unsafe h.word f.trail.steps h.choices) race h.end)
 fails_at t o r (Unknown cause w) a race h is z = absurd (let e : 2 ≡ 1 = sym (ap (λ (b : Answer). b.status) is) ∙ z in omega arith)
 
-pub never_both : CertifiedIsInfeasible → (t : TypedProgram) (a b : Answer) → ReportsVerdict t a → ReportsVerdict t b → a.status ≡ 0 → b.status ≡ 1 → ⊥
-never_both law t a b v u z s =
-    let safe = met t _ v.race ends.Safe v.closed.race (ends_safe t v.race v.verdict a v.of_end v.is z) in
-    let e = fails_at t _ u.race u.verdict b u.closed.race u.of_end u.is s in
-    none_kept t _ v.race.history safe e.0
+pub never_both : CertifiedIsInfeasible → (o p : Options) (t : TypedProgram) (a b : Answer) → ReportsVerdict o t a → ReportsVerdict p t b → a.status ≡ 0 → b.status ≡ 1 → ⊥
+never_both law o p t a b v u z s =
+    let safe = met t o v.race ends.Safe v.closed.race (ends_safe t v.race v.verdict a v.of_end v.is z) in
+    let e = fails_at t p u.race u.verdict b u.closed.race u.of_end u.is s in
+    none_kept t o v.race.history safe e.0
     (record { error = e.1.accepted; left = λ r. removed_is_infeasible law t v.race.history e.0 v.closed.race.own e.1.feasible r })
 
 -- ---- no error word
@@ -96,6 +96,6 @@ safe_at_once t o r (Unsafe f) a none race empty h is =
 safe_at_once t o r (Unknown cause w) a none race empty h is =
     absurd (let e = only_safe t o r.history (ends.Unknown cause w) none (met t o r (ends.Unknown cause w) race h) in let no : ⊥ = cc in no)
 
-pub without_error_words : (t : TypedProgram) (a : Answer) → ReportsVerdict t a → HasNoWord t → (w : Content) × (a.bytes ≡ safe_text 0 w) × (a.status ≡ 0)
-without_error_words t a v none =
-    safe_at_once t _ v.race v.verdict a none v.closed.race (no_entry t v.race.program v.race.history v.closed.race.program none v.closed.legal) v.of_end v.is
+pub without_error_words : (o : Options) (t : TypedProgram) (a : Answer) → ReportsVerdict o t a → HasNoWord t → (w : Content) × (a.bytes ≡ safe_text 0 w) × (a.status ≡ 0)
+without_error_words o t a v none =
+    safe_at_once t o v.race v.verdict a none v.closed.race (no_entry t v.race.program v.race.history v.closed.race.program none v.closed.legal) v.of_end v.is

@@ -17,32 +17,25 @@ use Rattle.race_verdicts.specs.declared.verdicts.Verdict.{Verdict}
 use Rattle.race_verdicts.specs.declared.verdicts.Verdict.TheVariants.{Safe, Unsafe, Unknown}
 use Rattle.race_verdicts.specs.Verdicts.{IsVerdict, IsFailureOf}
 use Rattle.automizer_top.specs.Verdicts.{verdict_status}
-use Rattle.automizer_top.specs.Report.{Answer, answer, second_limit, accepted_answer, replayed_answer, verdict_answer, IsTypedText, IsSafeText, IsFailureText, ReportsProof, accepted, ReportsFailure, replayed, ReportsCheck, of_lowered, ReportsReplay, of_typed, ReportsVerdict, ReportsVerify, refused_verify, unlowered, decided, AskVerify, Reports, usage, printing, checked, replaying, verifying, IsHandedOver}
+use Rattle.automizer_top.specs.Report.{Answer, answer, second_limit, accepted_answer, replayed_answer, verdict_answer, IsTypedText, IsSafeText, IsFailureText, ReportsProof, accepted, ReportsFailure, replayed, ReportsCheck, of_lowered, ReportsReplay, of_typed, ReportsVerdict, ReportsVerify, refused_verify, unlowered, decided, Ask, Reports, usage, printing, checked, replaying, verifying, IsHandedOver}
 use Rattle.automizer_top.specs.TypeRefusals.{type_refusal}
 use Rattle.automizer_top.proofs.ReportLaws.{typed_is_three, lowering_is_three}
-use Rattle.automizer_top.proofs.ReportUnique.{AreOne, report_once, second_of, not_verified_and_printed, not_verified_and_checked, not_verified_and_replayed}
+use Rattle.automizer_top.specs.CommandLine.{Check, Replay, Print, Verify, Settings, limits_of}
+use Rattle.automizer_top.proofs.RequestLaws.{program_of, same_task, same_settings, only_one, nothing_asked, rounds_fit}
+use Rattle.automizer_top.proofs.ReportUnique.{AreOne, report_once}
 
 abbrev Texts : Type 0
 Texts = List (List ℕ × List ℕ)
 
-abbrev verify_words : List ℕ → List (List ℕ)
-verify_words program = codes "verify" ∷ program ∷ []
-
-abbrev check_words : List ℕ → List ℕ → List (List ℕ)
-check_words program second = codes "check" ∷ program ∷ second ∷ []
-
-abbrev replay_words : List ℕ → List ℕ → List (List ℕ)
-replay_words program second = codes "replay" ∷ program ∷ second ∷ []
-
 -- ---- a status below 3 is that of a verdict
 
-record IsVerdictOf (program : List ℕ) (texts : Texts) (a : Answer) : Type 0 where
+record IsVerdictOf (s : Settings) (program : List ℕ) (texts : Texts) (a : Answer) : Type 0 where
   pub text : List ℕ
   pub meant : TypedProgram
   pub found : text_named program texts ≡ Some text
-  pub typed : IsTypedText text meant
+  pub typed : IsTypedText s.entry text meant
   pub lowers : first_fault meant ≡ None
-  pub verdict : ReportsVerdict meant a
+  pub verdict : ReportsVerdict (limits_of s) meant a
 
 not_three : (n : ℕ) → n ≡ 3 → n < 3 → ⊥
 not_three n e l = omega arith
@@ -50,19 +43,23 @@ not_three n e l = omega arith
 not_four : (n : ℕ) → n ≡ 4 → n < 3 → ⊥
 not_four n e l = omega arith
 
-of_text : (program text : List ℕ) (texts : Texts) (a : Answer) → text_named program texts ≡ Some text → ReportsVerify text a → a.status < 3 → IsVerdictOf program texts a
-of_text program text texts a found (refused_verify r) l = absurd (not_three a.status (typed_is_three text a r) l)
-of_text program text texts a found (unlowered t w r) l = absurd (not_three a.status (lowering_is_three t a r) l)
-of_text program text texts a found (decided t w none v) l = record { text = text; meant = t; found = found; typed = w; lowers = none; verdict = v }
+of_text : (s : Settings) (program text : List ℕ) (texts : Texts) (a : Answer) → text_named program texts ≡ Some text → ReportsVerify s.entry (limits_of s) text a → a.status < 3 →
+    IsVerdictOf s program texts a
+of_text s program text texts a found (refused_verify r) l = absurd (not_three a.status (typed_is_three s.entry text a r) l)
+of_text s program text texts a found (unlowered t w r) l = absurd (not_three a.status (lowering_is_three t a r) l)
+of_text s program text texts a found (decided t w none v) l = record { text = text; meant = t; found = found; typed = w; lowers = none; verdict = v }
 
-verdict_of : (program : List ℕ) (texts : Texts) (a : Answer) → Reports (verify_words program) texts a → a.status < 3 → IsVerdictOf program texts a
-verdict_of program texts a (usage no_check no_replay no_print no_verify is) l = absurd (no_verify program refl)
-verdict_of program texts a (printing p t asked found print) l = absurd (not_verified_and_printed (verify_words program) program p refl asked)
-verdict_of program texts a (checked p s t asked found check) l = absurd (not_verified_and_checked (verify_words program) program p s refl asked)
-verdict_of program texts a (replaying p s t asked found replay) l = absurd (not_verified_and_replayed (verify_words program) program p s refl asked)
-verdict_of program texts a (verifying p t asked found verify) l =
-    let name : program ≡ p = ap second_of asked in
-    of_text program t texts a (subst (λ (n : List ℕ). text_named n texts ≡ Some t) (sym name) found) verify l
+verdict_of : (words : List (List ℕ)) (s : Settings) (program : List ℕ) (texts : Texts) (a : Answer) → Ask words s (Verify program) → Reports words texts a → a.status < 3 →
+    IsVerdictOf s program texts a
+verdict_of words s program texts a ask (usage none is) l = absurd (nothing_asked words s (Verify program) none ask)
+verdict_of words s program texts a ask (printing u p t asked found print) l = absurd (only_one words s u (Verify program) (Print p) ask asked (λ (e : 3 ≡ 2). omega arith))
+verdict_of words s program texts a ask (checked u p x t asked found check) l = absurd (only_one words s u (Verify program) (Check p x) ask asked (λ (e : 3 ≡ 0). omega arith))
+verdict_of words s program texts a ask (replaying u p x t asked found replay) l = absurd (only_one words s u (Verify program) (Replay p x) ask asked (λ (e : 3 ≡ 1). omega arith))
+verdict_of words s program texts a ask (verifying u p t asked found verify) l =
+    let name : p ≡ program = ap program_of (same_task words u s (Verify p) (Verify program) asked ask) in
+    let settings : u ≡ s = same_settings words u s (Verify p) (Verify program) asked ask in
+    of_text s program t texts a (subst (λ (n : List ℕ). text_named n texts ≡ Some t) name found)
+    (subst (λ (v : Settings). ReportsVerify v.entry (limits_of v) t a) settings verify) l
 
 -- ---- `safe`
 
@@ -78,32 +75,37 @@ safe_of t r (Safe w) a h is z = record { annotation = w; spelled = ap (λ (b : A
 safe_of t r (Unsafe f) a h is z = absurd (let e : 1 ≡ 0 = sym (ap (λ (b : Answer). b.status) is) ∙ z in omega arith)
 safe_of t r (Unknown cause w) a h is z = absurd (let e : 2 ≡ 0 = sym (ap (λ (b : Answer). b.status) is) ∙ z in omega arith)
 
-proof_of : (t : TypedProgram) (a : Answer) → ReportsVerdict t a → a.status ≡ 0 → length a.bytes ≤ second_limit → ReportsProof (lowered t) (Some a.bytes) accepted_answer
-proof_of t a v z short =
-    let s = safe_of t v.race v.verdict a v.of_end v.is z in
-    let within : length v.race.history ≤ 1000 = v.closed.within in
-    let small : length v.race.history < 2 ^ 64 = omega (arith, within) in
-    let text : IsSafeText a.bytes s.annotation = record { rounds = length v.race.history; small = small; lines = s.lines; spelled = s.spelled } in
-    accepted a.bytes s.annotation refl short text s.proves refl
+proof_of : (s : Settings) (t : TypedProgram) (a : Answer) → s.rounds ≤ 100000 → ReportsVerdict (limits_of s) t a → a.status ≡ 0 → length a.bytes ≤ second_limit →
+    ReportsProof (lowered t) (Some a.bytes) accepted_answer
+proof_of s t a few v z short =
+    let f = safe_of t v.race v.verdict a v.of_end v.is z in
+    let within : length v.race.history ≤ s.rounds = v.closed.within in
+    let small : length v.race.history < 2 ^ 64 = omega (arith, within, few) in
+    let text : IsSafeText a.bytes f.annotation = record { rounds = length v.race.history; small = small; lines = f.lines; spelled = f.spelled } in
+    accepted a.bytes f.annotation refl short text f.proves refl
 
-check_answer : (program second : List ℕ) (before after : Texts) (a : Answer) → IsVerdictOf program before a → a.status ≡ 0 → IsHandedOver program second before after a →
-    Reports (check_words program second) after accepted_answer
-check_answer program second before after a d z h =
-    checked program second d.text refl (h.same ∙ d.found)
-    (of_lowered d.meant d.typed d.lowers (subst (λ o. ReportsProof (lowered d.meant) o accepted_answer) (sym h.given) (proof_of d.meant a d.verdict z h.short)))
+check_answer : (again : List (List ℕ)) (r s : Settings) (program second : List ℕ) (before after : Texts) (a : Answer) → Ask again s (Check program second) → r.rounds ≤ 100000 →
+    IsVerdictOf r program before a → a.status ≡ 0 → IsHandedOver program second r s before after a → Reports again after accepted_answer
+check_answer again r s program second before after a ask few d z h =
+    checked s program second d.text ask (h.same ∙ d.found)
+    (of_lowered d.meant (subst (λ (e : List ℕ). IsTypedText e d.text d.meant) (sym h.entry) d.typed) d.lowers
+    (subst (λ o. ReportsProof (lowered d.meant) o accepted_answer) (sym h.given) (proof_of r d.meant a few d.verdict z h.short)))
 
 -- words that ask for a check have no two verdicts, and an answer of status 0 is no typing refusal
-one_of_check : (program second : List ℕ) (texts : Texts) (a b : Answer) → a.status ≡ 0 → AreOne (check_words program second) texts a b → b ≡ a
-one_of_check program second texts a b z (inl e) = sym e
-one_of_check program second texts a b z (inr (inl h)) = absurd (let e : 3 ≡ 0 = sym (ap (λ (c : Answer). c.status) h.0.1) ∙ z in omega arith)
-one_of_check program second texts a b z (inr (inr v)) = absurd (not_verified_and_checked (check_words program second) v.1.0 program second v.1.2 refl)
+one_of_check : (words : List (List ℕ)) (s : Settings) (program second : List ℕ) (texts : Texts) (a b : Answer) → Ask words s (Check program second) → a.status ≡ 0 →
+    AreOne words texts a b → b ≡ a
+one_of_check words s program second texts a b ask z (inl e) = sym e
+one_of_check words s program second texts a b ask z (inr (inl h)) = absurd (let e : 3 ≡ 0 = sym (ap (λ (c : Answer). c.status) h.0.1) ∙ z in omega arith)
+one_of_check words s program second texts a b ask z (inr (inr v)) =
+    absurd (only_one words s v.1.0 (Check program second) (Verify v.1.1) ask v.1.3 (λ (e : 0 ≡ 3). omega arith))
 
-pub check_accepts : (program second : List ℕ) (before after : Texts) (a b : Answer) → Reports (verify_words program) before a → a.status ≡ 0 → IsHandedOver program second before after a →
-    Reports (check_words program second) after b → b ≡ accepted_answer
-check_accepts program second before after a b r z h s =
+pub check_accepts : (words again : List (List ℕ)) (r s : Settings) (program second : List ℕ) (before after : Texts) (a b : Answer) → Ask words r (Verify program) →
+    Ask again s (Check program second) → Reports words before a → a.status ≡ 0 → IsHandedOver program second r s before after a → Reports again after b → b ≡ accepted_answer
+check_accepts words again r s program second before after a b ask asked given z h gives =
     let below : a.status < 3 = omega (arith, z) in
-    let first = check_answer program second before after a (verdict_of program before a r below) z h in
-    one_of_check program second after accepted_answer b refl (report_once (check_words program second) after accepted_answer b first s)
+    let few = rounds_fit words (record { task = Verify program; settings = r }) ask in
+    let first = check_answer again r s program second before after a asked few (verdict_of words r program before a ask given below) z h in
+    one_of_check again s program second after accepted_answer b asked refl (report_once again after accepted_answer b first gives)
 
 -- ---- `unsafe`
 
@@ -127,24 +129,28 @@ unsafe_of t r (Safe w) a h is z = absurd (let e : 0 ≡ 1 = sym (ap (λ (b : Ans
 unsafe_of t r (Unsafe f) a h is z = failing t r f a h is
 unsafe_of t r (Unknown cause w) a h is z = absurd (let e : 2 ≡ 1 = sym (ap (λ (b : Answer). b.status) is) ∙ z in omega arith)
 
-replay_answer : (program second : List ℕ) (before after : Texts) (a : Answer) (d : IsVerdictOf program before a) (u : IsUnsafeOf d.meant a) → IsHandedOver program second before after a →
-    Reports (replay_words program second) after (replayed_answer u.id)
-replay_answer program second before after a d u h =
-    replaying program second d.text refl (h.same ∙ d.found)
-    (of_typed d.meant d.typed (subst (λ o. ReportsFailure d.meant o (replayed_answer u.id)) (sym h.given) (replayed a.bytes u.failure u.id refl h.short u.read u.replays refl)))
+replay_answer : (again : List (List ℕ)) (r s : Settings) (program second : List ℕ) (before after : Texts) (a : Answer) → Ask again s (Replay program second) →
+    (d : IsVerdictOf r program before a) (u : IsUnsafeOf d.meant a) → IsHandedOver program second r s before after a → Reports again after (replayed_answer u.id)
+replay_answer again r s program second before after a ask d u h =
+    replaying s program second d.text ask (h.same ∙ d.found)
+    (of_typed d.meant (subst (λ (e : List ℕ). IsTypedText e d.text d.meant) (sym h.entry) d.typed)
+    (subst (λ o. ReportsFailure d.meant o (replayed_answer u.id)) (sym h.given) (replayed a.bytes u.failure u.id refl h.short u.read u.replays refl)))
 
-one_of_replay : (program second : List ℕ) (texts : Texts) (a b : Answer) → a.status ≡ 0 → AreOne (replay_words program second) texts a b → b ≡ a
-one_of_replay program second texts a b z (inl e) = sym e
-one_of_replay program second texts a b z (inr (inl h)) = absurd (let e : 3 ≡ 0 = sym (ap (λ (c : Answer). c.status) h.0.1) ∙ z in omega arith)
-one_of_replay program second texts a b z (inr (inr v)) = absurd (not_verified_and_replayed (replay_words program second) v.1.0 program second v.1.2 refl)
+one_of_replay : (words : List (List ℕ)) (s : Settings) (program second : List ℕ) (texts : Texts) (a b : Answer) → Ask words s (Replay program second) → a.status ≡ 0 →
+    AreOne words texts a b → b ≡ a
+one_of_replay words s program second texts a b ask z (inl e) = sym e
+one_of_replay words s program second texts a b ask z (inr (inl h)) = absurd (let e : 3 ≡ 0 = sym (ap (λ (c : Answer). c.status) h.0.1) ∙ z in omega arith)
+one_of_replay words s program second texts a b ask z (inr (inr v)) =
+    absurd (only_one words s v.1.0 (Replay program second) (Verify v.1.1) ask v.1.3 (λ (e : 1 ≡ 3). omega arith))
 
-pub replay_replays : (program second : List ℕ) (before after : Texts) (a b : Answer) → Reports (verify_words program) before a → a.status ≡ 1 → IsHandedOver program second before after a →
-    Reports (replay_words program second) after b → (id : AssertId) × (b ≡ replayed_answer id)
-replay_replays program second before after a b r z h s =
+pub replay_replays : (words again : List (List ℕ)) (r s : Settings) (program second : List ℕ) (before after : Texts) (a b : Answer) → Ask words r (Verify program) →
+    Ask again s (Replay program second) → Reports words before a → a.status ≡ 1 → IsHandedOver program second r s before after a → Reports again after b →
+    (id : AssertId) × (b ≡ replayed_answer id)
+replay_replays words again r s program second before after a b ask asked given z h gives =
     let below : a.status < 3 = omega (arith, z) in
-    let d = verdict_of program before a r below in
+    let d = verdict_of words r program before a ask given below in
     let u = unsafe_of d.meant d.verdict.race d.verdict.verdict a d.verdict.of_end d.verdict.is z in (
       u.id,
-      one_of_replay program second after (replayed_answer u.id) b refl
-          (report_once (replay_words program second) after (replayed_answer u.id) b (replay_answer program second before after a d u h) s),
+      one_of_replay again s program second after (replayed_answer u.id) b asked refl
+          (report_once again after (replayed_answer u.id) b (replay_answer again r s program second before after a asked d u h) gives),
     )

@@ -1,10 +1,13 @@
-pub mod WordLaws
+pub mod NumberLaws
+pub mod CommandLaws
 pub mod PrintedTexts
 pub mod VerdictTexts
 pub mod ParsedNames
+pub mod RequestLaws
 pub mod TypedTexts
 pub mod SafetyLaws
 pub mod ReportLaws
+pub mod UsageLaws
 pub mod VerdictLaws
 pub mod ReplayedOnce
 pub mod ProofOnce
@@ -12,3 +15,5 @@ pub mod ReportUnique
 pub mod ConfirmedLaws
 pub mod AgreeLaws
 pub mod ClosedLaws
+pub mod CompleteLaws
+pub mod AnsweringLaws

@@ -17,18 +17,23 @@ use Rattle.typed_tree.specs.declared.fault.TypeFault.TheVariants as type_faults
 use Rattle.letter_acts.specs.Invariant.{Graph}
 use Rattle.lowered_graph.specs.Items.{ItemFault, TooWide, TooBig}
 use Rattle.lowered_graph.specs.Lowered.{lowered}
+use Rattle.race_rounds.specs.Ends as race
 use Rattle.automizer_top.specs.declared.answer.Answer as code
 use Rattle.automizer_top.specs.declared.reporting.Halt.{Halt}
 use Rattle.automizer_top.specs.declared.words.Mode.{Mode}
-use Rattle.automizer_top.specs.declared.words.Mode.TheVariants.{Check, Replay, Print, Verify}
+use Rattle.automizer_top.specs.declared.words.Mode.TheVariants as modes
+use Rattle.automizer_top.specs.declared.words.Options.{Options}
+use Rattle.automizer_top.specs.CommandLine.{Task, Check, Replay, Print, Verify, Settings, limits_of, requested}
+use Rattle.automizer_top.specs.Asked.{task, settings, program_name}
 use Rattle.automizer_top.specs.Refusals.{refusal}
 use Rattle.automizer_top.specs.TypeRefusals.{type_refusal}
 use Rattle.automizer_top.specs.LoweringRefusals.{lowering_refusal}
-use Rattle.automizer_top.specs.Answers.{answered, Asks, program_name, IsGraphOf, HasNoErrorWord, TextIsSafe, CheckedIsSafe, VerifiedIsSafe}
-use Rattle.automizer_top.specs.Report.{Answer, answer, program_limit, second_limit, accepted_answer, RefusesProgram, too_long, no_program, ReportsPrint, refused_print, printed, RefusesTyped, refused_text, ill_typed, RefusesLowering, ReportsProof, proof_too_long, no_annotation, accepted, rejected, ReportsCheck, refused_check, not_lowered, of_lowered, IsTypedText, ReportsFailure, failure_too_long, no_failure, replayed, stopped, ReportsReplay, refused_replay, of_typed, AskCheck, AskReplay, AskPrint, AskVerify, ReportsVerdict, ReportsVerify, refused_verify, unlowered, decided, Reports, usage, printing, checked, replaying, verifying, PrintsProgram, AsksForCheck, AsksForVerdict, ProgramIsSafe, ProgramFails, WhereTold}
+use Rattle.automizer_top.specs.Answers.{answered, Asks, IsGraphOf, HasNoErrorWord, TextIsSafe, CheckedIsSafe, VerifiedIsSafe}
+use Rattle.automizer_top.specs.Report.{Answer, answer, program_limit, second_limit, accepted_answer, RefusesProgram, too_long, no_program, ReportsPrint, refused_print, printed, RefusesTyped, refused_text, ill_typed, RefusesLowering, ReportsProof, proof_too_long, no_annotation, accepted, rejected, ReportsCheck, refused_check, not_lowered, of_lowered, IsTypedText, ReportsFailure, failure_too_long, no_failure, replayed, stopped, ReportsReplay, refused_replay, of_typed, Ask, ReportsVerdict, ReportsVerify, refused_verify, unlowered, decided, Reports, usage, printing, checked, replaying, verifying, PrintsProgram, AsksForCheck, AsksForVerdict, ProgramIsSafe, ProgramFails, WhereTold}
 use Rattle.automizer_top.proofs.PrintedTexts.{begins_otherwise}
 use Rattle.automizer_top.proofs.VerdictTexts.{verdict_begins}
 use Rattle.automizer_top.proofs.SafetyLaws.{graph_is_safe}
+use Rattle.automizer_top.proofs.RequestLaws.{only_one, program_of, same_task, same_settings}
 use Rattle.automizer_top.proofs.TypedTexts.{one_typed}
 
 abbrev Texts : Type 0
@@ -58,147 +63,153 @@ program_printed text out ds l w is = printed ds l w (ap (λ (bytes : List ℕ). 
 -- ---- what is answered to a program text and to an annotation
 
 -- the program is refused, whatever the second text
-pub refused_reported : (program name : List ℕ) (a : Answer) (texts : Option Texts) → RefusesTyped program a → IfSome texts (λ shown. ReportsCheck program (text_named name shown) a)
-refused_reported program name a texts h = told (λ shown. ReportsCheck program (text_named name shown) a) texts (λ shown. refused_check h)
+pub refused_reported : (entry : List ℕ) (program name : List ℕ) (a : Answer) (texts : Option Texts) → RefusesTyped entry program a → IfSome texts (λ shown. ReportsCheck entry program (text_named name shown) a)
+refused_reported entry program name a texts h = told (λ shown. ReportsCheck entry program (text_named name shown) a) texts (λ shown. refused_check h)
 
 -- it cannot be lowered
-pub lowering_reported : (program name : List ℕ) (t : TypedProgram) (a : Answer) (texts : Option Texts) → IsTypedText program t → RefusesLowering t a →
-    IfSome texts (λ shown. ReportsCheck program (text_named name shown) a)
-lowering_reported program name t a texts w h = told (λ shown. ReportsCheck program (text_named name shown) a) texts (λ shown. not_lowered t w h)
+pub lowering_reported : (entry : List ℕ) (program name : List ℕ) (t : TypedProgram) (a : Answer) (texts : Option Texts) → IsTypedText entry program t → RefusesLowering t a →
+    IfSome texts (λ shown. ReportsCheck entry program (text_named name shown) a)
+lowering_reported entry program name t a texts w h = told (λ shown. ReportsCheck entry program (text_named name shown) a) texts (λ shown. not_lowered t w h)
 
-of_graph : (program : List ℕ) (second : Option (List ℕ)) (t : TypedProgram) (g : Graph) (a : Answer) → IsTypedText program t → IsGraphOf t g → ReportsProof g second a →
-    ReportsCheck program second a
-of_graph program second t g a w h r = of_lowered t w h.fits (subst (λ (x : Graph). ReportsProof x second a) h.value r)
+of_graph : (entry : List ℕ) (program : List ℕ) (second : Option (List ℕ)) (t : TypedProgram) (g : Graph) (a : Answer) → IsTypedText entry program t → IsGraphOf t g → ReportsProof g second a →
+    ReportsCheck entry program second a
+of_graph entry program second t g a w h r = of_lowered t w h.fits (subst (λ (x : Graph). ReportsProof x second a) h.value r)
 
 -- the second text is past its limit
-pub second_reported : (program name : List ℕ) (t : TypedProgram) (g : Graph) (texts : Option Texts) → IsTypedText program t → IsGraphOf t g →
+pub second_reported : (entry : List ℕ) (program name : List ℕ) (t : TypedProgram) (g : Graph) (texts : Option Texts) → IsTypedText entry program t → IsGraphOf t g →
     IfSome texts (λ shown. IsSome (text_named name shown) × IfSome (text_named name shown) (λ text. second_limit < length text)) →
-    IfSome texts (λ shown. ReportsCheck program (text_named name shown) (answer (codes "refused TooLong\n") 3))
-second_reported program name t g None w k h = tt
-second_reported program name t g (Some shown) w k h = by_text (text_named name shown) refl h.0 h.1
+    IfSome texts (λ shown. ReportsCheck entry program (text_named name shown) (answer (codes "refused TooLong\n") 3))
+second_reported entry program name t g None w k h = tt
+second_reported entry program name t g (Some shown) w k h = by_text (text_named name shown) refl h.0 h.1
   where
     by_text : (found : Option (List ℕ)) → text_named name shown ≡ found → IsSome found → IfSome found (λ text. second_limit < length text) →
-        ReportsCheck program (text_named name shown) (answer (codes "refused TooLong\n") 3)
+        ReportsCheck entry program (text_named name shown) (answer (codes "refused TooLong\n") 3)
     by_text None e some past = cc
-    by_text (Some text) e some past = of_graph program (text_named name shown) t g (answer (codes "refused TooLong\n") 3) w k (proof_too_long text e past refl)
+    by_text (Some text) e some past = of_graph entry program (text_named name shown) t g (answer (codes "refused TooLong\n") 3) w k (proof_too_long text e past refl)
 
 -- the second text is read, and gets this answer
-pub proof_reported : (program name text : List ℕ) (t : TypedProgram) (g : Graph) (a : Answer) (texts : Option Texts) → IsTypedText program t → IsGraphOf t g →
+pub proof_reported : (entry : List ℕ) (program name text : List ℕ) (t : TypedProgram) (g : Graph) (a : Answer) (texts : Option Texts) → IsTypedText entry program t → IsGraphOf t g →
     IfSome texts (λ shown. (text_named name shown ≡ Some text) × (length text ≤ second_limit)) → ReportsProof g (Some text) a →
-    IfSome texts (λ shown. ReportsCheck program (text_named name shown) a)
-proof_reported program name text t g a None w k h r = tt
-proof_reported program name text t g a (Some shown) w k h r =
-    of_graph program (text_named name shown) t g a w k (subst (λ (o : Option (List ℕ)). ReportsProof g o a) (sym h.0) r)
+    IfSome texts (λ shown. ReportsCheck entry program (text_named name shown) a)
+proof_reported entry program name text t g a None w k h r = tt
+proof_reported entry program name text t g a (Some shown) w k h r =
+    of_graph entry program (text_named name shown) t g a w k (subst (λ (o : Option (List ℕ)). ReportsProof g o a) (sym h.0) r)
 
 -- ---- what is answered to a program text and to a failure
 
 -- the program is refused, whatever the second text
-pub refused_replayed : (program name : List ℕ) (a : Answer) (texts : Option Texts) → RefusesTyped program a → IfSome texts (λ shown. ReportsReplay program (text_named name shown) a)
-refused_replayed program name a texts h = told (λ shown. ReportsReplay program (text_named name shown) a) texts (λ shown. refused_replay h)
+pub refused_replayed : (entry : List ℕ) (program name : List ℕ) (a : Answer) (texts : Option Texts) → RefusesTyped entry program a → IfSome texts (λ shown. ReportsReplay entry program (text_named name shown) a)
+refused_replayed entry program name a texts h = told (λ shown. ReportsReplay entry program (text_named name shown) a) texts (λ shown. refused_replay h)
 
 -- the failure is past its limit
-pub failure_refused : (program name : List ℕ) (t : TypedProgram) (texts : Option Texts) → IsTypedText program t →
+pub failure_refused : (entry : List ℕ) (program name : List ℕ) (t : TypedProgram) (texts : Option Texts) → IsTypedText entry program t →
     IfSome texts (λ shown. IsSome (text_named name shown) × IfSome (text_named name shown) (λ text. second_limit < length text)) →
-    IfSome texts (λ shown. ReportsReplay program (text_named name shown) (answer (codes "refused TooLong\n") 3))
-failure_refused program name t None w h = tt
-failure_refused program name t (Some shown) w h = by_text (text_named name shown) refl h.0 h.1
+    IfSome texts (λ shown. ReportsReplay entry program (text_named name shown) (answer (codes "refused TooLong\n") 3))
+failure_refused entry program name t None w h = tt
+failure_refused entry program name t (Some shown) w h = by_text (text_named name shown) refl h.0 h.1
   where
     by_text : (found : Option (List ℕ)) → text_named name shown ≡ found → IsSome found → IfSome found (λ text. second_limit < length text) →
-        ReportsReplay program (text_named name shown) (answer (codes "refused TooLong\n") 3)
+        ReportsReplay entry program (text_named name shown) (answer (codes "refused TooLong\n") 3)
     by_text None d some past = cc
     by_text (Some text) d some past = of_typed t w (failure_too_long text d past refl)
 
 -- the second text has this outcome
-pub outcome_reported : (program name text : List ℕ) (t : TypedProgram) (a : Answer) (texts : Option Texts) → IsTypedText program t →
+pub outcome_reported : (entry : List ℕ) (program name text : List ℕ) (t : TypedProgram) (a : Answer) (texts : Option Texts) → IsTypedText entry program t →
     IfSome texts (λ shown. (text_named name shown ≡ Some text) × (length text ≤ second_limit)) → ReportsFailure t (Some text) a →
-    IfSome texts (λ shown. ReportsReplay program (text_named name shown) a)
-outcome_reported program name text t a None w h r = tt
-outcome_reported program name text t a (Some shown) w h r =
+    IfSome texts (λ shown. ReportsReplay entry program (text_named name shown) a)
+outcome_reported entry program name text t a None w h r = tt
+outcome_reported entry program name text t a (Some shown) w h r =
     of_typed t w (subst (λ (o : Option (List ℕ)). ReportsFailure t o a) (sym h.0) r)
 
 -- ---- what is answered to words
 
 -- a program text that is past its limit is refused, whatever the words ask for
-too_long_asked : (words : List (List ℕ)) (mode : Mode) (text : List ℕ) (shown : List (List ℕ × List ℕ)) → Asks words mode →
+too_long_asked : (words : List (List ℕ)) (mode : Mode) (o : Options) (text : List ℕ) (shown : List (List ℕ × List ℕ)) → Asks words mode o →
     text_named (program_name mode) shown ≡ Some text → program_limit < length text → Reports words shown (answer (codes "refused TooLong\n") 3)
-too_long_asked words (Check program second) text shown ask e past = checked program.now second.now text ask e (refused_check (refused_text (too_long past refl)))
-too_long_asked words (Replay program second) text shown ask e past = replaying program.now second.now text ask e (refused_replay (refused_text (too_long past refl)))
-too_long_asked words (Print program) text shown ask e past = printing program.now text ask e (refused_print (too_long past refl))
-too_long_asked words (Verify program) text shown ask e past = verifying program.now text ask e (refused_verify (refused_text (too_long past refl)))
+too_long_asked words (modes.Check program second) o text shown ask e past =
+    checked (settings o) program.now second.now text ask e (refused_check (refused_text (too_long past refl)))
+too_long_asked words (modes.Replay program second) o text shown ask e past =
+    replaying (settings o) program.now second.now text ask e (refused_replay (refused_text (too_long past refl)))
+too_long_asked words (modes.Print program) o text shown ask e past = printing (settings o) program.now text ask e (refused_print (too_long past refl))
+too_long_asked words (modes.Verify program) o text shown ask e past =
+    verifying (settings o) program.now text ask e (refused_verify (refused_text (too_long past refl)))
 
 -- the program text is past its limit
-pub program_reported : (words : List (List ℕ)) (mode : Mode) (name : List ℕ) (texts : Option (List (List ℕ × List ℕ))) → Asks words mode → name ≡ program_name mode →
+pub program_reported : (words : List (List ℕ)) (mode : Mode) (o : Options) (name : List ℕ) (texts : Option (List (List ℕ × List ℕ))) → Asks words mode o → name ≡ program_name mode →
     IfSome texts (λ shown. IsSome (text_named name shown) × IfSome (text_named name shown) (λ text. program_limit < length text)) →
     IfSome texts (λ shown. Reports words shown (answer (codes "refused TooLong\n") 3))
-program_reported words mode name None ask same h = tt
-program_reported words mode name (Some shown) ask same h = by_text (text_named name shown) refl h.0 h.1
+program_reported words mode o name None ask same h = tt
+program_reported words mode o name (Some shown) ask same h = by_text (text_named name shown) refl h.0 h.1
   where
     by_text : (found : Option (List ℕ)) → text_named name shown ≡ found → IsSome found → IfSome found (λ text. program_limit < length text) →
         Reports words shown (answer (codes "refused TooLong\n") 3)
     by_text None e some past = cc
     by_text (Some text) e some past =
-        too_long_asked words mode text shown ask (ap (λ (n : List ℕ). text_named n shown) (sym same) ∙ e) past
+        too_long_asked words mode o text shown ask (ap (λ (n : List ℕ). text_named n shown) (sym same) ∙ e) past
+
+-- the words ask for this, where the mode is known
+asks_for : (words : List (List ℕ)) (mode known : Mode) (o : Options) → Asks words mode o → mode ≡ known → Asks words known o
+asks_for words mode known o ask is = subst (λ (m : Mode). Asks words m o) is ask
+
+-- the text of that name, where the mode is known
+text_of : (mode known : Mode) (name text : List ℕ) (shown : Texts) → mode ≡ known → name ≡ program_name mode → text_named name shown ≡ Some text →
+    text_named (program_name known) shown ≡ Some text
+text_of mode known name text shown is same h = ap (λ (n : List ℕ). text_named n shown) (sym (same ∙ ap program_name is)) ∙ h
 
 -- the program text was read, and is to be checked
-check_reported : (words : List (List ℕ)) (mode : Mode) (program second : Bor (List ℕ)) (name text : List ℕ) (a : Answer) (texts : Option (List (List ℕ × List ℕ))) →
-    Asks words mode → mode ≡ Check program second → name ≡ program_name mode →
+check_reported : (words : List (List ℕ)) (mode : Mode) (o : Options) (program second : Bor (List ℕ)) (name text : List ℕ) (a : Answer) (texts : Option (List (List ℕ × List ℕ))) →
+    Asks words mode o → mode ≡ modes.Check program second → name ≡ program_name mode →
     IfSome texts (λ shown. (text_named name shown ≡ Some text) × (length text ≤ program_limit)) →
-    IfSome texts (λ shown. ReportsCheck text (text_named second.now shown) a) → IfSome texts (λ shown. Reports words shown a)
-check_reported words mode program second name text a None ask is same h r = tt
-check_reported words mode program second name text a (Some shown) ask is same h r =
-    let asked : AskCheck words program.now second.now = subst (Asks words) is ask in
-    let named : name ≡ program.now = same ∙ ap program_name is in
-    checked program.now second.now text asked (ap (λ (n : List ℕ). text_named n shown) (sym named) ∙ h.0) r
+    IfSome texts (λ shown. ReportsCheck o.entry.now text (text_named second.now shown) a) → IfSome texts (λ shown. Reports words shown a)
+check_reported words mode o program second name text a None ask is same h r = tt
+check_reported words mode o program second name text a (Some shown) ask is same h r =
+    checked (settings o) program.now second.now text (asks_for words mode (modes.Check program second) o ask is)
+    (text_of mode (modes.Check program second) name text shown is same h.0) r
 
 -- and this is what the code answered
-pub check_answered : (words : List (List ℕ)) (mode : Mode) (program second : Bor (List ℕ)) (name text : List ℕ) (r : Result code.Answer Halt) (texts : Option (List (List ℕ × List ℕ))) →
-    Asks words mode → mode ≡ Check program second → name ≡ program_name mode →
+pub check_answered : (words : List (List ℕ)) (mode : Mode) (o : Options) (program second : Bor (List ℕ)) (name text : List ℕ) (r : Result code.Answer Halt) (texts : Option (List (List ℕ × List ℕ))) →
+    Asks words mode o → mode ≡ modes.Check program second → name ≡ program_name mode →
     IfSome texts (λ shown. (text_named name shown ≡ Some text) × (length text ≤ program_limit)) →
-    IfOk r (λ a. IfSome texts (λ shown. ReportsCheck text (text_named second.now shown) (answered a))) →
+    IfOk r (λ a. IfSome texts (λ shown. ReportsCheck o.entry.now text (text_named second.now shown) (answered a))) →
     IfOk r (λ a. IfSome texts (λ shown. Reports words shown (answered a)))
-check_answered words mode program second name text (Ok a) texts ask is same h r = check_reported words mode program second name text (answered a) texts ask is same h r
-check_answered words mode program second name text (Err e) texts ask is same h r = tt
+check_answered words mode o program second name text (Ok a) texts ask is same h r = check_reported words mode o program second name text (answered a) texts ask is same h r
+check_answered words mode o program second name text (Err e) texts ask is same h r = tt
 
 -- the program text was read, and a failure is to be replayed
-replay_reported : (words : List (List ℕ)) (mode : Mode) (program second : Bor (List ℕ)) (name text : List ℕ) (a : Answer) (texts : Option (List (List ℕ × List ℕ))) →
-    Asks words mode → mode ≡ Replay program second → name ≡ program_name mode →
+replay_reported : (words : List (List ℕ)) (mode : Mode) (o : Options) (program second : Bor (List ℕ)) (name text : List ℕ) (a : Answer) (texts : Option (List (List ℕ × List ℕ))) →
+    Asks words mode o → mode ≡ modes.Replay program second → name ≡ program_name mode →
     IfSome texts (λ shown. (text_named name shown ≡ Some text) × (length text ≤ program_limit)) →
-    IfSome texts (λ shown. ReportsReplay text (text_named second.now shown) a) → IfSome texts (λ shown. Reports words shown a)
-replay_reported words mode program second name text a None ask is same h r = tt
-replay_reported words mode program second name text a (Some shown) ask is same h r =
-    let asked : AskReplay words program.now second.now = subst (Asks words) is ask in
-    let named : name ≡ program.now = same ∙ ap program_name is in
-    replaying program.now second.now text asked (ap (λ (n : List ℕ). text_named n shown) (sym named) ∙ h.0) r
+    IfSome texts (λ shown. ReportsReplay o.entry.now text (text_named second.now shown) a) → IfSome texts (λ shown. Reports words shown a)
+replay_reported words mode o program second name text a None ask is same h r = tt
+replay_reported words mode o program second name text a (Some shown) ask is same h r =
+    replaying (settings o) program.now second.now text (asks_for words mode (modes.Replay program second) o ask is)
+    (text_of mode (modes.Replay program second) name text shown is same h.0) r
 
-pub replay_answered : (words : List (List ℕ)) (mode : Mode) (program second : Bor (List ℕ)) (name text : List ℕ) (r : Result code.Answer Halt) (texts : Option (List (List ℕ × List ℕ))) →
-    Asks words mode → mode ≡ Replay program second → name ≡ program_name mode →
+pub replay_answered : (words : List (List ℕ)) (mode : Mode) (o : Options) (program second : Bor (List ℕ)) (name text : List ℕ) (r : Result code.Answer Halt) (texts : Option (List (List ℕ × List ℕ))) →
+    Asks words mode o → mode ≡ modes.Replay program second → name ≡ program_name mode →
     IfSome texts (λ shown. (text_named name shown ≡ Some text) × (length text ≤ program_limit)) →
-    IfOk r (λ a. IfSome texts (λ shown. ReportsReplay text (text_named second.now shown) (answered a))) →
+    IfOk r (λ a. IfSome texts (λ shown. ReportsReplay o.entry.now text (text_named second.now shown) (answered a))) →
     IfOk r (λ a. IfSome texts (λ shown. Reports words shown (answered a)))
-replay_answered words mode program second name text (Ok a) texts ask is same h r = replay_reported words mode program second name text (answered a) texts ask is same h r
-replay_answered words mode program second name text (Err e) texts ask is same h r = tt
+replay_answered words mode o program second name text (Ok a) texts ask is same h r = replay_reported words mode o program second name text (answered a) texts ask is same h r
+replay_answered words mode o program second name text (Err e) texts ask is same h r = tt
 
 -- the program text was read, and is to be printed
-pub print_reported : (words : List (List ℕ)) (mode : Mode) (program : Bor (List ℕ)) (name text : List ℕ) (a : Answer) (texts : Option (List (List ℕ × List ℕ))) →
-    Asks words mode → mode ≡ Print program → name ≡ program_name mode →
+pub print_reported : (words : List (List ℕ)) (mode : Mode) (o : Options) (program : Bor (List ℕ)) (name text : List ℕ) (a : Answer) (texts : Option (List (List ℕ × List ℕ))) →
+    Asks words mode o → mode ≡ modes.Print program → name ≡ program_name mode →
     IfSome texts (λ shown. (text_named name shown ≡ Some text) × (length text ≤ program_limit)) →
     ReportsPrint text a → IfSome texts (λ shown. Reports words shown a)
-print_reported words mode program name text a None ask is same h r = tt
-print_reported words mode program name text a (Some shown) ask is same h r =
-    let asked : AskPrint words program.now = subst (Asks words) is ask in
-    let named : name ≡ program.now = same ∙ ap program_name is in
-    printing program.now text asked (ap (λ (n : List ℕ). text_named n shown) (sym named) ∙ h.0) r
+print_reported words mode o program name text a None ask is same h r = tt
+print_reported words mode o program name text a (Some shown) ask is same h r =
+    printing (settings o) program.now text (asks_for words mode (modes.Print program) o ask is) (text_of mode (modes.Print program) name text shown is same h.0) r
 
 -- the program text was read, and its verdict is asked for
-pub verify_reported : (words : List (List ℕ)) (mode : Mode) (program : Bor (List ℕ)) (name text : List ℕ) (a : Answer) (texts : Option (List (List ℕ × List ℕ))) →
-    Asks words mode → mode ≡ Verify program → name ≡ program_name mode →
+pub verify_reported : (words : List (List ℕ)) (mode : Mode) (o : Options) (program : Bor (List ℕ)) (name text : List ℕ) (a : Answer) (texts : Option (List (List ℕ × List ℕ))) →
+    Asks words mode o → mode ≡ modes.Verify program → name ≡ program_name mode →
     IfSome texts (λ shown. (text_named name shown ≡ Some text) × (length text ≤ program_limit)) →
-    ReportsVerify text a → IfSome texts (λ shown. Reports words shown a)
-verify_reported words mode program name text a None ask is same h r = tt
-verify_reported words mode program name text a (Some shown) ask is same h r =
-    let asked : AskVerify words program.now = subst (Asks words) is ask in
-    let named : name ≡ program.now = same ∙ ap program_name is in
-    verifying program.now text asked (ap (λ (n : List ℕ). text_named n shown) (sym named) ∙ h.0) r
+    ReportsVerify o.entry.now (limits_of (settings o)) text a → IfSome texts (λ shown. Reports words shown a)
+verify_reported words mode o program name text a None ask is same h r = tt
+verify_reported words mode o program name text a (Some shown) ask is same h r =
+    verifying (settings o) program.now text (asks_for words mode (modes.Verify program) o ask is) (text_of mode (modes.Verify program) name text shown is same h.0) r
 
 -- ---- what has the status 0
 
@@ -206,9 +217,9 @@ refused_is_three : (text : List ℕ) (a : Answer) → RefusesProgram text a → 
 refused_is_three text a (too_long past is) = ap (λ (b : Answer). b.status) is
 refused_is_three text a (no_program f l r is) = ap (λ (b : Answer). b.status) is
 
-pub typed_is_three : (text : List ℕ) (a : Answer) → RefusesTyped text a → a.status ≡ 3
-typed_is_three text a (refused_text r) = refused_is_three text a r
-typed_is_three text a (ill_typed ds f l w broken is) = ap (λ (b : Answer). b.status) is
+pub typed_is_three : (entry : List ℕ) (text : List ℕ) (a : Answer) → RefusesTyped entry text a → a.status ≡ 3
+typed_is_three entry text a (refused_text r) = refused_is_three text a r
+typed_is_three entry text a (ill_typed ds f l w broken is) = ap (λ (b : Answer). b.status) is
 
 pub lowering_is_three : (t : TypedProgram) (a : Answer) → RefusesLowering t a → a.status ≡ 3
 lowering_is_three t a h = ap (λ (b : Answer). b.status) h.is
@@ -221,17 +232,17 @@ refused_is_not_zero : (text : List ℕ) (a : Answer) → RefusesProgram text a �
 refused_is_not_zero text a (too_long past is) z = three_is_not_zero a.status (ap (λ (b : Answer). b.status) is) z
 refused_is_not_zero text a (no_program f l r is) z = three_is_not_zero a.status (ap (λ (b : Answer). b.status) is) z
 
-pub typed_is_not_zero : (text : List ℕ) (a : Answer) → RefusesTyped text a → a.status ≡ 0 → ⊥
-typed_is_not_zero text a (refused_text r) z = refused_is_not_zero text a r z
-typed_is_not_zero text a (ill_typed ds f l w broken is) z = three_is_not_zero a.status (ap (λ (b : Answer). b.status) is) z
+pub typed_is_not_zero : (entry : List ℕ) (text : List ℕ) (a : Answer) → RefusesTyped entry text a → a.status ≡ 0 → ⊥
+typed_is_not_zero entry text a (refused_text r) z = refused_is_not_zero text a r z
+typed_is_not_zero entry text a (ill_typed ds f l w broken is) z = three_is_not_zero a.status (ap (λ (b : Answer). b.status) is) z
 
 pub lowering_is_not_zero : (t : TypedProgram) (a : Answer) → RefusesLowering t a → a.status ≡ 0 → ⊥
 lowering_is_not_zero t a h z = three_is_not_zero a.status (ap (λ (b : Answer). b.status) h.is) z
 
 -- an accepted program keeps the typing rules
-pub record IsAccepted (text : List ℕ) (a : Answer) : Type 0 where
+pub record IsAccepted (entry text : List ℕ) (a : Answer) : Type 0 where
   pub meant : TypedProgram
-  pub typed : IsTypedText text meant
+  pub typed : IsTypedText entry text meant
   pub is : a ≡ accepted_answer
 
 proof_zero : (g : Graph) (second : Option (List ℕ)) (a : Answer) → ReportsProof g second a → a.status ≡ 0 → a ≡ accepted_answer
@@ -240,56 +251,57 @@ proof_zero g second a (no_annotation x line e l wrong is) z = absurd (let d : 1 
 proof_zero g second a (accepted x w e l s p is) z = is
 proof_zero g second a (rejected x w item cause e l s first is) z = absurd (let d : 1 ≡ 0 = sym (ap (λ (b : Answer). b.status) is) ∙ z in omega arith)
 
-check_zero : (text : List ℕ) (second : Option (List ℕ)) (a : Answer) → ReportsCheck text second a → a.status ≡ 0 → IsAccepted text a
-check_zero text second a (refused_check r) z = absurd (typed_is_not_zero text a r z)
-check_zero text second a (not_lowered t w r) z = absurd (lowering_is_not_zero t a r z)
-check_zero text second a (of_lowered t w none r) z = record { meant = t; typed = w; is = proof_zero (lowered t) second a r z }
+check_zero : (entry : List ℕ) (text : List ℕ) (second : Option (List ℕ)) (a : Answer) → ReportsCheck entry text second a → a.status ≡ 0 → IsAccepted entry text a
+check_zero entry text second a (refused_check r) z = absurd (typed_is_not_zero entry text a r z)
+check_zero entry text second a (not_lowered t w r) z = absurd (lowering_is_not_zero t a r z)
+check_zero entry text second a (of_lowered t w none r) z = record { meant = t; typed = w; is = proof_zero (lowered t) second a r z }
 
-printed_by : (words : List (List ℕ)) (texts : List (List ℕ × List ℕ)) (program text : List ℕ) (a : Answer) → AskPrint words program →
+printed_by : (words : List (List ℕ)) (texts : List (List ℕ × List ℕ)) (s : Settings) (program text : List ℕ) (a : Answer) → Ask words s (Print program) →
     text_named program texts ≡ Some text → ReportsPrint text a → a.status ≡ 0 → PrintsProgram words texts
-printed_by words texts program text a asked found (refused_print r) zero_status = absurd (refused_is_not_zero text a r zero_status)
-printed_by words texts program text a asked found (printed ds l w is) zero_status = (program, text, ds, asked, found, w)
+printed_by words texts s program text a asked found (refused_print r) zero_status = absurd (refused_is_not_zero text a r zero_status)
+printed_by words texts s program text a asked found (printed ds l w is) zero_status = (s, program, text, ds, asked, found, w)
 
-fails_by : (words : List (List ℕ)) (texts : List (List ℕ × List ℕ)) (program second text : List ℕ) (t : TypedProgram) (a : Answer) → AskReplay words program second →
-    text_named program texts ≡ Some text → IsTypedText text t → ReportsFailure t (text_named second texts) a → a.status ≡ 0 → ProgramFails words texts
-fails_by words texts program second text t a asked found typed (failure_too_long x e past is) zero_status = absurd (let e : 3 ≡ 0 = sym (ap (λ (b : Answer). b.status) is) ∙ zero_status in omega arith)
-fails_by words texts program second text t a asked found typed (no_failure x line e l fault is) zero_status = absurd (let e : 1 ≡ 0 = sym (ap (λ (b : Answer). b.status) is) ∙ zero_status in omega arith)
-fails_by words texts program second text t a asked found typed (replayed x f id e l h r is) zero_status =
-    (program, second, text, x, t, f, id, record { asked = asked; found = found; typed = typed; told = e; read = h; replays = r })
-fails_by words texts program second text t a asked found typed (stopped x f step cause e l h s is) zero_status = absurd (let e : 1 ≡ 0 = sym (ap (λ (b : Answer). b.status) is) ∙ zero_status in omega arith)
+fails_by : (words : List (List ℕ)) (texts : List (List ℕ × List ℕ)) (s : Settings) (program second text : List ℕ) (t : TypedProgram) (a : Answer) → Ask words s (Replay program second) →
+    text_named program texts ≡ Some text → IsTypedText s.entry text t → ReportsFailure t (text_named second texts) a → a.status ≡ 0 → ProgramFails words texts
+fails_by words texts s program second text t a asked found typed (failure_too_long x e past is) zero_status = absurd (let e : 3 ≡ 0 = sym (ap (λ (b : Answer). b.status) is) ∙ zero_status in omega arith)
+fails_by words texts s program second text t a asked found typed (no_failure x line e l fault is) zero_status = absurd (let e : 1 ≡ 0 = sym (ap (λ (b : Answer). b.status) is) ∙ zero_status in omega arith)
+fails_by words texts s program second text t a asked found typed (replayed x f id e l h r is) zero_status =
+    (program, second, text, x, t, f, id, record { settings = s; asked = asked; found = found; typed = typed; told = e; read = h; replays = r })
+fails_by words texts s program second text t a asked found typed (stopped x f step cause e l h k is) zero_status = absurd (let e : 1 ≡ 0 = sym (ap (λ (b : Answer). b.status) is) ∙ zero_status in omega arith)
 
-replayed_by : (words : List (List ℕ)) (texts : List (List ℕ × List ℕ)) (program second text : List ℕ) (a : Answer) → AskReplay words program second →
-    text_named program texts ≡ Some text → ReportsReplay text (text_named second texts) a → a.status ≡ 0 → ProgramFails words texts
-replayed_by words texts program second text a asked found (refused_replay r) zero_status = absurd (typed_is_not_zero text a r zero_status)
-replayed_by words texts program second text a asked found (of_typed t h of) zero_status = fails_by words texts program second text t a asked found h of zero_status
+replayed_by : (words : List (List ℕ)) (texts : List (List ℕ × List ℕ)) (s : Settings) (program second text : List ℕ) (a : Answer) → Ask words s (Replay program second) →
+    text_named program texts ≡ Some text → ReportsReplay s.entry text (text_named second texts) a → a.status ≡ 0 → ProgramFails words texts
+replayed_by words texts s program second text a asked found (refused_replay r) zero_status = absurd (typed_is_not_zero s.entry text a r zero_status)
+replayed_by words texts s program second text a asked found (of_typed t h of) zero_status = fails_by words texts s program second text t a asked found h of zero_status
 
 -- what is accepted is safe, where that is so of the program whose check is asked for
-accepted_is_safe : (words : List (List ℕ)) (texts : Texts) (program second text : List ℕ) (a : Answer) → AskCheck words program second → text_named program texts ≡ Some text →
-    IsAccepted text a → (a ≡ accepted_answer → CheckedIsSafe words texts) → ProgramIsSafe words texts
-accepted_is_safe words texts program second text a asked found h safe =
-    let asks : AsksForCheck words texts h.meant = record { program = program; second = second; asked = asked; text = text; found = found; typed = h.typed } in
+accepted_is_safe : (words : List (List ℕ)) (texts : Texts) (s : Settings) (program second text : List ℕ) (a : Answer) → Ask words s (Check program second) → text_named program texts ≡ Some text →
+    IsAccepted s.entry text a → (a ≡ accepted_answer → CheckedIsSafe words texts) → ProgramIsSafe words texts
+accepted_is_safe words texts s program second text a asked found h safe =
+    let asks : AsksForCheck words texts h.meant = record { settings = s; program = program; second = second; asked = asked; text = text; found = found; typed = h.typed } in
     (h.meant, inl asks, safe h.is h.meant asks)
 
 -- a verdict of status 0 is asked for a program that is safe, where that is so of the program whose verdict is asked for
-verified_is_safe : (words : List (List ℕ)) (texts : Texts) (program text : List ℕ) (a : Answer) → AskVerify words program → text_named program texts ≡ Some text →
-    ReportsVerify text a → a.status ≡ 0 → VerifiedIsSafe words texts → ProgramIsSafe words texts
-verified_is_safe words texts program text a asked found (refused_verify r) z safe = absurd (typed_is_not_zero text a r z)
-verified_is_safe words texts program text a asked found (unlowered t w r) z safe = absurd (lowering_is_not_zero t a r z)
-verified_is_safe words texts program text a asked found (decided t w none v) z safe =
-    let asks : AsksForVerdict words texts t = record { program = program; asked = asked; text = text; found = found; typed = w } in
+verified_is_safe : (words : List (List ℕ)) (texts : Texts) (s : Settings) (program text : List ℕ) (a : Answer) → Ask words s (Verify program) → text_named program texts ≡ Some text →
+    ReportsVerify s.entry (limits_of s) text a → a.status ≡ 0 → VerifiedIsSafe words texts → ProgramIsSafe words texts
+verified_is_safe words texts s program text a asked found (refused_verify r) z safe = absurd (typed_is_not_zero s.entry text a r z)
+verified_is_safe words texts s program text a asked found (unlowered t w r) z safe = absurd (lowering_is_not_zero t a r z)
+verified_is_safe words texts s program text a asked found (decided t w none v) z safe =
+    let asks : AsksForVerdict words texts t = record { settings = s; program = program; asked = asked; text = text; found = found; typed = w } in
     (t, inr asks, safe t asks)
 
 -- an answer of status 0 is a printed program, or is safe, or fails
 reports_safe : (words : List (List ℕ)) (texts : Texts) (a : Answer) → Reports words texts a → (a ≡ accepted_answer → CheckedIsSafe words texts) →
     (a.status ≡ 0 → VerifiedIsSafe words texts) → a.status ≡ 0 →
     PrintsProgram words texts ⊎ (ProgramIsSafe words texts ⊎ ProgramFails words texts)
-reports_safe words texts a (usage none no_replay no_print no_verify is) safe verified z = absurd (let e : 4 ≡ 0 = sym (ap (λ (b : Answer). b.status) is) ∙ z in omega arith)
-reports_safe words texts a (printing program text asked found print) safe verified z = inl (printed_by words texts program text a asked found print z)
-reports_safe words texts a (checked program second text asked found check) safe verified z =
-    inr (inl (accepted_is_safe words texts program second text a asked found (check_zero text (text_named second texts) a check z) safe))
-reports_safe words texts a (replaying program second text asked found replay) safe verified z = inr (inr (replayed_by words texts program second text a asked found replay z))
-reports_safe words texts a (verifying program text asked found verify) safe verified z =
-    inr (inl (verified_is_safe words texts program text a asked found verify z (verified z)))
+reports_safe words texts a (usage none is) safe verified z = absurd (let e : 4 ≡ 0 = sym (ap (λ (b : Answer). b.status) is) ∙ z in omega arith)
+reports_safe words texts a (printing s program text asked found print) safe verified z = inl (printed_by words texts s program text a asked found print z)
+reports_safe words texts a (checked s program second text asked found check) safe verified z =
+    inr (inl (accepted_is_safe words texts s program second text a asked found (check_zero s.entry text (text_named second texts) a check z) safe))
+reports_safe words texts a (replaying s program second text asked found replay) safe verified z =
+    inr (inr (replayed_by words texts s program second text a asked found replay z))
+reports_safe words texts a (verifying s program text asked found verify) safe verified z =
+    inr (inl (verified_is_safe words texts s program text a asked found verify z (verified z)))
 
 -- `accepted` has `c` as its second byte, and no other answer has
 abbrev second_of : Answer → ℕ
@@ -321,9 +333,9 @@ rule_begins (type_faults.BadGoto at) b = omega arith
 rule_begins (type_faults.TooBig at) b = omega arith
 rule_begins type_faults.Memory b = omega arith
 
-typed_begins : (text : List ℕ) (a : Answer) → RefusesTyped text a → second_of a ≡ 99 → ⊥
-typed_begins text a (refused_text r) begin = refused_begins text a r begin
-typed_begins text a (ill_typed ds f l w broken is) begin = rule_begins f (sym (ap second_of is) ∙ begin)
+typed_begins : (entry : List ℕ) (text : List ℕ) (a : Answer) → RefusesTyped entry text a → second_of a ≡ 99 → ⊥
+typed_begins entry text a (refused_text r) begin = refused_begins text a r begin
+typed_begins entry text a (ill_typed ds f l w broken is) begin = rule_begins f (sym (ap second_of is) ∙ begin)
 
 lowering_begins : (t : TypedProgram) (a : Answer) → RefusesLowering t a → second_of a ≡ 99 → ⊥
 lowering_begins t a h begin = by_fault h.fault (sym (ap second_of h.is) ∙ begin)
@@ -338,10 +350,10 @@ proof_begins g second a (no_annotation x line e l wrong is) begin = absurd (let 
 proof_begins g second a (accepted x w e l s p is) begin = is
 proof_begins g second a (rejected x w item cause e l s first is) begin = absurd (let same : 101 ≡ 99 = sym (ap second_of is) ∙ begin in omega arith)
 
-check_begins : (text : List ℕ) (second : Option (List ℕ)) (a : Answer) → ReportsCheck text second a → second_of a ≡ 99 → IsAccepted text a
-check_begins text second a (refused_check r) begin = absurd (typed_begins text a r begin)
-check_begins text second a (not_lowered t w r) begin = absurd (lowering_begins t a r begin)
-check_begins text second a (of_lowered t w none r) begin = record { meant = t; typed = w; is = proof_begins (lowered t) second a r begin }
+check_begins : (entry : List ℕ) (text : List ℕ) (second : Option (List ℕ)) (a : Answer) → ReportsCheck entry text second a → second_of a ≡ 99 → IsAccepted entry text a
+check_begins entry text second a (refused_check r) begin = absurd (typed_begins entry text a r begin)
+check_begins entry text second a (not_lowered t w r) begin = absurd (lowering_begins t a r begin)
+check_begins entry text second a (of_lowered t w none r) begin = record { meant = t; typed = w; is = proof_begins (lowered t) second a r begin }
 
 print_begins : (text : List ℕ) (a : Answer) → ReportsPrint text a → second_of a ≡ 99 → ⊥
 print_begins text a (refused_print r) begin = refused_begins text a r begin
@@ -353,23 +365,23 @@ failure_begins t second a (no_failure x line e l fault is) begin = absurd (let s
 failure_begins t second a (replayed x f id e l h r is) begin = absurd (let same : 101 ≡ 99 = sym (ap second_of is) ∙ begin in omega arith)
 failure_begins t second a (stopped x f step cause e l h s is) begin = absurd (let same : 101 ≡ 99 = sym (ap second_of is) ∙ begin in omega arith)
 
-replay_begins : (text : List ℕ) (second : Option (List ℕ)) (a : Answer) → ReportsReplay text second a → second_of a ≡ 99 → ⊥
-replay_begins text second a (refused_replay r) begin = typed_begins text a r begin
-replay_begins text second a (of_typed t h of) begin = failure_begins t second a of begin
+replay_begins : (entry : List ℕ) (text : List ℕ) (second : Option (List ℕ)) (a : Answer) → ReportsReplay entry text second a → second_of a ≡ 99 → ⊥
+replay_begins entry text second a (refused_replay r) begin = typed_begins entry text a r begin
+replay_begins entry text second a (of_typed t h of) begin = failure_begins t second a of begin
 
-verify_begins : (text : List ℕ) (a : Answer) → ReportsVerify text a → second_of a ≡ 99 → ⊥
-verify_begins text a (refused_verify r) begin = typed_begins text a r begin
-verify_begins text a (unlowered t w r) begin = lowering_begins t a r begin
-verify_begins text a (decided t w none v) begin = verdict_begins (length v.race.history) v.verdict (sym (ap second_of v.is) ∙ begin)
+verify_begins : (entry : List ℕ) (o : race.Options) (text : List ℕ) (a : Answer) → ReportsVerify entry o text a → second_of a ≡ 99 → ⊥
+verify_begins entry o text a (refused_verify r) begin = typed_begins entry text a r begin
+verify_begins entry o text a (unlowered t w r) begin = lowering_begins t a r begin
+verify_begins entry o text a (decided t w none v) begin = verdict_begins (length v.race.history) v.verdict (sym (ap second_of v.is) ∙ begin)
 
 -- an answer that begins as `accepted` does is safe
 reports_begin : (words : List (List ℕ)) (texts : Texts) (a : Answer) → Reports words texts a → (a ≡ accepted_answer → CheckedIsSafe words texts) → second_of a ≡ 99 → ProgramIsSafe words texts
-reports_begin words texts a (usage none no_replay no_print no_verify is) safe begin = absurd (let e : 115 ≡ 99 = sym (ap second_of is) ∙ begin in omega arith)
-reports_begin words texts a (printing program text asked found print) safe begin = absurd (print_begins text a print begin)
-reports_begin words texts a (checked program second text asked found check) safe begin =
-    accepted_is_safe words texts program second text a asked found (check_begins text (text_named second texts) a check begin) safe
-reports_begin words texts a (replaying program second text asked found replay) safe begin = absurd (replay_begins text (text_named second texts) a replay begin)
-reports_begin words texts a (verifying program text asked found verify) safe begin = absurd (verify_begins text a verify begin)
+reports_begin words texts a (usage none is) safe begin = absurd (let e : 115 ≡ 99 = sym (ap second_of is) ∙ begin in omega arith)
+reports_begin words texts a (printing s program text asked found print) safe begin = absurd (print_begins text a print begin)
+reports_begin words texts a (checked s program second text asked found check) safe begin =
+    accepted_is_safe words texts s program second text a asked found (check_begins s.entry text (text_named second texts) a check begin) safe
+reports_begin words texts a (replaying s program second text asked found replay) safe begin = absurd (replay_begins s.entry text (text_named second texts) a replay begin)
+reports_begin words texts a (verifying s program text asked found verify) safe begin = absurd (verify_begins s.entry (limits_of s) text a verify begin)
 
 seam : (b xs : List ℕ) → get_or (b ++ xs) (suc (length b)) 0 ≡ get_or xs 1 0
 seam [] xs = refl
@@ -430,74 +442,67 @@ zero_is_safe words (Some shown) a r s v z = reports_safe words shown a r s v z
 -- ---- what is accepted is safe
 
 -- where the graph has no error word, the program of the text is safe
-pub text_is_safe : (text : List ℕ) (t : TypedProgram) (g : Graph) → IsTypedText text t → IsGraphOf t g → HasNoErrorWord g → TextIsSafe text
-text_is_safe text t g w h none = λ u k. graph_is_safe u g (subst (λ (v : TypedProgram). IsGraphOf v g) (sym (one_typed text t u w k)) h) none
+pub text_is_safe : (entry : List ℕ) (text : List ℕ) (t : TypedProgram) (g : Graph) → IsTypedText entry text t → IsGraphOf t g → HasNoErrorWord g → TextIsSafe entry text
+text_is_safe entry text t g w h none = λ u k. graph_is_safe u g (subst (λ (v : TypedProgram). IsGraphOf v g) (sym (one_typed entry text t u w k)) h) none
+
+one_text : (x y : List ℕ) → Some x ≡ Some y → x ≡ y
+one_text x y e = cc
+
+-- what the text that was read means is what the words ask for
+meant_by : (words : List (List ℕ)) (mode : Mode) (o : Options) (name text : List ℕ) (shown : Texts) (s : Settings) (x : Task) (read : List ℕ) (t : TypedProgram) →
+    Asks words mode o → name ≡ program_name mode → program_of (task mode) ≡ program_name mode → text_named name shown ≡ Some text →
+    Ask words s x → text_named (program_of x) shown ≡ Some read → IsTypedText s.entry read t → IsTypedText o.entry.now text t
+meant_by words mode o name text shown s x read t ask same is h asked found typed =
+    let named : program_of x ≡ name = sym (same ∙ sym is ∙ ap program_of (same_task words (settings o) s (task mode) x ask asked)) in
+    let same_texts : read ≡ text = one_text read text (sym found ∙ ap (λ (n : List ℕ). text_named n shown) named ∙ h) in
+    let entries : s.entry ≡ o.entry.now = sym (ap (λ (u : Settings). u.entry) (same_settings words (settings o) s (task mode) x ask asked)) in
+    subst (λ (e : List ℕ). IsTypedText e text t) entries (subst (λ (y : List ℕ). IsTypedText s.entry y t) same_texts typed)
+
+program_is : (mode : Mode) → program_of (task mode) ≡ program_name mode
+program_is (modes.Check program second) = refl
+program_is (modes.Replay program second) = refl
+program_is (modes.Print program) = refl
+program_is (modes.Verify program) = refl
 
 -- the words ask for the check of a program that is safe
-pub check_is_safe : (words : List (List ℕ)) (mode : Mode) (program second : Bor (List ℕ)) (name text : List ℕ) (r : Result code.Answer Halt) (texts : Option Texts) →
-    Asks words mode → mode ≡ Check program second → name ≡ program_name mode → IfSome texts (λ shown. (text_named name shown ≡ Some text) × (length text ≤ program_limit)) →
-    IfOk r (λ a. answered a ≡ accepted_answer → TextIsSafe text) →
+pub check_is_safe : (words : List (List ℕ)) (mode : Mode) (o : Options) (name text : List ℕ) (r : Result code.Answer Halt) (texts : Option Texts) →
+    Asks words mode o → name ≡ program_name mode → IfSome texts (λ shown. (text_named name shown ≡ Some text) × (length text ≤ program_limit)) →
+    IfOk r (λ a. answered a ≡ accepted_answer → TextIsSafe o.entry.now text) →
     IfOk r (λ a. answered a ≡ accepted_answer → IfSome texts (λ shown. CheckedIsSafe words shown))
-check_is_safe words mode program second name text (Err e) texts ask is same h s = tt
-check_is_safe words mode program second name text (Ok a) None ask is same h s = λ e. tt
-check_is_safe words mode program second name text (Ok a) (Some shown) ask is same h s = λ e t k.
-    let asked : AskCheck words program.now second.now = subst (Asks words) is ask in
-    let named : name ≡ k.program = same ∙ ap program_name is ∙ second_word program.now k.program second.now k.second (sym asked ∙ k.asked) in
-    let read : k.text ≡ text = one_text k.text text (sym k.found ∙ ap (λ (n : List ℕ). text_named n shown) (sym named) ∙ h.0) in
-    s e t (subst (λ (x : List ℕ). IsTypedText x t) read k.typed)
-  where
-    second_word : (p q x y : List ℕ) → codes "check" ∷ p ∷ x ∷ [] ≡ codes "check" ∷ q ∷ y ∷ [] → p ≡ q
-    second_word p q x y e = cc
-
-    one_text : (x y : List ℕ) → Some x ≡ Some y → x ≡ y
-    one_text x y e = cc
+check_is_safe words mode o name text (Err e) texts ask same h s = tt
+check_is_safe words mode o name text (Ok a) None ask same h s = λ e. tt
+check_is_safe words mode o name text (Ok a) (Some shown) ask same h s = λ e t k.
+    s e t (meant_by words mode o name text shown k.settings (Check k.program k.second) k.text t ask same (program_is mode) h.0 k.asked k.found k.typed)
 
 -- ---- what is verified is safe
 
 -- the words do not ask for a verdict
 abbrev pub IsNoVerify : Mode → Type 0
-IsNoVerify (Check program second) = Unit {0}
-IsNoVerify (Replay program second) = Unit {0}
-IsNoVerify (Print program) = Unit {0}
-IsNoVerify (Verify program) = ⊥
+IsNoVerify (modes.Check program second) = Unit {0}
+IsNoVerify (modes.Replay program second) = Unit {0}
+IsNoVerify (modes.Print program) = Unit {0}
+IsNoVerify (modes.Verify program) = ⊥
 
-three_is_not_two : (n : ℕ) → n ≡ 3 → n ≡ 2 → ⊥
-three_is_not_two n d e = omega arith
-
-abbrev first_word : List (List ℕ) → List ℕ
-first_word [] = []
-first_word (w ∷ ws) = w
-
-not_verified : (words : List (List ℕ)) (mode : Mode) (p : List ℕ) → Asks words mode → IsNoVerify mode → AskVerify words p → ⊥
-not_verified words (Check program second) p ask n v =
-    three_is_not_two (length words) (ap (λ (xs : List (List ℕ)). length xs) ask) (ap (λ (xs : List (List ℕ)). length xs) v)
-not_verified words (Replay program second) p ask n v =
-    three_is_not_two (length words) (ap (λ (xs : List (List ℕ)). length xs) ask) (ap (λ (xs : List (List ℕ)). length xs) v)
-not_verified words (Print program) p ask n v =
-    let five : length (first_word words) ≡ 5 = ap (λ (xs : List (List ℕ)). length (first_word xs)) ask in
-    let six : length (first_word words) ≡ 6 = ap (λ (xs : List (List ℕ)). length (first_word xs)) v in
-    omega arith
-not_verified words (Verify program) p ask n v = n
+not_verified : (words : List (List ℕ)) (mode : Mode) (o : Options) (s : Settings) (p : List ℕ) → Asks words mode o → IsNoVerify mode → Ask words s (Verify p) → ⊥
+not_verified words (modes.Check program second) o s p ask n v =
+    only_one words (settings o) s (Check program.now second.now) (Verify p) ask v (λ (e : 0 ≡ 3). omega arith)
+not_verified words (modes.Replay program second) o s p ask n v =
+    only_one words (settings o) s (Replay program.now second.now) (Verify p) ask v (λ (e : 1 ≡ 3). omega arith)
+not_verified words (modes.Print program) o s p ask n v =
+    only_one words (settings o) s (Print program.now) (Verify p) ask v (λ (e : 2 ≡ 3). omega arith)
+not_verified words (modes.Verify program) o s p ask n v = n
 
 -- the words do not ask for a verdict, so nothing is to be shown of one
-pub unverified : (words : List (List ℕ)) (mode : Mode) (r : Result code.Answer Halt) (texts : Option Texts) → Asks words mode → IsNoVerify mode →
+pub unverified : (words : List (List ℕ)) (mode : Mode) (o : Options) (r : Result code.Answer Halt) (texts : Option Texts) → Asks words mode o → IsNoVerify mode →
     IfOk r (λ a. (answered a).status ≡ 0 → IfSome texts (λ shown. VerifiedIsSafe words shown))
-unverified words mode (Err e) texts ask n = tt
-unverified words mode (Ok a) texts ask n = λ z. told (λ shown. VerifiedIsSafe words shown) texts (λ shown t k. absurd (not_verified words mode k.program ask n k.asked))
+unverified words mode o (Err e) texts ask n = tt
+unverified words mode o (Ok a) texts ask n =
+    λ z. told (λ shown. VerifiedIsSafe words shown) texts (λ shown t k. absurd (not_verified words mode o k.settings k.program ask n k.asked))
 
 -- the program is as safe as the text that was read
-pub verify_is_safe : (words : List (List ℕ)) (mode : Mode) (program : Bor (List ℕ)) (name text : List ℕ) (a : Answer) (texts : Option Texts) →
-    Asks words mode → mode ≡ Verify program → name ≡ program_name mode → IfSome texts (λ shown. (text_named name shown ≡ Some text) × (length text ≤ program_limit)) →
-    (a.status ≡ 0 → TextIsSafe text) → a.status ≡ 0 → IfSome texts (λ shown. VerifiedIsSafe words shown)
-verify_is_safe words mode program name text a None ask is same h s z = tt
-verify_is_safe words mode program name text a (Some shown) ask is same h s z = λ t k.
-    let asked : AskVerify words program.now = subst (Asks words) is ask in
-    let named : name ≡ k.program = same ∙ ap program_name is ∙ second_word program.now k.program (sym asked ∙ k.asked) in
-    let read : k.text ≡ text = one_text k.text text (sym k.found ∙ ap (λ (n : List ℕ). text_named n shown) (sym named) ∙ h.0) in
-    s z t (subst (λ (x : List ℕ). IsTypedText x t) read k.typed)
-  where
-    second_word : (p q : List ℕ) → codes "verify" ∷ p ∷ [] ≡ codes "verify" ∷ q ∷ [] → p ≡ q
-    second_word p q e = cc
-
-    one_text : (x y : List ℕ) → Some x ≡ Some y → x ≡ y
-    one_text x y e = cc
+pub verify_is_safe : (words : List (List ℕ)) (mode : Mode) (o : Options) (name text : List ℕ) (a : Answer) (texts : Option Texts) →
+    Asks words mode o → name ≡ program_name mode → IfSome texts (λ shown. (text_named name shown ≡ Some text) × (length text ≤ program_limit)) →
+    (a.status ≡ 0 → TextIsSafe o.entry.now text) → a.status ≡ 0 → IfSome texts (λ shown. VerifiedIsSafe words shown)
+verify_is_safe words mode o name text a None ask same h s z = tt
+verify_is_safe words mode o name text a (Some shown) ask same h s z = λ t k.
+    s z t (meant_by words mode o name text shown k.settings (Verify k.program) k.text t ask same (program_is mode) h.0 k.asked k.found k.typed)

@@ -21,7 +21,7 @@ use Rattle.race_verdicts.specs.declared.verdicts.Verdict.{Verdict}
 use Rattle.race_verdicts.specs.declared.verdicts.Verdict.TheVariants.{Safe, Unsafe, Unknown}
 use Rattle.race_verdicts.specs.Verdicts.{IsVerdict}
 use Rattle.race_verdicts.specs.Texts.{verdict_text, ChoicesFit}
-use Rattle.automizer_top.specs.Verdicts.{default_options, IsClosedRace, verdict_status}
+use Rattle.automizer_top.specs.Verdicts.{IsClosedRace, verdict_status}
 use Rattle.automizer_top.specs.Report.{Answer, verdict_answer, IsTypedText, ReportsVerdict, ReportsVerify, decided}
 use Rattle.automizer_top.specs.Answers.{answered, IsGraphOf, HasNoErrorWord, TextIsSafe}
 use Rattle.automizer_top.specs.declared.answer.Answer as code
@@ -37,10 +37,10 @@ fits t r (Safe a) h = tt
 fits t r (Unsafe f) h = h.failure.bounds.choices
 fits t r (Unknown cause w) h = tt
 
-pub reports : (t : TypedProgram) (r : Race Certificate) (v : Verdict) (text : List ℕ) (left rounds : ℕ) → IsRaceOf t default_options r → IsVerdict t r v →
+pub reports : (o : Options) (t : TypedProgram) (r : Race Certificate) (v : Verdict) (text : List ℕ) (left rounds : ℕ) → IsRaceOf t o r → IsVerdict t r v →
     IsLegal automaton_in IsFeasibleFor r.program r.history → left + length r.history ≡ r.limit → rounds ≡ length r.history → text ≡ verdict_text rounds v →
-    ReportsVerdict t (record { bytes = text; status = verdict_status v; races = r ∷ [] })
-reports t r v text left rounds race of_end legal room n same_text = record {
+    ReportsVerdict o t (record { bytes = text; status = verdict_status v; races = r ∷ [] })
+reports o t r v text left rounds race of_end legal room n same_text = record {
   race = r;
   verdict = v;
   closed = record { race = race; legal = legal; within = let l = race.limit in omega (arith, room, l) };
@@ -56,12 +56,12 @@ safe_is_infeasible t g r (Unknown cause w) h k s z = absurd (omega arith)
 
 -- ---- what was decided, of a text
 
-pub decided_reported : (text : List ℕ) (t : TypedProgram) (g : Graph) (r : Result code.Answer AllocError) → IsTypedText text t → IsGraphOf t g →
-    IfOk r (λ a. ReportsVerdict t (answered a)) → IfOk r (λ a. ReportsVerify text (answered a))
-decided_reported text t g (Ok a) w h v = decided t w h.fits v
-decided_reported text t g (Err e) w h v = tt
+pub decided_reported : (entry : List ℕ) (o : Options) (text : List ℕ) (t : TypedProgram) (g : Graph) (r : Result code.Answer AllocError) → IsTypedText entry text t → IsGraphOf t g →
+    IfOk r (λ a. ReportsVerdict o t (answered a)) → IfOk r (λ a. ReportsVerify entry o text (answered a))
+decided_reported entry o text t g (Ok a) w h v = decided t w h.fits v
+decided_reported entry o text t g (Err e) w h v = tt
 
-pub decided_is_safe : (text : List ℕ) (t : TypedProgram) (g : Graph) (r : Result code.Answer AllocError) → IsTypedText text t → IsGraphOf t g →
-    IfOk r (λ a. (answered a).status ≡ 0 → HasNoErrorWord g) → IfOk r (λ a. (answered a).status ≡ 0 → TextIsSafe text)
-decided_is_safe text t g (Ok a) w h s = λ z. text_is_safe text t g w h (s z)
-decided_is_safe text t g (Err e) w h s = tt
+pub decided_is_safe : (entry text : List ℕ) (t : TypedProgram) (g : Graph) (r : Result code.Answer AllocError) → IsTypedText entry text t → IsGraphOf t g →
+    IfOk r (λ a. (answered a).status ≡ 0 → HasNoErrorWord g) → IfOk r (λ a. (answered a).status ≡ 0 → TextIsSafe entry text)
+decided_is_safe entry text t g (Ok a) w h s = λ z. text_is_safe entry text t g w h (s z)
+decided_is_safe entry text t g (Err e) w h s = tt

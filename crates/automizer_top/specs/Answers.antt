@@ -3,7 +3,8 @@ use Rattle.std.specs.Prelude.{◌≡◌, ℕ, List, [], ◌∷◌, None, codes}
 use Rattle.automizer_top.specs.declared.answer.Answer.{Answer}
 use Rattle.automizer_top.specs.declared.answer.Answer.TheVariants.{Usage, TooLong, Refused, IllTyped, TooWide, TooBig, Printed, Syntax, Accepted, Rejected, Replayed, Stopped, Decided}
 use Rattle.automizer_top.specs.declared.words.Mode.{Mode}
-use Rattle.automizer_top.specs.declared.words.Mode.TheVariants.{Check, Replay, Print, Verify}
+use Rattle.automizer_top.specs.declared.words.Options.{Options}
+use Rattle.automizer_top.specs.Asked.{task, settings}
 use Rattle.automizer_top.specs.Refusals.{refusal}
 use Rattle.automizer_top.specs.TypeRefusals.{type_refusal}
 use Rattle.typed_tree.specs.TypedTree.{TypedProgram}
@@ -35,26 +36,9 @@ answered (Replayed id) = report.replayed_answer id
 answered (Stopped step cause) = report.stopped_answer step cause
 answered (Decided text verdict race) = record { bytes = text.items; status = verdict_status verdict; races = race ∷ [] }
 
--- the words ask for nothing that the program does
-pub record AsksNothing (words : List (List ℕ)) : Type 0 where
-  pub no_check : (program second : List ℕ) → report.AskCheck words program second → ⊥
-  pub no_replay : (program second : List ℕ) → report.AskReplay words program second → ⊥
-  pub no_print : (program : List ℕ) → report.AskPrint words program → ⊥
-  pub no_verify : (program : List ℕ) → report.AskVerify words program → ⊥
-
--- the words ask for this
-abbrev pub Asks : List (List ℕ) → Mode → Type 0
-Asks words (Check program second) = report.AskCheck words program.now second.now
-Asks words (Replay program second) = report.AskReplay words program.now second.now
-Asks words (Print program) = report.AskPrint words program.now
-Asks words (Verify program) = report.AskVerify words program.now
-
--- the name of the program text
-abbrev pub program_name : Mode → List ℕ
-program_name (Check program second) = program.now
-program_name (Replay program second) = program.now
-program_name (Print program) = program.now
-program_name (Verify program) = program.now
+-- the words ask for this, with these options
+abbrev pub Asks : List (List ℕ) → Mode → Options → Type 0
+Asks words mode o = report.Ask words (settings o) (task mode)
 
 -- the graph of a program that can be lowered
 pub record IsGraphOf (t : TypedProgram) (g : Graph) : Type 0 where
@@ -66,9 +50,9 @@ pub record IsGraphOf (t : TypedProgram) (g : Graph) : Type 0 where
 abbrev pub HasNoErrorWord : Graph → Type 0
 HasNoErrorWord g = (w : List Letter) → Accepts g.automaton w → IsFeasible (alphabet_of g) w → ⊥
 
--- the program of the text is safe, if it keeps the typing rules
-abbrev pub TextIsSafe : List ℕ → Type 0
-TextIsSafe text = (t : TypedProgram) → report.IsTypedText text t → IsSafe t
+-- the program of the text is safe, if it keeps the typing rules, where runs begin at the procedure `entry`
+abbrev pub TextIsSafe : List ℕ → List ℕ → Type 0
+TextIsSafe entry text = (t : TypedProgram) → report.IsTypedText entry text t → IsSafe t
 
 -- the program whose verdict the words ask for is safe
 abbrev pub VerifiedIsSafe : List (List ℕ) → List (List ℕ × List ℕ) → Type 0

@@ -1,6 +1,9 @@
 pub mod Refusals
 pub mod TypeRefusals
 pub mod LoweringRefusals
+pub mod CommandLine
+pub mod Asked
 pub mod Verdicts
 pub mod Report
 pub mod Answers
+pub mod Completeness

@@ -34,7 +34,9 @@ use Rattle.itp_automaton.specs.Certified.{Certificate}
 use Rattle.race_verdicts.specs.declared.verdicts.Verdict.{Verdict}
 use Rattle.race_verdicts.specs.Verdicts.{IsVerdict}
 use Rattle.race_verdicts.specs.Texts.{verdict_text}
-use Rattle.automizer_top.specs.Verdicts.{default_options, IsClosedRace, verdict_status}
+use Rattle.race_rounds.specs.Ends.{Options}
+use Rattle.automizer_top.specs.CommandLine.{Task, Check, Replay, Print, Verify, Settings, limits_of, requested}
+use Rattle.automizer_top.specs.Verdicts.{IsClosedRace, verdict_status}
 use Rattle.automizer_top.specs.Refusals.{refusal}
 use Rattle.automizer_top.specs.TypeRefusals.{type_refusal}
 use Rattle.automizer_top.specs.LoweringRefusals.{lowering_refusal}
@@ -55,21 +57,9 @@ program_limit = 1048576
 abbrev pub second_limit : ℕ
 second_limit = 2 ^ 63 - 1
 
--- the words ask for a check of the program of that name by the annotation of that name
-abbrev pub AskCheck : List (List ℕ) → List ℕ → List ℕ → Type 0
-AskCheck words program second = words ≡ codes "check" ∷ program ∷ second ∷ []
-
--- the words ask for a replay of the program of that name with the failure of that name
-abbrev pub AskReplay : List (List ℕ) → List ℕ → List ℕ → Type 0
-AskReplay words program second = words ≡ codes "replay" ∷ program ∷ second ∷ []
-
--- the words ask for the printing of the program of that name
-abbrev pub AskPrint : List (List ℕ) → List ℕ → Type 0
-AskPrint words program = words ≡ codes "print" ∷ program ∷ []
-
--- the words ask for the verdict on the program of that name
-abbrev pub AskVerify : List (List ℕ) → List ℕ → Type 0
-AskVerify words program = words ≡ codes "verify" ∷ program ∷ []
+-- the words ask for this task, with these settings
+abbrev pub Ask : List (List ℕ) → Settings → Task → Type 0
+Ask words s task = requested words ≡ Some (record { task = task; settings = s })
 
 -- an answer without a race
 abbrev pub answer : List ℕ → ℕ → Answer
@@ -117,13 +107,9 @@ replayed_answer id = answer (codes "replayed assertion " ++ (decimal id.number +
 abbrev pub stopped_answer : ℕ → ReplayCause → Answer
 stopped_answer step cause = answer (rejected_line step (cause_name cause)) 1
 
--- the procedure at which runs begin
-abbrev pub entry : List ℕ
-entry = codes "main"
-
 -- a typing rule is broken, and the fault names it
-abbrev pub IsIllTyped : List Declaration → TypeFault → Type 0
-IsIllTyped ds f = IsTypeFault ds entry f × (f ≡ type_faults.Memory → ⊥)
+abbrev pub IsIllTyped : List ℕ → List Declaration → TypeFault → Type 0
+IsIllTyped entry ds f = IsTypeFault ds entry f × (f ≡ type_faults.Memory → ⊥)
 
 -- What is answered to a program text that is refused: it is too long, or no program; the first fault decides.
 pub data RefusesProgram (program : List ℕ) (a : Answer) : Type 0 where
@@ -136,15 +122,15 @@ pub data ReportsPrint (program : List ℕ) (a : Answer) : Type 0 where
   printed : (ds : List Declaration) → length program ≤ program_limit → IsProgram program ds → a ≡ answer (program_text ds) 0 →
       ReportsPrint program a
 
--- What is answered to a program text that is refused before it is run or lowered: it is no program, or it breaks a typing rule. Of
--- several rules that are broken any may be named.
-pub data RefusesTyped (program : List ℕ) (a : Answer) : Type 0 where
-  refused_text : RefusesProgram program a → RefusesTyped program a
-  ill_typed : (ds : List Declaration) (f : TypeFault) → length program ≤ program_limit → IsProgram program ds → IsIllTyped ds f →
-      a ≡ answer (type_refusal f) 3 → RefusesTyped program a
+-- What is answered to a program text that is refused before it is run or lowered: it is no program, or it breaks a typing rule, where
+-- runs begin at the procedure `entry`. Of several rules that are broken any may be named.
+pub data RefusesTyped (entry program : List ℕ) (a : Answer) : Type 0 where
+  refused_text : RefusesProgram program a → RefusesTyped entry program a
+  ill_typed : (ds : List Declaration) (f : TypeFault) → length program ≤ program_limit → IsProgram program ds → IsIllTyped entry ds f →
+      a ≡ answer (type_refusal f) 3 → RefusesTyped entry program a
 
--- The text is that of a program that keeps the typing rules; this is what it means.
-pub record IsTypedText (program : List ℕ) (t : TypedProgram) : Type 0 where
+-- The text is that of a program that keeps the typing rules; this is what it means, where runs begin at the procedure `entry`.
+pub record IsTypedText (entry program : List ℕ) (t : TypedProgram) : Type 0 where
   pub short : length program ≤ program_limit
   pub tree : List Declaration
   pub spelled : IsProgram program tree
@@ -176,11 +162,11 @@ pub data ReportsProof (g : Graph) (second : Option (List ℕ)) (a : Answer) : Ty
 
 -- What is answered to a program text and to what the second name stands for, where it is to be checked. The cases exclude each
 -- other. A program that is refused, also one that cannot be lowered, is so whatever the second name stands for.
-pub data ReportsCheck (program : List ℕ) (second : Option (List ℕ)) (a : Answer) : Type 0 where
-  refused_check : RefusesTyped program a → ReportsCheck program second a
-  not_lowered : (t : TypedProgram) → IsTypedText program t → RefusesLowering t a → ReportsCheck program second a
-  of_lowered : (t : TypedProgram) → IsTypedText program t → first_fault t ≡ None → ReportsProof (lowered t) second a →
-      ReportsCheck program second a
+pub data ReportsCheck (entry program : List ℕ) (second : Option (List ℕ)) (a : Answer) : Type 0 where
+  refused_check : RefusesTyped entry program a → ReportsCheck entry program second a
+  not_lowered : (t : TypedProgram) → IsTypedText entry program t → RefusesLowering t a → ReportsCheck entry program second a
+  of_lowered : (t : TypedProgram) → IsTypedText entry program t → first_fault t ≡ None → ReportsProof (lowered t) second a →
+      ReportsCheck entry program second a
 
 -- The text is that of a failure.
 pub record IsFailureText (text : List ℕ) (f : PlainFailure) : Type 0 where
@@ -200,37 +186,35 @@ pub data ReportsFailure (t : TypedProgram) (second : Option (List ℕ)) (a : Ans
 
 -- What is answered to a program text and to what the second name stands for, where it is to be replayed. The cases exclude each
 -- other. A program that is refused is so whatever the second name stands for.
-pub data ReportsReplay (program : List ℕ) (second : Option (List ℕ)) (a : Answer) : Type 0 where
-  refused_replay : RefusesTyped program a → ReportsReplay program second a
-  of_typed : (t : TypedProgram) → IsTypedText program t → ReportsFailure t second a → ReportsReplay program second a
+pub data ReportsReplay (entry program : List ℕ) (second : Option (List ℕ)) (a : Answer) : Type 0 where
+  refused_replay : RefusesTyped entry program a → ReportsReplay entry program second a
+  of_typed : (t : TypedProgram) → IsTypedText entry program t → ReportsFailure t second a → ReportsReplay entry program second a
 
 -- What is answered to a program that can be lowered, where its verdict is asked for: the verdict for which a race over it has ended.
-pub record ReportsVerdict (t : TypedProgram) (a : Answer) : Type 0 where
+pub record ReportsVerdict (o : Options) (t : TypedProgram) (a : Answer) : Type 0 where
   pub race : Race Certificate
   pub verdict : Verdict
-  pub closed : IsClosedRace t default_options race
+  pub closed : IsClosedRace t o race
   pub of_end : IsVerdict t race verdict
   pub is : a ≡ verdict_answer race verdict
 
 -- What is answered to a program text whose verdict is asked for. The cases exclude each other; of several verdicts any may be told.
-pub data ReportsVerify (program : List ℕ) (a : Answer) : Type 0 where
-  refused_verify : RefusesTyped program a → ReportsVerify program a
-  unlowered : (t : TypedProgram) → IsTypedText program t → RefusesLowering t a → ReportsVerify program a
-  decided : (t : TypedProgram) → IsTypedText program t → first_fault t ≡ None → ReportsVerdict t a → ReportsVerify program a
+pub data ReportsVerify (entry : List ℕ) (o : Options) (program : List ℕ) (a : Answer) : Type 0 where
+  refused_verify : RefusesTyped entry program a → ReportsVerify entry o program a
+  unlowered : (t : TypedProgram) → IsTypedText entry program t → RefusesLowering t a → ReportsVerify entry o program a
+  decided : (t : TypedProgram) → IsTypedText entry program t → first_fault t ≡ None → ReportsVerdict o t a → ReportsVerify entry o program a
 
--- The report: to words that ask for none of these the usage line, to others what the named texts give.
+-- The report: to words that ask for nothing the usage line, to others what the named texts give.
 pub data Reports (words : List (List ℕ)) (texts : List (List ℕ × List ℕ)) (a : Answer) : Type 0 where
-  usage : ((program second : List ℕ) → AskCheck words program second → ⊥) → ((program second : List ℕ) → AskReplay words program second → ⊥) →
-      ((program : List ℕ) → AskPrint words program → ⊥) → ((program : List ℕ) → AskVerify words program → ⊥) → a ≡ answer usage_line 4 →
+  usage : requested words ≡ None → a ≡ answer usage_line 4 → Reports words texts a
+  verifying : (s : Settings) (program text : List ℕ) → Ask words s (Verify program) → text_named program texts ≡ Some text →
+      ReportsVerify s.entry (limits_of s) text a → Reports words texts a
+  printing : (s : Settings) (program text : List ℕ) → Ask words s (Print program) → text_named program texts ≡ Some text → ReportsPrint text a →
       Reports words texts a
-  verifying : (program text : List ℕ) → AskVerify words program → text_named program texts ≡ Some text → ReportsVerify text a →
-      Reports words texts a
-  printing : (program text : List ℕ) → AskPrint words program → text_named program texts ≡ Some text → ReportsPrint text a →
-      Reports words texts a
-  checked : (program second text : List ℕ) → AskCheck words program second →
-      text_named program texts ≡ Some text → ReportsCheck text (text_named second texts) a → Reports words texts a
-  replaying : (program second text : List ℕ) → AskReplay words program second →
-      text_named program texts ≡ Some text → ReportsReplay text (text_named second texts) a → Reports words texts a
+  checked : (s : Settings) (program second text : List ℕ) → Ask words s (Check program second) → text_named program texts ≡ Some text →
+      ReportsCheck s.entry text (text_named second texts) a → Reports words texts a
+  replaying : (s : Settings) (program second text : List ℕ) → Ask words s (Replay program second) → text_named program texts ≡ Some text →
+      ReportsReplay s.entry text (text_named second texts) a → Reports words texts a
 
 -- the answer says that a typing rule is broken
 abbrev pub IsTypingRefusal : Answer → Type 0
@@ -238,36 +222,40 @@ IsTypingRefusal a = (f : TypeFault) × (a ≡ answer (type_refusal f) 3)
 
 -- the answer is a verdict on this program
 abbrev pub IsVerdictOn : List (List ℕ) → List (List ℕ × List ℕ) → TypedProgram → Answer → Type 0
-IsVerdictOn words texts t a = (program text : List ℕ) × AskVerify words program × (text_named program texts ≡ Some text)
-    × IsTypedText text t × ReportsVerdict t a
+IsVerdictOn words texts t a = (s : Settings) × (program text : List ℕ) × Ask words s (Verify program) × (text_named program texts ≡ Some text)
+    × IsTypedText s.entry text t × ReportsVerdict (limits_of s) t a
 
 -- The words ask for the printing of a program that stands in the texts.
 abbrev pub PrintsProgram : List (List ℕ) → List (List ℕ × List ℕ) → Type 0
-PrintsProgram words texts = (program text : List ℕ) × (ds : List Declaration) × AskPrint words program
+PrintsProgram words texts = (s : Settings) × (program text : List ℕ) × (ds : List Declaration) × Ask words s (Print program)
     × (text_named program texts ≡ Some text) × IsProgram text ds
 
 -- The words ask for a check of this program, which stands in the texts and keeps the typing rules.
 pub record AsksForCheck (words : List (List ℕ)) (texts : List (List ℕ × List ℕ)) (t : TypedProgram) : Type 0 where
+  pub settings : Settings
   pub program : List ℕ
   pub second : List ℕ
-  pub asked : AskCheck words program second
+  pub asked : Ask words settings (Check program second)
   pub text : List ℕ
   pub found : text_named program texts ≡ Some text
-  pub typed : IsTypedText text t
+  pub typed : IsTypedText settings.entry text t
 
--- The program has the same text in both, and the second name stands for the bytes of an answer, which are within their limit.
-pub record IsHandedOver (program second : List ℕ) (before after : List (List ℕ × List ℕ)) (a : Answer) : Type 0 where
+-- The program has the same text and the same entry in both, and the second name stands for the bytes of an answer, which are within their
+-- limit.
+pub record IsHandedOver (program second : List ℕ) (r s : Settings) (before after : List (List ℕ × List ℕ)) (a : Answer) : Type 0 where
+  pub entry : s.entry ≡ r.entry
   pub same : text_named program after ≡ text_named program before
   pub given : text_named second after ≡ Some a.bytes
   pub short : length a.bytes ≤ second_limit
 
 -- The words ask for the verdict on this program, which stands in the texts and keeps the typing rules.
 pub record AsksForVerdict (words : List (List ℕ)) (texts : List (List ℕ × List ℕ)) (t : TypedProgram) : Type 0 where
+  pub settings : Settings
   pub program : List ℕ
-  pub asked : AskVerify words program
+  pub asked : Ask words settings (Verify program)
   pub text : List ℕ
   pub found : text_named program texts ≡ Some text
-  pub typed : IsTypedText text t
+  pub typed : IsTypedText settings.entry text t
 
 -- The program whose check or verdict they ask for is safe: no run of it fails an assertion.
 abbrev pub ProgramIsSafe : List (List ℕ) → List (List ℕ × List ℕ) → Type 0
@@ -276,9 +264,10 @@ ProgramIsSafe words texts = (t : TypedProgram) × (AsksForCheck words texts t �
 -- The words ask for the replay of a failure of a program, both of which stand in the texts, and its values lead to the failure of
 -- this assertion.
 pub record AsksForFailing (words : List (List ℕ)) (texts : List (List ℕ × List ℕ)) (program second text values : List ℕ) (t : TypedProgram) (f : PlainFailure) (id : AssertId) : Type 0 where
-  pub asked : AskReplay words program second
+  pub settings : Settings
+  pub asked : Ask words settings (Replay program second)
   pub found : text_named program texts ≡ Some text
-  pub typed : IsTypedText text t
+  pub typed : IsTypedText settings.entry text t
   pub told : text_named second texts ≡ Some values
   pub read : IsFailureText values f
   pub replays : IsReplayed t f.steps f.choices id

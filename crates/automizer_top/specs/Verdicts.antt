@@ -9,10 +9,6 @@ use Rattle.race_rounds.specs.Rounds.{automaton_in, IsRaceOf}
 use Rattle.race_verdicts.specs.declared.verdicts.Verdict.{Verdict}
 use Rattle.race_verdicts.specs.declared.verdicts.Verdict.TheVariants.{Safe, Unsafe, Unknown}
 
--- the options where the words name none
-abbrev pub default_options : Options
-default_options = record { rounds = 1000; depth = 16 }
-
 -- A race over the program: its history is legal and within the rounds, its automata are certified and saturated for the program, and it has
 -- met its end.
 pub record IsClosedRace (t : TypedProgram) (o : Options) (r : Race Certificate) : Type 0 where

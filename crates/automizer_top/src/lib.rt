@@ -8,4 +8,4 @@ mod running;
 mod tests;
 mod words;
 
-pub use running::{one_report, run, verdicts_agree, verdicts_are_confirmed};
+pub use running::{one_report, run, verdicts_agree, verdicts_are_complete, verdicts_are_confirmed};

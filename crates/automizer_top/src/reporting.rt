@@ -1,4 +1,4 @@
-ghost use Rattle.std.specs.Prelude.{◌≡◌, ◌≢◌, ◌≤◌, ◌<◌, length, map, Some, Err, IfOk, IfSome, IsSome, MatchOption, MatchResult, vec_len};
+ghost use Rattle.std.specs.Prelude.{◌≡◌, ◌≢◌, ◌≤◌, ◌<◌, length, map, Some, None, Err, IfOk, IfSome, IsSome, MatchOption, MatchResult, vec_len};
 ghost use Rattle.std.specs.String.{string_bytes};
 ghost use Rattle.outer_io.specs.Faults.{Rose};
 ghost use Rattle.outer_io.specs.Texts.{text_named};
@@ -6,12 +6,15 @@ ghost use Rattle.typed_tree.specs.declared.fault.TypeFault.TheVariants as TypeFa
 ghost use Rattle.typing_rules.specs.TypedParts.{typed_program};
 ghost use Rattle.automizer_top.specs.declared.reporting.Halt.TheVariants.{Fault, Memory};
 ghost use Rattle.automizer_top.specs.Answers.{answered, IsGraphOf, HasNoErrorWord, TextIsSafe, CheckedIsSafe, VerifiedIsSafe};
+ghost use Rattle.race_rounds.specs.Ends.{Options as Limits};
+ghost use Rattle.automizer_top.specs.Asked.{settings};
+ghost use Rattle.automizer_top.specs.CommandLine.{limits_of, requested};
 ghost use Rattle.automizer_top.specs.Refusals.{refusal};
 ghost use Rattle.automizer_top.specs.TypeRefusals.{type_refusal};
 ghost use Rattle.automizer_top.specs.Report.{answer, accepted_answer, IsTypedText, RefusesTyped, RefusesLowering, Reports, ReportsPrint, ReportsProof, ReportsCheck, ReportsReplay, ReportsFailure, ReportsVerdict, ReportsVerify};
 
 use crate::answer::Answer;
-use crate::words::{Mode, asked};
+use crate::words::{Mode, Options, read_words};
 use boogie_parse::{Fault, parse};
 use boogie_tree::print;
 use boogie_types::{TypeFault, Typed, resolve};
@@ -31,15 +34,6 @@ const PROGRAM_LIMIT: u64 = 1_048_576;
 
 /// The most bytes of a second text: the greatest length of a list of bytes.
 const SECOND_LIMIT: u64 = 9_223_372_036_854_775_807;
-
-/// How many rounds a race has at most.
-const ROUNDS: u64 = 1_000;
-
-/// How many cuts a branch of a refutation has at most.
-const DEPTH: u32 = 16;
-
-/// The name of the procedure at which runs begin.
-const ENTRY: &str = "main";
 
 /// Why there is no answer.
 #[derive(Clone, Copy, Debug, PartialEq, Eq)]
@@ -115,18 +109,18 @@ fn ill_typed(fault: TypeFault) -> Result<Answer, AllocError>
     }
 }
 
-/// The typed program of a text, or what is answered where it is the text of none.
-fn typed(alloc: Global, text: &[u8]) -> Result<Result<Typed, Answer>, AllocError>
+/// The typed program of a text whose runs begin at the procedure `entry`, or what is answered where it is the text of none.
+fn typed(alloc: Global, text: &[u8], entry: &str) -> Result<Result<Typed, Answer>, AllocError>
     requires { length text.now ≤ PROGRAM_LIMIT }
     ensures { IfOk result (λ r. MatchResult r
-        (λ t. IsTypedText text.now (typed_program t))
-        (λ a. RefusesTyped text.now (answered a))) }
+        (λ t. IsTypedText entry.now text.now (typed_program t))
+        (λ a. RefusesTyped entry.now text.now (answered a))) }
 {
     let program = match parse(alloc, text) {
         Ok(program) => program,
         Err(fault) => return Ok(Err(refused(fault)?)),
     };
-    match resolve(alloc, program, ENTRY) {
+    match resolve(alloc, program, entry) {
         Ok(typed) => Ok(Ok(typed)),
         Err(fault) => Ok(Err(ill_typed(fault)?)),
     }
@@ -170,17 +164,19 @@ fn checked<H: Shelf>(
     shelf: &mut H,
     text: &[u8],
     second: &str,
+    entry: &str,
 ) -> Result<Answer, Halt>
     requires { length text.now ≤ PROGRAM_LIMIT }
     ensures texts { H.texts shelf.new ≡ H.texts shelf.old }
     ensures reported { IfOk result (λ a. IfSome (H.texts shelf.old) (λ shown.
-        ReportsCheck text.now (text_named second.now shown) (answered a))) }
-    ensures accepted { IfOk result (λ a. answered a ≡ accepted_answer → TextIsSafe text.now) }
+        ReportsCheck entry.now text.now (text_named second.now shown) (answered a))) }
+    ensures accepted { IfOk result (λ a. answered a ≡ accepted_answer → TextIsSafe entry.now text.now) }
+    ensures no_usage { IfOk result (λ a. (answered a).status ≢ 4) }
     ensures fault { result ≡ Err Halt.Fault → Rose (H.faults shelf.old) (H.faults shelf.new) }
     ensures no_fault { result ≢ Err Halt.Fault → H.faults shelf.new ≡ H.faults shelf.old }
     ensures never_falls { H.faults shelf.old ≤ H.faults shelf.new }
 {
-    let program = match typed(alloc, text)? {
+    let program = match typed(alloc, text, entry)? {
         Ok(program) => program,
         Err(answer) => return Ok(answer),
     };
@@ -200,12 +196,16 @@ fn decided<R: Threads + Sync>(
     alloc: Global,
     program: &Typed,
     icfg: &Icfg,
+    rounds: u32,
+    depth: u32,
 ) -> Result<Answer, AllocError>
-    requires { IsGraphOf (typed_program program.now) icfg.now }
-    ensures reported { IfOk result (λ a. ReportsVerdict (typed_program program.now) (answered a)) }
+    requires graph { IsGraphOf (typed_program program.now) icfg.now }
+    requires rounds { (1 ≤ rounds) × (rounds ≤ 100000) }
+    requires depth { depth ≤ 64 }
+    ensures reported { IfOk result (λ a. (o : Limits) → o.rounds ≡ rounds → o.depth ≡ depth → ReportsVerdict o (typed_program program.now) (answered a)) }
     ensures safe { IfOk result (λ a. (answered a).status ≡ 0 → HasNoErrorWord icfg.now) }
 {
-    let race = alone(rt, alloc, program, icfg, ROUNDS, DEPTH)?;
+    let race = alone(rt, alloc, program, icfg, u64::from(rounds), depth)?;
     let verdict = verdict_of(alloc, program, icfg, &race)?;
     let text = verdict_text(alloc, race.version(), &verdict)?;
     // Contracts alone speak of these.
@@ -218,12 +218,19 @@ fn decided<R: Threads + Sync>(
 }
 
 /// What is answered to a program text whose verdict is asked for.
-fn verified<R: Threads + Sync>(rt: &R, alloc: Global, text: &[u8]) -> Result<Answer, AllocError>
-    requires { length text.now ≤ PROGRAM_LIMIT }
-    ensures reported { IfOk result (λ a. ReportsVerify text.now (answered a)) }
-    ensures safe { IfOk result (λ a. (answered a).status ≡ 0 → TextIsSafe text.now) }
+fn verified<R: Threads + Sync>(
+    rt: &R,
+    alloc: Global,
+    text: &[u8],
+    options: &Options<'_>,
+) -> Result<Answer, AllocError>
+    requires text { length text.now ≤ PROGRAM_LIMIT }
+    requires rounds { (1 ≤ options.now.rounds) × (options.now.rounds ≤ 100000) }
+    requires depth { options.now.depth ≤ 64 }
+    ensures reported { IfOk result (λ a. ReportsVerify options.now.entry.now (limits_of (settings options.now)) text.now (answered a)) }
+    ensures safe { IfOk result (λ a. (answered a).status ≡ 0 → TextIsSafe options.now.entry.now text.now) }
 {
-    let program = match typed(alloc, text)? {
+    let program = match typed(alloc, text, options.entry)? {
         Ok(program) => program,
         Err(answer) => return Ok(answer),
     };
@@ -231,7 +238,7 @@ fn verified<R: Threads + Sync>(rt: &R, alloc: Global, text: &[u8]) -> Result<Ans
         Ok(icfg) => icfg,
         Err(answer) => return Ok(answer),
     };
-    decided(rt, alloc, &program, &icfg)
+    decided(rt, alloc, &program, &icfg, options.rounds, options.depth)
 }
 
 /// What is answered to a program and to the text of a failure.
@@ -257,16 +264,18 @@ fn replayed<H: Shelf>(
     shelf: &mut H,
     text: &[u8],
     second: &str,
+    entry: &str,
 ) -> Result<Answer, Halt>
     requires { length text.now ≤ PROGRAM_LIMIT }
     ensures texts { H.texts shelf.new ≡ H.texts shelf.old }
     ensures reported { IfOk result (λ a. IfSome (H.texts shelf.old) (λ shown.
-        ReportsReplay text.now (text_named second.now shown) (answered a))) }
+        ReportsReplay entry.now text.now (text_named second.now shown) (answered a))) }
+    ensures no_usage { IfOk result (λ a. (answered a).status ≢ 4) }
     ensures fault { result ≡ Err Halt.Fault → Rose (H.faults shelf.old) (H.faults shelf.new) }
     ensures no_fault { result ≢ Err Halt.Fault → H.faults shelf.new ≡ H.faults shelf.old }
     ensures never_falls { H.faults shelf.old ≤ H.faults shelf.new }
 {
-    let program = match typed(alloc, text)? {
+    let program = match typed(alloc, text, entry)? {
         Ok(program) => program,
         Err(answer) => return Ok(answer),
     };
@@ -290,20 +299,25 @@ pub(crate) fn reported<R: Threads + Sync, H: Shelf>(
         CheckedIsSafe (map string_bytes words.now) shown)) }
     ensures verified { IfOk result (λ a. (answered a).status ≡ 0 → IfSome (H.texts shelf.old) (λ shown.
         VerifiedIsSafe (map string_bytes words.now) shown)) }
+    ensures usage { IfOk result (λ a. ((answered a).status ≡ 4 → requested (map string_bytes words.now) ≡ None)
+        × (requested (map string_bytes words.now) ≡ None → (answered a).status ≡ 4)) }
     ensures fault { result ≡ Err Halt.Fault → Rose (H.faults shelf.old) (H.faults shelf.new) }
     ensures no_fault { result ≢ Err Halt.Fault → H.faults shelf.new ≡ H.faults shelf.old }
     ensures never_falls { H.faults shelf.old ≤ H.faults shelf.new }
 {
-    let Some(mode) = asked(words) else {
+    let Some(request) = read_words(alloc, words)? else {
         return Ok(Answer::Usage);
     };
-    let Some(text) = text_within(alloc, shelf, mode.program(), PROGRAM_LIMIT)? else {
+    let Some(text) = text_within(alloc, shelf, request.mode.program(), PROGRAM_LIMIT)? else {
         return Ok(Answer::TooLong);
     };
-    match mode {
+    let options = request.options;
+    match request.mode {
         Mode::Print { program: _ } => Ok(printed(alloc, &text)?),
-        Mode::Verify { program: _ } => Ok(verified(rt, alloc, &text)?),
-        Mode::Check { program: _, second } => checked(alloc, shelf, &text, second),
-        Mode::Replay { program: _, second } => replayed(alloc, shelf, &text, second),
+        Mode::Verify { program: _ } => Ok(verified(rt, alloc, &text, &options)?),
+        Mode::Check { program: _, second } => checked(alloc, shelf, &text, second, options.entry),
+        Mode::Replay { program: _, second } => {
+            replayed(alloc, shelf, &text, second, options.entry)
+        }
     }
 }

@@ -1,4 +1,4 @@
-ghost use Rattle.std.specs.Prelude.{◌≡◌, ◌≢◌, ◌<◌, [], ◌∷◌, ◌++◌, ℕ, List, ◌⊎◌, Some, map, codes, IfSome, OnOk, OnErr};
+ghost use Rattle.std.specs.Prelude.{◌≡◌, ◌≢◌, ◌<◌, ◌≤◌, ◌++◌, ℕ, List, ◌⊎◌, Some, None, length, map, codes, IfSome, OnOk, OnErr};
 ghost use Rattle.std.specs.Option.{option_to_list};
 ghost use Rattle.std.specs.String.{string_bytes};
 ghost use Rattle.outer_io.specs.Faults.{Rose};
@@ -8,12 +8,19 @@ ghost use Rattle.nwa_base.specs.declared.letters.Letter.{Letter};
 ghost use Rattle.nwa_base.specs.Acceptance.{Accepts};
 ghost use Rattle.lowered_graph.specs.Lowered.{lowered};
 ghost use Rattle.proof_form.specs.Annotations.{Content, safe_text};
-ghost use Rattle.automizer_top.specs.Report.{Answer, Answers, Reports, accepted_answer, replayed_answer, ReportsVerdict, IsHandedOver, WhereTold, TookFront, Closes, ClosesAtFront, PrintsProgram, ProgramIsSafe, ProgramFails, IsTypingRefusal, IsVerdictOn};
+ghost use Rattle.race_core.specs.declared.ends.Cause.{Cause};
+ghost use Rattle.race_rounds.specs.Ends.{Options};
+ghost use Rattle.race_completeness.specs.Words.{HasWordsAmong};
+ghost use Rattle.automizer_top.specs.Completeness.{HasDifferenceRows, SaysUnknown};
+ghost use Rattle.automizer_top.specs.CommandLine as line;
+ghost use Rattle.automizer_top.specs.CommandLine.{Settings, requested};
+ghost use Rattle.automizer_top.specs.Report.{Answer, Answers, Ask, Reports, accepted_answer, replayed_answer, ReportsVerdict, IsHandedOver, WhereTold, TookFront, Closes, ClosesAtFront, PrintsProgram, ProgramIsSafe, ProgramFails, IsTypingRefusal, IsVerdictOn};
 
 use crate::reporting::{Halt, reported};
 use itp_automaton::Certified;
 use itp_automaton::laws::certified_words_are_infeasible;
 use outer_io::{Shelf, Sink, write_all};
+use race_completeness::laws::rounds_are_enough;
 use race_core::Shared;
 use std::alloc::{AllocError, Global};
 use std::thread::Threads;
@@ -56,6 +63,10 @@ pub fn run<R: Threads + Sync, H: Shelf, K: Sink>(
     // `closed` then gains the race of a verdict, and nothing else.
     ensures closed { (Rose (H.faults shelf.old) (H.faults shelf.new) → ⊥) → (Rose (K.faults sink.old) (K.faults sink.new) → ⊥) → result ≢ 6 →
         IfSome (H.texts shelf.old) (λ shown. Closes (map string_bytes words.now) shown (K.taken sink.old) (K.taken sink.new) result closed.old.items closed.new.items) }
+
+    // Status 4 comes exactly where the words ask for nothing, if no call on the outside failed and memory did not run out.
+    ensures usage { (result ≡ 4 → requested (map string_bytes words.now) ≡ None)
+        × (requested (map string_bytes words.now) ≡ None → result ≢ 5 → result ≢ 6 → result ≡ 4) }
 
     // Status 0 says that a program was printed, that no run of a checked or verified one fails an assertion, or that one was replayed that does.
     // `accepted` says the second.
@@ -105,21 +116,33 @@ pub fn one_report()
         (a ≡ b) ⊎ ((IsTypingRefusal a × IsTypingRefusal b) ⊎ ((t : TypedProgram) × IsVerdictOn words texts t a × IsVerdictOn words texts t b)) }
 {}
 
-/// What `verify` writes is confirmed where its bytes are handed over with the same program: `check` accepts each `safe`, and `replay`
-/// replays each `unsafe`.
+/// What `verify` writes is confirmed where its bytes are handed over with the same program and the same entry: `check` accepts each `safe`,
+/// and `replay` replays each `unsafe`, whatever the other options.
 pub fn verdicts_are_confirmed()
-    ensures accepted { (program second : List ℕ) (before after : List (List ℕ × List ℕ)) (a b : Answer) → Reports (codes "verify" ∷ program ∷ []) before a → a.status ≡ 0 →
-        IsHandedOver program second before after a → Reports (codes "check" ∷ program ∷ second ∷ []) after b → b ≡ accepted_answer }
-    ensures replayed { (program second : List ℕ) (before after : List (List ℕ × List ℕ)) (a b : Answer) → Reports (codes "verify" ∷ program ∷ []) before a → a.status ≡ 1 →
-        IsHandedOver program second before after a → Reports (codes "replay" ∷ program ∷ second ∷ []) after b → (id : AssertId) × (b ≡ replayed_answer id) }
+    ensures accepted { (words again : List (List ℕ)) (r s : Settings) (program second : List ℕ) (before after : List (List ℕ × List ℕ)) (a b : Answer) →
+        Ask words r (line.Verify program) → Ask again s (line.Check program second) → Reports words before a → a.status ≡ 0 →
+        IsHandedOver program second r s before after a → Reports again after b → b ≡ accepted_answer }
+    ensures replayed { (words again : List (List ℕ)) (r s : Settings) (program second : List ℕ) (before after : List (List ℕ × List ℕ)) (a b : Answer) →
+        Ask words r (line.Verify program) → Ask again s (line.Replay program second) → Reports words before a → a.status ≡ 1 →
+        IsHandedOver program second r s before after a → Reports again after b → (id : AssertId) × (b ≡ replayed_answer id) }
 {}
 
-/// Of two verdicts on one program not one is `safe` and the other `unsafe`; and where the program has no error word, the verdict is
-/// `safe` after no round.
+/// Of two verdicts on one program, whatever the options, not one is `safe` and the other `unsafe`; and where the program has no error
+/// word, the verdict is `safe` after no round.
 pub fn verdicts_agree()
-    ensures one { (t : TypedProgram) (a b : Answer) → ReportsVerdict t a → ReportsVerdict t b → a.status ≡ 0 → b.status ≡ 1 → ⊥ }
-    ensures at_once { (t : TypedProgram) (a : Answer) → ReportsVerdict t a → ((w : List Letter) → Accepts (lowered t).automaton w → ⊥) →
+    ensures one { (o p : Options) (t : TypedProgram) (a b : Answer) → ReportsVerdict o t a → ReportsVerdict p t b → a.status ≡ 0 → b.status ≡ 1 → ⊥ }
+    ensures at_once { (o : Options) (t : TypedProgram) (a : Answer) → ReportsVerdict o t a → ((w : List Letter) → Accepts (lowered t).automaton w → ⊥) →
         (w : Content) × (a.bytes ≡ safe_text 0 w) × (a.status ≡ 0) }
 {
     certified_words_are_infeasible();
+}
+
+/// What no verdict says: that the rounds are over, where the program has no more error words than rounds; and that Decide has neither
+/// a refutation nor a whole point, where the rows of each error word bound a column or the difference of two.
+pub fn verdicts_are_complete()
+    ensures rounds { (o : Options) (t : TypedProgram) (a : Answer) (ws : List (List Letter)) → ReportsVerdict o t a → HasWordsAmong (lowered t).automaton ws → length ws ≤ o.rounds →
+        SaysUnknown Cause.Rounds a → ⊥ }
+    ensures whole { (o : Options) (t : TypedProgram) (a : Answer) → ReportsVerdict o t a → HasDifferenceRows t → SaysUnknown Cause.Whole a → ⊥ }
+{
+    rounds_are_enough();
 }

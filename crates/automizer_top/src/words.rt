@@ -1,8 +1,17 @@
-ghost use Rattle.std.specs.Prelude.{◌≡◌, ◌∷◌, [], ℕ, List, map, MatchOption};
+ghost use Rattle.std.specs.Prelude.{false, ◌≡◌, ◌≢◌, ◌≤◌, [], map, IfOk, IfSome, MatchOption, option_map};
 ghost use Rattle.std.specs.String.{string_bytes};
-ghost use Rattle.automizer_top.specs.Answers.{Asks, AsksNothing, program_name};
+ghost use Rattle.clap.specs.Matches.{found_of};
+ghost use Rattle.clap.specs.Walk.{first_of, rows_of, rule_of};
+ghost use Rattle.clap.specs.Simple.{app_of};
+ghost use Rattle.clap.specs.Kinds.{FailsBy};
+ghost use Rattle.automizer_top.specs.Asked.{asked, task, settings, program_name};
+ghost use Rattle.automizer_top.specs.CommandLine as line;
 
-/// What the words ask for, with the names of the texts.
+use clap::error::ErrorKind;
+use clap::{Arg, ArgMatches, Command, Error};
+use std::alloc::{AllocError, Global};
+
+/// What is to be done, with the names of the texts.
 #[derive(Clone, Copy)]
 pub(crate) enum Mode<'a> {
     /// `check PROGRAM SECOND`
@@ -29,11 +38,118 @@ impl<'a> Mode<'a> {
     }
 }
 
-/// What a mode with two names asks for.
-fn asked_of_two<'a>(mode: &str, program: &'a str, second: &'a str) -> Option<Mode<'a>>
-    ensures { MatchOption result
-        (AsksNothing (mode.now ∷ program.now ∷ second.now ∷ []))
-        (λ m. Asks (mode.now ∷ program.now ∷ second.now ∷ []) m) }
+/// The values of the options.
+#[derive(Clone, Copy)]
+pub(crate) struct Options<'a> {
+    /// The name of the procedure at which runs begin.
+    pub entry: &'a str,
+    /// How many rounds a race has at most.
+    pub rounds: u32,
+    /// How many workers a race has.
+    pub workers: u32,
+    /// How many cuts a branch of a refutation has at most.
+    pub depth: u32,
+}
+
+/// What the words ask for.
+#[derive(Clone, Copy)]
+pub(crate) struct Request<'a> {
+    pub mode: Mode<'a>,
+    pub options: Options<'a>,
+}
+
+/// A word that belongs to no option.
+fn positional<'a>(alloc: Global, id: &'a str, required: bool) -> Arg<'a>
+    ensures rule { rule_of result ≡ line.positional id.entry.now required }
+    ensures local { result.global ≡ false }
+{
+    Arg::new(alloc, id).required(required)
+}
+
+/// An option, with the value that it has where it is left out.
+fn option<'a>(alloc: Global, id: &'a str, default: &'a str) -> Arg<'a>
+    ensures rule { rule_of result ≡ line.option id.entry.now default.entry.now }
+    ensures local { result.global ≡ false }
+{
+    Arg::new(alloc, id).long(id).default_value(default)
+}
+
+/// The command without its arguments.
+fn bare_command<'a>(alloc: Global) -> Command<'a>
+    ensures { app_of result ≡ line.bare_command }
+{
+    Command::new(alloc, "automizer")
+        .no_binary_name(true)
+        .disable_help_flag(true)
+        .disable_version_flag(true)
+}
+
+/// The command that the words are read by.
+fn command<'a>(alloc: Global) -> Result<Command<'a>, AllocError>
+    ensures { IfOk result (λ c. app_of c ≡ line.command) }
+{
+    bare_command(alloc)
+        .arg(positional(alloc, "mode", true))?
+        .arg(positional(alloc, "program", true))?
+        .arg(positional(alloc, "second", false))?
+        .arg(option(alloc, "entry", "main"))?
+        .arg(option(alloc, "rounds", "1000"))?
+        .arg(option(alloc, "workers", "4"))?
+        .arg(option(alloc, "depth", "16"))
+}
+
+/// The values that the words give to the arguments, or why the command refuses them.
+fn parsed<'a>(alloc: Global, words: &'a [String]) -> Result<ArgMatches<'a>, Error>
+    ensures fault { FailsBy (line.faults (map string_bytes words.now)) result }
+    ensures found { IfOk result (λ m. rows_of (found_of m) ≡ line.values (map string_bytes words.now)) }
+{
+    let command = command(alloc)?;
+    command.try_get_matches_from(words)
+}
+
+/// The values that the words give to the arguments; none where the command refuses the words.
+#[tactic(auto, using(crate::proofs::CommandLaws::refused))]
+fn matched<'a>(alloc: Global, words: &'a [String]) -> Result<Option<ArgMatches<'a>>, AllocError>
+    ensures { IfOk result (λ r. MatchOption r
+        (line.faults (map string_bytes words.now) ≢ [])
+        (λ m. (line.faults (map string_bytes words.now) ≡ []) × (rows_of (found_of m) ≡ line.values (map string_bytes words.now)))) }
+{
+    match parsed(alloc, words) {
+        Ok(matches) => Ok(Some(matches)),
+        Err(error) => match error.kind() {
+            ErrorKind::OutOfMemory => Err(AllocError),
+            _ => Ok(None),
+        },
+    }
+}
+
+/// Whether there is no digit, or a plus or a superfluous zero stands first.
+fn is_padded(digits: &[u8]) -> bool
+    ensures { result ≡ line.is_padded digits.now }
+{
+    digits.is_empty() || digits[0] == b'+' || (digits[0] == b'0' && digits.len() > 1)
+}
+
+/// The number that the text spells in decimal digits, without sign or leading zero, where it lies in that range.
+fn number(text: &str, least: u32, most: u32) -> Option<u32>
+    ensures value { result ≡ line.number_in least most text.now }
+    ensures within { IfSome result (λ n. (least ≤ n) × (n ≤ most)) }
+{
+    if is_padded(text.as_bytes()) {
+        return None;
+    }
+    let Ok(number) = text.parse::<u32>() else {
+        return None;
+    };
+    if number < least || most < number {
+        return None;
+    }
+    Some(number)
+}
+
+/// What a mode with two texts asks for.
+fn mode_of_two<'a>(mode: &str, program: &'a str, second: &'a str) -> Option<Mode<'a>>
+    ensures { option_map task result ≡ line.task_of_two mode.now program.now second.now }
 {
     match mode {
         "check" => Some(Mode::Check { program, second }),
@@ -42,11 +158,9 @@ fn asked_of_two<'a>(mode: &str, program: &'a str, second: &'a str) -> Option<Mod
     }
 }
 
-/// What a mode with one name asks for.
-fn asked_of_one<'a>(mode: &str, program: &'a str) -> Option<Mode<'a>>
-    ensures { MatchOption result
-        (AsksNothing (mode.now ∷ program.now ∷ []))
-        (λ m. Asks (mode.now ∷ program.now ∷ []) m) }
+/// What a mode with one text asks for.
+fn mode_of_one<'a>(mode: &str, program: &'a str) -> Option<Mode<'a>>
+    ensures { option_map task result ≡ line.task_of_one mode.now program.now }
 {
     match mode {
         "print" => Some(Mode::Print { program }),
@@ -55,15 +169,65 @@ fn asked_of_one<'a>(mode: &str, program: &'a str) -> Option<Mode<'a>>
     }
 }
 
-/// What the words ask for; none where they are faulty.
-pub(crate) fn asked(words: &[String]) -> Option<Mode<'_>>
-    ensures { MatchOption result
-        (AsksNothing (map string_bytes words.now))
-        (λ mode. Asks (map string_bytes words.now) mode) }
+/// The value of the argument of that name.
+fn value<'a>(matches: &ArgMatches<'a>, id: &str) -> Option<&'a str>
+    ensures { first_of id.now (rows_of (found_of matches.now)) ≡ option_map (λ text. text.now) result }
 {
-    match words {
-        [mode, program, second] => asked_of_two(mode.as_str(), program.as_str(), second.as_str()),
-        [mode, program] => asked_of_one(mode.as_str(), program.as_str()),
-        _ => None,
+    matches.get_str(id)
+}
+
+/// What is to be done, by the values of the arguments.
+fn mode_of<'a>(matches: &ArgMatches<'a>) -> Option<Mode<'a>>
+    ensures { line.task_of (rows_of (found_of matches.now)) ≡ option_map task result }
+{
+    let mode = value(matches, "mode")?;
+    let program = value(matches, "program")?;
+    match value(matches, "second") {
+        None => mode_of_one(mode, program),
+        Some(second) => mode_of_two(mode, program, second),
     }
+}
+
+/// The values of the options, each number in its range.
+fn options_of<'a>(matches: &ArgMatches<'a>) -> Option<Options<'a>>
+    ensures value { line.settings_of (rows_of (found_of matches.now)) ≡ option_map settings result }
+    ensures rounds { IfSome result (λ o. (1 ≤ o.rounds) × (o.rounds ≤ 100000)) }
+    ensures depth { IfSome result (λ o. o.depth ≤ 64) }
+{
+    let entry = value(matches, "entry")?;
+    let rounds = number(value(matches, "rounds")?, 1, 100_000)?;
+    let workers = number(value(matches, "workers")?, 1, 64)?;
+    let depth = number(value(matches, "depth")?, 0, 64)?;
+    Some(Options {
+        entry,
+        rounds,
+        workers,
+        depth,
+    })
+}
+
+/// What the values of the arguments ask for.
+fn request_of<'a>(matches: &ArgMatches<'a>) -> Option<Request<'a>>
+    ensures value { line.request_of (rows_of (found_of matches.now)) ≡ option_map asked result }
+    ensures rounds { IfSome result (λ r. (1 ≤ r.options.rounds) × (r.options.rounds ≤ 100000)) }
+    ensures depth { IfSome result (λ r. r.options.depth ≤ 64) }
+{
+    let options = options_of(matches)?;
+    let mode = mode_of(matches)?;
+    Some(Request { mode, options })
+}
+
+/// What the words ask for; none where they are faulty.
+pub(crate) fn read_words<'a>(
+    alloc: Global,
+    words: &'a [String],
+) -> Result<Option<Request<'a>>, AllocError>
+    ensures value { IfOk result (λ r. option_map asked r ≡ line.requested (map string_bytes words.now)) }
+    ensures rounds { IfOk result (λ r. IfSome r (λ q. (1 ≤ q.options.rounds) × (q.options.rounds ≤ 100000))) }
+    ensures depth { IfOk result (λ r. IfSome r (λ q. q.options.depth ≤ 64)) }
+{
+    let Some(matches) = matched(alloc, words)? else {
+        return Ok(None);
+    };
+    Ok(request_of(&matches))
 }

@@ -1,3 +1,7 @@
+use Rattle.std.proofs.Common.{refl}
+use Rattle.std.proofs.lemmas.Result.{IfOk-weaker}
+use Rattle.automizer_top.specs.Asked.{settings}
+use Rattle.automizer_top.specs.CommandLine.{limits_of}
 use Rattle.typing_rules.specs.TypedParts.{typed_program}
 use Rattle.automizer_top.specs.Answers.{answered, IsGraphOf}
 use Rattle.automizer_top.specs.Report.{IsTypedText, RefusesTyped, RefusesLowering, refused_verify, unlowered}
@@ -7,18 +11,18 @@ use Rattle.automizer_top.proofs.reporting.verified.Goals as goal
 
 pub returns-in-Err-clause-reported : goal.returns-in-Err-clause-reported
 returns-in-Err-clause-reported g c =
-    let refused : RefusesTyped c.args.text.now (answered c.in-Err.answer) = rw c.in-Err.is at c.in_ok-program.ensures in
+    let refused : RefusesTyped c.args.options.now.entry.now c.args.text.now (answered c.in-Err.answer) = rw c.in-Err.is at c.in_ok-program.ensures in
     refused_verify refused
 
 pub returns-in-Err-clause-safe : goal.returns-in-Err-clause-safe
 returns-in-Err-clause-safe g c = λ z.
-    let refused : RefusesTyped c.args.text.now (answered c.in-Err.answer) = rw c.in-Err.is at c.in_ok-program.ensures in
-    absurd (typed_is_not_zero c.args.text.now (answered c.in-Err.answer) refused z)
+    let refused : RefusesTyped c.args.options.now.entry.now c.args.text.now (answered c.in-Err.answer) = rw c.in-Err.is at c.in_ok-program.ensures in
+    absurd (typed_is_not_zero c.args.options.now.entry.now c.args.text.now (answered c.in-Err.answer) refused z)
 
 pub returns-in-Err-2-clause-reported : goal.returns-in-Err-2-clause-reported
 returns-in-Err-2-clause-reported g c =
     let t = typed_program c.in-Ok.program in
-    let typed : IsTypedText c.args.text.now t = rw c.in-Ok.is at c.in_ok-program.ensures in
+    let typed : IsTypedText c.args.options.now.entry.now c.args.text.now t = rw c.in-Ok.is at c.in_ok-program.ensures in
     let refused : RefusesLowering t (answered c.in-Err-2.answer) = rw c.in-Err-2.is at c.in_ok-icfg.ensures in
     unlowered t typed refused
 
@@ -31,13 +35,14 @@ returns-in-Err-2-clause-safe g c = λ z.
 pub returns-clause-reported : goal.returns-clause-reported
 returns-clause-reported g c =
     let t = typed_program c.in-Ok.program in
-    let typed : IsTypedText c.args.text.now t = rw c.in-Ok.is at c.in_ok-program.ensures in
+    let typed : IsTypedText c.args.options.now.entry.now c.args.text.now t = rw c.in-Ok.is at c.in_ok-program.ensures in
     let graph : IsGraphOf t c.in-Ok-2.icfg = rw c.in-Ok-2.is at c.in_ok-icfg.ensures in
-    decided_reported c.args.text.now t c.in-Ok-2.icfg c.decided.result typed graph c.decided.ensures.reported
+    decided_reported c.args.options.now.entry.now (limits_of (settings c.args.options.now)) c.args.text.now t c.in-Ok-2.icfg c.decided.result typed graph
+    (IfOk-weaker c.decided.result _ _ (λ a h. h (limits_of (settings c.args.options.now)) refl refl) c.decided.ensures.reported)
 
 pub returns-clause-safe : goal.returns-clause-safe
 returns-clause-safe g c =
     let t = typed_program c.in-Ok.program in
-    let typed : IsTypedText c.args.text.now t = rw c.in-Ok.is at c.in_ok-program.ensures in
+    let typed : IsTypedText c.args.options.now.entry.now c.args.text.now t = rw c.in-Ok.is at c.in_ok-program.ensures in
     let graph : IsGraphOf t c.in-Ok-2.icfg = rw c.in-Ok-2.is at c.in_ok-icfg.ensures in
-    decided_is_safe c.args.text.now t c.in-Ok-2.icfg c.decided.result typed graph c.decided.ensures.safe
+    decided_is_safe c.args.options.now.entry.now c.args.text.now t c.in-Ok-2.icfg c.decided.result typed graph c.decided.ensures.safe

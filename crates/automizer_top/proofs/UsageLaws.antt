@@ -1,0 +1,90 @@
+-- The status 4 is that of faulty words alone.
+use Rattle.std.proofs.Common.{◌≡◌, ℕ, List, Option, None, Some, Ok, Err, ap, sym, ◌∙◌, arith}
+use Rattle.std.specs.Prelude.{◌≢◌, Result, IfOk, option_map}
+use Rattle.std.proofs.lemmas.Option.{none-some}
+use Rattle.typed_tree.specs.TypedTree.{TypedProgram}
+use Rattle.letter_acts.specs.Invariant.{Graph}
+use Rattle.race_rounds.specs.Ends.{Options}
+use Rattle.race_verdicts.specs.declared.verdicts.Verdict.{Verdict}
+use Rattle.race_verdicts.specs.declared.verdicts.Verdict.TheVariants.{Safe, Unsafe, Unknown}
+use Rattle.automizer_top.specs.declared.answer.Answer as code
+use Rattle.automizer_top.specs.declared.reporting.Halt.{Halt}
+use Rattle.automizer_top.specs.declared.words.Request.{Request}
+use Rattle.automizer_top.specs.CommandLine.{requested}
+use Rattle.automizer_top.specs.Asked.{asked}
+use Rattle.automizer_top.specs.Answers.{answered}
+use Rattle.automizer_top.specs.Verdicts.{verdict_status}
+use Rattle.automizer_top.specs.Report.{Answer, RefusesProgram, too_long, no_program, ReportsPrint, refused_print, printed, RefusesTyped, RefusesLowering, ReportsProof, proof_too_long, no_annotation, accepted, rejected, ReportsFailure, failure_too_long, no_failure, replayed, stopped, ReportsVerify, refused_verify, unlowered, decided}
+use Rattle.automizer_top.proofs.ReportLaws.{typed_is_three, lowering_is_three}
+
+-- an answer of another status does not have the status 4
+not_three : (n : ℕ) → n ≡ 3 → n ≢ 4
+not_three n e = λ f. omega (arith, e, f)
+
+not_one : (n : ℕ) → n ≡ 1 → n ≢ 4
+not_one n e = λ f. omega (arith, e, f)
+
+not_zero : (n : ℕ) → n ≡ 0 → n ≢ 4
+not_zero n e = λ f. omega (arith, e, f)
+
+abbrev status_of : Answer → ℕ
+status_of a = a.status
+
+refused_not_four : (text : List ℕ) (a : Answer) → RefusesProgram text a → a.status ≢ 4
+refused_not_four text a (too_long past is) = not_three a.status (ap status_of is)
+refused_not_four text a (no_program f l r is) = not_three a.status (ap status_of is)
+
+print_not_four : (text : List ℕ) (a : Answer) → ReportsPrint text a → a.status ≢ 4
+print_not_four text a (refused_print r) = refused_not_four text a r
+print_not_four text a (printed ds l w is) = not_zero a.status (ap status_of is)
+
+pub typed_not_four : (entry text : List ℕ) (a : Answer) → RefusesTyped entry text a → a.status ≢ 4
+typed_not_four entry text a r = not_three a.status (typed_is_three entry text a r)
+
+pub lowering_not_four : (t : TypedProgram) (a : Answer) → RefusesLowering t a → a.status ≢ 4
+lowering_not_four t a r = not_three a.status (lowering_is_three t a r)
+
+pub proof_not_four : (g : Graph) (second : Option (List ℕ)) (a : Answer) → ReportsProof g second a → a.status ≢ 4
+proof_not_four g second a (proof_too_long x e past is) = not_three a.status (ap status_of is)
+proof_not_four g second a (no_annotation x line e l wrong is) = not_one a.status (ap status_of is)
+proof_not_four g second a (accepted x w e l s p is) = not_zero a.status (ap status_of is)
+proof_not_four g second a (rejected x w item cause e l s first is) = not_one a.status (ap status_of is)
+
+pub failure_not_four : (t : TypedProgram) (second : Option (List ℕ)) (a : Answer) → ReportsFailure t second a → a.status ≢ 4
+failure_not_four t second a (failure_too_long x e past is) = not_three a.status (ap status_of is)
+failure_not_four t second a (no_failure x line e l fault is) = not_one a.status (ap status_of is)
+failure_not_four t second a (replayed x f id e l h r is) = not_zero a.status (ap status_of is)
+failure_not_four t second a (stopped x f step cause e l h s is) = not_one a.status (ap status_of is)
+
+verdict_not_four : (v : Verdict) → verdict_status v ≢ 4
+verdict_not_four (Safe a) = λ e. omega (arith, e)
+verdict_not_four (Unsafe f) = λ e. omega (arith, e)
+verdict_not_four (Unknown cause w) = λ e. omega (arith, e)
+
+verify_not_four : (entry : List ℕ) (o : Options) (text : List ℕ) (a : Answer) → ReportsVerify entry o text a → a.status ≢ 4
+verify_not_four entry o text a (refused_verify r) = typed_not_four entry text a r
+verify_not_four entry o text a (unlowered t w r) = lowering_not_four t a r
+verify_not_four entry o text a (decided t w none v) = λ e. verdict_not_four v.verdict (sym (ap status_of v.is) ∙ e)
+
+-- what was read of the words is what they ask for
+pub asks_by : (words : List (List ℕ)) (o : Option Request) (q : Request) → o ≡ Some q → option_map asked o ≡ requested words → requested words ≡ Some (asked q)
+asks_by words o q is e = sym e ∙ ap (option_map asked) is
+
+-- the words ask for something, and the answer has another status
+abbrev pub IsUsage : List (List ℕ) → ℕ → Type 0
+IsUsage words status = (status ≡ 4 → requested words ≡ None) × (requested words ≡ None → status ≡ 4)
+
+pub used : (words : List (List ℕ)) (q : Request) (status : ℕ) → requested words ≡ Some (asked q) → status ≢ 4 → IsUsage words status
+used words q status ask other = (λ e. absurd (other e), λ none. absurd (none-some (asked q) (sym none ∙ ask)))
+
+pub used_by_code : (words : List (List ℕ)) (q : Request) (r : Result code.Answer Halt) → requested words ≡ Some (asked q) → IfOk r (λ a. (answered a).status ≢ 4) →
+    IfOk r (λ a. IsUsage words (answered a).status)
+used_by_code words q (Ok a) ask other = used words q (answered a).status ask other
+used_by_code words q (Err e) ask other = tt
+
+pub used_by_print : (words : List (List ℕ)) (q : Request) (text : List ℕ) (a : Answer) → requested words ≡ Some (asked q) → ReportsPrint text a → IsUsage words a.status
+used_by_print words q text a ask r = used words q a.status ask (print_not_four text a r)
+
+pub used_by_verify : (words : List (List ℕ)) (q : Request) (entry : List ℕ) (o : Options) (text : List ℕ) (a : Answer) → requested words ≡ Some (asked q) →
+    ReportsVerify entry o text a → IsUsage words a.status
+used_by_verify words q entry o text a ask r = used words q a.status ask (verify_not_four entry o text a r)
