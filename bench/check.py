@@ -1,12 +1,11 @@
 #!/usr/bin/env python3
-"""Times `check` on programs of doubled sizes with their annotations, in one run, and prints the ratios and the peak memory: check.py [PROGRAM]
+"""Times `check`, in seconds of processor, on programs of doubled sizes with their annotations, in one run, and prints the ratios and the peak memory: check.py [PROGRAM]
 
 It wants the proved program: cd crates/automizer && rt run"""
 import os
 import pathlib
 import sys
 import tempfile
-import time
 
 TOP = pathlib.Path(__file__).resolve().parent.parent
 
@@ -74,10 +73,16 @@ def nested(count: int) -> tuple[str, str]:
     return "\n".join(parts) + "\n", annotation(preds, triples, nodes, steps)
 
 
+def cuts(count: int) -> tuple[str, str]:
+    """One triple whose refutation has so many cuts, each in the second part of the one before."""
+    program, proof = chain(1)
+    leaf = "(leaf 0:1 1:1)"
+    return program, proof.replace(f"in 2 3 1 {leaf}", "in 2 3 1 " + f"(cut 0 0 {leaf} " * count + leaf + ")" * count)
+
+
 def once(words: list[str]) -> tuple[float, int, str]:
-    """The seconds and the peak memory, in KB, of one run, and what it wrote."""
+    """The seconds of processor and the peak memory, in KB, of one run, and what it wrote."""
     read, write = os.pipe()
-    begin = time.perf_counter()
     child = os.fork()
     if child == 0:
         os.dup2(write, 1)
@@ -86,12 +91,13 @@ def once(words: list[str]) -> tuple[float, int, str]:
     with os.fdopen(read) as pipe:
         text = pipe.read()
     _, _, usage = os.wait4(child, 0)
-    return time.perf_counter() - begin, usage.ru_maxrss, text
+    return usage.ru_utime + usage.ru_stime, usage.ru_maxrss, text
 
 
 def main() -> None:
     program = sys.argv[1] if len(sys.argv) > 1 else str(TOP / "crates" / "automizer" / "out" / "automizer")
-    sizes = {chain: [2000, 4000, 8000, 16000], callers: [1000, 2000, 4000, 8000], nested: [125, 250, 500, 999]}
+    sizes = {chain: [2000, 4000, 8000, 16000], callers: [1000, 2000, 4000, 8000], nested: [125, 250, 500, 999],
+             cuts: [62500, 125000, 250000, 500000]}
     with tempfile.TemporaryDirectory() as work:
         first, second = os.path.join(work, "p"), os.path.join(work, "q")
         for shape, counts in sizes.items():

@@ -1,6 +1,7 @@
 #!/usr/bin/env python3
 """Programs with their automata, worked out by hand from the tables of paths, points and edges in docs/FORMATS.md, as what `lowering_table`
-reads and prints: lowering_rows.py [FOLDER] writes the files stdin and stdout, into crates/lowering_table where no folder is named.
+reads and prints, and runs that words and points of their rows tell, from the tables of steps and of the rows of a word there:
+lowering_rows.py [FOLDER] writes the files stdin and stdout, into crates/lowering_table where no folder is named.
 
 A row: the program; the procedure of each place; of each procedure its frame, entry and exit; the letters; the inside edges; calls; returns;
 and of each assertion its line and its place."""
@@ -23,12 +24,28 @@ def row(text, owners, procs, letters, insides, calls=(), backs=(), fails=()):
     out += ["back " + back for back in backs]
     out += [f"fails {number} line {line} at {place}" for number, (line, place) in enumerate(fails, 1)]
     out.append("---")
-    rows.append((text.strip("\n"), "\n".join(out)))
+    rows.append((text.strip("\n"), "---", "\n".join(out)))
 
 
 def fault(text, said):
     """A program that cannot be lowered."""
-    rows.append((text.strip("\n"), said))
+    rows.append((text.strip("\n"), "---", said))
+
+
+def run(text, letters, point, steps, choices, number, line):
+    """A program with the run that a word of its automaton, by the numbers of its letters, and a point of the word's rows tell: how many steps it
+    has, its choices, and the assertion that fails at its end."""
+    rows.append((text, f"run {letters} :{words(point)}", f"steps {steps} choices{words(choices)} fails {number} line {line}"))
+
+
+def past(text, letters, point, step):
+    """A program, a word and a point that tell a run with a value that does not fit, and the step at which that comes."""
+    rows.append((text, f"run {letters} :{words(point)}", f"Number at step {step}"))
+
+
+def none(text, letters, point, said):
+    """A program with what is no word of its automaton, or no point of the word's rows."""
+    rows.append((text, f"run {letters} :{words(point)}", said))
 
 
 def words(listed):
@@ -212,10 +229,115 @@ fault("procedure main() { }\nprocedure ext() returns (r: int);\n  ensures r < -"
 # the span of an expression is its first token
 fault("axiom 0 < -" + big + ";\nprocedure main() { }", "TooBig 1 7")
 
+# ---- runs that words and points tell
+GLOBALS = "var x: int; var b: bool;\nprocedure main() modifies x, b; { "
+
+# a failure without a value to choose
+run("procedure main() { assert false; }", "0 0", "", 1, "", 1, 1)
+# a value is chosen for x and b first; columns: x, b, their old values, and those that `enter` writes
+run(GLOBALS + "assert false; }", "0 1", "5 1 0 0 5 1", 3, "5 1", 1, 2)
+run(GLOBALS + "havoc x; assert false; }", "0 1 2", "5 1 0 0 5 1 -8", 4, "5 1 -8", 1, 2)
+run(GLOBALS + "havoc b; assume b; assert false; }", "0 1 2 3", "5 0 0 0 5 0 1", 5, "5 0 1", 1, 2)
+run(GLOBALS + "if (*) { assert false; } }", "0 1 1", "5 1 0 0 5 1", 4, "5 1 0", 1, 2)
+run(GLOBALS + "x := x + x; assert false; }", "0 1 2", "5 1 0 0 5 1 10", 4, "5 1", 1, 2)
+run(GLOBALS + "x := x + x - x; assert false; }", "0 1 2", "7 1 0 0 7 1 7", 4, "7 1", 1, 2)
+# a callee changes a global: old g at the call, g in the callee
+run("var g: int;\nprocedure main() modifies g; { g := 0; call inc(); assert g == 0; }\nprocedure inc() modifies g; { g := g + 1; }",
+    "0 1 2 7 3 6", "9 4 9 0 0 1", 6, "9", 1, 2)
+# three calls deep: at each call the old value of g, then g where the callee writes it
+run("var g: int;\nprocedure main() modifies g; { g := 0; call a(); }\nprocedure a() modifies g; { g := g + 1; call b(); }\n"
+    "procedure b() modifies g; { g := g + 1; call c(); }\nprocedure c() { assert g != 2; }",
+    "0 1 2 4 5 7 8 12", "-3 7 -3 0 0 1 1 2 2", 8, "-3", 1, 5)
+# recursion four calls deep: at each call n, r, t, old g, and then t and g as they are written
+run("var g: int;\nprocedure f(n: int) returns (r: int) modifies g; { var t: int; t := n; g := g + t;\n"
+    "  if (n > 0) { call r := f(n - 1); } else { assert g != 6; } r := g; }\n"
+    "procedure main() modifies g; { var s: int; g := 0; call s := f(3); }",
+    "0 11 12 1 2 3 5 1 2 3 5 1 2 3 5 1 2 4 9",
+    "1 2 3 1 0 3 10 11 0 3 3 2 12 13 3 2 5 1 14 15 5 1 6 0 16 17 6 0 6", 28, "1 3 10 11 12 13 14 15 16 17", 1, 3)
+# a call that returns: its result and its local have start values, which no row mentions
+run("procedure f(n: int) returns (r: int) { var t: int; t := n; r := t + 1; }\nprocedure main() { var s: int; call s := f(3); assert s != 4; }",
+    "0 3 1 2 4 7", "-1 3 8 9 3 4", 8, "-1 8 9", 1, 2)
+# an early return; r is -1 at first
+run("procedure main() { var r: int; call r := f(1); }\n"
+    "procedure f(n: int) returns (r: int) ensures r == n; { r := n; if (n > 0) { r := 0; return; } }",
+    "0 1 3 4 6 7 9", "12 1 -6 1 0", 8, "12 -6", 1, 2)
+# start values that no row mentions: constant, global, parameter, result and local of the first procedure
+run("const c: int; var u: int;\nprocedure main(a: int) returns (r: bool) {\n  var t: int; assert false; }",
+    "0 1", "4 -5 0 6 1 -7 -5", 6, "4 -5 6 1 -7", 1, 3)
+# an axiom, a requires and a free requires are a step each
+run("const c: int; axiom c > 4;\nprocedure main() requires c < 6; free requires c != 0;\n{ var p: bool; havoc p; assume p; assert c != 5; }",
+    "0 1 2 4 5 6 9", "5 0 1", 8, "5 0 1", 1, 3)
+# the values of a havoc in the order of its names
+run("procedure main() { var x: int; var y: int; havoc y, x; assert y < x; }", "0 1 2 4", "8 -2 3 1", 5, "8 -2 3 1", 1, 1)
+# an old value
+run("var g: int;\nprocedure main() modifies g; { g := g + 1; assert g == old(g); }", "0 1 4", "7 0 7 8", 3, "7", 1, 2)
+# a helper column is no choice: the quotient of 7 by 2 comes last
+run("procedure main() { var x: int; havoc x; x := x div 2; assert x != 3; }", "0 1 2 5", "0 7 3 3", 4, "0 7", 1, 1)
+
+# a choice tells the branch, whose letters are all that of the start
+run("procedure main() { if (*) { assert false; } else { assert true; } }", "0 0 0", "", 2, "0", 1, 1)
+run("procedure main() { if (*) { assert true; } else { assert false; } }", "0 0 0", "", 2, "1", 2, 1)
+# two ways to one place: the first
+run("procedure main() { if (*) { } else { } assert false; }", "0 0 0", "", 2, "0", 1, 1)
+run("procedure main() { goto A, A; A: assert false; }", "0 0 0", "", 2, "0", 1, 1)
+# one target is no choice
+run("procedure main() { goto A; A: assert false; }", "0 0 0", "", 2, "", 1, 1)
+GOTO = "procedure main() {\n  goto A, B, C;\n  A: assert true;\n  B: assert true;\n  C: assert false;\n}"
+run(GOTO, "0 0 0 0 0", "", 4, "0", 3, 5)
+run(GOTO, "0 0 0 0", "", 3, "1", 3, 5)
+run(GOTO, "0 0 0", "", 2, "2", 3, 5)
+# a loop: 0 enters and 1 leaves
+run("procedure main() { var x: int; x := 0; while (*) { x := x + 1; } assert x != 1; }", "0 1 0 2 0 5", "6 0 1", 6, "6 0 1", 1, 1)
+LOOP = ("procedure main() { var x: int; x := 0;\n  while (x < 5) invariant x <= 1; free invariant x >= 0; { x := x + 1;\n"
+        "    if (*) { break; } }\n  assert x != 1; }")
+run(LOOP, "0 1 2 4 5 7 0 0 9", "-4 0 1", 9, "-4 0", 2, 4)
+run(LOOP, "0 1 2 4 5 7 0 2 4 5 7 0 3", "-4 0 1 2", 13, "-4 1 1", 1, 2)
+
+# a call without a body: first the globals that it modifies, then its results; columns: g, old g, r, old g, then g and r
+run("var g: int;\nprocedure pick(x: int) returns (y: int);\n  modifies g;\n  ensures y == x + 1;\n  ensures g == 2 * y;\n"
+    "procedure main() modifies g; { var r: int; assume g == 5; call r := pick(4); assert r + g == 14; }",
+    "0 1 2 5", "5 0 -1 5 10 5", 9, "5 -1 10 5", 1, 6)
+# g is a target too: the value that the callee gives it is the helper, which comes last
+run("var g: int;\nprocedure pick(x: int) returns (y: int, z: int);\n  modifies g;\n  ensures y == g + 1;\n  ensures z == g - 3;\n"
+    "procedure main() modifies g; { var r: int; call g, r := pick(4); assert g != 10; }",
+    "0 1 4", "2 0 7 2 10 6 9", 9, "2 7 9 10 6", 1, 6)
+# that helper stands before the quotient of the ensures
+run("var g: int;\nprocedure pick() returns (y: int);\n  modifies g;\n  ensures y == g div 2;\n"
+    "procedure main() modifies g; { call g := pick(); assert g != 4; }",
+    "0 1 4", "1 1 1 4 9 4", 6, "1 9 4", 1, 5)
+# its requires is a step, and each ensures; the argument has the value of before the call
+run("var g: int;\nprocedure bump(x: int) returns (y: int);\n  requires x > 0;\n  modifies g;\n  free ensures y == x + old(g);\n  ensures g == x + 1;\n"
+    "procedure main() modifies g; { var r: int; call r := bump(g); assert r == g; }",
+    "0 1 3 6", "3 1 0 3 4 6", 9, "3 0 4 6", 2, 7)
+# the globals in the order of the modifies lists
+run("var g: int; var h: int;\nprocedure pick();\n  modifies h, g;\n  modifies h;\nprocedure main() modifies g, h; { call pick(); assert g == h; }",
+    "0 1 4", "1 2 0 0 1 2 3 8", 6, "1 2 3 8", 1, 5)
+
+# hidden locals: a start value for each, and a step for the assignment of each
+run("procedure f(p: bool) { assert p; }\nprocedure main() { var x: int; call f(x > 3); }", "0 4 5 2", "1 1 0 0", 5, "1 1", 1, 1)
+run("procedure f(p: bool, q: bool) { assert p || q; }\nprocedure main() { var x: int; call f(x > 3, x > 5); }",
+    "0 5 7 8 3", "2 1 0 0 0 0 0", 7, "2 1 0", 1, 1)
+
+# no row has the double of a value, which does not fit where the value is 2^126
+LARGE = str(1 << 126)
+past(GLOBALS + "x := x + x - x; assert false; }", "0 1 2", f"{LARGE} 1 0 0 {LARGE} 1 {LARGE}", 3)
+run("procedure main() { var x: int; assert false && x + x > 0; }", "0 0", "3", 2, "3", 1, 1)
+past("procedure main() { var x: int; assert false && x + x > 0; }", "0 0", LARGE, 2)
+# in an argument, where the call enters, and in an ensures of a callee without a body, behind the choice of its result
+past("procedure f(n: int) { assert false; }\nprocedure main() { var x: int; havoc x; call f(x + x - x); }", "0 2 3 1", f"0 {LARGE} {LARGE}", 3)
+past("procedure pick() returns (y: int);\n  ensures y + y - y > 2;\nprocedure main() { var r: int; call r := pick(); assert false; }",
+     "0 1 0", f"1 {LARGE}", 3)
+
+# old g is not g, where `enter` makes it so; letter 0 alone leads to no error place
+none(GLOBALS + "assert false; }", "0 1", "5 1 0 0 4 1", "no point of the rows")
+none(GLOBALS + "assert false; }", "0 1", "5 2 0 0 5 2", "no point of the rows")
+none(GLOBALS + "assert false; }", "0", "5 1 0 0 5 1", "not accepted")
+
+
 def main() -> None:
     folder = pathlib.Path(sys.argv[1]) if len(sys.argv) > 1 else pathlib.Path(__file__).resolve().parent.parent / "crates" / "lowering_table"
-    (folder / "stdin").write_text("".join(text + "\n---\n" for text, _ in rows), encoding="ascii")
-    (folder / "stdout").write_text("".join(told + "\n" for _, told in rows), encoding="ascii")
+    (folder / "stdin").write_text("".join(text + "\n" + end + "\n" for text, end, _ in rows), encoding="ascii")
+    (folder / "stdout").write_text("".join(told + "\n" for _, _, told in rows), encoding="ascii")
     print(len(rows), "programs")
 
 
