@@ -4,8 +4,6 @@
 mod answer;
 mod reporting;
 mod running;
-#[cfg(test)]
-mod tests;
 mod words;
 
 pub use running::{one_report, run, verdicts_agree, verdicts_are_complete, verdicts_are_confirmed};

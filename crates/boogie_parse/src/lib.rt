@@ -17,6 +17,3 @@ pub use whole_text::{
     one_program_tree, parse, printed_programs_are_read_again, programs_are_spellable,
     texts_are_read,
 };
-
-#[cfg(test)]
-mod tests;

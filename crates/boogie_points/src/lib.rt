@@ -11,8 +11,6 @@ mod numbers;
 mod points;
 mod seeking;
 mod starting;
-#[cfg(test)]
-mod tests;
 
 pub use acting::action_at;
 pub use actions::Action;

@@ -9,8 +9,6 @@ mod evaluation;
 mod frames;
 pub mod laws;
 mod stepping;
-#[cfg(test)]
-mod tests;
 mod types;
 mod writing;
 

@@ -5,8 +5,6 @@ pub mod laws;
 mod level;
 mod printing;
 mod span;
-#[cfg(test)]
-mod tests;
 mod text;
 mod tree;
 

@@ -42,29 +42,3 @@ pub(crate) fn add_hidden(
     }
     Ok(())
 }
-
-#[cfg(test)]
-mod tests {
-    use super::*;
-
-    /// The names of so many hidden locals, each with a blank behind it.
-    fn spelled(alloc: Global, count: u32) -> Result<Vec<u8>, AllocError> {
-        let mut locals = Vec::new(alloc);
-        add_hidden(alloc, &mut locals, count)?;
-        let mut names = Vec::new(alloc);
-        for local in &locals {
-            names.extend_from_slice(local.name.bytes())?;
-            names.push(b' ')?;
-        }
-        Ok(names)
-    }
-
-    /// The language names them `h:1`, `h:2` and so on.
-    #[test]
-    fn hidden_locals_are_named_in_order(rt: HostRuntime) {
-        let names = spelled(rt.alloc(), 11);
-        let wanted = b"h:1 h:2 h:3 h:4 h:5 h:6 h:7 h:8 h:9 h:10 h:11 ";
-        let right = matches!(&names, Ok(names) if names.as_slice() == wanted.as_slice());
-        assert!(rt; right);
-    }
-}

@@ -20,8 +20,6 @@ mod resolving;
 mod sorted;
 mod specifications;
 mod statements;
-#[cfg(test)]
-mod tests;
 mod variables;
 
 pub use resolving::resolve;

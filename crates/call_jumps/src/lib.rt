@@ -12,8 +12,6 @@ mod reading;
 mod rebuilding;
 mod standing;
 mod standings;
-#[cfg(test)]
-mod tests;
 mod types;
 mod written;
 

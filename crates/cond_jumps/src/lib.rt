@@ -19,8 +19,6 @@ mod pairs;
 mod refusal;
 mod shapes;
 mod sums;
-#[cfg(test)]
-mod tests;
 mod totals;
 mod widths;
 

@@ -6,8 +6,6 @@ mod checking;
 mod leaves;
 mod refutations;
 mod sums;
-#[cfg(test)]
-mod tests;
 mod walk;
 
 ghost use Rattle.std.specs.Prelude.{ℕ, ℤ, ◌↔◌, IsTrue, List};

@@ -10,8 +10,6 @@ mod fractions;
 mod numbers;
 mod rows;
 mod solving;
-#[cfg(test)]
-mod tests;
 mod types;
 mod values;
 

@@ -6,8 +6,6 @@ mod make;
 mod numbers;
 mod products;
 mod sums;
-#[cfg(test)]
-mod tests;
 mod types;
 mod whole;
 

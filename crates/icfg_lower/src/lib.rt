@@ -4,8 +4,6 @@
 mod building;
 mod faults;
 mod programs;
-#[cfg(test)]
-mod tests;
 
 pub use faults::LowerFault;
 pub use programs::lower;

@@ -9,8 +9,6 @@ mod meeting;
 mod picking;
 mod proposing;
 mod search;
-#[cfg(test)]
-mod tests;
 mod types;
 mod values;
 

@@ -15,8 +15,6 @@ mod saturating;
 mod settling;
 mod sources;
 mod states;
-#[cfg(test)]
-mod tests;
 
 pub use automata::Certified;
 pub use building::{build, build_along};

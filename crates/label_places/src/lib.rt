@@ -3,8 +3,6 @@
 
 mod ends;
 mod labels;
-#[cfg(test)]
-mod tests;
 
 pub use ends::before_last_labels;
 pub use labels::labels_of;

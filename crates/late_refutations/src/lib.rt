@@ -8,8 +8,6 @@ mod leaves;
 mod lines;
 mod refuting;
 mod shrinking;
-#[cfg(test)]
-mod tests;
 mod types;
 
 pub use shrinking::late;

@@ -10,8 +10,6 @@ pub mod laws;
 mod making;
 mod parts;
 mod sites;
-#[cfg(test)]
-mod tests;
 
 pub use acts::Act;
 pub use frames::Frame;

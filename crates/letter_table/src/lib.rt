@@ -4,7 +4,5 @@
 mod keys;
 mod letters;
 mod table;
-#[cfg(test)]
-mod tests;
 
 pub use table::{CallEdges, CallStep, InsideStep, Lettered, Table};

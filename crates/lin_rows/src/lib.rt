@@ -10,8 +10,6 @@ mod numbers;
 mod points;
 mod sums;
 mod systems;
-#[cfg(test)]
-mod tests;
 mod tightening;
 mod types;
 

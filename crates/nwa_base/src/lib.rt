@@ -29,6 +29,3 @@ pub use reading::{accepts, has_final};
 pub use spelling::word;
 pub use tracing::run_of;
 pub use words::Word;
-
-#[cfg(test)]
-mod tests;

@@ -8,6 +8,3 @@ mod making;
 
 pub use kept::Det;
 pub use making::det;
-
-#[cfg(test)]
-mod tests;

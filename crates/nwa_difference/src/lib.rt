@@ -9,6 +9,3 @@ mod product;
 mod stepping;
 
 pub use making::difference;
-
-#[cfg(test)]
-mod tests;

@@ -8,6 +8,3 @@ mod spelling;
 mod stepping;
 
 pub use finding::{Found, find};
-
-#[cfg(test)]
-mod tests;

@@ -15,6 +15,3 @@ mod stepping;
 mod trimming;
 
 pub use reducing::reduce;
-
-#[cfg(test)]
-mod tests;

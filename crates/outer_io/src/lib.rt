@@ -15,6 +15,3 @@ pub use real::{FileShelf, StdSink};
 pub use shelf::{Failed, Shelf};
 pub use sink::Sink;
 pub use writing::{WriteFault, write_all};
-
-#[cfg(test)]
-mod tests;

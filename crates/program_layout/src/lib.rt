@@ -5,8 +5,6 @@ mod ends;
 mod frames;
 mod layouts;
 mod marks;
-#[cfg(test)]
-mod tests;
 
 pub use ends::has_ended;
 pub use layouts::{Layout, lay_out};

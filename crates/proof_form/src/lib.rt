@@ -15,8 +15,6 @@ mod reading;
 mod refusal;
 mod refutations;
 mod spelling;
-#[cfg(test)]
-mod tests;
 mod text_lines;
 mod text_reading;
 mod text_writing;

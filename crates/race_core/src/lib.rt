@@ -9,8 +9,6 @@ mod evidence;
 pub mod laws;
 mod opening;
 mod races;
-#[cfg(test)]
-mod tests;
 
 pub use ends::{Cause, End, EndKind};
 pub use events::{Entry, Event, FinishRefused, Outcome, Refused, Why};

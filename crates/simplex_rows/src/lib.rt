@@ -8,8 +8,6 @@ mod numbers;
 mod picking;
 mod solving;
 mod tableau;
-#[cfg(test)]
-mod tests;
 mod types;
 
 pub use picking::try_pick;

@@ -9,8 +9,6 @@ mod numerals;
 mod pieces;
 mod reading;
 mod replaying;
-#[cfg(test)]
-mod tests;
 mod writing;
 
 pub use boogie_run::{AssertId, Choice};

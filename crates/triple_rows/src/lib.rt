@@ -29,6 +29,3 @@ pub use proofs::Proof;
 pub use proving::proof;
 pub use systems::systems_of;
 pub use triples::{Scoped, Triple};
-
-#[cfg(test)]
-mod tests;

@@ -11,8 +11,6 @@ mod merging;
 mod numbers;
 mod operations;
 mod scope;
-#[cfg(test)]
-mod tests;
 mod types;
 mod typing;
 

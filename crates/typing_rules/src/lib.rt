@@ -17,8 +17,6 @@ mod shape;
 mod spelling;
 mod statements;
 mod targets;
-#[cfg(test)]
-mod tests;
 mod validity;
 mod values;
 

@@ -7,8 +7,6 @@ mod board;
 mod cells;
 mod opening;
 mod passes;
-#[cfg(test)]
-mod tests;
 mod turns;
 
 pub use cells::{Snapshot, VersionCell};
