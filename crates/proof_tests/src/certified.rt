@@ -178,6 +178,21 @@ fn proof_of(alloc: Global, graph: &Icfg, triple: Triple) -> Result<Option<Proof>
     }
 }
 
+/// Where the assertion holds false does not follow from true.
+#[test]
+fn no_proof_of_what_does_not_follow(rt: HostRuntime) -> Result<(), Fail> {
+    let alloc = rt.alloc();
+    let graph = assertion(alloc)?;
+    let triple = Triple::Inside {
+        from: truth(alloc, 0, true)?,
+        letter: 2,
+        to: truth(alloc, 0, false)?,
+    };
+    let found = proof_of(alloc, &graph, triple)?;
+    assert!(rt; found.is_none());
+    Ok(())
+}
+
 /// The automaton of the proof and these predicates, whose edge is the proof's.
 fn of_proof(
     alloc: Global,

@@ -1,0 +1,13 @@
+//! Tests of the refinement: rows of words, walks, interpolants and unwindings.
+#![tactic(auto)]
+
+#[cfg(test)]
+mod graphs;
+#[cfg(test)]
+mod interpolants;
+#[cfg(test)]
+mod rows;
+#[cfg(test)]
+mod unwinding;
+#[cfg(test)]
+mod walks;
