@@ -81,7 +81,7 @@ pub record Good (p : ℕ) (l : Level) (d : ℕ) (ts : List Symbol) (x : Read Exp
   pub reads : Reads p l ts x.value x.rest
   pub low : depth x.value ≤ d
 
-abbrev IsSound : ℕ → Level → Reader → Type 0
+abbrev pub IsSound : ℕ → Level → Reader → Type 0
 IsSound p l reader = (d : ℕ) (ts : List Symbol) (x : Read Expression) → reader d ts ≡ Ok x → Good p l d ts x
 
 good_done : {p : ℕ} {l : Level} {d : ℕ} {ts r : List Symbol} {a : Expression} {x : Read Expression} → Reads p l ts a r → depth a ≤ d → done a r ≡ Ok x → Good p l d ts x
@@ -110,14 +110,14 @@ starts end (Grammar.name t is) = refl
 starts end (Grammar.old_value t u v a b h c) = refl
 starts end (Grammar.grouped u v b h c) = refl
 
-joins_links : (c : Chain) (f : Fixed) → joins (level_of_chain c) f ≡ links (level_of_chain c) f
+pub joins_links : (c : Chain) (f : Fixed) → joins (level_of_chain c) f ≡ links (level_of_chain c) f
 joins_links chains.Equivalence f = refl
 joins_links chains.Conjunction f = refl
 joins_links chains.Disjunction f = refl
 joins_links chains.Sum f = refl
 joins_links chains.Product f = refl
 
-level_is_chain : (c : Chain) → is_chain (level_of_chain c) ≡ true
+pub level_is_chain : (c : Chain) → is_chain (level_of_chain c) ≡ true
 level_is_chain chains.Equivalence = refl
 level_is_chain chains.Conjunction = refl
 level_is_chain chains.Disjunction = refl
@@ -156,7 +156,7 @@ sound_chain {p} c part sound here ts d (suc k) a r x at h low e =
           sound_chain c part sound here ts d k (Bin here z.0 a g.value) g.rest x at whole fits g.behind
     ]
 
-sound_chained : (p : ℕ) (end : Span) (c : Chain) (part : Reader) → IsSound p (right_of (level_of_chain c)) part → IsSound p (level_of_chain c) (chained end c part)
+pub sound_chained : (p : ℕ) (end : Span) (c : Chain) (part : Reader) → IsSound p (right_of (level_of_chain c)) part → IsSound p (level_of_chain c) (chained end c part)
 sound_chained p end c part sound d ts x e =
     let g = goes (part d ts) (chain c part (place_or end ts) d d) x e in
     let first = sound d ts (record { value = g.value; rest = g.rest }) g.first in
@@ -168,11 +168,11 @@ signed_by : (plain : Outcome Expression) (go : Prefix → Span → List Symbol �
 signed_by plain go None y e = inl e
 signed_by plain go (Some x) y e = inr (x, refl, e)
 
-abbrev spelling : Prefix → Fixed
+abbrev pub spelling : Prefix → Fixed
 spelling prefixes.Not = fixed.Not
 spelling prefixes.Neg = fixed.Minus
 
-prefix_spelled : (s : Sign) (o : Prefix) → prefix_of s ≡ Some o → s ≡ signs.Fixed (spelling o)
+pub prefix_spelled : (s : Sign) (o : Prefix) → prefix_of s ≡ Some o → s ≡ signs.Fixed (spelling o)
 prefix_spelled (signs.Fixed fixed.Not) o e = let same : prefixes.Not ≡ o = cc in ap (λ o. signs.Fixed (spelling o)) same
 prefix_spelled (signs.Fixed fixed.Minus) o e = let same : prefixes.Neg ≡ o = cc in ap (λ o. signs.Fixed (spelling o)) same
 prefix_spelled s o e = absurd (nothing e)
@@ -198,7 +198,7 @@ begins_signed : (r : List Symbol) (x : Prefix × Span × List Symbol) → prefix
 begins_signed [] x e = absurd (nothing e)
 begins_signed (t ∷ ts) x e = begins_prefix t ts x (prefix_of t.sign) refl e
 
-prefix_reads : {p : ℕ} {ts r : List Symbol} {e : Expression} (o : Prefix) (t : Symbol) → Is t (spelling o) → Reads p Unary ts e r → Reads p Unary (t ∷ ts) (prefixed o t.span e) r
+pub prefix_reads : {p : ℕ} {ts r : List Symbol} {e : Expression} (o : Prefix) (t : Symbol) → Is t (spelling o) → Reads p Unary ts e r → Reads p Unary (t ∷ ts) (prefixed o t.span e) r
 prefix_reads prefixes.Not t is h = Grammar.denied t is h
 prefix_reads prefixes.Neg t is h = Grammar.negated t is h
 
@@ -216,7 +216,7 @@ sound_over {p} {d} {ts} x z read sound b e =
     let all : Reads p Unary ts (prefixed z.0 z.1 g.value) g.rest = subst (λ us. Reads p Unary us (prefixed z.0 z.1 g.value) g.rest) (sym b.front) placed in
     good_done all (prefix_low z.0 z.1 g.value inner.low) g.behind
 
-sound_unary : (p : ℕ) (end : Span) (inner : Reader) → IsSound p Primary (primary end inner) → IsSound p Unary (unary end inner)
+pub sound_unary : (p : ℕ) (end : Span) (inner : Reader) → IsSound p Primary (primary end inner) → IsSound p Unary (unary end inner)
 unfolding unary
 sound_unary p end inner sound zero ts x e =
     elim (signed_by (primary end inner zero ts) (λ o at m. too_deep at) (prefix_at ts) x e) [
@@ -230,21 +230,21 @@ sound_unary p end inner sound (suc d) ts x e =
     ]
 
 -- parentheses
-data InParentheses : ℕ → List Symbol → Expression → List Symbol → Type 0 where
+pub data InParentheses : ℕ → List Symbol → Expression → List Symbol → Type 0 where
   in_parentheses : {q : ℕ} {ts r : List Symbol} {e : Expression} (u v : Symbol) →
       Is u fixed.OpenParenthesis → Reads q Equivalence ts e (v ∷ r) → Is v fixed.CloseParenthesis → InParentheses (suc q) (u ∷ ts) e r
 
-record GoodGroup (p d : ℕ) (ts : List Symbol) (x : Read Expression) : Type 0 where
+pub record GoodGroup (p d : ℕ) (ts : List Symbol) (x : Read Expression) : Type 0 where
   pub reads : InParentheses p ts x.value x.rest
   pub low : depth x.value ≤ d
 
-abbrev IsSoundGroup : ℕ → Reader → Type 0
+abbrev pub IsSoundGroup : ℕ → Reader → Type 0
 IsSoundGroup p reader = (d : ℕ) (ts : List Symbol) (x : Read Expression) → reader d ts ≡ Ok x → GoodGroup p d ts x
 
-old_reads : {p : ℕ} {ts r : List Symbol} {e : Expression} (t : Symbol) → Is t fixed.Old → InParentheses p ts e r → Reads p Primary (t ∷ ts) (Old t.span e) r
+pub old_reads : {p : ℕ} {ts r : List Symbol} {e : Expression} (t : Symbol) → Is t fixed.Old → InParentheses p ts e r → Reads p Primary (t ∷ ts) (Old t.span e) r
 old_reads t is (in_parentheses u v a h b) = Grammar.old_value t u v is a h b
 
-group_reads : {p : ℕ} {ts r : List Symbol} {e : Expression} → InParentheses p ts e r → Reads p Primary ts e r
+pub group_reads : {p : ℕ} {ts r : List Symbol} {e : Expression} → InParentheses p ts e r → Reads p Primary ts e r
 group_reads (in_parentheses u v a h b) = Grammar.grouped u v a h b
 
 sound_old : (p : ℕ) (inner : Reader) → IsSoundGroup p inner → (d : ℕ) (t : Symbol) (ts : List Symbol) (x : Read Expression) → Is t fixed.Old → old_value inner t.span d ts ≡ Ok x → Good p Primary d (t ∷ ts) x
@@ -270,7 +270,7 @@ sound_sign p inner sound d t ts x (signs.Number n) is e = good_done (Grammar.num
 sound_sign p inner sound d t ts x (signs.Name y) is e = good_done (Grammar.name t is) (omega arith) e
 sound_sign p inner sound d t ts x (signs.Fixed f) is e = sound_word p inner sound d t ts x f is e
 
-sound_primary : (p : ℕ) (end : Span) (inner : Reader) → IsSoundGroup p inner → IsSound p Primary (primary end inner)
+pub sound_primary : (p : ℕ) (end : Span) (inner : Reader) → IsSoundGroup p inner → IsSound p Primary (primary end inner)
 sound_primary p end inner sound d [] x e = absurd (no_fault e)
 sound_primary p end inner sound d (t ∷ ts) x e = sound_sign p inner sound d t ts x t.sign refl e
 
@@ -289,7 +289,7 @@ sound_operation {p} {d} {l} here ts a o right test at x is at_start reads low e 
     let fits : depth (Bin here o a g.value) ≤ d = omega arith in
     good_done (at_place at_start w.1) fits g.behind
 
-sound_comparison : (p : ℕ) (end : Span) (inner : Reader) → IsSound p Sum (reading.sum end inner) → IsSound p Comparison (comparison end inner)
+pub sound_comparison : (p : ℕ) (end : Span) (inner : Reader) → IsSound p Sum (reading.sum end inner) → IsSound p Comparison (comparison end inner)
 unfolding comparison
 sound_comparison p end inner sound d ts x e =
     let go : Expression → List Symbol → Op → Span → List Symbol → Outcome Expression =
@@ -313,24 +313,24 @@ sound_junction_chain p part sound here ts d a r x None at h low e =
 sound_junction_chain p part sound here ts d a r x (Some z) at h low e =
     lift_good (λ e r h. Grammar.disjoined h) (sound_chain chains.Disjunction part sound here ts d d a r x at (Grammar.one refl h) low e)
 
-sound_junction : (p : ℕ) (end : Span) (inner : Reader) → IsSound p Comparison (comparison end inner) → IsSound p Junction (junction end inner)
+pub sound_junction : (p : ℕ) (end : Span) (inner : Reader) → IsSound p Comparison (comparison end inner) → IsSound p Junction (junction end inner)
 sound_junction p end inner sound d ts x e =
     let g = goes (comparison end inner d ts) (λ a r. chain (junction_by (infix_at Disjunction r)) (comparison end inner) (place_or end ts) d d a r) x e in
     let first = sound d ts (record { value = g.value; rest = g.rest }) g.first in
     sound_junction_chain p (comparison end inner) sound (place_or end ts) ts d g.value g.rest x (infix_at Disjunction g.rest) (starts end first.reads) first.reads first.low g.behind
 
-implies_is : (f : Fixed) (o : Op) → joins Implication f ≡ Some o → (f ≡ fixed.Implies) × (o ≡ op.Implies)
+pub implies_is : (f : Fixed) (o : Op) → joins Implication f ≡ Some o → (f ≡ fixed.Implies) × (o ≡ op.Implies)
 implies_is fixed.Implies o e = (refl, let same : op.Implies ≡ o = cc in sym same)
 implies_is f o e = absurd (nothing e)
 
-implied_reads : {p : ℕ} {ts m r : List Symbol} {a b : Expression} {f : Fixed} {o : Op} (t : Symbol) → Is t f → joins Implication f ≡ Some o →
+pub implied_reads : {p : ℕ} {ts m r : List Symbol} {a b : Expression} {f : Fixed} {o : Op} (t : Symbol) → Is t f → joins Implication f ≡ Some o →
     Reads p Junction ts a (t ∷ m) → Reads p Implication m b r → Reads p Implication ts (Bin (place ts) o a b) r
 implied_reads {p} {ts} {m} {r} {a} {b} {f} {o} t is j h g =
     let w = implies_is f o j in
     let word : Is t fixed.Implies = is ∙ ap (λ f. signs.Fixed f) w.0 in
     subst (λ o. Reads p Implication ts (Bin (place ts) o a b) r) (sym w.1) (Grammar.implied t h word g)
 
-sound_implication : (p : ℕ) (end : Span) (inner : Reader) → IsSound p Junction (junction end inner) → IsSound p Implication (implication end inner)
+pub sound_implication : (p : ℕ) (end : Span) (inner : Reader) → IsSound p Junction (junction end inner) → IsSound p Implication (implication end inner)
 unfolding implication
 sound_implication p end inner sound zero ts x e =
     let g = goes (junction end inner zero ts) (λ a r. followed a r (λ o at m. too_deep at) (infix_at Implication r)) x e in
@@ -358,7 +358,7 @@ sound_implication p end inner sound (suc d) ts x e =
           first.low w.2
     ]
 
-sound_equivalence : (p : ℕ) (end : Span) (inner : Reader) → IsSoundGroup p inner → IsSound p Equivalence (equivalence end inner)
+pub sound_equivalence : (p : ℕ) (end : Span) (inner : Reader) → IsSoundGroup p inner → IsSound p Equivalence (equivalence end inner)
 sound_equivalence p end inner group =
     let unaries = sound_unary p end inner (sound_primary p end inner group) in
     let products = sound_chained p end chains.Product (unary end inner) unaries in
@@ -384,7 +384,7 @@ begins_mark test (t ∷ ts) m e = begins_if test t ts m (test t.sign) refl e
 no_truth : false ≡ true → ⊥
 no_truth e = cc
 
-opens_is : (s : Sign) → opens s ≡ true → s ≡ signs.Fixed fixed.OpenParenthesis
+pub opens_is : (s : Sign) → opens s ≡ true → s ≡ signs.Fixed fixed.OpenParenthesis
 opens_is (signs.Fixed fixed.OpenParenthesis) e = refl
 opens_is s e = absurd (no_truth e)
 
@@ -407,7 +407,7 @@ sound_closed {q} {d} end ts m a r x u h low e =
     let all : InParentheses (suc q) ts a w.0 = subst (λ us. InParentheses (suc q) us a w.0) (sym u.front) whole in
     subst (GoodGroup (suc q) d ts) (same_read w.2) (record { reads = all; low = low })
 
-sound_inside : (end : Span) (p : ℕ) → IsSoundGroup p (inside end p)
+pub sound_inside : (end : Span) (p : ℕ) → IsSoundGroup p (inside end p)
 unfolding inside
 sound_inside end zero d ts x e =
     let w = expects end ts (λ m. too_deep (place_or end ts)) (after opens ts) x e in

@@ -38,6 +38,12 @@ pub mod TokenFaults
 mod SettledTools
 mod SettledExpressions
 mod SettledPrograms
+mod WeakerRoom
+mod BegunTools
+mod BegunExpressions
+mod BegunLists
+mod BegunStatements
+mod BegunPrograms
 mod PrintedPieces
 mod PrintedTexts
 mod PrintedExpressions

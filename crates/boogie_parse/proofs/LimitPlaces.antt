@@ -13,9 +13,11 @@ use Rattle.boogie_parse.specs.Pieces.{Shape, Lexeme, Quoted, RealLiteral, LargeL
 use Rattle.boogie_parse.specs.Attributes.{begins_attribute, braced_length}
 use Rattle.boogie_parse.specs.Lexed.{left_out, beside, supported, judged, inside_attribute, attribute, found_in, with_token, tokens_or_fault, lexed}
 use Rattle.boogie_parse.specs.Symbols.{symbol}
-use Rattle.boogie_parse.specs.WholeText.{end_of, read_tokens, read_text, IfLimit, IsLimitAt}
+use Rattle.boogie_parse.specs.GrammarProgram.{no_declaration}
+use Rattle.boogie_parse.specs.WholeText.{end_of, read_tokens, read_text, IfLimit, CanStandAt, IsLimitAt}
 use Rattle.boogie_parse.proofs.SyntaxFaults.{with_tokens}
 use Rattle.boogie_parse.proofs.SettledPrograms.{limit_settled}
+use Rattle.boogie_parse.proofs.BegunPrograms.{program_begun}
 use Rattle.boogie_parse.proofs.LimitFaults.{limit_past}
 
 -- ---- the faults of tokens
@@ -78,6 +80,27 @@ lexed_fine text = first_fine (found_in 0 (pieces text)) (found_fine 0 (pieces te
 
 -- ---- the place of a limit
 
+can_stand : (text : List ℕ) (tokens : List Token) (which : Which) (line col : ℕ) → lexed text ≡ Ok tokens → read_text text ≡ Err (faults.Limit which line col) →
+    CanStandAt text line col
+can_stand text tokens which line col lexical is =
+    let b = program_begun (end_of text) 200 200 1000 1000 (map symbol tokens) which line col (with_tokens text tokens (faults.Limit which line col) lexical is) in
+    let w = b.begins [] [] no_declaration in
+    record {
+      tokens = tokens;
+      lexical = lexical;
+      before = b.before;
+      here = b.symbol;
+      after = b.after;
+      parts = b.parts;
+      line_is = (let e = b.place in cc);
+      col_is = (let e = b.place in cc);
+      more = b.more [];
+      parentheses = 201;
+      blocks = 202;
+      groups = w.0;
+      program = w.1;
+    }
+
 at_symbol : (text : List ℕ) (tokens : List Token) (which : Which) (line col : ℕ) → lexed text ≡ Ok tokens → read_text text ≡ Err (faults.Limit which line col) →
     IsLimitAt text which line col
 at_symbol text tokens which line col lexical is =
@@ -93,6 +116,7 @@ at_symbol text tokens which line col lexical is =
       line_is = (let e = s.place in cc);
       col_is = (let e = s.place in cc);
       past = λ more p b groups d. limit_past end (s.before ++ s.symbol ∷ more) which line col (s.settled more) p b groups d;
+      stands = can_stand text tokens which line col lexical is;
     }
 
 -- a limit that is not of the tokens

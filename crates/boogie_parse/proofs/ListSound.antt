@@ -69,14 +69,14 @@ unfolding name_at
 name-sound end [] = tt
 name-sound end (t ∷ ts) = named_by t ts t.sign refl
 
-abbrev NewName : ℕ → List Symbol → Read Name → Type 0
+abbrev pub NewName : ℕ → List Symbol → Read Name → Type 0
 NewName n ts x = Named ts x × (0 < n)
 
 with_room : (n : ℕ) (ts : List Symbol) → 0 < n → (o : Outcome Name) → IfOk o (Named ts) → IfOk o (NewName n ts)
 with_room n ts h (Ok x) q = (q, h)
 with_room n ts h (Err f) q = tt
 
-new_name-sound : (end : Span) (n : ℕ) (ts : List Symbol) → IfOk (new_name end n ts) (NewName n ts)
+pub new_name-sound : (end : Span) (n : ℕ) (ts : List Symbol) → IfOk (new_name end n ts) (NewName n ts)
 unfolding new_name
 new_name-sound end zero ts = then (Named ts) (NewName zero ts) (name_at end ts) _ (name-sound end ts) (λ x q. tt)
 new_name-sound end (suc n) ts = with_room (suc n) ts (omega arith) (name_at end ts) (name-sound end ts)
@@ -143,7 +143,7 @@ if_ok-first P Q (Ok x) h = h.0
 if_ok-first P Q (Err f) h = tt
 
 -- a type stands first
-record Typed (ts : List Symbol) (x : Read Ty) : Type 0 where
+pub record Typed (ts : List Symbol) (x : Read Ty) : Type 0 where
   symbol : Symbol
   word : Fixed
   is : Is symbol word
@@ -163,12 +163,12 @@ typed_by : (t : Symbol) (ts : List Symbol) (o : Option Ty) → type_said t.sign 
 typed_by t ts None e = tt
 typed_by t ts (Some ty) e = let w = said_by t.sign ty e in record { symbol = t; word = w.0; is = w.1; type = w.2; all = refl }
 
-type-sound : (end : Span) (ts : List Symbol) → IfOk (type_at end ts) (Typed ts)
+pub type-sound : (end : Span) (ts : List Symbol) → IfOk (type_at end ts) (Typed ts)
 unfolding type_at
 type-sound end [] = tt
 type-sound end (t ∷ ts) = typed_by t ts (type_said t.sign) refl
 
-abbrev AreGroup : ℕ → List Symbol → List Vary → List Symbol → Type 0
+abbrev pub AreGroup : ℕ → List Symbol → List Vary → List Symbol → Type 0
 AreGroup n ts vs r = ReadsGroup ts vs r × (length vs ≤ n)
 
 abbrev pub AreVariables : ℕ → List Symbol → List Vary → List Symbol → Type 0
@@ -181,7 +181,7 @@ of_group n ts m mid r xs ty here names colon type =
     let few : length xs ≤ n = names.1 in
     (group colon.symbol type.symbol spelled colon.is type.is type.type, rw length-map few)
 
-group-sound : (end : Span) (n : ℕ) (ts : List Symbol) → IfOk (group_at end n ts) (λ x. AreGroup n ts x.value x.rest)
+pub group-sound : (end : Span) (n : ℕ) (ts : List Symbol) → IfOk (group_at end n ts) (λ x. AreGroup n ts x.value x.rest)
 unfolding group_at
 group-sound end n ts =
     then (λ (x : Read (List Name)). AreNames n ts x.value x.rest) (λ x. AreGroup n ts x.value x.rest) (names_at end n ts) _ (names-sound end n ts) (λ xs names.
@@ -283,7 +283,7 @@ formals-sound end p n ts =
 abbrev pub AreResults : ℕ → ℕ → List Symbol → List Vary → List Symbol → Type 0
 AreResults p n ts vs r = ReadsResults p ts vs r × (length vs ≤ n)
 
-results_of : (p n : ℕ) (ts : List Symbol) (r : Read Span) (x : Read (List Vary)) → Stands fixed.Returns ts r → AreFormals p n r.rest x.value x.rest → AreResults p n ts x.value x.rest
+pub results_of : (p n : ℕ) (ts : List Symbol) (r : Read Span) (x : Read (List Vary)) → Stands fixed.Returns ts r → AreFormals p n r.rest x.value x.rest → AreResults p n ts x.value x.rest
 results_of p n ts r x s h = rw s.all (results s.symbol s.is h.0, h.1)
 
 pub weaker : {A : Type 0} (P Q : A → Type 0) (o : Result A Fault) → IfOk o P → ((x : A) → P x → Q x) → IfOk o Q

@@ -27,7 +27,7 @@ use Rattle.boogie_parse.proofs.ListSound.{then, weaker, Stands, seen-sound, behi
 use Rattle.boogie_parse.proofs.ConditionSound.{IfThere, there-sound, repeated-sound, Alone, one_there-sound, IsExpressionRead, IsConditionRead, claim-sound, plain-sound, free-sound}
 use Rattle.boogie_parse.proofs.StatementSound.{AreStatements, list-sound}
 
-abbrev AreDeclared : Fixed → ℕ → List Symbol → List Vary → List Symbol → Type 0
+abbrev pub AreDeclared : Fixed → ℕ → List Symbol → List Vary → List Symbol → Type 0
 AreDeclared f n ts vs r = ReadsDeclared f ts vs r × (length vs ≤ n)
 
 declared_of : (f : Fixed) (n : ℕ) (ts : List Symbol) (word : Read Span) (x : Read (List Vary)) → Stands f ts word → Before (AreVariables n word.rest) fixed.Semicolon x → AreDeclared f n ts x.value x.rest
@@ -39,11 +39,11 @@ local_by-sound end n ts (Some word) s =
     there-sound (λ x. AreDeclared fixed.Var n ts x.value x.rest) (declared_behind end n word.rest)
     (weaker (Before (AreVariables n word.rest) fixed.Semicolon) (λ x. AreDeclared fixed.Var n ts x.value x.rest) (declared_behind end n word.rest) (declared-sound end n word.rest) (λ x b. declared_of fixed.Var n ts word x s b))
 
-local-sound : (end : Span) (n : ℕ) (ts : List Symbol) → IfThere (local_at end n ts) (λ x. AreDeclared fixed.Var n ts x.value x.rest)
+pub local-sound : (end : Span) (n : ℕ) (ts : List Symbol) → IfThere (local_at end n ts) (λ x. AreDeclared fixed.Var n ts x.value x.rest)
 unfolding local_at
 local-sound end n ts = local_by-sound end n ts (seen fixed.Var ts) (seen-sound fixed.Var ts)
 
-abbrev AreLocals : ℕ → List Symbol → List Vary → List Symbol → Type 0
+abbrev pub AreLocals : ℕ → List Symbol → List Vary → List Symbol → Type 0
 AreLocals n ts vs r = ReadsLocals ts vs r × (length vs ≤ n)
 
 next_of_locals : (n : ℕ) (ts : List Symbol) (vs : List Vary) (m : List Symbol) (ws : List Vary) (r : List Symbol) → AreDeclared fixed.Var n ts vs m → AreLocals (n - length vs) m ws r → AreLocals n ts (vs ++ ws) r
@@ -52,11 +52,11 @@ next_of_locals n ts vs m ws r i h =
     let more = h.1 in
     (grammar.next_locals i.0 h.0, rw length-append (let k : length vs + length ws ≤ n = omega arith in k))
 
-locals-sound : (end : Span) (n : ℕ) (ts : List Symbol) → IfOk (locals_at end n ts) (λ x. AreLocals n ts x.value x.rest)
+pub locals-sound : (end : Span) (n : ℕ) (ts : List Symbol) → IfOk (locals_at end n ts) (λ x. AreLocals n ts x.value x.rest)
 unfolding locals_at
 locals-sound end n ts = repeated-sound (local_at end) length (AreDeclared fixed.Var) AreLocals (λ n us. (grammar.no_local, omega arith)) next_of_locals (local-sound end) (length ts) n ts
 
-abbrev IsSpecificationRead : ℕ → List Symbol → Specification → List Symbol → Type 0
+abbrev pub IsSpecificationRead : ℕ → List Symbol → Specification → List Symbol → Type 0
 IsSpecificationRead p ts s r = ReadsSpecification p ts s r × IsShallowSpecification s
 
 modifies_by-sound : (end : Span) (p : ℕ) (ts : List Symbol) (word : Read Span) (o : Option (Read Span)) → Stands fixed.Modifies ts word → IfSome o (Stands fixed.Semicolon word.rest)
@@ -71,7 +71,7 @@ unfolding modifies_at
 modifies-sound end p ts word s = modifies_by-sound end p ts word (seen fixed.Semicolon word.rest) s (seen-sound fixed.Semicolon word.rest)
 
 -- a head that begins with that word, with so many variables at most
-abbrev IsHeadRead : ℕ → ℕ → Fixed → List Symbol → Head → List Symbol → Type 0
+abbrev pub IsHeadRead : ℕ → ℕ → Fixed → List Symbol → Head → List Symbol → Type 0
 IsHeadRead p v f ts h r = ReadsHead p f ts h r × (length h.params + length h.results ≤ v)
 
 headed : (p v : ℕ) (f : Fixed) (t : Symbol) (ts : List Symbol) (x : Read Name) (ps rs : Read (List Vary)) → Is t f → Named ts x → AreFormals p v x.rest ps.value ps.rest
@@ -81,7 +81,7 @@ headed p v f t ts x ps rs is n a b =
     let more = b.1 in
     (rw n.all (grammar.head t n.symbol is n.is a.0 b.0), omega arith)
 
-head-sound : (end : Span) (p v : ℕ) (f : Fixed) (t : Symbol) (ts : List Symbol) → Is t f → IfOk (head_at end p v t.span ts) (λ x. IsHeadRead p v f (t ∷ ts) x.value x.rest)
+pub head-sound : (end : Span) (p v : ℕ) (f : Fixed) (t : Symbol) (ts : List Symbol) → Is t f → IfOk (head_at end p v t.span ts) (λ x. IsHeadRead p v f (t ∷ ts) x.value x.rest)
 unfolding head_at
 head-sound end p v f t ts is =
     then (Named ts) (λ x. IsHeadRead p v f (t ∷ ts) x.value x.rest) (name_at end ts) _ (name-sound end ts) (λ x n.
@@ -114,8 +114,8 @@ no_procedure_globals [] = refl
 no_procedure_globals (v ∷ vs) = no_procedure_globals vs
 
 -- a declaration of the text, within the limits, with so many procedures at most
-record IsDeclarationRead (p b v q : ℕ) (ts : List Symbol) (ds : List Declaration) (r : List Symbol) : Type 0 where
-  spelled : ReadsDeclaration p b ts ds r
+pub record IsDeclarationRead (p b v q : ℕ) (ts : List Symbol) (ds : List Declaration) (r : List Symbol) : Type 0 where
+  pub spelled : ReadsDeclaration p b ts ds r
   shallow : AllByRecursion IsShallowDeclaration ds
   few : variables_of ds ≤ v
   procedures : procedures_of ds ≤ q
@@ -123,15 +123,15 @@ record IsDeclarationRead (p b v q : ℕ) (ts : List Symbol) (ds : List Declarati
 -- the declarations of a text that ends there are a program
 record IsProgramRead (p b v q : ℕ) (ts : List Symbol) (ds : List Declaration) (r : List Symbol) : Type 0 where
   groups : List (List Declaration)
-  spelled : r ≡ [] → ReadsProgram p b ts groups
+  pub spelled : r ≡ [] → ReadsProgram p b ts groups
   declarations : ds ≡ joined groups
   shallow : AllByRecursion IsShallowDeclaration ds
   few : AllByRecursion (λ us. variables_of us ≤ v) groups
   procedures : procedures_of ds ≤ q
 
 -- a body, within the limits, with so many locals at most
-record IsBodyRead (p b n : ℕ) (ts : List Symbol) (x : ProcedureBody) (r : List Symbol) : Type 0 where
-  spelled : ReadsBody p b ts x r
+pub record IsBodyRead (p b n : ℕ) (ts : List Symbol) (x : ProcedureBody) (r : List Symbol) : Type 0 where
+  pub spelled : ReadsBody p b ts x r
   shallow : IsShallowBlock x.stmts
   few : length x.locals ≤ n
 
@@ -160,7 +160,7 @@ module _ (p b v : ℕ) where
         procedures = rw (no_procedure_globals vs) (omega arith);
       }
 
-  abbrev AreSpecifications : List Symbol → List Specification → List Symbol → Type 0
+  abbrev pub AreSpecifications : List Symbol → List Specification → List Symbol → Type 0
   AreSpecifications ts ss r = ReadsSpecifications p ts ss r × AllByRecursion IsShallowSpecification ss
 
   next_of_specifications : (n : ℕ) (ts : List Symbol) (xs : List Specification) (m : List Symbol) (ys : List Specification) (r : List Symbol)
@@ -270,11 +270,11 @@ module _ (reads : ℕ → List Symbol → Outcome Expression) (end : Span) (p b 
   specification_by-sound ts None (Some word) s t = there-sound (λ x. IsSpecificationRead p ts x.value x.rest) _ (modifies-sound end p ts word t)
   specification_by-sound ts None None s t = claimed-sound ts
 
-  specification-sound : (ts : List Symbol) → IfThere (specification_at reads end p ts) (λ x. IsSpecificationRead p ts x.value x.rest)
+  pub specification-sound : (ts : List Symbol) → IfThere (specification_at reads end p ts) (λ x. IsSpecificationRead p ts x.value x.rest)
   unfolding specification_at
   specification-sound ts = specification_by-sound ts (seen fixed.Free ts) (seen fixed.Modifies ts) (seen-sound fixed.Free ts) (seen-sound fixed.Modifies ts)
 
-  specifications-sound : (ts : List Symbol) → IfOk (specifications_at reads end p ts) (λ x. AreSpecifications p b v ts x.value x.rest)
+  pub specifications-sound : (ts : List Symbol) → IfOk (specifications_at reads end p ts) (λ x. AreSpecifications p b v ts x.value x.rest)
   unfolding specifications_at
   specifications-sound ts =
       repeated-sound (specification_item reads end p) length (λ n us. Alone (IsSpecificationRead p us)) (λ n. AreSpecifications p b v) (λ n us. (grammar.no_specification, tt)) (next_of_specifications p b v)
@@ -286,7 +286,7 @@ module _ (reads : ℕ → List Symbol → Outcome Expression) (end : Span) (p b 
       let spelled : ReadsList p inner.value vs.rest (block ss.value) (c.symbol ∷ closing.rest) = subst (ReadsList p inner.value vs.rest (block ss.value)) c.all list.0 in
       record { spelled = rw (o.room, o.all) (grammar.body o.symbol c.symbol o.is locals.0 spelled c.is); shallow = list.1; few = locals.1 }
 
-  body-sound : (n : ℕ) (ts : List Symbol) → IfOk (body_at reads end p b n ts) (λ x. IsBodyRead p b n ts x.value x.rest)
+  pub body-sound : (n : ℕ) (ts : List Symbol) → IfOk (body_at reads end p b n ts) (λ x. IsBodyRead p b n ts x.value x.rest)
   unfolding body_at
   body-sound n ts =
       then (Opens fixed.OpenBrace b ts) (λ x. IsBodyRead p b n ts x.value x.rest) (opened end fixed.OpenBrace b ts) _ (opened-sound end fixed.OpenBrace b ts) (λ inner o.
@@ -352,7 +352,7 @@ module _ (reads : ℕ → List Symbol → Outcome Expression) (end : Span) (p b 
   declaration_by-sound q t ts (signs.Fixed fixed.Implementation) e = there-sound (λ x. IsDeclarationRead p b v q (t ∷ ts) x.value x.rest) _ (implementation-sound q t ts e)
   declaration_by-sound q t ts k e = tt
 
-  declaration-sound : (q : ℕ) (ts : List Symbol) → IfThere (declaration_at reads end p b v q ts) (λ x. IsDeclarationRead p b v q ts x.value x.rest)
+  pub declaration-sound : (q : ℕ) (ts : List Symbol) → IfThere (declaration_at reads end p b v q ts) (λ x. IsDeclarationRead p b v q ts x.value x.rest)
   unfolding declaration_at
   declaration-sound q [] = tt
   declaration-sound q (t ∷ ts) = declaration_by-sound q t ts t.sign refl

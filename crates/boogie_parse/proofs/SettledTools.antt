@@ -18,7 +18,7 @@ SameHead [] us = ⊥
 SameHead (t ∷ ts) [] = ⊥
 SameHead (t ∷ ts) (u ∷ us) = t ≡ u
 
-same_front : (front r m : List Symbol) → SameHead r m → SameHead (front ++ r) (front ++ m)
+pub same_front : (front r m : List Symbol) → SameHead r m → SameHead (front ++ r) (front ++ m)
 same_front [] r m s = s
 same_front (t ∷ front) r m s = refl
 

@@ -37,13 +37,13 @@ record Called (p : ℕ) (xs : List Name) (f : Name) (here : Span) (ts : List Sym
   es : List Expression
   semicolon : Symbol
   is : Is semicolon fixed.Semicolon
-  spelled : AreArguments p ts es (semicolon ∷ x.rest)
+  pub spelled : AreArguments p ts es (semicolon ∷ x.rest)
   call : x.value ≡ Call here xs f es
 
 -- what opens a block is read soundly
-record IsInside (p : ℕ) (inside : Inside) (b : ℕ) : Type 0 where
-  block_read : (ts : List Symbol) → IfOk (inside.block ts) (λ x. IsBlockRead p b ts x.value x.rest)
-  branch_read : (t : Symbol) (ts : List Symbol) → Is t fixed.If → IfOk (inside.branch t.span ts) (λ x. (a : ℕ) × (b ≡ suc a) × IsIfRead p a (t ∷ ts) x.value x.rest)
+pub record IsInside (p : ℕ) (inside : Inside) (b : ℕ) : Type 0 where
+  pub block_read : (ts : List Symbol) → IfOk (inside.block ts) (λ x. IsBlockRead p b ts x.value x.rest)
+  pub branch_read : (t : Symbol) (ts : List Symbol) → Is t fixed.If → IfOk (inside.branch t.span ts) (λ x. (a : ℕ) × (b ≡ suc a) × IsIfRead p a (t ∷ ts) x.value x.rest)
 
 -- what stands behind `else`
 data Other (p b : ℕ) (ts : List Symbol) (x : Read Block) : Type 0 where
@@ -211,7 +211,7 @@ module _ (reads : ℕ → List Symbol → Outcome Expression) (end : Span) (p : 
   statement_by-sound inside b i t ts (signs.Name x) e = there-sound (λ x. IsStatementRead p b (t ∷ ts) x.value x.rest) _ (named-sound b t ts x e)
   statement_by-sound inside b i t ts k e = tt
 
-  statement-sound : (inside : Inside) (b : ℕ) → IsInside p inside b → (ts : List Symbol) → IfThere (statement_at reads end p inside ts) (λ x. IsStatementRead p b ts x.value x.rest)
+  pub statement-sound : (inside : Inside) (b : ℕ) → IsInside p inside b → (ts : List Symbol) → IfThere (statement_at reads end p inside ts) (λ x. IsStatementRead p b ts x.value x.rest)
   unfolding statement_at
   statement-sound inside b i [] = tt
   statement-sound inside b i (t ∷ ts) = statement_by-sound inside b i t ts t.sign refl
@@ -232,7 +232,7 @@ module _ (reads : ℕ → List Symbol → Outcome Expression) (end : Span) (p : 
       let spelled : ReadsList p b brace.rest (block ss.value) (c.symbol ∷ closing.rest) = subst (ReadsList p b brace.rest (block ss.value)) c.all h.0 in
       (rw s.all (grammar.block s.symbol c.symbol s.is spelled c.is), h.1)
 
-  block-sound : (inside : Inside) (b : ℕ) → IsInside p inside b → (ts : List Symbol) → IfOk (block_by reads end p inside ts) (λ x. IsBlockRead p (suc b) ts x.value x.rest)
+  pub block-sound : (inside : Inside) (b : ℕ) → IsInside p inside b → (ts : List Symbol) → IfOk (block_by reads end p inside ts) (λ x. IsBlockRead p (suc b) ts x.value x.rest)
   unfolding block_by
   block-sound inside b i ts =
       then (Stands fixed.OpenBrace ts) (λ x. IsBlockRead p (suc b) ts x.value x.rest) (behind end fixed.OpenBrace ts) _ (behind-sound end fixed.OpenBrace ts) (λ brace s.
@@ -248,7 +248,7 @@ module _ (reads : ℕ → List Symbol → Outcome Expression) (end : Span) (p : 
   unfolding no_branch
   no_branch-sound t ts = tt
 
-  inside-sound : (b : ℕ) → IsInside p (inside_at reads end p b) b
+  pub inside-sound : (b : ℕ) → IsInside p (inside_at reads end p b) b
   unfolding inside_at
   inside-sound zero = record { block_read = no_block-sound; branch_read = λ t ts is. no_branch-sound t ts }
   inside-sound (suc b) =

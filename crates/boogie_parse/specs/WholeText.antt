@@ -53,8 +53,24 @@ IsPast limits.Nesting ts groups = ReadsProgram 200 200 ts groups → AllByRecurs
 IsPast limits.Procedures ts groups = 1000 < procedures_of (joined groups)
 IsPast limits.Variables ts groups = AllByRecursion (λ ds. variables_of ds ≤ 1000) groups → ⊥
 
--- That limit stands at a symbol of the text, in that line and column: each program of the grammar that begins with the symbols up to this one,
--- whatever follows it, is past the limit.
+-- The symbol in that line and column can stand there: some program of the grammar begins with the symbols up to it.
+pub record CanStandAt (text : List ℕ) (line col : ℕ) : Type 0 where
+  pub tokens : List Token
+  pub lexical : lexed text ≡ Ok tokens
+  pub before : List Symbol
+  pub here : Symbol
+  pub after : List Symbol
+  pub parts : map symbol tokens ≡ before ++ here ∷ after
+  pub line_is : here.span.line ≡ line
+  pub col_is : here.span.col ≡ col
+  pub more : List Symbol
+  pub parentheses : ℕ
+  pub blocks : ℕ
+  pub groups : List (List Declaration)
+  pub program : ReadsProgram parentheses blocks (before ++ here ∷ more) groups
+
+-- That limit stands at a symbol of the text, in that line and column, which can stand there: each program of the grammar that begins with the symbols up
+-- to this one, whatever follows it, is past the limit.
 pub record IsLimitAt (text : List ℕ) (which : Which) (line col : ℕ) : Type 0 where
   pub tokens : List Token
   pub lexical : lexed text ≡ Ok tokens
@@ -66,6 +82,7 @@ pub record IsLimitAt (text : List ℕ) (which : Which) (line col : ℕ) : Type 0
   pub col_is : here.span.col ≡ col
   pub past : (more : List Symbol) (parentheses blocks : ℕ) (groups : List (List Declaration)) →
       ReadsProgram parentheses blocks (before ++ here ∷ more) groups → IsPast which (before ++ here ∷ more) groups
+  pub stands : CanStandAt text line col
 
 -- what holds if the fault is a limit that the grammar finds, of that kind and at that place
 abbrev pub IfLimit : Fault → (Which → ℕ → ℕ → Type 0) → Type 0
