@@ -1,0 +1,5 @@
+pub mod GeneratedNames
+pub mod TypedGenerated
+pub mod KeptGenerated
+pub mod LoweredGenerated
+pub mod ChainSteps

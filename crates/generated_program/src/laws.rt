@@ -1,0 +1,14 @@
+//! Laws.
+
+ghost use Rattle.std.specs.Prelude.{ℕ, ◌≤◌};
+ghost use Rattle.generated_program.specs.Laws.{IsTyped, IsLowered};
+
+/// The generated program of 1 to 200 procedures in its chain is typed.
+pub fn generated_programs_are_typed()
+    ensures { (count : ℕ) → 1 ≤ count → count ≤ 200 → IsTyped count }
+{}
+
+/// The generated program of 200 procedures at most is lowered.
+pub fn generated_programs_are_lowered()
+    ensures { (count : ℕ) → 1 ≤ count → count ≤ 200 → IsLowered count }
+{}
