@@ -1,11 +1,14 @@
-//! Rounds of a race: a kept word, what Decide says of its rows, and what comes of it: an automaton that removes the word, or an
-//! end. [`alone`] is the race of one worker.
+//! Rounds of a race: [`kept_word`] takes a kept word, and [`settle`] decides its rows and makes what comes of it: an automaton that
+//! removes the word, or an end. [`alone`] is the race of one worker.
 #![tactic(auto)]
 
 mod failing;
 mod refining;
+mod seeking;
 mod settling;
 mod single;
 mod turning;
 
+pub use seeking::kept_word;
+pub use settling::{Settled, settle};
 pub use single::alone;

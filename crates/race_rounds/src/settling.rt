@@ -29,7 +29,7 @@ pub enum Settled {
 }
 
 /// What is made of a kept word: an entry with it, or an end. `version` is how many entries there are.
-pub(crate) fn settle<R: Threads + Sync>(
+pub fn settle<R: Threads + Sync>(
     rt: &R,
     alloc: Global,
     program: &Typed,

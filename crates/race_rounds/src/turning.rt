@@ -1,32 +1,25 @@
 //! One round of one worker.
 
-ghost use Rattle.std.specs.Prelude.{◌≡◌, ◌<◌, ◌≤◌, ◌∷◌, ◌++◌, [], ℕ, None, Some, length, IfOk, OnOk};
+ghost use Rattle.std.specs.Prelude.{◌≡◌, ◌<◌, ◌≤◌, ◌∷◌, ◌++◌, [], ℕ, None, Some, length, OnOk};
 ghost use Rattle.nwa_base.specs.Automata.{Automaton};
 ghost use Rattle.nwa_base.specs.Acceptance.{Accepts};
-ghost use Rattle.nwa_emptiness.specs.Found.{IsFound};
 ghost use Rattle.typing_rules.specs.TypedParts.{typed_program};
 ghost use Rattle.lowered_graph.specs.Lowered.{lowered};
 ghost use Rattle.race_rounds.specs.Ends.{Options};
 ghost use Rattle.race_rounds.specs.Rounds.{IsRaceOf, rounds_left};
 
+use crate::seeking::kept_word;
 use crate::settling::{Settled, settle};
 use concrete_walks::Walker;
 use itp_automaton::Certified;
 use kept_words::without;
 use letter_acts::Icfg;
-use nwa_base::{Nwa, accepts};
-use nwa_emptiness::{Found, find};
+use nwa_emptiness::Found;
 use race_core::{End, Entry, Event, Evidence, Shared};
 use std::alloc::{AllocError, Global};
 use std::sync::Arc;
 use std::thread::Threads;
 use typing_rules::Typed;
-
-/// How many letters the walker tries before the first round, in about 20 milliseconds.
-const FIRST_MOVES: u64 = 40_000;
-
-/// Before a later round it tries so many for each entry that there is.
-const MOVES_OF_AN_ENTRY: u64 = 100;
 
 /// Ends the race.
 fn finish(state: &mut Shared<Certified>, end: End)
@@ -65,29 +58,6 @@ fn publish(
     Ok(())
 }
 
-/// A kept word: one that the walker proposes, else one that is found, or that no word is kept.
-fn kept_word(
-    alloc: Global,
-    icfg: &Icfg,
-    kept: &Nwa,
-    version: u64,
-    walker: &mut Walker,
-) -> Result<Found, AllocError>
-    ensures { IfOk result (IsFound kept.now) }
-{
-    let moves = if version == 0 {
-        FIRST_MOVES
-    } else {
-        version.saturating_mul(MOVES_OF_AN_ENTRY)
-    };
-    if let Some(word) = walker.slice(alloc, icfg, moves)? {
-        if accepts(alloc, kept, &word)? {
-            return Ok(Found::Word(word));
-        }
-    }
-    find(alloc, kept, 0)
-}
-
 /// One round: it removes a kept word by an entry, or ends the race.
 pub(crate) fn turn<R: Threads + Sync>(
     rt: &R,
@@ -108,7 +78,7 @@ pub(crate) fn turn<R: Threads + Sync>(
 {
     let version = state.version();
     let _room = state.sized();
-    match kept_word(alloc, icfg, state.kept(), version, walker)? {
+    match kept_word(alloc, icfg, state.kept(), version, 0, walker)? {
         Found::Empty => finish(state, End::Safe),
         Found::Word(word) => {
             match settle(rt, alloc, program, icfg, rounds, depth, version, word)? {
