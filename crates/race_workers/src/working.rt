@@ -80,16 +80,37 @@ pub(crate) fn run_all<G: Gate + Sync, R: Threads + Wait + Sync>(
     if passes.is_empty() {
         return work(rt, alloc, job, first, pass);
     }
+    // Closures hold these, and not the job, since what a closure with a lifetime in its type answers is not known to `join`.
+    let (program, icfg, limits) = (job.program, job.icfg, job.limits);
+    let (cell, gate) = (job.cell, job.gate);
     let (one, others) = join(
         rt,
         || -> (Result<(), AllocError>, Pass<Certified>)
-            requires { IsSync R.row × IsSync G.row × IsJob (typed_program job.now.program.now) job.now.icfg.now job.now.limits job.now.cell.now × IsPassAt job.now.cell.now (typed_program job.now.program.now) (options job.now.limits) 1 pass }
-            ensures { IsPassAt job.entry.now.cell.now (typed_program job.entry.now.program.now) (options job.entry.now.limits) 1 result.1 × IfOk result.0 (λ _. IsSome result.1.ended) }
-        { work(rt, alloc, job, first, pass) },
+            requires { IsSync R.row × IsSync G.row × IsJob (typed_program program.now) icfg.now limits cell.now × IsPassAt cell.now (typed_program program.now) (options limits) 1 pass }
+            ensures { IsPassAt cell.entry.now (typed_program program.entry.now) (options limits) 1 result.1 × IfOk result.0 (λ _. IsSome result.1.ended) }
+        {
+            let job = Job {
+                program,
+                icfg,
+                limits,
+                cell,
+                gate,
+            };
+            work(rt, alloc, &job, first, pass)
+        },
         || -> (Result<(), AllocError>, Pass<Certified>)
-            requires { IsSync R.row × IsSync G.row × IsJob (typed_program job.now.program.now) job.now.icfg.now job.now.limits job.now.cell.now × AllByRecursion (IsPassAt job.now.cell.now (typed_program job.now.program.now) (options job.now.limits) 1) passes.items × (0 < length passes.items) × (first + 1 + length passes.items ≤ 64) }
-            ensures { IsPassAt job.entry.now.cell.now (typed_program job.entry.now.program.now) (options job.entry.now.limits) (length passes.items) result.1 × IfOk result.0 (λ _. IsSome result.1.ended) }
-        { run_all(rt, alloc, job, first + 1, passes) },
+            requires { IsSync R.row × IsSync G.row × IsJob (typed_program program.now) icfg.now limits cell.now × AllByRecursion (IsPassAt cell.now (typed_program program.now) (options limits) 1) passes.items × (0 < length passes.items) × (first + 1 + length passes.items ≤ 64) }
+            ensures { IsPassAt cell.entry.now (typed_program program.entry.now) (options limits) (length passes.items) result.1 × IfOk result.0 (λ _. IsSome result.1.ended) }
+        {
+            let job = Job {
+                program,
+                icfg,
+                limits,
+                cell,
+                gate,
+            };
+            run_all(rt, alloc, &job, first + 1, passes)
+        },
     );
     let (done, mut pass) = one;
     let (others_done, other) = others;

@@ -20,37 +20,28 @@ returns-then-is_empty-clause-pass g t c =
     c.work.ensures.pass (omega (arith, n, z))
 
 pub join-requires-clause-cell : goal.join-requires-clause-cell
-join-requires-clause-cell g t c κs =
-    let one : IsPassAt c.args.job.now.cell.now (typed_program c.args.job.now.program.now) (options c.args.job.now.limits) 1 c.join-one.result.0.1 = first_of (search of_calls, search (rules, of_calls), search (rules, of_calls) parts 8) in
-    let other : IsPassAt c.args.job.now.cell.now (typed_program c.args.job.now.program.now) (options c.args.job.now.limits) (length c.pop.new.self.items) c.join-one.result.1.1 = first_of (search of_calls, search (rules, of_calls), search (rules, of_calls) parts 8) in
-    (one.of_cell, other.of_cell)
+join-requires-clause-cell g t c κs = (c.join-one.ensures.first.0.of_cell, c.join-one.ensures.second.0.of_cell)
 
 pub returns-in-Ok-clause-pass : goal.returns-in-Ok-clause-pass
 returns-in-Ok-clause-pass g t c =
-    let one : IsPassAt c.args.job.now.cell.now (typed_program c.args.job.now.program.now) (options c.args.job.now.limits) 1 c.join-one.result.0.1 = first_of (search of_calls, search (rules, of_calls), search (rules, of_calls) parts 8) in
-    let other : IsPassAt c.args.job.now.cell.now (typed_program c.args.job.now.program.now) (options c.args.job.now.limits) (length c.pop.new.self.items) c.join-one.result.1.1 = first_of (search of_calls, search (rules, of_calls), search (rules, of_calls) parts 8) in
     let n = popped_length c.args.passes.items c.pop.new.self.items c.in-Some.pass c.in-Some.ensures.items in
     with_shares c.args.job.now.cell.now (typed_program c.args.job.now.program.now) (options c.args.job.now.limits) (1 + length c.pop.new.self.items) (length c.args.passes.items) c.join.new.pass
     (joins c.args.job.now.cell.now (typed_program c.args.job.now.program.now) (options c.args.job.now.limits) 1 (length c.pop.new.self.items) c.join-one.result.0.1 c.join-one.result.1.1
-    c.join.new.pass one other c.join.ensures.both c.join.ensures.first c.join.ensures.second c.join.ensures.of_cell) (omega (arith, n))
+    c.join.new.pass c.join-one.ensures.first.0 c.join-one.ensures.second.0 c.join.ensures.both c.join.ensures.first c.join.ensures.second c.join.ensures.of_cell) (omega (arith, n))
 
 pub returns-in-Err-clause-pass : goal.returns-in-Err-clause-pass
 returns-in-Err-clause-pass g t c =
-    let one : IsPassAt c.args.job.now.cell.now (typed_program c.args.job.now.program.now) (options c.args.job.now.limits) 1 c.join-one.result.0.1 = first_of (search of_calls, search (rules, of_calls), search (rules, of_calls) parts 8) in
-    let other : IsPassAt c.args.job.now.cell.now (typed_program c.args.job.now.program.now) (options c.args.job.now.limits) (length c.pop.new.self.items) c.join-one.result.1.1 = first_of (search of_calls, search (rules, of_calls), search (rules, of_calls) parts 8) in
     let n = popped_length c.args.passes.items c.pop.new.self.items c.in-Some.pass c.in-Some.ensures.items in
     with_shares c.args.job.now.cell.now (typed_program c.args.job.now.program.now) (options c.args.job.now.limits) (1 + length c.pop.new.self.items) (length c.args.passes.items) c.join.new.pass
     (joins c.args.job.now.cell.now (typed_program c.args.job.now.program.now) (options c.args.job.now.limits) 1 (length c.pop.new.self.items) c.join-one.result.0.1 c.join-one.result.1.1
-    c.join.new.pass one other c.join.ensures.both c.join.ensures.first c.join.ensures.second c.join.ensures.of_cell) (omega (arith, n))
+    c.join.new.pass c.join-one.ensures.first.0 c.join-one.ensures.second.0 c.join.ensures.both c.join.ensures.first c.join.ensures.second c.join.ensures.of_cell) (omega (arith, n))
 
 pub returns-in-Ok-clause-ended : goal.returns-in-Ok-clause-ended
 returns-in-Ok-clause-ended g t c =
-    let e : IfOk c.join-one.result.0.0 (λ x. IsSome c.join-one.result.0.1.ended) = first_of (search of_calls, search (rules, of_calls), search (rules, of_calls) parts 8) in
     still_ended c.join-one.result.0.1 c.join.new.pass c.join.ensures.first
-    (ok_then c.join-one.result.0.0 c.in-Ok.field-0 (IsSome c.join-one.result.0.1.ended) c.in-Ok.is e)
+    (ok_then c.join-one.result.0.0 c.in-Ok.field-0 (IsSome c.join-one.result.0.1.ended) c.in-Ok.is c.join-one.ensures.first.1)
 
 pub returns-in-Err-clause-ended : goal.returns-in-Err-clause-ended
 returns-in-Err-clause-ended g t c =
-    let e : IfOk c.join-one.result.1.0 (λ x. IsSome c.join-one.result.1.1.ended) = first_of (search of_calls, search (rules, of_calls), search (rules, of_calls) parts 8) in
     ok_map c.join-one.result.1.0 (IsSome c.join-one.result.1.1.ended) (IsSome c.join.new.pass.ended)
-    (still_ended c.join-one.result.1.1 c.join.new.pass c.join.ensures.second) e
+    (still_ended c.join-one.result.1.1 c.join.new.pass c.join.ensures.second) c.join-one.ensures.second.1
