@@ -1,5 +1,5 @@
 -- The end of a race.
-use Rattle.std.proofs.Common.{◌≡◌, ℕ, Result, Ok, Err, sym}
+use Rattle.std.proofs.Common.{◌≡◌, Result, Ok, Err, sym}
 use Rattle.std.specs.Prelude.{IfOk}
 use Rattle.race_rounds.specs.Ends.{Options}
 use Rattle.race_workers.specs.declared.limits.Limits.{Limits}

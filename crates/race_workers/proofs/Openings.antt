@@ -1,5 +1,5 @@
 -- The first passes of a race.
-use Rattle.std.proofs.Common.{◌≡◌, ◌+◌, ℕ, List, [], ◌∷◌, refl, ap, ◌∙◌}
+use Rattle.std.proofs.Common.{◌≡◌, ℕ, List, [], ◌∷◌, refl, ap, ◌∙◌}
 use Rattle.std.specs.List.{AllByRecursion}
 use Rattle.typed_tree.specs.TypedTree.{TypedProgram}
 use Rattle.itp_automaton.specs.Certified.{Certificate}

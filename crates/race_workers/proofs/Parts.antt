@@ -1,7 +1,6 @@
 -- What a worker's pass carries, as the calls of its cell change it.
 use Rattle.std.proofs.Common.{◌≡◌, ◌⊎◌, inl, inr, ⊎_elim, ℕ, ◌+◌, ◌<◌, List, [], ◌∷◌, ◌++◌, length, Option, None, Some, Result, Ok, Err, refl, sym, subst, ap, ◌∙◌, arith}
-use Rattle.std.specs.Prelude.{IfSome, IsSome, MatchResult, slice_get}
-use Rattle.std.specs.List.{AllByRecursion}
+use Rattle.std.specs.Prelude.{IfSome, IsSome, MatchResult}
 use Rattle.nwa_base.specs.declared.letters.Letter.{Letter}
 use Rattle.nwa_base.specs.Automata.{Automaton}
 use Rattle.nwa_base.specs.Acceptance.{Accepts}
@@ -16,7 +15,6 @@ use Rattle.race_core.specs.declared.events.FinishRefused.{FinishRefused}
 use Rattle.race_core.specs.declared.events.Why.{Why}
 use Rattle.race_core.specs.declared.events.Why.TheVariants.{Ended}
 use Rattle.race_core.specs.Ends.{kind_of, kind_in}
-use Rattle.race_core.specs.Histories.{Keeps}
 use Rattle.race_core.specs.Races.{Race}
 use Rattle.race_core.specs.Steps.{publish_refusal, finish_refusal}
 use Rattle.itp_automaton.specs.Certified.{Certificate}

@@ -1,5 +1,5 @@
 -- What a worker's pass carries of a race.
-use Rattle.std.specs.Prelude.{◌≡◌, ℕ, ◌<◌, ◌≤◌, List, [], length, Option, None, Some, IfSome, IsSome, slice_get}
+use Rattle.std.specs.Prelude.{◌≡◌, ℕ, ◌<◌, ◌≤◌, [], length, None, Some, IfSome, IsSome, slice_get}
 use Rattle.nwa_base.specs.Automata.{Automaton}
 use Rattle.letter_acts.specs.Invariant.{Graph}
 use Rattle.typed_tree.specs.TypedTree.{TypedProgram}

@@ -1,5 +1,3 @@
-use Rattle.std.proofs.Common.{◌≡◌, length}
-use Rattle.std.specs.Prelude.{IsSome}
 use Rattle.typing_rules.specs.TypedParts.{typed_program}
 use Rattle.race_workers.specs.Parts.{options}
 use Rattle.race_workers.proofs.Parts.{ends, shows, ended_by_ending, ended_by_name}

@@ -1,6 +1,5 @@
-use Rattle.std.proofs.Common.{◌≡◌, ◌∙◌, List, sym, subst, refl}
+use Rattle.std.proofs.Common.{sym, subst, refl}
 use Rattle.std.specs.Arc.{arc_value}
-use Rattle.nwa_base.specs.declared.letters.Letter.{Letter}
 use Rattle.nwa_base.specs.Automata.{Automaton}
 use Rattle.nwa_base.specs.Acceptance.{Accepts}
 use Rattle.nwa_emptiness.specs.declared.finding.Found.{Found}

@@ -1,4 +1,4 @@
-use Rattle.std.proofs.Common.{◌≡◌, ◌+◌, ◌-◌, List, [], length, ap, sym, subst, arith, rules}
+use Rattle.std.proofs.Common.{◌≡◌, ◌+◌, List, [], length, ap, sym, subst, arith, rules}
 use Rattle.std.specs.List.{AllByRecursion}
 use Rattle.itp_automaton.specs.Certified.{Certificate}
 use Rattle.version_cell.specs.Passes.{Known}

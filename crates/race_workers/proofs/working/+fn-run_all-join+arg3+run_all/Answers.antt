@@ -1,5 +1,5 @@
-use Rattle.std.proofs.Common.{◌≡◌, ◌+◌, rules, of_calls, length, arith}
-use Rattle.std.specs.Prelude.{IfOk, IsSome}
+use Rattle.std.proofs.Common.{◌≡◌, ◌+◌, rules, length, arith}
+use Rattle.std.specs.Prelude.{IsSome}
 use Rattle.typing_rules.specs.TypedParts.{typed_program}
 use Rattle.race_workers.specs.Parts.{options, IsPassAt}
 use Rattle.race_workers.proofs.Lists.{popped, popped_length}
