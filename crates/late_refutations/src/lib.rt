@@ -3,11 +3,18 @@
 #![tactic(auto)]
 
 mod accepting;
+mod bounds;
+mod chains;
 mod dropping;
+mod late_trees;
 mod leaves;
+mod lemma_trees;
 mod lines;
+mod orders;
 mod refuting;
+mod searching;
 mod shrinking;
 mod types;
 
-pub use shrinking::late;
+pub use late_trees::late;
+pub use lemma_trees::{Calls, lemmas};

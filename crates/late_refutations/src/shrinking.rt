@@ -1,40 +1,14 @@
 //! The leaves of a tree, one after another.
 
-ghost use Rattle.std.specs.Prelude.{IfOk};
-ghost use Rattle.int_decide.specs.Answers.{RefutesWithin};
-
-use crate::accepting::accepted;
+use crate::bounds::Bound;
 use crate::leaves::late_leaf;
+use crate::orders::Order;
+use crate::types::Parts;
 use farkas_check::{Node, Refutation};
-use lin_rows::{Col, Row, RowFault, RowKind, System, row, tighten};
+use lin_rows::{Col, Row};
 use std::alloc::{AllocError, Global};
 
-/// How many rows may be looked at in all trials.
-const WORK: u64 = 2_000_000;
-
-/// A refutation of the same system, with no more cuts on a branch than `depth`, that uses late rows where it can: the cuts are
-/// kept, and each leaf goes without the first rows, and then without each row that it does not need, the first ones first. Rows of
-/// a path ascend by letter, so that facts begin as late as possible. All columns are below `columns`. Where nothing better is
-/// found, or the work has to end, it is the given one.
-pub fn late(
-    alloc: Global,
-    system: &System,
-    columns: u32,
-    refutation: &Refutation,
-    depth: u32,
-) -> Result<Refutation, AllocError>
-    requires { RefutesWithin depth system.now refutation.now }
-    ensures { IfOk result (RefutesWithin depth system.now) }
-{
-    if let Some(nodes) = late_nodes(alloc, system, columns, refutation)? {
-        if let Some(found) = accepted(alloc, system, depth, nodes)? {
-            return Ok(found);
-        }
-    }
-    refutation.copy()
-}
-
-/// The side of a cut on which a leaf is.
+/// A side of a cut.
 #[derive(Clone, Copy)]
 struct Side {
     column: Col,
@@ -42,73 +16,42 @@ struct Side {
     is_second: bool,
 }
 
-/// The row that holds on that side; `None` where a number would not fit.
-fn side_row(alloc: Global, side: Side) -> Result<Option<Row>, AllocError> {
-    let made = if side.is_second {
-        let Some(bound) = (-1i128).checked_sub(side.k) else {
-            return Ok(None);
+impl Side {
+    /// The bound that holds there; `None` where a number would not fit.
+    fn bound(self) -> Option<Bound> {
+        let first = Bound {
+            column: self.column,
+            is_turned: false,
+            k: self.k,
         };
-        row(alloc, &[(side.column, -1)], RowKind::Le, bound)
-    } else {
-        row(alloc, &[(side.column, 1)], RowKind::Le, side.k)
-    };
-    match made {
-        Ok(made) => Ok(Some(made)),
-        Err(RowFault::Past) => Ok(None),
-        Err(RowFault::Memory) => Err(AllocError),
+        if self.is_second {
+            first.opposite()
+        } else {
+            Some(first)
+        }
     }
 }
 
-/// The walk along a tree: the rows that hold where it is, and the new nodes.
+/// The walk along a tree: the rows that hold where it is, and the nodes made so far.
 #[derive(Drop)]
 struct Shrinking {
     alloc: Global,
     columns: u32,
-    /// The rows of the system, tightened, and then those of the sides.
+    /// How many rows the system has.
+    given: u32,
+    /// How many lemmas come after them.
+    lemmas: u32,
+    /// Those of the system, tightened, the lemmas, and then those of the sides.
     rows: Vec<Row>,
-    /// By column the number of the first row of the system that has it.
-    firsts: Vec<u32>,
+    order: Order,
     sides: Vec<Side>,
     nodes: Vec<Node>,
     /// How many rows may still be looked at.
     work: u64,
 }
 
-/// By column the number of the first row that has it.
-fn firsts_of(alloc: Global, rows: &[Row], columns: u32) -> Result<Vec<u32>, AllocError> {
-    let mut firsts = vec![in alloc; u32::MAX; columns as usize]?;
-    let mut number = 0u32;
-    for row in rows {
-        for (column, _) in row.terms() {
-            if let Some(first) = firsts.get_mut(*column as usize) {
-                *first = number.min(*first);
-            }
-        }
-        number = number.saturating_add(1);
-    }
-    Ok(firsts)
-}
-
 impl Shrinking {
-    /// The walk before the first node.
-    fn new(alloc: Global, system: &System, columns: u32) -> Result<Self, AllocError> {
-        let mut rows = Vec::with_capacity(alloc, system.rows.len())?;
-        for row in &system.rows {
-            rows.push(tighten(alloc, row)?)?;
-        }
-        let firsts = firsts_of(alloc, &rows, columns)?;
-        Ok(Shrinking {
-            alloc,
-            columns,
-            rows,
-            firsts,
-            sides: Vec::new(alloc),
-            nodes: Vec::new(alloc),
-            work: WORK,
-        })
-    }
-
-    /// Takes a node. False where it is of another kind, or a number would not fit.
+    /// Takes a node. False where it is of cases, or a number would not fit.
     fn take(&mut self, node: &Node) -> Result<bool, AllocError> {
         match node {
             Node::Leaf(parts) => self.shrink(parts),
@@ -126,29 +69,36 @@ impl Shrinking {
 
     /// Enters a side of a cut. False where a number would not fit.
     fn enter(&mut self, side: Side) -> Result<bool, AllocError> {
-        let Some(row) = side_row(self.alloc, side)? else {
+        let Some(bound) = side.bound() else {
             return Ok(false);
         };
+        let Some(row) = bound.row(self.alloc)? else {
+            return Ok(false);
+        };
+        let number = u32::try_from(self.rows.len()).unwrap_or(u32::MAX);
         self.rows.push(row)?;
+        self.order.push_beside(side.column, number)?;
         self.sides.push(side)?;
         Ok(true)
     }
 
     /// Takes a leaf, and goes on to the side after it. False where a number would not fit.
     fn shrink(&mut self, parts: &[(u32, i128)]) -> Result<bool, AllocError> {
-        let order = self.order()?;
+        let parts = moved_parts(self.alloc, parts, self.given, self.lemmas)?;
+        let order = self.order.numbers()?;
         let (late, work) = late_leaf(
             self.alloc,
             &self.rows,
             self.columns,
             &order,
-            parts,
+            &parts,
             self.work,
         )?;
         self.work = work;
         self.nodes.push(Node::Leaf(late))?;
         for _side in 0..self.sides.len() {
             let _row = self.rows.pop();
+            self.order.pop();
             let Some(side) = self.sides.pop() else {
                 break;
             };
@@ -161,38 +111,50 @@ impl Shrinking {
         }
         Ok(true)
     }
-
-    /// The numbers of the rows, each row of a side after the first row that has its column.
-    fn order(&self) -> Result<Vec<u32>, AllocError> {
-        let mut keys = Vec::with_capacity(self.alloc, self.rows.len())?;
-        let of_system = self.rows.len().saturating_sub(self.sides.len());
-        let mut number = 0u32;
-        for _row in 0..of_system {
-            keys.push((number, number))?;
-            number = number.saturating_add(1);
-        }
-        for side in &self.sides {
-            let key = self.firsts.get(side.column as usize).copied();
-            keys.push((key.unwrap_or(number), number))?;
-            number = number.saturating_add(1);
-        }
-        keys.sort()?;
-        let mut order = Vec::with_capacity(self.alloc, keys.len())?;
-        for (_, number) in &keys {
-            order.push(*number)?;
-        }
-        Ok(order)
-    }
 }
 
-/// The nodes of the late tree; `None` where it has cases, or a number would not fit.
-fn late_nodes(
+/// The parts with the numbers from one on raised.
+pub(crate) fn moved_parts(
     alloc: Global,
-    system: &System,
+    parts: &[(u32, i128)],
+    from: u32,
+    by: u32,
+) -> Result<Parts, AllocError> {
+    let mut moved = Vec::with_capacity(alloc, parts.len())?;
+    for (number, multiplier) in parts {
+        let number = if *number < from {
+            *number
+        } else {
+            number.saturating_add(by)
+        };
+        moved.push((number, *multiplier))?;
+    }
+    Ok(moved)
+}
+
+/// The nodes of a tree whose leaves go without the first rows of an order; `None` where it has cases, or a number would not fit. The
+/// rows are those of the system, tightened, and then lemmas, so many.
+pub(crate) fn shrunk(
+    alloc: Global,
     columns: u32,
+    rows: Vec<Row>,
+    lemmas: u32,
+    order: Order,
     refutation: &Refutation,
+    work: u64,
 ) -> Result<Option<Vec<Node>>, AllocError> {
-    let mut shrinking = Shrinking::new(alloc, system, columns)?;
+    let count = u32::try_from(rows.len()).unwrap_or(u32::MAX);
+    let mut shrinking = Shrinking {
+        alloc,
+        columns,
+        given: count.saturating_sub(lemmas),
+        lemmas,
+        rows,
+        order,
+        sides: Vec::new(alloc),
+        nodes: Vec::new(alloc),
+        work,
+    };
     for node in refutation.nodes() {
         if !shrinking.take(node)? {
             return Ok(None);

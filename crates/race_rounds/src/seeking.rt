@@ -3,17 +3,12 @@
 ghost use Rattle.std.specs.Prelude.{IfOk};
 ghost use Rattle.nwa_emptiness.specs.Found.{IsFound};
 
+use crate::plans::{Plan, plan_of};
 use concrete_walks::Walker;
 use letter_acts::Icfg;
 use nwa_base::{Nwa, accepts};
 use nwa_emptiness::{Found, find};
 use std::alloc::{AllocError, Global};
-
-/// How many letters the walker tries before the first round, in about 20 milliseconds.
-const FIRST_MOVES: u64 = 40_000;
-
-/// Before a later round it tries so many for each entry that there is.
-const MOVES_OF_AN_ENTRY: u64 = 100;
 
 /// A kept word: one that the walker proposes, else one that is found, or that no word is kept. `version` is how many entries there
 /// are. Workers with different numbers look in different orders.
@@ -27,11 +22,7 @@ pub fn kept_word(
 ) -> Result<Found, AllocError>
     ensures { IfOk result (IsFound kept.now) }
 {
-    let moves = if version == 0 {
-        FIRST_MOVES
-    } else {
-        version.saturating_mul(MOVES_OF_AN_ENTRY)
-    };
+    let Plan { moves, .. } = plan_of(worker, version);
     if let Some(word) = walker.slice(alloc, icfg, moves)? {
         if accepts(alloc, kept, &word)? {
             return Ok(Found::Word(word));

@@ -1,0 +1,49 @@
+//! What a worker does in a round.
+
+/// How many letters a walker tries before the first round, in about 20 milliseconds.
+const FIRST_MOVES: u64 = 80_000;
+
+/// Before a later round it tries so many for each entry that there is.
+const MOVES_OF_AN_ENTRY: u64 = 2_000;
+
+/// But it does not try more of them.
+const MOST_MOVES: u64 = 40_000;
+
+/// In how many rounds a worker keeps to its first choice.
+const FIRST_ROUNDS: u64 = 10;
+
+/// Which refutation of a word's rows the predicates of a round are made from.
+#[derive(Clone, Copy)]
+pub(crate) enum Choice {
+    /// By late rows: a loop that is left by its own guard gets the fact of the guard, and not a count of its turns.
+    Late,
+    /// With lemmas on parameters and old values: a recursion in which facts of the caller are needed gets a summary with a condition.
+    Entries,
+    /// With lemmas on what callees have where they return, too: results that bound each other.
+    Exits,
+}
+
+/// What a worker does in a round.
+#[derive(Clone, Copy)]
+pub(crate) struct Plan {
+    /// How many letters its walker tries, before a kept word is sought.
+    pub(crate) moves: u64,
+    pub(crate) choice: Choice,
+}
+
+/// The plan of a worker where there are so many entries. Each choice solves programs that the others do not, so they take turns;
+/// but in the first rounds, which are enough for most programs, worker 0 keeps to late rows, which cost least.
+pub(crate) fn plan_of(worker: u32, version: u64) -> Plan {
+    let moves = if version == 0 {
+        FIRST_MOVES
+    } else {
+        version.saturating_mul(MOVES_OF_AN_ENTRY).min(MOST_MOVES)
+    };
+    let turn = if version < FIRST_ROUNDS { 0 } else { version };
+    let choice = match turn.saturating_add(u64::from(worker)) % 3 {
+        0 => Choice::Late,
+        1 => Choice::Entries,
+        _ => Choice::Exits,
+    };
+    Plan { moves, choice }
+}
