@@ -10,10 +10,11 @@ ghost use Rattle.path_rows.specs.Paths.{IsPathOf};
 ghost use Rattle.path_decide.specs.Decided.{IsFinding, IsPlainFinding, IsRowsRefutation};
 ghost use Rattle.path_decide.specs.Found.{finding_of};
 
+use crate::calls::returned_calls;
 use difference_rows::laws::differences_are_decided;
 use farkas_check::Refutation;
 use int_decide::{Answer, DecideFault, decide, measure, plain};
-use late_refutations::late;
+use late_refutations::{Calls, late, lemmas};
 use lin_rows::System;
 use path_rows::PathSystem;
 use std::alloc::{AllocError, Global};
@@ -72,6 +73,31 @@ pub fn late_path(
         return refutation.copy();
     };
     late(alloc, path.system(), columns, refutation, depth)
+}
+
+/// A refutation of the rows of a word with lemmas on its returned calls, with at most `depth` cuts on a branch, from another; the late
+/// one where there is none. The lemmas are bounds of parameters and old values and, where exits are said, of what the callees have
+/// where they return.
+pub fn lemma_path(
+    alloc: Global,
+    path: &PathSystem,
+    refutation: &Refutation,
+    depth: u32,
+    with_exits: bool,
+) -> Result<Refutation, AllocError>
+    requires { IsRowsRefutation depth path.now.rows refutation.now }
+    ensures { IfOk result (IsRowsRefutation depth path.now.rows) }
+{
+    let Ok(columns) = u32::try_from(path.column_at().len()) else {
+        return refutation.copy();
+    };
+    let returned = returned_calls(alloc, path, with_exits)?;
+    let calls = Calls {
+        depths: &returned.depths,
+        candidates: &returned.candidates,
+        is_by_depth: with_exits,
+    };
+    lemmas(alloc, path.system(), columns, refutation, depth, calls)
 }
 
 /// The number of columns in 32 bits, where what Decide asks of its caller is met.

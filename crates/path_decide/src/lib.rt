@@ -1,6 +1,7 @@
 //! What Decide says of the rows of a word: whether it is feasible.
 #![tactic(auto)]
 
+mod calls;
 mod deciding;
 
-pub use deciding::{Finding, decide_path, late_path, plain_path};
+pub use deciding::{Finding, decide_path, late_path, lemma_path, plain_path};
