@@ -2,7 +2,9 @@
 //! removes the word, or an end. [`alone`] is the race of one worker.
 #![tactic(auto)]
 
+mod choosing;
 mod failing;
+mod plans;
 mod refining;
 mod seeking;
 mod settling;

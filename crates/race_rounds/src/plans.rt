@@ -1,13 +1,13 @@
 //! What a worker does in a round.
 
 /// How many letters a walker tries before the first round, in about 20 milliseconds.
-const FIRST_MOVES: u64 = 80_000;
+const FIRST_MOVES: u64 = 40_000;
 
-/// Before a later round it tries so many for each entry that there is.
-const MOVES_OF_AN_ENTRY: u64 = 2_000;
+/// Before a later round it tries so many for each pair of entries, so that short races lose nothing.
+const MOVES_OF_A_PAIR: u64 = 100;
 
 /// But it does not try more of them.
-const MOST_MOVES: u64 = 40_000;
+const MOST_MOVES: u64 = 100_000;
 
 /// In how many rounds a worker keeps to its first choice.
 const FIRST_ROUNDS: u64 = 10;
@@ -37,7 +37,8 @@ pub(crate) fn plan_of(worker: u32, version: u64) -> Plan {
     let moves = if version == 0 {
         FIRST_MOVES
     } else {
-        version.saturating_mul(MOVES_OF_AN_ENTRY).min(MOST_MOVES)
+        let pairs = version.saturating_mul(version);
+        pairs.saturating_mul(MOVES_OF_A_PAIR).min(MOST_MOVES)
     };
     let turn = if version < FIRST_ROUNDS { 0 } else { version };
     let choice = match turn.saturating_add(u64::from(worker)) % 3 {

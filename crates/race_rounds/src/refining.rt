@@ -9,11 +9,13 @@ ghost use Rattle.nested_predicates.specs.Interpolants.{RefutesRows, HasCutsUpTo}
 ghost use Rattle.race_rounds.specs.Ends.{Options};
 ghost use Rattle.race_rounds.specs.Rounds.{IsEvidence, IsRefined};
 
+use crate::choosing::chosen;
+use crate::plans::Choice;
 use farkas_check::Refutation;
 use itp_automaton::{BuildFault, Certified, build};
 use letter_acts::Icfg;
 use nested_itp::{ItpFault, interpolants};
-use path_decide::{Finding, late_path, plain_path};
+use path_decide::{Finding, plain_path};
 use path_rows::PathSystem;
 use race_core::Cause;
 use std::alloc::{AllocError, Global};
@@ -52,7 +54,8 @@ fn automaton_under<R: Threads + Sync>(
     }
 }
 
-/// The automaton under a late refutation, else under the one that was found, else under Decide's own, else why there is none.
+/// The automaton under the refutation that is chosen, else under the one that was found, else under Decide's own, else why there is
+/// none.
 pub(crate) fn refine<R: Threads + Sync>(
     rt: &R,
     alloc: Global,
@@ -60,14 +63,15 @@ pub(crate) fn refine<R: Threads + Sync>(
     path: &PathSystem,
     refutation: &Refutation,
     depth: u32,
+    choice: Choice,
 ) -> Result<Refined, AllocError>
     requires path { IsPathOf icfg.now path.now }
     requires refutation { IsRefutation icfg.now depth path.now.word refutation.now }
     requires depth { depth ≤ 64 }
     ensures { (t : TypedProgram) (o : Options) → icfg.now ≡ lowered t → o.depth ≡ depth → IfOk result (λ r. (n : ℕ) → IsRefined t o n path.now.word r) }
 {
-    let late = late_path(alloc, path, refutation, depth)?;
-    if let Some(automaton) = automaton_under(rt, alloc, icfg, path, &late)? {
+    let first = chosen(alloc, path, refutation, depth, choice)?;
+    if let Some(automaton) = automaton_under(rt, alloc, icfg, path, &first)? {
         return Ok(Refined::Evidence(automaton));
     }
     if let Some(automaton) = automaton_under(rt, alloc, icfg, path, refutation)? {

@@ -8,6 +8,7 @@ ghost use Rattle.race_rounds.specs.Ends.{Options};
 ghost use Rattle.race_rounds.specs.Rounds.{IsSettled};
 
 use crate::failing::failing;
+use crate::plans::{Plan, plan_of};
 use crate::refining::{Refined, refine};
 use itp_automaton::Certified;
 use letter_acts::Icfg;
@@ -28,7 +29,8 @@ pub enum Settled {
     Ended(End),
 }
 
-/// What is made of a kept word: an entry with it, or an end. `version` is how many entries there are.
+/// What is made of a kept word: an entry with it, or an end. `version` is how many entries there are. Workers with different numbers
+/// make different automata.
 pub fn settle<R: Threads + Sync>(
     rt: &R,
     alloc: Global,
@@ -37,6 +39,7 @@ pub fn settle<R: Threads + Sync>(
     rounds: u64,
     depth: u32,
     version: u64,
+    worker: u32,
     word: Word,
 ) -> Result<Settled, AllocError>
     requires lowered { icfg.now ≡ lowered (typed_program program.now) }
@@ -50,7 +53,8 @@ pub fn settle<R: Threads + Sync>(
             if version == rounds {
                 return Ok(unknown(Cause::Rounds, word));
             }
-            match refine(rt, alloc, icfg, &path, &refutation, depth)? {
+            let Plan { choice, .. } = plan_of(worker, version);
+            match refine(rt, alloc, icfg, &path, &refutation, depth, choice)? {
                 Refined::Evidence(evidence) => Ok(Settled::Removed(Entry { word, evidence })),
                 Refined::Unknown(cause) => Ok(unknown(cause, word)),
             }

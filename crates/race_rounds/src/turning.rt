@@ -81,7 +81,7 @@ pub(crate) fn turn<R: Threads + Sync>(
     match kept_word(alloc, icfg, state.kept(), version, 0, walker)? {
         Found::Empty => finish(state, End::Safe),
         Found::Word(word) => {
-            match settle(rt, alloc, program, icfg, rounds, depth, version, word)? {
+            match settle(rt, alloc, program, icfg, rounds, depth, version, 0, word)? {
                 Settled::Ended(end) => finish(state, end),
                 Settled::Removed(entry) => publish(alloc, state, entry)?,
             }

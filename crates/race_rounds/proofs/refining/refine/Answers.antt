@@ -12,12 +12,12 @@ use Rattle.race_rounds.proofs.Says.{predicates_pass}
 use Rattle.race_rounds.proofs.RowsRefuted.{rows_refuted}
 use Rattle.race_rounds.proofs.refining.refine.Goals as goal
 
-pub late_path-requires : goal.late_path-requires
-late_path-requires g c =
+pub chosen-requires : goal.chosen-requires
+chosen-requires g c =
     rows_refuted c.args.icfg.now c.args.depth c.args.path.now.word c.args.path.now.rows c.args.refutation.now c.requires.path.rows c.requires.refutation
 
 pub automaton_under-requires-clause-cuts : goal.automaton_under-requires-clause-cuts
-automaton_under-requires-clause-cuts g c κs within = few_cuts c.args.depth c.in_ok-late.late c.requires.depth c.in_ok-late.ensures.tree
+automaton_under-requires-clause-cuts g c κs within = few_cuts c.args.depth c.in_ok-first.first c.requires.depth c.in_ok-first.ensures.tree
 
 pub automaton_under-requires-2-clause-cuts : goal.automaton_under-requires-2-clause-cuts
 automaton_under-requires-2-clause-cuts g c κs within = few_cuts c.args.depth c.args.refutation.now c.requires.depth c.requires.refutation.tree
