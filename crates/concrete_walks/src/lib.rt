@@ -3,6 +3,7 @@
 #![tactic(auto)]
 
 mod choices;
+mod leading;
 mod moves;
 mod paths;
 mod random;

@@ -4,15 +4,17 @@ ghost use Rattle.std.specs.Prelude.{IfOk, IfSome};
 ghost use Rattle.concrete_walks.specs.Moves.{IsMove};
 
 use crate::choices::Choices;
+use crate::leading::Leading;
 use crate::moves::{Move, count, move_at};
 use crate::situations::Situation;
 use letter_acts::Icfg;
 use std::alloc::AllocError;
 
-/// Takes a letter that leads on from a place, if one can be taken, and answers its edge: one to a final place first, else those in
-/// order from a random one on. `tries` counts the letters that were tried.
+/// Takes a letter that leads on from a place, if one can be taken, and answers its edge: one to a final place first, else those to
+/// leading places in order from a random one on. `tries` counts the letters that were tried.
 pub(crate) fn step(
     icfg: &Icfg,
+    leading: &Leading,
     place: u32,
     before: Option<u32>,
     situation: &mut Situation,
@@ -34,7 +36,7 @@ pub(crate) fn step(
     for turn in 0..count {
         let number = first.wrapping_add(turn) % count;
         if let Some(next) = move_at(nwa, place, before, number) {
-            if attempt(icfg, situation, choices, tries, next)? {
+            if leading.contains(next.to()) && attempt(icfg, situation, choices, tries, next)? {
                 return Ok(Some(next));
             }
         }

@@ -2,6 +2,7 @@ ghost use Rattle.std.specs.Prelude.{◌≡◌, ◌||◌, IfOk, IfSome, Ok, None,
 ghost use Rattle.nwa_base.specs.Acceptance.{Accepts};
 
 use crate::choices::Choices;
+use crate::leading::Leading;
 use crate::walks::{Lengths, walk};
 use letter_acts::Icfg;
 use nwa_base::Word;
@@ -11,6 +12,7 @@ use std::marker::Model;
 /// What walks over a program. Contracts see whether it has found a word.
 #[derive(Drop)]
 pub struct Walker {
+    leading: Leading,
     choices: Choices,
     lengths: Lengths,
     found: bool,
@@ -30,6 +32,7 @@ impl Walker {
         ensures { IfOk result (λ w. w.found ≡ false) }
     {
         Ok(Walker {
+            leading: Leading::new(alloc, icfg.nwa())?,
             choices: Choices::new(alloc, icfg, worker)?,
             lengths: Lengths::new(),
             found: false,
@@ -57,11 +60,14 @@ impl Walker {
                 break;
             }
             let length = self.lengths.length();
-            if let Some(word) = walk(alloc, icfg, &mut self.choices, length, &mut tries)? {
+            let before = tries;
+            let (leading, choices) = (&self.leading, &mut self.choices);
+            if let Some(word) = walk(alloc, icfg, leading, choices, length, &mut tries)? {
                 self.found = true;
                 return Ok(Some(word));
             }
-            self.lengths.count_walk();
+            self.lengths
+                .count_walk(tries.saturating_sub(before) >= u64::from(length));
         }
         Ok(None)
     }

@@ -4,6 +4,7 @@ ghost use Rattle.std.specs.Prelude.{IfOk, IfSome};
 ghost use Rattle.nwa_base.specs.Acceptance.{Accepts};
 
 use crate::choices::Choices;
+use crate::leading::Leading;
 use crate::paths::Path;
 use crate::situations::Situation;
 use crate::stepping::step;
@@ -15,10 +16,13 @@ use std::alloc::{AllocError, Global};
 const FIRST_LENGTH: u32 = 50;
 
 /// How many letters a walk may have at most.
-const GREATEST_LENGTH: u32 = 2000;
+const GREATEST_LENGTH: u32 = 5000;
 
 /// After so many walks they may be a quarter longer.
 const WALKS_OF_A_LENGTH: u32 = 50;
+
+/// A walk that was cut off counts as so many.
+const WALKS_FOR_ONE_CUT_OFF: u32 = 10;
 
 /// How long walks may be.
 #[derive(Clone, Copy)]
@@ -42,9 +46,10 @@ impl Lengths {
         self.length
     }
 
-    /// One walk more was made.
-    pub fn count_walk(&mut self) {
-        self.walks = self.walks.saturating_add(1);
+    /// One walk more was made, which was cut off or not.
+    pub fn count_walk(&mut self, is_cut_off: bool) {
+        let count = if is_cut_off { WALKS_FOR_ONE_CUT_OFF } else { 1 };
+        self.walks = self.walks.saturating_add(count);
         if self.walks >= WALKS_OF_A_LENGTH {
             self.walks = 0;
             self.length = self
@@ -60,6 +65,7 @@ impl Lengths {
 pub(crate) fn walk(
     alloc: Global,
     icfg: &Icfg,
+    leading: &Leading,
     choices: &mut Choices,
     length: u32,
     tries: &mut u64,
@@ -71,7 +77,7 @@ pub(crate) fn walk(
     let mut situation = Situation::start(alloc, icfg, choices)?;
     for _ in 0..length {
         let (place, before) = (path.place(), path.before());
-        let Some(next) = step(icfg, place, before, &mut situation, choices, tries)? else {
+        let Some(next) = step(icfg, leading, place, before, &mut situation, choices, tries)? else {
             return Ok(None);
         };
         path.go(nwa, next)?;

@@ -82,6 +82,7 @@ fn seek<G: Gate + Sync, R: Threads + Wait + Sync>(
         rounds,
         depth,
         version,
+        number,
         word,
     )? {
         Settled::Ended(end) => Ok(finish(rt, job, number, pass, version, end)),

@@ -1,7 +1,14 @@
-use Rattle.std.proofs.Common.{◌≡◌, ◌+◌, rules, length, arith}
+use denote.Param.Send.{sendable}
+use Rattle.std.proofs.Common.{◌≡◌, ◌+◌, ◌<◌, rules, length, arith}
+use Rattle.std.proofs.Crossing as std
 use Rattle.std.specs.Prelude.{IsSome}
 use Rattle.typing_rules.specs.TypedParts.{typed_program}
 use Rattle.race_workers.specs.Parts.{options, IsPassAt}
+use Rattle.typing_rules.proofs.program.Typed.TheSendSync as typed
+use Rattle.letter_acts.proofs.graphs.Icfg.TheSendSync as graph
+use Rattle.itp_automaton.proofs.automata.Certified.TheSendSync as certified
+use Rattle.version_cell.proofs.cells.VersionCell.TheSendSync as cell
+use Rattle.version_cell.proofs.passes.Pass.TheSendSync as pass
 use Rattle.race_workers.proofs.Lists.{popped, popped_length}
 use Rattle.race_workers.proofs.Parts.{joins, still_ended, with_shares}
 use Rattle.race_workers.proofs.Closings.{ok_then, ok_map}
@@ -45,3 +52,16 @@ pub returns-in-Err-clause-ended : goal.returns-in-Err-clause-ended
 returns-in-Err-clause-ended g t c =
     ok_map c.join-one.result.1.0 (IsSome c.join-one.result.1.1.ended) (IsSome c.join.new.pass.ended)
     (still_ended c.join-one.result.1.1 c.join.new.pass c.join.ensures.second) c.join-one.ensures.second.1
+
+ruleset crossing = (typed.the_sync, graph.the_sync, certified.the_send, certified.the_sync, cell.the_sync, pass.the_send, sendable, std.crosses)
+
+pub join-one-requires-send-F : goal.join-one-requires-send-F
+join-one-requires-send-F g t c κs within = search crossing depth 40
+
+pub join-one-requires-after_bounds : goal.join-one-requires-after_bounds
+join-one-requires-after_bounds g t c κs within =
+    let parts = popped (IsPassAt c.args.job.now.cell.now (typed_program c.args.job.now.program.now) (options c.args.job.now.limits) 1) c.args.passes.items
+    c.pop.new.self.items c.in-Some.pass c.in-Some.ensures.items c.requires.passes in
+    let n = popped_length c.args.passes.items c.pop.new.self.items c.in-Some.pass c.in-Some.ensures.items in
+    let some : 0 < length c.pop.new.self.items = search rules in
+    ((search crossing, (search crossing, (c.requires.job, parts.1))), (search crossing, (search crossing, (c.requires.job, (parts.0, (some, omega (arith, n, c.requires.numbers)))))))
