@@ -59,4 +59,6 @@ mod RespelledLists
 mod RespelledStatements
 mod RespelledPrograms
 mod RespelledLimits
+mod FewestParentheses
 mod RoundTrip
+mod FewestPrograms

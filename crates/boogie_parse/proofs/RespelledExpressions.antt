@@ -99,7 +99,7 @@ module _ {p : ℕ} {ts r : List Symbol} {e : Expression} where
   rises Unary = up_unary
   rises Primary = up_primary
 
-stands_itself : (l : Level) → may_stand l l ≡ true
+pub stands_itself : (l : Level) → may_stand l l ≡ true
 stands_itself Equivalence = refl
 stands_itself Implication = refl
 stands_itself Junction = refl
@@ -123,48 +123,48 @@ primary_stands Product = refl
 primary_stands Unary = refl
 primary_stands Primary = refl
 
-each_stands : (k : Level) → may_stand Equivalence k ≡ true
+pub each_stands : (k : Level) → may_stand Equivalence k ≡ true
 each_stands Equivalence = refl
 each_stands k = refl
 
 -- what may stand at a level may stand at the one above it
-stands_unary : (k : Level) → may_stand Primary k ≡ true → may_stand Unary k ≡ true
+pub stands_unary : (k : Level) → may_stand Primary k ≡ true → may_stand Unary k ≡ true
 stands_unary Primary c = refl
 stands_unary k c = no_truth c
 
-stands_comparison : (k : Level) → may_stand Sum k ≡ true → may_stand Comparison k ≡ true
+pub stands_comparison : (k : Level) → may_stand Sum k ≡ true → may_stand Comparison k ≡ true
 stands_comparison Sum c = refl
 stands_comparison Product c = refl
 stands_comparison Unary c = refl
 stands_comparison Primary c = refl
 stands_comparison k c = no_truth c
 
-stands_implication : (k : Level) → may_stand Junction k ≡ true → may_stand Implication k ≡ true
+pub stands_implication : (k : Level) → may_stand Junction k ≡ true → may_stand Implication k ≡ true
 stands_implication Equivalence c = no_truth c
 stands_implication k c = refl
 
-stands_conjoined : (k : Level) → may_stand Conjunction k ≡ true → may_stand Junction k ≡ true
+pub stands_conjoined : (k : Level) → may_stand Conjunction k ≡ true → may_stand Junction k ≡ true
 stands_conjoined Equivalence c = no_truth c
 stands_conjoined Implication c = no_truth c
 stands_conjoined k c = refl
 
-stands_disjoined : (k : Level) → may_stand Disjunction k ≡ true → may_stand Junction k ≡ true
+pub stands_disjoined : (k : Level) → may_stand Disjunction k ≡ true → may_stand Junction k ≡ true
 stands_disjoined Equivalence c = no_truth c
 stands_disjoined Implication c = no_truth c
 stands_disjoined k c = refl
 
-stands_product : (k : Level) → may_stand Unary k ≡ true → may_stand Product k ≡ true
+pub stands_product : (k : Level) → may_stand Unary k ≡ true → may_stand Product k ≡ true
 stands_product Unary c = refl
 stands_product Primary c = refl
 stands_product k c = no_truth c
 
-stands_sum : (k : Level) → may_stand Product k ≡ true → may_stand Sum k ≡ true
+pub stands_sum : (k : Level) → may_stand Product k ≡ true → may_stand Sum k ≡ true
 stands_sum Product c = refl
 stands_sum Unary c = refl
 stands_sum Primary c = refl
 stands_sum k c = no_truth c
 
-stands_conjunction : (k : Level) → may_stand Comparison k ≡ true → may_stand Conjunction k ≡ true
+pub stands_conjunction : (k : Level) → may_stand Comparison k ≡ true → may_stand Conjunction k ≡ true
 stands_conjunction Equivalence c = no_truth c
 stands_conjunction Implication c = no_truth c
 stands_conjunction Junction c = no_truth c
@@ -172,7 +172,7 @@ stands_conjunction Conjunction c = no_truth c
 stands_conjunction Disjunction c = no_truth c
 stands_conjunction k c = refl
 
-stands_disjunction : (k : Level) → may_stand Comparison k ≡ true → may_stand Disjunction k ≡ true
+pub stands_disjunction : (k : Level) → may_stand Comparison k ≡ true → may_stand Disjunction k ≡ true
 stands_disjunction Equivalence c = no_truth c
 stands_disjunction Implication c = no_truth c
 stands_disjunction Junction c = no_truth c
@@ -180,7 +180,7 @@ stands_disjunction Conjunction c = no_truth c
 stands_disjunction Disjunction c = no_truth c
 stands_disjunction k c = refl
 
-stands_chain : (l k : Level) → is_chain l ≡ true → may_stand (right_of l) k ≡ true → may_stand l k ≡ true
+pub stands_chain : (l k : Level) → is_chain l ≡ true → may_stand (right_of l) k ≡ true → may_stand l k ≡ true
 stands_chain Equivalence k c h = each_stands k
 stands_chain Conjunction k c h = stands_conjunction k h
 stands_chain Disjunction k c h = stands_disjunction k h
@@ -189,11 +189,11 @@ stands_chain Product k c h = stands_product k h
 stands_chain l k c h = no_truth c
 
 -- the operators of a chain
-record IsOfChain (l : Level) (o : Op) : Type 0 where
+pub record IsOfChain (l : Level) (o : Op) : Type 0 where
   pub level : level_of_operator o ≡ l
   pub left : left_of l ≡ l
 
-chain_operator : (l : Level) (f : Fixed) (o : Op) → links l f ≡ Some o → IsOfChain l o
+pub chain_operator : (l : Level) (f : Fixed) (o : Op) → links l f ≡ Some o → IsOfChain l o
 chain_operator Equivalence fixed.Iff o e = let s : op.Iff ≡ o = cc in record { level = ap level_of_operator (sym s); left = refl }
 chain_operator Conjunction fixed.And o e = let s : op.And ≡ o = cc in record { level = ap level_of_operator (sym s); left = refl }
 chain_operator Disjunction fixed.Or o e = let s : op.Or ≡ o = cc in record { level = ap level_of_operator (sym s); left = refl }
@@ -204,7 +204,7 @@ chain_operator Product fixed.Div o e = let s : op.Div ≡ o = cc in record { lev
 chain_operator Product fixed.Mod o e = let s : op.Mod ≡ o = cc in record { level = ap level_of_operator (sym s); left = refl }
 chain_operator l f o e = absurd (let n : None ≡ Some o = e in cc)
 
-comparison_operator : (f : Fixed) (o : Op) → compares f ≡ Some o → level_of_operator o ≡ Comparison
+pub comparison_operator : (f : Fixed) (o : Op) → compares f ≡ Some o → level_of_operator o ≡ Comparison
 comparison_operator fixed.Equal o e = let s : op.Eq ≡ o = cc in ap level_of_operator (sym s)
 comparison_operator fixed.Unequal o e = let s : op.Ne ≡ o = cc in ap level_of_operator (sym s)
 comparison_operator fixed.Less o e = let s : op.Lt ≡ o = cc in ap level_of_operator (sym s)

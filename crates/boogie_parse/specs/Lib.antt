@@ -32,3 +32,4 @@ pub mod Settled
 pub mod WholeText
 pub mod PrintedTokens
 pub mod Respelled
+pub mod Parentheses

@@ -14,6 +14,6 @@ pub use fault::{Fault, What, Which};
 pub use lexer::{Token, lex};
 pub use token::TokenKind;
 pub use whole_text::{
-    one_program_tree, parse, printed_programs_are_read_again, programs_are_spellable,
-    texts_are_read,
+    one_program_tree, parentheses_are_needed, parse, printed_programs_are_read_again,
+    programs_are_spellable, texts_are_read,
 };

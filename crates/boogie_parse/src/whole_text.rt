@@ -8,6 +8,7 @@ ghost use Rattle.boogie_parse.specs.Lexed.{lexed};
 ghost use Rattle.boogie_parse.specs.GrammarLimits.{IsProgram};
 ghost use Rattle.boogie_parse.specs.ListViews.{Gives};
 ghost use Rattle.boogie_parse.specs.PrintedTokens.{IsSpellableProgram};
+ghost use Rattle.boogie_parse.specs.Parentheses.{ParenthesesAreNeeded};
 ghost use Rattle.boogie_parse.specs.Respelled.{IsProgramAgain};
 ghost use Rattle.boogie_tree.specs.Printing.{program_text};
 ghost use Rattle.boogie_parse.specs.WholeText.{end_of, read_text, IsOrMemory, IsOutside, IfSyntax, IfLimit, IsLimitAt, IfTokenFault, IsFaultOf};
@@ -58,6 +59,12 @@ pub fn printed_programs_are_read_again()
 /// The names of a program that a text spells are names of the language, no keyword among them, and its literals are in range.
 pub fn programs_are_spellable()
     ensures { (text : List ℕ) (ds : List Declaration) → IsProgram text ds → IsSpellableProgram ds }
+{}
+
+/// The text that a program is printed as opens no more parentheses than any text of that program. So none of its parentheses is
+/// superfluous: without it the grammar reads another program.
+pub fn parentheses_are_needed()
+    ensures { ParenthesesAreNeeded }
 {}
 
 /// A text spells one program at most.
