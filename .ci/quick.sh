@@ -19,4 +19,20 @@ for path in $(grep -oE '(examples|docs|bench)/[A-Za-z0-9_./-]+' README.md | sort
   [ -e "${path%.}" ] || wrong "README.md names $path, which is not there"
 done
 [ -x automizer ] || wrong 'the script ./automizer is not there'
+# The examples are verified as they say, by the proved program, and each verdict is confirmed.
+program=crates/automizer/out/automizer
+if [ -x "$program" ]; then
+  text=$(mktemp) || exit 1
+  for path in examples/verify/*.bpl; do
+    read -r verdict most < <(sed -nE 's|^// By verify: ([a-z]+)(, within ([0-9]+) rounds?)?[.]$|\1 \3|p' "$path")
+    timeout 60 "$program" verify "$path" >"$text"
+    [ "$(sed -n 1p "$text")" = "$verdict" ] || wrong "$path is not verified as $verdict"
+    rounds=$(sed -n '2s/^rounds //p' "$text")
+    [ -z "$most" ] || [ "${rounds:-$((most + 1))}" -le "$most" ] || wrong "$path took $rounds rounds, more than $most"
+    mode=check
+    [ "$verdict" = safe ] || mode=replay
+    "$program" "$mode" "$path" "$text" >"$text.answer" || wrong "what is said of $path is not confirmed"
+  done
+  rm -f "$text" "$text.answer"
+fi
 exit "$failed"
