@@ -4,8 +4,6 @@
 #[cfg(test)]
 mod graphs;
 #[cfg(test)]
-mod interpolants;
-#[cfg(test)]
 mod rows;
 #[cfg(test)]
 mod unwinding;
