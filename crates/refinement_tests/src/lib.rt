@@ -1,4 +1,4 @@
-//! Tests of the refinement: rows of words, walks, interpolants and unwindings.
+//! Tests of the refinement: rows of words, walks and unwindings.
 #![tactic(auto)]
 
 #[cfg(test)]
