@@ -1,0 +1,106 @@
+use Rattle.std.proofs.Common.{sym, subst, refl}
+use Rattle.std.specs.Arc.{arc_value}
+use Rattle.nwa_base.specs.Automata.{Automaton}
+use Rattle.nwa_base.specs.Acceptance.{Accepts}
+use Rattle.nwa_emptiness.specs.declared.finding.Found.{Found}
+use Rattle.nwa_emptiness.specs.Found.{IsFound}
+use Rattle.typing_rules.specs.TypedParts.{typed_program}
+use Rattle.race_rounds.specs.declared.settling.Settled.{Settled}
+use Rattle.race_rounds.specs.Rounds.{IsSettled}
+use Rattle.race_workers.specs.Parts.{options}
+use Rattle.race_workers.proofs.Parts.{safe, says, error_word, settled_word, settled_own}
+use Rattle.race_workers.proofs.rounds.seek.Goals as goal
+
+pub returns-in_err-word-clause-pass : goal.returns-in_err-word-clause-pass
+returns-in_err-word-clause-pass g c = c.requires.pass
+
+pub finish-requires-clause-job : goal.finish-requires-clause-job
+finish-requires-clause-job g c κs within = c.requires.job
+
+pub finish-requires-clause-pass : goal.finish-requires-clause-pass
+finish-requires-clause-pass g c κs within = c.requires.pass
+
+pub finish-requires-clause-version : goal.finish-requires-clause-version
+finish-requires-clause-version g c κs within = c.requires.seen.0
+
+pub finish-requires-clause-end : goal.finish-requires-clause-end
+finish-requires-clause-end g c κs within =
+    let f = subst (λ (x : Found). IsFound c.deref.result.now x) c.in-Empty.is c.in_ok-word.ensures in
+    safe (typed_program c.args.job.now.program.now) c.args.job.now.icfg.now c.args.job.now.limits (options c.args.job.now.limits) c.args.job.now.cell.now c.args.pass.now c.args.snapshot.now.version (arc_value c.args.snapshot.now.kept)
+    c.requires.job c.requires.pass.of_cell c.requires.seen (λ w a. f w (subst (λ (m : Automaton). Accepts m w) (sym c.deref.ensures) a))
+
+pub returns-in-Empty-clause-pass : goal.returns-in-Empty-clause-pass
+returns-in-Empty-clause-pass g c = c.finish.ensures.pass
+
+pub returns-in-Empty-clause-turn : goal.returns-in-Empty-clause-turn
+returns-in-Empty-clause-turn g c = c.finish.ensures.turn
+
+pub settle-requires-clause-lowered : goal.settle-requires-clause-lowered
+settle-requires-clause-lowered g c κs within = c.requires.job.lowered
+
+pub settle-requires-clause-accepted : goal.settle-requires-clause-accepted
+settle-requires-clause-accepted g c κs within =
+    error_word (typed_program c.args.job.now.program.now) c.args.job.now.icfg.now c.args.job.now.limits c.args.job.now.cell.now c.args.pass.now c.args.snapshot.now.version (arc_value c.args.snapshot.now.kept) c.in-Word.word
+    c.requires.job c.requires.pass.of_cell c.requires.seen (subst (λ (m : Automaton). Accepts m c.in-Word.word) c.deref.ensures
+    (subst (λ (x : Found). IsFound c.deref.result.now x) c.in-Word.is c.in_ok-word.ensures))
+
+pub settle-requires-clause-depth : goal.settle-requires-clause-depth
+settle-requires-clause-depth g c κs within = c.requires.job.depth
+
+pub returns-in_err-end-clause-pass : goal.returns-in_err-end-clause-pass
+returns-in_err-end-clause-pass g c = c.requires.pass
+
+pub finish-requires-in-Ended-clause-job : goal.finish-requires-in-Ended-clause-job
+finish-requires-in-Ended-clause-job g c κs within = c.requires.job
+
+pub finish-requires-in-Ended-clause-pass : goal.finish-requires-in-Ended-clause-pass
+finish-requires-in-Ended-clause-pass g c κs within = c.requires.pass
+
+pub finish-requires-in-Ended-clause-version : goal.finish-requires-in-Ended-clause-version
+finish-requires-in-Ended-clause-version g c κs within = c.requires.seen.0
+
+pub finish-requires-in-Ended-clause-end : goal.finish-requires-in-Ended-clause-end
+finish-requires-in-Ended-clause-end g c κs within =
+    let t = typed_program c.args.job.now.program.now in
+    let o = options c.args.job.now.limits in
+    let s = subst (λ (s : Settled). IsSettled t o c.args.snapshot.now.version c.in-Word.word s) c.in-Ended.is (c.in_ok-end.ensures o refl refl) in
+    says (typed_program c.args.job.now.program.now) c.args.job.now.icfg.now c.args.job.now.limits o c.args.job.now.cell.now c.args.pass.now c.args.snapshot.now.version (arc_value c.args.snapshot.now.kept) c.in-Word.word c.in-Ended.end
+    c.requires.job c.requires.pass.of_cell c.requires.seen (subst (λ (m : Automaton). Accepts m c.in-Word.word) c.deref.ensures
+    (subst (λ (x : Found). IsFound c.deref.result.now x) c.in-Word.is c.in_ok-word.ensures)) s
+
+pub offer-requires-clause-job : goal.offer-requires-clause-job
+offer-requires-clause-job g c κs within = c.requires.job
+
+pub offer-requires-clause-pass : goal.offer-requires-clause-pass
+offer-requires-clause-pass g c κs within = c.requires.pass
+
+pub offer-requires-clause-seen : goal.offer-requires-clause-seen
+offer-requires-clause-seen g c κs within = c.requires.seen
+
+pub offer-requires-clause-kept : goal.offer-requires-clause-kept
+offer-requires-clause-kept g c κs within =
+    let t = typed_program c.args.job.now.program.now in
+    let o = options c.args.job.now.limits in
+    let s = subst (λ (s : Settled). IsSettled t o c.args.snapshot.now.version c.in-Word.word s) c.in-Removed.is (c.in_ok-end.ensures o refl refl) in
+    settled_word t o c.args.snapshot.now.version c.in-Word.word c.in-Removed.entry (arc_value c.args.snapshot.now.kept) s
+    (subst (λ (m : Automaton). Accepts m c.in-Word.word) c.deref.ensures
+    (subst (λ (x : Found). IsFound c.deref.result.now x) c.in-Word.is c.in_ok-word.ensures))
+
+pub offer-requires-clause-own : goal.offer-requires-clause-own
+offer-requires-clause-own g c κs within =
+    let t = typed_program c.args.job.now.program.now in
+    let o = options c.args.job.now.limits in
+    let s = subst (λ (s : Settled). IsSettled t o c.args.snapshot.now.version c.in-Word.word s) c.in-Removed.is (c.in_ok-end.ensures o refl refl) in
+    settled_own t o c.args.snapshot.now.version c.in-Word.word c.in-Removed.entry s
+
+pub returns-in-Ended-clause-pass : goal.returns-in-Ended-clause-pass
+returns-in-Ended-clause-pass g c = c.finish-in-Ended.ensures.pass
+
+pub returns-in-Ended-clause-turn : goal.returns-in-Ended-clause-turn
+returns-in-Ended-clause-turn g c = c.finish-in-Ended.ensures.turn
+
+pub returns-in-Removed-clause-pass : goal.returns-in-Removed-clause-pass
+returns-in-Removed-clause-pass g c = c.offer.ensures.pass
+
+pub returns-in-Removed-clause-turn : goal.returns-in-Removed-clause-turn
+returns-in-Removed-clause-turn g c = c.offer.ensures.turn

@@ -1,0 +1,15 @@
+use crate::limits::Limits;
+use itp_automaton::Certified;
+use letter_acts::Icfg;
+use typing_rules::Typed;
+use version_cell::VersionCell;
+
+/// What all workers of a race share.
+#[derive(Drop)]
+pub(crate) struct Job<'a, G> {
+    pub(crate) program: &'a Typed,
+    pub(crate) icfg: &'a Icfg,
+    pub(crate) limits: Limits,
+    pub(crate) cell: &'a VersionCell<Certified>,
+    pub(crate) gate: &'a G,
+}

@@ -1,0 +1,18 @@
+//! The race of several workers over one program. Each worker reads what is kept, makes an automaton that removes a kept word and
+//! what is kept then, and publishes both against the version that it read, or ends the race. [`race`] runs the workers in threads
+//! and answers the closed state, of which the same is promised for every number of workers and every schedule.
+#![tactic(auto)]
+
+mod finishing;
+mod gates;
+mod jobs;
+mod limits;
+mod offering;
+mod racing;
+mod rounds;
+mod splitting;
+mod working;
+
+pub use gates::{Gate, Moment, NoGate};
+pub use limits::Limits;
+pub use racing::race;

@@ -1,0 +1,75 @@
+//! The race of several workers.
+
+ghost use Rattle.std.specs.Prelude.{◌≡◌, ◌≤◌, ◌+◌, IfOk, IsSome};
+ghost use Rattle.typing_rules.specs.TypedParts.{typed_program};
+ghost use Rattle.lowered_graph.specs.Lowered.{lowered};
+ghost use Rattle.race_rounds.specs.Ends.{Options};
+ghost use Rattle.race_rounds.specs.Rounds.{IsRaceOf};
+ghost use Rattle.race_workers.specs.Parts.{options, IsJob, IsPassAt, IsFresh};
+
+use crate::gates::Gate;
+use crate::jobs::Job;
+use crate::limits::Limits;
+use crate::splitting::split_all;
+use crate::working::run_all;
+use itp_automaton::Certified;
+use letter_acts::Icfg;
+use race_core::Shared;
+use std::alloc::{AllocError, Global};
+use std::sync::{Arc, Wait};
+use std::thread::Threads;
+use typing_rules::Typed;
+use version_cell::{Pass, create};
+
+/// Splits a pass off for each worker, runs the workers, and joins their passes. It fails where no worker saw the end.
+fn run<G: Gate + Sync, R: Threads + Wait + Sync>(
+    rt: &R,
+    alloc: Global,
+    job: &Job<'_, G>,
+    pass: Pass<Certified>,
+) -> Result<Pass<Certified>, AllocError>
+    requires job { IsJob (typed_program job.now.program.now) job.now.icfg.now job.now.limits job.now.cell.now }
+    requires workers { (1 ≤ job.now.limits.workers) × (job.now.limits.workers ≤ 64) }
+    requires fresh { IsFresh job.now.cell.now (job.now.limits.workers + 1) pass }
+    ensures pass { IfOk result (IsPassAt job.now.cell.now (typed_program job.now.program.now) (options job.now.limits) (job.now.limits.workers + 1)) }
+    ensures ended { IfOk result (λ p. IsSome p.ended) }
+{
+    let mut pass = pass;
+    let passes = split_all(alloc, job.cell, &mut pass, job.limits.workers)?;
+    let (done, other) = run_all(rt, alloc, job, 0, passes);
+    job.cell.join(&mut pass, other);
+    done?;
+    Ok(pass)
+}
+
+/// The race of as many workers as the limits say over a program and its graph, to its end. Each takes kept words, decides their
+/// rows, and removes each with all words of an automaton of infeasible ones, or ends the race, after `rounds` entries at the
+/// latest. Decide has at most `depth` cuts on a branch. The gate is called at each moment and decides nothing.
+pub fn race<G: Gate + Sync, R: Threads + Wait + Sync>(
+    rt: &R,
+    alloc: Global,
+    program: &Typed,
+    icfg: &Icfg,
+    limits: Limits,
+    gate: &G,
+) -> Result<Shared<Certified>, AllocError>
+    requires lowered { icfg.now ≡ lowered (typed_program program.now) }
+    requires rounds { (1 ≤ limits.rounds) × (limits.rounds ≤ 100000) }
+    requires workers { (1 ≤ limits.workers) × (limits.workers ≤ 64) }
+    requires depth { limits.depth ≤ 64 }
+    ensures race { IfOk result (λ r. (o : Options) → o.rounds ≡ limits.rounds → o.depth ≡ limits.depth → IsRaceOf (typed_program program.now) o r) }
+    ensures ended { IfOk result (λ r. IsSome r.end) }
+{
+    let automaton = Arc::new(alloc, icfg.nwa().copy()?)?;
+    let shares = limits.workers as u64 + 1;
+    let (cell, pass) = create::<Certified>(alloc, automaton, limits.rounds, shares)?;
+    let job = Job {
+        program,
+        icfg,
+        limits,
+        cell: &cell,
+        gate,
+    };
+    let pass = run(rt, alloc, &job, pass)?;
+    Ok(cell.close(pass))
+}

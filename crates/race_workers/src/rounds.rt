@@ -1,0 +1,119 @@
+//! Rounds of one worker.
+
+ghost use Rattle.std.specs.Prelude.{IfOk, IfSome};
+ghost use Rattle.std.specs.Arc.{arc_value};
+ghost use Rattle.nwa_base.specs.Acceptance.{Accepts};
+ghost use Rattle.typed_tree.specs.TypedTree.{TypedProgram};
+ghost use Rattle.typing_rules.specs.TypedParts.{typed_program};
+ghost use Rattle.race_rounds.specs.Rounds.{IsOwn};
+ghost use Rattle.race_workers.specs.Parts.{options, IsJob, IsPassAt, IsAsSeen, Leaves};
+
+use crate::finishing::finish;
+use crate::gates::{Gate, Moment};
+use crate::jobs::Job;
+use crate::limits::Limits;
+use crate::offering::offer;
+use concrete_walks::Walker;
+use itp_automaton::Certified;
+use nwa_base::{Nwa, accepts};
+use nwa_emptiness::Found;
+use race_core::{End, Entry};
+use race_rounds::{Settled, kept_word, settle};
+use std::alloc::{AllocError, Global};
+use std::sync::Wait;
+use std::thread::Threads;
+use version_cell::{Pass, Snapshot};
+
+/// What a worker does after a round.
+#[derive(Drop)]
+pub enum Turn {
+    /// It takes another round, with an entry that was refused as stale.
+    Again(Option<Entry<Certified>>),
+    /// It stops, since the race has ended.
+    Over,
+}
+
+/// The entry, where its word is still kept.
+fn still_kept(
+    alloc: Global,
+    kept: &Nwa,
+    carried: Option<Entry<Certified>>,
+) -> Result<Option<Entry<Certified>>, AllocError>
+    ensures kept { IfOk result (λ o. IfSome o (λ e. Accepts kept.now e.word)) }
+    ensures own { (t : TypedProgram) → IfSome carried (IsOwn t) → IfOk result (λ o. IfSome o (IsOwn t)) }
+{
+    let Some(entry) = carried else {
+        return Ok(None);
+    };
+    if accepts(alloc, kept, &entry.word)? {
+        Ok(Some(entry))
+    } else {
+        Ok(None)
+    }
+}
+
+/// Takes a kept word, and removes it by an entry or ends the race.
+fn seek<G: Gate + Sync, R: Threads + Wait + Sync>(
+    rt: &R,
+    alloc: Global,
+    job: &Job<'_, G>,
+    number: u32,
+    pass: &mut Pass<Certified>,
+    walker: &mut Walker,
+    snapshot: &Snapshot,
+) -> Result<Turn, AllocError>
+    requires job { IsJob (typed_program job.now.program.now) job.now.icfg.now job.now.limits job.now.cell.now }
+    requires pass { IsPassAt job.now.cell.now (typed_program job.now.program.now) (options job.now.limits) pass.old.shares pass.old }
+    requires seen { IsAsSeen pass.old snapshot.now.version (arc_value snapshot.now.kept) }
+    ensures pass { IsPassAt job.now.cell.now (typed_program job.now.program.now) (options job.now.limits) pass.old.shares pass.new }
+    ensures turn { IfOk result (Leaves (typed_program job.now.program.now) pass.new) }
+{
+    let version = snapshot.version;
+    let word = match kept_word(alloc, job.icfg, &snapshot.kept, version, number, walker)? {
+        Found::Word(word) => word,
+        Found::Empty => return Ok(finish(rt, job, number, pass, version, End::Safe)),
+    };
+    let Limits { rounds, depth, .. } = job.limits;
+    match settle(
+        rt,
+        alloc,
+        job.program,
+        job.icfg,
+        rounds,
+        depth,
+        version,
+        number,
+        word,
+    )? {
+        Settled::Ended(end) => Ok(finish(rt, job, number, pass, version, end)),
+        Settled::Removed(entry) => offer(rt, alloc, job, number, pass, snapshot, entry),
+    }
+}
+
+/// One round: the worker reads, and where the race has not ended it offers what it carries, where the word of that is still kept,
+/// or takes a kept word.
+pub(crate) fn round<G: Gate + Sync, R: Threads + Wait + Sync>(
+    rt: &R,
+    alloc: Global,
+    job: &Job<'_, G>,
+    number: u32,
+    pass: &mut Pass<Certified>,
+    walker: &mut Walker,
+    carried: Option<Entry<Certified>>,
+) -> Result<Turn, AllocError>
+    requires job { IsJob (typed_program job.now.program.now) job.now.icfg.now job.now.limits job.now.cell.now }
+    requires pass { IsPassAt job.now.cell.now (typed_program job.now.program.now) (options job.now.limits) pass.old.shares pass.old }
+    requires carried { IfSome carried (IsOwn (typed_program job.now.program.now)) }
+    ensures pass { IsPassAt job.now.cell.now (typed_program job.now.program.now) (options job.now.limits) pass.old.shares pass.new }
+    ensures turn { IfOk result (Leaves (typed_program job.now.program.now) pass.new) }
+{
+    job.gate.at(number, Moment::Reading);
+    let snapshot = job.cell.read(rt, pass)?;
+    if snapshot.ended.is_some() {
+        return Ok(Turn::Over);
+    }
+    match still_kept(alloc, &snapshot.kept, carried)? {
+        Some(entry) => offer(rt, alloc, job, number, pass, &snapshot, entry),
+        None => seek(rt, alloc, job, number, pass, walker, &snapshot),
+    }
+}

@@ -1,0 +1,28 @@
+//! Passes for workers.
+
+ghost use Rattle.std.specs.Prelude.{◌≡◌, ◌+◌, length, IfOk, OnOk};
+ghost use Rattle.std.specs.List.{AllByRecursion};
+ghost use Rattle.race_workers.specs.Parts.{IsFresh};
+
+use itp_automaton::Certified;
+use std::alloc::{AllocError, Global};
+use version_cell::{Pass, VersionCell};
+
+/// A pass for each worker, split from one that keeps a share.
+pub(crate) fn split_all(
+    alloc: Global,
+    cell: &VersionCell<Certified>,
+    pass: &mut Pass<Certified>,
+    workers: u32,
+) -> Result<Vec<Pass<Certified>>, AllocError>
+    requires { IsFresh cell.now (workers + 1) pass.old }
+    ensures pass { OnOk result (IsFresh cell.now 1 pass.new) }
+    ensures parts { IfOk result (λ v. (length v.items ≡ workers) × AllByRecursion (IsFresh cell.now 1) v.items) }
+{
+    let mut parts = Vec::new(alloc);
+    'parts: while parts.len() < workers as usize {
+        let part = cell.split(pass);
+        parts.push(part)?;
+    }
+    Ok(parts)
+}
