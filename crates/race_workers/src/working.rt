@@ -85,7 +85,7 @@ pub(crate) fn run_all<G: Gate + Sync, R: Threads + Wait + Sync>(
     let (cell, gate) = (job.cell, job.gate);
     let (one, others) = join(
         rt,
-        || -> (Result<(), AllocError>, Pass<Certified>)
+        move || -> (Result<(), AllocError>, Pass<Certified>)
             requires { IsSync R.row × IsSync G.row × IsJob (typed_program program.now) icfg.now limits cell.now × IsPassAt cell.now (typed_program program.now) (options limits) 1 pass }
             ensures { IsPassAt cell.entry.now (typed_program program.entry.now) (options limits) 1 result.1 × IfOk result.0 (λ _. IsSome result.1.ended) }
         {
@@ -98,7 +98,7 @@ pub(crate) fn run_all<G: Gate + Sync, R: Threads + Wait + Sync>(
             };
             work(rt, alloc, &job, first, pass)
         },
-        || -> (Result<(), AllocError>, Pass<Certified>)
+        move || -> (Result<(), AllocError>, Pass<Certified>)
             requires { IsSync R.row × IsSync G.row × IsJob (typed_program program.now) icfg.now limits cell.now × AllByRecursion (IsPassAt cell.now (typed_program program.now) (options limits) 1) passes.items × (0 < length passes.items) × (first + 1 + length passes.items ≤ 64) }
             ensures { IsPassAt cell.entry.now (typed_program program.entry.now) (options limits) (length passes.items) result.1 × IfOk result.0 (λ _. IsSome result.1.ended) }
         {

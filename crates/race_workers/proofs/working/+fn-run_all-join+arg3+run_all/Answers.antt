@@ -1,17 +1,23 @@
-use denote.Param.Send.{sendable}
-use Rattle.std.proofs.Common.{◌≡◌, ◌+◌, ◌<◌, rules, length, arith}
+use mathlib.Core.Bool.{false}
+use denote.Param.{param}
+use denote.Param.Send.{IsSend, IsSync, sendable, param_send, arg_send, shr_send}
+use denote.Struct.Field.{u32-field}
+use Rattle.std.proofs.Common.{◌≡◌, ◌+◌, rules, length, arith}
 use Rattle.std.proofs.Crossing as std
 use Rattle.std.specs.Prelude.{IsSome}
+use Rattle.std.specs.contracts.alloc.Global as global
 use Rattle.typing_rules.specs.TypedParts.{typed_program}
-use Rattle.race_workers.specs.Parts.{options, IsPassAt}
-use Rattle.typing_rules.proofs.program.Typed.TheSendSync as typed
 use Rattle.letter_acts.proofs.graphs.Icfg.TheSendSync as graph
 use Rattle.itp_automaton.proofs.automata.Certified.TheSendSync as certified
 use Rattle.version_cell.proofs.cells.VersionCell.TheSendSync as cell
 use Rattle.version_cell.proofs.passes.Pass.TheSendSync as pass
+use Rattle.race_workers.specs.Parts.{options, IsPassAt}
+use Rattle.race_workers.proofs.limits.Limits.TheSendSync as limits
+use Rattle.race_workers.proofs.Crossing.{typed_sync, closure_send}
 use Rattle.race_workers.proofs.Lists.{popped, popped_length}
 use Rattle.race_workers.proofs.Parts.{joins, still_ended, with_shares}
 use Rattle.race_workers.proofs.Closings.{ok_then, ok_map}
+use Rattle.race_workers.proofs.working.+fn-run_all-join+arg3+run_all.Lts-run_all as ties
 use Rattle.race_workers.proofs.working.+fn-run_all-join+arg3+run_all.Goals as goal
 
 pub work-requires-clause-pass : goal.work-requires-clause-pass
@@ -53,15 +59,18 @@ returns-in-Err-clause-ended g t c =
     ok_map c.join-one.result.1.0 (IsSome c.join-one.result.1.1.ended) (IsSome c.join.new.pass.ended)
     (still_ended c.join-one.result.1.1 c.join.new.pass c.join.ensures.second) c.join-one.ensures.second.1
 
-ruleset crossing = (typed.the_sync, graph.the_sync, certified.the_send, certified.the_sync, cell.the_sync, pass.the_send, sendable, std.crosses)
+heap_send : IsSend global.the_row
+heap_send = search (sendable, std.crosses) depth 20
 
+number_send : IsSend (u32-field).row
+number_send = search sendable
+
+-- the search that is tried by itself ends at its limits: one term for each value that the closure takes with it
 pub join-one-requires-send-F : goal.join-one-requires-send-F
-join-one-requires-send-F g t c κs within = search crossing depth 40
-
-pub join-one-requires-after_bounds : goal.join-one-requires-after_bounds
-join-one-requires-after_bounds g t c κs within =
-    let parts = popped (IsPassAt c.args.job.now.cell.now (typed_program c.args.job.now.program.now) (options c.args.job.now.limits) 1) c.args.passes.items
-    c.pop.new.self.items c.in-Some.pass c.in-Some.ensures.items c.requires.passes in
-    let n = popped_length c.args.passes.items c.pop.new.self.items c.in-Some.pass c.in-Some.ensures.items in
-    let some : 0 < length c.pop.new.self.items = search rules in
-    ((search crossing, (search crossing, (c.requires.job, parts.1))), (search crossing, (search crossing, (c.requires.job, (parts.0, (some, omega (arith, n, c.requires.numbers)))))))
+join-one-requires-send-F g t c κs within =
+    let r : IsSync (param 1 g.row.R) = search sendable in
+    let s : IsSync (param 0 g.row.G) = search sendable in
+    param_send 1 (ties.arg-5-1 g.row.G g.row.R g.G.laws g.R.laws g.G.Gate-dict g.R.Threads-dict g.R.Wait-dict κs)
+    (arg_send _ (λ l. false) _ (closure_send _ _ _ _ _ _ _ _ _ _ (shr_send _ _ _ typed_sync) (shr_send _ _ _ graph.the_sync) limits.the_send
+    (shr_send _ _ _ (cell.the_sync _ _ certified.the_send)) (shr_send _ _ _ s) (shr_send _ _ _ r) heap_send number_send
+    (pass.the_send _ _ certified.the_send)))
