@@ -17,13 +17,13 @@ use Rattle.generated_program.proofs.KeptGenerated.{typed_stands, generated_resol
 use Rattle.generated_program.proofs.TypedGenerated.{counter_info, column, typed_becomes, typed_calls, typed_rest, typed_main, typed_link, typed_chain, typed_generated}
 
 -- the program with these procedures
-abbrev of_procs : List TypedProcedure → TypedProgram
+abbrev pub of_procs : List TypedProcedure → TypedProgram
 of_procs procs = record { globals = counter_info ∷ []; axioms = []; procs = procs; entry = 0 }
 
-abbrev main_block : TypedBlock
+abbrev pub main_block : TypedBlock
 main_block = typed.Then (typed_becomes (typed.Lit here (pos 0))) (typed.Then (typed_calls 1) typed.Empty)
 
-abbrev link_block : Bool → ℕ → TypedBlock
+abbrev pub link_block : Bool → ℕ → TypedBlock
 link_block next number = typed.Then (typed_becomes (typed.Bin here Add (typed.Var here column) (typed.Lit here (pos 1)))) (typed_rest next number)
 
 items_behind : (t : TypedProgram) (ps qs : List Place) → items_of t (ps ++ qs) ≡ items_of t ps ++ items_of t qs
@@ -87,19 +87,19 @@ link_quiet procs j true b l e f = next_quiet procs j b l e (f refl)
 link_quiet procs j false b l e f = last_quiet procs j l e
 
 -- the procedures from that number on are those of this chain
-abbrev Stand : List TypedProcedure → ℕ → ℕ → Type 0
+abbrev pub Stand : List TypedProcedure → ℕ → ℕ → Type 0
 Stand procs number rest = (i : ℕ) → i < rest → slice_get procs (number + i) ≡ slice_get (typed_chain number rest) i
 
-first_stands : (procs : List TypedProcedure) (number more : ℕ) → Stand procs number (suc more) → slice_get procs number ≡ Some (typed_link (is_positive more) number)
+pub first_stands : (procs : List TypedProcedure) (number more : ℕ) → Stand procs number (suc more) → slice_get procs number ≡ Some (typed_link (is_positive more) number)
 unfolding typed_chain
 first_stands procs number more h = let z : number ≡ number + 0 = omega arith in ap (slice_get procs) z ∙ h 0 (omega arith)
 
-others_stand : (procs : List TypedProcedure) (number more : ℕ) → Stand procs number (suc more) → Stand procs (number + 1) more
+pub others_stand : (procs : List TypedProcedure) (number more : ℕ) → Stand procs number (suc more) → Stand procs (number + 1) more
 unfolding typed_chain
 others_stand procs number more h i l = let z : (number + 1) + i ≡ number + suc i = omega arith in ap (slice_get procs) z ∙ h (suc i) (omega arith)
 
 -- the procedure behind the first one, if there is one
-next_stands : (procs : List TypedProcedure) (number more : ℕ) → Stand procs number (suc more) → (b : Bool) × (is_positive more ≡ true → slice_get procs (number + 1) ≡ Some (typed_link b (number + 1)))
+pub next_stands : (procs : List TypedProcedure) (number more : ℕ) → Stand procs number (suc more) → (b : Bool) × (is_positive more ≡ true → slice_get procs (number + 1) ≡ Some (typed_link b (number + 1)))
 next_stands procs number zero h = (false, λ e. cc)
 next_stands procs number (suc more) h = (is_positive more, λ e. first_stands procs (number + 1) more (others_stand procs number (suc more) h))
 
@@ -118,7 +118,7 @@ chain_quiet procs (suc j) (suc more) m h l =
     let rest_none : first_of (items_of t rest) ≡ None = chain_quiet procs (suc j + 1) more (omega arith) (others_stand procs (suc j) more h) (omega arith) in
     ap first_of (items_behind t first rest) ∙ first_behind (items_of t first) (items_of t rest) here_none rest_none
 
-stand : (count : ℕ) → Stand (typed_main ∷ typed_chain 1 count) 1 count
+pub stand : (count : ℕ) → Stand (typed_main ∷ typed_chain 1 count) 1 count
 stand count i l = let z : 1 + i ≡ suc i = omega arith in ap (slice_get (typed_main ∷ typed_chain 1 count)) z
 
 generated_lowered : (count : ℕ) → 1 ≤ count → count ≤ 200 → first_fault (typed_generated count) ≡ None

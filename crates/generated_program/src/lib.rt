@@ -6,4 +6,6 @@ mod laws;
 mod parts;
 
 pub use generating::{big_text, generated};
-pub use laws::{generated_programs_are_lowered, generated_programs_are_typed};
+pub use laws::{
+    generated_programs_are_lowered, generated_programs_are_sized, generated_programs_are_typed,
+};
