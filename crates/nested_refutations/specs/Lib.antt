@@ -1,0 +1,5 @@
+pub mod Cuts
+pub mod Numbers
+pub mod Refutations
+pub mod Refuting
+pub mod Walked

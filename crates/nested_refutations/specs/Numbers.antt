@@ -1,0 +1,292 @@
+-- The numbers that interpolants are made of: those of the prefix predicates, of the systems of their triples, and of the
+-- refutations of these systems.
+use Rattle.std.specs.Prelude.{◌≡◌, ℕ, suc, ◌+◌, ◌-◌, ◌<◌, ℤ, pos, Bool, true, false, not, List, [], ◌∷◌, ◌++◌, map, filter, length, nat_eq, nat_lt, Option, None, Some, unwrap_or, IfSome, slice_get, if◌then◌else◌}
+use Rattle.std.specs.List.{AllByRecursion}
+use Rattle.math_facts.specs.Fits.{Fits}
+use Rattle.math_facts.specs.Terms.{coefficient}
+use Rattle.lin_rows.specs.Rows.{LinearRow}
+use Rattle.lin_rows.specs.Tightening.{tightened}
+use Rattle.lin_rows.specs.Combinations.{RunFits}
+use Rattle.farkas_check.specs.Nodes.{PlainNode}
+use Rattle.farkas_check.specs.Refutes.{at_most, above}
+use Rattle.farkas_check.specs.Trees.{Tree, leaf_tree, cut_tree, cases_tree, prefix_of}
+use Rattle.nwa_base.specs.declared.letters.Letter.{Letter}
+use Rattle.letter_acts.specs.Frames.{Columns, globals_of, constants_of, variables_of, results_of, olds_of, places, is_local}
+use Rattle.letter_acts.specs.Acts.{PlainAct, inside_act, call_act, back_act, Alphabet, frame_of, act_of}
+use Rattle.letter_acts.specs.Reading.{taken}
+use Rattle.letter_acts.specs.Invariant.{Graph, alphabet_of, written_by}
+use Rattle.path_rows.specs.Rows.{bounds, types_of, types_at}
+use Rattle.path_rows.specs.Versions.{columns_from, Stage, rows_in, is_old, locals_of, old_part, part_of}
+use Rattle.path_rows.specs.Paths.{start_frame, first_stage}
+use Rattle.triple_rows.specs.declared.triples.Triple.{Triple}
+use Rattle.triple_rows.specs.declared.triples.Triple.TheVariants.{Inside, Call, Back}
+use Rattle.triple_rows.specs.Systems.{PlainFits, after_column, is_listed}
+use Rattle.triple_rows.specs.Triples.{system_of}
+use Rattle.nested_predicates.specs.Stamps.{stamps_of, column_stamp}
+use Rattle.nested_predicates.specs.Positions.{Scope, has_return, scopes_after, Position, position_at, positions_of, start_scope}
+use Rattle.nested_predicates.specs.Sums.{Branch, root_of, with_cut, coefficients_at, bound_at}
+use Rattle.nested_predicates.specs.Walking.{is_bool}
+use Rattle.nested_predicates.specs.Interpolants.{scoped_at}
+use Rattle.nested_refutations.specs.Refutations.{Claim, Spot, truth_in, left_at, exposed, Role, spare, branch_row, target_tie, source_tie, opposite_tie, View, Goes, Leaf, atom_roles, is_used, of_claim, stops, leaf_from}
+use Rattle.nested_refutations.specs.Refutations as refutations
+
+-- ---- the sums
+
+-- the coefficients and the bound of a leaf's sum at a position fit
+pub record SumFits (b : Branch) (parts : List (ℕ × ℤ)) (q : Position) : Type 0 where
+  pub columns : AllByRecursion (λ a. Fits a) (coefficients_at b parts q)
+  pub bound : Fits (bound_at b parts q)
+
+-- those of each leaf at each of these positions fit
+abbrev pub SumsFit : List ℕ → List Position → Branch → Tree → Type 0
+SumsFit columns qs b (leaf_tree parts) = AllByRecursion (SumFits b parts) qs
+SumsFit columns qs b (cut_tree c k t u) =
+    SumsFit columns qs (with_cut b (column_stamp columns c) (at_most c k)) t ×
+    SumsFit columns qs (with_cut b (column_stamp columns c) (above c k)) u
+SumsFit columns qs b (cases_tree ts) = Unit {0}
+
+-- ---- the rows of the system of a letter's triple
+
+abbrev pub spares : ℕ → List Role
+spares count = map (λ r. spare) (columns_from 0 count)
+
+-- so many rows of the word, from this number on
+abbrev pub branch_rows : ℕ → ℕ → List Role
+branch_rows r count = map branch_row (columns_from r count)
+
+-- how many rows bound the columns of a frame
+abbrev pub bounds_in : Columns → ℕ
+bounds_in frame = length (bounds 0 (types_of frame))
+
+-- the bounds of the frame before the letter with this number: of the first letter they are those of the start
+abbrev pub before_bounds : ℕ → Columns → List Role
+before_bounds number frame = if nat_eq number 1 then branch_rows 0 (bounds_in frame) else spares (bounds_in frame)
+
+-- the bounds of the callee's columns, those of whose locals and old columns begin at these rows of the word
+abbrev pub callee_bounds : ℕ → ℕ → Columns → List Role
+callee_bounds local old [] = []
+callee_bounds local old (c ∷ cs) =
+    if not (is_bool c) then callee_bounds local old cs
+    else (if is_local c then branch_rows local 2 ++ callee_bounds (local + 2) old cs
+    else (if is_old c then branch_rows old 2 ++ callee_bounds local (old + 2) cs
+    else spares 2 ++ callee_bounds local old cs))
+
+-- The column in the system of a column of the word: those that the letter made, from one on, stand in these, and those of the
+-- start in order from one column on.
+abbrev pub column_in : ℕ → ℕ → List ℕ → ℕ → ℕ
+column_in at first made c = if nat_lt c first then at + c else unwrap_or (slice_get made (c - first)) (at + c)
+
+-- the columns of a callee's locals, of the call's helpers and of the callee's old columns in a system, in the order in which the
+-- call made them; the callee's columns stand from one on, and the helpers from another
+abbrev pub made_by_call : ℕ → ℕ → ℕ → Columns → List ℕ
+made_by_call at helpers_at helpers callee =
+    map (λ c. at + c) (places is_local 0 callee) ++ (columns_from helpers_at helpers ++ map (λ c. at + c) (places is_old 0 callee))
+
+-- ---- the letters of a word
+
+-- a call that is open: its number, the number of rows and of columns before it, and the position before it
+pub record OpenCall : Type 0 where
+  pub number : ℕ
+  pub rows : ℕ
+  pub made : ℕ
+  pub before : Position
+
+-- the triple of a letter, what its system says of its predicates, and what its rows are
+pub record Step : Type 0 where
+  pub triple : Triple
+  pub view : View
+  pub roles : List Role
+
+abbrev pub source : Position → (ℕ → ℕ) → Claim
+source q column = record { position = q; is_denied = false; column = column }
+
+abbrev pub target : Position → (ℕ → ℕ) → Claim
+target q column = record { position = q; is_denied = true; column = column }
+
+-- the roles of the rows that a claim with this number gives
+abbrev pub roles_of : Graph → List Letter → Tree → View → ℕ → Claim → List Role
+roles_of g w t v i c = atom_roles (is_used v i) i (exposed v.columns c 0 (root_of g w) t).leaves
+
+-- of an inside letter with this number, so many rows and columns of the word before it, from one position to the next
+abbrev pub inside_step : Graph → List Letter → Tree → ℕ → ℕ → ℕ → ℕ → Position → Position → Columns → List ℕ → ℕ → List LinearRow → Step
+inside_step g w t letter number row made from to frame written helpers rows =
+    let n = length frame in
+    let before : Claim = source from (λ c. c) in
+    let after : Claim = target to (after_column 0 n written) in
+    let view : View = record {
+      columns = (stamps_of g w).columns;
+      claims = before ∷ after ∷ [];
+      returns = false;
+      column = column_in 0 made (columns_from n (length written + helpers));
+    } in
+    record {
+      triple = Inside (scoped_at g w t from) letter (scoped_at g w t to);
+      view = view;
+      roles =
+          roles_of g w t view 0 before ++ branch_rows row (length rows) ++ roles_of g w t view 1 after ++
+          before_bounds number frame ++ branch_rows (row + length rows) (length (bounds 0 (types_at frame written)));
+    }
+
+-- of a call
+abbrev pub call_step : Graph → List Letter → Tree → ℕ → ℕ → ℕ → ℕ → Bool → Position → Position → Columns → Columns → ℕ → List LinearRow → Step
+call_step g w t letter number row made returns from to caller callee helpers rows =
+    let n = length caller in
+    let before : Claim = source from (λ c. c) in
+    let after : Claim = target to (λ c. n + c) in
+    let view : View = record {
+      columns = (stamps_of g w).columns;
+      claims = before ∷ after ∷ [];
+      returns = returns;
+      column = column_in 0 made (made_by_call n (n + length callee) helpers callee);
+    } in
+    let local = row + length rows + length (old_part callee) in
+    let old = local + bounds_in (locals_of callee) in
+    record {
+      triple = Call (scoped_at g w t from) letter (scoped_at g w t to);
+      view = view;
+      roles =
+          roles_of g w t view 0 before ++ map target_tie (globals_of callee) ++ (if returns then map (λ o. opposite_tie o.1) (olds_of callee) else branch_rows (row + length rows) (length (olds_of callee))) ++
+          (if returns then spares (length rows) else branch_rows row (length rows)) ++ roles_of g w t view 1 after ++
+          (if returns then spares (bounds_in caller) else before_bounds number caller) ++ callee_bounds local old callee;
+    }
+
+-- of a return from an open call
+abbrev pub back_step : Graph → List Letter → Tree → ℕ → OpenCall → Position → Position → Columns → Columns → ℕ → List LinearRow → List ℕ → Step
+back_step g w t letter call exit to caller callee helpers rows targets =
+    let m = length callee in
+    let n = length caller in
+    let written = written_by caller targets in
+    let at_exit : Claim = source exit (λ c. c) in
+    let before : Claim = source call.before (λ c. m + c) in
+    let after : Claim = target to (after_column m (m + n) written) in
+    let view : View = record {
+      columns = (stamps_of g w).columns;
+      claims = at_exit ∷ before ∷ after ∷ [];
+      returns = false;
+      column = column_in m call.made (made_by_call 0 (m + n + length written) helpers callee);
+    } in
+    record {
+      triple = Back (scoped_at g w t exit) (scoped_at g w t call.before) letter (scoped_at g w t to);
+      view = view;
+      roles =
+          roles_of g w t view 0 at_exit ++ roles_of g w t view 1 before ++ map source_tie (constants_of callee) ++
+          map (λ o. source_tie o.0) (olds_of callee) ++ branch_rows call.rows (length rows) ++
+          map target_tie (filter (λ c. not (is_listed targets c)) (variables_of caller)) ++
+          map (λ p. target_tie p.0) (taken targets (results_of callee)) ++ roles_of g w t view 2 after ++
+          spares (bounds_in callee) ++ before_bounds call.number caller ++ spares (length (bounds 0 (types_at caller written)));
+    }
+
+-- where a word has come to: how many letters and rows are read, the stage, the scopes and the calls that are open, innermost first
+pub record Reading : Type 0 where
+  pub letters : ℕ
+  pub rows : ℕ
+  pub stage : Stage
+  pub scopes : List Scope
+  pub calls : List OpenCall
+
+abbrev pub here : Reading → Position
+here r = position_at r.letters r.stage r.scopes
+
+-- the call that a letter with this act opens, in front
+abbrev pub open_after : Option PlainAct → Reading → List OpenCall
+open_after None r = r.calls
+open_after (Some (inside_act q written helpers rows)) r = r.calls
+open_after (Some (call_act caller callee helpers rows)) r =
+    record { number = suc r.letters; rows = r.rows; made = r.stage.made; before = here r } ∷ r.calls
+open_after (Some (back_act c targets)) r = without_first r.calls
+  where
+    without_first : List OpenCall → List OpenCall
+    without_first [] = []
+    without_first (c ∷ cs) = cs
+
+-- after a letter, behind which the rest of the word stands
+abbrev pub read_on : Alphabet → Letter → List Letter → Reading → Reading
+read_on al a rest r =
+    let part = part_of al a r.stage in
+    record {
+      letters = suc r.letters;
+      rows = r.rows + length (rows_in part);
+      stage = part.after;
+      scopes = scopes_after al (suc r.letters) a.kind (act_of al a) rest part.after.here r.stage.here r.scopes;
+      calls = open_after (act_of al a) r;
+    }
+
+abbrev pub steps_back : Graph → List Letter → Tree → ℕ → List ℕ → List OpenCall → Position → Position → Option PlainAct → List Step
+steps_back g w t letter targets [] exit to act = []
+steps_back g w t letter targets (call ∷ calls) exit to None = []
+steps_back g w t letter targets (call ∷ calls) exit to (Some (inside_act q written helpers rows)) = []
+steps_back g w t letter targets (call ∷ calls) exit to (Some (call_act caller callee helpers rows)) =
+    back_step g w t letter call exit to (frame_of (alphabet_of g) caller) (frame_of (alphabet_of g) callee) helpers rows targets ∷ []
+steps_back g w t letter targets (call ∷ calls) exit to (Some (back_act c more)) = []
+
+-- that of a letter with this act, from one position to the next; the rest of the word tells whether a call returns
+abbrev pub step_by : Graph → List Letter → Tree → ℕ → Option PlainAct → List Letter → Reading → Position → List Step
+step_by g w t letter None rest r to = []
+step_by g w t letter (Some (inside_act q written helpers rows)) rest r to =
+    inside_step g w t letter (suc r.letters) r.rows r.stage.made (here r) to (frame_of (alphabet_of g) q) written helpers rows ∷ []
+step_by g w t letter (Some (call_act caller callee helpers rows)) rest r to =
+    call_step g w t letter (suc r.letters) r.rows r.stage.made (has_return 0 rest) (here r) to (frame_of (alphabet_of g) caller) (frame_of (alphabet_of g) callee) helpers rows ∷ []
+step_by g w t letter (Some (back_act c targets)) rest r to =
+    steps_back g w t letter targets r.calls (here r) to (slice_get g.acts c)
+
+-- those of the letters, in order, from where the word has come to
+abbrev pub steps_along : Graph → List Letter → Tree → Reading → List Letter → List Step
+steps_along g w t r [] = []
+steps_along g w t r (a ∷ rest) =
+    let next = read_on (alphabet_of g) a rest r in
+    step_by g w t a.id (act_of (alphabet_of g) a) rest r (here next) ++ steps_along g w t next rest
+
+-- those of a word, under the tree of a refutation of its rows
+abbrev pub steps_of : Graph → List Letter → Tree → List Step
+steps_of g w t = steps_along g w t (record {
+  letters = 0;
+  rows = bounds_in (start_frame g);
+  stage = first_stage (start_frame g);
+  scopes = start_scope g ∷ [];
+  calls = [];
+}) w
+
+-- ---- all numbers
+
+-- the multipliers of a leaf fit, and so does each product and each running sum
+pub record LeafFits (l : Leaf) : Type 0 where
+  pub multipliers : AllByRecursion (λ part. Fits part.1) l.parts
+  pub columns : (c : ℕ) → RunFits (λ r. coefficient c r.terms) l.rows (pos 0) l.parts
+  pub bound : RunFits (λ r. r.bound) l.rows (pos 0) l.parts
+
+-- The claim is false: a source is, or the target is true. The refutation is then the one row `0 <= -1`.
+abbrev pub IsFalse : Graph → List Letter → Tree → View → Claim → Type 0
+IsFalse g w t v c = truth_in (left_at v.columns c (root_of g w) t) ≡ Some c.is_denied
+
+-- the groups that claims give, those from number i on
+abbrev pub groups_from : Graph → List Letter → Tree → View → ℕ → List Claim → List (ℕ × Spot)
+groups_from g w t v i [] = []
+groups_from g w t v i (c ∷ cs) = of_claim i (exposed v.columns c 0 (root_of g w) t).groups ++ groups_from g w t v (suc i) cs
+
+-- where the refutation of the step's triple begins
+abbrev pub begins : Graph → List Letter → Tree → Step → Goes
+begins g w t s = record {
+  rows = map tightened (refutations.rows_in (system_of (alphabet_of g) s.triple));
+  roles = s.roles;
+  groups = groups_from g w t s.view 0 s.view.claims;
+  taken = [];
+}
+
+-- the numbers of the triple's system fit; and, where no claim is false, those of each leaf of its refutation
+pub record StepFits (g : Graph) (w : List Letter) (t : Tree) (s : Step) : Type 0 where
+  pub system : PlainFits (system_of (alphabet_of g) s.triple)
+  pub leaves : AllByRecursion (λ c. IsFalse g w t s.view c → ⊥) s.view.claims → (sides : List Bool) →
+      IfSome (leaf_from s.view sides (begins g w t s) (stops s.view [] 0 (root_of g w) t)) LeafFits
+
+-- each cut is at one of so many columns
+abbrev pub AreCutsAt : ℕ → Tree → Type 0
+AreCutsAt count (leaf_tree parts) = Unit {0}
+AreCutsAt count (cut_tree c k t u) = (c < count) × AreCutsAt count t × AreCutsAt count u
+AreCutsAt count (cases_tree ts) = Unit {0}
+
+-- Under the refutation of the word's rows with these nodes, whose cuts are at columns of the word, all numbers of the prefix predicates, of the systems of their triples
+-- and of the refutations of these fit.
+pub record NumbersFit (g : Graph) (w : List Letter) (nodes : List PlainNode) : Type 0 where
+  pub cuts : (t : Tree) → prefix_of t ≡ nodes → AreCutsAt (length (stamps_of g w).columns) t
+  pub sums : (t : Tree) → prefix_of t ≡ nodes → SumsFit (stamps_of g w).columns (positions_of g w) (root_of g w) t
+  pub steps : (t : Tree) → prefix_of t ≡ nodes → AllByRecursion (StepFits g w t) (steps_of g w t)
