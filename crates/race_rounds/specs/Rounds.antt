@@ -1,5 +1,5 @@
--- What a round makes of a kept word, and of the state of a race.
-use Rattle.std.specs.Prelude.{◌≡◌, ◌≢◌, ℕ, suc, ◌-◌, List, length, Option, None, Some, IfSome}
+-- What a round makes of a kept word, and what a race keeps.
+use Rattle.std.specs.Prelude.{◌≡◌, ◌≢◌, ℕ, List, IfSome}
 use Rattle.std.specs.List.{AllByRecursion}
 use Rattle.nwa_base.specs.declared.letters.Letter.{Letter}
 use Rattle.nwa_base.specs.Automata.{Automaton}
@@ -42,17 +42,9 @@ IsSettled t o n w (settled.Ended end) = SaysOfWord t o n w end
 abbrev pub IsOwn : TypedProgram → Entry Certificate → Type 0
 IsOwn t e = IsEvidence (lowered t) e.word e.evidence
 
--- what one worker keeps: the race is one of the program, within the rounds, each entry is one of the program, and an end is met
+-- what the workers keep: the race is one of the program, within the rounds, each entry is one of the program, and an end is met
 pub record IsRaceOf (t : TypedProgram) (o : Options) (r : Race Certificate) : Type 0 where
   pub program : r.program ≡ (lowered t).automaton
   pub limit : r.limit ≡ o.rounds
   pub own : AllByRecursion (IsOwn t) r.history
   pub end : IfSome r.end (EndMeets automaton_in t o r.history)
-
--- how many rounds a race may still take, one more where it has not ended
-abbrev pub rounds_after : ℕ → Option End → ℕ
-rounds_after n None = suc n
-rounds_after n (Some e) = 0
-
-abbrev pub rounds_left : Race Certificate → ℕ
-rounds_left r = rounds_after (r.limit - length r.history) r.end

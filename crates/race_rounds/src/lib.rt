@@ -1,16 +1,14 @@
 //! Rounds of a race: [`kept_word`] takes a kept word, and [`settle`] decides its rows and makes what comes of it: an automaton that
-//! removes the word, or an end. [`alone`] is the race of one worker.
+//! removes the word, or an end.
 #![tactic(auto)]
 
 mod choosing;
+mod deviating;
 mod failing;
 mod plans;
 mod refining;
 mod seeking;
 mod settling;
-mod single;
-mod turning;
 
-pub use seeking::kept_word;
+pub use seeking::{Seeker, kept_word};
 pub use settling::{Settled, settle};
-pub use single::alone;

@@ -1,32 +1,91 @@
 //! Kept words.
 
-ghost use Rattle.std.specs.Prelude.{IfOk};
+ghost use Rattle.std.specs.Prelude.{IfOk, IfSome};
+ghost use Rattle.nwa_base.specs.Acceptance.{Accepts};
 ghost use Rattle.nwa_emptiness.specs.Found.{IsFound};
 
+use crate::deviating::deviating;
 use crate::plans::{Plan, plan_of};
 use concrete_walks::Walker;
 use letter_acts::Icfg;
-use nwa_base::{Nwa, accepts};
+use nwa_base::{Nwa, Word, accepts};
 use nwa_emptiness::{Found, find};
 use std::alloc::{AllocError, Global};
 
-/// A kept word: one that the walker proposes, else one that is found, or that no word is kept. `version` is how many entries there
-/// are. Workers with different numbers look in different orders.
+/// Proposes words to a worker: that of a walk which reached a failure, until the race has ended, since the end that it makes may be
+/// refused as stale.
+#[derive(Drop)]
+pub struct Seeker {
+    walker: Walker,
+    walked: Option<Word>,
+}
+
+impl Seeker {
+    /// The seeker of a worker over a program.
+    pub fn new(alloc: Global, icfg: &Icfg, worker: u32) -> Result<Seeker, AllocError> {
+        Ok(Seeker {
+            walker: Walker::new(alloc, icfg, u64::from(worker))?,
+            walked: None,
+        })
+    }
+
+    /// The word of a walk that reached a failure, after so many more moves where there is none yet.
+    fn walked(
+        &mut self,
+        alloc: Global,
+        icfg: &Icfg,
+        moves: u64,
+    ) -> Result<Option<Word>, AllocError> {
+        if self.walked.is_none() {
+            self.walked = self.walker.slice(alloc, icfg, moves)?;
+        }
+        match &self.walked {
+            Some(word) => Ok(Some(word.copy()?)),
+            None => Ok(None),
+        }
+    }
+}
+
+/// The word, where it is kept.
+fn if_kept(alloc: Global, kept: &Nwa, word: Option<Word>) -> Result<Option<Word>, AllocError>
+    ensures { IfOk result (λ o. IfSome o (Accepts kept.now)) }
+{
+    match word {
+        Some(word) => {
+            if accepts(alloc, kept, &word)? {
+                Ok(Some(word))
+            } else {
+                Ok(None)
+            }
+        }
+        None => Ok(None),
+    }
+}
+
+/// A kept word: one that the seeker proposes, else one that is found, or that no word is kept. `version` is how many entries there
+/// are. Workers with different numbers look for different words.
 pub fn kept_word(
     alloc: Global,
     icfg: &Icfg,
     kept: &Nwa,
     version: u64,
     worker: u32,
-    walker: &mut Walker,
+    seeker: &mut Seeker,
 ) -> Result<Found, AllocError>
     ensures { IfOk result (IsFound kept.now) }
 {
     let Plan { moves, .. } = plan_of(worker, version);
-    if let Some(word) = walker.slice(alloc, icfg, moves)? {
-        if accepts(alloc, kept, &word)? {
-            return Ok(Found::Word(word));
-        }
+    let walked = seeker.walked(alloc, icfg, moves)?;
+    if let Some(word) = if_kept(alloc, kept, walked)? {
+        return Ok(Found::Word(word));
     }
-    find(alloc, kept, worker)
+    let word = match find(alloc, kept, worker)? {
+        Found::Word(word) => word,
+        Found::Empty => return Ok(Found::Empty),
+    };
+    let other = deviating(alloc, kept, &word, version, worker)?;
+    match if_kept(alloc, kept, other)? {
+        Some(other) => Ok(Found::Word(other)),
+        None => Ok(Found::Word(word)),
+    }
 }

@@ -1,0 +1,108 @@
+//! Kept words that leave the way of another, so that workers take different words.
+
+use nwa_base::{Kind, Letter, Nwa, NwaFault, Word, empty, run_of};
+use nwa_emptiness::{Found, find};
+use std::alloc::{AllocError, Global};
+
+/// How often a word is left at most.
+const MOST_FORKS: u32 = 3;
+
+/// One of the states on the way of a word from which another letter could be read, with the letter that the word has there. `seed` varies
+/// which.
+fn fork(
+    alloc: Global,
+    nwa: &Nwa,
+    word: &Word,
+    seed: u64,
+) -> Result<Option<(u32, Letter)>, AllocError> {
+    let Some(run) = run_of(alloc, nwa, word)? else {
+        return Ok(None);
+    };
+    let mut forks = Vec::new(alloc);
+    for (&state, &letter) in run.as_slice().iter().zip(word.letters()) {
+        let insides = nwa.insides_leaving(state).len();
+        let ways = insides.saturating_add(nwa.calls_leaving(state).len());
+        if letter.kind != Kind::Back && ways > 1 {
+            forks.push((state, letter))?;
+        }
+    }
+    if forks.is_empty() {
+        return Ok(None);
+    }
+    let place = seed % forks.len() as u64;
+    Ok(forks.get(place as usize).copied())
+}
+
+/// The automaton without the edges that leave the state by the letter, which is no return.
+fn avoiding(alloc: Global, nwa: &Nwa, state: u32, letter: Letter) -> Result<Nwa, NwaFault> {
+    let mut left = empty(alloc, nwa.states(), nwa.start())?;
+    for &last in nwa.finals() {
+        left.set_final(last)?;
+    }
+    for &(from, a, to) in nwa.insides() {
+        if from != state || a != letter {
+            left.add_inside(from, a, to)?;
+        }
+    }
+    for &(from, a, to) in nwa.calls() {
+        if from != state || a != letter {
+            left.add_call(from, a, to)?;
+        }
+    }
+    for &(from, before, a, to) in nwa.backs() {
+        left.add_back(from, before, a, to)?;
+    }
+    Ok(left)
+}
+
+/// A word of the automaton that goes another way than the given one at a fork, and what is left of the automaton without that fork;
+/// `None` where there is none.
+fn other_word(
+    alloc: Global,
+    nwa: &Nwa,
+    word: &Word,
+    worker: u32,
+    seed: u64,
+) -> Result<Option<(Word, Nwa)>, AllocError> {
+    let Some((state, letter)) = fork(alloc, nwa, word, seed)? else {
+        return Ok(None);
+    };
+    let left = match avoiding(alloc, nwa, state, letter) {
+        Ok(left) => left,
+        Err(NwaFault::Memory) => return Err(AllocError),
+        Err(NwaFault::BadState | NwaFault::BadLetter) => return Ok(None),
+    };
+    match find(alloc, &left, worker)? {
+        Found::Word(word) => Ok(Some((word, left))),
+        Found::Empty => Ok(None),
+    }
+}
+
+/// A word that goes other ways than the given one, at as many forks as the number of the worker says, where there are so many; `None`
+/// where there is no fork, or for worker 0. `version` varies which forks.
+pub(crate) fn deviating(
+    alloc: Global,
+    kept: &Nwa,
+    word: &Word,
+    version: u64,
+    worker: u32,
+) -> Result<Option<Word>, AllocError> {
+    if worker == 0 {
+        return Ok(None);
+    }
+    let seed = version.wrapping_add(u64::from(worker)).wrapping_mul(7);
+    let Some((mut word, mut left)) = other_word(alloc, kept, word, worker, seed)? else {
+        return Ok(None);
+    };
+    for more in 1..worker.min(MOST_FORKS) {
+        let seed = seed.wrapping_add(u64::from(more).wrapping_mul(5));
+        match other_word(alloc, &left, &word, worker, seed)? {
+            Some((other, next)) => {
+                word = other;
+                left = next;
+            }
+            None => return Ok(Some(word)),
+        }
+    }
+    Ok(Some(word))
+}
