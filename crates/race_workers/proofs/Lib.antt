@@ -3,3 +3,4 @@ pub mod Parts
 pub mod Openings
 pub mod Closings
 pub mod Crossing
+pub mod Published

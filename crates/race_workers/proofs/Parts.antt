@@ -226,10 +226,6 @@ pub error_word : (t : TypedProgram) (g : Graph) (l : Limits) (c : Cell) (p : Kno
 error_word t g l c p version left w j at seen a =
     subst (λ (x : Graph). Accepts x.automaton w) (sym j.lowered) (kept t g l c p version left w j at seen a).error
 
-pub settled_word : (t : TypedProgram) (o : Options) (n : ℕ) (w : List Letter) (e : Entry Certificate) (left : Automaton) →
-    IsSettled t o n w (Removed e) → Accepts left w → Accepts left e.word
-settled_word t o n w e left s a = subst (λ (v : List Letter). Accepts left v) (sym s.1) a
-
 pub settled_own : (t : TypedProgram) (o : Options) (n : ℕ) (w : List Letter) (e : Entry Certificate) → IsSettled t o n w (Removed e) → IsOwn t e
 settled_own t o n w e s = subst (λ (v : List Letter). IsEvidence (lowered t) v e.evidence) (sym s.1) s.2
 

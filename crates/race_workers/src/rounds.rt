@@ -13,12 +13,11 @@ use crate::gates::{Gate, Moment};
 use crate::jobs::Job;
 use crate::limits::Limits;
 use crate::offering::offer;
-use concrete_walks::Walker;
 use itp_automaton::Certified;
 use nwa_base::{Nwa, accepts};
 use nwa_emptiness::Found;
 use race_core::{End, Entry};
-use race_rounds::{Settled, kept_word, settle};
+use race_rounds::{Seeker, Settled, kept_word, settle};
 use std::alloc::{AllocError, Global};
 use std::sync::Wait;
 use std::thread::Threads;
@@ -27,7 +26,7 @@ use version_cell::{Pass, Snapshot};
 /// What a worker does after a round.
 #[derive(Drop)]
 pub enum Turn {
-    /// It takes another round, with an entry that was refused as stale.
+    /// It takes another round, with an entry that is to be offered.
     Again(Option<Entry<Certified>>),
     /// It stops, since the race has ended.
     Over,
@@ -52,14 +51,15 @@ fn still_kept(
     }
 }
 
-/// Takes a kept word, and removes it by an entry or ends the race.
+/// Takes a kept word, and makes an entry that removes it, to be offered after another read, since others may have published by then, or
+/// ends the race.
 fn seek<G: Gate + Sync, R: Threads + Wait + Sync>(
     rt: &R,
     alloc: Global,
     job: &Job<'_, G>,
     number: u32,
     pass: &mut Pass<Certified>,
-    walker: &mut Walker,
+    seeker: &mut Seeker,
     snapshot: &Snapshot,
 ) -> Result<Turn, AllocError>
     requires job { IsJob (typed_program job.now.program.now) job.now.icfg.now job.now.limits job.now.cell.now }
@@ -69,7 +69,7 @@ fn seek<G: Gate + Sync, R: Threads + Wait + Sync>(
     ensures turn { IfOk result (Leaves (typed_program job.now.program.now) pass.new) }
 {
     let version = snapshot.version;
-    let word = match kept_word(alloc, job.icfg, &snapshot.kept, version, number, walker)? {
+    let word = match kept_word(alloc, job.icfg, &snapshot.kept, version, number, seeker)? {
         Found::Word(word) => word,
         Found::Empty => return Ok(finish(rt, job, number, pass, version, End::Safe)),
     };
@@ -86,7 +86,7 @@ fn seek<G: Gate + Sync, R: Threads + Wait + Sync>(
         word,
     )? {
         Settled::Ended(end) => Ok(finish(rt, job, number, pass, version, end)),
-        Settled::Removed(entry) => offer(rt, alloc, job, number, pass, snapshot, entry),
+        Settled::Removed(entry) => Ok(Turn::Again(Some(entry))),
     }
 }
 
@@ -98,7 +98,7 @@ pub(crate) fn round<G: Gate + Sync, R: Threads + Wait + Sync>(
     job: &Job<'_, G>,
     number: u32,
     pass: &mut Pass<Certified>,
-    walker: &mut Walker,
+    seeker: &mut Seeker,
     carried: Option<Entry<Certified>>,
 ) -> Result<Turn, AllocError>
     requires job { IsJob (typed_program job.now.program.now) job.now.icfg.now job.now.limits job.now.cell.now }
@@ -114,6 +114,6 @@ pub(crate) fn round<G: Gate + Sync, R: Threads + Wait + Sync>(
     }
     match still_kept(alloc, &snapshot.kept, carried)? {
         Some(entry) => offer(rt, alloc, job, number, pass, &snapshot, entry),
-        None => seek(rt, alloc, job, number, pass, walker, &snapshot),
+        None => seek(rt, alloc, job, number, pass, seeker, &snapshot),
     }
 }

@@ -9,8 +9,8 @@ ghost use Rattle.race_workers.specs.Parts.{options, IsJob, IsPassAt};
 use crate::gates::Gate;
 use crate::jobs::Job;
 use crate::rounds::{Turn, round};
-use concrete_walks::Walker;
 use itp_automaton::Certified;
+use race_rounds::Seeker;
 use std::alloc::{AllocError, Global};
 use std::sync::Wait;
 use std::thread::{Threads, join};
@@ -29,10 +29,10 @@ fn take_rounds<G: Gate + Sync, R: Threads + Wait + Sync>(
     ensures pass { IsPassAt job.now.cell.now (typed_program job.now.program.now) (options job.now.limits) pass.old.shares pass.new }
     ensures ended { OnOk result (IsSome pass.new.ended) }
 {
-    let mut walker = Walker::new(alloc, job.icfg, u64::from(number))?;
+    let mut seeker = Seeker::new(alloc, job.icfg, number)?;
     let mut carried = None;
     for _ in rt.forever() {
-        match round(rt, alloc, job, number, pass, &mut walker, carried)? {
+        match round(rt, alloc, job, number, pass, &mut seeker, carried)? {
             Turn::Again(entry) => carried = entry,
             Turn::Over => return Ok(()),
         }

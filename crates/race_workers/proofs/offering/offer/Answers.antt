@@ -1,7 +1,7 @@
 use Rattle.std.proofs.Common.{arith, refl}
 use Rattle.std.specs.Arc.{arc_value}
 use Rattle.race_rounds.specs.Rounds.{automaton_in}
-use Rattle.race_rounds.proofs.Published.{fair_by}
+use Rattle.race_workers.proofs.Published.{fair_by}
 use Rattle.race_workers.proofs.offering.offer.Goals as goal
 
 pub returns-in_err-kept-clause-pass : goal.returns-in_err-kept-clause-pass

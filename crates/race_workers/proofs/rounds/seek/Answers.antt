@@ -8,7 +8,7 @@ use Rattle.typing_rules.specs.TypedParts.{typed_program}
 use Rattle.race_rounds.specs.declared.settling.Settled.{Settled}
 use Rattle.race_rounds.specs.Rounds.{IsSettled}
 use Rattle.race_workers.specs.Parts.{options}
-use Rattle.race_workers.proofs.Parts.{safe, says, error_word, settled_word, settled_own}
+use Rattle.race_workers.proofs.Parts.{safe, says, error_word, settled_own}
 use Rattle.race_workers.proofs.rounds.seek.Goals as goal
 
 pub returns-in_err-word-clause-pass : goal.returns-in_err-word-clause-pass
@@ -68,31 +68,6 @@ finish-requires-in-Ended-clause-end g c κs within =
     c.requires.job c.requires.pass.of_cell c.requires.seen (subst (λ (m : Automaton). Accepts m c.in-Word.word) c.deref.ensures
     (subst (λ (x : Found). IsFound c.deref.result.now x) c.in-Word.is c.in_ok-word.ensures)) s
 
-pub offer-requires-clause-job : goal.offer-requires-clause-job
-offer-requires-clause-job g c κs within = c.requires.job
-
-pub offer-requires-clause-pass : goal.offer-requires-clause-pass
-offer-requires-clause-pass g c κs within = c.requires.pass
-
-pub offer-requires-clause-seen : goal.offer-requires-clause-seen
-offer-requires-clause-seen g c κs within = c.requires.seen
-
-pub offer-requires-clause-kept : goal.offer-requires-clause-kept
-offer-requires-clause-kept g c κs within =
-    let t = typed_program c.args.job.now.program.now in
-    let o = options c.args.job.now.limits in
-    let s = subst (λ (s : Settled). IsSettled t o c.args.snapshot.now.version c.in-Word.word s) c.in-Removed.is (c.in_ok-end.ensures o refl refl) in
-    settled_word t o c.args.snapshot.now.version c.in-Word.word c.in-Removed.entry (arc_value c.args.snapshot.now.kept) s
-    (subst (λ (m : Automaton). Accepts m c.in-Word.word) c.deref.ensures
-    (subst (λ (x : Found). IsFound c.deref.result.now x) c.in-Word.is c.in_ok-word.ensures))
-
-pub offer-requires-clause-own : goal.offer-requires-clause-own
-offer-requires-clause-own g c κs within =
-    let t = typed_program c.args.job.now.program.now in
-    let o = options c.args.job.now.limits in
-    let s = subst (λ (s : Settled). IsSettled t o c.args.snapshot.now.version c.in-Word.word s) c.in-Removed.is (c.in_ok-end.ensures o refl refl) in
-    settled_own t o c.args.snapshot.now.version c.in-Word.word c.in-Removed.entry s
-
 pub returns-in-Ended-clause-pass : goal.returns-in-Ended-clause-pass
 returns-in-Ended-clause-pass g c = c.finish-in-Ended.ensures.pass
 
@@ -100,7 +75,11 @@ pub returns-in-Ended-clause-turn : goal.returns-in-Ended-clause-turn
 returns-in-Ended-clause-turn g c = c.finish-in-Ended.ensures.turn
 
 pub returns-in-Removed-clause-pass : goal.returns-in-Removed-clause-pass
-returns-in-Removed-clause-pass g c = c.offer.ensures.pass
+returns-in-Removed-clause-pass g c = c.requires.pass
 
 pub returns-in-Removed-clause-turn : goal.returns-in-Removed-clause-turn
-returns-in-Removed-clause-turn g c = c.offer.ensures.turn
+returns-in-Removed-clause-turn g c =
+    let t = typed_program c.args.job.now.program.now in
+    let o = options c.args.job.now.limits in
+    let s = subst (λ (s : Settled). IsSettled t o c.args.snapshot.now.version c.in-Word.word s) c.in-Removed.is (c.in_ok-end.ensures o refl refl) in
+    settled_own t o c.args.snapshot.now.version c.in-Word.word c.in-Removed.entry s
