@@ -3,10 +3,12 @@
 
 use automizer_top::run;
 use outer_io::{FileShelf, StdSink};
+use race_workers::NoGate;
 use std::alloc::AllocError;
 use std::env;
 use std::io::ErrorKind;
 use std::process::ExitCode;
+use std::sync::Wait;
 use std::thread::Threads;
 
 /// The status where memory ran out.
@@ -31,7 +33,7 @@ fn words(rt: &HostRuntime) -> Result<Vec<String>, AllocError> {
 }
 
 /// Runs the program over real files and the standard output, and answers its status.
-fn status<R: Threads + Sync>(threads: &R, rt: &HostRuntime) -> Result<u8, AllocError> {
+fn status<R: Threads + Wait + Sync>(threads: &R, rt: &HostRuntime) -> Result<u8, AllocError> {
     let words = words(rt)?;
     let mut shelf = FileShelf::new(rt.clone()?);
     let mut sink = StdSink::new(rt.clone()?);
@@ -42,6 +44,7 @@ fn status<R: Threads + Sync>(threads: &R, rt: &HostRuntime) -> Result<u8, AllocE
         &words,
         &mut shelf,
         &mut sink,
+        &NoGate,
         &mut closed,
     ))
 }

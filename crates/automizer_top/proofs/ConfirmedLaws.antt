@@ -17,10 +17,10 @@ use Rattle.race_verdicts.specs.declared.verdicts.Verdict.{Verdict}
 use Rattle.race_verdicts.specs.declared.verdicts.Verdict.TheVariants.{Safe, Unsafe, Unknown}
 use Rattle.race_verdicts.specs.Verdicts.{IsVerdict, IsFailureOf}
 use Rattle.automizer_top.specs.Verdicts.{verdict_status}
-use Rattle.automizer_top.specs.Report.{Answer, answer, second_limit, accepted_answer, replayed_answer, verdict_answer, IsTypedText, IsSafeText, IsFailureText, ReportsProof, accepted, ReportsFailure, replayed, ReportsCheck, of_lowered, ReportsReplay, of_typed, ReportsVerdict, ReportsVerify, refused_verify, unlowered, decided, Ask, Reports, usage, printing, checked, replaying, verifying, IsHandedOver}
+use Rattle.automizer_top.specs.Report.{Answer, answer, second_limit, accepted_answer, replayed_answer, verdict_answer, IsTypedText, IsSafeText, IsFailureText, ReportsProof, accepted, ReportsFailure, replayed, ReportsCheck, of_lowered, ReportsReplay, of_typed, ReportsVerdict, ReportsVerify, refused_verify, unlowered, decided, Ask, Reports, usage, printing, checked, replaying, verifying, generating, IsHandedOver}
 use Rattle.automizer_top.specs.TypeRefusals.{type_refusal}
 use Rattle.automizer_top.proofs.ReportLaws.{typed_is_three, lowering_is_three}
-use Rattle.automizer_top.specs.CommandLine.{Check, Replay, Print, Verify, Settings, limits_of}
+use Rattle.automizer_top.specs.CommandLine.{Check, Replay, Print, Verify, Big, Settings, limits_of}
 use Rattle.automizer_top.proofs.RequestLaws.{program_of, same_task, same_settings, only_one, nothing_asked, rounds_fit}
 use Rattle.automizer_top.proofs.ReportUnique.{AreOne, report_once}
 
@@ -55,6 +55,7 @@ verdict_of words s program texts a ask (usage none is) l = absurd (nothing_asked
 verdict_of words s program texts a ask (printing u p t asked found print) l = absurd (only_one words s u (Verify program) (Print p) ask asked (λ (e : 3 ≡ 2). omega arith))
 verdict_of words s program texts a ask (checked u p x t asked found check) l = absurd (only_one words s u (Verify program) (Check p x) ask asked (λ (e : 3 ≡ 0). omega arith))
 verdict_of words s program texts a ask (replaying u p x t asked found replay) l = absurd (only_one words s u (Verify program) (Replay p x) ask asked (λ (e : 3 ≡ 1). omega arith))
+verdict_of words s program texts a ask (generating u count asked big) l = absurd (only_one words s u (Verify program) (Big count) ask asked (λ (e : 3 ≡ 4). omega arith))
 verdict_of words s program texts a ask (verifying u p t asked found verify) l =
     let name : p ≡ program = ap program_of (same_task words u s (Verify p) (Verify program) asked ask) in
     let settings : u ≡ s = same_settings words u s (Verify p) (Verify program) asked ask in
@@ -96,8 +97,9 @@ one_of_check : (words : List (List ℕ)) (s : Settings) (program second : List �
     AreOne words texts a b → b ≡ a
 one_of_check words s program second texts a b ask z (inl e) = sym e
 one_of_check words s program second texts a b ask z (inr (inl h)) = absurd (let e : 3 ≡ 0 = sym (ap (λ (c : Answer). c.status) h.0.1) ∙ z in omega arith)
-one_of_check words s program second texts a b ask z (inr (inr v)) =
+one_of_check words s program second texts a b ask z (inr (inr (inl v))) =
     absurd (only_one words s v.1.0 (Check program second) (Verify v.1.1) ask v.1.3 (λ (e : 0 ≡ 3). omega arith))
+one_of_check words s program second texts a b ask z (inr (inr (inr v))) = absurd (only_one words s v.0 (Check program second) (Big v.1) ask v.2 (λ (e : 0 ≡ 4). omega arith))
 
 pub check_accepts : (words again : List (List ℕ)) (r s : Settings) (program second : List ℕ) (before after : Texts) (a b : Answer) → Ask words r (Verify program) →
     Ask again s (Check program second) → Reports words before a → a.status ≡ 0 → IsHandedOver program second r s before after a → Reports again after b → b ≡ accepted_answer
@@ -140,8 +142,9 @@ one_of_replay : (words : List (List ℕ)) (s : Settings) (program second : List 
     AreOne words texts a b → b ≡ a
 one_of_replay words s program second texts a b ask z (inl e) = sym e
 one_of_replay words s program second texts a b ask z (inr (inl h)) = absurd (let e : 3 ≡ 0 = sym (ap (λ (c : Answer). c.status) h.0.1) ∙ z in omega arith)
-one_of_replay words s program second texts a b ask z (inr (inr v)) =
+one_of_replay words s program second texts a b ask z (inr (inr (inl v))) =
     absurd (only_one words s v.1.0 (Replay program second) (Verify v.1.1) ask v.1.3 (λ (e : 1 ≡ 3). omega arith))
+one_of_replay words s program second texts a b ask z (inr (inr (inr v))) = absurd (only_one words s v.0 (Replay program second) (Big v.1) ask v.2 (λ (e : 1 ≡ 4). omega arith))
 
 pub replay_replays : (words again : List (List ℕ)) (r s : Settings) (program second : List ℕ) (before after : Texts) (a b : Answer) → Ask words r (Verify program) →
     Ask again s (Replay program second) → Reports words before a → a.status ≡ 1 → IsHandedOver program second r s before after a → Reports again after b →

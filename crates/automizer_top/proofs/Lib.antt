@@ -9,6 +9,8 @@ pub mod SafetyLaws
 pub mod ReportLaws
 pub mod UsageLaws
 pub mod VerdictLaws
+pub mod BigLaws
+pub mod SummaryLaws
 pub mod ReplayedOnce
 pub mod ProofOnce
 pub mod ReportUnique

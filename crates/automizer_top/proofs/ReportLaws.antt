@@ -23,13 +23,13 @@ use Rattle.automizer_top.specs.declared.reporting.Halt.{Halt}
 use Rattle.automizer_top.specs.declared.words.Mode.{Mode}
 use Rattle.automizer_top.specs.declared.words.Mode.TheVariants as modes
 use Rattle.automizer_top.specs.declared.words.Options.{Options}
-use Rattle.automizer_top.specs.CommandLine.{Task, Check, Replay, Print, Verify, Settings, limits_of, requested}
-use Rattle.automizer_top.specs.Asked.{task, settings, program_name}
+use Rattle.automizer_top.specs.CommandLine.{Task, Check, Replay, Print, Verify, Big, Settings, limits_of, requested}
+use Rattle.automizer_top.specs.Asked.{of_texts, settings, program_name}
 use Rattle.automizer_top.specs.Refusals.{refusal}
 use Rattle.automizer_top.specs.TypeRefusals.{type_refusal}
 use Rattle.automizer_top.specs.LoweringRefusals.{lowering_refusal}
-use Rattle.automizer_top.specs.Answers.{answered, Asks, IsGraphOf, HasNoErrorWord, TextIsSafe, CheckedIsSafe, VerifiedIsSafe}
-use Rattle.automizer_top.specs.Report.{Answer, answer, program_limit, second_limit, accepted_answer, RefusesProgram, too_long, no_program, ReportsPrint, refused_print, printed, RefusesTyped, refused_text, ill_typed, RefusesLowering, ReportsProof, proof_too_long, no_annotation, accepted, rejected, ReportsCheck, refused_check, not_lowered, of_lowered, IsTypedText, ReportsFailure, failure_too_long, no_failure, replayed, stopped, ReportsReplay, refused_replay, of_typed, Ask, ReportsVerdict, ReportsVerify, refused_verify, unlowered, decided, Reports, usage, printing, checked, replaying, verifying, PrintsProgram, AsksForCheck, AsksForVerdict, ProgramIsSafe, ProgramFails, WhereTold}
+use Rattle.automizer_top.specs.Answers.{answered, Asks, IsGraphOf, HasNoErrorWord, TextIsSafe, CheckedIsSafe, VerifiedIsSafe, BuiltIsSafe}
+use Rattle.automizer_top.specs.Report.{Answer, answer, program_limit, second_limit, accepted_answer, RefusesProgram, too_long, no_program, ReportsPrint, refused_print, printed, RefusesTyped, refused_text, ill_typed, RefusesLowering, ReportsProof, proof_too_long, no_annotation, accepted, rejected, ReportsCheck, refused_check, not_lowered, of_lowered, IsTypedText, ReportsFailure, failure_too_long, no_failure, replayed, stopped, ReportsReplay, refused_replay, of_typed, Ask, ReportsVerdict, ReportsVerify, refused_verify, unlowered, decided, Reports, usage, printing, checked, replaying, verifying, generating, ReportsBig, GeneratedIsSafe, PrintsProgram, AsksForCheck, AsksForVerdict, ProgramIsSafe, ProgramFails, WhereTold}
 use Rattle.automizer_top.proofs.PrintedTexts.{begins_otherwise}
 use Rattle.automizer_top.proofs.VerdictTexts.{verdict_begins}
 use Rattle.automizer_top.proofs.SafetyLaws.{graph_is_safe}
@@ -292,16 +292,18 @@ verified_is_safe words texts s program text a asked found (decided t w none v) z
 
 -- an answer of status 0 is a printed program, or is safe, or fails
 reports_safe : (words : List (List ℕ)) (texts : Texts) (a : Answer) → Reports words texts a → (a ≡ accepted_answer → CheckedIsSafe words texts) →
-    (a.status ≡ 0 → VerifiedIsSafe words texts) → a.status ≡ 0 →
-    PrintsProgram words texts ⊎ (ProgramIsSafe words texts ⊎ ProgramFails words texts)
-reports_safe words texts a (usage none is) safe verified z = absurd (let e : 4 ≡ 0 = sym (ap (λ (b : Answer). b.status) is) ∙ z in omega arith)
-reports_safe words texts a (printing s program text asked found print) safe verified z = inl (printed_by words texts s program text a asked found print z)
-reports_safe words texts a (checked s program second text asked found check) safe verified z =
+    (a.status ≡ 0 → VerifiedIsSafe words texts) → (a.status ≡ 0 → BuiltIsSafe words) → a.status ≡ 0 →
+    PrintsProgram words texts ⊎ (ProgramIsSafe words texts ⊎ (ProgramFails words texts ⊎ GeneratedIsSafe words))
+reports_safe words texts a (usage none is) safe verified built z = absurd (let e : 4 ≡ 0 = sym (ap (λ (b : Answer). b.status) is) ∙ z in omega arith)
+reports_safe words texts a (printing s program text asked found print) safe verified built z = inl (printed_by words texts s program text a asked found print z)
+reports_safe words texts a (checked s program second text asked found check) safe verified built z =
     inr (inl (accepted_is_safe words texts s program second text a asked found (check_zero s.entry text (text_named second texts) a check z) safe))
-reports_safe words texts a (replaying s program second text asked found replay) safe verified z =
-    inr (inr (replayed_by words texts s program second text a asked found replay z))
-reports_safe words texts a (verifying s program text asked found verify) safe verified z =
+reports_safe words texts a (replaying s program second text asked found replay) safe verified built z =
+    inr (inr (inl (replayed_by words texts s program second text a asked found replay z)))
+reports_safe words texts a (verifying s program text asked found verify) safe verified built z =
     inr (inl (verified_is_safe words texts s program text a asked found verify z (verified z)))
+reports_safe words texts a (generating s count asked big) safe verified built z =
+    inr (inr (inr (s, count, big.program, asked, big.typed, built z s count big.program asked big.typed)))
 
 -- `accepted` has `c` as its second byte, and no other answer has
 abbrev second_of : Answer → ℕ
@@ -381,6 +383,7 @@ reports_begin words texts a (printing s program text asked found print) safe beg
 reports_begin words texts a (checked s program second text asked found check) safe begin =
     accepted_is_safe words texts s program second text a asked found (check_begins s.entry text (text_named second texts) a check begin) safe
 reports_begin words texts a (replaying s program second text asked found replay) safe begin = absurd (replay_begins s.entry text (text_named second texts) a replay begin)
+reports_begin words texts a (generating s count asked big) safe begin = absurd (let e : 105 ≡ 99 = sym (ap second_of big.is) ∙ begin in omega arith)
 reports_begin words texts a (verifying s program text asked found verify) safe begin = absurd (verify_begins s.entry (limits_of s) text a verify begin)
 
 seam : (b xs : List ℕ) → get_or (b ++ xs) (suc (length b)) 0 ≡ get_or xs 1 0
@@ -434,10 +437,10 @@ whole_is_safe words (Some shown) (Some before) new a r s taken = λ e.
 
 -- an answer of status 0 is a printed program, or is safe, or fails
 pub zero_is_safe : (words : List (List ℕ)) (texts : Option Texts) (a : Answer) → IfSome texts (λ shown. Reports words shown a) →
-    (a ≡ accepted_answer → IfSome texts (λ shown. CheckedIsSafe words shown)) → (a.status ≡ 0 → IfSome texts (λ shown. VerifiedIsSafe words shown)) → a.status ≡ 0 →
-    IfSome texts (λ shown. PrintsProgram words shown ⊎ (ProgramIsSafe words shown ⊎ ProgramFails words shown))
-zero_is_safe words None a r s v z = tt
-zero_is_safe words (Some shown) a r s v z = reports_safe words shown a r s v z
+    (a ≡ accepted_answer → IfSome texts (λ shown. CheckedIsSafe words shown)) → (a.status ≡ 0 → IfSome texts (λ shown. VerifiedIsSafe words shown)) → (a.status ≡ 0 → BuiltIsSafe words) → a.status ≡ 0 →
+    IfSome texts (λ shown. PrintsProgram words shown ⊎ (ProgramIsSafe words shown ⊎ (ProgramFails words shown ⊎ GeneratedIsSafe words)))
+zero_is_safe words None a r s v b z = tt
+zero_is_safe words (Some shown) a r s v b z = reports_safe words shown a r s v b z
 
 -- ---- what is accepted is safe
 
@@ -450,15 +453,15 @@ one_text x y e = cc
 
 -- what the text that was read means is what the words ask for
 meant_by : (words : List (List ℕ)) (mode : Mode) (o : Options) (name text : List ℕ) (shown : Texts) (s : Settings) (x : Task) (read : List ℕ) (t : TypedProgram) →
-    Asks words mode o → name ≡ program_name mode → program_of (task mode) ≡ program_name mode → text_named name shown ≡ Some text →
+    Asks words mode o → name ≡ program_name mode → program_of (of_texts mode) ≡ program_name mode → text_named name shown ≡ Some text →
     Ask words s x → text_named (program_of x) shown ≡ Some read → IsTypedText s.entry read t → IsTypedText o.entry.now text t
 meant_by words mode o name text shown s x read t ask same is h asked found typed =
-    let named : program_of x ≡ name = sym (same ∙ sym is ∙ ap program_of (same_task words (settings o) s (task mode) x ask asked)) in
+    let named : program_of x ≡ name = sym (same ∙ sym is ∙ ap program_of (same_task words (settings o) s (of_texts mode) x ask asked)) in
     let same_texts : read ≡ text = one_text read text (sym found ∙ ap (λ (n : List ℕ). text_named n shown) named ∙ h) in
-    let entries : s.entry ≡ o.entry.now = sym (ap (λ (u : Settings). u.entry) (same_settings words (settings o) s (task mode) x ask asked)) in
+    let entries : s.entry ≡ o.entry.now = sym (ap (λ (u : Settings). u.entry) (same_settings words (settings o) s (of_texts mode) x ask asked)) in
     subst (λ (e : List ℕ). IsTypedText e text t) entries (subst (λ (y : List ℕ). IsTypedText s.entry y t) same_texts typed)
 
-program_is : (mode : Mode) → program_of (task mode) ≡ program_name mode
+program_is : (mode : Mode) → program_of (of_texts mode) ≡ program_name mode
 program_is (modes.Check program second) = refl
 program_is (modes.Replay program second) = refl
 program_is (modes.Print program) = refl
@@ -498,6 +501,26 @@ pub unverified : (words : List (List ℕ)) (mode : Mode) (o : Options) (r : Resu
 unverified words mode o (Err e) texts ask n = tt
 unverified words mode o (Ok a) texts ask n =
     λ z. told (λ shown. VerifiedIsSafe words shown) texts (λ shown t k. absurd (not_verified words mode o k.settings k.program ask n k.asked))
+
+-- words that ask for something else than a check
+abbrev pub IsNoCheck : Mode → Type 0
+IsNoCheck (modes.Check program second) = ⊥
+IsNoCheck (modes.Replay program second) = Unit {0}
+IsNoCheck (modes.Print program) = Unit {0}
+IsNoCheck (modes.Verify program) = Unit {0}
+
+not_checked : (words : List (List ℕ)) (mode : Mode) (o : Options) (s : Settings) (p q : List ℕ) → Asks words mode o → IsNoCheck mode → Ask words s (Check p q) → ⊥
+not_checked words (modes.Check program second) o s p q ask n k = n
+not_checked words (modes.Replay program second) o s p q ask n k =
+    only_one words (settings o) s (Replay program.now second.now) (Check p q) ask k (λ (e : 1 ≡ 0). omega arith)
+not_checked words (modes.Print program) o s p q ask n k = only_one words (settings o) s (Print program.now) (Check p q) ask k (λ (e : 2 ≡ 0). omega arith)
+not_checked words (modes.Verify program) o s p q ask n k = only_one words (settings o) s (Verify program.now) (Check p q) ask k (λ (e : 3 ≡ 0). omega arith)
+
+pub unchecked : (words : List (List ℕ)) (mode : Mode) (o : Options) (r : Result code.Answer Halt) (texts : Option Texts) → Asks words mode o → IsNoCheck mode →
+    IfOk r (λ a. answered a ≡ accepted_answer → IfSome texts (λ shown. CheckedIsSafe words shown))
+unchecked words mode o (Err e) texts ask n = tt
+unchecked words mode o (Ok a) texts ask n =
+    λ z. told (λ shown. CheckedIsSafe words shown) texts (λ shown t k. absurd (not_checked words mode o k.settings k.program k.second ask n k.asked))
 
 -- the program is as safe as the text that was read
 pub verify_is_safe : (words : List (List ℕ)) (mode : Mode) (o : Options) (name text : List ℕ) (a : Answer) (texts : Option Texts) →

@@ -17,9 +17,9 @@ use Rattle.lowered_graph.specs.Items.{ItemFault, first_fault}
 use Rattle.lowered_graph.specs.Lowered.{lowered}
 use Rattle.automizer_top.specs.Refusals.{refusal}
 use Rattle.automizer_top.specs.LoweringRefusals.{lowering_refusal}
-use Rattle.automizer_top.specs.Report.{Answer, answer, program_limit, RefusesProgram, too_long, no_program, ReportsPrint, refused_print, printed, RefusesTyped, refused_text, ill_typed, RefusesLowering, ReportsProof, ReportsCheck, refused_check, not_lowered, of_lowered, IsTypingRefusal, IsTypedText, ReportsFailure, ReportsReplay, refused_replay, of_typed, Ask, ReportsVerdict, ReportsVerify, refused_verify, unlowered, decided, Reports, usage, printing, checked, replaying, verifying, IsVerdictOn}
+use Rattle.automizer_top.specs.Report.{Answer, answer, program_limit, RefusesProgram, too_long, no_program, ReportsPrint, refused_print, printed, RefusesTyped, refused_text, ill_typed, RefusesLowering, ReportsProof, ReportsCheck, refused_check, not_lowered, of_lowered, IsTypingRefusal, IsTypedText, ReportsFailure, ReportsReplay, refused_replay, of_typed, Ask, ReportsVerdict, ReportsVerify, refused_verify, unlowered, decided, Reports, usage, printing, checked, replaying, verifying, generating, ReportsBig, IsVerdictOn}
 use Rattle.race_rounds.specs.Ends.{Options}
-use Rattle.automizer_top.specs.CommandLine.{Check, Replay, Print, Verify, Settings, limits_of, requested}
+use Rattle.automizer_top.specs.CommandLine.{Check, Replay, Print, Verify, Big, Settings, limits_of, requested}
 use Rattle.automizer_top.proofs.RequestLaws.{program_of, second_of, same_task, same_settings, only_one, nothing_asked}
 use Rattle.automizer_top.proofs.TypedTexts.{one_typed}
 use Rattle.automizer_top.proofs.ProofOnce.{proof_once}
@@ -130,9 +130,9 @@ verify_once entry o text a b (decided t w none r) (decided u v none' s) =
 
 -- ---- the report
 
--- one answer; or two broken typing rules; or two verdicts on one program
+-- one answer; or two broken typing rules; or two verdicts on one program; or two summaries of one generated program
 abbrev pub AreOne : List (List ℕ) → List (List ℕ × List ℕ) → Answer → Answer → Type 0
-AreOne words texts a b = (a ≡ b) ⊎ (BothIllTyped a b ⊎ ((t : TypedProgram) × IsVerdictOn words texts t a × IsVerdictOn words texts t b))
+AreOne words texts a b = (a ≡ b) ⊎ (BothIllTyped a b ⊎ (((t : TypedProgram) × IsVerdictOn words texts t a × IsVerdictOn words texts t b) ⊎ ((s : Settings) × (count : ℕ) × Ask words s (Big count) × ReportsBig (limits_of s) count a × ReportsBig (limits_of s) count b)))
 
 wider : (words : List (List ℕ)) (texts : List (List ℕ × List ℕ)) (a b : Answer) → (a ≡ b) ⊎ BothIllTyped a b → AreOne words texts a b
 wider words texts a b (inl e) = inl e
@@ -142,7 +142,7 @@ both : (words : List (List ℕ)) (texts : List (List ℕ × List ℕ)) (s : Sett
     (a ≡ b) ⊎ (BothIllTyped a b ⊎ BothVerdicts s.entry (limits_of s) text a b) → AreOne words texts a b
 both words texts s p text a b asked found (inl e) = inl e
 both words texts s p text a b asked found (inr (inl h)) = inr (inl h)
-both words texts s p text a b asked found (inr (inr h)) = inr (inr (h.0, (s, p, text, asked, found, h.1, h.2), (s, p, text, asked, found, h.1, h.3)))
+both words texts s p text a b asked found (inr (inr h)) = inr (inr (inl (h.0, (s, p, text, asked, found, h.1, h.2), (s, p, text, asked, found, h.1, h.3))))
 
 -- the same text was found
 same_found : (texts : List (List ℕ × List ℕ)) (p q t u : List ℕ) → p ≡ q → text_named p texts ≡ Some t → text_named q texts ≡ Some u → u ≡ t
@@ -151,6 +151,9 @@ same_found texts p q t u e found found' = same_text u t (text_named p texts) (su
 -- the entry of settings that are the same
 same_entry : (s s' : Settings) → s ≡ s' → s'.entry ≡ s.entry
 same_entry s s' e = ap (λ (u : Settings). u.entry) (sym e)
+
+one_count : (m n : ℕ) → Big m ≡ Big n → m ≡ n
+one_count m n e = cc
 
 -- The report allows one answer at most, but that any of several broken typing rules may be named, and any of several verdicts told.
 pub report_once : (words : List (List ℕ)) (texts : List (List ℕ × List ℕ)) (a b : Answer) → Reports words texts a → Reports words texts b → AreOne words texts a b
@@ -214,3 +217,17 @@ report_once words texts a b (verifying s p t asked found verify) (verifying s' q
     both words texts s p t a b asked found (verify_once s.entry (limits_of s) t a b verify
     (subst (λ (v : Settings). ReportsVerify v.entry (limits_of v) t b) settings
     (subst (λ (z : List ℕ). ReportsVerify s'.entry (limits_of s') z b) text verify')))
+report_once words texts a b (usage none is) (generating s count asked big) = absurd (nothing_asked words s (Big count) none asked)
+report_once words texts a b (printing s p t asked found print) (generating s' count asked' big) = absurd (only_one words s s' (Print p) (Big count) asked asked' (λ (e : 2 ≡ 4). omega arith))
+report_once words texts a b (checked s p x t asked found check) (generating s' count asked' big) = absurd (only_one words s s' (Check p x) (Big count) asked asked' (λ (e : 0 ≡ 4). omega arith))
+report_once words texts a b (replaying s p x t asked found replay) (generating s' count asked' big) = absurd (only_one words s s' (Replay p x) (Big count) asked asked' (λ (e : 1 ≡ 4). omega arith))
+report_once words texts a b (verifying s p t asked found verify) (generating s' count asked' big) = absurd (only_one words s s' (Verify p) (Big count) asked asked' (λ (e : 3 ≡ 4). omega arith))
+report_once words texts a b (generating s count asked big) (usage none is) = absurd (nothing_asked words s (Big count) none asked)
+report_once words texts a b (generating s count asked big) (printing s' p t asked' found' print) = absurd (only_one words s s' (Big count) (Print p) asked asked' (λ (e : 4 ≡ 2). omega arith))
+report_once words texts a b (generating s count asked big) (checked s' p x t asked' found' check) = absurd (only_one words s s' (Big count) (Check p x) asked asked' (λ (e : 4 ≡ 0). omega arith))
+report_once words texts a b (generating s count asked big) (replaying s' p x t asked' found' replay) = absurd (only_one words s s' (Big count) (Replay p x) asked asked' (λ (e : 4 ≡ 1). omega arith))
+report_once words texts a b (generating s count asked big) (verifying s' p t asked' found' verify) = absurd (only_one words s s' (Big count) (Verify p) asked asked' (λ (e : 4 ≡ 3). omega arith))
+report_once words texts a b (generating s count asked big) (generating s' count' asked' big') =
+    let same : count' ≡ count = sym (one_count count count' (same_task words s s' (Big count) (Big count') asked asked')) in
+    let settings : s' ≡ s = sym (same_settings words s s' (Big count) (Big count') asked asked') in
+    inr (inr (inr (s, count, asked, big, subst (λ (u : Settings). ReportsBig (limits_of u) count b) settings (subst (λ (n : ℕ). ReportsBig (limits_of s') n b) same big'))))

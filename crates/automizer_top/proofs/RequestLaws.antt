@@ -8,7 +8,7 @@ use Rattle.std.proofs.lemmas.Bool.{and_parts, leb-true}
 use Rattle.std.proofs.lemmas.Option.{same_Some, none-some, cond_some}
 use Rattle.clap.specs.Kinds.{Kinds}
 use Rattle.clap.specs.Walk.{Row, first_of}
-use Rattle.automizer_top.specs.CommandLine.{Task, Check, Replay, Print, Verify, Settings, Request, is_number_in, number_in, task_of, settings_of, request_of, request_by, faults, values, requested}
+use Rattle.automizer_top.specs.CommandLine.{Task, Check, Replay, Print, Verify, Big, Settings, Request, is_number_in, number_in, task_of, settings_of, request_of, request_by, faults, values, requested}
 use Rattle.automizer_top.specs.Report.{Ask}
 
 -- the name of the program text
@@ -17,6 +17,7 @@ program_of (Check program second) = program
 program_of (Replay program second) = program
 program_of (Print program) = program
 program_of (Verify program) = program
+program_of (Big count) = []
 
 -- the name of the second text
 abbrev pub second_of : Task → List ℕ
@@ -24,12 +25,14 @@ second_of (Check program second) = second
 second_of (Replay program second) = second
 second_of (Print program) = program
 second_of (Verify program) = program
+second_of (Big count) = []
 
 abbrev pub kind_of : Task → ℕ
 kind_of (Check program second) = 0
 kind_of (Replay program second) = 1
 kind_of (Print program) = 2
 kind_of (Verify program) = 3
+kind_of (Big count) = 4
 
 one_request : (words : List (List ℕ)) (q r : Request) → requested words ≡ Some q → requested words ≡ Some r → q ≡ r
 one_request words q r e f = same_Some q r (sym e ∙ f)

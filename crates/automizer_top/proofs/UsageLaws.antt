@@ -9,12 +9,15 @@ use Rattle.race_verdicts.specs.declared.verdicts.Verdict.{Verdict}
 use Rattle.race_verdicts.specs.declared.verdicts.Verdict.TheVariants.{Safe, Unsafe, Unknown}
 use Rattle.automizer_top.specs.declared.answer.Answer as code
 use Rattle.automizer_top.specs.declared.reporting.Halt.{Halt}
-use Rattle.automizer_top.specs.declared.words.Request.{Request}
-use Rattle.automizer_top.specs.CommandLine.{requested}
-use Rattle.automizer_top.specs.Asked.{asked}
-use Rattle.automizer_top.specs.Answers.{answered}
+use Rattle.automizer_top.specs.declared.words.Mode.{Mode}
+use Rattle.automizer_top.specs.declared.words.Task.{Task}
+use Rattle.automizer_top.specs.declared.words.Task.TheVariants as tasks
+use Rattle.automizer_top.specs.declared.words.Request as read
+use Rattle.automizer_top.specs.CommandLine.{Request, Big, requested}
+use Rattle.automizer_top.specs.Asked.{asked, task, settings}
+use Rattle.automizer_top.specs.Answers.{answered, Asks}
 use Rattle.automizer_top.specs.Verdicts.{verdict_status}
-use Rattle.automizer_top.specs.Report.{Answer, RefusesProgram, too_long, no_program, ReportsPrint, refused_print, printed, RefusesTyped, RefusesLowering, ReportsProof, proof_too_long, no_annotation, accepted, rejected, ReportsFailure, failure_too_long, no_failure, replayed, stopped, ReportsVerify, refused_verify, unlowered, decided}
+use Rattle.automizer_top.specs.Report.{Answer, Ask, RefusesProgram, too_long, no_program, ReportsPrint, refused_print, printed, RefusesTyped, RefusesLowering, ReportsProof, proof_too_long, no_annotation, accepted, rejected, ReportsFailure, failure_too_long, no_failure, replayed, stopped, ReportsVerify, refused_verify, unlowered, decided, ReportsBig}
 use Rattle.automizer_top.proofs.ReportLaws.{typed_is_three, lowering_is_three}
 
 -- an answer of another status does not have the status 4
@@ -34,7 +37,7 @@ refused_not_four : (text : List ℕ) (a : Answer) → RefusesProgram text a → 
 refused_not_four text a (too_long past is) = not_three a.status (ap status_of is)
 refused_not_four text a (no_program f l r is) = not_three a.status (ap status_of is)
 
-print_not_four : (text : List ℕ) (a : Answer) → ReportsPrint text a → a.status ≢ 4
+pub print_not_four : (text : List ℕ) (a : Answer) → ReportsPrint text a → a.status ≢ 4
 print_not_four text a (refused_print r) = refused_not_four text a r
 print_not_four text a (printed ds l w is) = not_zero a.status (ap status_of is)
 
@@ -61,30 +64,41 @@ verdict_not_four (Safe a) = λ e. omega (arith, e)
 verdict_not_four (Unsafe f) = λ e. omega (arith, e)
 verdict_not_four (Unknown cause w) = λ e. omega (arith, e)
 
-verify_not_four : (entry : List ℕ) (o : Options) (text : List ℕ) (a : Answer) → ReportsVerify entry o text a → a.status ≢ 4
+pub verify_not_four : (entry : List ℕ) (o : Options) (text : List ℕ) (a : Answer) → ReportsVerify entry o text a → a.status ≢ 4
 verify_not_four entry o text a (refused_verify r) = typed_not_four entry text a r
 verify_not_four entry o text a (unlowered t w r) = lowering_not_four t a r
 verify_not_four entry o text a (decided t w none v) = λ e. verdict_not_four v.verdict (sym (ap status_of v.is) ∙ e)
 
 -- what was read of the words is what they ask for
-pub asks_by : (words : List (List ℕ)) (o : Option Request) (q : Request) → o ≡ Some q → option_map asked o ≡ requested words → requested words ≡ Some (asked q)
+pub asks_by : (words : List (List ℕ)) (o : Option read.Request) (q : read.Request) → o ≡ Some q → option_map asked o ≡ requested words → requested words ≡ Some (asked q)
 asks_by words o q is e = sym e ∙ ap (option_map asked) is
 
 -- the words ask for something, and the answer has another status
 abbrev pub IsUsage : List (List ℕ) → ℕ → Type 0
 IsUsage words status = (status ≡ 4 → requested words ≡ None) × (requested words ≡ None → status ≡ 4)
 
-pub used : (words : List (List ℕ)) (q : Request) (status : ℕ) → requested words ≡ Some (asked q) → status ≢ 4 → IsUsage words status
-used words q status ask other = (λ e. absurd (other e), λ none. absurd (none-some (asked q) (sym none ∙ ask)))
+pub used : (words : List (List ℕ)) (q : Request) (status : ℕ) → requested words ≡ Some q → status ≢ 4 → IsUsage words status
+used words q status ask other = (λ e. absurd (other e), λ none. absurd (none-some q (sym none ∙ ask)))
 
-pub used_by_code : (words : List (List ℕ)) (q : Request) (r : Result code.Answer Halt) → requested words ≡ Some (asked q) → IfOk r (λ a. (answered a).status ≢ 4) →
+pub used_by_code : (words : List (List ℕ)) (q : Request) (r : Result code.Answer Halt) → requested words ≡ Some q → IfOk r (λ a. (answered a).status ≢ 4) →
     IfOk r (λ a. IsUsage words (answered a).status)
 used_by_code words q (Ok a) ask other = used words q (answered a).status ask other
 used_by_code words q (Err e) ask other = tt
 
-pub used_by_print : (words : List (List ℕ)) (q : Request) (text : List ℕ) (a : Answer) → requested words ≡ Some (asked q) → ReportsPrint text a → IsUsage words a.status
+pub used_by_print : (words : List (List ℕ)) (q : Request) (text : List ℕ) (a : Answer) → requested words ≡ Some q → ReportsPrint text a → IsUsage words a.status
 used_by_print words q text a ask r = used words q a.status ask (print_not_four text a r)
 
-pub used_by_verify : (words : List (List ℕ)) (q : Request) (entry : List ℕ) (o : Options) (text : List ℕ) (a : Answer) → requested words ≡ Some (asked q) →
+pub used_by_verify : (words : List (List ℕ)) (q : Request) (entry : List ℕ) (o : Options) (text : List ℕ) (a : Answer) → requested words ≡ Some q →
     ReportsVerify entry o text a → IsUsage words a.status
 used_by_verify words q entry o text a ask r = used words q a.status ask (verify_not_four entry o text a r)
+
+pub used_by_summary : (words : List (List ℕ)) (q : Request) (o : Options) (count : ℕ) (a : Answer) → requested words ≡ Some q → ReportsBig o count a → IsUsage words a.status
+used_by_summary words q o count a ask r = used words q a.status ask (λ e. verdict_not_four r.verdict (sym (ap status_of r.is) ∙ e))
+
+-- ---- what was read of the words, by its task
+
+pub asks_texts : (words : List (List ℕ)) (q : read.Request) (mode : Mode) → q.task ≡ tasks.Texts mode → requested words ≡ Some (asked q) → Asks words mode q.options
+asks_texts words q mode is ask = ask ∙ ap (λ (x : Task). Some (record { task = task x; settings = settings q.options })) is
+
+pub asks_big : (words : List (List ℕ)) (q : read.Request) (count : ℕ) → q.task ≡ tasks.Generated count → requested words ≡ Some (asked q) → Ask words (settings q.options) (Big count)
+asks_big words q count is ask = ask ∙ ap (λ (x : Task). Some (record { task = task x; settings = settings q.options })) is

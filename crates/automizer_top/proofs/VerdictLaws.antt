@@ -13,6 +13,7 @@ use Rattle.proof_form.specs.Annotations.{Content, is_annotation}
 use Rattle.proof_check.specs.Proves.{Proves}
 use Rattle.proof_check.proofs.ProvedLaws.{proved_infeasible}
 use Rattle.race_core.specs.Histories.{IsLegal}
+use Rattle.race_core.specs.Histories as histories
 use Rattle.race_core.specs.Races.{Race}
 use Rattle.itp_automaton.specs.Certified.{Certificate, IsFeasibleFor}
 use Rattle.race_rounds.specs.Ends.{Options}
@@ -38,12 +39,12 @@ fits t r (Unsafe f) h = h.failure.bounds.choices
 fits t r (Unknown cause w) h = tt
 
 pub reports : (o : Options) (t : TypedProgram) (r : Race Certificate) (v : Verdict) (text : List ℕ) (left rounds : ℕ) → IsRaceOf t o r → IsVerdict t r v →
-    IsLegal automaton_in IsFeasibleFor r.program r.history → left + length r.history ≡ r.limit → rounds ≡ length r.history → text ≡ verdict_text rounds v →
+    IsLegal automaton_in IsFeasibleFor r.program r.history → histories.Keeps automaton_in r.program r.history r.kept → left + length r.history ≡ r.limit → rounds ≡ length r.history → text ≡ verdict_text rounds v →
     ReportsVerdict o t (record { bytes = text; status = verdict_status v; races = r ∷ [] })
-reports o t r v text left rounds race of_end legal room n same_text = record {
+reports o t r v text left rounds race of_end legal kept room n same_text = record {
   race = r;
   verdict = v;
-  closed = record { race = race; legal = legal; within = let l = race.limit in omega (arith, room, l) };
+  closed = record { race = race; legal = legal; kept = kept; within = let l = race.limit in omega (arith, room, l) };
   of_end = of_end;
   is = λ i. record { bytes = (same_text ∙ ap (λ (k : ℕ). verdict_text k v) n) i; status = verdict_status v; races = r ∷ [] };
 }

@@ -1,10 +1,10 @@
 -- The code's answers and questions as contracts see them.
-use Rattle.std.specs.Prelude.{◌≡◌, ℕ, List, [], ◌∷◌, None, codes}
+use Rattle.std.specs.Prelude.{◌≡◌, ℕ, List, [], ◌∷◌, None, Some, codes}
 use Rattle.automizer_top.specs.declared.answer.Answer.{Answer}
 use Rattle.automizer_top.specs.declared.answer.Answer.TheVariants.{Usage, TooLong, Refused, IllTyped, TooWide, TooBig, Printed, Syntax, Accepted, Rejected, Replayed, Stopped, Decided}
 use Rattle.automizer_top.specs.declared.words.Mode.{Mode}
 use Rattle.automizer_top.specs.declared.words.Options.{Options}
-use Rattle.automizer_top.specs.Asked.{task, settings}
+use Rattle.automizer_top.specs.Asked.{of_texts, settings}
 use Rattle.automizer_top.specs.Refusals.{refusal}
 use Rattle.automizer_top.specs.TypeRefusals.{type_refusal}
 use Rattle.typed_tree.specs.TypedTree.{TypedProgram}
@@ -17,8 +17,14 @@ use Rattle.lowered_graph.specs.Items as items
 use Rattle.lowered_graph.specs.Items.{first_fault}
 use Rattle.lowered_graph.specs.Lowered.{lowered}
 use Rattle.lowered_graph.specs.Laws.{IsFaithful}
+use Rattle.proof_check.specs.Proves.{Proves}
+use Rattle.race_verdicts.specs.declared.verdicts.Verdict.{Verdict}
+use Rattle.race_verdicts.specs.declared.verdicts.Verdict.TheVariants.{Safe, Unsafe, Unknown}
 use Rattle.automizer_top.specs.LoweringRefusals.{lowering_refusal}
 use Rattle.automizer_top.specs.Verdicts.{verdict_status}
+use Rattle.boogie_types.specs.Resolved.{resolved_program}
+use Rattle.generated_program.specs.Generated.{generated}
+use Rattle.automizer_top.specs.CommandLine.{Settings, Big}
 use Rattle.automizer_top.specs.Report as report
 
 abbrev pub answered : Answer → report.Answer
@@ -38,7 +44,7 @@ answered (Decided text verdict race) = record { bytes = text.items; status = ver
 
 -- the words ask for this, with these options
 abbrev pub Asks : List (List ℕ) → Mode → Options → Type 0
-Asks words mode o = report.Ask words (settings o) (task mode)
+Asks words mode o = report.Ask words (settings o) (of_texts mode)
 
 -- the graph of a program that can be lowered
 pub record IsGraphOf (t : TypedProgram) (g : Graph) : Type 0 where
@@ -50,6 +56,12 @@ pub record IsGraphOf (t : TypedProgram) (g : Graph) : Type 0 where
 abbrev pub HasNoErrorWord : Graph → Type 0
 HasNoErrorWord g = (w : List Letter) → Accepts g.automaton w → IsFeasible (alphabet_of g) w → ⊥
 
+-- the annotation of a verdict proves the graph, if the verdict has one
+abbrev pub IsProved : Graph → Verdict → Type 0
+IsProved g (Safe annotation) = Proves g annotation
+IsProved g (Unsafe failure) = Unit {0}
+IsProved g (Unknown cause word) = Unit {0}
+
 -- the program of the text is safe, if it keeps the typing rules, where runs begin at the procedure `entry`
 abbrev pub TextIsSafe : List ℕ → List ℕ → Type 0
 TextIsSafe entry text = (t : TypedProgram) → report.IsTypedText entry text t → IsSafe t
@@ -57,6 +69,10 @@ TextIsSafe entry text = (t : TypedProgram) → report.IsTypedText entry text t �
 -- the program whose verdict the words ask for is safe
 abbrev pub VerifiedIsSafe : List (List ℕ) → List (List ℕ × List ℕ) → Type 0
 VerifiedIsSafe words texts = (t : TypedProgram) → report.AsksForVerdict words texts t → IsSafe t
+
+-- the generated program that the words ask for is safe
+abbrev pub BuiltIsSafe : List (List ℕ) → Type 0
+BuiltIsSafe words = (s : Settings) (count : ℕ) (t : TypedProgram) → report.Ask words s (Big count) → resolved_program (generated count) (codes "main") ≡ Some t → IsSafe t
 
 -- the program whose check the words ask for is safe
 abbrev pub CheckedIsSafe : List (List ℕ) → List (List ℕ × List ℕ) → Type 0

@@ -1,22 +1,33 @@
 -- What the code read of the words, as contracts see it.
-use Rattle.std.specs.Prelude.{ℕ, List}
+use Rattle.std.specs.Prelude.{ℕ, ◌≤◌, List}
 use Rattle.automizer_top.specs.declared.words.Mode.{Mode}
 use Rattle.automizer_top.specs.declared.words.Mode.TheVariants.{Check, Replay, Print, Verify}
+use Rattle.automizer_top.specs.declared.words.Task.{Task}
+use Rattle.automizer_top.specs.declared.words.Task.TheVariants.{Texts, Generated}
 use Rattle.automizer_top.specs.declared.words.Options.{Options}
 use Rattle.automizer_top.specs.declared.words.Request.{Request}
 use Rattle.automizer_top.specs.CommandLine as line
 
-abbrev pub task : Mode → line.Task
-task (Check program second) = line.Check program.now second.now
-task (Replay program second) = line.Replay program.now second.now
-task (Print program) = line.Print program.now
-task (Verify program) = line.Verify program.now
+abbrev pub of_texts : Mode → line.Task
+of_texts (Check program second) = line.Check program.now second.now
+of_texts (Replay program second) = line.Replay program.now second.now
+of_texts (Print program) = line.Print program.now
+of_texts (Verify program) = line.Verify program.now
+
+abbrev pub task : Task → line.Task
+task (Texts mode) = of_texts mode
+task (Generated count) = line.Big count
+
+-- the number of generated procedures is in its range
+abbrev pub IsCounted : Task → Type 0
+IsCounted (Texts mode) = Unit {0}
+IsCounted (Generated count) = (1 ≤ count) × (count ≤ 200)
 
 abbrev pub settings : Options → line.Settings
 settings o = record { entry = o.entry.now; rounds = o.rounds; workers = o.workers; depth = o.depth }
 
 abbrev pub asked : Request → line.Request
-asked r = record { task = task r.mode; settings = settings r.options }
+asked r = record { task = task r.task; settings = settings r.options }
 
 -- the name of the program text
 abbrev pub program_name : Mode → List ℕ

@@ -45,12 +45,13 @@ values words = matches_of command words
 
 -- ---- what they ask for
 
--- what is to be done with texts of these names
+-- what is to be done with texts of these names, or with the generated program of so many procedures
 pub data Task : Type 0 where
   Check : List ℕ → List ℕ → Task
   Replay : List ℕ → List ℕ → Task
   Print : List ℕ → Task
   Verify : List ℕ → Task
+  Big : ℕ → Task
 
 -- the name of the procedure at which runs begin, how many rounds a race has at most, how many workers it has, and how many cuts a branch
 -- of a refutation has at most
@@ -82,7 +83,8 @@ is_padded text = length text == 0 || (slice_index text 0 == 43 || (slice_index t
 abbrev pub task_of_one : List ℕ → List ℕ → Option Task
 task_of_one mode program =
     if bytes_eq mode (codes "print") then Some (Print program)
-    else (if bytes_eq mode (codes "verify") then Some (Verify program) else None)
+    else (if bytes_eq mode (codes "verify") then Some (Verify program)
+    else (if bytes_eq mode (codes "big") then option_map Big (number_in 1 200 program) else None))
 
 abbrev pub task_of_two : List ℕ → List ℕ → List ℕ → Option Task
 task_of_two mode program second =

@@ -4,6 +4,7 @@ pub mod LoweringRefusals
 pub mod CommandLine
 pub mod Asked
 pub mod Verdicts
+pub mod Summary
 pub mod Report
 pub mod Answers
 pub mod Completeness

@@ -35,7 +35,9 @@ use Rattle.race_verdicts.specs.declared.verdicts.Verdict.{Verdict}
 use Rattle.race_verdicts.specs.Verdicts.{IsVerdict}
 use Rattle.race_verdicts.specs.Texts.{verdict_text}
 use Rattle.race_rounds.specs.Ends.{Options}
-use Rattle.automizer_top.specs.CommandLine.{Task, Check, Replay, Print, Verify, Settings, limits_of, requested}
+use Rattle.generated_program.specs.Generated.{generated}
+use Rattle.automizer_top.specs.Summary.{summary_text}
+use Rattle.automizer_top.specs.CommandLine.{Task, Check, Replay, Print, Verify, Big, Settings, limits_of, requested}
 use Rattle.automizer_top.specs.Verdicts.{IsClosedRace, verdict_status}
 use Rattle.automizer_top.specs.Refusals.{refusal}
 use Rattle.automizer_top.specs.TypeRefusals.{type_refusal}
@@ -204,6 +206,18 @@ pub data ReportsVerify (entry : List ℕ) (o : Options) (program : List ℕ) (a 
   unlowered : (t : TypedProgram) → IsTypedText entry program t → RefusesLowering t a → ReportsVerify entry o program a
   decided : (t : TypedProgram) → IsTypedText entry program t → first_fault t ≡ None → ReportsVerdict o t a → ReportsVerify entry o program a
 
+-- What is answered where the generated program of so many procedures is asked for: the summary of the verdict for which a race over it has ended.
+-- This program is never refused.
+pub record ReportsBig (o : Options) (count : ℕ) (a : Answer) : Type 0 where
+  pub program : TypedProgram
+  pub typed : resolved_program (generated count) (codes "main") ≡ Some program
+  pub lowers : first_fault program ≡ None
+  pub race : Race Certificate
+  pub verdict : Verdict
+  pub closed : IsClosedRace program o race
+  pub of_end : IsVerdict program race verdict
+  pub is : a ≡ record { bytes = summary_text count verdict; status = verdict_status verdict; races = race ∷ [] }
+
 -- The report: to words that ask for nothing the usage line, to others what the named texts give.
 pub data Reports (words : List (List ℕ)) (texts : List (List ℕ × List ℕ)) (a : Answer) : Type 0 where
   usage : requested words ≡ None → a ≡ answer usage_line 4 → Reports words texts a
@@ -215,6 +229,7 @@ pub data Reports (words : List (List ℕ)) (texts : List (List ℕ × List ℕ))
       ReportsCheck s.entry text (text_named second texts) a → Reports words texts a
   replaying : (s : Settings) (program second text : List ℕ) → Ask words s (Replay program second) → text_named program texts ≡ Some text →
       ReportsReplay s.entry text (text_named second texts) a → Reports words texts a
+  generating : (s : Settings) (count : ℕ) → Ask words s (Big count) → ReportsBig (limits_of s) count a → Reports words texts a
 
 -- the answer says that a typing rule is broken
 abbrev pub IsTypingRefusal : Answer → Type 0
@@ -224,6 +239,11 @@ IsTypingRefusal a = (f : TypeFault) × (a ≡ answer (type_refusal f) 3)
 abbrev pub IsVerdictOn : List (List ℕ) → List (List ℕ × List ℕ) → TypedProgram → Answer → Type 0
 IsVerdictOn words texts t a = (s : Settings) × (program text : List ℕ) × Ask words s (Verify program) × (text_named program texts ≡ Some text)
     × IsTypedText s.entry text t × ReportsVerdict (limits_of s) t a
+
+-- The words ask for the generated program, and it is safe: no run of it fails an assertion.
+abbrev pub GeneratedIsSafe : List (List ℕ) → Type 0
+GeneratedIsSafe words = (s : Settings) × (count : ℕ) × (t : TypedProgram) × Ask words s (Big count)
+    × (resolved_program (generated count) (codes "main") ≡ Some t) × IsSafe t
 
 -- The words ask for the printing of a program that stands in the texts.
 abbrev pub PrintsProgram : List (List ℕ) → List (List ℕ × List ℕ) → Type 0

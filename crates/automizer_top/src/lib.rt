@@ -2,8 +2,13 @@
 #![tactic(auto)]
 
 mod answer;
+mod generated;
 mod reporting;
 mod running;
+mod summary;
 mod words;
 
-pub use running::{one_report, run, verdicts_agree, verdicts_are_complete, verdicts_are_confirmed};
+pub use running::{
+    one_report, run, summaries_are_verdicts, verdicts_agree, verdicts_are_complete,
+    verdicts_are_confirmed,
+};

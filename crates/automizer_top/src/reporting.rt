@@ -1,12 +1,12 @@
-ghost use Rattle.std.specs.Prelude.{◌≡◌, ◌≢◌, ◌≤◌, ◌<◌, length, map, Some, None, Err, IfOk, IfSome, IsSome, MatchOption, MatchResult, vec_len};
+ghost use Rattle.std.specs.Prelude.{◌≡◌, ◌≢◌, ◌≤◌, ◌<◌, ℕ, List, length, map, Some, None, Err, IfOk, IfSome, IsSome, MatchOption, MatchResult, vec_len};
 ghost use Rattle.std.specs.String.{string_bytes};
 ghost use Rattle.outer_io.specs.Faults.{Rose};
 ghost use Rattle.outer_io.specs.Texts.{text_named};
 ghost use Rattle.typed_tree.specs.declared.fault.TypeFault.TheVariants as TypeFault;
 ghost use Rattle.typing_rules.specs.TypedParts.{typed_program};
 ghost use Rattle.automizer_top.specs.declared.reporting.Halt.TheVariants.{Fault, Memory};
-ghost use Rattle.automizer_top.specs.Answers.{answered, IsGraphOf, HasNoErrorWord, TextIsSafe, CheckedIsSafe, VerifiedIsSafe};
-ghost use Rattle.race_rounds.specs.Ends.{Options as Limits};
+ghost use Rattle.automizer_top.specs.Answers.{answered, Asks, IsGraphOf, HasNoErrorWord, TextIsSafe, CheckedIsSafe, VerifiedIsSafe, BuiltIsSafe};
+ghost use Rattle.race_rounds.specs.Ends.{Options as RaceOptions};
 ghost use Rattle.automizer_top.specs.Asked.{settings};
 ghost use Rattle.automizer_top.specs.CommandLine.{limits_of, requested};
 ghost use Rattle.automizer_top.specs.Refusals.{refusal};
@@ -14,7 +14,8 @@ ghost use Rattle.automizer_top.specs.TypeRefusals.{type_refusal};
 ghost use Rattle.automizer_top.specs.Report.{answer, accepted_answer, IsTypedText, RefusesTyped, RefusesLowering, Reports, ReportsPrint, ReportsProof, ReportsCheck, ReportsReplay, ReportsFailure, ReportsVerdict, ReportsVerify};
 
 use crate::answer::Answer;
-use crate::words::{Mode, Options, read_words};
+use crate::generated::summed;
+use crate::words::{Mode, Options, Task, read_words};
 use boogie_parse::{Fault, parse};
 use boogie_tree::print;
 use boogie_types::{TypeFault, Typed, resolve};
@@ -23,9 +24,10 @@ use letter_acts::Icfg;
 use outer_io::{ReadFault, Shelf, read_all};
 use proof_check::{Reject, check};
 use proof_form::{ProofFault, read_safe};
-use race_rounds::alone;
 use race_verdicts::{verdict_of, verdict_text};
+use race_workers::{Gate, Limits, race};
 use std::alloc::{AllocError, Global};
+use std::sync::Wait;
 use std::thread::Threads;
 use trace_replay::{FailureFault, ReplayFault, read_failure, replay};
 
@@ -127,7 +129,7 @@ fn typed(alloc: Global, text: &[u8], entry: &str) -> Result<Result<Typed, Answer
 }
 
 /// The graph of a program, or what is answered where it cannot be lowered.
-fn graph(alloc: Global, program: &Typed) -> Result<Result<Icfg, Answer>, AllocError>
+pub(crate) fn graph(alloc: Global, program: &Typed) -> Result<Result<Icfg, Answer>, AllocError>
     ensures { IfOk result (λ r. MatchResult r
         (IsGraphOf (typed_program program.now))
         (λ a. RefusesLowering (typed_program program.now) (answered a))) }
@@ -191,25 +193,32 @@ fn checked<H: Shelf>(
 }
 
 /// The verdict on a program by a race over its graph.
-fn decided<R: Threads + Sync>(
+fn decided<R: Threads + Wait + Sync, G: Gate + Sync>(
     rt: &R,
     alloc: Global,
     program: &Typed,
     icfg: &Icfg,
-    rounds: u32,
-    depth: u32,
+    options: &Options<'_>,
+    gate: &G,
 ) -> Result<Answer, AllocError>
     requires graph { IsGraphOf (typed_program program.now) icfg.now }
-    requires rounds { (1 ≤ rounds) × (rounds ≤ 100000) }
-    requires depth { depth ≤ 64 }
-    ensures reported { IfOk result (λ a. (o : Limits) → o.rounds ≡ rounds → o.depth ≡ depth → ReportsVerdict o (typed_program program.now) (answered a)) }
+    requires rounds { (1 ≤ options.now.rounds) × (options.now.rounds ≤ 100000) }
+    requires workers { (1 ≤ options.now.workers) × (options.now.workers ≤ 64) }
+    requires depth { options.now.depth ≤ 64 }
+    ensures reported { IfOk result (λ a. (o : RaceOptions) → o.rounds ≡ options.now.rounds → o.depth ≡ options.now.depth → ReportsVerdict o (typed_program program.now) (answered a)) }
     ensures safe { IfOk result (λ a. (answered a).status ≡ 0 → HasNoErrorWord icfg.now) }
 {
-    let race = alone(rt, alloc, program, icfg, u64::from(rounds), depth)?;
+    let limits = Limits {
+        rounds: u64::from(options.rounds),
+        workers: options.workers,
+        depth: options.depth,
+    };
+    let race = race(rt, alloc, program, icfg, limits, gate)?;
     let verdict = verdict_of(alloc, program, icfg, &race)?;
     let text = verdict_text(alloc, race.version(), &verdict)?;
     // Contracts alone speak of these.
-    let (_graph, _history, _room) = (icfg.nwa(), race.history(), race.sized());
+    let (_graph, _history, _kept) = (icfg.nwa(), race.history(), race.kept());
+    let _room = race.sized();
     Ok(Answer::Decided {
         text,
         verdict,
@@ -218,14 +227,16 @@ fn decided<R: Threads + Sync>(
 }
 
 /// What is answered to a program text whose verdict is asked for.
-fn verified<R: Threads + Sync>(
+fn verified<R: Threads + Wait + Sync, G: Gate + Sync>(
     rt: &R,
     alloc: Global,
     text: &[u8],
     options: &Options<'_>,
+    gate: &G,
 ) -> Result<Answer, AllocError>
     requires text { length text.now ≤ PROGRAM_LIMIT }
     requires rounds { (1 ≤ options.now.rounds) × (options.now.rounds ≤ 100000) }
+    requires workers { (1 ≤ options.now.workers) × (options.now.workers ≤ 64) }
     requires depth { options.now.depth ≤ 64 }
     ensures reported { IfOk result (λ a. ReportsVerify options.now.entry.now (limits_of (settings options.now)) text.now (answered a)) }
     ensures safe { IfOk result (λ a. (answered a).status ≡ 0 → TextIsSafe options.now.entry.now text.now) }
@@ -238,7 +249,7 @@ fn verified<R: Threads + Sync>(
         Ok(icfg) => icfg,
         Err(answer) => return Ok(answer),
     };
-    decided(rt, alloc, &program, &icfg, options.rounds, options.depth)
+    decided(rt, alloc, &program, &icfg, options, gate)
 }
 
 /// What is answered to a program and to the text of a failure.
@@ -285,12 +296,50 @@ fn replayed<H: Shelf>(
     Ok(outcome(alloc, &program, &failure)?)
 }
 
+/// What is answered where something with texts of the shelf is asked for.
+fn told<R: Threads + Wait + Sync, H: Shelf, G: Gate + Sync>(
+    rt: &R,
+    alloc: Global,
+    mode: &Mode<'_>,
+    options: &Options<'_>,
+    shelf: &mut H,
+    gate: &G,
+) -> Result<Answer, Halt>
+    requires rounds { (1 ≤ options.now.rounds) × (options.now.rounds ≤ 100000) }
+    requires workers { (1 ≤ options.now.workers) × (options.now.workers ≤ 64) }
+    requires depth { options.now.depth ≤ 64 }
+    ensures texts { H.texts shelf.new ≡ H.texts shelf.old }
+    ensures reported { (words : List (List ℕ)) → Asks words mode.now options.now →
+        IfOk result (λ a. IfSome (H.texts shelf.old) (λ shown. Reports words shown (answered a))) }
+    ensures accepted { (words : List (List ℕ)) → Asks words mode.now options.now →
+        IfOk result (λ a. answered a ≡ accepted_answer → IfSome (H.texts shelf.old) (λ shown. CheckedIsSafe words shown)) }
+    ensures verified { (words : List (List ℕ)) → Asks words mode.now options.now →
+        IfOk result (λ a. (answered a).status ≡ 0 → IfSome (H.texts shelf.old) (λ shown. VerifiedIsSafe words shown)) }
+    ensures no_usage { IfOk result (λ a. (answered a).status ≢ 4) }
+    ensures fault { result ≡ Err Halt.Fault → Rose (H.faults shelf.old) (H.faults shelf.new) }
+    ensures no_fault { result ≢ Err Halt.Fault → H.faults shelf.new ≡ H.faults shelf.old }
+    ensures never_falls { H.faults shelf.old ≤ H.faults shelf.new }
+{
+    let Some(text) = text_within(alloc, shelf, mode.program(), PROGRAM_LIMIT)? else {
+        return Ok(Answer::TooLong);
+    };
+    match *mode {
+        Mode::Print { program: _ } => Ok(printed(alloc, &text)?),
+        Mode::Verify { program: _ } => Ok(verified(rt, alloc, &text, options, gate)?),
+        Mode::Check { program: _, second } => checked(alloc, shelf, &text, second, options.entry),
+        Mode::Replay { program: _, second } => {
+            replayed(alloc, shelf, &text, second, options.entry)
+        }
+    }
+}
+
 /// What the program answers to its words: its report.
-pub(crate) fn reported<R: Threads + Sync, H: Shelf>(
+pub(crate) fn reported<R: Threads + Wait + Sync, H: Shelf, G: Gate + Sync>(
     rt: &R,
     alloc: Global,
     words: &[String],
     shelf: &mut H,
+    gate: &G,
 ) -> Result<Answer, Halt>
     ensures texts { H.texts shelf.new ≡ H.texts shelf.old }
     ensures reported { IfOk result (λ a. IfSome (H.texts shelf.old) (λ shown.
@@ -299,6 +348,7 @@ pub(crate) fn reported<R: Threads + Sync, H: Shelf>(
         CheckedIsSafe (map string_bytes words.now) shown)) }
     ensures verified { IfOk result (λ a. (answered a).status ≡ 0 → IfSome (H.texts shelf.old) (λ shown.
         VerifiedIsSafe (map string_bytes words.now) shown)) }
+    ensures built { IfOk result (λ a. (answered a).status ≡ 0 → BuiltIsSafe (map string_bytes words.now)) }
     ensures usage { IfOk result (λ a. ((answered a).status ≡ 4 → requested (map string_bytes words.now) ≡ None)
         × (requested (map string_bytes words.now) ≡ None → (answered a).status ≡ 4)) }
     ensures fault { result ≡ Err Halt.Fault → Rose (H.faults shelf.old) (H.faults shelf.new) }
@@ -308,16 +358,8 @@ pub(crate) fn reported<R: Threads + Sync, H: Shelf>(
     let Some(request) = read_words(alloc, words)? else {
         return Ok(Answer::Usage);
     };
-    let Some(text) = text_within(alloc, shelf, request.mode.program(), PROGRAM_LIMIT)? else {
-        return Ok(Answer::TooLong);
-    };
-    let options = request.options;
-    match request.mode {
-        Mode::Print { program: _ } => Ok(printed(alloc, &text)?),
-        Mode::Verify { program: _ } => Ok(verified(rt, alloc, &text, &options)?),
-        Mode::Check { program: _, second } => checked(alloc, shelf, &text, second, options.entry),
-        Mode::Replay { program: _, second } => {
-            replayed(alloc, shelf, &text, second, options.entry)
-        }
+    match request.task {
+        Task::Texts(mode) => told(rt, alloc, &mode, &request.options, shelf, gate),
+        Task::Generated(count) => Ok(summed(rt, alloc, count, &request.options, gate)?),
     }
 }

@@ -3,6 +3,8 @@ ghost use Rattle.std.specs.Option.{option_to_list};
 ghost use Rattle.std.specs.String.{string_bytes};
 ghost use Rattle.outer_io.specs.Faults.{Rose};
 ghost use Rattle.boogie_run.specs.declared.types.AssertId.{AssertId};
+ghost use Rattle.boogie_types.specs.Resolved.{resolved_program};
+ghost use Rattle.generated_program.specs.Generated.{generated};
 ghost use Rattle.typed_tree.specs.TypedTree.{TypedProgram};
 ghost use Rattle.nwa_base.specs.declared.letters.Letter.{Letter};
 ghost use Rattle.nwa_base.specs.Acceptance.{Accepts};
@@ -13,8 +15,8 @@ ghost use Rattle.race_rounds.specs.Ends.{Options};
 ghost use Rattle.race_completeness.specs.Words.{HasWordsAmong};
 ghost use Rattle.automizer_top.specs.Completeness.{HasDifferenceRows, SaysUnknown};
 ghost use Rattle.automizer_top.specs.CommandLine as line;
-ghost use Rattle.automizer_top.specs.CommandLine.{Settings, requested};
-ghost use Rattle.automizer_top.specs.Report.{Answer, Answers, Ask, Reports, accepted_answer, replayed_answer, ReportsVerdict, IsHandedOver, WhereTold, TookFront, Closes, ClosesAtFront, PrintsProgram, ProgramIsSafe, ProgramFails, IsTypingRefusal, IsVerdictOn};
+ghost use Rattle.automizer_top.specs.CommandLine.{Settings, limits_of, requested};
+ghost use Rattle.automizer_top.specs.Report.{Answer, Answers, Ask, Reports, accepted_answer, replayed_answer, ReportsVerdict, IsHandedOver, WhereTold, TookFront, Closes, ClosesAtFront, PrintsProgram, ProgramIsSafe, ProgramFails, IsTypingRefusal, IsVerdictOn, ReportsBig, GeneratedIsSafe};
 
 use crate::reporting::{Halt, reported};
 use itp_automaton::Certified;
@@ -22,7 +24,9 @@ use itp_automaton::laws::certified_words_are_infeasible;
 use outer_io::{Shelf, Sink, write_all};
 use race_completeness::laws::rounds_are_enough;
 use race_core::Shared;
+use race_workers::Gate;
 use std::alloc::{AllocError, Global};
+use std::sync::Wait;
 use std::thread::Threads;
 
 /// The status where a call on the shelf or on the sink failed.
@@ -46,13 +50,15 @@ fn close(
 }
 
 /// Does all that the program does, and answers its status. The words are those after the program's name; texts are read
-/// from the shelf by their names, and the output goes to the sink. The race of a verdict is added to `closed`.
-pub fn run<R: Threads + Sync, H: Shelf, K: Sink>(
+/// from the shelf by their names, and the output goes to the sink. The race of a verdict is added to `closed`. The gate is called
+/// at each moment of each worker of the race, and decides nothing.
+pub fn run<R: Threads + Wait + Sync, H: Shelf, K: Sink, G: Gate + Sync>(
     rt: &R,
     alloc: Global,
     words: &[String],
     shelf: &mut H,
     sink: &mut K,
+    gate: &G,
     closed: &mut Vec<Shared<Certified>>,
 ) -> u8
     // Where no call on the outside failed and memory did not run out, the status is that of the report, and so are the bytes.
@@ -68,10 +74,11 @@ pub fn run<R: Threads + Sync, H: Shelf, K: Sink>(
     ensures usage { (result ≡ 4 → requested (map string_bytes words.now) ≡ None)
         × (requested (map string_bytes words.now) ≡ None → result ≢ 5 → result ≢ 6 → result ≡ 4) }
 
-    // Status 0 says that a program was printed, that no run of a checked or verified one fails an assertion, or that one was replayed that does.
+    // Status 0 says that a program was printed, that no run of a checked, verified or generated one fails an assertion, or that one was replayed that does.
     // `accepted` says the second.
     ensures accepted_is_safe { result ≡ 0 → IfSome (H.texts shelf.old) (λ shown.
-        PrintsProgram (map string_bytes words.now) shown ⊎ (ProgramIsSafe (map string_bytes words.now) shown ⊎ ProgramFails (map string_bytes words.now) shown)) }
+        PrintsProgram (map string_bytes words.now) shown ⊎ (ProgramIsSafe (map string_bytes words.now) shown ⊎ (ProgramFails (map string_bytes words.now) shown
+        ⊎ GeneratedIsSafe (map string_bytes words.now)))) }
     ensures accepted_text_is_safe { WhereTold (H.texts shelf.old) (K.taken sink.old) (λ shown before.
         K.taken sink.new ≡ Some (before ++ codes "accepted\n") → ProgramIsSafe (map string_bytes words.now) shown) }
 
@@ -91,7 +98,7 @@ pub fn run<R: Threads + Sync, H: Shelf, K: Sink>(
     ensures closes_nothing { result ≡ 6 → closed.new.items ≡ closed.old.items }
     ensures texts { H.texts shelf.new ≡ H.texts shelf.old }
 {
-    let answer = match reported(rt, alloc, words, shelf) {
+    let answer = match reported(rt, alloc, words, shelf, gate) {
         Ok(answer) => answer,
         Err(Halt::Fault) => return DEVICE,
         Err(Halt::Memory) => return NO_MEMORY,
@@ -110,10 +117,11 @@ pub fn run<R: Threads + Sync, H: Shelf, K: Sink>(
 }
 
 /// The report allows one answer at most, so each output comes exactly where its case holds; but of several typing rules that a
-/// program breaks any may be named, and of several verdicts on one program any may be told.
+/// program breaks any may be named, and of several verdicts on one program, or on the generated one, any may be told.
 pub fn one_report()
     ensures { (words : List (List ℕ)) (texts : List (List ℕ × List ℕ)) (a b : Answer) → Reports words texts a → Reports words texts b →
-        (a ≡ b) ⊎ ((IsTypingRefusal a × IsTypingRefusal b) ⊎ ((t : TypedProgram) × IsVerdictOn words texts t a × IsVerdictOn words texts t b)) }
+        (a ≡ b) ⊎ ((IsTypingRefusal a × IsTypingRefusal b) ⊎ (((t : TypedProgram) × IsVerdictOn words texts t a × IsVerdictOn words texts t b)
+        ⊎ ((s : Settings) × (count : ℕ) × Ask words s (line.Big count) × ReportsBig (limits_of s) count a × ReportsBig (limits_of s) count b))) }
 {}
 
 /// What `verify` writes is confirmed where its bytes are handed over with the same program and the same entry: `check` accepts each `safe`,
@@ -146,3 +154,9 @@ pub fn verdicts_are_complete()
 {
     rounds_are_enough();
 }
+
+/// A summary is of a verdict on the generated program that `verify` could tell, with the same options: the status and the race are the same.
+pub fn summaries_are_verdicts()
+    ensures { (o : Options) (count : ℕ) (a : Answer) → ReportsBig o count a →
+        (t : TypedProgram) × (told : Answer) × (resolved_program (generated count) (codes "main") ≡ Some t) × ReportsVerdict o t told × (told.status ≡ a.status) × (told.races ≡ a.races) }
+{}

@@ -4,14 +4,14 @@ ghost use Rattle.clap.specs.Matches.{found_of};
 ghost use Rattle.clap.specs.Walk.{first_of, rows_of, rule_of};
 ghost use Rattle.clap.specs.Simple.{app_of};
 ghost use Rattle.clap.specs.Kinds.{FailsBy};
-ghost use Rattle.automizer_top.specs.Asked.{asked, task, settings, program_name};
+ghost use Rattle.automizer_top.specs.Asked.{asked, task, settings, program_name, IsCounted};
 ghost use Rattle.automizer_top.specs.CommandLine as line;
 
 use clap::error::ErrorKind;
 use clap::{Arg, ArgMatches, Command, Error};
 use std::alloc::{AllocError, Global};
 
-/// What is to be done, with the names of the texts.
+/// What is to be done with texts of these names.
 #[derive(Clone, Copy)]
 pub(crate) enum Mode<'a> {
     /// `check PROGRAM SECOND`
@@ -38,6 +38,15 @@ impl<'a> Mode<'a> {
     }
 }
 
+/// What is to be done.
+#[derive(Clone, Copy)]
+pub(crate) enum Task<'a> {
+    /// Something with texts of the shelf.
+    Texts(Mode<'a>),
+    /// `big PROGRAM`, with the generated program of so many procedures.
+    Generated(u32),
+}
+
 /// The values of the options.
 #[derive(Clone, Copy)]
 pub(crate) struct Options<'a> {
@@ -54,7 +63,7 @@ pub(crate) struct Options<'a> {
 /// What the words ask for.
 #[derive(Clone, Copy)]
 pub(crate) struct Request<'a> {
-    pub mode: Mode<'a>,
+    pub task: Task<'a>,
     pub options: Options<'a>,
 }
 
@@ -148,23 +157,35 @@ fn number(text: &str, least: u32, most: u32) -> Option<u32>
 }
 
 /// What a mode with two texts asks for.
-fn mode_of_two<'a>(mode: &str, program: &'a str, second: &'a str) -> Option<Mode<'a>>
-    ensures { option_map task result ≡ line.task_of_two mode.now program.now second.now }
+fn task_of_two<'a>(mode: &str, program: &'a str, second: &'a str) -> Option<Task<'a>>
+    ensures task { option_map task result ≡ line.task_of_two mode.now program.now second.now }
+    ensures counted { IfSome result IsCounted }
 {
     match mode {
-        "check" => Some(Mode::Check { program, second }),
-        "replay" => Some(Mode::Replay { program, second }),
+        "check" => Some(Task::Texts(Mode::Check { program, second })),
+        "replay" => Some(Task::Texts(Mode::Replay { program, second })),
         _ => None,
     }
 }
 
-/// What a mode with one text asks for.
-fn mode_of_one<'a>(mode: &str, program: &'a str) -> Option<Mode<'a>>
-    ensures { option_map task result ≡ line.task_of_one mode.now program.now }
+/// What `big` asks for.
+fn generated<'a>(count: &str) -> Option<Task<'a>>
+    ensures task { option_map task result ≡ option_map line.Big (line.number_in 1 200 count.now) }
+    ensures counted { IfSome result IsCounted }
+{
+    let count = number(count, 1, 200)?;
+    Some(Task::Generated(count))
+}
+
+/// What a mode with one text or a number asks for.
+fn task_of_one<'a>(mode: &str, program: &'a str) -> Option<Task<'a>>
+    ensures task { option_map task result ≡ line.task_of_one mode.now program.now }
+    ensures counted { IfSome result IsCounted }
 {
     match mode {
-        "print" => Some(Mode::Print { program }),
-        "verify" => Some(Mode::Verify { program }),
+        "print" => Some(Task::Texts(Mode::Print { program })),
+        "verify" => Some(Task::Texts(Mode::Verify { program })),
+        "big" => generated(program),
         _ => None,
     }
 }
@@ -177,14 +198,15 @@ fn value<'a>(matches: &ArgMatches<'a>, id: &str) -> Option<&'a str>
 }
 
 /// What is to be done, by the values of the arguments.
-fn mode_of<'a>(matches: &ArgMatches<'a>) -> Option<Mode<'a>>
-    ensures { line.task_of (rows_of (found_of matches.now)) ≡ option_map task result }
+fn task_of<'a>(matches: &ArgMatches<'a>) -> Option<Task<'a>>
+    ensures task { line.task_of (rows_of (found_of matches.now)) ≡ option_map task result }
+    ensures counted { IfSome result IsCounted }
 {
     let mode = value(matches, "mode")?;
     let program = value(matches, "program")?;
     match value(matches, "second") {
-        None => mode_of_one(mode, program),
-        Some(second) => mode_of_two(mode, program, second),
+        None => task_of_one(mode, program),
+        Some(second) => task_of_two(mode, program, second),
     }
 }
 
@@ -192,6 +214,7 @@ fn mode_of<'a>(matches: &ArgMatches<'a>) -> Option<Mode<'a>>
 fn options_of<'a>(matches: &ArgMatches<'a>) -> Option<Options<'a>>
     ensures value { line.settings_of (rows_of (found_of matches.now)) ≡ option_map settings result }
     ensures rounds { IfSome result (λ o. (1 ≤ o.rounds) × (o.rounds ≤ 100000)) }
+    ensures workers { IfSome result (λ o. (1 ≤ o.workers) × (o.workers ≤ 64)) }
     ensures depth { IfSome result (λ o. o.depth ≤ 64) }
 {
     let entry = value(matches, "entry")?;
@@ -210,11 +233,13 @@ fn options_of<'a>(matches: &ArgMatches<'a>) -> Option<Options<'a>>
 fn request_of<'a>(matches: &ArgMatches<'a>) -> Option<Request<'a>>
     ensures value { line.request_of (rows_of (found_of matches.now)) ≡ option_map asked result }
     ensures rounds { IfSome result (λ r. (1 ≤ r.options.rounds) × (r.options.rounds ≤ 100000)) }
+    ensures workers { IfSome result (λ r. (1 ≤ r.options.workers) × (r.options.workers ≤ 64)) }
     ensures depth { IfSome result (λ r. r.options.depth ≤ 64) }
+    ensures counted { IfSome result (λ r. IsCounted r.task) }
 {
     let options = options_of(matches)?;
-    let mode = mode_of(matches)?;
-    Some(Request { mode, options })
+    let task = task_of(matches)?;
+    Some(Request { task, options })
 }
 
 /// What the words ask for; none where they are faulty.
@@ -224,7 +249,9 @@ pub(crate) fn read_words<'a>(
 ) -> Result<Option<Request<'a>>, AllocError>
     ensures value { IfOk result (λ r. option_map asked r ≡ line.requested (map string_bytes words.now)) }
     ensures rounds { IfOk result (λ r. IfSome r (λ q. (1 ≤ q.options.rounds) × (q.options.rounds ≤ 100000))) }
+    ensures workers { IfOk result (λ r. IfSome r (λ q. (1 ≤ q.options.workers) × (q.options.workers ≤ 64))) }
     ensures depth { IfOk result (λ r. IfSome r (λ q. q.options.depth ≤ 64)) }
+    ensures counted { IfOk result (λ r. IfSome r (λ q. IsCounted q.task)) }
 {
     let Some(matches) = matched(alloc, words)? else {
         return Ok(None);

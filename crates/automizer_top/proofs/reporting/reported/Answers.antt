@@ -1,122 +1,88 @@
-use Rattle.std.proofs.Common.{◌≡◌, map, Ok, Some, sym, subst, arith}
+use Rattle.std.proofs.Common.{◌≡◌, map, Some, ap, arith}
 use Rattle.std.specs.String.{string_bytes}
-use Rattle.automizer_top.specs.declared.words.Mode.{Mode}
-use Rattle.automizer_top.specs.CommandLine.{limits_of, requested}
+use Rattle.automizer_top.specs.CommandLine.{Big, limits_of, requested}
 use Rattle.automizer_top.specs.Asked.{asked, settings}
-use Rattle.automizer_top.specs.Answers.{answered}
-use Rattle.automizer_top.proofs.ReportLaws.{program_reported, check_answered, check_is_safe, replay_answered, print_reported, IsNoVerify, unverified, verify_reported, verify_is_safe}
-use Rattle.automizer_top.proofs.UsageLaws.{asks_by, used, used_by_code, used_by_print, used_by_verify}
+use Rattle.automizer_top.specs.Answers.{Asks, answered}
+use Rattle.automizer_top.specs.Report.{Answer, Ask}
+use Rattle.automizer_top.proofs.UsageLaws.{asks_by, asks_texts, asks_big, used_by_code, used_by_summary}
+use Rattle.automizer_top.proofs.BigLaws.{big_reported, big_built, no_check, no_verdict, unbuilt}
 use Rattle.automizer_top.proofs.reporting.reported.Goals as goal
 
-pub returns-in_default-2-clause-reported : goal.returns-in_default-2-clause-reported
-returns-in_default-2-clause-reported g c =
+pub returns-in-Texts-clause-reported : goal.returns-in-Texts-clause-reported
+returns-in-Texts-clause-reported g c =
     let ask : requested (map string_bytes c.args.words.now) ≡ Some (asked c.in-Some.request) =
     asks_by (map string_bytes c.args.words.now) c.in_ok-request.field-0 c.in-Some.request c.in-Some.is c.in_ok-request.ensures.value in
-    program_reported (map string_bytes c.args.words.now) c.in-Some.request.mode c.in-Some.request.options c.program.result.now (g.H.Shelf.texts c.args.shelf.now) ask c.program.ensures
-    (rw c.in_default-2.is at c.in_ok-text.ensures.found)
+    let texts : Asks (map string_bytes c.args.words.now) c.in-Texts.mode c.in-Some.request.options = asks_texts (map string_bytes c.args.words.now) c.in-Some.request c.in-Texts.mode c.in-Texts.is ask in
+    c.told.ensures.reported (map string_bytes c.args.words.now) texts
 
-pub returns-in_default-2-clause-usage : goal.returns-in_default-2-clause-usage
-returns-in_default-2-clause-usage g c =
+pub returns-in-Texts-clause-accepted : goal.returns-in-Texts-clause-accepted
+returns-in-Texts-clause-accepted g c =
     let ask : requested (map string_bytes c.args.words.now) ≡ Some (asked c.in-Some.request) =
     asks_by (map string_bytes c.args.words.now) c.in_ok-request.field-0 c.in-Some.request c.in-Some.is c.in_ok-request.ensures.value in
-    used (map string_bytes c.args.words.now) c.in-Some.request 3 ask (λ (e : 3 ≡ 4). omega arith)
+    let texts : Asks (map string_bytes c.args.words.now) c.in-Texts.mode c.in-Some.request.options = asks_texts (map string_bytes c.args.words.now) c.in-Some.request c.in-Texts.mode c.in-Texts.is ask in
+    c.told.ensures.accepted (map string_bytes c.args.words.now) texts
 
-pub returns-in-Print-clause-reported : goal.returns-in-Print-clause-reported
-returns-in-Print-clause-reported g c =
+pub returns-in-Texts-clause-verified : goal.returns-in-Texts-clause-verified
+returns-in-Texts-clause-verified g c =
     let ask : requested (map string_bytes c.args.words.now) ≡ Some (asked c.in-Some.request) =
     asks_by (map string_bytes c.args.words.now) c.in_ok-request.field-0 c.in-Some.request c.in-Some.is c.in_ok-request.ensures.value in
-    print_reported (map string_bytes c.args.words.now) c.in-Some.request.mode c.in-Some.request.options c.in-Print.program c.program.result.now c.in-Some-2.text.items (answered c.in_ok-printed-in-Print.field-0)
-    (g.H.Shelf.texts c.args.shelf.now) ask c.in-Print.is c.program.ensures
-    (rw c.in-Some-2.is at c.in_ok-text.ensures.found)
-    (rw (← c.deref.ensures.value) c.in_ok-printed-in-Print.ensures)
+    let texts : Asks (map string_bytes c.args.words.now) c.in-Texts.mode c.in-Some.request.options = asks_texts (map string_bytes c.args.words.now) c.in-Some.request c.in-Texts.mode c.in-Texts.is ask in
+    c.told.ensures.verified (map string_bytes c.args.words.now) texts
 
-pub returns-in-Print-clause-usage : goal.returns-in-Print-clause-usage
-returns-in-Print-clause-usage g c =
+pub returns-in-Texts-clause-built : goal.returns-in-Texts-clause-built
+returns-in-Texts-clause-built g c =
     let ask : requested (map string_bytes c.args.words.now) ≡ Some (asked c.in-Some.request) =
     asks_by (map string_bytes c.args.words.now) c.in_ok-request.field-0 c.in-Some.request c.in-Some.is c.in_ok-request.ensures.value in
-    used_by_print (map string_bytes c.args.words.now) c.in-Some.request c.deref.result.now (answered c.in_ok-printed-in-Print.field-0) ask c.in_ok-printed-in-Print.ensures
+    let texts : Asks (map string_bytes c.args.words.now) c.in-Texts.mode c.in-Some.request.options = asks_texts (map string_bytes c.args.words.now) c.in-Some.request c.in-Texts.mode c.in-Texts.is ask in
+    unbuilt (map string_bytes c.args.words.now) c.in-Texts.mode c.in-Some.request.options c.told.result texts
 
-pub returns-in-Check-clause-reported : goal.returns-in-Check-clause-reported
-returns-in-Check-clause-reported g c =
+pub returns-in-Texts-clause-usage : goal.returns-in-Texts-clause-usage
+returns-in-Texts-clause-usage g c =
     let ask : requested (map string_bytes c.args.words.now) ≡ Some (asked c.in-Some.request) =
     asks_by (map string_bytes c.args.words.now) c.in_ok-request.field-0 c.in-Some.request c.in-Some.is c.in_ok-request.ensures.value in
-    check_answered (map string_bytes c.args.words.now) c.in-Some.request.mode c.in-Some.request.options c.in-Check.program c.in-Check.second c.program.result.now c.in-Some-2.text.items c.checked.result
-    (g.H.Shelf.texts c.args.shelf.now) ask c.in-Check.is c.program.ensures
-    (rw c.in-Some-2.is at c.in_ok-text.ensures.found)
-    (rw (← c.in_ok-text.ensures.texts, ← c.deref-in-Check.ensures.value) c.checked.ensures.reported)
+    used_by_code (map string_bytes c.args.words.now) (asked c.in-Some.request) c.told.result ask c.told.ensures.no_usage
 
-pub returns-in-Check-clause-usage : goal.returns-in-Check-clause-usage
-returns-in-Check-clause-usage g c =
+pub returns-in_ok-summed-in-Generated-clause-reported : goal.returns-in_ok-summed-in-Generated-clause-reported
+returns-in_ok-summed-in-Generated-clause-reported g c =
     let ask : requested (map string_bytes c.args.words.now) ≡ Some (asked c.in-Some.request) =
     asks_by (map string_bytes c.args.words.now) c.in_ok-request.field-0 c.in-Some.request c.in-Some.is c.in_ok-request.ensures.value in
-    used_by_code (map string_bytes c.args.words.now) c.in-Some.request c.checked.result ask c.checked.ensures.no_usage
+    let big : Ask (map string_bytes c.args.words.now) (settings c.in-Some.request.options) (Big c.in-Generated.count) = asks_big (map string_bytes c.args.words.now) c.in-Some.request c.in-Generated.count c.in-Generated.is ask in
+    big_reported (map string_bytes c.args.words.now) (settings c.in-Some.request.options) c.in-Generated.count (answered c.in_ok-summed-in-Generated.field-0) (g.H.Shelf.texts c.args.shelf.now) big c.in_ok-summed-in-Generated.ensures.reported
 
-pub returns-in-Check-clause-accepted : goal.returns-in-Check-clause-accepted
-returns-in-Check-clause-accepted g c =
+pub returns-in_ok-summed-in-Generated-clause-accepted : goal.returns-in_ok-summed-in-Generated-clause-accepted
+returns-in_ok-summed-in-Generated-clause-accepted g c =
     let ask : requested (map string_bytes c.args.words.now) ≡ Some (asked c.in-Some.request) =
     asks_by (map string_bytes c.args.words.now) c.in_ok-request.field-0 c.in-Some.request c.in-Some.is c.in_ok-request.ensures.value in
-    check_is_safe (map string_bytes c.args.words.now) c.in-Some.request.mode c.in-Some.request.options c.program.result.now c.in-Some-2.text.items c.checked.result
-    (g.H.Shelf.texts c.args.shelf.now) ask c.program.ensures
-    (rw c.in-Some-2.is at c.in_ok-text.ensures.found)
-    (rw (← c.deref-in-Check.ensures.value) c.checked.ensures.accepted)
+    let big : Ask (map string_bytes c.args.words.now) (settings c.in-Some.request.options) (Big c.in-Generated.count) = asks_big (map string_bytes c.args.words.now) c.in-Some.request c.in-Generated.count c.in-Generated.is ask in
+    λ e. no_check (map string_bytes c.args.words.now) (settings c.in-Some.request.options) c.in-Generated.count (g.H.Shelf.texts c.args.shelf.now) big
 
-pub returns-clause-reported : goal.returns-clause-reported
-returns-clause-reported g c =
+pub returns-in_ok-summed-in-Generated-clause-verified : goal.returns-in_ok-summed-in-Generated-clause-verified
+returns-in_ok-summed-in-Generated-clause-verified g c =
     let ask : requested (map string_bytes c.args.words.now) ≡ Some (asked c.in-Some.request) =
     asks_by (map string_bytes c.args.words.now) c.in_ok-request.field-0 c.in-Some.request c.in-Some.is c.in_ok-request.ensures.value in
-    replay_answered (map string_bytes c.args.words.now) c.in-Some.request.mode c.in-Some.request.options c.in-Replay.program c.in-Replay.second c.program.result.now c.in-Some-2.text.items c.replayed.result
-    (g.H.Shelf.texts c.args.shelf.now) ask c.in-Replay.is c.program.ensures
-    (rw c.in-Some-2.is at c.in_ok-text.ensures.found)
-    (rw (← c.in_ok-text.ensures.texts, ← c.deref-in-Replay.ensures.value) c.replayed.ensures.reported)
+    let big : Ask (map string_bytes c.args.words.now) (settings c.in-Some.request.options) (Big c.in-Generated.count) = asks_big (map string_bytes c.args.words.now) c.in-Some.request c.in-Generated.count c.in-Generated.is ask in
+    λ z. no_verdict (map string_bytes c.args.words.now) (settings c.in-Some.request.options) c.in-Generated.count (g.H.Shelf.texts c.args.shelf.now) big
 
-pub returns-clause-usage : goal.returns-clause-usage
-returns-clause-usage g c =
+pub returns-in_ok-summed-in-Generated-clause-built : goal.returns-in_ok-summed-in-Generated-clause-built
+returns-in_ok-summed-in-Generated-clause-built g c =
     let ask : requested (map string_bytes c.args.words.now) ≡ Some (asked c.in-Some.request) =
     asks_by (map string_bytes c.args.words.now) c.in_ok-request.field-0 c.in-Some.request c.in-Some.is c.in_ok-request.ensures.value in
-    used_by_code (map string_bytes c.args.words.now) c.in-Some.request c.replayed.result ask c.replayed.ensures.no_usage
+    let big : Ask (map string_bytes c.args.words.now) (settings c.in-Some.request.options) (Big c.in-Generated.count) = asks_big (map string_bytes c.args.words.now) c.in-Some.request c.in-Generated.count c.in-Generated.is ask in
+    big_built (map string_bytes c.args.words.now) (settings c.in-Some.request.options) c.in-Generated.count (answered c.in_ok-summed-in-Generated.field-0) big c.in_ok-summed-in-Generated.ensures.safe
 
-pub returns-in-Verify-clause-reported : goal.returns-in-Verify-clause-reported
-returns-in-Verify-clause-reported g c =
+pub returns-in_ok-summed-in-Generated-clause-usage : goal.returns-in_ok-summed-in-Generated-clause-usage
+returns-in_ok-summed-in-Generated-clause-usage g c =
     let ask : requested (map string_bytes c.args.words.now) ≡ Some (asked c.in-Some.request) =
     asks_by (map string_bytes c.args.words.now) c.in_ok-request.field-0 c.in-Some.request c.in-Some.is c.in_ok-request.ensures.value in
-    verify_reported (map string_bytes c.args.words.now) c.in-Some.request.mode c.in-Some.request.options c.in-Verify.program c.program.result.now c.in-Some-2.text.items (answered c.in_ok-verified-in-Verify.field-0)
-    (g.H.Shelf.texts c.args.shelf.now) ask c.in-Verify.is c.program.ensures
-    (rw c.in-Some-2.is at c.in_ok-text.ensures.found)
-    (rw (← c.deref-in-Verify.ensures.value) c.in_ok-verified-in-Verify.ensures.reported)
+    used_by_summary (map string_bytes c.args.words.now) (asked c.in-Some.request) (limits_of (settings c.in-Some.request.options)) c.in-Generated.count (answered c.in_ok-summed-in-Generated.field-0) ask c.in_ok-summed-in-Generated.ensures.reported
 
-pub returns-in-Verify-clause-usage : goal.returns-in-Verify-clause-usage
-returns-in-Verify-clause-usage g c =
-    let ask : requested (map string_bytes c.args.words.now) ≡ Some (asked c.in-Some.request) =
-    asks_by (map string_bytes c.args.words.now) c.in_ok-request.field-0 c.in-Some.request c.in-Some.is c.in_ok-request.ensures.value in
-    used_by_verify (map string_bytes c.args.words.now) c.in-Some.request c.in-Some.request.options.entry.now (limits_of (settings c.in-Some.request.options)) c.deref-in-Verify.result.now
-    (answered c.in_ok-verified-in-Verify.field-0) ask c.in_ok-verified-in-Verify.ensures.reported
+-- the usage line says nothing else
 
-pub returns-in-Verify-clause-verified : goal.returns-in-Verify-clause-verified
-returns-in-Verify-clause-verified g c =
-    let ask : requested (map string_bytes c.args.words.now) ≡ Some (asked c.in-Some.request) =
-    asks_by (map string_bytes c.args.words.now) c.in_ok-request.field-0 c.in-Some.request c.in-Some.is c.in_ok-request.ensures.value in
-    verify_is_safe (map string_bytes c.args.words.now) c.in-Some.request.mode c.in-Some.request.options c.program.result.now c.in-Some-2.text.items (answered c.in_ok-verified-in-Verify.field-0)
-    (g.H.Shelf.texts c.args.shelf.now) ask c.program.ensures
-    (rw c.in-Some-2.is at c.in_ok-text.ensures.found)
-    (rw (← c.deref-in-Verify.ensures.value) c.in_ok-verified-in-Verify.ensures.safe)
+pub returns-in_default-clause-accepted : goal.returns-in_default-clause-accepted
+returns-in_default-clause-accepted g c = λ e. absurd (let z : 4 ≡ 0 = ap (λ (a : Answer). a.status) e in omega arith)
 
-pub returns-in-Print-clause-verified : goal.returns-in-Print-clause-verified
-returns-in-Print-clause-verified g c =
-    let ask : requested (map string_bytes c.args.words.now) ≡ Some (asked c.in-Some.request) =
-    asks_by (map string_bytes c.args.words.now) c.in_ok-request.field-0 c.in-Some.request c.in-Some.is c.in_ok-request.ensures.value in
-    unverified (map string_bytes c.args.words.now) c.in-Some.request.mode c.in-Some.request.options (Ok c.in_ok-printed-in-Print.field-0) (g.H.Shelf.texts c.args.shelf.now) ask
-    (subst (λ (m : Mode). IsNoVerify m) (sym c.in-Print.is) tt)
+pub returns-in_default-clause-verified : goal.returns-in_default-clause-verified
+returns-in_default-clause-verified g c = λ z. absurd (omega arith)
 
-pub returns-in-Check-clause-verified : goal.returns-in-Check-clause-verified
-returns-in-Check-clause-verified g c =
-    let ask : requested (map string_bytes c.args.words.now) ≡ Some (asked c.in-Some.request) =
-    asks_by (map string_bytes c.args.words.now) c.in_ok-request.field-0 c.in-Some.request c.in-Some.is c.in_ok-request.ensures.value in
-    unverified (map string_bytes c.args.words.now) c.in-Some.request.mode c.in-Some.request.options c.checked.result (g.H.Shelf.texts c.args.shelf.now) ask
-    (subst (λ (m : Mode). IsNoVerify m) (sym c.in-Check.is) tt)
-
-pub returns-clause-verified : goal.returns-clause-verified
-returns-clause-verified g c =
-    let ask : requested (map string_bytes c.args.words.now) ≡ Some (asked c.in-Some.request) =
-    asks_by (map string_bytes c.args.words.now) c.in_ok-request.field-0 c.in-Some.request c.in-Some.is c.in_ok-request.ensures.value in
-    unverified (map string_bytes c.args.words.now) c.in-Some.request.mode c.in-Some.request.options c.replayed.result (g.H.Shelf.texts c.args.shelf.now) ask
-    (subst (λ (m : Mode). IsNoVerify m) (sym c.in-Replay.is) tt)
+pub returns-in_default-clause-built : goal.returns-in_default-clause-built
+returns-in_default-clause-built g c = λ z. absurd (omega arith)

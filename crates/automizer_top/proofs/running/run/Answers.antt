@@ -24,7 +24,7 @@ returns-in_default-clause-accepted_text_is_safe g c =
 
 pub returns-in-Ok-write_all-clause-accepted_is_safe : goal.returns-in-Ok-write_all-clause-accepted_is_safe
 returns-in-Ok-write_all-clause-accepted_is_safe g c =
-    λ z. zero_is_safe (map string_bytes c.args.words.now) (g.H.Shelf.texts c.args.shelf.now) (answered c.in-Ok.answer) c.in-Ok.ensures.reported c.in-Ok.ensures.accepted c.in-Ok.ensures.verified (sym c.status-status.ensures ∙ z)
+    λ z. zero_is_safe (map string_bytes c.args.words.now) (g.H.Shelf.texts c.args.shelf.now) (answered c.in-Ok.answer) c.in-Ok.ensures.reported c.in-Ok.ensures.accepted c.in-Ok.ensures.verified c.in-Ok.ensures.built (sym c.status-status.ensures ∙ z)
 
 pub returns-in-Ok-write_all-clause-accepted_text_is_safe : goal.returns-in-Ok-write_all-clause-accepted_text_is_safe
 returns-in-Ok-write_all-clause-accepted_text_is_safe g c =
@@ -92,3 +92,8 @@ returns-clause-closed_at_fault g c = λ z.
     c.args.closed.now.items c.close.new.closed.items c.in-Ok.ensures.reported
     (subst (λ (bs : List ℕ). IfSome (g.K.Sink.taken c.args.sink.now) (λ before. GainsFront bs before (g.K.Sink.taken c.write_all.new.sink))) bytes c.in-Err.ensures.front)
     (where_ok _ c.close.result c.if-is_err.ensures.value c.close.ensures.gained ∙ ap (λ (rs : List (Race Certificate)). c.args.closed.now.items ++ rs) c.in-Ok-output.ensures.race))
+
+pub returns-then-is_err-clause-accepted_text_is_safe :
+    goal.returns-then-is_err-clause-accepted_text_is_safe
+returns-then-is_err-clause-accepted_text_is_safe g c =
+    nothing_is_safe (map string_bytes c.args.words.now) (g.H.Shelf.texts c.args.shelf.now) (g.K.Sink.taken c.args.sink.now)

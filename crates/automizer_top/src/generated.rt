@@ -1,0 +1,150 @@
+//! The mode `big`.
+
+ghost use Rattle.std.specs.Prelude.{◌≡◌, ◌≤◌, Some, IfOk, codes};
+ghost use Rattle.boogie_run.specs.Runs.{IsSafe};
+ghost use Rattle.typed_tree.specs.TypedTree.{TypedProgram};
+ghost use Rattle.typed_tree.specs.declared.fault.TypeFault.TheVariants.{Memory};
+ghost use Rattle.typing_rules.specs.TypedParts.{typed_program};
+ghost use Rattle.boogie_types.specs.Resolved.{resolved_program};
+ghost use Rattle.proof_check.specs.Proves.{Proves};
+ghost use Rattle.race_rounds.specs.Ends.{Options as RaceOptions};
+ghost use Rattle.generated_program.specs.Generated.{generated};
+ghost use Rattle.automizer_top.specs.Answers.{answered, IsGraphOf, HasNoErrorWord, IsProved};
+ghost use Rattle.automizer_top.specs.Asked.{settings};
+ghost use Rattle.automizer_top.specs.CommandLine.{limits_of};
+ghost use Rattle.automizer_top.specs.Report.{ReportsBig};
+ghost use Rattle.automizer_top.specs.Verdicts.{verdict_status};
+
+use crate::answer::Answer;
+use crate::reporting::graph;
+use crate::summary::summary;
+use crate::words::Options;
+use boogie_types::{TypeFault, Typed, resolve};
+use generated_program::{generated, generated_programs_are_lowered, generated_programs_are_typed};
+use letter_acts::Icfg;
+use proof_check::{Reject, check};
+use proof_form::Annotation;
+use race_verdicts::{Verdict, verdict_of};
+use race_workers::{Gate, Limits, race};
+use std::alloc::{AllocError, Global};
+use std::sync::Wait;
+use std::thread::Threads;
+
+/// The generated program keeps the typing rules, so that nothing but want of memory is said against it.
+fn want_of_memory(fault: TypeFault) -> AllocError
+    requires { fault ≡ Memory }
+{
+    match fault {
+        TypeFault::Memory => AllocError,
+        _ => unreachable!(),
+    }
+}
+
+/// The generated program, typed.
+fn program_of(alloc: Global, count: u32) -> Result<Typed, AllocError>
+    requires { (1 ≤ count) × (count ≤ 200) }
+    ensures { IfOk result (λ t. resolved_program (generated count) (codes "main") ≡ Some (typed_program t)) }
+{
+    generated_programs_are_typed();
+    let tree = generated(alloc, count)?;
+    match resolve(alloc, tree, "main") {
+        Ok(program) => Ok(program),
+        Err(fault) => Err(want_of_memory(fault)),
+    }
+}
+
+/// The graph of the generated program.
+fn graph_of(alloc: Global, count: u32, program: &Typed) -> Result<Icfg, AllocError>
+    requires count { (1 ≤ count) × (count ≤ 200) }
+    requires program { resolved_program (generated count) (codes "main") ≡ Some (typed_program program.now) }
+    ensures { IfOk result (IsGraphOf (typed_program program.now)) }
+{
+    generated_programs_are_lowered();
+    // Contracts alone speak of it.
+    let _count = count;
+    match graph(alloc, program)? {
+        Ok(icfg) => Ok(icfg),
+        Err(_answer) => unreachable!(),
+    }
+}
+
+/// Checks an annotation that proves the graph.
+fn accept(alloc: Global, icfg: &Icfg, annotation: &Annotation) -> Result<(), AllocError>
+    requires { Proves icfg.now annotation.now }
+    ensures { IfOk result (λ _. HasNoErrorWord icfg.now) }
+{
+    match check(alloc, icfg, annotation) {
+        Ok(()) => Ok(()),
+        Err(Reject::Memory) => Err(AllocError),
+        Err(Reject::At { .. }) => unreachable!(),
+    }
+}
+
+/// Checks the annotation of a verdict that has one.
+fn confirm(alloc: Global, icfg: &Icfg, verdict: &Verdict) -> Result<(), AllocError>
+    requires { IsProved icfg.now verdict.now }
+    ensures { IfOk result (λ _. verdict_status verdict.now ≡ 0 → HasNoErrorWord icfg.now) }
+{
+    match verdict {
+        Verdict::Safe(annotation) => accept(alloc, icfg, annotation),
+        Verdict::Unsafe(_) => Ok(()),
+        Verdict::Unknown { .. } => Ok(()),
+    }
+}
+
+/// The summary of the verdict on the generated program by a race over its graph.
+fn decided<R: Threads + Wait + Sync, G: Gate + Sync>(
+    rt: &R,
+    alloc: Global,
+    count: u32,
+    program: &Typed,
+    icfg: &Icfg,
+    options: &Options<'_>,
+    gate: &G,
+) -> Result<Answer, AllocError>
+    requires count { count ≤ 200 }
+    requires program { resolved_program (generated count) (codes "main") ≡ Some (typed_program program.now) }
+    requires graph { IsGraphOf (typed_program program.now) icfg.now }
+    requires rounds { (1 ≤ options.now.rounds) × (options.now.rounds ≤ 100000) }
+    requires workers { (1 ≤ options.now.workers) × (options.now.workers ≤ 64) }
+    requires depth { options.now.depth ≤ 64 }
+    ensures reported { IfOk result (λ a. (o : RaceOptions) → o.rounds ≡ options.now.rounds → o.depth ≡ options.now.depth → ReportsBig o count (answered a)) }
+    ensures safe { IfOk result (λ a. (answered a).status ≡ 0 → HasNoErrorWord icfg.now) }
+{
+    let limits = Limits {
+        rounds: u64::from(options.rounds),
+        workers: options.workers,
+        depth: options.depth,
+    };
+    let race = race(rt, alloc, program, icfg, limits, gate)?;
+    let verdict = verdict_of(alloc, program, icfg, &race)?;
+    confirm(alloc, icfg, &verdict)?;
+    let text = summary(alloc, count, &verdict)?;
+    // Contracts alone speak of these.
+    let (_history, _kept, _room) = (race.history(), race.kept(), race.sized());
+    Ok(Answer::Decided {
+        text,
+        verdict,
+        race,
+    })
+}
+
+/// What is answered where the generated program is asked for: the summary of its verdict. The program is never refused.
+pub(crate) fn summed<R: Threads + Wait + Sync, G: Gate + Sync>(
+    rt: &R,
+    alloc: Global,
+    count: u32,
+    options: &Options<'_>,
+    gate: &G,
+) -> Result<Answer, AllocError>
+    requires count { (1 ≤ count) × (count ≤ 200) }
+    requires rounds { (1 ≤ options.now.rounds) × (options.now.rounds ≤ 100000) }
+    requires workers { (1 ≤ options.now.workers) × (options.now.workers ≤ 64) }
+    requires depth { options.now.depth ≤ 64 }
+    ensures reported { IfOk result (λ a. ReportsBig (limits_of (settings options.now)) count (answered a)) }
+    ensures safe { IfOk result (λ a. (answered a).status ≡ 0 → (t : TypedProgram) → resolved_program (generated count) (codes "main") ≡ Some t → IsSafe t) }
+{
+    let program = program_of(alloc, count)?;
+    let icfg = graph_of(alloc, count, &program)?;
+    decided(rt, alloc, count, &program, &icfg, options, gate)
+}
