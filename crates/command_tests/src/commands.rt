@@ -1,9 +1,12 @@
 use automizer_top::run;
 use outer_io::{MemShelf, MemSink};
+use race_workers::NoGate;
 use std::alloc::{AllocError, Global};
+use std::sync::Wait;
 use std::test::Fail;
 use std::thread::Threads;
 
+mod big;
 mod checking;
 mod replaying;
 mod rows;
@@ -55,7 +58,7 @@ fn all_words(alloc: Global, words: &[&str]) -> Result<Vec<String>, AllocError> {
 }
 
 /// What these words write where `p` and `q` are these texts, in pieces of at most 7 bytes, and the status.
-fn written<R: Threads + Sync>(
+fn written<R: Threads + Wait + Sync>(
     rt: &R,
     alloc: Global,
     words: &[String],
@@ -65,12 +68,20 @@ fn written<R: Threads + Sync>(
     let mut shelf = MemShelf::new(texts(alloc, program, second)?, 7, Vec::new(alloc));
     let mut sink = MemSink::new(alloc, 7, Vec::new(alloc));
     let mut closed = Vec::new(alloc);
-    let status = run(rt, alloc, words, &mut shelf, &mut sink, &mut closed);
+    let status = run(
+        rt,
+        alloc,
+        words,
+        &mut shelf,
+        &mut sink,
+        &NoGate,
+        &mut closed,
+    );
     Ok((String::from_utf8(sink.taken().to_vec(alloc)?)?, status))
 }
 
 /// What this mode writes of `p` and `q`, and its status.
-fn answered<R: Threads + Sync>(
+fn answered<R: Threads + Wait + Sync>(
     rt: &R,
     alloc: Global,
     mode: &str,
@@ -82,7 +93,7 @@ fn answered<R: Threads + Sync>(
 }
 
 /// What `check p q` writes, and its status.
-fn check<R: Threads + Sync>(
+fn check<R: Threads + Wait + Sync>(
     rt: &R,
     alloc: Global,
     program: &[u8],
@@ -137,7 +148,7 @@ fn parted(alloc: Global, joined: &str) -> Result<Vec<String>, AllocError> {
 }
 
 /// The status and what is written, in which `$` is the end of a line, where these calls on the shelf and on the sink fail.
-fn under_faults<R: Threads + Sync>(
+fn under_faults<R: Threads + Wait + Sync>(
     rt: &R,
     alloc: Global,
     words: &[String],
@@ -148,14 +159,25 @@ fn under_faults<R: Threads + Sync>(
     let mut shelf = MemShelf::new(texts, 7, vec![in alloc; shelf_fails]?);
     let mut sink = MemSink::new(alloc, 7, vec![in alloc; sink_fails]?);
     let mut closed = Vec::new(alloc);
-    let status = run(rt, alloc, words, &mut shelf, &mut sink, &mut closed);
+    let status = run(
+        rt,
+        alloc,
+        words,
+        &mut shelf,
+        &mut sink,
+        &NoGate,
+        &mut closed,
+    );
     let output = String::from_utf8(sink.taken().to_vec(alloc)?)?;
     let output = output.replace(alloc, '\n', "$")?;
     Ok(format!(in alloc; "{status}:{output}")?)
 }
 
 /// The first row of `CALLS` that is answered otherwise, with its answer.
-fn first_wrong_call<R: Threads + Sync>(rt: &R, alloc: Global) -> Result<Option<String>, Fail> {
+fn first_wrong_call<R: Threads + Wait + Sync>(
+    rt: &R,
+    alloc: Global,
+) -> Result<Option<String>, Fail> {
     for row in CALLS.lines() {
         let (joined, rest) = row.split_once(' ').unwrap_or((row, ""));
         let (shelf_fails, rest) = rest.split_once(' ').unwrap_or((rest, ""));
@@ -170,7 +192,7 @@ fn first_wrong_call<R: Threads + Sync>(rt: &R, alloc: Global) -> Result<Option<S
 }
 
 /// The first faulty words that are answered by another text than the usage line, or with another status than 4.
-fn first_other_than_usage<R: Threads + Sync>(
+fn first_other_than_usage<R: Threads + Wait + Sync>(
     rt: &R,
     alloc: Global,
 ) -> Result<Option<&'static str>, AllocError> {
@@ -181,7 +203,15 @@ fn first_other_than_usage<R: Threads + Sync>(
         let mut shelf = MemShelf::new(Vec::new(alloc), 7, Vec::new(alloc));
         let mut sink = MemSink::new(alloc, 100, Vec::new(alloc));
         let mut closed = Vec::new(alloc);
-        let status = run(rt, alloc, &words, &mut shelf, &mut sink, &mut closed);
+        let status = run(
+            rt,
+            alloc,
+            &words,
+            &mut shelf,
+            &mut sink,
+            &NoGate,
+            &mut closed,
+        );
         if status != 4 || sink.taken() != usage.as_slice() {
             return Ok(Some(joined));
         }
@@ -233,7 +263,15 @@ fn texts_past_the_limit_and_odd_bytes(rt: HostRuntime) -> Result<(), Fail> {
         let mut shelf = MemShelf::new(texts(alloc, program, proof)?, 65_536, Vec::new(alloc));
         let mut sink = MemSink::new(alloc, 100, Vec::new(alloc));
         let mut closed = Vec::new(alloc);
-        let _status = run(&rt, alloc, &words, &mut shelf, &mut sink, &mut closed);
+        let _status = run(
+            &rt,
+            alloc,
+            &words,
+            &mut shelf,
+            &mut sink,
+            &NoGate,
+            &mut closed,
+        );
         assert_eq!(rt; sink.taken(), output.as_bytes());
     }
     Ok(())
@@ -275,12 +313,24 @@ fn texts_cut_off(rt: HostRuntime) -> Result<(), Fail> {
 }
 
 /// What `print p` writes and its status.
-fn printed<R: Threads + Sync>(rt: &R, alloc: Global, program: &[u8]) -> Result<(String, u8), Fail> {
+fn printed<R: Threads + Wait + Sync>(
+    rt: &R,
+    alloc: Global,
+    program: &[u8],
+) -> Result<(String, u8), Fail> {
     let words = all_words(alloc, &["print", "p"])?;
     let mut shelf = MemShelf::new(texts(alloc, program, b"")?, 65_536, Vec::new(alloc));
     let mut sink = MemSink::new(alloc, 100, Vec::new(alloc));
     let mut closed = Vec::new(alloc);
-    let status = run(rt, alloc, &words, &mut shelf, &mut sink, &mut closed);
+    let status = run(
+        rt,
+        alloc,
+        &words,
+        &mut shelf,
+        &mut sink,
+        &NoGate,
+        &mut closed,
+    );
     Ok((String::from_utf8(sink.taken().to_vec(alloc)?)?, status))
 }
 
@@ -433,7 +483,10 @@ var m: [int]int;
 ";
 
 /// The first program that is printed otherwise, with its answer.
-fn first_wrong_print<R: Threads + Sync>(rt: &R, alloc: Global) -> Result<Option<String>, Fail> {
+fn first_wrong_print<R: Threads + Wait + Sync>(
+    rt: &R,
+    alloc: Global,
+) -> Result<Option<String>, Fail> {
     let mut program = String::new(alloc);
     let mut wanted = String::new(alloc);
     for line in PRINTED.lines() {

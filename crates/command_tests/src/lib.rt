@@ -1,7 +1,9 @@
-//! Tests of the command line and files.
+//! Tests of the command line, files and races.
 #![tactic(auto)]
 
 #[cfg(test)]
 mod commands;
 #[cfg(test)]
 mod files;
+#[cfg(test)]
+mod races;

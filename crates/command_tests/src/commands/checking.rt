@@ -3,6 +3,7 @@
 use super::rows::{answer, first_wrong, push_line};
 use super::{INCREMENT, all_words};
 use std::alloc::{AllocError, Global};
+use std::sync::Wait;
 use std::test::Fail;
 use std::thread::Threads;
 
@@ -185,7 +186,10 @@ fn altered(alloc: Global, text: &str, old: &str, new: &str) -> Result<String, Al
 }
 
 /// The answer to the first change that is answered otherwise, behind the line that it changes.
-fn first_wrong_change<R: Threads + Sync>(rt: &R, alloc: Global) -> Result<Option<String>, Fail> {
+fn first_wrong_change<R: Threads + Wait + Sync>(
+    rt: &R,
+    alloc: Global,
+) -> Result<Option<String>, Fail> {
     let words = all_words(alloc, &["check", "p", "q"])?;
     let mut old = String::new(alloc);
     let mut new = String::new(alloc);

@@ -5,6 +5,7 @@
 
 use super::{all_words, written};
 use std::alloc::{AllocError, Global};
+use std::sync::Wait;
 use std::test::Fail;
 use std::thread::Threads;
 
@@ -15,7 +16,7 @@ pub(super) fn push_line(text: &mut String, line: &str) -> Result<(), AllocError>
 }
 
 /// The status and what is written, as a row says it.
-pub(super) fn answer<R: Threads + Sync>(
+pub(super) fn answer<R: Threads + Wait + Sync>(
     rt: &R,
     alloc: Global,
     words: &[String],
@@ -30,7 +31,7 @@ pub(super) fn answer<R: Threads + Sync>(
 }
 
 /// The answer to the first row that is answered otherwise, behind its program. Each second text goes on behind `front`.
-pub(super) fn first_wrong<R: Threads + Sync>(
+pub(super) fn first_wrong<R: Threads + Wait + Sync>(
     rt: &R,
     alloc: Global,
     words: &[&str],

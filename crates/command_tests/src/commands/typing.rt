@@ -2,6 +2,7 @@
 
 use super::answered;
 use std::alloc::{AllocError, Global};
+use std::sync::Wait;
 use std::test::Fail;
 use std::thread::Threads;
 
@@ -133,7 +134,7 @@ fn refused(alloc: Global, rule: &str, marked: &str) -> Result<(String, String, u
 }
 
 /// The first program that `replay` answers otherwise, with its answer.
-fn first_wrong<R: Threads + Sync>(rt: &R, alloc: Global) -> Result<Option<String>, Fail> {
+fn first_wrong<R: Threads + Wait + Sync>(rt: &R, alloc: Global) -> Result<Option<String>, Fail> {
     for row in PROGRAMS.lines() {
         let (rule, marked) = row.split_once(' ').unwrap_or((row, ""));
         let (program, line, status) = refused(alloc, rule, marked)?;

@@ -4,7 +4,9 @@ use super::rows::push_line;
 use super::{all_words, texts, written};
 use automizer_top::run;
 use outer_io::{MemShelf, MemSink};
+use race_workers::NoGate;
 use std::alloc::{AllocError, Global};
+use std::sync::Wait;
 use std::test::Fail;
 use std::thread::Threads;
 
@@ -230,7 +232,7 @@ fn words_with(alloc: Global, words: &[&str], options: &[&str]) -> Result<Vec<Str
 }
 
 /// What `verify p` writes with these options, its status, and how many races it closes.
-fn verdict<R: Threads + Sync>(
+fn verdict<R: Threads + Wait + Sync>(
     rt: &R,
     alloc: Global,
     options: &[&str],
@@ -244,7 +246,15 @@ fn verdict<R: Threads + Sync>(
     );
     let mut sink = MemSink::new(alloc, 65_536, Vec::new(alloc));
     let mut closed = Vec::new(alloc);
-    let status = run(rt, alloc, &words, &mut shelf, &mut sink, &mut closed);
+    let status = run(
+        rt,
+        alloc,
+        &words,
+        &mut shelf,
+        &mut sink,
+        &NoGate,
+        &mut closed,
+    );
     let output = String::from_utf8(sink.taken().to_vec(alloc)?)?;
     Ok((output, status, closed.len()))
 }
@@ -270,7 +280,7 @@ fn are_like(text: &str, wanted: &str, whole: bool) -> bool {
 }
 
 /// Whether `check` accepts an output of status 0, and `replay` replays one of status 1, with the same options.
-fn is_confirmed<R: Threads + Sync>(
+fn is_confirmed<R: Threads + Wait + Sync>(
     rt: &R,
     alloc: Global,
     options: &[&str],
@@ -289,7 +299,7 @@ fn is_confirmed<R: Threads + Sync>(
 }
 
 /// The first program that is answered otherwise with these options, with its answer. A verdict, and no other answer, closes a race.
-fn first_wrong<R: Threads + Sync>(
+fn first_wrong<R: Threads + Wait + Sync>(
     rt: &R,
     alloc: Global,
     options: &[&str],
@@ -320,8 +330,15 @@ fn first_wrong<R: Threads + Sync>(
 }
 
 #[test]
-fn programs_are_verified(rt: HostRuntime) -> Result<(), Fail> {
-    let wrong = first_wrong(&rt, rt.alloc(), &[], VERDICTS)?;
+fn programs_are_verified_by_one_worker(rt: HostRuntime) -> Result<(), Fail> {
+    let wrong = first_wrong(&rt, rt.alloc(), &["--workers", "1"], VERDICTS)?;
+    assert!(rt; wrong.is_none(), "{wrong:?}");
+    Ok(())
+}
+
+#[test]
+fn programs_are_verified_by_four_workers(rt: HostRuntime) -> Result<(), Fail> {
+    let wrong = first_wrong(&rt, rt.alloc(), &["--workers", "4"], VERDICTS)?;
     assert!(rt; wrong.is_none(), "{wrong:?}");
     Ok(())
 }
@@ -348,7 +365,10 @@ fn a_counter_is_verified(rt: HostRuntime) -> Result<(), Fail> {
 }
 
 /// The first program that is answered otherwise, where each table has an option of its own.
-fn first_wrong_option<R: Threads + Sync>(rt: &R, alloc: Global) -> Result<Option<String>, Fail> {
+fn first_wrong_option<R: Threads + Wait + Sync>(
+    rt: &R,
+    alloc: Global,
+) -> Result<Option<String>, Fail> {
     for (option, value, table) in [
         ("--depth", "0", HALF),
         ("--rounds", "1", ONE_ROUND),

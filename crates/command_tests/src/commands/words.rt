@@ -2,6 +2,7 @@
 
 use super::written;
 use std::alloc::{AllocError, Global};
+use std::sync::Wait;
 use std::test::Fail;
 use std::thread::Threads;
 
@@ -144,7 +145,7 @@ const STATUSES: &str = "4:
 ";
 
 /// The words of a line.
-fn words_of(alloc: Global, line: &str) -> Result<Vec<String>, AllocError> {
+pub(super) fn words_of(alloc: Global, line: &str) -> Result<Vec<String>, AllocError> {
     let mut words = Vec::new(alloc);
     for word in line.split_whitespace() {
         words.push(String::from_str(alloc, word)?)?;
@@ -153,7 +154,7 @@ fn words_of(alloc: Global, line: &str) -> Result<Vec<String>, AllocError> {
 }
 
 /// The first words of the table that have another status, with the one that they have.
-fn first_other_status<R: Threads + Sync>(
+fn first_other_status<R: Threads + Wait + Sync>(
     rt: &R,
     alloc: Global,
     table: &str,
