@@ -7,6 +7,7 @@ use Rattle.std.proofs.lemmas.Bool.{le-ltb}
 use Rattle.std.proofs.lemmas.List.{map-append, length-map}
 use Rattle.lin_rows.specs.Rows.{LinearRow}
 use Rattle.lin_rows.specs.Combinations.{IsPart, combined}
+use Rattle.math_facts.specs.Fits.{Fits}
 use Rattle.math_facts.specs.Terms.{coefficient}
 use Rattle.nwa_base.specs.declared.letters.Letter.{Letter}
 use Rattle.letter_acts.specs.Acts.{Alphabet, act_of, frame_of}
@@ -22,9 +23,10 @@ use Rattle.nested_predicates.specs.Positions.{Scope, position_at, positions_of, 
 use Rattle.nested_predicates.specs.Sums.{Branch, parts_upto, inequality, terms_from}
 use Rattle.nested_predicates.specs.Runnings.{value_at, AreCounted, AddsParts, differences, parts_at}
 use Rattle.nested_predicates.specs.Bases.{AreMade, CanRead, IsNothing, Enters, first_columns, first_bound, node_of, IsSummed, IsBase, AreBases}
+use Rattle.nested_predicates.specs.Fitting.{SumFits}
 use Rattle.nested_predicates.specs.Layouts.{HasStamps, leaf_node}
 use Rattle.nested_predicates.proofs.WordLaws.{IsRead, start_read, next_read, front_letter, all_read}
-use Rattle.nested_predicates.proofs.PassLaws.{StartsEmpty, summed_next, sum_read, bases_after}
+use Rattle.nested_predicates.proofs.PassLaws.{StartsEmpty, summed_next, sum_read, numbers_read, bases_after}
 
 -- ---- nothing has a stamp below 2
 
@@ -137,6 +139,13 @@ position_node b parts n p scopes running frames here node empty h made e a k =
     ap (λ (l : List ℕ). node_of (inequality (terms_from 0 (differences running.columns.items (first_columns (reverse frames)) l)) (value_of running.bound -ℤ first_bound (reverse frames)))) e ∙
     sum_read b parts (position_at n p scopes) running (reverse frames) scopes refl empty h (subst (AreMade running.columns.items) e made) a
 
+first_base : (g : Graph) (b : Branch) (parts : List (ℕ × ℤ)) (x : Base) → StartsEmpty b parts → IsNothing x → IsBase b parts (start_scope g) x
+first_base g b parts x empty nil = record {
+  columns = λ j. ap (λ (ws : List Wide). value_at ws j) nil.columns;
+  bound = nil.bound ∙ sym empty.bound;
+  room = nil.room;
+}
+
 pub sums_start : (g : Graph) (w : List Letter) (b : Branch) (parts : List (ℕ × ℤ)) (running : Running) (frames : List Base) (x : Base) (sums : List PredNode) (node : PredNode)
     (here : List ℕ) → HasStamps b → AllByRecursion (IsPart b.rows) parts → IsSummed b parts 1 running → AllMade running.columns.items (path_of g w).states →
     IsNothing x → frames ≡ x ∷ [] → slice_get (path_of g w).states 0 ≡ Some here → AreMade running.columns.items here →
@@ -145,11 +154,7 @@ pub sums_start : (g : Graph) (w : List Letter) (b : Branch) (parts : List (ℕ �
 sums_start g w b parts running frames x sums node here stamps each h made nil f k at n s =
     let empty : StartsEmpty b parts = starts_empty b parts stamps each in
     let read : IsRead g w 0 = start_read g w in
-    let base : IsBase b parts (start_scope g) x = record {
-      columns = λ j. ap (λ (ws : List Wide). value_at ws j) nil.columns;
-      bound = nil.bound ∙ sym empty.bound;
-      room = nil.room;
-    } in
+    let base : IsBase b parts (start_scope g) x = first_base g b parts x empty nil in
     let bases : AreBases b parts read.scopes (reverse frames) = subst (λ (l : List Base). AreBases b parts read.scopes (reverse l)) (sym f) (base, tt) in
     record {
       read = read;
@@ -160,19 +165,22 @@ sums_start g w b parts running frames x sums node here stamps each h made nil f 
       nodes = s ∙ ap (λ (m : PredNode). m ∷ []) (position_node b parts 0 read.stage read.scopes running frames here node empty h at (here_read g w 0 read here k) bases n);
     }
 
-pub sums_next : (g : Graph) (w : List Letter) (i : ℕ) (a d : Letter) (b : Branch) (parts ps qs : List (ℕ × ℤ)) (first mid last : Running)
-    (old new : List Base) (old_sums new_sums : List PredNode) (node : PredNode) (returns : Bool) (before entry : List ℕ) →
-    HasStamps b → AllByRecursion (IsPart b.rows) parts → i < length w → a ≡ get_or w i d →
-    slice_get (path_of g w).states i ≡ Some before → slice_get (path_of g w).states (i + 1) ≡ Some entry → AreMade mid.columns.items before → AreMade mid.columns.items entry → AreMade last.columns.items entry →
-    returns ≡ has_return 0 (drop (i + 1) w) → SumsRead g w i b parts first old old_sums →
+-- where i letters are read, all but the nodes
+pub record SumsAt (g : Graph) (w : List Letter) (i : ℕ) (read : IsRead g w i) (b : Branch) (parts : List (ℕ × ℤ)) (running : Running) (frames : List Base) : Type 0 where
+  pub summed : IsSummed b parts (suc (2 * i)) running
+  pub bases : AreBases b parts read.scopes (reverse frames)
+
+sums_reach : (g : Graph) (w : List Letter) (i : ℕ) (a d : Letter) (b : Branch) (parts ps qs : List (ℕ × ℤ)) (first mid last : Running)
+    (old new : List Base) (old_sums : List PredNode) (returns : Bool) (before entry : List ℕ) →
+    HasStamps b → AllByRecursion (IsPart b.rows) parts → (f : drop i w ≡ a ∷ drop (i + 1) w) →
+    slice_get (path_of g w).states i ≡ Some before → slice_get (path_of g w).states (i + 1) ≡ Some entry → AreMade mid.columns.items before → AreMade mid.columns.items entry →
+    returns ≡ has_return 0 (drop (i + 1) w) → (h : SumsRead g w i b parts first old old_sums) →
     ps ≡ parts_at b.stamps (2 * (i + 1)) parts → AddsParts b.rows ps first mid → qs ≡ parts_at b.stamps (2 * (i + 1) + 1) parts → AddsParts b.rows qs mid last →
-    (let al = alphabet_of g in Enters a.kind returns (known_columns (frame_of al (callee_of (act_of al a))) entry before) mid (reverse old) (reverse new)) → AllByRecursion CanRead new →
-    node ≡ node_of (inequality (terms_from 0 (differences last.columns.items (first_columns (reverse new)) entry)) (value_of last.bound -ℤ first_bound (reverse new))) →
-    new_sums ≡ old_sums ++ node ∷ [] → SumsRead g w (i + 1) b parts last new new_sums
-sums_next g w i a d b parts ps qs first mid last old new old_sums new_sums node returns before entry stamps each l al_e be en mb me le r h pe pa qe qa x rooms n s =
+    (let al = alphabet_of g in Enters a.kind returns (known_columns (frame_of al (callee_of (act_of al a))) entry before) mid (reverse old) (reverse new)) →
+    SumsAt g w (i + 1) (next_read g w i a f h.read) b parts last new
+sums_reach g w i a d b parts ps qs first mid last old new old_sums returns before entry stamps each f be en mb me r h pe pa qe qa x =
     let al : Alphabet = alphabet_of g in
     let empty : StartsEmpty b parts = starts_empty b parts stamps each in
-    let f : drop i w ≡ a ∷ drop (i + 1) w = front_letter w i a d l al_e in
     let read : IsRead g w (i + 1) = next_read g w i a f h.read in
     let at_call : IsSummed b parts (2 * suc i) mid =
     summed_next b parts ps (suc (2 * i)) (2 * suc i) first mid (let q : 2 * suc i ≡ suc (suc (2 * i)) = omega arith in q)
@@ -187,21 +195,92 @@ sums_next g w i a d b parts ps qs first mid last old new old_sums new_sums node 
     let bases : AreBases b parts read.scopes (reverse new) =
     subst (λ (v : List ℕ). AreBases b parts (scopes_after al (suc i) a.kind (act_of al a) (drop (i + 1) w) read.stage.here v h.read.scopes) (reverse new)) x0
     (subst (λ (v : List ℕ). AreBases b parts (scopes_after al (suc i) a.kind (act_of al a) (drop (i + 1) w) v before h.read.scopes) (reverse new)) x1 bases0) in
+    record { summed = here; bases = bases }
+
+pub sums_next : (g : Graph) (w : List Letter) (i : ℕ) (a d : Letter) (b : Branch) (parts ps qs : List (ℕ × ℤ)) (first mid last : Running)
+    (old new : List Base) (old_sums new_sums : List PredNode) (node : PredNode) (returns : Bool) (before entry : List ℕ) →
+    HasStamps b → AllByRecursion (IsPart b.rows) parts → i < length w → a ≡ get_or w i d →
+    slice_get (path_of g w).states i ≡ Some before → slice_get (path_of g w).states (i + 1) ≡ Some entry → AreMade mid.columns.items before → AreMade mid.columns.items entry → AreMade last.columns.items entry →
+    returns ≡ has_return 0 (drop (i + 1) w) → SumsRead g w i b parts first old old_sums →
+    ps ≡ parts_at b.stamps (2 * (i + 1)) parts → AddsParts b.rows ps first mid → qs ≡ parts_at b.stamps (2 * (i + 1) + 1) parts → AddsParts b.rows qs mid last →
+    (let al = alphabet_of g in Enters a.kind returns (known_columns (frame_of al (callee_of (act_of al a))) entry before) mid (reverse old) (reverse new)) → AllByRecursion CanRead new →
+    node ≡ node_of (inequality (terms_from 0 (differences last.columns.items (first_columns (reverse new)) entry)) (value_of last.bound -ℤ first_bound (reverse new))) →
+    new_sums ≡ old_sums ++ node ∷ [] → SumsRead g w (i + 1) b parts last new new_sums
+sums_next g w i a d b parts ps qs first mid last old new old_sums new_sums node returns before entry stamps each l al_e be en mb me le r h pe pa qe qa x rooms n s =
+    let empty : StartsEmpty b parts = starts_empty b parts stamps each in
+    let f : drop i w ≡ a ∷ drop (i + 1) w = front_letter w i a d l al_e in
+    let read : IsRead g w (i + 1) = next_read g w i a f h.read in
+    let reached : SumsAt g w (i + 1) read b parts last new =
+    sums_reach g w i a d b parts ps qs first mid last old new old_sums returns before entry stamps each f be en mb me r h pe pa qe qa x in
+    let x1 : entry ≡ read.stage.here = here_read g w (i + 1) read entry en in
     record {
       read = read;
-      summed = here;
+      summed = reached.summed;
       made = all_made_wider first.columns.items last.columns.items (path_of g w).states (qa.width ∙ pa.width) h.made;
-      bases = bases;
+      bases = reached.bases;
       rooms = rooms;
       nodes =
           s ∙ ap (λ (l : List PredNode). l ++ node ∷ []) h.nodes ∙
-          ap (λ (m : PredNode). map (leaf_node b parts) h.read.front ++ m ∷ []) (position_node b parts (i + 1) read.stage read.scopes last new entry node empty here le x1 bases n) ∙
+          ap (λ (m : PredNode). map (leaf_node b parts) h.read.front ++ m ∷ []) (position_node b parts (i + 1) read.stage read.scopes last new entry node empty reached.summed le x1 reached.bases n) ∙
           sym (map-append (leaf_node b parts) h.read.front (position_at (i + 1) read.stage read.scopes ∷ []));
     }
 
 pub sums_done : (g : Graph) (w : List Letter) (i : ℕ) (b : Branch) (parts : List (ℕ × ℤ)) (running : Running) (frames : List Base) (sums : List PredNode) → length w ≤ i →
     SumsRead g w i b parts running frames sums → sums ≡ map (leaf_node b parts) (positions_of g w)
 sums_done g w i b parts running frames sums l h = h.nodes ∙ ap (map (leaf_node b parts)) (all_read g w i l h.read)
+
+-- ---- a sum that does not fit
+
+-- a number of the sum at a position does not fit
+abbrev pub IsPast : Running → List Base → List ℕ → Type 0
+IsPast running frames here =
+    AllByRecursion Fits (differences running.columns.items (first_columns (reverse frames)) here) → Fits (value_of running.bound -ℤ first_bound (reverse frames)) → ⊥
+
+position_past : (b : Branch) (parts : List (ℕ × ℤ)) (n : ℕ) (p : Stage) (scopes : List Scope) (running : Running) (frames : List Base) (here : List ℕ) → StartsEmpty b parts →
+    IsSummed b parts (suc (2 * n)) running → AreMade running.columns.items here → here ≡ p.here → AreBases b parts scopes (reverse frames) → IsPast running frames here →
+    SumFits b parts (position_at n p scopes) → ⊥
+position_past b parts n p scopes running frames here empty h made e a past fits =
+    let numbers = numbers_read b parts (position_at n p scopes) running (reverse frames) scopes refl empty h (subst (AreMade running.columns.items) e made) a in
+    past
+    (subst (λ (l : List ℕ). AllByRecursion Fits (differences running.columns.items (first_columns (reverse frames)) l)) (sym e) (subst (AllByRecursion Fits) (sym numbers.0) fits.columns))
+    (subst Fits (sym numbers.1) fits.bound)
+
+front_all : {X : Type 0} (P : X → Type 0) (xs ys : List X) (x : X) → AllByRecursion P ((xs ++ x ∷ []) ++ ys) → P x
+front_all P [] ys x h = h.0
+front_all P (y ∷ xs) ys x h = front_all P xs ys x h.1
+
+-- that of the first position
+pub past_start : (g : Graph) (w : List Letter) (b : Branch) (parts : List (ℕ × ℤ)) (running : Running) (frames : List Base) (x : Base) (here : List ℕ) → HasStamps b →
+    AllByRecursion (IsPart b.rows) parts → IsSummed b parts 1 running → IsNothing x → frames ≡ x ∷ [] → slice_get (path_of g w).states 0 ≡ Some here → AreMade running.columns.items here →
+    IsPast running frames here → AllByRecursion (SumFits b parts) (positions_of g w) → ⊥
+past_start g w b parts running frames x here stamps each h nil f k at past fits =
+    let empty : StartsEmpty b parts = starts_empty b parts stamps each in
+    let read : IsRead g w 0 = start_read g w in
+    let bases : AreBases b parts read.scopes (reverse frames) =
+    subst (λ (l : List Base). AreBases b parts read.scopes (reverse l)) (sym f) (first_base g b parts x empty nil, tt) in
+    position_past b parts 0 read.stage read.scopes running frames here empty h at (here_read g w 0 read here k) bases past
+    (front_all (SumFits b parts) [] _ (position_at 0 read.stage read.scopes) (subst (AllByRecursion (SumFits b parts)) (sym read.whole) fits))
+
+-- that of the position after another letter
+pub past_next : (g : Graph) (w : List Letter) (i : ℕ) (a d : Letter) (b : Branch) (parts ps qs : List (ℕ × ℤ)) (first mid last : Running)
+    (old new : List Base) (old_sums : List PredNode) (returns : Bool) (before entry : List ℕ) →
+    HasStamps b → AllByRecursion (IsPart b.rows) parts → i < length w → a ≡ get_or w i d →
+    slice_get (path_of g w).states i ≡ Some before → slice_get (path_of g w).states (i + 1) ≡ Some entry → AreMade mid.columns.items before → AreMade mid.columns.items entry → AreMade last.columns.items entry →
+    returns ≡ has_return 0 (drop (i + 1) w) → SumsRead g w i b parts first old old_sums →
+    ps ≡ parts_at b.stamps (2 * (i + 1)) parts → AddsParts b.rows ps first mid → qs ≡ parts_at b.stamps (2 * (i + 1) + 1) parts → AddsParts b.rows qs mid last →
+    (let al = alphabet_of g in Enters a.kind returns (known_columns (frame_of al (callee_of (act_of al a))) entry before) mid (reverse old) (reverse new)) →
+    IsPast last new entry → AllByRecursion (SumFits b parts) (positions_of g w) → ⊥
+past_next g w i a d b parts ps qs first mid last old new old_sums returns before entry stamps each l al_e be en mb me le r h pe pa qe qa x past fits =
+    let empty : StartsEmpty b parts = starts_empty b parts stamps each in
+    let f : drop i w ≡ a ∷ drop (i + 1) w = front_letter w i a d l al_e in
+    let read : IsRead g w (i + 1) = next_read g w i a f h.read in
+    let reached : SumsAt g w (i + 1) read b parts last new =
+    sums_reach g w i a d b parts ps qs first mid last old new old_sums returns before entry stamps each f be en mb me r h pe pa qe qa x in
+    position_past b parts (i + 1) read.stage read.scopes last new entry empty reached.summed le (here_read g w (i + 1) read entry en) reached.bases past
+    (front_all (SumFits b parts) h.read.front _ (position_at (i + 1) read.stage read.scopes) (subst (AllByRecursion (SumFits b parts)) (sym read.whole) fits))
+
+pub past_open : (running : Running) (here : List ℕ) (taken frames : List Base) → taken ≡ frames → IsPast running taken here → IsPast running frames here
+past_open running here taken frames e h = subst (λ (l : List Base). IsPast running l here) e h
 
 -- ---- from what the code has
 

@@ -21,7 +21,7 @@ use Rattle.letter_acts.specs.Frames.{Columns}
 use Rattle.letter_acts.specs.Acts.{PlainAct, Alphabet, frame_of}
 use Rattle.nested_predicates.specs.Positions.{Scope, no_scope, Position, innermost, position_at, known_columns, callee_scope, has_return, scopes_after, callee_of}
 use Rattle.nested_predicates.specs.Positions as positions
-use Rattle.nested_predicates.specs.Sums.{Branch, parts_upto, column_upto, bound_upto, known_sum, column_sums, sum_at, inequality, terms_from}
+use Rattle.nested_predicates.specs.Sums.{Branch, parts_upto, column_upto, bound_upto, known_sum, column_sums, coefficients_at, bound_at, sum_at, inequality, terms_from}
 use Rattle.nested_predicates.specs.Runnings.{value_at, ProductsFit, PartsFit, AddsParts, behind_first, differences, parts_at}
 use Rattle.nested_predicates.specs.Bases.{AreMade, known_value, IsEntered, bases_left, Enters, first_columns, first_bound, node_of, IsSummed, known_sum_at, IsBase, AreBases}
 use Rattle.nested_predicates.proofs.SumLaws.{fits_zero}
@@ -151,25 +151,29 @@ pub record StartsEmpty (b : Branch) (parts : List (ℕ × ℤ)) : Type 0 where
   pub columns : (v : ℕ) → column_upto b parts 0 v ≡ pos 0
   pub bound : bound_upto b parts 0 ≡ pos 0
 
+-- the numbers of the sum at a position
+pub numbers_read : (b : Branch) (parts : List (ℕ × ℤ)) (q : Position) (running : Running) (bases : List Base) (scopes : List Scope) → q.scope ≡ innermost scopes → StartsEmpty b parts →
+    IsSummed b parts q.upto running → AreMade running.columns.items q.here → AreBases b parts scopes bases →
+    (differences running.columns.items (first_columns bases) q.here ≡ coefficients_at b parts q) × (value_of running.bound -ℤ first_bound bases ≡ bound_at b parts q)
+numbers_read b parts q running [] [] e empty h made k = (
+  differences_are b parts 0 q.upto running.columns.items [] q.here [] made h.columns (λ j. refl) ∙ ap (λ (s : Scope). column_sums b parts s.own q.upto q.here s.known) (sym e),
+  (let i = h.bound in let j = empty.bound in let y : value_of running.bound -ℤ pos 0 ≡ bound_upto b parts q.upto -ℤ bound_upto b parts 0 = omega (arith, ints, i, j) in y) ∙
+      ap (λ (s : Scope). bound_upto b parts q.upto -ℤ bound_upto b parts s.own) (sym e),
+)
+numbers_read b parts q running [] (t ∷ scopes) e empty h made k = absurd k
+numbers_read b parts q running (x ∷ bases) [] e empty h made k = absurd k
+numbers_read b parts q running (x ∷ bases) (t ∷ scopes) e empty h made k = (
+  differences_are b parts t.own q.upto running.columns.items x.columns.items q.here t.known made h.columns k.0.columns ∙ ap (λ (s : Scope). column_sums b parts s.own q.upto q.here s.known) (sym e),
+  ap (λ (z : ℤ). z -ℤ value_of x.bound) h.bound ∙ ap (λ (z : ℤ). bound_upto b parts q.upto -ℤ z) k.0.bound ∙ ap (λ (s : Scope). bound_upto b parts q.upto -ℤ bound_upto b parts s.own) (sym e),
+)
+
 pub sum_read : (b : Branch) (parts : List (ℕ × ℤ)) (q : Position) (running : Running) (bases : List Base) (scopes : List Scope) → q.scope ≡ innermost scopes → StartsEmpty b parts →
     IsSummed b parts q.upto running → AreMade running.columns.items q.here → AreBases b parts scopes bases →
     node_of (inequality (terms_from 0 (differences running.columns.items (first_columns bases) q.here)) (value_of running.bound -ℤ first_bound bases)) ≡ node_of (sum_at b parts q)
-sum_read b parts q running [] [] e empty h made k =
-    let s : Scope = q.scope in
-    let x : differences running.columns.items [] q.here ≡ column_sums b parts 0 q.upto q.here [] =
-    differences_are b parts 0 q.upto running.columns.items [] q.here [] made h.columns (λ j. refl) in
-    let y : value_of running.bound -ℤ pos 0 ≡ bound_upto b parts q.upto -ℤ bound_upto b parts 0 = (let i = h.bound in let j = empty.bound in omega (arith, ints, i, j)) in
-    ap (λ (l : List ℤ). node_of (inequality (terms_from 0 l) (value_of running.bound -ℤ pos 0))) x ∙
-    ap (λ (z : ℤ). node_of (inequality (terms_from 0 (column_sums b parts 0 q.upto q.here [])) z)) y ∙
-    ap (λ (t : Scope). node_of (inequality (terms_from 0 (column_sums b parts t.own q.upto q.here t.known)) (bound_upto b parts q.upto -ℤ bound_upto b parts t.own))) (sym e)
-sum_read b parts q running [] (t ∷ scopes) e empty h made k = absurd k
-sum_read b parts q running (x ∷ bases) [] e empty h made k = absurd k
-sum_read b parts q running (x ∷ bases) (t ∷ scopes) e empty h made k =
-    ap (λ (l : List ℤ). node_of (inequality (terms_from 0 l) (value_of running.bound -ℤ value_of x.bound)))
-    (differences_are b parts t.own q.upto running.columns.items x.columns.items q.here t.known made h.columns k.0.columns) ∙
-    ap (λ (z : ℤ). node_of (inequality (terms_from 0 (column_sums b parts t.own q.upto q.here t.known)) (z -ℤ value_of x.bound))) h.bound ∙
-    ap (λ (z : ℤ). node_of (inequality (terms_from 0 (column_sums b parts t.own q.upto q.here t.known)) (bound_upto b parts q.upto -ℤ z))) k.0.bound ∙
-    ap (λ (s : Scope). node_of (inequality (terms_from 0 (column_sums b parts s.own q.upto q.here s.known)) (bound_upto b parts q.upto -ℤ bound_upto b parts s.own))) (sym e)
+sum_read b parts q running bases scopes e empty h made k =
+    let numbers = numbers_read b parts q running bases scopes e empty h made k in
+    ap (λ (l : List ℤ). node_of (inequality (terms_from 0 l) (value_of running.bound -ℤ first_bound bases))) numbers.0 ∙
+    ap (λ (z : ℤ). node_of (inequality (terms_from 0 (coefficients_at b parts q)) z)) numbers.1
 
 -- ---- bases
 

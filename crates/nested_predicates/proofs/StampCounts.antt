@@ -51,20 +51,20 @@ bounds_counted n (None ∷ ts) = bounds_counted (suc n) ts
 bounds_counted n (Some Int ∷ ts) = bounds_counted (suc n) ts
 bounds_counted n (Some boolean ∷ ts) = let h = bounds_counted (suc n) ts in omega (arith, h)
 
-types_counted : (n : ℕ) (frame : Columns) → length (bounds n (types_of frame)) ≡ length (filter is_bool frame) + length (filter is_bool frame)
+pub types_counted : (n : ℕ) (frame : Columns) → length (bounds n (types_of frame)) ≡ length (filter is_bool frame) + length (filter is_bool frame)
 types_counted n frame =
     let a = bounds_counted n (types_of frame) in
     let b : length (filter is_boolean (types_of frame)) ≡ length (filter is_bool frame) = filter_mapped is_boolean (λ v. Some v.1.ty) frame in
     omega (arith, a, b)
 
-types_counted_at : (n : ℕ) (frame : Columns) (written : List ℕ) →
+pub types_counted_at : (n : ℕ) (frame : Columns) (written : List ℕ) →
     length (bounds n (types_at frame written)) ≡ length (filter (is_bool_at frame) written) + length (filter (is_bool_at frame) written)
 types_counted_at n frame written =
     let a = bounds_counted n (types_at frame written) in
     let b : length (filter is_boolean (types_at frame written)) ≡ length (filter (is_bool_at frame) written) = filter_mapped is_boolean (type_at frame) written in
     omega (arith, a, b)
 
-places_counted : (test : (Column × VarInfo) → Bool) (n : ℕ) (xs : Columns) → length (places test n xs) ≡ length (filter test xs)
+pub places_counted : (test : (Column × VarInfo) → Bool) (n : ℕ) (xs : Columns) → length (places test n xs) ≡ length (filter test xs)
 places_counted test n [] = refl
 places_counted test n (x ∷ xs) = by_test (test x) (places_counted test (suc n) xs)
   where
@@ -72,7 +72,7 @@ places_counted test n (x ∷ xs) = by_test (test x) (places_counted test (suc n)
     by_test true h = ap suc h
     by_test false h = h
 
-entries_counted : (n : ℕ) (gs : List ℕ) → length (entry_rows n gs) ≡ length gs
+pub entries_counted : (n : ℕ) (gs : List ℕ) → length (entry_rows n gs) ≡ length gs
 entries_counted n [] = refl
 entries_counted n (g ∷ gs) = ap suc (entries_counted (suc n) gs)
 
@@ -181,7 +181,7 @@ back_rows : (caller callee : Columns) (targets : List ℕ) (made : ℕ) (exit : 
 back_rows caller callee targets made exit [] = (refl, refl)
 back_rows caller callee targets made exit (b ∷ saved) = (refl, refl)
 
-return_rows : (al : Alphabet) (targets : List ℕ) (o : Option PlainAct) (p : Stage) → (rows_in (return_part al targets o p) ≡ []) × ((return_part al targets o p).columns ≡ 0)
+pub return_rows : (al : Alphabet) (targets : List ℕ) (o : Option PlainAct) (p : Stage) → (rows_in (return_part al targets o p) ≡ []) × ((return_part al targets o p).columns ≡ 0)
 return_rows al targets None p = (refl, refl)
 return_rows al targets (Some (inside_act q written helpers rows)) p = (refl, refl)
 return_rows al targets (Some (call_act caller callee helpers rows)) p = back_rows (frame_of al caller) (frame_of al callee) targets p.made p.here p.saved

@@ -14,6 +14,7 @@ use Rattle.path_rows.specs.Versions.{Stage, part_of}
 use Rattle.path_rows.specs.Paths.{start_frame, first_stage, path_of}
 use Rattle.farkas_check.specs.Nodes.{PlainNode, leaf, cut, cases, plain, plain_nodes}
 use Rattle.farkas_check.specs.declared.refutations.Node.{Node}
+use Rattle.farkas_check.specs.Trees.{Tree, leaf_tree, cut_tree, cases_tree, prefix_of, TreeRefutes}
 use Rattle.farkas_check.specs.Refutes.{Goal, at_most, above, Refute}
 use Rattle.triple_rows.specs.declared.predicates.PredNode.{PredNode}
 use Rattle.nested_predicates.specs.declared.branches.Branches.{Branches}
@@ -23,8 +24,10 @@ use Rattle.nested_predicates.specs.declared.spots.Spot.{Spot}
 use Rattle.nested_predicates.specs.Spots.{spot_at}
 use Rattle.nested_predicates.specs.Positions.{Scope, scopes_after, Position, position_at, positions_along, start_scope, positions_of}
 use Rattle.nested_predicates.specs.Sums.{Branch, root_of, with_cut}
+use Rattle.nested_predicates.specs.Fitting.{SumsFit, NodeFits, NodesFit}
 use Rattle.nested_predicates.specs.Interpolants.{RefutesRows}
 use Rattle.nested_predicates.specs.Layouts.{HasStamps, leaf_node}
+use Rattle.nested_predicates.proofs.EndLaws.{tree_refutes}
 use Rattle.nested_predicates.proofs.StampLaws.{IsWithin, IsStamped, stamp_within, columns_of_word_within, root_stamped}
 use Rattle.nested_predicates.specs.Tables.{upto, entered, Wait, branch_of, HasNext, Await, CanTake, row_of_node, branches_after, IsGood, cut_nodes_from, cut_node_at, table_along}
 
@@ -40,6 +43,8 @@ pub record TableRead (g : Graph) (w : List Letter) (nodes : List PlainNode) (i :
   pub refutes : Refute (drop i nodes) (map goal_at branches)
   pub rest : (let columns = (stamps_of g w).columns in let qs = positions_of g w in
       table ++ table_along columns qs (drop i nodes) branches ≡ table_along columns qs nodes (root_of g w ∷ []))
+  pub fits : (t : Tree) → prefix_of t ≡ nodes → SumsFit (stamps_of g w).columns (positions_of g w) (root_of g w) t →
+      NodesFit (stamps_of g w).columns (positions_of g w) (drop i nodes) branches
 
 -- ---- branches that wait
 
@@ -166,6 +171,8 @@ pub record Next (g : Graph) (w : List Letter) (nodes : List PlainNode) (i : ℕ)
   pub refutes : Refute (drop (i + 1) nodes) (map goal_at (branches_after (stamps_of g w).columns n branch rest))
   pub row : (let columns = (stamps_of g w).columns in let qs = positions_of g w in
       table ++ row_of_node columns qs n branch ∷ table_along columns qs (drop (i + 1) nodes) (branches_after columns n branch rest) ≡ table_along columns qs nodes (root_of g w ∷ []))
+  pub fits : (t : Tree) → prefix_of t ≡ nodes → SumsFit (stamps_of g w).columns (positions_of g w) (root_of g w) t →
+      NodeFits (positions_of g w) n branch × NodesFit (stamps_of g w).columns (positions_of g w) (drop (i + 1) nodes) (branches_after (stamps_of g w).columns n branch rest)
 
 taken : (columns : List ℕ) (n : PlainNode) (ns : List PlainNode) (b : Branch) (rest : List Branch) → Refute (n ∷ ns) (goal_at b ∷ map goal_at rest) →
     CanTake n b × Refute ns (map goal_at (branches_after columns n b rest))
@@ -178,14 +185,16 @@ pub next_of : (g : Graph) (w : List Letter) (nodes : List PlainNode) (i : ℕ) (
 next_of g w nodes i s table n f h =
     by_branches h.branches h.await h.good (subst (λ (l : List PlainNode). Refute l (map goal_at h.branches)) f h.refutes)
     (subst (λ (l : List PlainNode). table ++ table_along (stamps_of g w).columns (positions_of g w) l h.branches ≡ table_along (stamps_of g w).columns (positions_of g w) nodes (root_of g w ∷ [])) f h.rest)
+    (λ t e k. subst (λ (l : List PlainNode). NodesFit (stamps_of g w).columns (positions_of g w) l h.branches) f (h.fits t e k))
   where
     by_branches : (bs : List Branch) → Await s bs → AllByRecursion IsGood bs → Refute (n ∷ drop (i + 1) nodes) (map goal_at bs) →
         table ++ table_along (stamps_of g w).columns (positions_of g w) (n ∷ drop (i + 1) nodes) bs ≡ table_along (stamps_of g w).columns (positions_of g w) nodes (root_of g w ∷ []) →
+        ((t : Tree) → prefix_of t ≡ nodes → SumsFit (stamps_of g w).columns (positions_of g w) (root_of g w) t → NodesFit (stamps_of g w).columns (positions_of g w) (n ∷ drop (i + 1) nodes) bs) →
         Next g w nodes i s table n
-    by_branches [] a k r e = absurd r
-    by_branches (b ∷ rest) a k r e =
+    by_branches [] a k r e fits = absurd r
+    by_branches (b ∷ rest) a k r e fits =
         let x = taken (stamps_of g w).columns n (drop (i + 1) nodes) b rest r in
-        record { branch = b; rest = rest; await = a; good = k.0; goods = k.1; take = x.0; refutes = x.1; row = e }
+        record { branch = b; rest = rest; await = a; good = k.0; goods = k.1; take = x.0; refutes = x.1; row = e; fits = fits }
 
 more : {X : Type 0} (P : X → Type 0) (xs : List X) (x : X) → AllByRecursion P xs → P x → AllByRecursion P (xs ++ x ∷ [])
 more P [] x h p = (p, tt)
@@ -242,7 +251,13 @@ table_next g w nodes i s new table more row n h a e m =
       good = goods_after columns n h.branch h.rest (from_two g w) h.good h.take h.goods;
       refutes = h.refutes;
       rest = ap (λ (l : List (List PredNode)). l ++ rest) m ∙ append_assoc table (row ∷ []) rest ∙ ap (λ (r : List PredNode). table ++ r ∷ rest) e ∙ h.row;
+      fits = λ t f k. (h.fits t f k).1;
     }
+
+-- the sums of the node at hand do not fit
+pub table_past : (g : Graph) (w : List Letter) (nodes : List PlainNode) (i : ℕ) (s : Branches) (table : List (List PredNode)) (n : PlainNode) (b : Branch) (h : Next g w nodes i s table n) → b ≡ h.branch →
+    (NodeFits (positions_of g w) n b → ⊥) → (t : Tree) → prefix_of t ≡ nodes → SumsFit (stamps_of g w).columns (positions_of g w) (root_of g w) t → ⊥
+table_past g w nodes i s table n b h e past t f k = past (subst (NodeFits (positions_of g w) n) (sym e) (h.fits t f k).0)
 
 pub root_good : (g : Graph) (w : List Letter) → AllByRecursion IsRow (root_of g w).rows → IsGood (root_of g w)
 root_good g w h =
@@ -259,6 +274,19 @@ root_counts g w rows stamps e f =
     let limit : ℕ = 2 * (1 + length w) + 1 in
     ap (λ (l : List ℕ). length l) f ∙ (root_stamped limit g w (omega arith) (omega arith)).as_many ∙ ap (λ (l : List LinearRow). length l) (sym e)
 
+-- the nodes of a tree without cases
+nodes_fit : (columns : List ℕ) (qs : List Position) (t : Tree) (b : Branch) (more : List PlainNode) (rest : List Branch) → TreeRefutes t (goal_at b) → SumsFit columns qs b t →
+    NodesFit columns qs more rest → NodesFit columns qs (prefix_of t ++ more) (b ∷ rest)
+nodes_fit columns qs (leaf_tree parts) b more rest r h k = (h, k)
+nodes_fit columns qs (cut_tree c k t u) b more rest r h m =
+    let low : Branch = with_cut b (column_stamp columns c) (at_most c k) in
+    let high : Branch = with_cut b (column_stamp columns c) (above c k) in (
+      tt,
+      subst (λ (ns : List PlainNode). NodesFit columns qs ns (low ∷ high ∷ rest)) (sym (append_assoc (prefix_of t) (prefix_of u) more))
+          (nodes_fit columns qs t low (prefix_of u ++ more) (high ∷ rest) r.2 h.0 (nodes_fit columns qs u high more rest r.3 h.1 m)),
+    )
+nodes_fit columns qs (cases_tree ts) b more rest r h k = absurd r
+
 pub table_start : (g : Graph) (w : List Letter) (nodes : List PlainNode) (s : Branches) (table : List (List PredNode)) (rows path_rows : List LinearRow) (stamps : List ℕ) → rows ≡ (root_of g w).rows →
     stamps ≡ (root_of g w).stamps → AllByRecursion IsRow rows → Await s (record { rows = rows; stamps = stamps } ∷ []) → path_rows ≡ (path_of g w).rows → RefutesRows nodes path_rows → table ≡ [] →
     TableRead g w nodes 0 s table
@@ -268,6 +296,10 @@ table_start g w nodes s table rows path_rows stamps e f ok a p r m = record {
   good = (root_good g w (subst (AllByRecursion IsRow) e ok), tt);
   refutes = subst (λ (l : List LinearRow). RefutesRows nodes l) p r;
   rest = ap (λ (l : List (List PredNode)). l ++ table_along (stamps_of g w).columns (positions_of g w) nodes (root_of g w ∷ [])) m;
+  fits = λ t f k.
+      let refuted : RefutesRows (prefix_of t) (path_of g w).rows = subst (λ (ns : List PlainNode). RefutesRows ns (path_of g w).rows) (sym f) (subst (λ (l : List LinearRow). RefutesRows nodes l) p r) in
+      subst (λ (ns : List PlainNode). NodesFit (stamps_of g w).columns (positions_of g w) ns (root_of g w ∷ [])) (append-nil (prefix_of t) ∙ f)
+      (nodes_fit (stamps_of g w).columns (positions_of g w) t (root_of g w) [] [] (tree_refutes t g w refuted) k tt);
 }
 
 pub node_front : (nodes : List Node) (i : ℕ) (n d : Node) → i < length nodes → n ≡ get_or nodes i d → drop i (plain_nodes nodes) ≡ plain n ∷ drop (i + 1) (plain_nodes nodes)

@@ -32,7 +32,7 @@ no_triples w preds calls triples m e f = record {
   rest = ap (λ (l : List Triple). l ++ triples_along w preds (saved_at preds (reverse calls))) f ∙ ap (λ (l : List ℕ). triples_along w preds (saved_at preds (reverse l))) e;
 }
 
-finds : (kind : Kind) (calls : List ℕ) (rest : ℕ → Bool) → goes_on kind (length calls) rest ≡ true → FindsCall kind calls
+pub finds : (kind : Kind) (calls : List ℕ) (rest : ℕ → Bool) → goes_on kind (length calls) rest ≡ true → FindsCall kind calls
 finds Inside calls rest h = tt
 finds Call calls rest h = tt
 finds Back [] rest h = absurd (cc)
@@ -44,7 +44,7 @@ finds_call w preds i a d calls triples l e h =
     finds a.kind (reverse calls) (λ n. are_matched n (drop (i + 1) w))
     (subst (λ (v : List Letter). are_matched (length (reverse calls)) v ≡ true) (front_letter w i a d l e) h.matched)
 
-matched_after : (kind : Kind) (at : ℕ) (calls : List ℕ) (rest : ℕ → Bool) → goes_on kind (length calls) rest ≡ true → rest (length (calls_after kind at calls)) ≡ true
+pub matched_after : (kind : Kind) (at : ℕ) (calls : List ℕ) (rest : ℕ → Bool) → goes_on kind (length calls) rest ≡ true → rest (length (calls_after kind at calls)) ≡ true
 matched_after Inside at calls rest h = h
 matched_after Call at calls rest h = h
 matched_after Back at [] rest h = absurd (cc)

@@ -8,6 +8,7 @@ pub mod Positions
 pub mod Walking
 pub mod Spots
 pub mod Sums
+pub mod Fitting
 pub mod Joins
 pub mod Simplifying
 pub mod Interpolants

@@ -1,9 +1,10 @@
 //! The caller's sum at a call, by the columns of the callee's frame.
 
-ghost use Rattle.std.specs.Prelude.{◌≡◌, ◌≤◌, ◌<◌, ◌^◌, ◌-ℤ◌, [], ◌∷◌, IsSome, IfOk, OnOk, length, reverse};
+ghost use Rattle.std.specs.Prelude.{◌≡◌, ◌≤◌, ◌<◌, ◌^◌, ◌-ℤ◌, [], ◌∷◌, Err, IsSome, IfOk, OnOk, length, reverse};
 ghost use Rattle.letter_acts.specs.Acts.{act_of, frame_of};
 ghost use Rattle.letter_acts.specs.Invariant.{alphabet_of};
 ghost use Rattle.std.specs.List.{AllByRecursion};
+ghost use Rattle.math_facts.specs.Fits.{Fits};
 ghost use Rattle.triple_rows.specs.Predicates.{prefix_of};
 ghost use Rattle.nested_predicates.specs.Wides.{value_of, HasRoom};
 ghost use Rattle.nested_predicates.specs.Positions.{known_at, known_columns, callee_of};
@@ -162,7 +163,8 @@ pub(crate) fn sum_in(
     requires counted { AreCounted running.now }
     requires frames { AllByRecursion CanRead frames.now }
     requires here { AreMade running.now.columns.items here.now }
-    ensures { IfOk result (λ n. n ≡ node_of (inequality (terms_from 0 (differences running.now.columns.items (first_columns (reverse frames.now)) here.now)) (value_of running.now.bound -ℤ first_bound (reverse frames.now)))) }
+    ensures value { IfOk result (λ n. n ≡ node_of (inequality (terms_from 0 (differences running.now.columns.items (first_columns (reverse frames.now)) here.now)) (value_of running.now.bound -ℤ first_bound (reverse frames.now)))) }
+    ensures past { result ≡ Err ItpFault.Past → AllByRecursion Fits (differences running.now.columns.items (first_columns (reverse frames.now)) here.now) → Fits (value_of running.now.bound -ℤ first_bound (reverse frames.now)) → ⊥ }
 {
     if here.len() > u32::MAX as usize {
         return Err(ItpFault::Memory);

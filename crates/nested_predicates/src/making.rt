@@ -1,7 +1,13 @@
 //! Prefix predicates made from a refutation.
 
-ghost use Rattle.std.specs.Prelude.{◌≡◌, suc, IfOk, length};
+ghost use Rattle.std.specs.Prelude.{◌≡◌, suc, [], ◌∷◌, Err, IfOk, map, length};
+ghost use Rattle.farkas_check.specs.Trees.{Tree, prefix_of};
 ghost use Rattle.path_rows.specs.Paths.{IsPathOf};
+ghost use Rattle.nested_predicates.specs.Stamps.{stamps_of};
+ghost use Rattle.nested_predicates.specs.Positions.{positions_of};
+ghost use Rattle.nested_predicates.specs.Sums.{root_of};
+ghost use Rattle.nested_predicates.specs.Fitting.{SumsFit};
+ghost use Rattle.nested_predicates.specs.Tables.{table_along};
 ghost use Rattle.nested_predicates.specs.Interpolants.{ArePredicates, RefutesRows, HasCutsUpTo, BeginsTrue, EndsFalse};
 ghost use Rattle.nested_predicates.specs.Walking.{return_tests};
 
@@ -28,7 +34,7 @@ pub struct PrefixSums {
 }
 
 /// The prefix predicates of a word under a refutation of its rows, no branch of which has more than 64 cuts, with what they
-/// are made of. Each leaf costs the time of its rows and of the frames' widths along the word.
+/// are made of. `Past` only where a coefficient or a bound of a leaf's sum at a position does not fit. Each leaf costs the time of its rows and of the frames' widths along the word.
 pub fn prefix_sums(
     alloc: Global,
     icfg: &Icfg,
@@ -43,6 +49,8 @@ pub fn prefix_sums(
     ensures last { IfOk result (λ s. EndsFalse s.preds.items) }
     ensures predicates { IfOk result (λ s. length s.preds.items ≡ suc (length path.now.word)) }
     ensures returned { IfOk result (λ s. s.returned.items ≡ return_tests path.now.word) }
+    ensures table { IfOk result (λ s. map (λ v. v.items) s.table.items ≡ table_along (stamps_of icfg.now path.now.word).columns (positions_of icfg.now path.now.word) proof.now (root_of icfg.now path.now.word ∷ [])) }
+    ensures past { result ≡ Err ItpFault.Past → (t : Tree) → prefix_of t ≡ proof.now → SumsFit (stamps_of icfg.now path.now.word).columns (positions_of icfg.now path.now.word) (root_of icfg.now path.now.word) t → ⊥ }
 {
     let layout = Layout::of(alloc, icfg, path)?;
     let table = node_table(alloc, icfg, path, &layout, proof.nodes())?;
@@ -69,6 +77,7 @@ pub fn prefix_predicates(
     ensures first { IfOk result (λ v. BeginsTrue v.items) }
     ensures last { IfOk result (λ v. EndsFalse v.items) }
     ensures predicates { IfOk result (λ v. length v.items ≡ suc (length path.now.word)) }
+    ensures past { result ≡ Err ItpFault.Past → (t : Tree) → prefix_of t ≡ proof.now → SumsFit (stamps_of icfg.now path.now.word).columns (positions_of icfg.now path.now.word) (root_of icfg.now path.now.word) t → ⊥ }
 {
     Ok(prefix_sums(alloc, icfg, path, proof)?.preds)
 }

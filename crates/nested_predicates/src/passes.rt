@@ -1,12 +1,13 @@
 //! The sums of a leaf along a word.
 
-ghost use Rattle.std.specs.Prelude.{◌≡◌, IfOk, map};
+ghost use Rattle.std.specs.Prelude.{◌≡◌, Err, IfOk, map};
 ghost use Rattle.std.specs.List.{AllByRecursion};
 ghost use Rattle.lin_rows.specs.Rows.{IsRow};
 ghost use Rattle.lin_rows.specs.Combinations.{Contradicts};
 ghost use Rattle.path_rows.specs.Paths.{IsPathOf};
 ghost use Rattle.nested_predicates.specs.Positions.{positions_of};
 ghost use Rattle.nested_predicates.specs.Bases.{node_of};
+ghost use Rattle.nested_predicates.specs.Fitting.{SumFits};
 ghost use Rattle.nested_predicates.specs.Layouts.{IsLayout, leaf_node, HasStamps};
 
 use crate::bases::{Base, enter, sum_in};
@@ -36,7 +37,8 @@ pub(crate) fn leaf_sums(
     requires rows { AllByRecursion IsRow rows.now }
     requires leaf { Contradicts rows.now parts.now }
     requires stamped { HasStamps (record { rows = rows.now; stamps = stamps.now }) }
-    ensures { IfOk result (λ v. v.items ≡ map (leaf_node (record { rows = rows.now; stamps = stamps.now }) parts.now) (positions_of icfg.now path.now.word)) }
+    ensures value { IfOk result (λ v. v.items ≡ map (leaf_node (record { rows = rows.now; stamps = stamps.now }) parts.now) (positions_of icfg.now path.now.word)) }
+    ensures past { result ≡ Err ItpFault.Past → AllByRecursion (SumFits (record { rows = rows.now; stamps = stamps.now }) parts.now) (positions_of icfg.now path.now.word) → ⊥ }
 {
     let letters = path.word().letters();
     let states = path.states();

@@ -1,14 +1,16 @@
 //! The predicates of a word before they are simplified: for each node of the refutation a node at each position.
 
-ghost use Rattle.std.specs.Prelude.{◌≡◌, ◌<◌, ◌^◌, [], ◌∷◌, Some, List, IfOk, OnOk, map, length, slice_get};
+ghost use Rattle.std.specs.Prelude.{◌≡◌, ◌<◌, ◌^◌, [], ◌∷◌, Some, Err, List, IfOk, OnOk, map, length, slice_get};
 ghost use Rattle.std.specs.List.{AllByRecursion};
 ghost use Rattle.lin_rows.specs.Rows.{IsRow};
 ghost use Rattle.lin_rows.specs.Tightening.{tightened};
 ghost use Rattle.farkas_check.specs.Nodes.{plain, plain_nodes};
+ghost use Rattle.farkas_check.specs.Trees.{Tree, prefix_of};
 ghost use Rattle.path_rows.specs.Paths.{IsPathOf};
 ghost use Rattle.nested_predicates.specs.Stamps.{stamps_of, column_stamp};
 ghost use Rattle.nested_predicates.specs.Positions.{positions_of};
 ghost use Rattle.nested_predicates.specs.Sums.{Branch, root_of};
+ghost use Rattle.nested_predicates.specs.Fitting.{SumsFit, NodeFits};
 ghost use Rattle.nested_predicates.specs.Interpolants.{RefutesRows};
 ghost use Rattle.nested_predicates.specs.Layouts.{IsLayout};
 ghost use Rattle.nested_predicates.specs.Tables.{branch_of, Await, IsGood, CanTake, row_of_node, branches_after, cut_node, cut_nodes_from, table_along};
@@ -81,7 +83,8 @@ pub(crate) fn node_table(
     requires path { IsPathOf icfg.now path.now }
     requires layout { IsLayout icfg.now path.now.word layout.now }
     requires refutes { RefutesRows (plain_nodes nodes.now) path.now.rows }
-    ensures { IfOk result (λ t. map (λ v. v.items) t.items ≡ table_along (stamps_of icfg.now path.now.word).columns (positions_of icfg.now path.now.word) (plain_nodes nodes.now) (root_of icfg.now path.now.word ∷ [])) }
+    ensures value { IfOk result (λ t. map (λ v. v.items) t.items ≡ table_along (stamps_of icfg.now path.now.word).columns (positions_of icfg.now path.now.word) (plain_nodes nodes.now) (root_of icfg.now path.now.word ∷ [])) }
+    ensures past { result ≡ Err ItpFault.Past → (t : Tree) → prefix_of t ≡ plain_nodes nodes.now → SumsFit (stamps_of icfg.now path.now.word).columns (positions_of icfg.now path.now.word) (root_of icfg.now path.now.word) t → ⊥ }
 {
     let rows = tightened(alloc, &path.system().rows)?;
     let stamps = Vec::from_slice(alloc, &layout.stamps.rows)?;
@@ -108,6 +111,7 @@ fn node_row(
     requires good { IsGood (branch_of branches.old) }
     requires can_take { CanTake (plain node.now) (branch_of branches.old) }
     ensures value { IfOk result (λ v. v.items ≡ row_of_node (stamps_of icfg.now path.now.word).columns (positions_of icfg.now path.now.word) (plain node.now) (branch_of branches.old)) }
+    ensures past { result ≡ Err ItpFault.Past → NodeFits (positions_of icfg.now path.now.word) (plain node.now) (branch_of branches.old) → ⊥ }
     ensures branches { OnOk result ((rest : List Branch) → Await branches.old rest → Await branches.new (branches_after (stamps_of icfg.now path.now.word).columns (plain node.now) (branch_of branches.old) rest)) }
 {
     match node {

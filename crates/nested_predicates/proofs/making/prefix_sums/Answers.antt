@@ -1,4 +1,4 @@
-use Rattle.std.proofs.Common.{◌∙◌, List, [], ◌∷◌, ap, sym, subst, map, length}
+use Rattle.std.proofs.Common.{◌∙◌, List, [], ◌∷◌, ap, sym, subst, map, length, rules}
 use Rattle.std.specs.Global.{Vec}
 use Rattle.farkas_check.specs.Nodes.{PlainNode}
 use Rattle.farkas_check.specs.Trees.{IsPrefixList}
@@ -23,7 +23,7 @@ predicates-requires-clause-table c =
     let t : IsPrefixList c.args.proof.now = (is_tree_is c.args.proof.now).0 c.nodes.ensures.whole in (
       t.0,
       table_of_tree c.args.icfg.now c.args.path.now.word t.0 c.args.proof.now c.deref.result.now c.args.path.now.rows t.1 c.requires.path.rows c.requires.refutes c.requires.cuts
-          (ap (λ (l : List (Vec PredNode)). map (λ (v : Vec PredNode). v.items) l) c.deref.ensures.value ∙ c.in_ok-table.ensures ∙
+          (ap (λ (l : List (Vec PredNode)). map (λ (v : Vec PredNode). v.items) l) c.deref.ensures.value ∙ c.in_ok-table.ensures.value ∙
           ap (λ (ns : List PlainNode). table_along (stamps_of c.args.icfg.now c.args.path.now.word).columns (positions_of c.args.icfg.now c.args.path.now.word) ns
           (root_of c.args.icfg.now c.args.path.now.word ∷ [])) c.nodes.ensures.value),
     )
@@ -33,7 +33,7 @@ returns-clause-value c =
     let t : IsPrefixList c.args.proof.now = (is_tree_is c.args.proof.now).0 c.nodes.ensures.whole in
     let h : IsTableOf c.args.icfg.now c.args.path.now.word t.0 c.deref.result.now =
     table_of_tree c.args.icfg.now c.args.path.now.word t.0 c.args.proof.now c.deref.result.now c.args.path.now.rows t.1 c.requires.path.rows c.requires.refutes c.requires.cuts
-    (ap (λ (l : List (Vec PredNode)). map (λ (v : Vec PredNode). v.items) l) c.deref.ensures.value ∙ c.in_ok-table.ensures ∙
+    (ap (λ (l : List (Vec PredNode)). map (λ (v : Vec PredNode). v.items) l) c.deref.ensures.value ∙ c.in_ok-table.ensures.value ∙
     ap (λ (ns : List PlainNode). table_along (stamps_of c.args.icfg.now c.args.path.now.word).columns (positions_of c.args.icfg.now c.args.path.now.word) ns
     (root_of c.args.icfg.now c.args.path.now.word ∷ [])) c.nodes.ensures.value) in
     record { tree = t.0; spelled = t.1; preds_are = c.in_ok-preds.ensures t.0 h }
@@ -43,7 +43,7 @@ returns-clause-first c =
     let t : IsPrefixList c.args.proof.now = (is_tree_is c.args.proof.now).0 c.nodes.ensures.whole in
     let h : IsTableOf c.args.icfg.now c.args.path.now.word t.0 c.deref.result.now =
     table_of_tree c.args.icfg.now c.args.path.now.word t.0 c.args.proof.now c.deref.result.now c.args.path.now.rows t.1 c.requires.path.rows c.requires.refutes c.requires.cuts
-    (ap (λ (l : List (Vec PredNode)). map (λ (v : Vec PredNode). v.items) l) c.deref.ensures.value ∙ c.in_ok-table.ensures ∙
+    (ap (λ (l : List (Vec PredNode)). map (λ (v : Vec PredNode). v.items) l) c.deref.ensures.value ∙ c.in_ok-table.ensures.value ∙
     ap (λ (ns : List PlainNode). table_along (stamps_of c.args.icfg.now c.args.path.now.word).columns (positions_of c.args.icfg.now c.args.path.now.word) ns
     (root_of c.args.icfg.now c.args.path.now.word ∷ [])) c.nodes.ensures.value) in
     subst BeginsTrue (sym (c.in_ok-preds.ensures t.0 h)) (begins_true c.args.icfg.now c.args.path.now.word t.0 h.refutes)
@@ -53,7 +53,7 @@ returns-clause-last c =
     let t : IsPrefixList c.args.proof.now = (is_tree_is c.args.proof.now).0 c.nodes.ensures.whole in
     let h : IsTableOf c.args.icfg.now c.args.path.now.word t.0 c.deref.result.now =
     table_of_tree c.args.icfg.now c.args.path.now.word t.0 c.args.proof.now c.deref.result.now c.args.path.now.rows t.1 c.requires.path.rows c.requires.refutes c.requires.cuts
-    (ap (λ (l : List (Vec PredNode)). map (λ (v : Vec PredNode). v.items) l) c.deref.ensures.value ∙ c.in_ok-table.ensures ∙
+    (ap (λ (l : List (Vec PredNode)). map (λ (v : Vec PredNode). v.items) l) c.deref.ensures.value ∙ c.in_ok-table.ensures.value ∙
     ap (λ (ns : List PlainNode). table_along (stamps_of c.args.icfg.now c.args.path.now.word).columns (positions_of c.args.icfg.now c.args.path.now.word) ns
     (root_of c.args.icfg.now c.args.path.now.word ∷ [])) c.nodes.ensures.value) in
     subst EndsFalse (sym (c.in_ok-preds.ensures t.0 h)) (ends c.args.icfg.now c.args.path.now.word t.0 h.refutes)
@@ -63,10 +63,19 @@ returns-clause-predicates c =
     let t : IsPrefixList c.args.proof.now = (is_tree_is c.args.proof.now).0 c.nodes.ensures.whole in
     let h : IsTableOf c.args.icfg.now c.args.path.now.word t.0 c.deref.result.now =
     table_of_tree c.args.icfg.now c.args.path.now.word t.0 c.args.proof.now c.deref.result.now c.args.path.now.rows t.1 c.requires.path.rows c.requires.refutes c.requires.cuts
-    (ap (λ (l : List (Vec PredNode)). map (λ (v : Vec PredNode). v.items) l) c.deref.ensures.value ∙ c.in_ok-table.ensures ∙
+    (ap (λ (l : List (Vec PredNode)). map (λ (v : Vec PredNode). v.items) l) c.deref.ensures.value ∙ c.in_ok-table.ensures.value ∙
     ap (λ (ns : List PlainNode). table_along (stamps_of c.args.icfg.now c.args.path.now.word).columns (positions_of c.args.icfg.now c.args.path.now.word) ns
     (root_of c.args.icfg.now c.args.path.now.word ∷ [])) c.nodes.ensures.value) in
     ap (λ (l : List Scoped). length l) (c.in_ok-preds.ensures t.0 h) ∙ predicates_counted c.args.icfg.now c.args.path.now.word t.0
 
 pub returns-clause-returned : goal.returns-clause-returned
 returns-clause-returned c = c.in_ok-layout.ensures.returned
+
+pub returns-clause-table : goal.returns-clause-table
+returns-clause-table c =
+    c.in_ok-table.ensures.value ∙
+    ap (λ (ns : List PlainNode). table_along (stamps_of c.args.icfg.now c.args.path.now.word).columns (positions_of c.args.icfg.now c.args.path.now.word) ns
+    (root_of c.args.icfg.now c.args.path.now.word ∷ [])) c.nodes.ensures.value
+
+pub returns-in_err-table-clause-past : goal.returns-in_err-table-clause-past
+returns-in_err-table-clause-past c was = λ t e fits. c.in_err-table.ensures.past (search rules) t (e ∙ sym c.nodes.ensures.value) fits

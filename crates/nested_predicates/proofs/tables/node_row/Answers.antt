@@ -34,7 +34,7 @@ returns-in-Leaf-clause-value c =
     if_ok (λ (v : Vec PredNode). v.items ≡ map (leaf_node (record { rows = c.deref.result.now; stamps = c.deref-in-Leaf.result.now }) c.deref-in-Leaf-2.result.now) qs)
     (λ (v : Vec PredNode). v.items ≡ row_of_node columns qs (plain c.args.node.now) (branch_of c.args.branches.now))
     (λ v h. leaf_is columns qs (branch_of c.args.branches.now) (plain c.args.node.now) c.deref.result.now c.deref-in-Leaf.result.now c.deref-in-Leaf-2.result.now c.in-Leaf.parts.items v.items
-    c.deref.ensures.value c.deref-in-Leaf.ensures.value c.deref-in-Leaf-2.ensures.value (ap plain c.in-Leaf.is) h) c.leaf_sums.result c.leaf_sums.ensures
+    c.deref.ensures.value c.deref-in-Leaf.ensures.value c.deref-in-Leaf-2.ensures.value (ap plain c.in-Leaf.is) h) c.leaf_sums.result c.leaf_sums.ensures.value
 
 pub returns-in-Leaf-clause-branches : goal.returns-in-Leaf-clause-branches
 returns-in-Leaf-clause-branches c =

@@ -1,4 +1,4 @@
-use Rattle.std.proofs.Common.{◌≡◌, ◌∙◌, List, [], ◌∷◌, map, get_or, refl, sym, ap, subst}
+use Rattle.std.proofs.Common.{◌≡◌, ◌∙◌, List, [], ◌∷◌, map, get_or, refl, sym, ap, subst, rules}
 use Rattle.std.specs.Global.{Vec}
 use Rattle.std.proofs.lemmas.List.{map-append}
 use Rattle.lin_rows.specs.Tightening.{tightened}
@@ -9,8 +9,8 @@ use Rattle.triple_rows.specs.declared.predicates.PredNode.{PredNode}
 use Rattle.nested_predicates.specs.Stamps.{stamps_of}
 use Rattle.nested_predicates.specs.Positions.{positions_of}
 use Rattle.nested_predicates.specs.Sums.{Branch}
-use Rattle.nested_predicates.specs.Tables.{Await, CanTake, IsGood, branches_after, row_of_node}
-use Rattle.nested_predicates.proofs.TableLaws.{Next, next_of, some_waits, table_next, root_counts, table_start, node_front, table_done}
+use Rattle.nested_predicates.specs.Tables.{branch_of, Await, CanTake, IsGood, branches_after, row_of_node}
+use Rattle.nested_predicates.proofs.TableLaws.{Next, next_of, some_waits, table_next, table_past, root_counts, table_start, node_front, table_done}
 use Rattle.nested_predicates.proofs.tables.node_table.Goals as goal
 
 pub root-requires : goal.root-requires
@@ -67,5 +67,16 @@ loop-i-preserved c =
     (subst (λ (b : Branch). row.items ≡ row_of_node (stamps_of g w).columns (positions_of g w) (plain n) b) on.0 c.in_ok-node_row.ensures.value)
     (ap (λ (l : List (Vec PredNode)). map (λ (v : Vec PredNode). v.items) l) c.in_ok-push.ensures.items ∙ map-append (λ (v : Vec PredNode). v.items) c.loop-i.table.items (row ∷ []))
 
-pub returns : goal.returns
-returns c = table_done c.args.icfg.now c.args.path.now.word c.args.nodes.now c.loop-i.i c.loop-i.branches _ c.loop-i-test.false c.loop-i.invariant
+pub returns-clause-value : goal.returns-clause-value
+returns-clause-value c = table_done c.args.icfg.now c.args.path.now.word c.args.nodes.now c.loop-i.i c.loop-i.branches _ c.loop-i-test.false c.loop-i.invariant
+
+pub returns-in_err-node_row-clause-past : goal.returns-in_err-node_row-clause-past
+returns-in_err-node_row-clause-past c was =
+    let g = c.args.icfg.now in
+    let w = c.args.path.now.word in
+    let n : Node = c.index-nodes-i.result in
+    let old : List (List PredNode) = map (λ (v : Vec PredNode). v.items) c.loop-i.table.items in
+    let h : Next g w (plain_nodes c.args.nodes.now) c.loop-i.i c.loop-i.branches old (plain n) =
+    next_of g w (plain_nodes c.args.nodes.now) c.loop-i.i c.loop-i.branches old (plain n) (node_front c.args.nodes.now c.loop-i.i n n c.loop-i-test.true c.index-nodes-i.is) c.loop-i.invariant in
+    table_past g w (plain_nodes c.args.nodes.now) c.loop-i.i c.loop-i.branches old (plain n) (branch_of c.go_on.new.self) h (c.in_ok-go_on.ensures h.branch h.rest h.await).0
+    (c.in_err-node_row.ensures.past (search rules))
