@@ -34,7 +34,8 @@ pub struct PrefixSums {
 }
 
 /// The prefix predicates of a word under a refutation of its rows, no branch of which has more than 64 cuts, with what they
-/// are made of. `Past` only where a coefficient or a bound of a leaf's sum at a position does not fit. Each leaf costs the time of its rows and of the frames' widths along the word.
+/// are made of. `Past` only where a coefficient or a bound of a leaf's sum at a position does not fit. Each leaf costs the time of
+/// its rows and of the frames' widths along the word.
 pub fn prefix_sums(
     alloc: Global,
     icfg: &Icfg,
