@@ -8,7 +8,6 @@ use Rattle.lin_rows.specs.Rows.{LinearRow}
 use Rattle.lin_rows.specs.Tightening.{tightened}
 use Rattle.lin_rows.specs.Combinations.{RunFits}
 use Rattle.farkas_check.specs.Nodes.{PlainNode}
-use Rattle.farkas_check.specs.Refutes.{at_most, above}
 use Rattle.farkas_check.specs.Trees.{Tree, leaf_tree, cut_tree, cases_tree, prefix_of}
 use Rattle.nwa_base.specs.declared.letters.Letter.{Letter}
 use Rattle.letter_acts.specs.Frames.{Columns, globals_of, constants_of, variables_of, results_of, olds_of, places, is_local}
@@ -22,28 +21,14 @@ use Rattle.triple_rows.specs.declared.triples.Triple.{Triple}
 use Rattle.triple_rows.specs.declared.triples.Triple.TheVariants.{Inside, Call, Back}
 use Rattle.triple_rows.specs.Systems.{PlainFits, after_column, is_listed}
 use Rattle.triple_rows.specs.Triples.{system_of}
-use Rattle.nested_predicates.specs.Stamps.{stamps_of, column_stamp}
+use Rattle.nested_predicates.specs.Stamps.{stamps_of}
 use Rattle.nested_predicates.specs.Positions.{Scope, has_return, scopes_after, Position, position_at, positions_of, start_scope}
-use Rattle.nested_predicates.specs.Sums.{Branch, root_of, with_cut, coefficients_at, bound_at}
+use Rattle.nested_predicates.specs.Sums.{root_of}
+use Rattle.nested_predicates.specs.Fitting.{SumsFit}
 use Rattle.nested_predicates.specs.Walking.{is_bool}
 use Rattle.nested_predicates.specs.Interpolants.{scoped_at}
 use Rattle.nested_refutations.specs.Refutations.{Claim, Spot, truth_in, left_at, exposed, Role, spare, branch_row, target_tie, source_tie, opposite_tie, View, Goes, Leaf, atom_roles, is_used, of_claim, stops, leaf_from}
 use Rattle.nested_refutations.specs.Refutations as refutations
-
--- ---- the sums
-
--- the coefficients and the bound of a leaf's sum at a position fit
-pub record SumFits (b : Branch) (parts : List (ℕ × ℤ)) (q : Position) : Type 0 where
-  pub columns : AllByRecursion (λ a. Fits a) (coefficients_at b parts q)
-  pub bound : Fits (bound_at b parts q)
-
--- those of each leaf at each of these positions fit
-abbrev pub SumsFit : List ℕ → List Position → Branch → Tree → Type 0
-SumsFit columns qs b (leaf_tree parts) = AllByRecursion (SumFits b parts) qs
-SumsFit columns qs b (cut_tree c k t u) =
-    SumsFit columns qs (with_cut b (column_stamp columns c) (at_most c k)) t ×
-    SumsFit columns qs (with_cut b (column_stamp columns c) (above c k)) u
-SumsFit columns qs b (cases_tree ts) = Unit {0}
 
 -- ---- the rows of the system of a letter's triple
 
