@@ -1,3 +1,5 @@
 pub mod AgreeingLaws
 pub mod BuildingLaws
 pub mod CountLaws
+mod LeftLaws
+mod SecondLaws

@@ -1,2 +1,4 @@
 pub mod Building
+pub mod Claims
 pub mod Proofs
+pub mod Spots

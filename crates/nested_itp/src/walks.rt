@@ -1,10 +1,11 @@
 //! The walk along a word's tree that gives the refutation of a triple: through the cuts, and by cases through its groups.
 
-ghost use Rattle.std.specs.Prelude.{IsTrue, IfOk, OnOk};
+ghost use Rattle.std.specs.Prelude.{◌≡◌, IsTrue, IfOk, OnOk};
 ghost use Rattle.farkas_check.specs.Nodes.{plain_nodes, is_tree};
+ghost use Rattle.nested_refutations.specs.Refutations.{side_of};
 ghost use Rattle.nested_itp.specs.Building.{IsOpen, IsLeft, OneWaits};
 
-use crate::claims::{Claim, Gives};
+use crate::claims::{Asked, Claim};
 use crate::columns::narrowed;
 use crate::parts::{Meeting, Parts, in_order, number_at};
 use crate::trees::Tree;
@@ -66,12 +67,12 @@ struct Waiting {
     choices: usize,
 }
 
-/// What is asked at a cut.
+/// Where a refutation goes on at a cut.
 #[derive(Clone, Copy)]
-enum Asked {
-    /// This part.
+enum Follow {
+    /// At this part.
     Part(usize),
-    /// A member of a group that is not open.
+    /// At a group that is not open.
     Group,
     /// Nothing, since there is no such claim.
     Nothing,
@@ -152,23 +153,23 @@ impl Goal {
         let Some(found) = self.claims.get_mut(claim) else {
             return Ok(());
         };
-        if !found.is_formula_at(node) {
+        if found.left(node).is_some() {
             return Ok(());
         }
-        let Some(second) = tree.second(node) else {
+        let Some(sides) = tree.sides(node) else {
             found.set_number(node, self.rows);
             self.add_rows(1);
             return Ok(());
         };
-        match found.gives(tree, node, second) {
-            Gives::Part(part) => {
-                left.push(part)?;
+        match found.asked(tree, node, sides) {
+            Asked::OnePart(second) => {
+                left.push(part_of(sides, second))?;
             }
-            Gives::Both => {
-                left.push(second)?;
-                left.push(node.saturating_add(1))?;
+            Asked::BothParts => {
+                left.push(sides.1)?;
+                left.push(sides.0)?;
             }
-            Gives::Group => {
+            Asked::SomePart => {
                 self.groups.push((claim, node))?;
             }
         }
@@ -186,9 +187,8 @@ impl Goal {
     fn choose(&mut self, tree: &Tree, choice: Choice) -> Result<(), AllocError> {
         self.choices.push(choice)?;
         self.note(choice.claim, choice.node, Some(choice.second));
-        match tree.second(choice.node) {
-            Some(second) if choice.second => self.expose(tree, choice.claim, second),
-            Some(_) => self.expose(tree, choice.claim, choice.node.saturating_add(1)),
+        match tree.sides(choice.node) {
+            Some(sides) => self.expose(tree, choice.claim, part_of(sides, choice.second)),
             None => Ok(()),
         }
     }
@@ -228,17 +228,18 @@ impl Goal {
         }
     }
 
-    /// What is asked at a cut, whose second part begins there, by the claim that tells.
-    fn asked(&self, tree: &Tree, claim: usize, node: usize, second: usize) -> Asked {
+    /// Where the refutation goes on at a cut, whose parts begin there, by the claim that tells.
+    fn followed(&self, tree: &Tree, claim: usize, node: usize, sides: (usize, usize)) -> Follow {
         let Some(found) = self.claims.get(claim) else {
-            return Asked::Nothing;
+            return Follow::Nothing;
         };
-        let first = node.saturating_add(1);
-        match (found.gives(tree, node, second), found.chosen(node)) {
-            (Gives::Part(part), _) => Asked::Part(part),
-            (Gives::Both, _) | (Gives::Group, Some(false)) => Asked::Part(first),
-            (Gives::Group, Some(true)) => Asked::Part(second),
-            (Gives::Group, None) => Asked::Group,
+        match found.asked(tree, node, sides) {
+            Asked::OnePart(second) => Follow::Part(part_of(sides, second)),
+            Asked::BothParts => Follow::Part(sides.0),
+            Asked::SomePart => match found.chosen(node) {
+                Some(second) => Follow::Part(part_of(sides, second)),
+                None => Follow::Group,
+            },
         }
     }
 
@@ -262,6 +263,13 @@ impl Goal {
         parts.add_ties(&mut added, tree, &self.claims, node)?;
         in_order(self.alloc, added)
     }
+}
+
+/// The first part of a cut, or the second.
+fn part_of(sides: (usize, usize), second: bool) -> usize
+    ensures { result ≡ side_of second sides.0 sides.1 }
+{
+    if second { sides.1 } else { sides.0 }
 }
 
 /// The walk of one triple.
@@ -330,7 +338,7 @@ impl Walk {
         Ok(Some(spot))
     }
 
-    /// Where the walk goes on at a cut, whose second part begins there; `None` where the refutation cannot go on.
+    /// Where the walk goes on at a cut, whose parts begin there; `None` where the refutation cannot go on.
     fn pass(
         &mut self,
         path: &PathSystem,
@@ -338,7 +346,7 @@ impl Walk {
         parts: &Parts,
         cut: (u32, i128),
         spot: Spot,
-        second: usize,
+        sides: (usize, usize),
     ) -> Result<Option<Spot>, AllocError>
         ensures { OnOk result (IsOpen self.old → IsOpen self.new) }
     {
@@ -346,11 +354,11 @@ impl Walk {
             Meeting::FirstHere => {
                 let col = parts.columns.place(path.column_at(), cut.0);
                 self.nodes.push(Node::Cut { col, k: cut.1 })?;
-                self.wait(spot.part(second), Begin::Side(spot.depth))?;
+                self.wait(spot.part(sides.1), Begin::Side(spot.depth))?;
                 self.goal.add_own(spot.depth)?;
-                Ok(Some(spot.part(spot.node.saturating_add(1))))
+                Ok(Some(spot.part(sides.0)))
             }
-            Meeting::ChosenBy(claim) => self.follow(tree, claim, spot, second),
+            Meeting::ChosenBy(claim) => self.follow(tree, claim, spot, sides),
         }
     }
 
@@ -360,14 +368,14 @@ impl Walk {
         tree: &Tree,
         claim: usize,
         spot: Spot,
-        second: usize,
+        sides: (usize, usize),
     ) -> Result<Option<Spot>, AllocError>
         ensures { OnOk result (IsOpen self.old → IsOpen self.new) }
     {
-        match self.goal.asked(tree, claim, spot.node, second) {
-            Asked::Part(part) => Ok(Some(spot.part(part))),
-            Asked::Group => self.open_group(tree, spot),
-            Asked::Nothing => Ok(None),
+        match self.goal.followed(tree, claim, spot.node, sides) {
+            Follow::Part(part) => Ok(Some(spot.part(part))),
+            Follow::Group => self.open_group(tree, spot),
+            Follow::Nothing => Ok(None),
         }
     }
 
@@ -384,14 +392,14 @@ impl Walk {
     {
         let mut spot = from;
         for _i in 0..u64::MAX {
-            let next = match (nodes.get(spot.node), tree.second(spot.node)) {
+            let next = match (nodes.get(spot.node), tree.sides(spot.node)) {
                 (Some(Node::Leaf(leaf)), _) => {
                     let found = self.goal.leaf(path, tree, parts, spot.node, leaf)?;
                     self.add_leaf(found)?;
                     return Ok(());
                 }
-                (Some(Node::Cut { col, k }), Some(second)) => {
-                    self.pass(path, tree, parts, (*col, *k), spot, second)?
+                (Some(Node::Cut { col, k }), Some(sides)) => {
+                    self.pass(path, tree, parts, (*col, *k), spot, sides)?
                 }
                 _ => None,
             };
