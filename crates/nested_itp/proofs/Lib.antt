@@ -1,5 +1,2 @@
 pub mod AgreeingLaws
-pub mod BuildingLaws
 pub mod CountLaws
-mod LeftLaws
-mod SecondLaws

@@ -1,4 +1,1 @@
-pub mod Building
-pub mod Claims
 pub mod Proofs
-pub mod Spots

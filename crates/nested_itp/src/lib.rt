@@ -2,16 +2,8 @@
 //! each of its letters.
 #![tactic(auto)]
 
-mod claims;
-mod columns;
-mod drafts;
-mod frames;
 mod making;
-mod parts;
 mod proved;
-mod trees;
-mod triples;
-mod walks;
 
 pub use making::interpolants;
 pub use nested_predicates::ItpFault;

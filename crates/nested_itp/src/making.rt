@@ -1,29 +1,30 @@
 //! Nested interpolants made from a refutation.
 
-ghost use Rattle.std.specs.Prelude.{◌≡◌, suc, IsTrue, IfOk, length};
+ghost use Rattle.std.specs.Prelude.{◌≡◌, suc, Err, IsTrue, IfOk, length};
 ghost use Rattle.farkas_check.specs.Nodes.{plain_nodes, is_tree};
 ghost use Rattle.letter_acts.specs.Invariant.{alphabet_of};
 ghost use Rattle.path_rows.specs.Paths.{IsPathOf};
 ghost use Rattle.nested_predicates.specs.Interpolants.{AreInterpolants, RefutesRows, HasCutsUpTo, BeginsTrue, EndsFalse};
 ghost use Rattle.std.specs.List.{AllByRecursion};
+ghost use Rattle.nested_refutations.specs.Numbers.{NumbersFit};
 ghost use Rattle.triple_rows.specs.Triples.{Agrees};
 ghost use Rattle.hoare_check.specs.Decided.{IsProofFor};
 ghost use Rattle.nested_itp.specs.Proofs.{AreProofsOf};
 
 use crate::proved::Interpolants;
-use crate::trees::Tree;
-use crate::triples::{Place, refutation};
 use farkas_check::{Node, Refutation, tree};
 use hoare_check::are_cuts_within;
 use letter_acts::Icfg;
 use nested_predicates::{ItpFault, prefix_sums, triples_of};
-use nwa_base::{Kind, Letter};
 use path_rows::PathSystem;
-use std::alloc::{AllocError, Global};
+use std::alloc::Global;
 use triple_rows::{Proof, Triple, proof};
+use triple_steps::{Step, steps};
+use triple_walks::{Tree, refutation};
 
 /// The prefix predicates of a word under a refutation of its rows, no branch of which has more than 64 cuts, with a proved
-/// triple for each letter.
+/// triple for each letter. `Past` only where a cut is at no column of the word, or a number of the definition does not fit: of the
+/// predicates, of the systems of their triples, or of the refutations of these.
 pub fn interpolants(
     alloc: Global,
     icfg: &Icfg,
@@ -39,90 +40,59 @@ pub fn interpolants(
     ensures predicates { IfOk result (λ i. length i.preds ≡ suc (length path.now.word)) }
     ensures triples { IfOk result (λ i. length i.proofs ≡ length path.now.word) }
     ensures proved { IfOk result (λ i. AllByRecursion (IsProofFor (alphabet_of icfg.now)) i.proofs) }
+    ensures past { result ≡ Err ItpFault.Past → NumbersFit icfg.now path.now.word proof.now → ⊥ }
 {
     let _valid = icfg.acts();
     let sums = prefix_sums(alloc, icfg, path, proof)?;
-    let letters = path.word().letters();
+    if !are_cuts_up_to(proof.nodes(), path.column_at().len()) {
+        return Err(ItpFault::Past);
+    }
     let triples = triples_of(alloc, path.word(), &sums.preds)?;
+    let steps = steps(alloc, icfg, path, &sums.returned)?;
     let tree = Tree::of(alloc, proof.nodes(), sums.table)?;
     let proofs = proofs(
         alloc,
         icfg,
-        path,
         proof.nodes(),
         &tree,
-        letters,
-        &sums.returned,
+        path.row_at().len(),
+        &steps,
         &triples,
     )?;
     Ok(Interpolants::new(sums.preds, proofs))
 }
 
-/// The proofs of the triples of a word's letters, by the word's refutation with these nodes.
+/// Whether each cut is at one of so many columns.
+fn are_cuts_up_to(nodes: &[Node], columns: usize) -> bool {
+    for node in nodes {
+        if let Node::Cut { col, .. } = node {
+            if *col as usize >= columns {
+                return false;
+            }
+        }
+    }
+    true
+}
+
+/// The proofs of the triples of a word's letters, by the word's refutation with these nodes. The word has so many rows.
 fn proofs(
     alloc: Global,
     icfg: &Icfg,
-    path: &PathSystem,
     nodes: &[Node],
     tree: &Tree,
-    letters: &[Letter],
-    returned: &[bool],
+    rows: usize,
+    steps: &[Step],
     triples: &[Triple],
 ) -> Result<Vec<Proof>, ItpFault>
     requires { AllByRecursion (Agrees (alphabet_of icfg.now)) triples.now }
     ensures { IfOk result (λ v. AreProofsOf (alphabet_of icfg.now) triples.now v.items) }
 {
     let mut proofs = Vec::with_capacity(alloc, triples.len())?;
-    let mut calls = Vec::new(alloc);
     for at in 0..triples.len() {
-        let place = place_at(letters, returned, at, &calls);
-        step(&mut calls, letters, at)?;
-        let refuted = refutation(alloc, icfg, path, nodes, tree, place)?;
+        let refuted = refutation(alloc, nodes, tree, &steps[at], rows)?;
         proofs.push(proved(alloc, icfg, &triples[at], refuted)?)?;
     }
     Ok(proofs)
-}
-
-/// The letter behind a position, where the open calls stand at these positions, the innermost last.
-fn place_at(letters: &[Letter], returned: &[bool], at: usize, calls: &[usize]) -> Place {
-    let letter = match letters.get(at) {
-        Some(letter) => letter.id,
-        None => 0,
-    };
-    let call = match calls.last() {
-        Some(call) => *call,
-        None => at,
-    };
-    Place {
-        letter,
-        at,
-        call,
-        returns: matches!(returned.get(at), Some(true)),
-    }
-}
-
-/// Goes on by the letter behind a position.
-fn step(calls: &mut Vec<usize>, letters: &[Letter], at: usize) -> Result<(), AllocError> {
-    match letters.get(at) {
-        Some(
-            Letter {
-                kind: Kind::Call,
-                ..
-            },
-        ) => {
-            calls.push(at)?;
-        }
-        Some(
-            Letter {
-                kind: Kind::Back,
-                ..
-            },
-        ) => {
-            let _ = calls.pop();
-        }
-        _ => {}
-    }
-    Ok(())
 }
 
 /// The proof of a triple that agrees with its letter, by the refutation with these nodes. `Past` where it does not refute its system.

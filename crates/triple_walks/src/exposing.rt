@@ -1,0 +1,95 @@
+//! The rows and groups that a claim gives.
+
+ghost use Rattle.std.specs.Prelude.{◌≡◌, ℕ, List, IfOk};
+ghost use Rattle.nested_refutations.specs.Refutations as refutations;
+ghost use Rattle.nested_refutations.specs.Refutations.{Spot, side_of};
+ghost use Rattle.triple_walks.specs.Telling.{Tells, IsExposed};
+
+use crate::claims::{Asked, Claim};
+use crate::trees::Tree;
+use std::alloc::{AllocError, Global};
+
+/// What a claim gives: the leaves whose atoms are rows, and the cuts that are groups, by their numbers.
+#[derive(Drop)]
+pub(crate) struct Exposed {
+    pub(crate) leaves: Vec<usize>,
+    pub(crate) groups: Vec<usize>,
+}
+
+/// What a claim gives at a node.
+pub(crate) fn exposed(
+    alloc: Global,
+    tree: &Tree,
+    claim: &Claim,
+    node: usize,
+) -> Result<Exposed, AllocError>
+    ensures { IfOk result (λ e. (columns : List ℕ) (c : refutations.Claim) (s : Spot) → node ≡ s.node → Tells columns tree.now s c claim.now → IsExposed (refutations.exposed columns c s.node s.branch s.tree) e) }
+{
+    let mut found = Exposed {
+        leaves: Vec::new(alloc),
+        groups: Vec::new(alloc),
+    };
+    let mut left = Vec::new(alloc);
+    left.push(node)?;
+    for _i in 0..u64::MAX {
+        let Some(at) = left.pop() else {
+            return Ok(found);
+        };
+        found.expose(tree, claim, at, &mut left)?;
+    }
+    Err(AllocError)
+}
+
+impl Exposed {
+    /// Adds what a claim gives at a node; parts that are asked are left to be added, the next one last.
+    fn expose(
+        &mut self,
+        tree: &Tree,
+        claim: &Claim,
+        node: usize,
+        left: &mut Vec<usize>,
+    ) -> Result<(), AllocError> {
+        if claim.left(node).is_some() {
+            return Ok(());
+        }
+        match tree.sides(node) {
+            Some(sides) => self.expose_cut(claim.asked(tree, node, sides), node, sides, left),
+            None => {
+                self.leaves.push(node)?;
+                Ok(())
+            }
+        }
+    }
+
+    /// The same at a cut, whose parts begin there.
+    fn expose_cut(
+        &mut self,
+        asked: Asked,
+        node: usize,
+        sides: (usize, usize),
+        left: &mut Vec<usize>,
+    ) -> Result<(), AllocError> {
+        match asked {
+            Asked::OnePart(second) => {
+                left.push(part_of(sides, second))?;
+                Ok(())
+            }
+            Asked::BothParts => {
+                left.push(sides.1)?;
+                left.push(sides.0)?;
+                Ok(())
+            }
+            Asked::SomePart => {
+                self.groups.push(node)?;
+                Ok(())
+            }
+        }
+    }
+}
+
+/// The first part of a cut, or the second.
+pub(crate) fn part_of(sides: (usize, usize), second: bool) -> usize
+    ensures { result ≡ side_of second sides.0 sides.1 }
+{
+    if second { sides.1 } else { sides.0 }
+}

@@ -1,0 +1,136 @@
+//! The refutation of a letter's triple.
+
+ghost use Rattle.std.specs.Prelude.{◌≡◌, ℕ, List, IfOk, length};
+ghost use Rattle.std.specs.List.{AllByRecursion};
+ghost use Rattle.farkas_check.specs.Nodes.{plain_nodes};
+ghost use Rattle.farkas_check.specs.Trees as trees;
+ghost use Rattle.nwa_base.specs.declared.letters.Letter.{Letter};
+ghost use Rattle.letter_acts.specs.Invariant.{Graph};
+ghost use Rattle.nested_predicates.specs.Stamps.{stamps_of};
+ghost use Rattle.nested_predicates.specs.Positions.{positions_of};
+ghost use Rattle.nested_predicates.specs.Sums.{root_of};
+ghost use Rattle.nested_refutations.specs.Numbers as numbers;
+ghost use Rattle.triple_steps.specs.Steps.{IsStep};
+ghost use Rattle.triple_walks.specs.Spots.{IsTree};
+ghost use Rattle.triple_walks.specs.Putting.{IsPlaced, IsPutFor};
+
+use crate::claims::Claim;
+use crate::exposing::exposed;
+use crate::goals::{Goal, Role};
+use crate::trees::Tree;
+use crate::walks::{Guide, run};
+use farkas_check::Node;
+use std::alloc::{AllocError, Global};
+use triple_steps::{Section, Step};
+
+/// The refutation of a step's triple along the tree of the refutation of a word's rows, which has these nodes: where one of its
+/// claims is false the leaf that takes its row `0 <= -1`, else what is put down from the root on. The word has so many rows.
+pub fn refutation(
+    alloc: Global,
+    nodes: &[Node],
+    tree: &Tree,
+    step: &Step,
+    rows: usize,
+) -> Result<Vec<Node>, AllocError>
+    requires placed { AllByRecursion (IsPlaced step.now.columns) (plain_nodes nodes.now) }
+    ensures { IfOk result (λ v. (g : Graph) (w : List Letter) (t : trees.Tree) (s : numbers.Step) → IsTree (stamps_of g w).columns (positions_of g w) (root_of g w) t (plain_nodes nodes.now) tree.now → IsStep g w t s step.now → rows ≡ length (root_of g w).rows → IsPutFor g w t s (plain_nodes v.items)) }
+{
+    let claims = claims_of(alloc, tree, step)?;
+    let guide = Guide {
+        nodes,
+        tree,
+        claims: claims.as_slice(),
+        returns: step.returns,
+        columns: &step.columns,
+        rows,
+    };
+    let mut goal = Goal::new(alloc);
+    for i in 0..step.sections.len() {
+        if is_false(&guide, step.sections[i]) {
+            return falsity(alloc, goal.roles.len());
+        }
+        add_section(alloc, &guide, &mut goal, step.sections[i])?;
+    }
+    run(alloc, &guide, goal)
+}
+
+/// What the system says of the predicates, of the target last.
+fn claims_of(alloc: Global, tree: &Tree, step: &Step) -> Result<Vec<Claim>, AllocError> {
+    let mut claims = Vec::new(alloc);
+    for i in 0..step.sources.len() {
+        claims.push(Claim::of(alloc, tree, step.sources[i], false)?)?;
+    }
+    claims.push(Claim::of(alloc, tree, step.target, true)?)?;
+    Ok(claims)
+}
+
+/// Whether a section is that of a claim that is false.
+fn is_false(guide: &Guide, section: Section) -> bool {
+    match section {
+        Section::Claim(claim) => match guide.claims.get(claim) {
+            Some(found) => found.is_false(),
+            None => false,
+        },
+        Section::Spare(_) | Section::Rows { .. } | Section::Tie(_) => false,
+    }
+}
+
+/// Adds the rows of a section.
+fn add_section(
+    alloc: Global,
+    guide: &Guide,
+    goal: &mut Goal,
+    section: Section,
+) -> Result<(), AllocError> {
+    match section {
+        Section::Claim(claim) => add_claim(alloc, guide, goal, claim),
+        Section::Spare(count) => add_spares(goal, count),
+        Section::Rows { first, count } => add_rows(goal, first, count),
+        Section::Tie(tie) => goal.add(Role::Tied(tie)),
+    }
+}
+
+/// Adds what the claim with a number gives, if there is one.
+fn add_claim(
+    alloc: Global,
+    guide: &Guide,
+    goal: &mut Goal,
+    claim: usize,
+) -> Result<(), AllocError> {
+    let Some(found) = guide.claims.get(claim) else {
+        return Ok(());
+    };
+    let given = exposed(alloc, guide.tree, found, 0)?;
+    goal.give(claim, guide.is_used(claim), &given)
+}
+
+/// Adds rows that no leaf uses.
+fn add_spares(goal: &mut Goal, count: usize) -> Result<(), AllocError> {
+    for _i in 0..count {
+        goal.add(Role::Spare)?;
+    }
+    Ok(())
+}
+
+/// Adds rows with the multipliers of rows of the word. No memory holds as many where their numbers do not fit.
+fn add_rows(goal: &mut Goal, first: usize, count: usize) -> Result<(), AllocError> {
+    for i in 0..count {
+        match first.checked_add(i) {
+            Some(row) => goal.add(Role::Word(row))?,
+            None => return Err(AllocError),
+        }
+    }
+    Ok(())
+}
+
+/// The refutation that takes the row with this number alone. No memory holds as many rows where the number does not fit.
+fn falsity(alloc: Global, row: usize) -> Result<Vec<Node>, AllocError> {
+    if row > u32::MAX as usize {
+        return Err(AllocError);
+    }
+    let mut parts = Vec::new(alloc);
+    parts.push((row as u32, 1))?;
+    let mut nodes = Vec::new(alloc);
+    nodes.push(Node::Leaf(parts))?;
+    Ok(nodes)
+}

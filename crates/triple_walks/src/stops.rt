@@ -1,0 +1,154 @@
+//! Where a triple's refutation stops on its way along the word's tree.
+
+ghost use Rattle.std.specs.Prelude.{◌≡◌, ℕ, List, IfOk, map, reverse};
+ghost use Rattle.farkas_check.specs.Nodes.{PlainNode};
+ghost use Rattle.nested_refutations.specs.Refutations as refutations;
+ghost use Rattle.nested_refutations.specs.Refutations.{View, stops_at};
+ghost use Rattle.triple_walks.specs.Stops.{taken_of, IsPlace, IsStop};
+
+use crate::claims::{Asked, Claim};
+use crate::exposing::part_of;
+use crate::trees::Tree;
+use std::alloc::AllocError;
+
+/// A node of the word's tree, and how many cuts stand above it.
+#[derive(Clone, Copy)]
+pub(crate) struct Spot {
+    pub(crate) node: usize,
+    pub(crate) depth: usize,
+}
+
+/// A member that is taken of a group, which is a claim's at a cut.
+#[derive(Clone, Copy)]
+pub(crate) struct Taken {
+    pub(crate) claim: usize,
+    pub(crate) node: usize,
+    pub(crate) second: bool,
+}
+
+/// Where the refutation cannot go on alone.
+#[derive(Clone, Copy)]
+pub(crate) enum Stop {
+    /// At a leaf with this number.
+    Leaf(usize),
+    /// At a cut of its own.
+    Cut(Spot),
+    /// At a group of which no member was taken.
+    Group(Spot),
+}
+
+/// Where the refutation goes on at a cut.
+#[derive(Clone, Copy)]
+enum Way {
+    /// At the part that begins there.
+    Part(usize),
+    /// Not beyond a cut of its own.
+    Own,
+    /// Not beyond a group of which no member was taken.
+    Group,
+}
+
+impl Spot {
+    /// A part of the cut that stands here. No memory holds as many cuts where their number does not fit.
+    pub(crate) fn part(self, node: usize) -> Result<Spot, AllocError> {
+        match self.depth.checked_add(1) {
+            Some(depth) => Ok(Spot { node, depth }),
+            None => Err(AllocError),
+        }
+    }
+}
+
+/// Where the refutation of a triple of which this is said stops from a node on, where these members were taken, the last one last.
+pub(crate) fn stop(
+    tree: &Tree,
+    claims: &[Claim],
+    returns: bool,
+    taken: &[Taken],
+    from: Spot,
+) -> Result<Stop, AllocError>
+    ensures { IfOk result (λ p. (v : View) (nodes : List PlainNode) (rows : ℕ) (s : refutations.Spot) → v.returns ≡ returns → IsPlace v.columns nodes tree.now v.claims claims.now rows s from → IsStop v.columns nodes tree.now v.claims claims.now rows (stops_at v (reverse (map taken_of taken.now)) s) p) }
+{
+    let mut spot = from;
+    for _i in 0..u64::MAX {
+        let Some(sides) = tree.sides(spot.node) else {
+            return Ok(Stop::Leaf(spot.node));
+        };
+        match way(tree, claims, returns, taken, spot.node, sides) {
+            Way::Part(part) => spot = spot.part(part)?,
+            Way::Own => return Ok(Stop::Cut(spot)),
+            Way::Group => return Ok(Stop::Group(spot)),
+        }
+    }
+    Err(AllocError)
+}
+
+/// Where the refutation goes on at a cut, whose parts begin there.
+fn way(
+    tree: &Tree,
+    claims: &[Claim],
+    returns: bool,
+    taken: &[Taken],
+    node: usize,
+    sides: (usize, usize),
+) -> Way {
+    match teller(tree, claims, returns, node) {
+        None => Way::Own,
+        Some(claim) => followed(
+            claims[claim].asked(tree, node, sides),
+            taken_at(taken, claim, node),
+            sides,
+        ),
+    }
+}
+
+/// The number of the claim that tells which part of a cut is followed, of these claims, the target last; `None` where the cut is
+/// one of the triple's own.
+fn teller(tree: &Tree, claims: &[Claim], returns: bool, node: usize) -> Option<usize> {
+    let count = claims.len();
+    if count == 0 {
+        return None;
+    }
+    let target = count - 1;
+    for i in 0..target {
+        if is_told(tree, &claims[i], returns, node) {
+            return Some(i);
+        }
+    }
+    if tree.is_counted(node, claims[target].position) {
+        None
+    } else {
+        Some(target)
+    }
+}
+
+/// Whether a source tells which part of a cut is followed.
+fn is_told(tree: &Tree, source: &Claim, returns: bool, node: usize) -> bool {
+    if returns {
+        false
+    } else {
+        tree.is_counted(node, source.position)
+    }
+}
+
+/// Where it goes on where this is asked, and this member of the group is taken, if one is.
+fn followed(asked: Asked, member: Option<bool>, sides: (usize, usize)) -> Way {
+    match asked {
+        Asked::OnePart(second) => Way::Part(part_of(sides, second)),
+        Asked::BothParts => Way::Part(sides.0),
+        Asked::SomePart => match member {
+            Some(second) => Way::Part(part_of(sides, second)),
+            None => Way::Group,
+        },
+    }
+}
+
+/// The member that was taken of the group of a claim at a cut. Few groups are open at a time, since each doubles the refutation.
+fn taken_at(taken: &[Taken], claim: usize, node: usize) -> Option<bool> {
+    for i in 0..taken.len() {
+        let at = taken[taken.len() - 1 - i];
+        if at.claim == claim && at.node == node {
+            return Some(at.second);
+        }
+    }
+    None
+}
