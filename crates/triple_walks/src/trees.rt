@@ -11,7 +11,7 @@ use triple_rows::PredNode;
 
 /// The tree of a refutation of a word's rows.
 #[derive(Drop)]
-pub(crate) struct Tree {
+pub struct Tree {
     /// For each node the node that stands for it at each position.
     table: Vec<Vec<PredNode>>,
     /// For each node where its second part begins, if it is a cut; the first follows it.
@@ -20,7 +20,7 @@ pub(crate) struct Tree {
 
 impl Tree {
     /// That of these nodes, for each of which a node stands at each position.
-    pub(crate) fn of(
+    pub fn of(
         alloc: Global,
         nodes: &[Node],
         table: Vec<Vec<PredNode>>,
