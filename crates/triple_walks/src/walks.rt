@@ -12,6 +12,7 @@ use triple_steps::Columns;
 
 /// What a walk is led by: the word's refutation, what the system says of the predicates, the target last, whether only the target
 /// is followed, where the word's columns stand, and how many rows the word has.
+#[derive(Drop)]
 pub(crate) struct Guide<'a> {
     pub(crate) nodes: &'a [Node],
     pub(crate) tree: &'a Tree,
