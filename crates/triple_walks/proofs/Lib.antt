@@ -1,2 +1,3 @@
+mod GoalLaws
 mod LeftLaws
 mod SecondLaws
