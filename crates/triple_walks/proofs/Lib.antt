@@ -1,3 +1,4 @@
 mod GoalLaws
 mod LeftLaws
 mod SecondLaws
+mod WalkLaws

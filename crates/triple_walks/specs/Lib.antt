@@ -5,3 +5,4 @@ pub mod Putting
 pub mod Spots
 pub mod Stops
 pub mod Telling
+pub mod Walking

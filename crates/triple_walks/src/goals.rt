@@ -30,6 +30,21 @@ pub(crate) struct Group {
     pub(crate) node: usize,
 }
 
+impl Group {
+    ghost use Rattle.std.specs.Prelude.{◌≡◌};
+
+    /// A member of it.
+    pub(crate) fn member(self, second: bool) -> Taken
+        ensures { result ≡ record { claim = self.claim; node = self.node; second = second } }
+    {
+        Taken {
+            claim: self.claim,
+            node: self.node,
+            second,
+        }
+    }
+}
+
 /// How much there was of a goal.
 #[derive(Clone, Copy)]
 pub(crate) struct Mark {
