@@ -1,2 +1,3 @@
+mod LeafLaws
 mod LeftLaws
 mod SecondLaws
