@@ -1,3 +1,4 @@
+pub mod AscendLaws
 mod LeafLaws
 mod LeftLaws
 mod SecondLaws

@@ -1,6 +1,8 @@
 -- What is read at a leaf: of the sums of claims, and of the rows' roles.
 use Rattle.std.specs.Prelude.{◌≡◌, ℕ, ◌<◌, ℤ, pos, neg_ℤ, Bool, true, false, ◌&&◌, List, [], length, nat_eq, Option, None, Some, unwrap_or, slice_get, slice_set, if◌then◌else◌}
 use Rattle.math_facts.specs.Terms.{coefficient}
+use Rattle.lin_rows.specs.Rows.{AscendsFrom}
+use Rattle.farkas_check.specs.Nodes.{PlainNode, leaf, cut, cases}
 use Rattle.farkas_check.specs.Trees.{leaf_tree}
 use Rattle.triple_rows.specs.declared.predicates.PredNode.{PredNode}
 use Rattle.triple_rows.specs.declared.predicates.PredNode.TheVariants.{Truth, Atom, And, Or}
@@ -14,6 +16,12 @@ use Rattle.triple_walks.specs.declared.trees.Tree as code
 use Rattle.triple_walks.specs.declared.claims.Claim as claims
 use Rattle.triple_walks.specs.declared.goals.Role as row
 use Rattle.triple_walks.specs.declared.goals.Role.TheVariants as rows
+
+-- the parts of a leaf ascend by row
+abbrev pub Ascends : PlainNode → Type 0
+Ascends (leaf parts) = AscendsFrom 0 parts
+Ascends (cut c k) = Unit {0}
+Ascends (cases n) = Unit {0}
 
 -- ---- sums
 
