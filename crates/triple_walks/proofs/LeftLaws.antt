@@ -1,6 +1,6 @@
 -- What is left of a predicate at each node, which is read from the end of the nodes' list.
-use Rattle.std.proofs.Common.{◌≡◌, ◌∙◌, ℕ, zero, suc, ◌+◌, ◌-◌, ◌<◌, ◌≤◌, ℤ, Bool, true, false, List, [], ◌∷◌, ◌++◌, length, map, drop, get_or, reverse, append_assoc, length-append, refl, sym, ap, arith, Option, None, Some}
-use Rattle.std.specs.Prelude.{unwrap_or, slice_get, if◌then◌else◌}
+use Rattle.std.proofs.Common.{◌≡◌, ◌∙◌, ℕ, zero, suc, ◌+◌, ◌-◌, ◌<◌, ◌≤◌, ℤ, Bool, true, false, List, [], ◌∷◌, ◌++◌, length, map, drop, get_or, reverse, append_assoc, refl, sym, ap, arith, Option, None, Some}
+use Rattle.std.specs.Prelude.{slice_get, if◌then◌else◌}
 use Rattle.std.specs.Global.{Vec}
 use Rattle.std.proofs.lemmas.List.{append-nil, drop_more, reverse-append, map-append}
 use Rattle.farkas_check.specs.Nodes.{PlainNode}
@@ -202,37 +202,3 @@ lefts_are x p i lefts turned roots l h r columns qs b t nodes c k e =
     r ∙ lefts_all x.table.items p i lefts roots l h ∙
     ap (λ (z : List (Option PredNode)). lefts_from z) (heads_of_column p x.table.items ∙ ap (λ (z : List (List PredNode)). heads p z) k.rows ∙ sym (append-nil (heads p rows))) ∙
     lefts_tree columns qs p c e 0 b t [] k.uncased ∙ append-nil (lefts_of columns c b t)
-
--- ---- what is noted of nodes
-
--- nothing is, of the first ones
-pub record AreNone (count : ℕ) (numbers : List ℕ) (chosen : List (Option Bool)) : Type 0 where
-  pub as_many : length numbers ≡ count
-  pub groups : length chosen ≡ count
-  pub none : (node : ℕ) → unwrap_or (slice_get chosen node) None ≡ None
-
-none_behind : (chosen : List (Option Bool)) → ((node : ℕ) → unwrap_or (slice_get chosen node) None ≡ None) → (node : ℕ) → unwrap_or (slice_get (chosen ++ None ∷ []) node) None ≡ None
-none_behind [] h zero = refl
-none_behind [] h (suc node) = refl
-none_behind (x ∷ chosen) h zero = h zero
-none_behind (x ∷ chosen) h (suc node) = none_behind chosen (λ (m : ℕ). h (suc m)) node
-
-pub none_at_first : (numbers : List ℕ) (chosen : List (Option Bool)) → numbers ≡ [] → chosen ≡ [] → AreNone 0 numbers chosen
-none_at_first numbers chosen e f = record {
-  as_many = ap (λ (l : List ℕ). length l) e;
-  groups = ap (λ (l : List (Option Bool)). length l) f;
-  none = λ (node : ℕ). ap (λ (l : List (Option Bool)). unwrap_or (slice_get l node) None) f;
-}
-
-pub none_more : (count number : ℕ) (numbers more : List ℕ) (chosen later : List (Option Bool)) → AreNone count numbers chosen → more ≡ numbers ++ number ∷ [] → later ≡ chosen ++ None ∷ [] →
-    AreNone (count + 1) more later
-none_more count number numbers more chosen later h e f =
-    let x : length more ≡ length numbers + 1 = ap (λ (l : List ℕ). length l) e ∙ length-append numbers (number ∷ []) in
-    let y : length later ≡ length chosen + 1 = ap (λ (l : List (Option Bool)). length l) f ∙ length-append chosen (None ∷ []) in
-    let a = h.as_many in
-    let g = h.groups in
-    record {
-      as_many = omega (arith, x, a);
-      groups = omega (arith, y, g);
-      none = λ (node : ℕ). ap (λ (l : List (Option Bool)). unwrap_or (slice_get l node) None) f ∙ none_behind chosen h.none node;
-    }

@@ -1,2 +1,4 @@
 mod LeftLaws
+pub mod ListedLaws
 mod SecondLaws
+pub mod TellingLaws

@@ -1,5 +1,5 @@
 -- What a triple's system says of its predicates, as it is kept: by node what is left of a predicate.
-use Rattle.std.specs.Prelude.{◌≡◌, ℕ, Bool, true, false, not, List, drop, length, Option, None, Some, unwrap_or, slice_get, if◌then◌else◌}
+use Rattle.std.specs.Prelude.{◌≡◌, ℕ, Bool, true, false, not, List, [], ◌∷◌, drop, length, Option, None, Some, unwrap_or, slice_get, if◌then◌else◌}
 use Rattle.farkas_check.specs.Trees.{Tree}
 use Rattle.triple_rows.specs.declared.predicates.PredNode.{PredNode}
 use Rattle.triple_rows.specs.declared.predicates.PredNode.TheVariants.{Truth, Atom, And, Or}
@@ -55,6 +55,13 @@ pub record IsClaim (columns : List ℕ) (qs : List Position) (b : Branch) (t : T
   pub position : slice_get qs x.position ≡ Some c.position
   pub is_denied : x.denied ≡ c.is_denied
   pub lefts : x.left.items ≡ lefts_of columns c b t
+
+-- each claim is this one
+abbrev pub AreClaims : List ℕ → List Position → Branch → Tree → List Claim → List code.Claim → Type 0
+AreClaims columns qs b t [] [] = Unit {0}
+AreClaims columns qs b t [] (y ∷ ys) = ⊥
+AreClaims columns qs b t (c ∷ cs) [] = ⊥
+AreClaims columns qs b t (c ∷ cs) (y ∷ ys) = IsClaim columns qs b t c y × AreClaims columns qs b t cs ys
 
 -- what is left at a node
 abbrev pub left_of : code.Claim → ℕ → Option Bool

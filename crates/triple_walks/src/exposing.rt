@@ -16,8 +16,8 @@ pub(crate) struct Exposed {
     pub(crate) groups: Vec<usize>,
 }
 
-/// What a claim gives at a node.
-pub(crate) fn exposed(
+/// What a claim gives from a node on.
+pub(crate) fn exposed_from(
     alloc: Global,
     tree: &Tree,
     claim: &Claim,

@@ -59,7 +59,7 @@ impl Spot {
 }
 
 /// Where the refutation of a triple of which this is said stops from a node on, where these members were taken, the last one last.
-pub(crate) fn stop(
+pub(crate) fn stop_from(
     tree: &Tree,
     claims: &[Claim],
     returns: bool,
@@ -73,7 +73,7 @@ pub(crate) fn stop(
         let Some(sides) = tree.sides(spot.node) else {
             return Ok(Stop::Leaf(spot.node));
         };
-        match way(tree, claims, returns, taken, spot.node, sides) {
+        match way_at(tree, claims, returns, taken, spot.node, sides) {
             Way::Part(part) => spot = spot.part(part)?,
             Way::Own => return Ok(Stop::Cut(spot)),
             Way::Group => return Ok(Stop::Group(spot)),
@@ -83,7 +83,7 @@ pub(crate) fn stop(
 }
 
 /// Where the refutation goes on at a cut, whose parts begin there.
-fn way(
+fn way_at(
     tree: &Tree,
     claims: &[Claim],
     returns: bool,
