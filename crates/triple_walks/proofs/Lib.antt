@@ -1,3 +1,4 @@
+mod ExposeLaws
 mod LeftLaws
 pub mod ListedLaws
 mod SecondLaws

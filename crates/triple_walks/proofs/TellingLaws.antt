@@ -1,20 +1,21 @@
 -- What is read of the word's tree, and of the claims on it, from a node on and from the nodes below it on.
 use Rattle.std.proofs.Common.{◌≡◌, ◌∙◌, ℕ, zero, suc, ℤ, Bool, true, false, List, [], ◌∷◌, ◌++◌, length, map, refl, sym, ap, subst, Option, None, Some}
-use Rattle.std.specs.Prelude.{unwrap_or, slice_get}
+use Rattle.std.specs.Prelude.{unwrap_or, slice_get, if◌then◌else◌}
 use Rattle.std.specs.Global.{Vec}
 use Rattle.std.specs.List.{AllByRecursion}
 use Rattle.std.proofs.lemmas.List.{append-nil}
 use Rattle.farkas_check.specs.Nodes.{PlainNode}
 use Rattle.farkas_check.specs.Trees.{Tree, leaf_tree, cut_tree, cases_tree}
 use Rattle.triple_rows.specs.declared.predicates.PredNode.{PredNode}
+use Rattle.triple_rows.specs.declared.predicates.PredNode.TheVariants.{And, Or}
 use Rattle.nested_predicates.specs.Stamps.{column_stamp}
-use Rattle.nested_predicates.specs.Positions.{Position}
+use Rattle.nested_predicates.specs.Positions.{Position, is_counted}
 use Rattle.nested_predicates.specs.Sums.{Branch}
 use Rattle.nested_predicates.specs.Layouts.{leaf_node}
 use Rattle.nested_predicates.specs.Tables.{cut_node_at, row_of_node}
 use Rattle.nested_refutations.specs.Refutations.{Spot, Claim, low_side, high_side, truth_in, left_at, Asked, one_part, both_parts, some_part, asked_at, Exposed, parts_exposed, unless_truth, atom_exposed, exposed}
-use Rattle.triple_walks.specs.Spots.{HasNoCases, Everywhere, listed, node_of, second_of, IsTree, in_row, with_second}
-use Rattle.triple_walks.specs.Claims.{IsClaim, AreClaims}
+use Rattle.triple_walks.specs.Spots.{HasNoCases, Everywhere, listed, node_of, second_of, IsTree, in_row, node_in, is_counted_in, with_second}
+use Rattle.triple_walks.specs.Claims.{IsClaim, AreClaims, left_of, asked_where, asked_in}
 use Rattle.triple_walks.specs.Telling.{node_at, IsNode, Tells, AllTell, IsKnown}
 use Rattle.triple_walks.proofs.ListedLaws.{everywhere_listed, prefix_listed, seconds_listed, everywhere_both}
 use Rattle.triple_walks.specs.declared.trees.Tree as code_trees
@@ -233,3 +234,36 @@ told_long columns x s [] [] h = refl
 told_long columns x s [] (y ∷ ys) h = absurd h
 told_long columns x s (c ∷ cs) [] h = absurd h
 told_long columns x s (c ∷ cs) (y ∷ ys) h = ap suc (told_long columns x s cs ys h.1)
+
+-- ---- of one claim at a node
+
+pub everywhere_here : (P : Spot → Type 0) (columns : List ℕ) (n : ℕ) (b : Branch) (t : Tree) → Everywhere P columns n b t → P (spot n b t)
+everywhere_here P columns n b (leaf_tree parts) h = h
+everywhere_here P columns n b (cut_tree c k t u) h = h.0
+everywhere_here P columns n b (cases_tree ts) h = absurd h
+
+pub tells_here : (columns : List ℕ) (x : code_trees.Tree) (s : Spot) (c : Claim) (y : code.Claim) → Tells columns x s c y → IsNode columns x c y s
+tells_here columns x s c y h = everywhere_here (IsNode columns x c y) columns s.node s.branch s.tree h.nodes
+
+cut_counted : (b : Bool) → is_counted_in (Some (if b then Or 2 else And 2)) ≡ b
+cut_counted true = refl
+cut_counted false = refl
+
+-- whether a cut is counted
+pub counted_told : (columns : List ℕ) (x : code_trees.Tree) (n : ℕ) (b : Branch) (col : ℕ) (k : ℤ) (t u : Tree) (c : Claim) (y : code.Claim) → Tells columns x (spot n b (cut_tree col k t u)) c y →
+    is_counted_in (node_in x n y.position) ≡ is_counted c.position (column_stamp columns col)
+counted_told columns x n b col k t u c y h = ap is_counted_in h.nodes.0.node ∙ cut_counted (is_counted c.position (column_stamp columns col))
+
+-- what is asked there
+pub asked_told : (columns : List ℕ) (x : code_trees.Tree) (n : ℕ) (b : Branch) (col : ℕ) (k : ℤ) (t u : Tree) (c : Claim) (y : code.Claim) → Tells columns x (spot n b (cut_tree col k t u)) c y →
+    asked_in x y n ((low_side columns n b col k t).node, (high_side columns n b col k t u).node) ≡
+    asked_at c (column_stamp columns col) (truth_in (left_at columns c (low_side columns n b col k t).branch t)) (truth_in (left_at columns c (high_side columns n b col k t u).branch u))
+asked_told columns x n b col k t u c y h =
+    let low : Spot = low_side columns n b col k t in
+    let high : Spot = high_side columns n b col k t u in
+    let first : left_of y low.node ≡ truth_in (left_at columns c low.branch t) = (everywhere_here (IsNode columns x c y) columns low.node low.branch t h.nodes.1).left in
+    let second : left_of y high.node ≡ truth_in (left_at columns c high.branch u) = (everywhere_here (IsNode columns x c y) columns high.node high.branch u h.nodes.2).left in
+    ap (λ (z : Bool). asked_where z y.denied (left_of y low.node) (left_of y high.node)) (counted_told columns x n b col k t u c y h) ∙
+    ap (λ (z : Bool). asked_where (is_counted c.position (column_stamp columns col)) z (left_of y low.node) (left_of y high.node)) h.is_denied ∙
+    ap (λ (o : Option Bool). asked_where (is_counted c.position (column_stamp columns col)) c.is_denied o (left_of y high.node)) first ∙
+    ap (λ (o : Option Bool). asked_where (is_counted c.position (column_stamp columns col)) c.is_denied (truth_in (left_at columns c low.branch t)) o) second

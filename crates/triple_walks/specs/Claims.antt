@@ -6,7 +6,8 @@ use Rattle.triple_rows.specs.declared.predicates.PredNode.TheVariants.{Truth, At
 use Rattle.nested_predicates.specs.Positions.{Position}
 use Rattle.nested_predicates.specs.Sums.{Branch}
 use Rattle.nested_refutations.specs.Refutations.{Claim, is_same, truth_in, left_at, Asked, one_part, both_parts, some_part, each_asked, some_asked}
-use Rattle.triple_walks.specs.Spots.{listed}
+use Rattle.triple_walks.specs.Spots.{listed, node_in, is_counted_in}
+use Rattle.triple_walks.specs.declared.trees.Tree as code_trees
 use Rattle.triple_walks.specs.declared.claims.Claim as code
 use Rattle.triple_walks.specs.declared.claims.Asked as code_asked
 use Rattle.triple_walks.specs.declared.claims.Asked.TheVariants.{OnePart, BothParts, SomePart}
@@ -80,3 +81,7 @@ asked_of SomePart = some_part
 -- what a claim asks at a cut that is counted or not, where this is left of the parts
 abbrev pub asked_where : Bool → Bool → Option Bool → Option Bool → Asked
 asked_where counted denied first second = if is_same counted denied then each_asked first second else some_asked (not denied) first second
+
+-- what a claim asks at a cut of the tree, whose parts begin there
+abbrev pub asked_in : code_trees.Tree → code.Claim → ℕ → ℕ × ℕ → Asked
+asked_in x y node sides = asked_where (is_counted_in (node_in x node y.position)) y.denied (left_of y sides.0) (left_of y sides.1)

@@ -1,7 +1,7 @@
 //! The walk along a word's tree that puts down the refutation of a triple: through its own cuts, and by cases through its groups.
 
 use crate::claims::Claim;
-use crate::exposing::{exposed_from, part_of};
+use crate::exposing::{exposed_at, part_of};
 use crate::goals::{Goal, Mark, Role};
 use crate::leaves::leaf;
 use crate::stops::{Spot, Stop, Taken, stop_from};
@@ -102,7 +102,7 @@ fn choose(
     ) else {
         return Ok(());
     };
-    let given = exposed_from(alloc, guide.tree, claim, part_of(sides, member.second))?;
+    let given = exposed_at(alloc, guide.tree, claim, part_of(sides, member.second))?;
     goal.give(member.claim, guide.is_used(member.claim), &given)
 }
 
