@@ -2,4 +2,5 @@ mod ExposeLaws
 mod LeftLaws
 pub mod ListedLaws
 mod SecondLaws
+mod StopLaws
 pub mod TellingLaws

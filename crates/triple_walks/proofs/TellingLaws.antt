@@ -14,7 +14,7 @@ use Rattle.nested_predicates.specs.Sums.{Branch}
 use Rattle.nested_predicates.specs.Layouts.{leaf_node}
 use Rattle.nested_predicates.specs.Tables.{cut_node_at, row_of_node}
 use Rattle.nested_refutations.specs.Refutations.{Spot, Claim, low_side, high_side, truth_in, left_at, Asked, one_part, both_parts, some_part, asked_at, Exposed, parts_exposed, unless_truth, atom_exposed, exposed}
-use Rattle.triple_walks.specs.Spots.{HasNoCases, Everywhere, listed, node_of, second_of, IsTree, in_row, node_in, is_counted_in, with_second}
+use Rattle.triple_walks.specs.Spots.{HasNoCases, Everywhere, listed, node_of, second_of, IsTree, in_row, node_in, is_counted_in, with_second, sides_in}
 use Rattle.triple_walks.specs.Claims.{IsClaim, AreClaims, left_of, asked_where, asked_in}
 use Rattle.triple_walks.specs.Telling.{node_at, IsNode, Tells, AllTell, IsKnown}
 use Rattle.triple_walks.proofs.ListedLaws.{everywhere_listed, prefix_listed, seconds_listed, everywhere_both}
@@ -116,6 +116,9 @@ pub root_known : (columns : List ℕ) (qs : List Position) (b : Branch) (t : Tre
     IsTree columns qs b t nodes x → AreClaims columns qs b t cs ys → IsKnown columns nodes x cs ys (record { node = 0; branch = b; tree = t })
 root_known columns qs b t nodes x cs ys h k = record {
   spelled = listed_whole (λ (s : Spot). node_of s.tree) columns nodes b t h.uncased (h.spelled ∙ prefix_listed columns 0 b t h.uncased);
+  sides = everywhere_map (HasSecond x) (λ (s : Spot). sides_in x s.node ≡ with_second s.node (second_of s.node s.tree))
+      (λ (s : Spot) (f : HasSecond x s). ap (λ (o : Option (Option ℕ)). with_second s.node (unwrap_or o None)) f) columns 0 b t
+      (listed_whole (λ (s : Spot). second_of s.node s.tree) columns x.seconds.items b t h.uncased (h.seconds ∙ seconds_listed columns 0 b t h.uncased));
   claims = all_root columns qs b t nodes x cs ys h k;
 }
 
@@ -143,11 +146,11 @@ all_high columns x (d ∷ cs) (y ∷ ys) n b c k t u h = (
 
 pub known_low : (columns : List ℕ) (nodes : List PlainNode) (x : code_trees.Tree) (cs : List Claim) (ys : List code.Claim) (n : ℕ) (b : Branch) (c : ℕ) (k : ℤ) (t u : Tree) →
     IsKnown columns nodes x cs ys (record { node = n; branch = b; tree = cut_tree c k t u }) → IsKnown columns nodes x cs ys (low_side columns n b c k t)
-known_low columns nodes x cs ys n b c k t u h = record { spelled = h.spelled.1; claims = all_low columns x cs ys n b c k t u h.claims }
+known_low columns nodes x cs ys n b c k t u h = record { spelled = h.spelled.1; sides = h.sides.1; claims = all_low columns x cs ys n b c k t u h.claims }
 
 pub known_high : (columns : List ℕ) (nodes : List PlainNode) (x : code_trees.Tree) (cs : List Claim) (ys : List code.Claim) (n : ℕ) (b : Branch) (c : ℕ) (k : ℤ) (t u : Tree) →
     IsKnown columns nodes x cs ys (record { node = n; branch = b; tree = cut_tree c k t u }) → IsKnown columns nodes x cs ys (high_side columns n b c k t u)
-known_high columns nodes x cs ys n b c k t u h = record { spelled = h.spelled.2; claims = all_high columns x cs ys n b c k t u h.claims }
+known_high columns nodes x cs ys n b c k t u h = record { spelled = h.spelled.2; sides = h.sides.2; claims = all_high columns x cs ys n b c k t u h.claims }
 
 -- ---- of the groups that a claim gives
 
@@ -186,7 +189,7 @@ known_exposed columns nodes x cs ys c n b (cases_tree ts) h = tt
 
 pub known_groups : (columns : List ℕ) (nodes : List PlainNode) (x : code_trees.Tree) (cs : List Claim) (ys : List code.Claim) (c : Claim) (s : Spot) → IsKnown columns nodes x cs ys s →
     AllByRecursion (IsKnown columns nodes x cs ys) (exposed columns c s.node s.branch s.tree).groups
-known_groups columns nodes x cs ys c s h = known_exposed columns nodes x cs ys c s.node s.branch s.tree (record { spelled = h.spelled; claims = h.claims })
+known_groups columns nodes x cs ys c s h = known_exposed columns nodes x cs ys c s.node s.branch s.tree (record { spelled = h.spelled; sides = h.sides; claims = h.claims })
 
 -- the tree is a cut
 pub record IsCut (t : Tree) : Type 0 where

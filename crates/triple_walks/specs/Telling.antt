@@ -40,9 +40,10 @@ AllTell columns x s [] (y ∷ ys) = ⊥
 AllTell columns x s (c ∷ cs) [] = ⊥
 AllTell columns x s (c ∷ cs) (y ∷ ys) = Tells columns x s c y × AllTell columns x s cs ys
 
--- the nodes are those of the word's refutation, and the claims these, at each node from one on
+-- the nodes and their parts are those of the word's refutation, and the claims these, at each node from one on
 pub record IsKnown (columns : List ℕ) (nodes : List PlainNode) (x : code_trees.Tree) (cs : List Claim) (ys : List code.Claim) (s : Spot) : Type 0 where
   pub spelled : Everywhere (λ z. slice_get nodes z.node ≡ Some (node_of z.tree)) columns s.node s.branch s.tree
+  pub sides : Everywhere (λ z. sides_in x z.node ≡ with_second z.node (second_of z.node z.tree)) columns s.node s.branch s.tree
   pub claims : AllTell columns x s cs ys
 
 -- the rows and groups that a claim gives, by the numbers of the leaves and cuts
