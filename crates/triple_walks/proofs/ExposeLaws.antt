@@ -1,7 +1,7 @@
 -- The rows and groups that a claim gives, which are read node by node.
-use Rattle.std.proofs.Common.{◌≡◌, ◌∙◌, ℕ, suc, ◌-◌, Bool, true, false, List, [], ◌∷◌, ◌++◌, length, map, take, reverse, append_assoc, refl, sym, ap, arith, Option, None, Some}
+use Rattle.std.proofs.Common.{◌≡◌, ◌∙◌, ℕ, ◌-◌, Bool, true, false, List, [], ◌∷◌, ◌++◌, map, take, reverse, append_assoc, refl, sym, ap, arith, Option, None, Some}
 use Rattle.std.specs.List.{AllByRecursion}
-use Rattle.std.proofs.lemmas.List.{append-nil, map-append, reverse-append, reverse-reverse, nil_from_length}
+use Rattle.std.proofs.lemmas.List.{append-nil, map-append, reverse-append, reverse-reverse}
 use Rattle.farkas_check.specs.Trees.{Tree, leaf_tree, cut_tree, cases_tree}
 use Rattle.nested_predicates.specs.Stamps.{column_stamp}
 use Rattle.nested_predicates.specs.Sums.{Branch}
@@ -10,7 +10,7 @@ use Rattle.triple_walks.specs.Spots.{sides_in}
 use Rattle.triple_walks.specs.Claims.{left_of, asked_in}
 use Rattle.triple_walks.specs.Telling.{IsNode, Tells, IsExposed}
 use Rattle.triple_walks.specs.Exposing.{Found, found_of, numbers_of, none_found, with_found, found_at_cut, parts_at_cut, found_open, parts_open, found_unless, parts_unless, found_at, parts_at}
-use Rattle.triple_walks.proofs.TellingLaws.{spot, all_with, tells_here, asked_told}
+use Rattle.triple_walks.proofs.TellingLaws.{spot, all_with, asked_told}
 use Rattle.triple_walks.specs.declared.trees.Tree as code_trees
 use Rattle.triple_walks.specs.declared.claims.Claim as code_claims
 use Rattle.triple_walks.specs.declared.exposing.Exposed as code

@@ -2,7 +2,7 @@
 use Rattle.std.proofs.Common.{◌≡◌, ◌∙◌, ℕ, zero, suc, ◌+◌, ◌-◌, ◌<◌, ◌≤◌, ℤ, Bool, true, false, List, [], ◌∷◌, ◌++◌, length, map, drop, get_or, reverse, append_assoc, refl, sym, ap, arith, Option, None, Some}
 use Rattle.std.specs.Prelude.{slice_get, if◌then◌else◌}
 use Rattle.std.specs.Global.{Vec}
-use Rattle.std.proofs.lemmas.List.{append-nil, drop_more, reverse-append, map-append}
+use Rattle.std.proofs.lemmas.List.{append-nil, drop_more, drop_all, reverse-append, map-append}
 use Rattle.farkas_check.specs.Nodes.{PlainNode}
 use Rattle.farkas_check.specs.Trees.{Tree, leaf_tree, cut_tree, cases_tree}
 use Rattle.triple_rows.specs.declared.predicates.PredNode.{PredNode}
@@ -49,16 +49,10 @@ column_long : (p : ℕ) (rows : List (Vec PredNode)) → length (column p rows) 
 column_long p [] = refl
 column_long p (r ∷ rows) = ap suc (column_long p rows)
 
-drop_whole : {X : Type 0} (n : ℕ) (xs : List X) → length xs ≡ n → drop n xs ≡ []
-drop_whole zero [] e = refl
-drop_whole zero (x ∷ xs) e = absurd (omega (arith, e))
-drop_whole (suc n) [] e = refl
-drop_whole (suc n) (x ∷ xs) e = drop_whole n xs (omega (arith, e))
-
 pub lefts_none : (rows : List (Vec PredNode)) (p : ℕ) (lefts roots : List (Option Bool)) → lefts ≡ [] → roots ≡ [] → AreLefts rows p 0 lefts roots
 lefts_none rows p lefts roots e f =
     let none : drop (length rows - 0) (column p rows) ≡ [] =
-    drop_whole (length rows - 0) (column p rows) (let k = column_long p rows in omega (arith, k)) in
+    drop_all (length rows - 0) (column p rows) (let k = column_long p rows in omega (arith, k)) in
     record {
       those = ap reverse e ∙ sym (ap (λ (l : List (Option PredNode)). lefts_from l) none);
       behind = ap reverse f ∙ sym (ap (λ (l : List (Option PredNode)). lefts_roots l) none);
@@ -109,7 +103,7 @@ heads_of_column : (p : ℕ) (rows : List (Vec PredNode)) → column p rows ≡ h
 heads_of_column p [] = refl
 heads_of_column p (r ∷ rows) = ap (λ (l : List (Option PredNode)). slice_get r.items p ∷ l) (heads_of_column p rows)
 
-got_mapped : (f : Position → PredNode) (qs : List Position) (p : ℕ) (q : Position) → slice_get qs p ≡ Some q → slice_get (map f qs) p ≡ Some (f q)
+pub got_mapped : (f : Position → PredNode) (qs : List Position) (p : ℕ) (q : Position) → slice_get qs p ≡ Some q → slice_get (map f qs) p ≡ Some (f q)
 got_mapped f [] p q e = absurd (cc)
 got_mapped f (x ∷ qs) zero q e = ap (λ (y : Position). Some (f y)) (let k : x ≡ q = cc in k)
 got_mapped f (x ∷ qs) (suc p) q e = got_mapped f qs p q e

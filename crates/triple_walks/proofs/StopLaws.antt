@@ -1,7 +1,7 @@
 -- Where the refutation of a triple goes on and where it stops.
 use Rattle.std.proofs.Common.{◌≡◌, ◌∙◌, ℕ, zero, suc, ◌+◌, ◌-◌, ◌<◌, ◌≤◌, ℤ, Bool, true, false, List, [], ◌∷◌, ◌++◌, length, map, drop, reverse, get_or, length-append, refl, sym, ap, subst, arith, Option, None, Some}
 use Rattle.std.specs.Prelude.{not, ◌&&◌, nat_eq, slice_get, if◌then◌else◌}
-use Rattle.std.proofs.lemmas.List.{drop_more, length-map, length-reverse, get_or-reverse, reverse-append}
+use Rattle.std.proofs.lemmas.List.{drop_more, at_drop_all, length-map, length-reverse, get_or-map, get_or-reverse}
 use Rattle.farkas_check.specs.Nodes.{PlainNode}
 use Rattle.farkas_check.specs.Refutes.{at_most, above}
 use Rattle.farkas_check.specs.Trees as trees
@@ -10,12 +10,11 @@ use Rattle.lin_rows.specs.Rows.{LinearRow}
 use Rattle.nested_predicates.specs.Stamps.{column_stamp}
 use Rattle.nested_predicates.specs.Positions.{is_counted}
 use Rattle.nested_predicates.specs.Sums.{Branch}
-use Rattle.nested_refutations.specs.Refutations.{side_of, Claim, Spot, low_side, high_side, truth_in, left_at, Asked, one_part, both_parts, some_part, asked_at, View, Meeting, own_cut, told_by, meets, taken_at, Stop, at_leaf, at_cut, at_group, nowhere, by_member, followed, stop_at, stops, stops_at}
+use Rattle.nested_refutations.specs.Refutations.{Claim, Spot, low_side, high_side, truth_in, left_at, Asked, one_part, both_parts, some_part, asked_at, View, Meeting, own_cut, told_by, meets, taken_at, Stop, at_cut, followed, stop_at, stops, stops_at}
 use Rattle.triple_walks.specs.Spots.{node_in, is_counted_in, sides_in, with_second, second_of}
-use Rattle.triple_walks.specs.Claims.{asked_in}
-use Rattle.triple_walks.specs.Telling.{IsNode, Tells, AllTell, IsKnown}
-use Rattle.triple_walks.specs.Stops.{taken_of, IsPlace, IsCutThere, IsStop, counted_by, teller, way_asked, way_by, way_told}
-use Rattle.triple_walks.proofs.TellingLaws.{spot, everywhere_here, known_low, known_high, told_at, tells_here, counted_told, asked_told}
+use Rattle.triple_walks.specs.Telling.{Tells, AllTell, IsKnown}
+use Rattle.triple_walks.specs.Stops.{taken_of, IsPlace, IsStop, counted_by, teller, way_asked, way_by, way_told}
+use Rattle.triple_walks.proofs.TellingLaws.{spot, everywhere_here, known_low, known_high, told_at, counted_told, asked_told}
 use Rattle.triple_walks.specs.declared.trees.Tree as code_trees
 use Rattle.triple_walks.specs.declared.claims.Claim as code
 use Rattle.triple_walks.specs.declared.stops.Spot as place
@@ -26,12 +25,6 @@ use Rattle.triple_walks.specs.declared.stops.Way.{Way}
 use Rattle.triple_walks.specs.declared.stops.Way.TheVariants.{Part, Own, NoMember}
 
 -- ---- the claim that tells, of the code
-
-drop_whole : {X : Type 0} (n : ℕ) (xs : List X) → length xs ≡ n → drop n xs ≡ []
-drop_whole zero [] e = refl
-drop_whole zero (x ∷ xs) e = absurd (omega (arith, e))
-drop_whole (suc n) [] e = refl
-drop_whole (suc n) (x ∷ xs) e = drop_whole n xs (omega (arith, e))
 
 counted_long : (x : code_trees.Tree) (node : ℕ) (ys : List code.Claim) → length (counted_by x node ys) ≡ length ys
 counted_long x node [] = refl
@@ -78,7 +71,7 @@ teller_last returns x node ys i y first l e h =
     h ∙
     ap (λ (z : List Bool). teller returns i z)
     (drop_more bs i false (omega (arith, k, l)) ∙ ap (λ (z : Bool). z ∷ drop (i + 1) bs) (counted_at x node ys i y (omega (arith, l)) e) ∙
-    ap (λ (z : List Bool). is_counted_in (node_in x node y.position) ∷ z) (drop_whole (i + 1) bs (omega (arith, k, l))))
+    at_drop_all (λ (z : List Bool). is_counted_in (node_in x node y.position) ∷ z) bs (i + 1) (omega (arith, k, l)))
 
 pub teller_done : (returns : Bool) (x : code_trees.Tree) (node : ℕ) (ys : List code.Claim) (i target : ℕ) (y : code.Claim) (first : Option ℕ) → i ≡ target → suc target ≡ length ys → y ≡ get_or ys target y →
     first ≡ teller returns i (drop i (counted_by x node ys)) → first ≡ (if is_counted_in (node_in x node y.position) then None else Some target)
@@ -86,11 +79,6 @@ teller_done returns x node ys i target y first q l e h =
     teller_last returns x node ys target y first l e (h ∙ ap (λ (n : ℕ). teller returns n (drop n (counted_by x node ys))) q)
 
 -- ---- the member that was taken, of the code
-
-get_mapped : {X Y : Type 0} (f : X → Y) (xs : List X) (i : ℕ) (d : X) → get_or (map f xs) i (f d) ≡ f (get_or xs i d)
-get_mapped f [] i d = refl
-get_mapped f (x ∷ xs) zero d = refl
-get_mapped f (x ∷ xs) (suc i) d = get_mapped f xs i d
 
 taken_next : (taken : List member.Taken) (i at : ℕ) (t d : member.Taken) → i < length taken → at ≡ length taken - 1 - i → t ≡ get_or taken at d →
     drop i (reverse (map taken_of taken)) ≡ taken_of t ∷ drop (i + 1) (reverse (map taken_of taken))
@@ -101,7 +89,7 @@ taken_next taken i at t d l a e =
     let q : length ts - 1 - i ≡ at = omega (arith, k, a) in
     drop_more (reverse ts) i (taken_of d) (omega (arith, k, m, l)) ∙
     ap (λ (v : ℕ × ℕ × Bool). v ∷ drop (i + 1) (reverse ts))
-    (get_or-reverse ts i (taken_of d) (omega (arith, k, l)) ∙ ap (λ (n : ℕ). get_or ts n (taken_of d)) q ∙ get_mapped taken_of taken at d ∙ ap taken_of (sym e))
+    (get_or-reverse ts i (taken_of d) (omega (arith, k, l)) ∙ ap (λ (n : ℕ). get_or ts n (taken_of d)) q ∙ get_or-map taken_of taken at d (taken_of d) (omega (arith, a, l)) ∙ ap taken_of (sym e))
 
 pub taken_passes : (taken : List member.Taken) (i at claim node : ℕ) (t d : member.Taken) (first : Option Bool) → i < length taken → at ≡ length taken - 1 - i → t ≡ get_or taken at d →
     (nat_eq t.claim claim && nat_eq t.node node) ≡ false → first ≡ taken_at claim node (drop i (reverse (map taken_of taken))) → first ≡ taken_at claim node (drop (i + 1) (reverse (map taken_of taken)))
@@ -115,19 +103,6 @@ taken_found taken i at claim node t d first l a e f h =
     sym
     (h ∙ ap (λ (ts : List (ℕ × ℕ × Bool)). taken_at claim node ts) (taken_next taken i at t d l a e) ∙
     ap (λ (z : Bool). if z then Some t.second else taken_at claim node (drop (i + 1) (reverse (map taken_of taken)))) f)
-
-drop_past : {X : Type 0} (n : ℕ) (xs : List X) → length xs ≤ n → drop n xs ≡ []
-drop_past zero [] e = refl
-drop_past zero (x ∷ xs) e = absurd (omega (arith, e))
-drop_past (suc n) [] e = refl
-drop_past (suc n) (x ∷ xs) e = drop_past n xs (omega (arith, e))
-
-pub taken_done : (taken : List member.Taken) (i claim node : ℕ) (first : Option Bool) → length taken ≤ i → first ≡ taken_at claim node (drop i (reverse (map taken_of taken))) → first ≡ None
-taken_done taken i claim node first l h =
-    let ts : List (ℕ × ℕ × Bool) = map taken_of taken in
-    let k : length ts ≡ length taken = length-map taken taken_of in
-    let m : length (reverse ts) ≡ length ts = length-reverse ts in
-    h ∙ ap (λ (v : List (ℕ × ℕ × Bool)). taken_at claim node v) (drop_past i (reverse ts) (omega (arith, k, m, l)))
 
 -- ---- the claim that tells, of the definition
 

@@ -17,6 +17,7 @@ use Rattle.nested_refutations.specs.Refutations.{Spot, Claim, low_side, high_sid
 use Rattle.triple_walks.specs.Spots.{HasNoCases, Everywhere, listed, node_of, second_of, IsTree, in_row, node_in, is_counted_in, with_second, sides_in}
 use Rattle.triple_walks.specs.Claims.{IsClaim, AreClaims, left_of, asked_where, asked_in}
 use Rattle.triple_walks.specs.Telling.{node_at, IsNode, Tells, AllTell, IsKnown}
+use Rattle.triple_walks.proofs.LeftLaws.{got_mapped}
 use Rattle.triple_walks.proofs.ListedLaws.{everywhere_listed, prefix_listed, seconds_listed, everywhere_both}
 use Rattle.triple_walks.specs.declared.trees.Tree as code_trees
 use Rattle.triple_walks.specs.declared.claims.Claim as code
@@ -45,11 +46,6 @@ in_mapped : (rows : List (Vec PredNode)) (node p : ℕ) (row : List PredNode) �
 in_mapped [] node p row e = absurd (cc)
 in_mapped (r ∷ rows) zero p row e = ap (λ (l : List PredNode). slice_get l p) (let k : r.items ≡ row = cc in k)
 in_mapped (r ∷ rows) (suc node) p row e = in_mapped rows node p row e
-
-got_mapped : (f : Position → PredNode) (qs : List Position) (p : ℕ) (q : Position) → slice_get qs p ≡ Some q → slice_get (map f qs) p ≡ Some (f q)
-got_mapped f [] p q e = absurd (cc)
-got_mapped f (x ∷ qs) zero q e = ap (λ (y : Position). Some (f y)) (let k : x ≡ q = cc in k)
-got_mapped f (x ∷ qs) (suc p) q e = got_mapped f qs p q e
 
 row_at : (columns : List ℕ) (qs : List Position) (p : ℕ) (q : Position) → slice_get qs p ≡ Some q → (b : Branch) (t : Tree) → HasNoCases t →
     slice_get (row_of_node columns qs (node_of t) b) p ≡ Some (node_at columns q b t)

@@ -1,5 +1,5 @@
 -- What a triple's system says of its predicates, as it is kept: by node what is left of a predicate.
-use Rattle.std.specs.Prelude.{◌≡◌, ℕ, Bool, true, false, not, List, [], ◌∷◌, drop, length, Option, None, Some, unwrap_or, slice_get, if◌then◌else◌}
+use Rattle.std.specs.Prelude.{◌≡◌, ℕ, Bool, true, false, not, List, [], ◌∷◌, drop, Option, None, Some, unwrap_or, slice_get, if◌then◌else◌}
 use Rattle.farkas_check.specs.Trees.{Tree}
 use Rattle.triple_rows.specs.declared.predicates.PredNode.{PredNode}
 use Rattle.triple_rows.specs.declared.predicates.PredNode.TheVariants.{Truth, Atom, And, Or}

@@ -1,10 +1,10 @@
 //! The walk along a word's tree that puts down the refutation of a triple: through its own cuts, and by cases through its groups.
 
 use crate::claims::Claim;
-use crate::exposing::{exposed_at, part_of};
+use crate::exposing::{exposed, part_of};
 use crate::goals::{Goal, Mark, Role};
 use crate::leaves::leaf;
-use crate::stops::{Spot, Stop, Taken, stop_from};
+use crate::stops::{Spot, Stop, Taken, stop};
 use crate::trees::Tree;
 use farkas_check::Node;
 use std::alloc::{AllocError, Global};
@@ -102,7 +102,7 @@ fn choose(
     ) else {
         return Ok(());
     };
-    let given = exposed_at(alloc, guide.tree, claim, part_of(sides, member.second))?;
+    let given = exposed(alloc, guide.tree, claim, part_of(sides, member.second))?;
     goal.give(member.claim, guide.is_used(member.claim), &given)
 }
 
@@ -124,7 +124,7 @@ impl Guide<'_> {
 impl Walk {
     /// Puts down the next node from a spot on; its parts wait.
     fn put_down(&mut self, alloc: Global, guide: &Guide, from: Spot) -> Result<(), AllocError> {
-        match stop_from(
+        match stop(
             guide.tree,
             guide.claims,
             guide.returns,

@@ -1,5 +1,5 @@
 use Rattle.std.proofs.Common.{◌≡◌, ◌∙◌, ◌∷◌, ◌++◌, [], ℕ, List, ap}
-use Rattle.triple_walks.specs.Exposing.{Found, found_of, none_found}
+use Rattle.triple_walks.specs.Exposing.{found_of, none_found}
 use Rattle.triple_walks.proofs.ExposeLaws.{left_first, left_next, left_done, none_left}
 use Rattle.triple_walks.proofs.exposing.exposed_at.Goals as goal
 

@@ -1,4 +1,4 @@
-use Rattle.std.proofs.Common.{◌≡◌, ◌∙◌, Bool, ℕ, map, reverse, sym, ap}
+use Rattle.std.proofs.Common.{◌∙◌, Bool, map, reverse, sym, ap}
 use Rattle.nested_refutations.specs.Refutations.{stops_at}
 use Rattle.triple_walks.specs.Stops.{taken_of, counted_by, teller, way_told}
 use Rattle.triple_walks.proofs.StopLaws.{on_way_next, on_way_leaf, on_way_cut, on_way_group}

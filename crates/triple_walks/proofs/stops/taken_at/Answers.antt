@@ -1,4 +1,4 @@
-use Rattle.std.proofs.Common.{◌∙◌, ◌-◌, Bool, false, length, map, reverse, get_or, refl, sym, arith}
+use Rattle.std.proofs.Common.{◌∙◌, ◌-◌, false, length, map, reverse, get_or, refl, sym, arith}
 use Rattle.nested_refutations.specs.Refutations.{taken_at}
 use Rattle.triple_walks.specs.Stops.{taken_of}
 use Rattle.triple_walks.specs.declared.stops.Taken.{Taken}
