@@ -1,4 +1,8 @@
 pub mod AscendLaws
+mod ExposeLaws
 mod LeafLaws
 mod LeftLaws
+pub mod ListedLaws
 mod SecondLaws
+mod StopLaws
+pub mod TellingLaws
