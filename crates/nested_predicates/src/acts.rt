@@ -13,7 +13,7 @@ use letter_acts::{Act, Icfg};
 use nwa_base::Letter;
 
 /// The act of a letter of the alphabet.
-pub(crate) fn act_at(icfg: &Icfg, letter: Letter) -> &Act
+pub fn act_at(icfg: &Icfg, letter: Letter) -> &Act
     requires { IsSome (act_of (alphabet_of icfg.now) letter) }
     ensures { act_of (alphabet_of icfg.now) letter ≡ Some (plain_act result.now) }
 {
@@ -21,7 +21,7 @@ pub(crate) fn act_at(icfg: &Icfg, letter: Letter) -> &Act
 }
 
 /// The columns of a procedure, none where there is no such procedure.
-pub(crate) fn frame_at(icfg: &Icfg, proc: u32) -> &[(Column, VarInfo)]
+pub fn frame_at(icfg: &Icfg, proc: u32) -> &[(Column, VarInfo)]
     ensures { result.now ≡ frame_of (alphabet_of icfg.now) proc }
 {
     match icfg.frames().get(proc as usize) {
@@ -31,7 +31,7 @@ pub(crate) fn frame_at(icfg: &Icfg, proc: u32) -> &[(Column, VarInfo)]
 }
 
 /// The procedure of the start.
-pub(crate) fn start_proc(icfg: &Icfg) -> u32
+pub fn start_proc(icfg: &Icfg) -> u32
     ensures { result ≡ start_proc icfg.now }
 {
     let start = icfg.nwa().start();
@@ -63,7 +63,7 @@ fn is_old(column: &(Column, VarInfo)) -> bool
 }
 
 /// Whether it is a boolean.
-fn is_bool(column: &(Column, VarInfo)) -> bool
+pub fn is_bool(column: &(Column, VarInfo)) -> bool
     ensures { result ≡ is_bool column.now }
 {
     matches!(column.1.ty, Ty::Bool)
@@ -80,35 +80,35 @@ fn is_bool_at(frame: &[(Column, VarInfo)], column: u32) -> bool
 }
 
 /// How many parameters, results and locals there are.
-pub(crate) fn local_count(frame: &[(Column, VarInfo)]) -> usize
+pub fn local_count(frame: &[(Column, VarInfo)]) -> usize
     ensures { result ≡ length (locals_of frame.now) }
 {
     frame.iter().filter(|column| is_local(column)).count()
 }
 
 /// How many globals may change.
-pub(crate) fn variable_count(frame: &[(Column, VarInfo)]) -> usize
+pub fn variable_count(frame: &[(Column, VarInfo)]) -> usize
     ensures { result ≡ length (filter is_variable frame.now) }
 {
     frame.iter().filter(|column| is_variable(column)).count()
 }
 
 /// How many old columns.
-pub(crate) fn old_count(frame: &[(Column, VarInfo)]) -> usize
+pub fn old_count(frame: &[(Column, VarInfo)]) -> usize
     ensures { result ≡ length (old_part frame.now) }
 {
     frame.iter().filter(|column| is_old(column)).count()
 }
 
 /// How many booleans.
-pub(crate) fn bool_count(frame: &[(Column, VarInfo)]) -> usize
+pub fn bool_count(frame: &[(Column, VarInfo)]) -> usize
     ensures { result ≡ length (filter is_bool frame.now) }
 {
     frame.iter().filter(|column| is_bool(column)).count()
 }
 
 /// How many booleans among the parameters, results and locals.
-pub(crate) fn bool_local_count(frame: &[(Column, VarInfo)]) -> usize
+pub fn bool_local_count(frame: &[(Column, VarInfo)]) -> usize
     ensures { result ≡ length (filter is_bool (locals_of frame.now)) }
 {
     frame
@@ -119,7 +119,7 @@ pub(crate) fn bool_local_count(frame: &[(Column, VarInfo)]) -> usize
 }
 
 /// How many booleans among the old columns.
-pub(crate) fn bool_old_count(frame: &[(Column, VarInfo)]) -> usize
+pub fn bool_old_count(frame: &[(Column, VarInfo)]) -> usize
     ensures { result ≡ length (filter is_bool (old_part frame.now)) }
 {
     frame
@@ -130,7 +130,7 @@ pub(crate) fn bool_old_count(frame: &[(Column, VarInfo)]) -> usize
 }
 
 /// How many of these columns are booleans.
-pub(crate) fn bool_count_at(frame: &[(Column, VarInfo)], columns: &[u32]) -> usize
+pub fn bool_count_at(frame: &[(Column, VarInfo)], columns: &[u32]) -> usize
     ensures { result ≡ length (filter (is_bool_at frame.now) columns.now) }
 {
     columns

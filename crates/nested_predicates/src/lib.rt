@@ -2,7 +2,7 @@
 //! their definition, the laws of it in [`laws`], and the predicates and triples themselves.
 #![tactic(auto)]
 
-mod acts;
+pub mod acts;
 mod bases;
 mod branches;
 mod faults;

@@ -1,0 +1,14 @@
+use Rattle.std.proofs.Common.{◌∙◌, ℕ, Bool, true, cond, take, get_or, sym, ap}
+use Rattle.std.specs.Prelude.{nat_eq}
+use Rattle.triple_rows.specs.Systems.{is_listed}
+use Rattle.triple_steps.proofs.ColumnLaws.{listed_next}
+use Rattle.triple_steps.proofs.ties.listed.Goals as goal
+
+pub loop-i-init : goal.loop-i-init
+loop-i-init c = λ x. c.new-listed.ensures.empty x
+
+pub loop-i-preserved : goal.loop-i-preserved
+loop-i-preserved c =
+    λ x.
+    c.in_ok-insert.ensures.updates.0 x ∙ ap (λ (b : Bool). cond (nat_eq (get_or c.args.targets.now c.loop-i.i 0) x) true b) (c.loop-i.invariant x) ∙
+    sym (listed_next c.args.targets.now c.loop-i.i x c.loop-i-test.true)

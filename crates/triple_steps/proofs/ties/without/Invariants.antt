@@ -1,0 +1,7 @@
+use Rattle.std.proofs.Common.{◌≡◌, ◌++◌, drop}
+use Rattle.std.specs.Prelude.{filter, not}
+use Rattle.triple_rows.specs.Systems.{is_listed}
+use Rattle.triple_steps.proofs.ties.without.Given as goal
+
+abbrev pub invariant-loop-i : goal.invariant-loop-i
+invariant-loop-i l = l.left.items ++ filter (λ c. not (is_listed l.targets c)) (drop l.i l.columns) ≡ filter (λ c. not (is_listed l.targets c)) l.columns

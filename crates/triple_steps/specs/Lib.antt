@@ -1,0 +1,4 @@
+pub mod Classes
+pub mod Sections
+pub mod Steps
+pub mod Readings

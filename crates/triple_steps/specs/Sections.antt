@@ -1,0 +1,38 @@
+-- The rows of the system of a letter's triple, section by section: what multiplier each has at a leaf of the refutation.
+use Rattle.std.specs.Prelude.{◌≡◌, ℕ, List, [], ◌∷◌, ◌++◌, Option, None, Some, slice_get}
+use Rattle.nwa_base.specs.declared.letters.Letter.{Letter}
+use Rattle.letter_acts.specs.Invariant.{Graph}
+use Rattle.farkas_check.specs.Trees.{Tree}
+use Rattle.nested_refutations.specs.Refutations.{Claim, Role, target_tie, opposite_tie, source_tie, View}
+use Rattle.nested_refutations.specs.Numbers.{spares, branch_rows, roles_of}
+use Rattle.triple_steps.specs.declared.sections.Tie.{Tie}
+use Rattle.triple_steps.specs.declared.sections.Tie.TheVariants.{Target, Opposite, Source}
+use Rattle.triple_steps.specs.declared.sections.Section.{Section}
+use Rattle.triple_steps.specs.declared.sections.Section.TheVariants as sections
+
+-- the multiplier of a row that ties two frames
+abbrev pub tie_role : Tie → Role
+tie_role (Target c) = target_tie c
+tie_role (Opposite c) = opposite_tie c
+tie_role (Source c) = source_tie c
+
+-- those of the rows that the claim with this number gives, if there is one
+abbrev pub claim_roles : Graph → List Letter → Tree → View → ℕ → Option Claim → List Role
+claim_roles g w t v i None = []
+claim_roles g w t v i (Some c) = roles_of g w t v i c
+
+-- those of the rows of a section
+abbrev pub section_roles : Graph → List Letter → Tree → View → Section → List Role
+section_roles g w t v (sections.Claim i) = claim_roles g w t v i (slice_get v.claims i)
+section_roles g w t v (sections.Spare count) = spares count
+section_roles g w t v (sections.Rows first count) = branch_rows first count
+section_roles g w t v (sections.Tie tie) = tie_role tie ∷ []
+
+-- those of the rows of sections, in order
+abbrev pub roles_in : Graph → List Letter → Tree → View → List Section → List Role
+roles_in g w t v [] = []
+roles_in g w t v (s ∷ ss) = section_roles g w t v s ++ roles_in g w t v ss
+
+-- sections are added, whose rows have these multipliers
+abbrev pub AddsRoles : List Section → List Section → List Role → Type 0
+AddsRoles old new roles = (g : Graph) (w : List Letter) (t : Tree) (v : View) → roles_in g w t v new ≡ roles_in g w t v old ++ roles
