@@ -131,6 +131,10 @@ place_found [] k d n h l = l
 place_found (c ∷ cs) zero d n h l = h.0
 place_found (c ∷ cs) (suc k) d n h l = place_found cs k d n h.1 l
 
+pub all_below : (n : ℕ) (xs : List ℕ) → ((i : ℕ) → i < length xs → get_or xs i 0 < n) → AllByRecursion (λ x. x < n) xs
+all_below n [] h = tt
+all_below n (x ∷ xs) h = (h 0 (omega arith), all_below n xs (λ i l. h (suc i) (omega (arith, l))))
+
 pub place_fits : (at first c n : ℕ) (made : List ℕ) → AllByRecursion (λ x. x < n) made → at + c < n → cond (nat_lt c first) (at + c) (unwrap_or (slice_get made (c - first)) (at + c)) < n
 place_fits at first c n made h l = by_test (nat_lt c first)
   where
