@@ -17,8 +17,9 @@ use Rattle.nested_refutations.specs.Numbers.{spares, branch_rows, bounds_in, bef
 use Rattle.triple_steps.specs.declared.columns.Columns as places
 use Rattle.triple_steps.specs.declared.readings.Reading.{Reading}
 use Rattle.triple_steps.specs.declared.readings.OpenCall.{OpenCall}
+use Rattle.triple_steps.specs.declared.sections.Section.{Section}
 use Rattle.triple_steps.specs.declared.making.Step.{Step}
-use Rattle.triple_steps.specs.Sections.{roles_in, claim_roles}
+use Rattle.triple_steps.specs.Sections.{roles_in, claim_roles, AddsRoles}
 use Rattle.triple_steps.specs.Steps.{place_of, IsStep}
 use Rattle.triple_steps.specs.Readings.{IsAt, IsCall, IsInsideStep, IsCallStep, IsBackStep}
 
@@ -143,3 +144,15 @@ made_three at helpers_at helpers callee start first second third locals olds s l
     let hs : List ℕ = columns_from helpers_at helpers in
     h ∙ ap (λ (x : List ℕ). second ++ map (λ (c : ℕ). at + c) x) o ∙ ap (λ (x : List ℕ). x ++ os) f ∙ ap (λ (x : List ℕ). (x ++ hs) ++ os) e ∙
     ap (λ (x : List ℕ). ((x ++ map (λ (c : ℕ). at + c) locals) ++ hs) ++ os) s ∙ ap (λ (x : List ℕ). (map (λ (c : ℕ). at + c) x ++ hs) ++ os) l ∙ append_assoc ls hs os
+
+-- entry rows, and a callee's bounds, from a row on that is known
+pub entries_at : (returns : Bool) (callee : Columns) (first row : ℕ) (old new : List Section) → first ≡ row →
+    AddsRoles old new (if returns then map (λ o. opposite_tie o.1) (olds_of callee) else branch_rows first (length (olds_of callee))) →
+    AddsRoles old new (if returns then map (λ o. opposite_tie o.1) (olds_of callee) else branch_rows row (length (olds_of callee)))
+entries_at returns callee first row old new e h =
+    subst (λ (n : ℕ). AddsRoles old new (if returns then map (λ o. opposite_tie o.1) (olds_of callee) else branch_rows n (length (olds_of callee)))) e h
+
+pub callee_at : (callee : Columns) (local local_row before before_row : ℕ) (old new : List Section) → local ≡ local_row → before ≡ before_row → AddsRoles old new (callee_bounds local before callee) →
+    AddsRoles old new (callee_bounds local_row before_row callee)
+callee_at callee local local_row before before_row old new e f h =
+    subst (λ (n : ℕ). AddsRoles old new (callee_bounds n before_row callee)) e (subst (λ (n : ℕ). AddsRoles old new (callee_bounds local n callee)) f h)

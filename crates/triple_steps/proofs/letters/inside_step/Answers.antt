@@ -1,4 +1,4 @@
-use Rattle.std.proofs.Common.{◌≡◌, ◌∙◌, ◌+◌, ◌∷◌, [], ◌++◌, List, ℕ, suc, refl, ap, arith}
+use Rattle.std.proofs.Common.{◌≡◌, ◌∙◌, ◌+◌, ◌∷◌, [], ◌++◌, List, ℕ, suc, length, refl, ap, arith}
 use Rattle.path_rows.specs.Versions.{columns_from}
 use Rattle.triple_steps.proofs.LetterLaws.{inside_is}
 use Rattle.triple_steps.proofs.letters.inside_step.Goals as goal
@@ -11,6 +11,7 @@ returns-clause-step c =
     (record {
       at_is = c.in_ok-columns.ensures.at;
       first_is = c.in_ok-columns.ensures.first;
-      made_is = c.in_ok-columns.ensures.made ∙ c.in_ok-add_columns.ensures ∙ ap (λ (l : List ℕ). l ++ columns_from c.len.result c.in_ok-count.count) c.new-made.ensures.items ∙ ?;
+      made_is = c.in_ok-columns.ensures.made ∙ c.in_ok-add_columns.ensures ∙ 
+          ap (λ (l : List ℕ). l ++ columns_from (length c.args.frame.now) c.in_ok-count.count) c.new-made.ensures.items ∙ ap (columns_from (length c.args.frame.now)) c.in_ok-count.ensures;
     })
     c.in_ok-sections.ensures
