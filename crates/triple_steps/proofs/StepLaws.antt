@@ -1,5 +1,5 @@
 -- The loop over a word's letters that makes their steps.
-use Rattle.std.proofs.Common.{◌≡◌, ◌∙◌, ℕ, zero, suc, ◌+◌, ◌<◌, ◌≤◌, Bool, true, false, List, [], ◌∷◌, ◌++◌, length, map, drop, get_or, reverse, append_assoc, length-append, refl, sym, ap, subst, arith, Option, None, Some}
+use Rattle.std.proofs.Common.{◌≡◌, ◌∙◌, ℕ, zero, suc, ◌+◌, ◌<◌, ◌≤◌, Bool, true, List, [], ◌∷◌, ◌++◌, length, drop, get_or, reverse, append_assoc, length-append, refl, sym, ap, subst, arith, Option, None, Some}
 use Rattle.std.specs.Prelude.{◌-◌, slice_get, option_map, IsSome}
 use Rattle.std.specs.List.{AllByRecursion}
 use Rattle.std.proofs.lemmas.List.{append-nil, drop_all, drop_more, get_or-reverse, length-reverse}
@@ -10,14 +10,14 @@ use Rattle.lin_rows.specs.Rows.{LinearRow}
 use Rattle.letter_acts.specs.Frames.{Columns}
 use Rattle.letter_acts.specs.declared.acts.Act.{Act}
 use Rattle.letter_acts.specs.Acts.{PlainAct, inside_act, call_act, back_act, plain_act, plain_acts, Alphabet, frame_of, act_of}
-use Rattle.letter_acts.specs.Invariant.{Graph, IsGraph, IsActed, alphabet_of}
+use Rattle.letter_acts.specs.Invariant.{Graph, IsActed, alphabet_of}
 use Rattle.letter_acts.specs.Kept.{Keeps}
 use Rattle.letter_acts.proofs.KnownLemmas.{act_found}
 use Rattle.path_rows.specs.Versions.{Stage, Part, part_of, act_part, locals_of, old_part}
 use Rattle.path_rows.specs.Paths.{repeated, start_frame, first_stage, path_along, path_of}
 use Rattle.farkas_check.specs.Trees.{Tree}
 use Rattle.nested_predicates.specs.Stamps.{stamp_of, callee_stamp, column_stamps, call_stamps, stamps_along, stamps_of}
-use Rattle.nested_predicates.specs.Positions.{Scope, has_return, scopes_after, Position, position_at, positions_along, positions_of}
+use Rattle.nested_predicates.specs.Positions.{Scope, has_return, Position, position_at, positions_along, positions_of}
 use Rattle.nested_predicates.proofs.WordLaws.{later, split_first}
 use Rattle.nested_refutations.specs.Numbers as numbers
 use Rattle.nested_refutations.specs.Numbers.{here, read_on, step_by, steps_back, steps_along, steps_of}
@@ -25,8 +25,8 @@ use Rattle.triple_steps.specs.declared.readings.Reading.{Reading}
 use Rattle.triple_steps.specs.declared.readings.OpenCall.{OpenCall}
 use Rattle.triple_steps.specs.declared.making.Step.{Step}
 use Rattle.triple_steps.specs.Steps.{FitColumns, IsStep, AreSteps}
-use Rattle.triple_steps.specs.Readings.{IsAt, IsCall, AreCalls, IsReading, start_reading, FindsCall, IsInsideStep, IsCallStep, IsBackStep, IsReturnOf, IsStepBy, IsStepBack}
-use Rattle.triple_steps.proofs.ReadingLaws.{matched_on, finds, kind_known}
+use Rattle.triple_steps.specs.Readings.{IsAt, AreCalls, IsReading, start_reading, FindsCall, IsInsideStep, IsCallStep, IsBackStep, IsReturnOf, IsStepBy, IsStepBack}
+use Rattle.triple_steps.proofs.ReadingLaws.{matched_on, finds}
 
 -- ---- as many columns as the path has
 

@@ -99,7 +99,16 @@ fn step_of(
         } => {
             let caller = frame_at(icfg, *caller);
             let callee = frame_at(icfg, *callee);
-            call_step(alloc, reading, total, returns, caller, callee, *helpers, rows.len())
+            call_step(
+                alloc,
+                reading,
+                total,
+                returns,
+                caller,
+                callee,
+                *helpers,
+                rows.len(),
+            )
         }
         Act::Back { call, targets } => {
             let Some(opened) = reading.calls.last() else {
@@ -135,7 +144,17 @@ fn step_back(
         ) => {
             let caller = frame_at(icfg, *caller);
             let callee = frame_at(icfg, *callee);
-            back_step(alloc, reading, total, opened, caller, callee, *helpers, rows.len(), targets)
+            back_step(
+                alloc,
+                reading,
+                total,
+                opened,
+                caller,
+                callee,
+                *helpers,
+                rows.len(),
+                targets,
+            )
         }
         Some(Act::Inside { .. }) | Some(Act::Back { .. }) | None => unreachable!(),
     }

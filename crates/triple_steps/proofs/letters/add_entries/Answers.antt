@@ -5,7 +5,7 @@ use Rattle.nested_refutations.specs.Numbers.{branch_rows}
 use Rattle.triple_steps.specs.declared.sections.Tie.TheVariants.{Opposite}
 use Rattle.triple_steps.specs.declared.sections.Section.{Section}
 use Rattle.triple_steps.specs.declared.sections.Section.TheVariants.{Rows, Tie}
-use Rattle.triple_steps.specs.Sections.{roles_in, AddsRoles}
+use Rattle.triple_steps.specs.Sections.{roles_in}
 use Rattle.triple_steps.proofs.RoleLaws.{roles_pushed, adds_mapped, adds_then, adds_else, on_ok}
 use Rattle.triple_steps.proofs.letters.add_entries.Goals as goal
 

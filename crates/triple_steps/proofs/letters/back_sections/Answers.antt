@@ -1,4 +1,4 @@
-use Rattle.std.proofs.Common.{◌≡◌, ◌∙◌, ◌+◌, ℕ, suc, refl, ap, arith}
+use Rattle.std.proofs.Common.{◌≡◌, ◌∙◌, ℕ, suc, refl, ap, arith}
 use Rattle.nested_refutations.specs.Numbers.{spares, before_bounds}
 use Rattle.triple_steps.specs.declared.sections.Section.TheVariants.{Claim, Rows, Spare}
 use Rattle.triple_steps.proofs.RoleLaws.{first_section, then_section, then_roles}

@@ -1,4 +1,4 @@
-use Rattle.std.proofs.Common.{◌≡◌, ◌∙◌, Some, ap, rules}
+use Rattle.std.proofs.Common.{◌∙◌, Some, ap, rules}
 use Rattle.letter_acts.specs.declared.acts.Act.{Act}
 use Rattle.letter_acts.specs.Acts.{plain_act}
 use Rattle.nested_predicates.proofs.BaseLaws.{if_ok}

@@ -6,7 +6,6 @@ use Rattle.nwa_base.specs.declared.letters.Kind.TheVariants.{Inside}
 use Rattle.nwa_base.specs.Words.{are_matched}
 use Rattle.letter_acts.specs.Acts.{frame_of, act_of}
 use Rattle.letter_acts.specs.Invariant.{alphabet_of}
-use Rattle.nested_predicates.specs.Walking.{AreLetters}
 use Rattle.nested_predicates.proofs.LetterLaws.{accepted_letters}
 use Rattle.nested_predicates.proofs.LeafLaws.{letter_is, within_word}
 use Rattle.nested_predicates.proofs.StampCounts.{letter_at}

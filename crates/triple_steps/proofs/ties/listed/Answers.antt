@@ -1,6 +1,5 @@
-use Rattle.std.proofs.Common.{◌∙◌, ℕ, Bool, true, cond, take, get_or, sym, ap}
+use Rattle.std.proofs.Common.{◌∙◌, Bool, true, cond, get_or, sym, ap}
 use Rattle.std.specs.Prelude.{nat_eq}
-use Rattle.triple_rows.specs.Systems.{is_listed}
 use Rattle.triple_steps.proofs.ColumnLaws.{listed_next}
 use Rattle.triple_steps.proofs.ties.listed.Goals as goal
 

@@ -1,4 +1,4 @@
-use Rattle.std.proofs.Common.{◌≡◌, ◌+◌, ◌<◌, ◌^◌, ℕ, arith, rules}
+use Rattle.std.proofs.Common.{◌^◌, arith, rules}
 use Rattle.triple_steps.proofs.ColumnLaws.{place_fits, all_below}
 use Rattle.triple_steps.proofs.columns.Columns.of.Goals as goal
 
