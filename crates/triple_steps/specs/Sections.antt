@@ -1,5 +1,5 @@
 -- The rows of the system of a letter's triple, section by section: what multiplier each has at a leaf of the refutation.
-use Rattle.std.specs.Prelude.{◌≡◌, ℕ, List, [], ◌∷◌, ◌++◌, Option, None, Some, slice_get}
+use Rattle.std.specs.Prelude.{◌≡◌, ℕ, ◌+◌, List, [], ◌∷◌, ◌++◌, Option, None, Some, slice_get}
 use Rattle.nwa_base.specs.declared.letters.Letter.{Letter}
 use Rattle.letter_acts.specs.Invariant.{Graph}
 use Rattle.farkas_check.specs.Trees.{Tree}
@@ -32,6 +32,22 @@ section_roles g w t v (sections.Tie tie) = tie_role tie ∷ []
 abbrev pub roles_in : Graph → List Letter → Tree → View → List Section → List Role
 roles_in g w t v [] = []
 roles_in g w t v (s ∷ ss) = section_roles g w t v s ++ roles_in g w t v ss
+
+-- how many rows stand before those of each claim, from those of the claim before on, where so many stand already
+abbrev pub gaps_in : ℕ → List Section → List ℕ
+gaps_in k [] = []
+gaps_in k (sections.Claim i ∷ ss) = k ∷ gaps_in 0 ss
+gaps_in k (sections.Spare count ∷ ss) = gaps_in (k + count) ss
+gaps_in k (sections.Rows first count ∷ ss) = gaps_in (k + count) ss
+gaps_in k (sections.Tie tie ∷ ss) = gaps_in (k + 1) ss
+
+-- the numbers of the claims whose rows stand there, in order
+abbrev pub claims_in : List Section → List ℕ
+claims_in [] = []
+claims_in (sections.Claim i ∷ ss) = i ∷ claims_in ss
+claims_in (sections.Spare count ∷ ss) = claims_in ss
+claims_in (sections.Rows first count ∷ ss) = claims_in ss
+claims_in (sections.Tie tie ∷ ss) = claims_in ss
 
 -- sections are added, whose rows have these multipliers
 abbrev pub AddsRoles : List Section → List Section → List Role → Type 0

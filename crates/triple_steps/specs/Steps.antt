@@ -1,15 +1,17 @@
 -- The steps of a word's letters: what the system of each letter's triple says of which predicates, what its rows are, and where
 -- the word's columns stand in it.
-use Rattle.std.specs.Prelude.{◌≡◌, ℕ, ◌^◌, ◌<◌, true, false, List, [], ◌∷◌, ◌++◌, map, Some, slice_get}
+use Rattle.std.specs.Prelude.{◌≡◌, ℕ, ◌^◌, ◌<◌, true, false, List, [], ◌∷◌, ◌++◌, map, length, Some, slice_get}
 use Rattle.nwa_base.specs.declared.letters.Letter.{Letter}
-use Rattle.letter_acts.specs.Invariant.{Graph}
+use Rattle.letter_acts.specs.Invariant.{Graph, alphabet_of}
+use Rattle.path_rows.specs.Versions.{columns_from}
 use Rattle.farkas_check.specs.Trees.{Tree}
 use Rattle.nested_predicates.specs.Stamps.{stamps_of}
 use Rattle.nested_predicates.specs.Positions.{positions_of}
 use Rattle.nested_refutations.specs.Numbers.{Step, column_in}
+use Rattle.nested_refutations.specs.Walked.{gaps_of}
 use Rattle.triple_steps.specs.declared.columns.Columns.{Columns}
 use Rattle.triple_steps.specs.declared.making.Step as found
-use Rattle.triple_steps.specs.Sections.{roles_in}
+use Rattle.triple_steps.specs.Sections.{roles_in, gaps_in, claims_in}
 
 -- the column in the system of a column of the word
 abbrev pub place_of : Columns → ℕ → ℕ
@@ -19,14 +21,16 @@ place_of columns c = column_in columns.at columns.first columns.made.items c
 abbrev pub FitColumns : ℕ → Columns → Type 0
 FitColumns count columns = (c : ℕ) → c < count → place_of columns c < 2 ^ 32
 
--- The step is that of the definition: the same claims, at positions of the word by number, the target last; the same rows; and the
--- same columns.
+-- The step is that of the definition: the same claims, at positions of the word by number, the target last; the same rows, those of
+-- the claims in order; and the same columns.
 pub record IsStep (g : Graph) (w : List Letter) (t : Tree) (s : Step) (f : found.Step) : Type 0 where
   pub positions : map (λ c. Some c.position) s.view.claims ≡ map (slice_get (positions_of g w)) (f.sources.items ++ f.target ∷ [])
   pub denied : map (λ c. c.is_denied) s.view.claims ≡ map (λ p. false) f.sources.items ++ true ∷ []
   pub stamps : s.view.columns ≡ (stamps_of g w).columns
   pub returns : s.view.returns ≡ f.returns
   pub roles : s.roles ≡ roles_in g w t s.view f.sections.items
+  pub order : claims_in f.sections.items ≡ columns_from 0 (length s.view.claims)
+  pub gaps : gaps_in 0 f.sections.items ≡ gaps_of (alphabet_of g) s.triple
   pub column : (c : ℕ) → s.view.column c ≡ place_of f.columns c
 
 -- one after the other
