@@ -1,2 +1,3 @@
 mod LeftLaws
 mod SecondLaws
+pub mod TableLaws
