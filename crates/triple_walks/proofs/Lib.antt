@@ -5,4 +5,5 @@ mod LeftLaws
 pub mod ListedLaws
 mod SecondLaws
 mod StopLaws
+pub mod TableLaws
 pub mod TellingLaws
