@@ -1,22 +1,21 @@
--- A table for the nodes of a refutation's prefix list has what there is of each node of its tree.
-use Rattle.std.proofs.Common.{◌≡◌, ◌∙◌, ℕ, List, [], ◌∷◌, ◌++◌, map, append_assoc, refl, sym, ap, subst}
+-- What is read of the prefix list of a refutation of a word's rows is its tree.
+use Rattle.std.proofs.Common.{◌≡◌, ◌∙◌, ℕ, List, [], ◌∷◌, map, sym, ap, subst}
 use Rattle.std.proofs.lemmas.List.{append-nil}
-use Rattle.farkas_check.specs.Nodes.{PlainNode, cut}
+use Rattle.farkas_check.specs.Nodes.{PlainNode}
 use Rattle.farkas_check.specs.Refutes.{at_most, above}
 use Rattle.farkas_check.specs.Trees.{Tree, leaf_tree, cut_tree, cases_tree, prefix_of, TreeRefutes}
 use Rattle.nwa_base.specs.declared.letters.Letter.{Letter}
 use Rattle.letter_acts.specs.Invariant.{Graph}
 use Rattle.path_rows.specs.Paths.{path_of}
-use Rattle.triple_rows.specs.declared.predicates.PredNode.{PredNode}
 use Rattle.nested_predicates.specs.Stamps.{stamps_of}
 use Rattle.nested_predicates.specs.Positions.{Position, positions_of}
 use Rattle.nested_predicates.specs.Sums.{Branch, root_of, with_cut}
 use Rattle.nested_predicates.specs.Interpolants.{RefutesRows}
 use Rattle.nested_predicates.specs.Tables.{row_of_node, table_along}
 use Rattle.nested_predicates.proofs.EndLaws.{rows_goal, tree_refutes}
-use Rattle.nested_refutations.specs.Refutations.{Spot, low_side, high_side}
 use Rattle.triple_walks.specs.declared.trees.Tree as code
 use Rattle.triple_walks.specs.Spots.{HasNoCases, listed, node_of, seconds_of, IsTree}
+use Rattle.triple_walks.proofs.ListedLaws.{table_listed}
 
 -- a tree that refutes rows without groups has no cases
 uncased : (b : Branch) (t : Tree) → TreeRefutes t (rows_goal b) → HasNoCases t
@@ -26,23 +25,6 @@ uncased b (cases_tree ts) h = absurd h
 
 pub refutation_uncased : (g : Graph) (w : List Letter) (t : Tree) → RefutesRows (prefix_of t) (path_of g w).rows → HasNoCases t
 refutation_uncased g w t h = uncased (root_of g w) t (tree_refutes t g w h)
-
--- the rows of a tree's nodes, and then those of the nodes behind it
-table_listed : (columns : List ℕ) (qs : List Position) (n : ℕ) (b : Branch) (t : Tree) (ns : List PlainNode) (bs : List Branch) → HasNoCases t →
-    table_along columns qs (prefix_of t ++ ns) (b ∷ bs) ≡ listed (λ s. row_of_node columns qs (node_of s.tree) s.branch) columns n b t ++ table_along columns qs ns bs
-table_listed columns qs n b (leaf_tree parts) ns bs h = refl
-table_listed columns qs n b (cut_tree c k t u) ns bs h =
-    let row = λ (s : Spot). row_of_node columns qs (node_of s.tree) s.branch in
-    let low : Spot = low_side columns n b c k t in
-    let high : Spot = high_side columns n b c k t u in
-    let x : List (List PredNode) = listed row columns low.node low.branch t in
-    let y : List (List PredNode) = listed row columns high.node high.branch u in
-    let here : List PredNode = row_of_node columns qs (cut c k) b in
-    ap (λ (l : List (List PredNode)). here ∷ l)
-    (ap (λ (l : List PlainNode). table_along columns qs l (low.branch ∷ high.branch ∷ bs)) (append_assoc (prefix_of t) (prefix_of u) ns) ∙
-    table_listed columns qs low.node low.branch t (prefix_of u ++ ns) (high.branch ∷ bs) h.0 ∙
-    ap (λ (l : List (List PredNode)). x ++ l) (table_listed columns qs high.node high.branch u ns bs h.1) ∙ sym (append_assoc x y (table_along columns qs ns bs)))
-table_listed columns qs n b (cases_tree ts) ns bs h = absurd h
 
 -- a tree whose table and second parts are those of a refutation of a word's rows
 pub tree_is : (g : Graph) (w : List Letter) (t : Tree) (nodes : List PlainNode) (x : code.Tree) → RefutesRows nodes (path_of g w).rows → prefix_of t ≡ nodes →
