@@ -18,6 +18,7 @@ done < crates.txt
 for path in $(grep -oE '(examples|docs|bench)/[A-Za-z0-9_./-]+' README.md | sort -u); do
   [ -e "${path%.}" ] || wrong "README.md names $path, which is not there"
 done
+cannot=$(.ci/edits.py) || wrong "an edit cannot be applied: $cannot"
 [ -x automizer ] || wrong 'the script ./automizer is not there'
 # The examples are verified as they say, by the proved program, and each verdict is confirmed.
 program=crates/automizer/out/automizer

@@ -17,6 +17,7 @@ use Rattle.trace_replay.specs.declared.causes.ReplayCause.TheVariants as causes
 use Rattle.trace_replay.specs.declared.causes.ReplayFault.TheVariants.{At}
 use Rattle.race_core.specs.declared.ends.Cause.TheVariants.{Rounds, Whole, Number}
 use Rattle.race_core.specs.declared.ends.End.TheVariants.{Unknown}
+use Rattle.nested_refutations.specs.Numbers.{NumbersFit}
 use Rattle.itp_automaton.specs.Certified.{Certificate}
 use Rattle.race_rounds.specs.Ends.{Options, NumberPasses, of_decide, of_predicates, of_run, SaysOfWord}
 use Rattle.race_rounds.specs.Rounds.{IsEvidence}
@@ -26,9 +27,10 @@ decide_passes t g d depth w e s n =
     of_decide (subst (λ (x : ℕ). PathFits (lowered t) x w → ⊥) (sym s) (subst (λ (x : Graph). PathFits x depth w → ⊥) e n))
 
 pub predicates_pass : (t : TypedProgram) (g : Graph) (d depth : ℕ) (w : List Letter) (nodes : List PlainNode) → g ≡ lowered t → d ≡ depth →
-    path_decision g depth w ≡ refuted nodes → NumberPasses t d w
-predicates_pass t g d depth w nodes e s p =
+    path_decision g depth w ≡ refuted nodes → (NumbersFit g w nodes → ⊥) → NumberPasses t d w
+predicates_pass t g d depth w nodes e s p n =
     of_predicates nodes (subst (λ (x : ℕ). path_decision (lowered t) x w ≡ refuted nodes) (sym s) (subst (λ (x : Graph). path_decision x depth w ≡ refuted nodes) e p))
+    (subst (λ (x : Graph). NumbersFit x w nodes → ⊥) e n)
 
 pub told_passes : (t : TypedProgram) (point : ℕ → ℤ) (w : List Letter) (step : ℕ) (cause : ReplayCause) → IsToldFault t point w (At step cause) → ToldPasses t point w step
 told_passes t point w step causes.Blocked h = absurd h

@@ -12,6 +12,7 @@ use Rattle.letter_acts.specs.Feasible.{IsFeasible}
 use Rattle.letter_acts.specs.Invariant.{alphabet_of}
 use Rattle.typed_tree.specs.TypedTree.{TypedProgram}
 use Rattle.lowered_graph.specs.Lowered.{lowered}
+use Rattle.nested_refutations.specs.Numbers.{NumbersFit}
 use Rattle.path_decide.specs.Decided.{RefutesPath, path_decision, PathFits, IsGap}
 use Rattle.lowered_choices.specs.Choices.{FailsAtLast}
 use Rattle.trace_replay.specs.Replays.{choices_among, Replays}
@@ -41,11 +42,11 @@ pub record FailsAfter (t : TypedProgram) (steps : ℕ) (choices : List ℤ) : Ty
   pub replays : Replays t steps choices assertion
   pub fit : AllByRecursion Fits choices
 
--- A number that does not fit: one of Decide on the rows of the word; one of the prefix predicates, or of the refutations of their triples, under
--- Decide's own refutation, of which this says only that there is one; or a value of the run that Decide's point and an accepting run tell.
+-- A number that does not fit: one of Decide on the rows of the word; one of the prefix predicates, of the systems of their triples or of the
+-- refutations of these, under Decide's own refutation; or a value of the run that Decide's point and an accepting run tell.
 pub data NumberPasses (t : TypedProgram) (depth : ℕ) (w : List Letter) : Type 0 where
   of_decide : (PathFits (lowered t) depth w → ⊥) → NumberPasses t depth w
-  of_predicates : (nodes : List PlainNode) → path_decision (lowered t) depth w ≡ refuted nodes → NumberPasses t depth w
+  of_predicates : (nodes : List PlainNode) → path_decision (lowered t) depth w ≡ refuted nodes → (NumbersFit (lowered t) w nodes → ⊥) → NumberPasses t depth w
   of_run : (values : List ℤ) (step : ℕ) → path_decision (lowered t) depth w ≡ whole values → ToldPasses t (point_of values) w step →
       NumberPasses t depth w
 

@@ -1,11 +1,12 @@
 //! Automata of infeasible words, from refutations of the rows of one.
 
-ghost use Rattle.std.specs.Prelude.{◌≡◌, ◌≤◌, ℕ, IfOk, IfSome};
+ghost use Rattle.std.specs.Prelude.{◌≡◌, ◌≤◌, ℕ, None, IfOk, IfSome};
 ghost use Rattle.typed_tree.specs.TypedTree.{TypedProgram};
 ghost use Rattle.lowered_graph.specs.Lowered.{lowered};
 ghost use Rattle.path_rows.specs.Paths.{IsPathOf};
 ghost use Rattle.path_decide.specs.Decided.{IsRefutation};
 ghost use Rattle.nested_predicates.specs.Interpolants.{RefutesRows, HasCutsUpTo};
+ghost use Rattle.nested_refutations.specs.Numbers.{NumbersFit};
 ghost use Rattle.race_rounds.specs.Ends.{Options};
 ghost use Rattle.race_rounds.specs.Rounds.{IsEvidence, IsRefined};
 
@@ -30,7 +31,8 @@ pub enum Refined {
     Unknown(Cause),
 }
 
-/// The automaton under a refutation of the word's rows; `None` where a number of the prefix predicates does not fit.
+/// The automaton under a refutation of the word's rows; `None` only where a number of the prefix predicates, of the systems of their
+/// triples or of the refutations of these does not fit.
 fn automaton_under<R: Threads + Sync>(
     rt: &R,
     alloc: Global,
@@ -41,7 +43,8 @@ fn automaton_under<R: Threads + Sync>(
     requires path { IsPathOf icfg.now path.now }
     requires refutes { RefutesRows refutation.now path.now.rows }
     requires cuts { HasCutsUpTo 64 refutation.now }
-    ensures { IfOk result (λ o. IfSome o (IsEvidence icfg.now path.now.word)) }
+    ensures evidence { IfOk result (λ o. IfSome o (IsEvidence icfg.now path.now.word)) }
+    ensures passes { IfOk result (λ o. o ≡ None → NumbersFit icfg.now path.now.word refutation.now → ⊥) }
 {
     let itp = match interpolants(alloc, icfg, path, refutation) {
         Ok(itp) => itp,

@@ -113,3 +113,9 @@ pub record IsRefuted (al : Alphabet) (triple : Triple) (nodes : List PlainNode) 
   pub system : System
   pub is_system : IsSystem (system_of al triple) system
   pub refutes : Refutes nodes system
+
+-- there is a system with the rows and groups of the triple's that the nodes do not refute
+pub record IsUnrefuted (al : Alphabet) (triple : Triple) (nodes : List PlainNode) : Type 0 where
+  pub system : System
+  pub is_system : IsSystem (system_of al triple) system
+  pub unrefuted : Refutes nodes system → ⊥

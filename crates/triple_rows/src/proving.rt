@@ -1,6 +1,7 @@
 ghost use Rattle.std.specs.Prelude.{◌≡◌, ◌↔◌, IsSome, IfOk, IfSome};
 ghost use Rattle.letter_acts.specs.Invariant.{alphabet_of};
-ghost use Rattle.triple_rows.specs.Triples.{Agrees, IsValid, IsRefuted};
+ghost use Rattle.triple_rows.specs.Systems.{PlainFits};
+ghost use Rattle.triple_rows.specs.Triples.{Agrees, IsValid, IsRefuted, IsUnrefuted, system_of};
 
 use crate::proofs::Proof;
 use crate::systems::systems_of;
@@ -20,6 +21,7 @@ pub fn proof(
 ) -> Result<Option<Proof>, AllocError>
     requires { Agrees (alphabet_of icfg.now) triple }
     ensures found { IfOk result (λ o. IsSome o ↔ IsRefuted (alphabet_of icfg.now) triple refutation) }
+    ensures missed { IfOk result (λ o. o ≡ None → PlainFits (system_of (alphabet_of icfg.now) triple) → IsUnrefuted (alphabet_of icfg.now) triple refutation) }
     ensures value { IfOk result (λ o. IfSome o (λ p. p ≡ record { triple = triple; refutation = refutation })) }
     ensures valid { IfOk result (λ o. IsSome o → IsValid (alphabet_of icfg.now) triple) }
 {

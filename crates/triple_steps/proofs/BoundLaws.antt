@@ -1,5 +1,5 @@
 -- The rows that bound columns.
-use Rattle.std.proofs.Common.{◌≡◌, ◌≢◌, ◌∙◌, ℕ, suc, ◌+◌, ◌<◌, ◌≤◌, Bool, true, false, cond, List, [], ◌∷◌, ◌++◌, length, map, drop, get_or, append_assoc, refl, sym, ap, subst, arith}
+use Rattle.std.proofs.Common.{◌≡◌, ◌≢◌, ◌∙◌, ℕ, ◌+◌, ◌<◌, ◌≤◌, Bool, true, false, cond, List, [], ◌∷◌, ◌++◌, length, drop, get_or, append_assoc, refl, sym, ap, subst, arith}
 use Rattle.std.specs.Prelude.{filter, nat_eq, not, if◌then◌else◌}
 use Rattle.std.proofs.lemmas.Bool.{eqb-true}
 use Rattle.std.proofs.lemmas.List.{append-nil, drop_more, drop_all}
@@ -46,15 +46,6 @@ abbrev Adds : List Section → List Section → ℕ → ℕ → ℕ → ℕ → 
 Adds old new local next_local before next_old c =
     (g : Graph) (w : List Letter) (t : Tree) (v : View) (rest : Columns) →
     roles_in g w t v new ++ callee_bounds next_local next_old rest ≡ roles_in g w t v old ++ callee_bounds local before (c ∷ rest)
-
--- that of a column that is no boolean
-pub bound_none : (old new : List Section) (local before : ℕ) (c : Column × VarInfo) → new ≡ old → is_bool c ≡ false → Adds old new local local before before c
-bound_none old new local before c e f =
-    λ g w t v rest.
-    ap (λ (l : List Section). roles_in g w t v l ++ callee_bounds local before rest) e ∙
-    ap (λ (b : Bool). roles_in g w t v old ++
-    chosen b (is_local c) (is_old c) (callee_bounds local before rest) (branch_rows local 2 ++ callee_bounds (local + 2) before rest) (branch_rows before 2 ++ callee_bounds local (before + 2) rest)
-    (spares 2 ++ callee_bounds local before rest)) (sym f)
 
 -- of any other, by what it is
 pub bound_one : (old new : List Section) (s : Section) (local next_local before next_old : ℕ) (c : Column × VarInfo) (roles : List Role) → new ≡ old ++ s ∷ [] → is_bool c ≡ true →

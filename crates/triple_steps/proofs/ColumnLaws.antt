@@ -1,8 +1,8 @@
 -- Columns one after another, and the columns of frames by their class.
-use Rattle.std.proofs.Common.{◌≡◌, ◌∙◌, ℕ, zero, suc, ◌+◌, ◌-◌, ◌<◌, ◌≤◌, ◌^◌, Bool, true, false, cond, List, [], ◌∷◌, ◌++◌, length, map, take, drop, get_or, append_assoc, refl, sym, ap, subst, arith, Option, None, Some}
+use Rattle.std.proofs.Common.{◌≡◌, ◌∙◌, ℕ, zero, suc, ◌+◌, ◌-◌, ◌<◌, ◌≤◌, Bool, true, false, cond, List, [], ◌∷◌, ◌++◌, length, map, take, drop, get_or, append_assoc, refl, sym, ap, subst, arith}
 use Rattle.std.specs.Prelude.{unwrap_or, slice_get, nat_lt, filter, nat_eq, ◌||◌}
 use Rattle.std.specs.List.{AllByRecursion}
-use Rattle.std.proofs.lemmas.List.{append-nil, take_more, take_all, drop_more, drop_all}
+use Rattle.std.proofs.lemmas.List.{append-nil, take_all, drop_more, drop_all}
 use Rattle.boogie_tree.specs.declared.tree.VarInfo.{VarInfo}
 use Rattle.boogie_tree.specs.declared.tree.Column.{Column}
 use Rattle.boogie_tree.specs.declared.tree.Column.TheVariants.{Global, Old, Local}
@@ -38,9 +38,6 @@ pub mapped_next : {X Y : Type 0} (f : X → Y) (xs : List X) (i : ℕ) (d : X) (
 mapped_next {X} {Y} f xs i d old now new y l e h k =
     h ∙ ap (λ (z : List Y). z ++ y ∷ []) e ∙ append_assoc old (map f (take i xs)) (y ∷ []) ∙
     ap (λ (z : Y). old ++ (map f (take i xs) ++ z ∷ [])) k ∙ ap (λ (z : List Y). old ++ z) (sym (map_next f xs i d l))
-
-pub mapped_start : {X Y : Type 0} (f : X → Y) (xs : List X) (old : List Y) → old ≡ old ++ map f (take 0 xs)
-mapped_start f xs old = sym (append-nil old)
 
 pub mapped_done : {X Y : Type 0} (f : X → Y) (xs : List X) (i : ℕ) (old now : List Y) → length xs ≤ i → now ≡ old ++ map f (take i xs) → now ≡ old ++ map f xs
 mapped_done {X} {Y} f xs i old now l e = e ∙ ap (λ (z : List X). old ++ map f z) (take_all i xs l)
@@ -88,9 +85,6 @@ olds_next frame i place d c front new l p k e h =
 pub olds_done : (frame : Columns) (i : ℕ) (front : List (ℕ × ℕ)) → length frame ≤ i → front ++ olds_from i (drop i frame) ≡ olds_of frame → front ≡ olds_of frame
 olds_done frame i front l e = sym (append-nil front) ∙ subst (λ (ys : Columns). front ++ olds_from i ys ≡ olds_of frame) (drop_all i frame l) e
 
-pub old_added : (c : Column) (n global : ℕ) (front new : List (ℕ × ℕ)) → c ≡ Old global → new ≡ front ++ (n, global) ∷ [] → new ≡ front ++ old_at c n []
-old_added c n global front new e f = f ∙ ap (λ (x : Column). front ++ old_at x n []) (sym e)
-
 olds_placed_from : (n : ℕ) (frame : Columns) → map (λ (o : ℕ × ℕ). o.0) (olds_from n frame) ≡ places is_old n frame
 olds_placed_from n [] = refl
 olds_placed_from n (c ∷ cs) = by_column c.0 (olds_placed_from (suc n) cs)
@@ -130,6 +124,10 @@ place_found : (made : List ℕ) (k : ℕ) (d n : ℕ) → AllByRecursion (λ c. 
 place_found [] k d n h l = l
 place_found (c ∷ cs) zero d n h l = h.0
 place_found (c ∷ cs) (suc k) d n h l = place_found cs k d n h.1 l
+
+pub all_below : (n : ℕ) (xs : List ℕ) → ((i : ℕ) → i < length xs → get_or xs i 0 < n) → AllByRecursion (λ x. x < n) xs
+all_below n [] h = tt
+all_below n (x ∷ xs) h = (h 0 (omega arith), all_below n xs (λ i l. h (suc i) (omega (arith, l))))
 
 pub place_fits : (at first c n : ℕ) (made : List ℕ) → AllByRecursion (λ x. x < n) made → at + c < n → cond (nat_lt c first) (at + c) (unwrap_or (slice_get made (c - first)) (at + c)) < n
 place_fits at first c n made h l = by_test (nat_lt c first)

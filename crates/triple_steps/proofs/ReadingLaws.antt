@@ -1,5 +1,5 @@
 -- A word is read letter by letter: the rows and columns that it has made, and the calls that are open.
-use Rattle.std.proofs.Common.{◌≡◌, ◌∙◌, ℕ, zero, suc, ◌+◌, ◌<◌, Bool, true, false, List, [], ◌∷◌, ◌++◌, length, map, reverse, append_assoc, length-append, refl, sym, ap, subst, arith, Option, None, Some}
+use Rattle.std.proofs.Common.{◌≡◌, ◌∙◌, ℕ, suc, ◌+◌, Bool, true, List, [], ◌∷◌, ◌++◌, length, map, reverse, length-append, refl, sym, ap, subst, arith, Option, None, Some}
 use Rattle.std.specs.Prelude.{filter, slice_index}
 use Rattle.std.proofs.lemmas.List.{length-map, reverse-append}
 use Rattle.nwa_base.specs.declared.letters.Kind.{Kind}
@@ -8,11 +8,11 @@ use Rattle.nwa_base.specs.declared.letters.Letter.{Letter}
 use Rattle.nwa_base.specs.Words.{goes_on}
 use Rattle.lin_rows.specs.Rows.{LinearRow}
 use Rattle.letter_acts.specs.Frames.{Columns, is_variable, variables_of}
-use Rattle.letter_acts.specs.Acts.{PlainAct, inside_act, call_act, back_act, kind_of, letter_of, Alphabet, frame_of, act_of}
+use Rattle.letter_acts.specs.Acts.{PlainAct, inside_act, call_act, back_act, kind_of, Alphabet, frame_of, act_of}
 use Rattle.letter_acts.specs.Invariant.{Graph, alphabet_of}
 use Rattle.letter_acts.proofs.KnownLemmas.{act_found}
 use Rattle.path_rows.specs.Rows.{bounds, types_of, types_at}
-use Rattle.path_rows.specs.Versions.{Stage, Part, rows_in, entry_rows, locals_of, old_part, inside_part, call_part, back_part, return_part, act_part, part_of}
+use Rattle.path_rows.specs.Versions.{Stage, Part, rows_in, locals_of, old_part, inside_part, call_part, back_part, return_part, act_part, part_of}
 use Rattle.path_rows.specs.Paths.{start_frame}
 use Rattle.nested_predicates.proofs.StampCounts.{types_counted, types_counted_at, places_counted, entries_counted, return_rows}
 use Rattle.nested_refutations.specs.Numbers as numbers

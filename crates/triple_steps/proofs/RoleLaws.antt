@@ -1,6 +1,6 @@
 -- Sections that are added one after another, and their roles.
-use Rattle.std.proofs.Common.{◌≡◌, ◌∙◌, ℕ, suc, Bool, true, false, List, [], ◌∷◌, ◌++◌, length, map, append_assoc, refl, sym, ap, subst}
-use Rattle.std.specs.Prelude.{Result, Ok, Err, OnOk}
+use Rattle.std.proofs.Common.{◌≡◌, ◌∙◌, ℕ, Bool, true, false, List, [], ◌∷◌, ◌++◌, map, append_assoc, refl, sym, ap, subst}
+use Rattle.std.specs.Prelude.{Result, Ok, Err, OnOk, if◌then◌else◌}
 use Rattle.std.proofs.lemmas.List.{append-nil}
 use Rattle.nwa_base.specs.declared.letters.Letter.{Letter}
 use Rattle.letter_acts.specs.Frames.{Columns}
@@ -49,6 +49,13 @@ adds_mapped {X} old new h r xs e f =
 
 pub adds_same : (old new : List Section) (a b : List Role) → a ≡ b → AddsRoles old new a → AddsRoles old new b
 adds_same old new a b e h = subst (AddsRoles old new) e h
+
+-- by a test
+pub adds_then : (b : Bool) (old new : List Section) (x y : List Role) → b ≡ true → AddsRoles old new x → AddsRoles old new (if b then x else y)
+adds_then b old new x y e h = subst (λ (c : Bool). AddsRoles old new (if c then x else y)) (sym e) h
+
+pub adds_else : (b : Bool) (old new : List Section) (x y : List Role) → b ≡ false → AddsRoles old new y → AddsRoles old new (if b then x else y)
+adds_else b old new x y e h = subst (λ (c : Bool). AddsRoles old new (if c then x else y)) (sym e) h
 
 pub on_ok : {A E : Type 0} (P Q : Type 0) → (P → Q) → (r : Result A E) → OnOk r P → OnOk r Q
 on_ok P Q f (Ok a) h = f h

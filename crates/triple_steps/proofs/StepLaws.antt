@@ -1,20 +1,23 @@
 -- The loop over a word's letters that makes their steps.
-use Rattle.std.proofs.Common.{◌≡◌, ◌∙◌, ℕ, zero, suc, ◌+◌, ◌<◌, ◌≤◌, Bool, true, false, List, [], ◌∷◌, ◌++◌, length, map, drop, get_or, reverse, append_assoc, length-append, refl, sym, ap, subst, arith, Option, None, Some}
-use Rattle.std.specs.Prelude.{slice_get, IsSome}
+use Rattle.std.proofs.Common.{◌≡◌, ◌∙◌, ℕ, zero, suc, ◌+◌, ◌<◌, ◌≤◌, Bool, true, List, [], ◌∷◌, ◌++◌, length, drop, get_or, reverse, append_assoc, length-append, refl, sym, ap, subst, arith, Option, None, Some}
+use Rattle.std.specs.Prelude.{◌-◌, slice_get, option_map, IsSome}
 use Rattle.std.specs.List.{AllByRecursion}
-use Rattle.std.proofs.lemmas.List.{append-nil, drop_all, drop_more}
+use Rattle.std.proofs.lemmas.List.{append-nil, drop_all, drop_more, get_or-reverse, length-reverse}
+use Rattle.std.proofs.lemmas.Option.{slice_get_within, get_or_from_slice_get, slice_get-map, slice_get_read}
 use Rattle.nwa_base.specs.declared.letters.Letter.{Letter}
 use Rattle.nwa_base.specs.Words.{are_matched}
 use Rattle.lin_rows.specs.Rows.{LinearRow}
 use Rattle.letter_acts.specs.Frames.{Columns}
-use Rattle.letter_acts.specs.Acts.{PlainAct, inside_act, call_act, back_act, Alphabet, frame_of, act_of}
-use Rattle.letter_acts.specs.Invariant.{Graph, IsGraph, IsActed, alphabet_of}
+use Rattle.letter_acts.specs.declared.acts.Act.{Act}
+use Rattle.letter_acts.specs.Acts.{PlainAct, inside_act, call_act, back_act, plain_act, plain_acts, Alphabet, frame_of, act_of}
+use Rattle.letter_acts.specs.Invariant.{Graph, IsActed, alphabet_of}
+use Rattle.letter_acts.specs.Kept.{Keeps}
 use Rattle.letter_acts.proofs.KnownLemmas.{act_found}
 use Rattle.path_rows.specs.Versions.{Stage, Part, part_of, act_part, locals_of, old_part}
 use Rattle.path_rows.specs.Paths.{repeated, start_frame, first_stage, path_along, path_of}
 use Rattle.farkas_check.specs.Trees.{Tree}
 use Rattle.nested_predicates.specs.Stamps.{stamp_of, callee_stamp, column_stamps, call_stamps, stamps_along, stamps_of}
-use Rattle.nested_predicates.specs.Positions.{Scope, has_return, scopes_after, Position, position_at, positions_along, positions_of}
+use Rattle.nested_predicates.specs.Positions.{Scope, has_return, Position, position_at, positions_along, positions_of}
 use Rattle.nested_predicates.proofs.WordLaws.{later, split_first}
 use Rattle.nested_refutations.specs.Numbers as numbers
 use Rattle.nested_refutations.specs.Numbers.{here, read_on, step_by, steps_back, steps_along, steps_of}
@@ -22,8 +25,8 @@ use Rattle.triple_steps.specs.declared.readings.Reading.{Reading}
 use Rattle.triple_steps.specs.declared.readings.OpenCall.{OpenCall}
 use Rattle.triple_steps.specs.declared.making.Step.{Step}
 use Rattle.triple_steps.specs.Steps.{FitColumns, IsStep, AreSteps}
-use Rattle.triple_steps.specs.Readings.{IsAt, IsCall, AreCalls, IsReading, start_reading, FindsCall, IsInsideStep, IsCallStep, IsBackStep, IsReturnOf, IsStepBy, IsStepBack}
-use Rattle.triple_steps.proofs.ReadingLaws.{matched_on, finds, kind_known}
+use Rattle.triple_steps.specs.Readings.{IsAt, AreCalls, IsReading, start_reading, FindsCall, IsInsideStep, IsCallStep, IsBackStep, IsReturnOf, IsStepBy, IsStepBack}
+use Rattle.triple_steps.proofs.ReadingLaws.{matched_on, finds}
 
 -- ---- as many columns as the path has
 
@@ -123,6 +126,12 @@ call_by g w rest t a r s to caller callee helpers rows returns from_frame to_fra
           (subst (λ (x : ℕ). IsStep g w t (numbers.call_step g w t a.id (suc s.letters) s.rows x (has_return 0 rest) (here r) to (frame_of al caller) (frame_of al callee) helpers rows) f) (sym is.made) framed));
     }
 
+-- the act with a number, as it is stored
+pub act_stored : (g : Graph) (acts : List Act) (n : ℕ) (act : Act) → plain_acts acts ≡ g.acts → n < length acts → act ≡ get_or acts n act → slice_get g.acts n ≡ Some (plain_act act)
+act_stored g acts n act e l h =
+    subst (λ (xs : List PlainAct). slice_get xs n ≡ Some (plain_act act)) e
+    (slice_get-map plain_act acts n ∙ ap (option_map plain_act) (slice_get_read acts (length acts) n act refl l h))
+
 -- a return, once its call's act is known
 pub back_found : (g : Graph) (s : Reading) (c : OpenCall) (call : ℕ) (targets : List ℕ) (caller callee helpers : ℕ) (rows : List LinearRow) (from_frame to_frame : Columns) (count : ℕ) (f : Step) →
     slice_get g.acts call ≡ Some (call_act caller callee helpers rows) → from_frame ≡ frame_of (alphabet_of g) caller → to_frame ≡ frame_of (alphabet_of g) callee → length rows ≡ count →
@@ -147,6 +156,16 @@ first_call : (cs : List OpenCall) (c d : OpenCall) → get_or cs 0 d ≡ c → 0
 first_call [] c d e l = absurd (omega (arith, l))
 first_call (x ∷ xs) c d e l = (xs, ap (λ (y : OpenCall). y ∷ xs) e)
 
+-- the last call that was opened is the innermost
+pub last_call : (xs ys : List OpenCall) (c : OpenCall) → ys ≡ xs → Some c ≡ slice_get ys (length ys - 1) → (more : List OpenCall) × (reverse xs ≡ c ∷ more)
+last_call xs ys c e h =
+    let last : ℕ = length xs - 1 in
+    let k : slice_get xs last ≡ Some c = subst (λ (l : List OpenCall). slice_get l (length l - 1) ≡ Some c) e (sym h) in
+    let some : 0 < length xs = (let l = slice_get_within xs last c k in omega (arith, l)) in
+    let front : get_or (reverse xs) 0 c ≡ c =
+    get_or-reverse xs 0 c some ∙ ap (λ (i : ℕ). get_or xs i c) (let n : last - 0 ≡ last = omega arith in n) ∙ get_or_from_slice_get xs last c c k in
+    first_call (reverse xs) c c front (let n = length-reverse xs in omega (arith, n, some))
+
 pub back_by : (g : Graph) (w rest : List Letter) (t : Tree) (a : Letter) (r : numbers.Reading) (s : Reading) (to : Position) (call : ℕ) (targets ts : List ℕ) (c : OpenCall) (more : List OpenCall) (f : Step) →
     act_of (alphabet_of g) a ≡ Some (back_act call targets) → ts ≡ targets → reverse s.calls.items ≡ c ∷ more → IsStepBack g s c call ts f → IsReading g w r s → IsAt g w r.letters (here r) →
     IsAt g w (suc r.letters) to → IsStepBy g w t a rest r to f
@@ -162,7 +181,8 @@ all_get P (y ∷ ys) zero x e h = let k : y ≡ x = cc in subst P k h.0
 all_get P (y ∷ ys) (suc i) x e h = all_get P ys i x e h.1
 
 -- what a graph keeps of a return
-pub return_known : (g : Graph) (a : Letter) (call : ℕ) (targets ts : List ℕ) → IsGraph g → act_of (alphabet_of g) a ≡ Some (back_act call targets) → ts ≡ targets → IsReturnOf (alphabet_of g) call ts
+pub return_known : (g : Graph) (a : Letter) (call : ℕ) (targets ts : List ℕ) → Keeps g → act_of (alphabet_of g) a ≡ Some (back_act call targets) → ts ≡ targets → IsReturnOf (alphabet_of g) call ts
+unfolding Keeps
 return_known g a call targets ts ok e m =
     subst (IsReturnOf (alphabet_of g) call) (sym m)
     (all_get (IsActed (alphabet_of g)) g.acts a.id (back_act call targets) (act_found (alphabet_of g) a (back_act call targets) e).0 ok.acts)
@@ -255,7 +275,7 @@ all_more P [] x h k = (k, tt)
 all_more P (y ∷ ys) x h k = (h.0, all_more P ys x h.1 k)
 
 act_there : (o : Option PlainAct) → IsSome o → (act : PlainAct) × (o ≡ Some act)
-act_there None h = absurd h
+act_there None h = absurd (cc)
 act_there (Some act) h = (act, refl)
 
 pub steps_next : (g : Graph) (w : List Letter) (total i : ℕ) (a : Letter) (s new : Reading) (found more : List Step) (f : Step) (h : StepsRead g w total i s found) → drop i w ≡ a ∷ drop (i + 1) w →

@@ -1,5 +1,5 @@
 -- What the columns of frames are.
-use Rattle.std.specs.Prelude.{ℕ, Bool}
+use Rattle.std.specs.Prelude.{Bool}
 use Rattle.boogie_tree.specs.declared.tree.Column.{Column}
 use Rattle.boogie_tree.specs.declared.tree.VarInfo.{VarInfo}
 use Rattle.letter_acts.specs.Frames.{is_global, is_constant, is_variable, is_local, is_result}

@@ -1,5 +1,5 @@
 -- Where a word has come to, as the code reads it.
-use Rattle.std.specs.Prelude.{◌≡◌, ℕ, suc, ◌+◌, Bool, List, [], ◌∷◌, ◌++◌, filter, length, reverse, Option, None, Some, slice_get}
+use Rattle.std.specs.Prelude.{◌≡◌, ℕ, suc, ◌+◌, Bool, List, [], ◌∷◌, ◌++◌, filter, length, reverse, Some, slice_get}
 use Rattle.nwa_base.specs.declared.letters.Kind.{Kind}
 use Rattle.nwa_base.specs.declared.letters.Kind.TheVariants.{Inside, Call, Back}
 use Rattle.nwa_base.specs.declared.letters.Letter.{Letter}

@@ -1,12 +1,12 @@
 -- The steps of a word's letters: what the system of each letter's triple says of which predicates, what its rows are, and where
 -- the word's columns stand in it.
-use Rattle.std.specs.Prelude.{◌≡◌, ℕ, ◌^◌, ◌<◌, Bool, true, false, List, [], ◌∷◌, ◌++◌, map, length, Option, Some, slice_get}
+use Rattle.std.specs.Prelude.{◌≡◌, ℕ, ◌^◌, ◌<◌, true, false, List, [], ◌∷◌, ◌++◌, map, length, Some, slice_get}
 use Rattle.nwa_base.specs.declared.letters.Letter.{Letter}
 use Rattle.letter_acts.specs.Invariant.{Graph, alphabet_of}
 use Rattle.path_rows.specs.Versions.{columns_from}
 use Rattle.farkas_check.specs.Trees.{Tree}
 use Rattle.nested_predicates.specs.Stamps.{stamps_of}
-use Rattle.nested_predicates.specs.Positions.{Position, positions_of}
+use Rattle.nested_predicates.specs.Positions.{positions_of}
 use Rattle.nested_refutations.specs.Numbers.{Step, column_in}
 use Rattle.nested_refutations.specs.Walked.{gaps_of}
 use Rattle.triple_steps.specs.declared.columns.Columns.{Columns}

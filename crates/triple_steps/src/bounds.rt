@@ -70,8 +70,8 @@ pub(crate) fn before_bounds(
 /// The rows of the word where the bounds of a callee's next local and of its next old column stand.
 #[derive(Drop)]
 struct Next {
-    local: usize,
-    old: usize,
+    local_row: usize,
+    old_row: usize,
 }
 
 /// Adds the bounds of a callee's frame, of which the locals and old columns are new.
@@ -83,7 +83,10 @@ pub(crate) fn add_callee_bounds(
 ) -> Result<(), AllocError>
     ensures { OnOk result (AddsRoles sections.old.items sections.new.items (callee_bounds local old callee.now)) }
 {
-    let mut next = Next { local, old };
+    let mut next = Next {
+        local_row: local,
+        old_row: old,
+    };
     for i in 0..callee.len() {
         add_bounds(sections, &callee[i], &mut next)?;
     }
@@ -96,7 +99,7 @@ fn add_bounds(
     column: &(Column, VarInfo),
     next: &mut Next,
 ) -> Result<(), AllocError>
-    ensures { OnOk result ((g : Graph) (w : List Letter) (t : Tree) (v : View) (rest : Columns) → roles_in g w t v sections.new.items ++ callee_bounds next.new.local next.new.old rest ≡ roles_in g w t v sections.old.items ++ callee_bounds next.old.local next.old.old (column.now ∷ rest)) }
+    ensures { OnOk result ((g : Graph) (w : List Letter) (t : Tree) (v : View) (rest : Columns) → roles_in g w t v sections.new.items ++ callee_bounds next.new.local_row next.new.old_row rest ≡ roles_in g w t v sections.old.items ++ callee_bounds next.old.local_row next.old.old_row (column.now ∷ rest)) }
 {
     if !is_bool(column) {
         return Ok(());
@@ -104,18 +107,18 @@ fn add_bounds(
     match column.0 {
         Column::Local(_) => {
             sections.push(Section::Rows {
-                first: next.local,
+                first: next.local_row,
                 count: 2,
             })?;
-            next.local = sum(next.local, 2)?;
+            next.local_row = sum(next.local_row, 2)?;
             Ok(())
         }
         Column::Old(_) => {
             sections.push(Section::Rows {
-                first: next.old,
+                first: next.old_row,
                 count: 2,
             })?;
-            next.old = sum(next.old, 2)?;
+            next.old_row = sum(next.old_row, 2)?;
             Ok(())
         }
         Column::Global(_) => {

@@ -80,6 +80,7 @@ fn step_of(
     ensures step { IfOk result (λ f. (w : List Letter) (t : Tree) (rest : List Letter) (r : numbers.Reading) (to : Position) → IsReading icfg.now w r reading.now → IsAt icfg.now w r.letters (here r) → IsAt icfg.now w (suc r.letters) to → returns ≡ has_return 0 rest → IsStepBy icfg.now w t letter rest r to f) }
     ensures fit { IfOk result (λ f. FitColumns total f.columns) }
 {
+    let _valid = icfg.acts();
     match act_at(icfg, letter) {
         Act::Inside {
             proc,
@@ -98,13 +99,22 @@ fn step_of(
         } => {
             let caller = frame_at(icfg, *caller);
             let callee = frame_at(icfg, *callee);
-            call_step(alloc, reading, total, returns, caller, callee, *helpers, rows.len())
+            call_step(
+                alloc,
+                reading,
+                total,
+                returns,
+                caller,
+                callee,
+                *helpers,
+                rows.len(),
+            )
         }
         Act::Back { call, targets } => {
-            let Some(open) = reading.calls.last() else {
+            let Some(opened) = reading.calls.last() else {
                 unreachable!()
             };
-            step_back(alloc, icfg, reading, total, *open, *call, targets)
+            step_back(alloc, icfg, reading, total, *opened, *call, targets)
         }
     }
 }
@@ -115,12 +125,12 @@ fn step_back(
     icfg: &Icfg,
     reading: &Reading,
     total: usize,
-    open: OpenCall,
+    opened: OpenCall,
     call: u32,
     targets: &[u32],
 ) -> Result<Step, AllocError>
     requires { IsReturnOf (alphabet_of icfg.now) call targets.now }
-    ensures step { IfOk result (IsStepBack icfg.now reading.now open call targets.now) }
+    ensures step { IfOk result (IsStepBack icfg.now reading.now opened call targets.now) }
     ensures fit { IfOk result (λ f. FitColumns total f.columns) }
 {
     match icfg.acts().get(call as usize) {
@@ -134,7 +144,17 @@ fn step_back(
         ) => {
             let caller = frame_at(icfg, *caller);
             let callee = frame_at(icfg, *callee);
-            back_step(alloc, reading, total, open, caller, callee, *helpers, rows.len(), targets)
+            back_step(
+                alloc,
+                reading,
+                total,
+                opened,
+                caller,
+                callee,
+                *helpers,
+                rows.len(),
+                targets,
+            )
         }
         Some(Act::Inside { .. }) | Some(Act::Back { .. }) | None => unreachable!(),
     }

@@ -1,8 +1,8 @@
 -- What is left of a predicate at each node, which is read from the end of the nodes' list.
-use Rattle.std.proofs.Common.{◌≡◌, ◌∙◌, ℕ, zero, suc, ◌+◌, ◌-◌, ◌<◌, ◌≤◌, ℤ, Bool, true, false, List, [], ◌∷◌, ◌++◌, length, map, drop, get_or, reverse, append_assoc, length-append, refl, sym, ap, arith, Option, None, Some}
-use Rattle.std.specs.Prelude.{unwrap_or, slice_get, if◌then◌else◌}
+use Rattle.std.proofs.Common.{◌≡◌, ◌∙◌, ℕ, zero, suc, ◌+◌, ◌-◌, ◌<◌, ◌≤◌, ℤ, Bool, true, false, List, [], ◌∷◌, ◌++◌, length, map, drop, get_or, reverse, append_assoc, refl, sym, ap, arith, Option, None, Some}
+use Rattle.std.specs.Prelude.{slice_get, if◌then◌else◌}
 use Rattle.std.specs.Global.{Vec}
-use Rattle.std.proofs.lemmas.List.{append-nil, drop_more, reverse-append, map-append}
+use Rattle.std.proofs.lemmas.List.{append-nil, drop_more, drop_all, reverse-append, map-append}
 use Rattle.farkas_check.specs.Nodes.{PlainNode}
 use Rattle.farkas_check.specs.Trees.{Tree, leaf_tree, cut_tree, cases_tree}
 use Rattle.triple_rows.specs.declared.predicates.PredNode.{PredNode}
@@ -49,16 +49,10 @@ column_long : (p : ℕ) (rows : List (Vec PredNode)) → length (column p rows) 
 column_long p [] = refl
 column_long p (r ∷ rows) = ap suc (column_long p rows)
 
-drop_whole : {X : Type 0} (n : ℕ) (xs : List X) → length xs ≡ n → drop n xs ≡ []
-drop_whole zero [] e = refl
-drop_whole zero (x ∷ xs) e = absurd (omega (arith, e))
-drop_whole (suc n) [] e = refl
-drop_whole (suc n) (x ∷ xs) e = drop_whole n xs (omega (arith, e))
-
 pub lefts_none : (rows : List (Vec PredNode)) (p : ℕ) (lefts roots : List (Option Bool)) → lefts ≡ [] → roots ≡ [] → AreLefts rows p 0 lefts roots
 lefts_none rows p lefts roots e f =
     let none : drop (length rows - 0) (column p rows) ≡ [] =
-    drop_whole (length rows - 0) (column p rows) (let k = column_long p rows in omega (arith, k)) in
+    drop_all (length rows - 0) (column p rows) (let k = column_long p rows in omega (arith, k)) in
     record {
       those = ap reverse e ∙ sym (ap (λ (l : List (Option PredNode)). lefts_from l) none);
       behind = ap reverse f ∙ sym (ap (λ (l : List (Option PredNode)). lefts_roots l) none);
@@ -109,7 +103,7 @@ heads_of_column : (p : ℕ) (rows : List (Vec PredNode)) → column p rows ≡ h
 heads_of_column p [] = refl
 heads_of_column p (r ∷ rows) = ap (λ (l : List (Option PredNode)). slice_get r.items p ∷ l) (heads_of_column p rows)
 
-got_mapped : (f : Position → PredNode) (qs : List Position) (p : ℕ) (q : Position) → slice_get qs p ≡ Some q → slice_get (map f qs) p ≡ Some (f q)
+pub got_mapped : (f : Position → PredNode) (qs : List Position) (p : ℕ) (q : Position) → slice_get qs p ≡ Some q → slice_get (map f qs) p ≡ Some (f q)
 got_mapped f [] p q e = absurd (cc)
 got_mapped f (x ∷ qs) zero q e = ap (λ (y : Position). Some (f y)) (let k : x ≡ q = cc in k)
 got_mapped f (x ∷ qs) (suc p) q e = got_mapped f qs p q e
@@ -202,37 +196,3 @@ lefts_are x p i lefts turned roots l h r columns qs b t nodes c k e =
     r ∙ lefts_all x.table.items p i lefts roots l h ∙
     ap (λ (z : List (Option PredNode)). lefts_from z) (heads_of_column p x.table.items ∙ ap (λ (z : List (List PredNode)). heads p z) k.rows ∙ sym (append-nil (heads p rows))) ∙
     lefts_tree columns qs p c e 0 b t [] k.uncased ∙ append-nil (lefts_of columns c b t)
-
--- ---- what is noted of nodes
-
--- nothing is, of the first ones
-pub record AreNone (count : ℕ) (numbers : List ℕ) (chosen : List (Option Bool)) : Type 0 where
-  pub as_many : length numbers ≡ count
-  pub groups : length chosen ≡ count
-  pub none : (node : ℕ) → unwrap_or (slice_get chosen node) None ≡ None
-
-none_behind : (chosen : List (Option Bool)) → ((node : ℕ) → unwrap_or (slice_get chosen node) None ≡ None) → (node : ℕ) → unwrap_or (slice_get (chosen ++ None ∷ []) node) None ≡ None
-none_behind [] h zero = refl
-none_behind [] h (suc node) = refl
-none_behind (x ∷ chosen) h zero = h zero
-none_behind (x ∷ chosen) h (suc node) = none_behind chosen (λ (m : ℕ). h (suc m)) node
-
-pub none_at_first : (numbers : List ℕ) (chosen : List (Option Bool)) → numbers ≡ [] → chosen ≡ [] → AreNone 0 numbers chosen
-none_at_first numbers chosen e f = record {
-  as_many = ap (λ (l : List ℕ). length l) e;
-  groups = ap (λ (l : List (Option Bool)). length l) f;
-  none = λ (node : ℕ). ap (λ (l : List (Option Bool)). unwrap_or (slice_get l node) None) f;
-}
-
-pub none_more : (count number : ℕ) (numbers more : List ℕ) (chosen later : List (Option Bool)) → AreNone count numbers chosen → more ≡ numbers ++ number ∷ [] → later ≡ chosen ++ None ∷ [] →
-    AreNone (count + 1) more later
-none_more count number numbers more chosen later h e f =
-    let x : length more ≡ length numbers + 1 = ap (λ (l : List ℕ). length l) e ∙ length-append numbers (number ∷ []) in
-    let y : length later ≡ length chosen + 1 = ap (λ (l : List (Option Bool)). length l) f ∙ length-append chosen (None ∷ []) in
-    let a = h.as_many in
-    let g = h.groups in
-    record {
-      as_many = omega (arith, x, a);
-      groups = omega (arith, y, g);
-      none = λ (node : ℕ). ap (λ (l : List (Option Bool)). unwrap_or (slice_get l node) None) f ∙ none_behind chosen h.none node;
-    }

@@ -1,7 +1,7 @@
 -- Where the parts of the nodes of a prefix list begin, which is read from its end.
-use Rattle.std.proofs.Common.{◌≡◌, ◌∙◌, ℕ, zero, suc, ◌+◌, ◌-◌, ◌<◌, ◌≤◌, List, [], ◌∷◌, ◌++◌, length, map, drop, get_or, reverse, append_assoc, length-append, refl, sym, ap, arith, Option, None, Some}
+use Rattle.std.proofs.Common.{◌≡◌, ◌∙◌, ℕ, suc, ◌+◌, ◌-◌, ◌<◌, ◌≤◌, List, [], ◌∷◌, ◌++◌, length, map, drop, get_or, reverse, append_assoc, length-append, sym, ap, arith, Option, None, Some}
 use Rattle.std.specs.Prelude.{slice_get}
-use Rattle.std.proofs.lemmas.List.{append-nil, drop_more, reverse-append, length-map}
+use Rattle.std.proofs.lemmas.List.{append-nil, drop_more, drop_all, reverse-append, length-map, get_or-map}
 use Rattle.farkas_check.specs.declared.refutations.Node.{Node}
 use Rattle.farkas_check.specs.Nodes.{PlainNode, plain, plain_nodes, cut}
 use Rattle.farkas_check.specs.Trees.{Tree, leaf_tree, cut_tree, cases_tree, prefix_of}
@@ -63,25 +63,14 @@ pub record AreSeconds (nodes : List Node) (i : ℕ) (seconds : List (Option ℕ)
   pub those : reverse seconds ≡ seconds_from (length nodes - i) (drop (length nodes - i) (plain_nodes nodes))
   pub behind : reverse roots ≡ roots_from (length nodes - i) (drop (length nodes - i) (plain_nodes nodes))
 
-drop_whole : {X : Type 0} (n : ℕ) (xs : List X) → length xs ≡ n → drop n xs ≡ []
-drop_whole zero [] e = refl
-drop_whole zero (x ∷ xs) e = absurd (omega (arith, e))
-drop_whole (suc n) [] e = refl
-drop_whole (suc n) (x ∷ xs) e = drop_whole n xs (omega (arith, e))
-
 pub seconds_none : (nodes : List Node) (seconds : List (Option ℕ)) (roots : List ℕ) → seconds ≡ [] → roots ≡ [] → AreSeconds nodes 0 seconds roots
 seconds_none nodes seconds roots e f =
     let none : drop (length nodes - 0) (plain_nodes nodes) ≡ [] =
-    drop_whole (length nodes - 0) (plain_nodes nodes) (let k = length-map nodes plain in omega (arith, k)) in
+    drop_all (length nodes - 0) (plain_nodes nodes) (let k = length-map nodes plain in omega (arith, k)) in
     record {
       those = ap reverse e ∙ sym (ap (λ (l : List PlainNode). seconds_from (length nodes - 0) l) none);
       behind = ap reverse f ∙ sym (ap (λ (l : List PlainNode). roots_from (length nodes - 0) l) none);
     }
-
-get_mapped : {X Y : Type 0} (f : X → Y) (xs : List X) (i : ℕ) (d : X) → get_or (map f xs) i (f d) ≡ f (get_or xs i d)
-get_mapped f [] i d = refl
-get_mapped f (x ∷ xs) zero d = refl
-get_mapped f (x ∷ xs) (suc i) d = get_mapped f xs i d
 
 front : (nodes : List Node) (i at : ℕ) (x : Node) → i < length nodes → at ≡ length nodes - 1 - i → x ≡ get_or nodes at x →
     drop (length nodes - (i + 1)) (plain_nodes nodes) ≡ plain x ∷ drop (length nodes - i) (plain_nodes nodes)
@@ -91,7 +80,7 @@ front nodes i at x l a e =
     let q : at + 1 ≡ length nodes - i = omega (arith, a, l) in
     ap (λ (n : ℕ). drop n (plain_nodes nodes)) p ∙
     drop_more (plain_nodes nodes) at (plain x) (omega (arith, k, a, l)) ∙
-    ap (λ (y : PlainNode). y ∷ drop (at + 1) (plain_nodes nodes)) (get_mapped plain nodes at x ∙ ap plain (sym e)) ∙
+    ap (λ (y : PlainNode). y ∷ drop (at + 1) (plain_nodes nodes)) (get_or-map plain nodes at x (plain x) (omega (arith, a, l)) ∙ ap plain (sym e)) ∙
     ap (λ (n : ℕ). plain x ∷ drop n (plain_nodes nodes)) q
 
 pub seconds_more : (nodes : List Node) (i at : ℕ) (x : Node) (seconds more : List (Option ℕ)) (roots left after : List ℕ) (second : Option ℕ) →

@@ -1,12 +1,13 @@
 -- What a triple's system says of its predicates, as it is kept: by node what is left of a predicate.
-use Rattle.std.specs.Prelude.{◌≡◌, ℕ, Bool, true, false, not, List, drop, length, Option, None, Some, unwrap_or, slice_get, if◌then◌else◌}
+use Rattle.std.specs.Prelude.{◌≡◌, ℕ, Bool, true, false, not, List, [], ◌∷◌, drop, Option, None, Some, unwrap_or, slice_get, if◌then◌else◌}
 use Rattle.farkas_check.specs.Trees.{Tree}
 use Rattle.triple_rows.specs.declared.predicates.PredNode.{PredNode}
 use Rattle.triple_rows.specs.declared.predicates.PredNode.TheVariants.{Truth, Atom, And, Or}
 use Rattle.nested_predicates.specs.Positions.{Position}
 use Rattle.nested_predicates.specs.Sums.{Branch}
 use Rattle.nested_refutations.specs.Refutations.{Claim, is_same, truth_in, left_at, Asked, one_part, both_parts, some_part, each_asked, some_asked}
-use Rattle.triple_walks.specs.Spots.{listed}
+use Rattle.triple_walks.specs.Spots.{listed, node_in, is_counted_in}
+use Rattle.triple_walks.specs.declared.trees.Tree as code_trees
 use Rattle.triple_walks.specs.declared.claims.Claim as code
 use Rattle.triple_walks.specs.declared.claims.Asked as code_asked
 use Rattle.triple_walks.specs.declared.claims.Asked.TheVariants.{OnePart, BothParts, SomePart}
@@ -56,6 +57,13 @@ pub record IsClaim (columns : List ℕ) (qs : List Position) (b : Branch) (t : T
   pub is_denied : x.denied ≡ c.is_denied
   pub lefts : x.left.items ≡ lefts_of columns c b t
 
+-- each claim is this one
+abbrev pub AreClaims : List ℕ → List Position → Branch → Tree → List Claim → List code.Claim → Type 0
+AreClaims columns qs b t [] [] = Unit {0}
+AreClaims columns qs b t [] (y ∷ ys) = ⊥
+AreClaims columns qs b t (c ∷ cs) [] = ⊥
+AreClaims columns qs b t (c ∷ cs) (y ∷ ys) = IsClaim columns qs b t c y × AreClaims columns qs b t cs ys
+
 -- what is left at a node
 abbrev pub left_of : code.Claim → ℕ → Option Bool
 left_of x node = unwrap_or (slice_get x.left.items node) None
@@ -73,3 +81,7 @@ asked_of SomePart = some_part
 -- what a claim asks at a cut that is counted or not, where this is left of the parts
 abbrev pub asked_where : Bool → Bool → Option Bool → Option Bool → Asked
 asked_where counted denied first second = if is_same counted denied then each_asked first second else some_asked (not denied) first second
+
+-- what a claim asks at a cut of the tree, whose parts begin there
+abbrev pub asked_in : code_trees.Tree → code.Claim → ℕ → ℕ × ℕ → Asked
+asked_in x y node sides = asked_where (is_counted_in (node_in x node y.position)) y.denied (left_of y sides.0) (left_of y sides.1)

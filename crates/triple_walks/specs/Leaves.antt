@@ -1,10 +1,29 @@
--- What is read of the sums of claims at a leaf.
-use Rattle.std.specs.Prelude.{◌≡◌, ℕ, ℤ, pos, List, [], nat_eq, Option, None, Some, if◌then◌else◌}
+-- What is read at a leaf: of the sums of claims, and of the rows' roles.
+use Rattle.std.specs.Prelude.{◌≡◌, ℕ, ◌<◌, ℤ, pos, neg_ℤ, Bool, true, false, ◌&&◌, List, [], length, nat_eq, Option, None, Some, unwrap_or, slice_get, slice_set, if◌then◌else◌}
+use Rattle.math_facts.specs.Terms.{coefficient}
+use Rattle.lin_rows.specs.Rows.{AscendsFrom}
+use Rattle.farkas_check.specs.Nodes.{PlainNode, leaf, cut, cases}
+use Rattle.farkas_check.specs.Trees.{leaf_tree}
 use Rattle.triple_rows.specs.declared.predicates.PredNode.{PredNode}
 use Rattle.triple_rows.specs.declared.predicates.PredNode.TheVariants.{Truth, Atom, And, Or}
+use Rattle.nested_predicates.specs.Sums.{Branch}
+use Rattle.nested_refutations.specs.Refutations.{Role, View, stands}
+use Rattle.triple_steps.specs.declared.sections.Tie.{Tie}
+use Rattle.triple_steps.specs.declared.sections.Tie.TheVariants as ties
 use Rattle.triple_walks.specs.Spots.{node_in}
+use Rattle.triple_walks.specs.Telling.{AllTell}
 use Rattle.triple_walks.specs.declared.trees.Tree as code
 use Rattle.triple_walks.specs.declared.claims.Claim as claims
+use Rattle.triple_walks.specs.declared.goals.Role as row
+use Rattle.triple_walks.specs.declared.goals.Role.TheVariants as rows
+
+-- the parts of a leaf ascend by row
+abbrev pub Ascends : PlainNode → Type 0
+Ascends (leaf parts) = AscendsFrom 0 parts
+Ascends (cut c k) = Unit {0}
+Ascends (cases n) = Unit {0}
+
+-- ---- sums
 
 -- the number of a pair, if it has this key
 abbrev pub number_of_pair : ℕ → Option (ℕ × ℤ) → ℤ
@@ -26,3 +45,34 @@ terms_in (Some n) = terms_here n
 abbrev pub claim_terms : code.Tree → ℕ → Option claims.Claim → List (ℕ × ℤ)
 claim_terms x node None = []
 claim_terms x node (Some c) = terms_in (node_in x node c.position)
+
+-- the multiplier of a row that ties two frames, by the terms of the first claim's sum and those of the last one's
+abbrev pub tie_number : List (ℕ × ℤ) → List (ℕ × ℤ) → Tie → ℤ
+tie_number first last (ties.Target c) = coefficient c last
+tie_number first last (ties.Opposite c) = neg_ℤ (coefficient c last)
+tie_number first last (ties.Source c) = neg_ℤ (coefficient c first)
+
+-- each claim is that of the view, at a leaf
+abbrev pub TellAt : View → code.Tree → List claims.Claim → ℕ → Branch → List (ℕ × ℤ) → Type 0
+TellAt v x ys n b parts = AllTell v.columns x (record { node = n; branch = b; tree = leaf_tree parts }) v.claims ys
+
+-- ---- atoms
+
+-- for each of so many claims whether its atom at a leaf stands among these roles
+pub record IsSeen (count node : ℕ) (rs : List Role) (seen : List Bool) : Type 0 where
+  pub as_many : length seen ≡ count
+  pub each : (i : ℕ) → i < count → slice_get seen i ≡ Some (stands rs i node)
+
+-- a row is an atom at the leaf that was seen
+abbrev pub is_met : ℕ → List Bool → row.Role → Bool
+is_met node seen rows.Spare = false
+is_met node seen (rows.Atom i n) = nat_eq n node && unwrap_or (slice_get seen i) false
+is_met node seen (rows.Word r) = false
+is_met node seen (rows.Tied tie) = false
+
+-- with the row seen, if it is an atom at the leaf
+abbrev pub with_met : ℕ → List Bool → row.Role → List Bool
+with_met node seen rows.Spare = seen
+with_met node seen (rows.Atom i n) = if nat_eq n node then slice_set seen i true else seen
+with_met node seen (rows.Word r) = seen
+with_met node seen (rows.Tied tie) = seen

@@ -1,4 +1,5 @@
 pub mod Claims
+pub mod Exposing
 pub mod Goals
 pub mod Leaves
 pub mod Putting

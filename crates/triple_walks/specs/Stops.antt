@@ -1,10 +1,12 @@
 -- Where a refutation stops.
-use Rattle.std.specs.Prelude.{◌≡◌, ℕ, ◌+◌, ℤ, Bool, List, length}
+use Rattle.std.specs.Prelude.{◌≡◌, ℕ, suc, ◌+◌, ℤ, Bool, not, ◌&&◌, List, [], ◌∷◌, map, length, Option, None, Some, slice_get, if◌then◌else◌}
 use Rattle.farkas_check.specs.Nodes.{PlainNode}
 use Rattle.farkas_check.specs.Trees as trees
 use Rattle.farkas_check.specs.Trees.{leaf_tree, cut_tree}
 use Rattle.nested_predicates.specs.Sums.{Branch}
-use Rattle.nested_refutations.specs.Refutations.{Claim, Spot, low_side, high_side, Stop, at_leaf, at_cut, at_group, nowhere}
+use Rattle.nested_refutations.specs.Refutations.{side_of, Claim, Spot, low_side, high_side, Asked, one_part, both_parts, some_part, taken_at, Stop, at_leaf, at_cut, at_group, nowhere}
+use Rattle.triple_walks.specs.Spots.{node_in, is_counted_in}
+use Rattle.triple_walks.specs.Claims.{asked_in}
 use Rattle.triple_walks.specs.Telling.{IsKnown}
 use Rattle.triple_walks.specs.declared.trees.Tree as code_trees
 use Rattle.triple_walks.specs.declared.claims.Claim as code
@@ -12,6 +14,8 @@ use Rattle.triple_walks.specs.declared.stops.Spot as place
 use Rattle.triple_walks.specs.declared.stops.Taken as member
 use Rattle.triple_walks.specs.declared.stops.Stop as found
 use Rattle.triple_walks.specs.declared.stops.Stop.TheVariants.{Leaf, Cut, Group}
+use Rattle.triple_walks.specs.declared.stops.Way.{Way}
+use Rattle.triple_walks.specs.declared.stops.Way.TheVariants.{Part, Own, NoMember}
 
 abbrev pub taken_of : member.Taken → ℕ × ℕ × Bool
 taken_of t = (t.claim, t.node, t.second)
@@ -44,3 +48,32 @@ IsStop columns nodes x cs ys rows (at_group s) (Leaf m) = ⊥
 IsStop columns nodes x cs ys rows (at_group s) (Cut p) = ⊥
 IsStop columns nodes x cs ys rows (at_group s) (Group p) = IsPlace columns nodes x cs ys rows s p
 IsStop columns nodes x cs ys rows nowhere p = ⊥
+
+-- ---- on the way there
+
+-- for each claim whether the cut at a node is counted at its position
+abbrev pub counted_by : code_trees.Tree → ℕ → List code.Claim → List Bool
+counted_by x node ys = map (λ y. is_counted_in (node_in x node y.position)) ys
+
+-- Of these, from number i on and the target last: the first source that counts the cut, if sources are followed; none where it is
+-- first counted at the target; else the target.
+abbrev pub teller : Bool → ℕ → List Bool → Option ℕ
+teller returns i [] = None
+teller returns i (b ∷ []) = if b then None else Some i
+teller returns i (b ∷ d ∷ bs) = if not returns && b then Some i else teller returns (suc i) (d ∷ bs)
+
+-- where it goes on, where this is asked and this member of the group is taken, if one is
+abbrev pub way_asked : Asked → Option Bool → ℕ × ℕ → Way
+way_asked (one_part side) member sides = Part (side_of side sides.0 sides.1)
+way_asked both_parts member sides = Part sides.0
+way_asked some_part None sides = NoMember
+way_asked some_part (Some side) sides = Part (side_of side sides.0 sides.1)
+
+-- by the claim that tells, if one does
+abbrev pub way_by : code_trees.Tree → Option code.Claim → Option Bool → ℕ → ℕ × ℕ → Way
+way_by x None member node sides = Own
+way_by x (Some y) member node sides = way_asked (asked_in x y node sides) member sides
+
+abbrev pub way_told : code_trees.Tree → List code.Claim → List (ℕ × ℕ × Bool) → Option ℕ → ℕ → ℕ × ℕ → Way
+way_told x ys taken None node sides = Own
+way_told x ys taken (Some i) node sides = way_by x (slice_get ys i) (taken_at i node taken) node sides

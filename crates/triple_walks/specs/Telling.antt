@@ -1,5 +1,5 @@
 -- What is read of the word's tree, and of what a triple's system says, at each node below one.
-use Rattle.std.specs.Prelude.{◌≡◌, ℕ, Bool, false, List, [], ◌∷◌, map, Some, slice_get}
+use Rattle.std.specs.Prelude.{◌≡◌, ℕ, false, List, [], ◌∷◌, map, Some, slice_get}
 use Rattle.farkas_check.specs.Nodes.{PlainNode}
 use Rattle.farkas_check.specs.Trees.{Tree, leaf_tree, cut_tree, cases_tree}
 use Rattle.triple_rows.specs.declared.predicates.PredNode.{PredNode}
@@ -40,9 +40,10 @@ AllTell columns x s [] (y ∷ ys) = ⊥
 AllTell columns x s (c ∷ cs) [] = ⊥
 AllTell columns x s (c ∷ cs) (y ∷ ys) = Tells columns x s c y × AllTell columns x s cs ys
 
--- the nodes are those of the word's refutation, and the claims these, at each node from one on
+-- the nodes and their parts are those of the word's refutation, and the claims these, at each node from one on
 pub record IsKnown (columns : List ℕ) (nodes : List PlainNode) (x : code_trees.Tree) (cs : List Claim) (ys : List code.Claim) (s : Spot) : Type 0 where
   pub spelled : Everywhere (λ z. slice_get nodes z.node ≡ Some (node_of z.tree)) columns s.node s.branch s.tree
+  pub sides : Everywhere (λ z. sides_in x z.node ≡ with_second z.node (second_of z.node z.tree)) columns s.node s.branch s.tree
   pub claims : AllTell columns x s cs ys
 
 -- the rows and groups that a claim gives, by the numbers of the leaves and cuts

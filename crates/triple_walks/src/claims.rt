@@ -6,8 +6,8 @@ ghost use Rattle.farkas_check.specs.Nodes.{PlainNode};
 ghost use Rattle.nested_predicates.specs.Positions.{Position};
 ghost use Rattle.nested_predicates.specs.Sums.{Branch};
 ghost use Rattle.nested_refutations.specs.Refutations as refutations;
-ghost use Rattle.triple_walks.specs.Spots.{IsTree, node_in, is_counted_in};
-ghost use Rattle.triple_walks.specs.Claims.{IsClaim, lefts_of, decided, first_left, left_here, behind_here, left_in, behind_in, left_of, is_refuted, asked_of, asked_where};
+ghost use Rattle.triple_walks.specs.Spots.{IsTree, node_in};
+ghost use Rattle.triple_walks.specs.Claims.{IsClaim, lefts_of, decided, first_left, left_here, behind_here, left_in, behind_in, left_of, is_refuted, asked_of, asked_in};
 
 use crate::trees::Tree;
 use std::alloc::{AllocError, Global};
@@ -75,7 +75,7 @@ impl Claim {
 
     /// What the claim asks at a cut, whose parts begin there.
     pub(crate) fn asked(&self, tree: &Tree, node: usize, sides: (usize, usize)) -> Asked
-        ensures { asked_of result ≡ asked_where (is_counted_in (node_in tree.now node self.now.position)) self.now.denied (left_of self.now sides.0) (left_of self.now sides.1) }
+        ensures { asked_of result ≡ asked_in tree.now self.now node sides }
     {
         let first = self.left(sides.0);
         let second = self.left(sides.1);

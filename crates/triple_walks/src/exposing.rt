@@ -1,8 +1,11 @@
 //! The rows and groups that a claim gives.
 
-ghost use Rattle.std.specs.Prelude.{◌≡◌, ℕ, List, IfOk};
+ghost use Rattle.std.specs.Prelude.{◌≡◌, ◌++◌, ℕ, List, IfOk, OnOk, reverse};
 ghost use Rattle.nested_refutations.specs.Refutations as refutations;
 ghost use Rattle.nested_refutations.specs.Refutations.{Spot, side_of};
+ghost use Rattle.triple_walks.specs.Spots.{sides_in};
+ghost use Rattle.triple_walks.specs.Claims.{asked_of, asked_in};
+ghost use Rattle.triple_walks.specs.Exposing.{found_of, with_found, found_at_cut, parts_at_cut, found_open, parts_open, found_at, parts_at};
 ghost use Rattle.triple_walks.specs.Telling.{Tells, IsExposed};
 
 use crate::claims::{Asked, Claim};
@@ -17,7 +20,7 @@ pub(crate) struct Exposed {
 }
 
 /// What a claim gives at a node.
-pub(crate) fn exposed(
+pub(crate) fn exposed_at(
     alloc: Global,
     tree: &Tree,
     claim: &Claim,
@@ -48,10 +51,27 @@ impl Exposed {
         claim: &Claim,
         node: usize,
         left: &mut Vec<usize>,
-    ) -> Result<(), AllocError> {
-        if claim.left(node).is_some() {
-            return Ok(());
+    ) -> Result<(), AllocError>
+        ensures found { OnOk result (found_of self.new ≡ with_found (found_of self.old) (found_at tree.now claim.now node)) }
+        ensures left { OnOk result (left.new.items ≡ left.old.items ++ reverse (parts_at tree.now claim.now node)) }
+    {
+        match claim.left(node) {
+            Some(_) => Ok(()),
+            None => self.expose_open(tree, claim, node, left),
         }
+    }
+
+    /// The same where something is left of the predicate.
+    fn expose_open(
+        &mut self,
+        tree: &Tree,
+        claim: &Claim,
+        node: usize,
+        left: &mut Vec<usize>,
+    ) -> Result<(), AllocError>
+        ensures found { OnOk result (found_of self.new ≡ with_found (found_of self.old) (found_open (sides_in tree.now node) (asked_in tree.now claim.now node) node)) }
+        ensures left { OnOk result (left.new.items ≡ left.old.items ++ reverse (parts_open (sides_in tree.now node) (asked_in tree.now claim.now node))) }
+    {
         match tree.sides(node) {
             Some(sides) => self.expose_cut(claim.asked(tree, node, sides), node, sides, left),
             None => {
@@ -68,7 +88,10 @@ impl Exposed {
         node: usize,
         sides: (usize, usize),
         left: &mut Vec<usize>,
-    ) -> Result<(), AllocError> {
+    ) -> Result<(), AllocError>
+        ensures found { OnOk result (found_of self.new ≡ with_found (found_of self.old) (found_at_cut (asked_of asked) node)) }
+        ensures left { OnOk result (left.new.items ≡ left.old.items ++ reverse (parts_at_cut (asked_of asked) sides)) }
+    {
         match asked {
             Asked::OnePart(second) => {
                 left.push(part_of(sides, second))?;

@@ -20,11 +20,7 @@ pub struct Tree {
 
 impl Tree {
     /// That of these nodes, for each of which a node stands at each position.
-    pub fn of(
-        alloc: Global,
-        nodes: &[Node],
-        table: Vec<Vec<PredNode>>,
-    ) -> Result<Tree, AllocError>
+    pub fn of(alloc: Global, nodes: &[Node], table: Vec<Vec<PredNode>>) -> Result<Tree, AllocError>
         ensures seconds { IfOk result (λ x. (t : trees.Tree) → HasNoCases t → trees.prefix_of t ≡ plain_nodes nodes.now → x.seconds.items ≡ seconds_of 0 t) }
         ensures table { IfOk result (λ x. x.table ≡ table) }
     {

@@ -24,7 +24,7 @@ automaton_under-requires-2-clause-cuts g c κs within = few_cuts c.args.depth c.
 
 pub returns-in-Some : goal.returns-in-Some
 returns-in-Some g c = λ t o e d n. subst (λ (x : Graph). IsEvidence x c.args.path.now.word c.in-Some.automaton) e
-    (subst (λ (x : Option Certificate). IfSome x (IsEvidence c.args.icfg.now c.args.path.now.word)) c.in-Some.is c.in_ok-automaton.ensures)
+    (subst (λ (x : Option Certificate). IfSome x (IsEvidence c.args.icfg.now c.args.path.now.word)) c.in-Some.is c.in_ok-automaton.ensures.evidence)
 
 pub automaton_under-requires-in-Refuted-clause-cuts :
     goal.automaton_under-requires-in-Refuted-clause-cuts
@@ -34,16 +34,16 @@ automaton_under-requires-in-Refuted-clause-cuts g c κs within =
 
 pub returns-in-Some-2 : goal.returns-in-Some-2
 returns-in-Some-2 g c = λ t o e d n. subst (λ (x : Graph). IsEvidence x c.args.path.now.word c.in-Some-2.automaton) e
-    (subst (λ (x : Option Certificate). IfSome x (IsEvidence c.args.icfg.now c.args.path.now.word)) c.in-Some-2.is c.in_ok-automaton-2.ensures)
+    (subst (λ (x : Option Certificate). IfSome x (IsEvidence c.args.icfg.now c.args.path.now.word)) c.in-Some-2.is c.in_ok-automaton-2.ensures.evidence)
 
 pub returns-in-Some-3 : goal.returns-in-Some-3
 returns-in-Some-3 g c = λ t o e d n. subst (λ (x : Graph). IsEvidence x c.args.path.now.word c.in-Some-3.automaton) e
-    (subst (λ (x : Option Certificate). IfSome x (IsEvidence c.args.icfg.now c.args.path.now.word)) c.in-Some-3.is c.in_ok-automaton-in-Refuted.ensures)
+    (subst (λ (x : Option Certificate). IfSome x (IsEvidence c.args.icfg.now c.args.path.now.word)) c.in-Some-3.is c.in_ok-automaton-in-Refuted.ensures.evidence)
 
 pub returns-in-Refuted : goal.returns-in-Refuted
 returns-in-Refuted g c = λ t o e d n.
     let plain = subst (λ (f : Finding). IsPlainFinding c.args.icfg.now c.args.depth c.args.path.now.word f) c.in-Refuted.is (c.in_ok-own.ensures c.args.icfg.now c.requires.path) in
-    predicates_pass t c.args.icfg.now o.depth c.args.depth c.args.path.now.word c.in-Refuted.own e d plain.0
+    predicates_pass t c.args.icfg.now o.depth c.args.depth c.args.path.now.word c.in-Refuted.own e d plain.0 (c.in_ok-automaton-in-Refuted.ensures.passes c.in-None-3.is)
 
 pub unreachable-requires : goal.unreachable-requires
 unreachable-requires g c =

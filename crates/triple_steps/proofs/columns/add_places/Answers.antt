@@ -1,4 +1,4 @@
-use Rattle.std.proofs.Common.{◌∙◌, ℕ, ◌+◌, refl}
+use Rattle.std.proofs.Common.{◌∙◌, ℕ, ◌+◌}
 use Rattle.triple_steps.proofs.ColumnLaws.{mapped_next, mapped_done}
 use Rattle.triple_steps.proofs.columns.add_places.Goals as goal
 

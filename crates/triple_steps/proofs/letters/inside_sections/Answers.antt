@@ -1,11 +1,7 @@
-use Rattle.std.proofs.Common.{◌≡◌, ◌∙◌, ◌+◌, List, ℕ, suc, refl, sym, ap, arith}
-use Rattle.std.specs.Prelude.{slice_get}
+use Rattle.std.proofs.Common.{◌≡◌, ◌∙◌, ◌+◌, ℕ, suc, refl, ap, arith}
 use Rattle.nested_refutations.specs.Numbers.{before_bounds}
-use Rattle.nested_refutations.specs.Refutations.{Role}
-use Rattle.path_rows.specs.Rows.{bounds, types_at}
-use Rattle.triple_steps.specs.declared.sections.Section.{Section}
 use Rattle.triple_steps.specs.declared.sections.Section.TheVariants.{Claim, Rows}
-use Rattle.triple_steps.specs.Sections.{section_roles, claim_roles}
+use Rattle.triple_steps.specs.Sections.{section_roles}
 use Rattle.triple_steps.proofs.RoleLaws.{first_section, then_section}
 use Rattle.triple_steps.proofs.letters.inside_sections.Goals as goal
 

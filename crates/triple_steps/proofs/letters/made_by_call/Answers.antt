@@ -1,5 +1,4 @@
-use Rattle.std.proofs.Common.{◌≡◌, ◌∙◌, ◌+◌, ◌++◌, List, ℕ, map, append_assoc, sym, ap}
-use Rattle.path_rows.specs.Versions.{columns_from}
+use Rattle.std.proofs.Common.{◌∙◌}
 use Rattle.triple_steps.proofs.LetterLaws.{made_three}
 use Rattle.triple_steps.proofs.letters.made_by_call.Goals as goal
 

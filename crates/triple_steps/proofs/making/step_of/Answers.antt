@@ -1,9 +1,9 @@
-use Rattle.std.proofs.Common.{◌∙◌, Some, ap, refl, rules}
+use Rattle.std.proofs.Common.{◌∙◌, Some, ap, rules}
 use Rattle.letter_acts.specs.declared.acts.Act.{Act}
 use Rattle.letter_acts.specs.Acts.{plain_act}
-use Rattle.triple_steps.specs.Readings.{IsInsideStep, IsCallStep}
+use Rattle.triple_steps.specs.Readings.{IsInsideStep, IsCallStep, IsStepBack}
 use Rattle.nested_predicates.proofs.BaseLaws.{if_ok}
-use Rattle.triple_steps.proofs.StepLaws.{inside_by, call_by, back_by, return_known}
+use Rattle.triple_steps.proofs.StepLaws.{inside_by, call_by, back_by, last_call, return_known}
 use Rattle.triple_steps.proofs.making.step_of.Goals as goal
 
 pub returns-in-Inside-clause-step : goal.returns-in-Inside-clause-step
@@ -19,3 +19,17 @@ returns-in-Call-clause-step c =
     (λ f h. λ w t rest r to is from at b. call_by c.args.icfg.now w rest t c.args.letter r c.args.reading.now to c.in-Call.caller c.in-Call.callee c.in-Call.helpers c.in-Call.rows.items c.args.returns
     c.frame_at-caller.result.now c.frame_at-callee.result.now c.len-in-Call.result f (c.act_at.ensures ∙ ap (λ (a : Act). Some (plain_act a)) c.in-Call.is) c.frame_at-caller.ensures c.frame_at-callee.ensures (search rules) b h is from at)
     c.call_step.result c.call_step.ensures.step
+
+pub step_back-requires : goal.step_back-requires
+step_back-requires c =
+    return_known c.args.icfg.now c.args.letter c.in-Back.call c.in-Back.targets.items c.deref-in-Back-2.result.now c.acts-valid.ensures.valid
+    (c.act_at.ensures ∙ ap (λ (a : Act). Some (plain_act a)) c.in-Back.is) c.deref-in-Back-2.ensures.value
+
+pub returns-in-Some-clause-step : goal.returns-in-Some-clause-step
+returns-in-Some-clause-step c =
+    let g = c.args.icfg.now in
+    let opened = c.in-Some.opened.now in
+    let last = last_call c.args.reading.now.calls.items c.deref-in-Back.result.now opened c.deref-in-Back.ensures.value c.in-Some.ensures.value in
+    if_ok (IsStepBack g c.args.reading.now opened c.in-Back.call c.deref-in-Back-2.result.now) _
+    (λ f h. λ w t rest r to is from at b. back_by g w rest t c.args.letter r c.args.reading.now to c.in-Back.call c.in-Back.targets.items c.deref-in-Back-2.result.now opened last.0 f
+    (c.act_at.ensures ∙ ap (λ (a : Act). Some (plain_act a)) c.in-Back.is) c.deref-in-Back-2.ensures.value last.1 h is from at) c.step_back.result c.step_back.ensures.step

@@ -6,7 +6,6 @@ use Rattle.nwa_base.specs.declared.letters.Kind.TheVariants.{Inside}
 use Rattle.nwa_base.specs.Words.{are_matched}
 use Rattle.letter_acts.specs.Acts.{frame_of, act_of}
 use Rattle.letter_acts.specs.Invariant.{alphabet_of}
-use Rattle.nested_predicates.specs.Walking.{AreLetters}
 use Rattle.nested_predicates.proofs.LetterLaws.{accepted_letters}
 use Rattle.nested_predicates.proofs.LeafLaws.{letter_is, within_word}
 use Rattle.nested_predicates.proofs.StampCounts.{letter_at}
@@ -19,7 +18,7 @@ use Rattle.triple_steps.proofs.making.steps.Goals as goal
 
 pub loop-i-init : goal.loop-i-init
 loop-i-init c =
-    steps_start c.args.icfg.now c.args.path.now.word c.len-total.result c.in_ok-reading.reading c.in_ok-steps.steps.items
+    steps_start c.args.icfg.now c.args.path.now.word (length c.column_at-total.result.now) c.in_ok-reading.reading c.in_ok-steps.steps.items
     (c.in_ok-reading.ensures c.args.icfg.now c.args.path.now.word (sym (c.frame_at.ensures ∙ ap (frame_of (alphabet_of c.args.icfg.now)) c.start_proc.ensures)))
     (subst (λ (w : List Letter). are_matched 0 w ≡ true) c.word.ensures c.letters-letters.ensures.matched) c.in_ok-steps.ensures.items
 
@@ -43,7 +42,7 @@ step_of-requires-clause-finds c =
     let k = c.letters-letters.ensures.value ∙ c.word.ensures in
     let f : drop c.loop-i.i w ≡ a ∷ drop (c.loop-i.i + 1) w =
     front_is w c.loop-i.i a d (within_word c.letters-letters.result.now w c.loop-i.i k c.loop-i-test.true) (letter_is c.letters-letters.result.now w c.loop-i.i a d k refl) in
-    finds_call c.args.icfg.now w c.len-total.result c.loop-i.i a c.loop-i.reading c.loop-i.steps.items c.loop-i.invariant f
+    finds_call c.args.icfg.now w (length c.column_at-total.result.now) c.loop-i.i a c.loop-i.reading c.loop-i.steps.items c.loop-i.invariant f
 
 pub go_on-requires : goal.go_on-requires
 go_on-requires c =
@@ -58,7 +57,7 @@ loop-i-preserved c =
     let a : Letter = get_or c.letters-letters.result.now c.loop-i.i d in
     let w : List Letter = c.args.path.now.word in
     let rest : List Letter = drop (c.loop-i.i + 1) w in
-    let total : ℕ = c.len-total.result in
+    let total : ℕ = length c.column_at-total.result.now in
     let k = c.letters-letters.ensures.value ∙ c.word.ensures in
     let l : c.loop-i.i < length w = within_word c.letters-letters.result.now w c.loop-i.i k c.loop-i-test.true in
     let f : drop c.loop-i.i w ≡ a ∷ rest = front_is w c.loop-i.i a d l (letter_is c.letters-letters.result.now w c.loop-i.i a d k refl) in
@@ -77,7 +76,7 @@ pub returns-clause-steps : goal.returns-clause-steps
 returns-clause-steps c =
     let l : length c.args.path.now.word ≤ c.loop-i.i =
     subst (λ (w : List Letter). length w ≤ c.loop-i.i) (c.letters-letters.ensures.value ∙ c.word.ensures) c.loop-i-test.false in
-    steps_done c.args.icfg.now c.args.path.now.word c.len-total.result c.loop-i.i c.loop-i.reading c.loop-i.steps.items l c.loop-i.invariant
+    steps_done c.args.icfg.now c.args.path.now.word (length c.column_at-total.result.now) c.loop-i.i c.loop-i.reading c.loop-i.steps.items l c.loop-i.invariant
 
 pub returns-clause-count : goal.returns-clause-count
 returns-clause-count c =
@@ -89,4 +88,4 @@ returns-clause-count c =
 pub returns-clause-fit : goal.returns-clause-fit
 returns-clause-fit c =
     subst (λ (n : ℕ). AllByRecursion (λ (f : Step). FitColumns n f.columns) c.loop-i.steps.items)
-    (total_is c.args.icfg.now c.args.path.now.word c.column_at.result.now c.len-total.result (c.column_at.ensures ∙ c.requires.path.column_at) refl) c.loop-i.invariant.fit
+    (total_is c.args.icfg.now c.args.path.now.word c.column_at-total.result.now (length c.column_at-total.result.now) (c.column_at-total.ensures ∙ c.requires.path.column_at) refl) c.loop-i.invariant.fit

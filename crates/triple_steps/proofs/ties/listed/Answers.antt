@@ -1,11 +1,7 @@
-use Rattle.std.proofs.Common.{◌∙◌, ℕ, Bool, true, cond, take, get_or, sym, ap}
+use Rattle.std.proofs.Common.{◌∙◌, Bool, true, cond, get_or, sym, ap}
 use Rattle.std.specs.Prelude.{nat_eq}
-use Rattle.triple_rows.specs.Systems.{is_listed}
 use Rattle.triple_steps.proofs.ColumnLaws.{listed_next}
 use Rattle.triple_steps.proofs.ties.listed.Goals as goal
-
-pub loop-i-init : goal.loop-i-init
-loop-i-init c = λ x. c.new-listed.ensures.empty x
 
 pub loop-i-preserved : goal.loop-i-preserved
 loop-i-preserved c =

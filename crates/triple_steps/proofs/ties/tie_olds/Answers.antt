@@ -1,6 +1,6 @@
 use Rattle.std.proofs.Common.{◌≡◌, ◌∙◌, ◌++◌, List, ℕ, map, refl, sym, ap}
 use Rattle.letter_acts.specs.Frames.{olds_of}
-use Rattle.nested_refutations.specs.Refutations.{Role, source_tie}
+use Rattle.nested_refutations.specs.Refutations.{source_tie}
 use Rattle.triple_steps.specs.declared.sections.Tie.TheVariants.{Source}
 use Rattle.triple_steps.specs.declared.sections.Section.{Section}
 use Rattle.triple_steps.specs.declared.sections.Section.TheVariants.{Tie}

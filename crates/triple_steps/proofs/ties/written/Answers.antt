@@ -1,4 +1,4 @@
-use Rattle.std.proofs.Common.{◌∙◌, ℕ, List, ◌++◌, refl, ap}
+use Rattle.std.proofs.Common.{ℕ, List, ◌++◌, refl, ap}
 use Rattle.std.specs.Prelude.{filter, not}
 use Rattle.letter_acts.specs.Frames.{variables_of}
 use Rattle.letter_acts.specs.Invariant.{is_global_at}
