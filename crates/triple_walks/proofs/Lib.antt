@@ -4,6 +4,7 @@ mod GoalLaws
 mod LeafLaws
 mod LeftLaws
 pub mod ListedLaws
+mod PuttingLaws
 mod SecondLaws
 mod StopLaws
 pub mod TableLaws

@@ -39,18 +39,18 @@ use Rattle.triple_walks.specs.declared.walks.Begin.TheVariants.{Root, Side, Memb
 use Rattle.triple_walks.specs.declared.walks.Waiting as part
 use Rattle.triple_walks.specs.declared.walks.Walk as walks
 
-none_some : {X : Type 0} (o : Option X) (x : X) → o ≡ None → o ≡ Some x → ⊥
+pub none_some : {X : Type 0} (o : Option X) (x : X) → o ≡ None → o ≡ Some x → ⊥
 none_some o x e f = absurd (cc)
 
-some_same : {X : Type 0} (o : Option X) (x y : X) → o ≡ Some x → o ≡ Some y → x ≡ y
+pub some_same : {X : Type 0} (o : Option X) (x y : X) → o ≡ Some x → o ≡ Some y → x ≡ y
 some_same o x y e f = cc
 
-all_joined : {X : Type 0} (P : X → Type 0) (xs ys : List X) → AllByRecursion P xs → AllByRecursion P ys → AllByRecursion P (xs ++ ys)
+pub all_joined : {X : Type 0} (P : X → Type 0) (xs ys : List X) → AllByRecursion P xs → AllByRecursion P ys → AllByRecursion P (xs ++ ys)
 all_joined P [] ys h k = k
 all_joined P (x ∷ xs) ys h k = (h.0, all_joined P xs ys h.1 k)
 
 -- the numbers of a group, and those of a claim's at a cut
-abbrev number_of : ℕ × Spot → ℕ × ℕ
+abbrev pub number_of : ℕ × Spot → ℕ × ℕ
 number_of p = (p.0, p.1.node)
 
 abbrev with_claim : ℕ → ℕ → ℕ × ℕ
@@ -123,7 +123,7 @@ groups_known : (v : View) (x : code.Guide) (i : ℕ) (c : Claim) → slice_get v
 groups_known v x i c e [] h k = tt
 groups_known v x i c e (s ∷ ss) h k = (record { claim = c; found = e; is_cut = cut_is s.tree k.0; known = h.0 }, groups_known v x i c e ss h.1 k.1)
 
-of_claim_numbers : (i : ℕ) (ss : List Spot) → map (with_claim i) (map (λ z. z.node) ss) ≡ map number_of (of_claim i ss)
+pub of_claim_numbers : (i : ℕ) (ss : List Spot) → map (with_claim i) (map (λ z. z.node) ss) ≡ map number_of (of_claim i ss)
 of_claim_numbers i [] = refl
 of_claim_numbers i (s ∷ ss) = ap (λ (l : List (ℕ × ℕ)). (i, s.node) ∷ l) (of_claim_numbers i ss)
 

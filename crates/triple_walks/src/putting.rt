@@ -1,26 +1,32 @@
 //! The refutation of a letter's triple.
 
-ghost use Rattle.std.specs.Prelude.{◌≡◌, ℕ, List, IfOk, length};
+ghost use Rattle.std.specs.Prelude.{◌≡◌, ℕ, List, [], ◌∷◌, pos, IfOk, OnOk, length};
 ghost use Rattle.std.specs.List.{AllByRecursion};
-ghost use Rattle.farkas_check.specs.Nodes.{plain_nodes};
+ghost use Rattle.farkas_check.specs.Nodes.{PlainNode, leaf, plain_nodes};
 ghost use Rattle.farkas_check.specs.Trees as trees;
 ghost use Rattle.nwa_base.specs.declared.letters.Letter.{Letter};
 ghost use Rattle.letter_acts.specs.Invariant.{Graph};
 ghost use Rattle.nested_predicates.specs.Stamps.{stamps_of};
 ghost use Rattle.nested_predicates.specs.Positions.{positions_of};
 ghost use Rattle.nested_predicates.specs.Sums.{root_of};
+ghost use Rattle.nested_refutations.specs.Refutations.{View};
 ghost use Rattle.nested_refutations.specs.Numbers as numbers;
+ghost use Rattle.nested_refutations.specs.Numbers.{spares, branch_rows};
 ghost use Rattle.nested_refutations.specs.Waiting.{StepWaits};
 ghost use Rattle.triple_steps.specs.Steps.{IsStep};
+ghost use Rattle.triple_steps.specs.declared.sections.Section.TheVariants as sections;
 ghost use Rattle.triple_walks.specs.Spots.{IsTree};
+ghost use Rattle.triple_walks.specs.Claims.{AreClaims};
 ghost use Rattle.triple_walks.specs.Leaves.{Ascends};
-ghost use Rattle.triple_walks.specs.Putting.{IsPlaced, IsPutFor};
+ghost use Rattle.triple_walks.specs.Goals.{plain_goal, with_roles};
+ghost use Rattle.triple_walks.specs.Walking.{IsLed, Known, IsThere};
+ghost use Rattle.triple_walks.specs.Putting.{IsPlaced, IsPutFor, root_spot, is_false_in, with_section, IsLaid};
 
 use crate::claims::Claim;
 use crate::exposing::exposed_at;
 use crate::goals::{Goal, Role};
 use crate::trees::Tree;
-use crate::walks::{Guide, run};
+use crate::walks::{Guide, claim_at, run};
 use farkas_check::Node;
 use std::alloc::{AllocError, Global};
 use triple_steps::{Section, Step};
@@ -47,18 +53,29 @@ pub fn refutation(
         columns: &step.columns,
         rows,
     };
+    put_for(alloc, &guide, step.sections.as_slice())
+}
+
+/// What is put down for a system with these sections: where a claim is false the leaf that takes its row, else the walk's nodes.
+fn put_for(alloc: Global, guide: &Guide, sections: &[Section]) -> Result<Vec<Node>, AllocError>
+    requires placed { AllByRecursion (IsPlaced guide.now.columns.now) (plain_nodes guide.now.nodes.now) }
+    requires ascend { AllByRecursion Ascends (plain_nodes guide.now.nodes.now) }
+    ensures { IfOk result (λ f. (g : Graph) (w : List Letter) (t : trees.Tree) (s : numbers.Step) → IsLed s.view guide.now → IsThere s.view guide.now (root_spot g w t) (record { node = 0; depth = 0 }) → IsLaid g w t s sections.now → StepWaits g w t s → IsPutFor g w t s (plain_nodes f.items)) }
+{
     let mut goal = Goal::new(alloc);
-    for i in 0..step.sections.len() {
-        if is_false(&guide, step.sections[i]) {
+    for i in 0..sections.len() {
+        if is_false(guide, sections[i]) {
             return falsity(alloc, goal.roles.len());
         }
-        add_section(alloc, &guide, &mut goal, step.sections[i])?;
+        add_section(alloc, guide, &mut goal, sections[i])?;
     }
-    run(alloc, &guide, goal)
+    run(alloc, guide, goal)
 }
 
 /// What the system says of the predicates, of the target last.
-fn claims_of(alloc: Global, tree: &Tree, step: &Step) -> Result<Vec<Claim>, AllocError> {
+fn claims_of(alloc: Global, tree: &Tree, step: &Step) -> Result<Vec<Claim>, AllocError>
+    ensures { IfOk result (λ v. (g : Graph) (w : List Letter) (t : trees.Tree) (s : numbers.Step) (nodes : List PlainNode) → IsTree (stamps_of g w).columns (positions_of g w) (root_of g w) t nodes tree.now → IsStep g w t s step.now → AreClaims (stamps_of g w).columns (positions_of g w) (root_of g w) t s.view.claims v.items) }
+{
     let mut claims = Vec::new(alloc);
     for i in 0..step.sources.len() {
         claims.push(Claim::of(alloc, tree, step.sources[i], false)?)?;
@@ -68,13 +85,22 @@ fn claims_of(alloc: Global, tree: &Tree, step: &Step) -> Result<Vec<Claim>, Allo
 }
 
 /// Whether a section is that of a claim that is false.
-fn is_false(guide: &Guide, section: Section) -> bool {
+fn is_false(guide: &Guide, section: Section) -> bool
+    ensures { (g : Graph) (w : List Letter) (t : trees.Tree) (v : View) → Known v guide.now (root_spot g w t) → result ≡ is_false_in g w t v section }
+{
     match section {
-        Section::Claim(claim) => match guide.claims.get(claim) {
-            Some(found) => found.is_false(),
-            None => false,
-        },
+        Section::Claim(claim) => is_false_claim(guide, claim),
         Section::Spare(_) | Section::Rows { .. } | Section::Tie(_) => false,
+    }
+}
+
+/// Whether there is a claim with this number that is false.
+fn is_false_claim(guide: &Guide, claim: usize) -> bool
+    ensures { (g : Graph) (w : List Letter) (t : trees.Tree) (v : View) → Known v guide.now (root_spot g w t) → result ≡ is_false_in g w t v (sections.Claim claim) }
+{
+    match claim_at(guide.claims, claim) {
+        Some(found) => found.is_false(),
+        None => false,
     }
 }
 
@@ -84,7 +110,9 @@ fn add_section(
     guide: &Guide,
     goal: &mut Goal,
     section: Section,
-) -> Result<(), AllocError> {
+) -> Result<(), AllocError>
+    ensures { OnOk result ((g : Graph) (w : List Letter) (t : trees.Tree) (v : View) → IsLed v guide.now → Known v guide.now (root_spot g w t) → plain_goal goal.new ≡ with_section g w t v section (plain_goal goal.old)) }
+{
     match section {
         Section::Claim(claim) => add_claim(alloc, guide, goal, claim),
         Section::Spare(count) => add_spares(goal, count),
@@ -99,8 +127,10 @@ fn add_claim(
     guide: &Guide,
     goal: &mut Goal,
     claim: usize,
-) -> Result<(), AllocError> {
-    let Some(found) = guide.claims.get(claim) else {
+) -> Result<(), AllocError>
+    ensures { OnOk result ((g : Graph) (w : List Letter) (t : trees.Tree) (v : View) → IsLed v guide.now → Known v guide.now (root_spot g w t) → plain_goal goal.new ≡ with_section g w t v (sections.Claim claim) (plain_goal goal.old)) }
+{
+    let Some(found) = claim_at(guide.claims, claim) else {
         return Ok(());
     };
     let given = exposed_at(alloc, guide.tree, found, 0)?;
@@ -108,7 +138,9 @@ fn add_claim(
 }
 
 /// Adds rows that no leaf uses.
-fn add_spares(goal: &mut Goal, count: usize) -> Result<(), AllocError> {
+fn add_spares(goal: &mut Goal, count: usize) -> Result<(), AllocError>
+    ensures { OnOk result (plain_goal goal.new ≡ with_roles (spares count) (plain_goal goal.old)) }
+{
     for _i in 0..count {
         goal.add(Role::Spare)?;
     }
@@ -116,7 +148,9 @@ fn add_spares(goal: &mut Goal, count: usize) -> Result<(), AllocError> {
 }
 
 /// Adds rows with the multipliers of rows of the word. No memory holds as many where their numbers do not fit.
-fn add_rows(goal: &mut Goal, first: usize, count: usize) -> Result<(), AllocError> {
+fn add_rows(goal: &mut Goal, first: usize, count: usize) -> Result<(), AllocError>
+    ensures { OnOk result (plain_goal goal.new ≡ with_roles (branch_rows first count) (plain_goal goal.old)) }
+{
     for i in 0..count {
         match first.checked_add(i) {
             Some(row) => goal.add(Role::Word(row))?,
@@ -127,7 +161,9 @@ fn add_rows(goal: &mut Goal, first: usize, count: usize) -> Result<(), AllocErro
 }
 
 /// The refutation that takes the row with this number alone. No memory holds as many rows where the number does not fit.
-fn falsity(alloc: Global, row: usize) -> Result<Vec<Node>, AllocError> {
+fn falsity(alloc: Global, row: usize) -> Result<Vec<Node>, AllocError>
+    ensures { IfOk result (λ v. plain_nodes v.items ≡ leaf ((row, pos 1) ∷ []) ∷ []) }
+{
     if row > u32::MAX as usize {
         return Err(AllocError);
     }
