@@ -1,5 +1,5 @@
 -- The steps on the goal at hand, as its lists give them.
-use Rattle.std.proofs.Common.{◌≡◌, ◌∙◌, ℕ, ◌+◌, ◌<◌, ◌≤◌, Bool, List, [], ◌∷◌, ◌++◌, map, take, length, get_or, ap, sym, refl, append_assoc, append-nil, if◌then◌else◌}
+use Rattle.std.proofs.Common.{◌≡◌, ◌∙◌, ℕ, ◌+◌, ◌<◌, ◌≤◌, Bool, List, [], ◌∷◌, ◌++◌, map, take, length, get_or, ap, sym, append_assoc, append-nil, if◌then◌else◌}
 use Rattle.std.proofs.lemmas.List.{map_more, take_all, take-map}
 use Rattle.nested_refutations.specs.Refutations.{Role, spare, atom_at, atom_roles}
 use Rattle.triple_walks.specs.Stops.{taken_of}

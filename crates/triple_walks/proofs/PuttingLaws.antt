@@ -25,7 +25,7 @@ use Rattle.triple_walks.specs.Spots.{IsTree}
 use Rattle.triple_walks.specs.Claims.{IsClaim, AreClaims, left_of, is_refuted}
 use Rattle.triple_walks.specs.Telling.{Tells, AllTell, IsKnown, IsExposed}
 use Rattle.triple_walks.specs.Stops.{IsPlace}
-use Rattle.triple_walks.specs.Goals.{PlainGoal, with_roles, with_exposed, IsGoal}
+use Rattle.triple_walks.specs.Goals.{PlainGoal, with_roles, with_exposed}
 use Rattle.triple_walks.specs.Walking.{IsLed, Known, IsThere, IsGroup, IsAtHand}
 use Rattle.triple_walks.specs.Putting.{IsPutFor, root_spot, IsLaid, is_false_of, is_false_in, claim_groups, section_groups, with_section}
 use Rattle.triple_walks.proofs.TellingLaws.{root_known, told_at, tells_here}

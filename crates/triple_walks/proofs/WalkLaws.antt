@@ -1,25 +1,25 @@
 -- The steps of the walk of a triple, over plain values: each leads from where the refutation has come to on to where it comes to next.
-use Rattle.std.proofs.Common.{◌≡◌, ◌∙◌, ℕ, zero, suc, ◌+◌, ◌^◌, ◌<◌, ◌≤◌, ℤ, Bool, true, false, List, [], ◌∷◌, ◌++◌, length, map, reverse, take, drop, refl, sym, ap, subst, arith, append_assoc, length-append, Option, None, Some}
+use Rattle.std.proofs.Common.{◌≡◌, ◌∙◌, ℕ, zero, suc, ◌+◌, ◌^◌, ◌<◌, ◌≤◌, ℤ, Bool, true, false, List, [], ◌∷◌, ◌++◌, length, map, reverse, take, drop, refl, sym, ap, subst, arith, length-append, Option, None, Some}
 use Rattle.std.specs.Prelude.{not, ◌&&◌, nat_eq, slice_get}
 use Rattle.std.specs.List.{AllByRecursion}
-use Rattle.std.proofs.lemmas.List.{append-nil, map-append, map_push, reverse-append, take_all, take-append-le, drop-append-le, length-take-le}
+use Rattle.std.proofs.lemmas.List.{append-nil, map-append, map_push, reverse-append, take_all, take-append-le, drop-append-le}
 use Rattle.lin_rows.specs.Rows.{AscendsFrom}
 use Rattle.farkas_check.specs.Nodes.{PlainNode, leaf, cut, cases, plain, plain_nodes}
 use Rattle.farkas_check.specs.Trees.{Tree, leaf_tree, cut_tree, cases_tree, prefix_of}
 use Rattle.farkas_check.specs.declared.refutations.Node.{Node}
 use Rattle.nested_predicates.specs.Sums.{Branch}
-use Rattle.nested_refutations.specs.Refutations.{Claim, Spot, side_of, low_side, high_side, Exposed, exposed, Role, branch_row, View, Goes, multipliers, parts_from, Stop, at_leaf, at_cut, at_group, nowhere, stops_at, with_own, atom_roles, is_used, of_claim, with_member, side_at, member_taken, opened, leaf_of}
+use Rattle.nested_refutations.specs.Refutations.{Claim, Spot, side_of, low_side, high_side, Exposed, exposed, Role, branch_row, View, Goes, multipliers, parts_from, Stop, at_leaf, at_cut, at_group, nowhere, stops_at, with_own, atom_roles, is_used, of_claim, with_member, member_taken, opened, leaf_of}
 use Rattle.nested_refutations.specs.Walked.{ComesTo, AreWalkedFrom}
 use Rattle.nested_refutations.specs.Waiting.{IsNotEmpty, AfterOpening, HasGroupAlong, GroupsWait}
 use Rattle.nested_refutations.proofs.PutLaws.{comes_first, comes_leaf, comes_cut, comes_cases, comes_last}
 use Rattle.triple_steps.specs.Steps.{place_of}
 use Rattle.triple_steps.specs.declared.columns.Columns.{Columns}
-use Rattle.triple_walks.specs.Spots.{Everywhere, node_of, sides_in, with_second}
-use Rattle.triple_walks.specs.Telling.{IsNode, Tells, AllTell, IsKnown, IsExposed}
+use Rattle.triple_walks.specs.Spots.{sides_in}
+use Rattle.triple_walks.specs.Telling.{Tells, AllTell, IsExposed}
 use Rattle.triple_walks.specs.Stops.{taken_of, IsPlace, IsStop}
 use Rattle.triple_walks.specs.Leaves.{Ascends}
 use Rattle.triple_walks.specs.Putting.{IsPlaced}
-use Rattle.triple_walks.specs.Goals.{role_of, group_of, PlainGoal, plain_goal, with_roles, with_exposed, with_taken, without_first, mark_of, gone_back, IsGoal}
+use Rattle.triple_walks.specs.Goals.{role_of, group_of, PlainGoal, plain_goal, with_roles, with_exposed, with_taken, without_first, mark_of, gone_back}
 use Rattle.triple_walks.specs.Walking.{parts_in, cut_in, IsLed, Known, IsThere, StopsThere, IsCutTree, IsGroup, IsAtHand, IsWithin, Keeps, TakesMember, TakesRow, IsBegun, IsWaiting, AreWaiting, HasCome, IsComing, ComesNext}
 use Rattle.triple_walks.proofs.TellingLaws.{IsCut, HasCut, known_low, known_high, known_groups, groups_are_cuts, told_at}
 use Rattle.triple_walks.specs.declared.trees.Tree as code_trees

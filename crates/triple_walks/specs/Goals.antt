@@ -1,5 +1,5 @@
 -- The goal at hand on the walk of a triple: what each of its rows is, the groups, and the members that were taken.
-use Rattle.std.specs.Prelude.{◌≡◌, ℕ, suc, ◌+◌, ◌≤◌, Bool, List, [], ◌∷◌, ◌++◌, map, reverse, take, drop, length, Option, None, Some, slice_get}
+use Rattle.std.specs.Prelude.{◌≡◌, ℕ, suc, ◌+◌, ◌≤◌, Bool, List, [], ◌∷◌, ◌++◌, map, reverse, take, drop, length, Option, None, Some}
 use Rattle.nested_refutations.specs.Refutations.{Role, spare, atom_at, branch_row, atom_roles, Goes}
 use Rattle.triple_steps.specs.Sections.{tie_role}
 use Rattle.triple_walks.specs.Stops.{taken_of}

@@ -1,4 +1,4 @@
-use Rattle.std.proofs.Common.{◌≡◌, ◌+◌, arith, rules}
+use Rattle.std.proofs.Common.{◌≡◌, ◌+◌, rules}
 use Rattle.triple_walks.specs.Goals.{plain_goal}
 use Rattle.triple_walks.proofs.PuttingLaws.{roles_none, rows_more, rows_all}
 use Rattle.triple_walks.proofs.putting.add_rows.Goals as goal

@@ -1,10 +1,9 @@
-use Rattle.std.proofs.Common.{◌≡◌, ◌∙◌, List, refl, sym, ap, subst}
+use Rattle.std.proofs.Common.{◌≡◌, ◌∙◌, List, refl, sym, subst}
 use Rattle.std.proofs.lemmas.Result.{IfOk-weaker}
 use Rattle.nested_predicates.specs.Stamps.{stamps_of}
 use Rattle.nested_predicates.specs.Positions.{positions_of}
 use Rattle.nested_predicates.specs.Sums.{root_of}
 use Rattle.farkas_check.specs.Nodes.{plain_nodes}
-use Rattle.triple_steps.specs.declared.sections.Section.{Section}
 use Rattle.triple_walks.specs.Claims.{AreClaims}
 use Rattle.triple_walks.specs.Putting.{IsLaid}
 use Rattle.triple_walks.specs.declared.claims.Claim as claims

@@ -1,5 +1,5 @@
-use Rattle.std.proofs.Common.{◌≡◌, Option, None, Some, rules}
-use Rattle.std.specs.Prelude.{slice_get, not, ◌&&◌, nat_eq}
+use Rattle.std.proofs.Common.{◌≡◌, None, Some, rules}
+use Rattle.std.specs.Prelude.{slice_get, ◌&&◌}
 use Rattle.std.proofs.lemmas.Result.{on_ok_weaker}
 use Rattle.triple_walks.specs.Goals.{plain_goal}
 use Rattle.triple_walks.specs.Spots.{sides_in}

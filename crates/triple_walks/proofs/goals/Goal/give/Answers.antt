@@ -1,6 +1,6 @@
-use Rattle.std.proofs.Common.{◌≡◌, ◌∙◌, ◌<◌, ◌≤◌, ◌∷◌, [], ℕ, length, get_or, ap, arith, rules, refl, if◌then◌else◌}
+use Rattle.std.proofs.Common.{◌≡◌, ◌∙◌, ◌<◌, ◌≤◌, ◌∷◌, [], ℕ, length, get_or, ap, rules, if◌then◌else◌}
 use Rattle.std.proofs.lemmas.List.{get_or_read}
-use Rattle.nested_refutations.specs.Refutations.{Role, spare, atom_at}
+use Rattle.nested_refutations.specs.Refutations.{spare, atom_at}
 use Rattle.triple_walks.proofs.GoalLaws.{rows_first, rows_more, rows_all, groups_more, groups_all}
 use Rattle.triple_walks.specs.Goals.{plain_goal, role_of, with_groups}
 use Rattle.triple_walks.proofs.goals.Goal.give.Goals as goal

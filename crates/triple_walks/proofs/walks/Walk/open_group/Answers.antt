@@ -1,4 +1,4 @@
-use Rattle.std.proofs.Common.{◌≡◌, ◌∙◌, ◌++◌, ◌∷◌, [], List, true, false, refl, sym, ap}
+use Rattle.std.proofs.Common.{◌≡◌, ◌∙◌, ◌++◌, ◌∷◌, [], List, refl, ap}
 use Rattle.farkas_check.specs.declared.refutations.Node.TheVariants.{Cases}
 use Rattle.triple_walks.specs.Goals.{plain_goal, mark_of}
 use Rattle.triple_walks.specs.declared.goals.Goal as goals
