@@ -1,5 +1,6 @@
 pub mod AscendLaws
 mod ExposeLaws
+mod GoalLaws
 mod LeafLaws
 mod LeftLaws
 pub mod ListedLaws
@@ -7,3 +8,4 @@ mod SecondLaws
 mod StopLaws
 pub mod TableLaws
 pub mod TellingLaws
+mod WalkLaws
