@@ -1,15 +1,22 @@
 //! Nested interpolants made from a refutation.
 
-ghost use Rattle.std.specs.Prelude.{◌≡◌, suc, Err, IsTrue, IfOk, length};
-ghost use Rattle.farkas_check.specs.Nodes.{plain_nodes, is_tree};
+ghost use Rattle.std.specs.Prelude.{◌≡◌, ◌↔◌, suc, Err, IsTrue, IfOk, length};
+ghost use Rattle.std.specs.List.{AllByRecursion};
+ghost use Rattle.farkas_check.specs.Nodes.{plain, plain_nodes, is_tree};
+ghost use Rattle.farkas_check.specs.Trees as trees;
 ghost use Rattle.letter_acts.specs.Invariant.{alphabet_of};
 ghost use Rattle.path_rows.specs.Paths.{IsPathOf};
+ghost use Rattle.nested_predicates.specs.Stamps.{stamps_of};
+ghost use Rattle.nested_predicates.specs.Positions.{positions_of};
+ghost use Rattle.nested_predicates.specs.Sums.{root_of};
 ghost use Rattle.nested_predicates.specs.Interpolants.{AreInterpolants, RefutesRows, HasCutsUpTo, BeginsTrue, EndsFalse};
-ghost use Rattle.std.specs.List.{AllByRecursion};
-ghost use Rattle.nested_refutations.specs.Numbers.{NumbersFit};
+ghost use Rattle.nested_refutations.specs.Numbers.{NumbersFit, StepFits, steps_of};
+ghost use Rattle.nested_refutations.specs.Cuts.{IsCutWithin};
 ghost use Rattle.triple_rows.specs.Triples.{Agrees};
+ghost use Rattle.triple_steps.specs.Steps.{FitColumns, AreSteps};
+ghost use Rattle.triple_walks.specs.Spots.{IsTree};
 ghost use Rattle.hoare_check.specs.Decided.{IsProofFor};
-ghost use Rattle.nested_itp.specs.Proofs.{AreProofsOf};
+ghost use Rattle.nested_itp.specs.Proofs.{AreTriplesOf, AreProofsOf, IsNoProof};
 
 use crate::proved::Interpolants;
 use farkas_check::{Node, Refutation, tree};
@@ -42,65 +49,80 @@ pub fn interpolants(
     ensures proved { IfOk result (λ i. AllByRecursion (IsProofFor (alphabet_of icfg.now)) i.proofs) }
     ensures past { result ≡ Err ItpFault.Past → NumbersFit icfg.now path.now.word proof.now → ⊥ }
 {
-    let _valid = icfg.acts();
+    let nodes = proof.nodes();
     let sums = prefix_sums(alloc, icfg, path, proof)?;
-    if !are_cuts_up_to(proof.nodes(), path.column_at().len()) {
+    if !are_cuts_within_columns(nodes, path.column_at().len()) {
         return Err(ItpFault::Past);
     }
     let triples = triples_of(alloc, path.word(), &sums.preds)?;
     let steps = steps(alloc, icfg, path, &sums.returned)?;
-    let tree = Tree::of(alloc, proof.nodes(), sums.table)?;
-    let proofs = proofs(
-        alloc,
-        icfg,
-        proof.nodes(),
-        &tree,
-        path.row_at().len(),
-        &steps,
-        &triples,
-    )?;
+    let tree = Tree::of(alloc, nodes, sums.table)?;
+    let proofs = proofs(alloc, icfg, path, proof, &tree, &steps, &triples)?;
     Ok(Interpolants::new(sums.preds, proofs))
 }
 
 /// Whether each cut is at one of so many columns.
-fn are_cuts_up_to(nodes: &[Node], columns: usize) -> bool {
+fn are_cuts_within_columns(nodes: &[Node], columns: usize) -> bool
+    ensures { IsTrue result ↔ AllByRecursion (IsCutWithin columns) (plain_nodes nodes.now) }
+{
     for node in nodes {
-        if let Node::Cut { col, .. } = node {
-            if *col as usize >= columns {
-                return false;
-            }
+        if !is_cut_within(node, columns) {
+            return false;
         }
     }
     true
 }
 
-/// The proofs of the triples of a word's letters, by the word's refutation with these nodes. The word has so many rows.
+/// Whether the node is no cut, or one at one of so many columns.
+fn is_cut_within(node: &Node, columns: usize) -> bool
+    ensures { IsTrue result ↔ IsCutWithin columns (plain node.now) }
+{
+    match node {
+        Node::Cut { col, .. } => (*col as usize) < columns,
+        Node::Leaf(_) | Node::Cases(_) => true,
+    }
+}
+
+/// The proofs of the triples of a word's letters, put down along the tree of a refutation of its rows, which cuts at columns of the
+/// word alone. `Past` only where a number of a triple's system, or of its refutation, does not fit.
 fn proofs(
     alloc: Global,
     icfg: &Icfg,
-    nodes: &[Node],
+    path: &PathSystem,
+    proof: &Refutation,
     tree: &Tree,
-    rows: usize,
     steps: &[Step],
     triples: &[Triple],
 ) -> Result<Vec<Proof>, ItpFault>
-    requires { AllByRecursion (Agrees (alphabet_of icfg.now)) triples.now }
-    ensures { IfOk result (λ v. AreProofsOf (alphabet_of icfg.now) triples.now v.items) }
+    requires path { IsPathOf icfg.now path.now }
+    requires refutes { RefutesRows proof.now path.now.rows }
+    requires cuts { AllByRecursion (IsCutWithin (length (stamps_of icfg.now path.now.word).columns)) proof.now }
+    requires tree { (t : trees.Tree) → trees.prefix_of t ≡ proof.now → IsTree (stamps_of icfg.now path.now.word).columns (positions_of icfg.now path.now.word) (root_of icfg.now path.now.word) t proof.now tree.now }
+    requires steps { (t : trees.Tree) → AreSteps icfg.now path.now.word t (steps_of icfg.now path.now.word t) steps.now }
+    requires fit { AllByRecursion (λ s. FitColumns (length (stamps_of icfg.now path.now.word).columns) s.columns) steps.now }
+    requires triples { AreTriplesOf icfg.now path.now.word proof.now triples.now }
+    ensures proofs { IfOk result (λ v. AreProofsOf (alphabet_of icfg.now) triples.now v.items) }
+    ensures count { IfOk result (λ v. length v.items ≡ length steps.now) }
+    ensures past { result ≡ Err ItpFault.Past → ((t : trees.Tree) → trees.prefix_of t ≡ proof.now → AllByRecursion (StepFits icfg.now path.now.word t) (steps_of icfg.now path.now.word t)) → ⊥ }
 {
+    let _states = icfg.nwa().states();
+    let nodes = proof.nodes();
+    let rows = path.row_at().len();
     let mut proofs = Vec::with_capacity(alloc, triples.len())?;
     for at in 0..triples.len() {
-        let refuted = refutation(alloc, nodes, tree, &steps[at], rows)?;
-        proofs.push(proved(alloc, icfg, &triples[at], refuted)?)?;
+        let refuting = refutation(alloc, nodes, tree, &steps[at], rows)?;
+        proofs.push(proved(alloc, icfg, &triples[at], refuting)?)?;
     }
     Ok(proofs)
 }
 
-/// The proof of a triple that agrees with its letter, by the refutation with these nodes. `Past` where it does not refute its system.
+/// The proof of a triple that agrees with its letter, by the tree with these nodes. `Past` only where that is no proof of it.
 fn proved(alloc: Global, icfg: &Icfg, triple: &Triple, nodes: Vec<Node>) -> Result<Proof, ItpFault>
     requires agrees { Agrees (alphabet_of icfg.now) triple.now }
     requires tree { IsTrue (is_tree (plain_nodes nodes.items)) }
     ensures triple { IfOk result (λ p. p.triple ≡ triple.now) }
     ensures proved { IfOk result (IsProofFor (alphabet_of icfg.now)) }
+    ensures past { result ≡ Err ItpFault.Past → IsNoProof (alphabet_of icfg.now) triple.now (plain_nodes nodes.items) }
 {
     let Some(refutation) = tree(nodes) else {
         unreachable!()

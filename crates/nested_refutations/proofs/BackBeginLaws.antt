@@ -1,6 +1,7 @@
 -- The refutation of a return's triple begins well, and its leaves contradict their rows.
 use Rattle.std.proofs.Common.{◌≡◌, ◌∙◌, ◌⊎◌, inl, inr, ℕ, zero, suc, ◌+◌, ◌<◌, Bool, true, false, IsTrue, List, [], ◌∷◌, ◌++◌, length, map, refl, sym, ap, subst, arith, append_assoc, None, Some}
 use Rattle.std.specs.Prelude.{slice_get, if◌then◌else◌}
+use Rattle.std.specs.List.{AllByRecursion}
 use Rattle.std.proofs.lemmas.Bool.{eq-eqb, ne_eqb}
 use Rattle.std.proofs.lemmas.List.{length-map}
 use Rattle.nwa_base.specs.declared.letters.Letter.{Letter}
@@ -17,15 +18,16 @@ use Rattle.nested_predicates.specs.Positions.{Scope, callee_scope, Position, inn
 use Rattle.nested_predicates.specs.Sums.{root_of}
 use Rattle.nested_predicates.proofs.EndLaws.{rows_goal}
 use Rattle.nested_refutations.specs.Refutations.{is_same, Claim, rows_in, said_at, Role, target_tie, source_tie, stands}
-use Rattle.nested_refutations.specs.Numbers.{Step, branch_rows, spares, before_bounds, bounds_in, OpenCall, back_step, Reading, here, AreCutsAt}
+use Rattle.nested_refutations.specs.Numbers.{Step, branch_rows, spares, before_bounds, bounds_in, OpenCall, back_step, Reading, here, IsFalse, AreCutsAt}
 use Rattle.nested_refutations.specs.Refuting.{StepRefutes}
+use Rattle.nested_refutations.specs.Waiting.{StepWaits}
 use Rattle.nested_refutations.proofs.TruthLaws.{IsOpen}
 use Rattle.nested_refutations.proofs.SpotLaws.{spot, StandsIn, IsUncased, uncased_stands}
 use Rattle.nested_refutations.proofs.HeldLaws.{truth_at, Held, asks_each}
 use Rattle.nested_refutations.proofs.RowsLaws.{AllPairs, pairs_counted}
 use Rattle.nested_refutations.proofs.StopLaws.{AllHeld, IsView, refuted_uncased}
 use Rattle.nested_refutations.proofs.WayLaws.{RoleFits, stands_left, stands_right, stands_exposed}
-use Rattle.nested_refutations.proofs.LeafLaws.{BeginsWell}
+use Rattle.nested_refutations.proofs.LeafLaws.{BeginsHeld, groups_wait}
 use Rattle.nested_refutations.proofs.LeavesLaws.{leaves_refute}
 use Rattle.nested_refutations.proofs.BeginLaws.{begin_groups, begin_held, claim_pairs}
 use Rattle.nested_refutations.proofs.ViewLaws.{counted_is, is_counted_in}
@@ -222,22 +224,30 @@ all_held c o i d found used = by_claim i found
         (behind m (stands_left (claim_roles c 2 (after_claim c)) (exit_spares c ++ (frame_roles c ++ written_spares c)) 2 m (stands_exposed 2 (leaves_of c (after_claim c)) m h)))))))
     by_claim (suc (suc (suc j))) e = absurd (none_some d e)
 
-back_begins : (c : BackLetter) → TreeRefutes c.call.t (rows_goal (root_of c.call.g c.call.w)) → BackOpenClaims c → BeginsWell (back_view c) (back_root c) (back_first c)
-back_begins c refuted o = record {
+back_held : (c : BackLetter) → TreeRefutes c.call.t (rows_goal (root_of c.call.g c.call.w)) → BackOpenClaims c → BeginsHeld (back_view c) (back_root c) (back_first c)
+back_held c refuted o = record {
   view = back_is_view c;
   refuted = refuted;
   stands = root_stands c o.uncased;
-  pairs = all_pairs c o;
   groups = begin_groups c.call.g c.call.w c.call.t (back_view c) o.uncased (root_stands c o.uncased) 0 (back_view c).claims (λ p d e. ap (slice_get (back_view c).claims) (let q : 0 + p ≡ p = omega arith in q) ∙ e);
   held = all_held c o;
   taken = refl;
 }
 
+claims_open : (c : BackLetter) → TreeRefutes c.call.t (rows_goal (root_of c.call.g c.call.w)) → AllByRecursion (λ d. IsFalse c.call.g c.call.w c.call.t (back_view c) d → ⊥) (back_view c).claims → BackOpenClaims c
+claims_open c refuted open_claims =
+    record { uncased = refuted_uncased c.call.t (root_of c.call.g c.call.w) refuted; exit = open_claims.0; before = open_claims.1.0; after = open_claims.1.1.0 }
+
 -- the leaves of the refutation of its triple contradict their rows
 letter_refutes : (c : BackLetter) → TreeRefutes c.call.t (rows_goal (root_of c.call.g c.call.w)) → AreCutsAt (length (back_view c).columns) c.call.t → StepRefutes c.call.g c.call.w c.call.t (back_step_in c)
 letter_refutes c refuted cuts fits open_claims sides =
-    let o : BackOpenClaims c = record { uncased = refuted_uncased c.call.t (root_of c.call.g c.call.w) refuted; exit = open_claims.0; before = open_claims.1.0; after = open_claims.1.1.0 } in
-    leaves_refute (back_view c) (back_root c) (back_first c) (back_begins c refuted o) cuts (exit_told c, (before_told c, (after_told c, tt))) (λ more late n b parts f. back_adds c (back_opens c o) more late n b parts f) sides
+    let o : BackOpenClaims c = claims_open c refuted open_claims in
+    leaves_refute (back_view c) (back_root c) (back_first c) (record { begins = back_held c refuted o; pairs = all_pairs c o }) cuts (exit_told c, (before_told c, (after_told c, tt)))
+    (λ more late n b parts f. back_adds c (back_opens c o) more late n b parts f) sides
+
+-- where it stops at a group, one waits
+letter_waits : (c : BackLetter) → TreeRefutes c.call.t (rows_goal (root_of c.call.g c.call.w)) → StepWaits c.call.g c.call.w c.call.t (back_step_in c)
+letter_waits c refuted open_claims = groups_wait (back_view c) (back_root c) (back_first c) (back_held c refuted (claims_open c refuted open_claims))
 
 -- ---- at a return of an accepted word
 
@@ -304,3 +314,8 @@ pub back_refutes : (g : Graph) → IsGraph g → (globals : ℕ) → HaveGlobals
     StepRefutes g w t (back_step_at g w t r a h.call h.scopes h.open_at.caller h.open_at.callee h.open_at.helpers h.open_at.rows targets h.before)
 back_refutes =
     at_return (λ g w t s. TreeRefutes t (rows_goal (root_of g w)) → AreCutsAt (length (stamps_of g w).columns) t → StepRefutes g w t s) letter_refutes
+
+pub back_waits : (g : Graph) → IsGraph g → (globals : ℕ) → HaveGlobals g globals → (w : List Letter) (t : Tree) (r : Reading) (a : Letter) (rest : List Letter) (targets : List ℕ) →
+    (h : BackAt g globals w r a rest targets) → Quiet g globals w r → TreeRefutes t (rows_goal (root_of g w)) →
+    StepWaits g w t (back_step_at g w t r a h.call h.scopes h.open_at.caller h.open_at.callee h.open_at.helpers h.open_at.rows targets h.before)
+back_waits = at_return (λ g w t s. TreeRefutes t (rows_goal (root_of g w)) → StepWaits g w t s) letter_waits

@@ -20,6 +20,7 @@ use Rattle.nested_predicates.specs.Sums.{Branch, root_of}
 use Rattle.nested_predicates.proofs.EndLaws.{rows_goal}
 use Rattle.nested_refutations.specs.Refutations.{Claim, rows_in, said_at, Role, target_tie, opposite_tie, stands, atom_roles, is_used, stops, leaf_from}
 use Rattle.nested_refutations.specs.Numbers.{branch_rows, spares, before_bounds, bounds_in, Reading, LeafFits, IsFalse, AreCutsAt}
+use Rattle.nested_refutations.specs.Waiting.{StepWaits}
 use Rattle.nested_refutations.proofs.TruthLaws.{IsOpen}
 use Rattle.nested_refutations.proofs.SpotLaws.{spot, StandsIn, IsUncased, uncased_stands}
 use Rattle.nested_refutations.proofs.HeldLaws.{truth_at, Held}
@@ -27,7 +28,7 @@ use Rattle.nested_refutations.proofs.RowsLaws.{AllPairs, pairs_joined, pairs_cou
 use Rattle.nested_refutations.proofs.StopLaws.{AllHeld, IsView, refuted_uncased}
 use Rattle.nested_refutations.proofs.WayLaws.{RoleFits, stands_left, stands_right, stands_exposed}
 use Rattle.nested_refutations.proofs.ClaimLaws.{AddsUp}
-use Rattle.nested_refutations.proofs.LeafLaws.{BeginsWell}
+use Rattle.nested_refutations.proofs.LeafLaws.{BeginsHeld, groups_wait}
 use Rattle.nested_refutations.proofs.LeavesLaws.{LeafFacts, leaves_refute}
 use Rattle.nested_refutations.proofs.BeginLaws.{begin_groups, begin_held, claim_pairs}
 use Rattle.nested_refutations.proofs.ViewLaws.{TwoClaims, two_view}
@@ -38,18 +39,17 @@ use Rattle.nested_refutations.proofs.AlongLaws.{first_reading}
 use Rattle.nested_refutations.proofs.CallColumnLaws.{CallLetter, caller_in, callee_in, heads, olds, call_names, call_names_differ, call_step_in, call_view, call_root, call_first, caller_long, heads_within}
 use Rattle.nested_refutations.proofs.CallRowLaws.{IsOldAt, olds_at, olds_number, named_tie, old_bounds, local_bounds, global_bounds, callee_bounds_rows, callee_roles}
 use Rattle.nested_refutations.proofs.CallSumLaws.{own_block, entry_block, local_block, old_block, call_block, front_of, later_rows, call_root_rows, source_rows, target_rows, source_claim, target_claim, leaves_of, global_ties, old_ties, caller_bounds, old_tie_roles, own_roles, caller_roles, bound_roles, call_first_rows, call_first_roles}
-use Rattle.nested_refutations.proofs.CallAddLaws.{call_rows_fit, CallRows, call_rows}
+use Rattle.nested_refutations.proofs.CallAddLaws.{CallRowsFit, call_rows_fit, CallRows, call_rows}
 use Rattle.nested_refutations.proofs.CallLeafLaws.{target_told, globals_tie}
 use Rattle.nested_refutations.proofs.InsideLeafLaws.{all_weaker}
 use Rattle.nested_refutations.proofs.InsideColumnLaws.{owns_innermost}
 use Rattle.nested_refutations.proofs.PendingLaws.{CallOpens, own_of, target_own, call_entry_kind}
 
--- neither claim is false, and the numbers of the system fit
+-- neither claim is false
 pub record CallOpenClaims (c : CallLetter) : Type 0 where
   pub uncased : IsUncased c.t
   pub before : IsOpen false (truth_at (call_view c).columns (source_claim c) (root_of c.g c.w) c.t)
   pub after : IsOpen true (truth_at (call_view c).columns (target_claim c) (root_of c.g c.w) c.t)
-  pub fits : PlainFits (system_of (alphabet_of c.g) (call_step_in c).triple)
 
 root_stands : (c : CallLetter) → IsUncased c.t → StandsIn (call_view c).columns 0 (root_of c.g c.w) c.t (spot 0 (root_of c.g c.w) c.t)
 root_stands c un = uncased_stands (call_view c).columns 0 (root_of c.g c.w) c.t un
@@ -58,13 +58,13 @@ claim_rows : (c : CallLetter) → IsUncased c.t → (i : ℕ) (d : Claim) → sl
     AllPairs (RoleFits (call_view c) (call_root c) (root_of c.g c.w).rows) (atom_roles (is_used (call_view c) i) i (leaves_of c d)) (map tightened (rows_in (said_at (call_view c).columns d (call_root c))))
 claim_rows c un i d e is_open = claim_pairs (call_view c) (call_root c) un (root_stands c un) (root_of c.g c.w).rows i d e is_open
 
-pub call_opens : (c : CallLetter) → CallOpenClaims c → CallOpens c
-call_opens c o = record {
+call_opens : (c : CallLetter) → CallOpenClaims c → CallRowsFit c → CallOpens c
+call_opens c o fits = record {
   source_count = pairs_counted (RoleFits (call_view c) (call_root c) (root_of c.g c.w).rows) (atom_roles (is_used (call_view c) 0) 0 (leaves_of c (source_claim c))) (source_rows c)
       (claim_rows c o.uncased 0 (source_claim c) refl o.before);
   target_count = pairs_counted (RoleFits (call_view c) (call_root c) (root_of c.g c.w).rows) (atom_roles (is_used (call_view c) 1) 1 (leaves_of c (target_claim c))) (target_rows c)
       (claim_rows c o.uncased 1 (target_claim c) refl o.after);
-  fits = call_rows_fit c o.fits;
+  fits = fits;
 }
 
 -- ---- its view
@@ -123,9 +123,9 @@ call_is_view c = by_return (has_return 0 c.rest) refl
 abbrev Fits : CallLetter → Role → LinearRow → Type 0
 Fits c = RoleFits (call_view c) (call_root c) (root_of c.g c.w).rows
 
-kinds_same : (c : CallLetter) → CallOpenClaims c → CallRows c (λ r s. r.kind ≡ s.kind)
-kinds_same c o =
-    call_rows c (λ r s. r.kind ≡ s.kind) (call_rows_fit c o.fits) (λ rows h k. kinds_moved (call_names c) (call_names_differ c) rows h k) (λ p h. call_entry_kind c p h)
+kinds_same : (c : CallLetter) → CallRowsFit c → CallRows c (λ r s. r.kind ≡ s.kind)
+kinds_same c fits =
+    call_rows c (λ r s. r.kind ≡ s.kind) fits (λ rows h k. kinds_moved (call_names c) (call_names_differ c) rows h k) (λ p h. call_entry_kind c p h)
 
 pub olds_tie : (c : CallLetter) → AreTies (λ o. length (caller_in c) + o.0) (λ o. o.1) (olds_of (callee_in c))
 olds_tie c =
@@ -159,8 +159,8 @@ behind_entries c =
 behind_locals : (c : CallLetter) → (root_of c.g c.w).rows ≡ (((front_of c ++ own_block c) ++ entry_block c) ++ local_block c) ++ (old_block c ++ map tightened (later_rows c))
 behind_locals c = behind_entries c ∙ sym (append_assoc ((front_of c ++ own_block c) ++ entry_block c) (local_block c) (old_block c ++ map tightened (later_rows c)))
 
-old_tie_pairs : (c : CallLetter) → CallOpenClaims c → AllPairs (Fits c) (old_tie_roles c) (old_ties c)
-old_tie_pairs c o = by_return (has_return 0 c.rest)
+old_tie_pairs : (c : CallLetter) → CallRowsFit c → AllPairs (Fits c) (old_tie_roles c) (old_ties c)
+old_tie_pairs c fits = by_return (has_return 0 c.rest)
   where
     by_return : (z : Bool) → AllPairs (Fits c) (if z then map (λ o. opposite_tie o.1) (olds_of (callee_in c)) else branch_rows (c.r.rows + length c.rows) (length (olds_of (callee_in c)))) (old_ties c)
     by_return true = tie_pairs (call_view c) (call_root c) (root_of c.g c.w).rows (λ o. opposite_tie o.1) (λ p row k. k) (λ o. length (caller_in c) + o.0) (λ o. o.1) (olds_of (callee_in c)) (olds_tie c)
@@ -172,10 +172,10 @@ old_tie_pairs c o = by_return (has_return 0 c.rest)
         subst (λ (k : ℕ). AllPairs (Fits c) (branch_rows k (length (olds_of (callee_in c)))) (old_ties c)) at
         (subst (λ (k : ℕ). AllPairs (Fits c) (branch_rows (length (front_of c ++ own_block c)) k) (old_ties c)) n
         (branch_pairs (call_view c) (call_root c) (root_of c.g c.w).rows (front_of c ++ own_block c) (old_ties c) (entry_block c) ((local_block c ++ old_block c) ++ map tightened (later_rows c))
-        (behind_own c) (kinds_same c o).entry))
+        (behind_own c) (kinds_same c fits).entry))
 
-own_pairs : (c : CallLetter) → CallOpenClaims c → AllPairs (Fits c) (own_roles c) (map tightened c.rows)
-own_pairs c o = by_return (has_return 0 c.rest)
+own_pairs : (c : CallLetter) → CallRowsFit c → AllPairs (Fits c) (own_roles c) (map tightened c.rows)
+own_pairs c fits = by_return (has_return 0 c.rest)
   where
     count : length (map tightened c.rows) ≡ length c.rows
     count = length-map c.rows tightened
@@ -186,10 +186,10 @@ own_pairs c o = by_return (has_return 0 c.rest)
         subst (λ (k : ℕ). AllPairs (Fits c) (branch_rows k (length c.rows)) (map tightened c.rows)) (sym (row_at_own c))
         (subst (λ (k : ℕ). AllPairs (Fits c) (branch_rows (length (front_of c)) k) (map tightened c.rows)) count
         (branch_pairs (call_view c) (call_root c) (root_of c.g c.w).rows (front_of c) (map tightened c.rows) (own_block c) ((entry_block c ++ (local_block c ++ old_block c)) ++ map tightened (later_rows c))
-        (call_root_rows c ∙ ap (λ (l : List LinearRow). front_of c ++ l) (append_assoc (own_block c) (entry_block c ++ (local_block c ++ old_block c)) (map tightened (later_rows c)))) (kinds_same c o).own))
+        (call_root_rows c ∙ ap (λ (l : List LinearRow). front_of c ++ l) (append_assoc (own_block c) (entry_block c ++ (local_block c ++ old_block c)) (map tightened (later_rows c)))) (kinds_same c fits).own))
 
-caller_pairs : (c : CallLetter) → CallOpenClaims c → AllPairs (Fits c) (caller_roles c) (caller_bounds c)
-caller_pairs c o = by_return (has_return 0 c.rest)
+caller_pairs : (c : CallLetter) → CallRowsFit c → AllPairs (Fits c) (caller_roles c) (caller_bounds c)
+caller_pairs c fits = by_return (has_return 0 c.rest)
   where
     count : length (caller_bounds c) ≡ bounds_in (caller_in c)
     count = length-map (bounds 0 (types_of (caller_in c))) tightened ∙ bounds_counted 0 0 (types_of (caller_in c))
@@ -202,7 +202,7 @@ caller_pairs c o = by_return (has_return 0 c.rest)
         let letters : suc c.r.letters ≡ 1 = ap (λ (x : Reading). suc x.letters) e.0 in
         let here : before_bounds (suc c.r.letters) (caller_in c) ≡ branch_rows 0 (bounds_in (caller_in c)) = ap (λ (z : Bool). if z then branch_rows 0 (bounds_in (caller_in c)) else spares (bounds_in (caller_in c))) (eq-eqb (suc c.r.letters) 1 letters) in
         subst (λ (l : List Role). AllPairs (Fits c) l (caller_bounds c)) (sym (here ∙ ap (branch_rows 0) (sym count)))
-        (branch_pairs (call_view c) (call_root c) (root_of c.g c.w).rows [] (caller_bounds c) (front_of c) (call_block c ++ map tightened (later_rows c)) (call_root_rows c) ((kinds_same c o).frame e.0 e.1))
+        (branch_pairs (call_view c) (call_root c) (root_of c.g c.w).rows [] (caller_bounds c) (front_of c) (call_block c ++ map tightened (later_rows c)) (call_root_rows c) ((kinds_same c fits).frame e.0 e.1))
     by_begun (inr l) =
         let here : before_bounds (suc c.r.letters) (caller_in c) ≡ spares (bounds_in (caller_in c)) =
         ap (λ (z : Bool). if z then branch_rows 0 (bounds_in (caller_in c)) else spares (bounds_in (caller_in c))) (ne_eqb (suc c.r.letters) 1 (λ (e : suc c.r.letters ≡ 1). omega (arith, l, e))) in
@@ -212,14 +212,14 @@ caller_pairs c o = by_return (has_return 0 c.rest)
     by_return true = all_spare
     by_return false = by_begun c.at.begun
 
-bound_pairs : (c : CallLetter) → CallOpenClaims c → AllPairs (Fits c) (bound_roles c) (map tightened (bounds (length (caller_in c)) (types_of (callee_in c))))
-bound_pairs c o =
+bound_pairs : (c : CallLetter) → CallRowsFit c → AllPairs (Fits c) (bound_roles c) (map tightened (bounds (length (caller_in c)) (types_of (callee_in c))))
+bound_pairs c fits =
     let local : ℕ = c.r.rows + length c.rows + length (old_part (callee_in c)) in
     let old : ℕ = local + bounds_in (locals_of (callee_in c)) in
     let g_rows : List LinearRow = map tightened (global_bounds c) in
     let o_rows : List LinearRow = map tightened (old_bounds c) in
     let l_rows : List LinearRow = map tightened (local_bounds c) in
-    let kinds = kinds_same c o in
+    let kinds = kinds_same c fits in
     let rows_are : map tightened (bounds (length (caller_in c)) (types_of (callee_in c))) ≡ g_rows ++ (o_rows ++ l_rows) =
     ap (map tightened) (callee_bounds_rows c) ∙ map-append tightened (global_bounds c) (old_bounds c ++ local_bounds c) ∙ ap (λ (l : List LinearRow). g_rows ++ l) (map-append tightened (old_bounds c) (local_bounds c)) in
     let on : length o_rows ≡ bounds_in (old_part (callee_in c)) = length-map (old_bounds c) tightened ∙ bounds_counted (length (caller_in c) + heads c) 0 (types_of (old_part (callee_in c))) in
@@ -246,8 +246,8 @@ bound_pairs c o =
     subst (λ (l : List Role). AllPairs (Fits c) l (map tightened (bounds (length (caller_in c)) (types_of (callee_in c))))) (sym (callee_roles c local old))
     (subst (AllPairs (Fits c) (spares (bounds_in (globals_from 0 c.at.infos)) ++ (branch_rows old (bounds_in (old_part (callee_in c))) ++ branch_rows local (bounds_in (locals_of (callee_in c)))))) (sym rows_are) whole)
 
-all_pairs : (c : CallLetter) → CallOpenClaims c → AllPairs (Fits c) (call_first c).roles (call_first c).rows
-all_pairs c o =
+all_pairs : (c : CallLetter) → CallOpenClaims c → CallRowsFit c → AllPairs (Fits c) (call_first c).roles (call_first c).rows
+all_pairs c o fits =
     let a : List Role = atom_roles (is_used (call_view c) 0) 0 (leaves_of c (source_claim c)) in
     let b : List Role = map target_tie (globals_of (callee_in c)) in
     let d : List Role = old_tie_roles c in
@@ -256,10 +256,10 @@ all_pairs c o =
     let h : List Role = caller_roles c in
     let k : List Role = bound_roles c in
     let last : List LinearRow = map tightened (bounds (length (caller_in c)) (types_of (callee_in c))) in
-    let p6 = pairs_joined (Fits c) h (caller_bounds c) k last (caller_pairs c o) (bound_pairs c o) in
+    let p6 = pairs_joined (Fits c) h (caller_bounds c) k last (caller_pairs c fits) (bound_pairs c fits) in
     let p5 = pairs_joined (Fits c) f (target_rows c) (h ++ k) (caller_bounds c ++ last) (claim_rows c o.uncased 1 (target_claim c) refl o.after) p6 in
-    let p4 = pairs_joined (Fits c) e (map tightened c.rows) (f ++ (h ++ k)) (target_rows c ++ (caller_bounds c ++ last)) (own_pairs c o) p5 in
-    let p3 = pairs_joined (Fits c) d (old_ties c) (e ++ (f ++ (h ++ k))) (map tightened c.rows ++ (target_rows c ++ (caller_bounds c ++ last))) (old_tie_pairs c o) p4 in
+    let p4 = pairs_joined (Fits c) e (map tightened c.rows) (f ++ (h ++ k)) (target_rows c ++ (caller_bounds c ++ last)) (own_pairs c fits) p5 in
+    let p3 = pairs_joined (Fits c) d (old_ties c) (e ++ (f ++ (h ++ k))) (map tightened c.rows ++ (target_rows c ++ (caller_bounds c ++ last))) (old_tie_pairs c fits) p4 in
     let p2 = pairs_joined (Fits c) b (global_ties c) (d ++ (e ++ (f ++ (h ++ k)))) (old_ties c ++ (map tightened c.rows ++ (target_rows c ++ (caller_bounds c ++ last))))
     (tie_pairs (call_view c) (call_root c) (root_of c.g c.w).rows target_tie (λ p row q. q) (λ x. length (caller_in c) + x) (λ x. x) (globals_of (callee_in c)) (globals_tie c)) p3 in
     let p1 = pairs_joined (Fits c) a (source_rows c) (b ++ (d ++ (e ++ (f ++ (h ++ k))))) (global_ties c ++ (old_ties c ++ (map tightened c.rows ++ (target_rows c ++ (caller_bounds c ++ last)))))
@@ -301,16 +301,18 @@ all_held c o i d found used = by_claim i found used
         (atoms_stand 1 (leaves_of c (target_claim c)) m u h))))))))
     by_claim (suc (suc j)) e u = absurd (none_some d e)
 
-pub call_begins : (c : CallLetter) → TreeRefutes c.t (rows_goal (root_of c.g c.w)) → CallOpenClaims c → BeginsWell (call_view c) (call_root c) (call_first c)
-call_begins c refuted o = record {
+call_held : (c : CallLetter) → TreeRefutes c.t (rows_goal (root_of c.g c.w)) → CallOpenClaims c → BeginsHeld (call_view c) (call_root c) (call_first c)
+call_held c refuted o = record {
   view = call_is_view c;
   refuted = refuted;
   stands = root_stands c o.uncased;
-  pairs = all_pairs c o;
   groups = begin_groups c.g c.w c.t (call_view c) o.uncased (root_stands c o.uncased) 0 (call_view c).claims (λ p d e. ap (slice_get (call_view c).claims) (let q : 0 + p ≡ p = omega arith in q) ∙ e);
   held = all_held c o;
   taken = refl;
 }
+
+claims_open : (c : CallLetter) → TreeRefutes c.t (rows_goal (root_of c.g c.w)) → AllByRecursion (λ d. IsFalse c.g c.w c.t (call_view c) d → ⊥) (call_view c).claims → CallOpenClaims c
+claims_open c refuted open_claims = record { uncased = refuted_uncased c.t (root_of c.g c.w) refuted; before = open_claims.0; after = open_claims.1.0 }
 
 -- where each of its leaves adds up, the leaves contradict their rows
 pub call_refutes : (c : CallLetter) → TreeRefutes c.t (rows_goal (root_of c.g c.w)) → AreCutsAt (length (call_view c).columns) c.t →
@@ -319,5 +321,10 @@ pub call_refutes : (c : CallLetter) → TreeRefutes c.t (rows_goal (root_of c.g 
     PlainFits (system_of (alphabet_of c.g) (call_step_in c).triple) → AllByRecursion (λ d. IsFalse c.g c.w c.t (call_view c) d → ⊥) (call_view c).claims → (sides : List Bool) →
     IfSome (leaf_from (call_view c) sides (call_first c) (stops (call_view c) [] 0 (root_of c.g c.w) c.t)) (λ l. LeafFits l → Contradicts l.rows l.parts)
 call_refutes c refuted cuts adds fits open_claims sides =
-    let o : CallOpenClaims c = record { uncased = refuted_uncased c.t (root_of c.g c.w) refuted; before = open_claims.0; after = open_claims.1.0; fits = fits } in
-    leaves_refute (call_view c) (call_root c) (call_first c) (call_begins c refuted o) cuts ((λ i j l m e. e), (target_told c, tt)) (adds (call_opens c o)) sides
+    let o : CallOpenClaims c = claims_open c refuted open_claims in
+    let rows : CallRowsFit c = call_rows_fit c fits in
+    leaves_refute (call_view c) (call_root c) (call_first c) (record { begins = call_held c refuted o; pairs = all_pairs c o rows }) cuts ((λ i j l m e. e), (target_told c, tt)) (adds (call_opens c o rows)) sides
+
+-- where it stops at a group, one waits
+pub call_waits : (c : CallLetter) → TreeRefutes c.t (rows_goal (root_of c.g c.w)) → StepWaits c.g c.w c.t (call_step_in c)
+call_waits c refuted open_claims = groups_wait (call_view c) (call_root c) (call_first c) (call_held c refuted (claims_open c refuted open_claims))

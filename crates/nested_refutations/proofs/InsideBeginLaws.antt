@@ -16,12 +16,13 @@ use Rattle.nested_predicates.specs.Sums.{root_of}
 use Rattle.nested_predicates.proofs.EndLaws.{rows_goal}
 use Rattle.nested_refutations.specs.Refutations.{Claim, Role, stands, atom_roles, is_used, stops, leaf_from}
 use Rattle.nested_refutations.specs.Numbers.{branch_rows, spares, before_bounds, bounds_in, Reading, here, source, target, LeafFits, IsFalse, AreCutsAt}
+use Rattle.nested_refutations.specs.Waiting.{StepWaits}
 use Rattle.nested_refutations.proofs.SpotLaws.{uncased_stands}
 use Rattle.nested_refutations.proofs.HeldLaws.{Held}
 use Rattle.nested_refutations.proofs.RowsLaws.{AllPairs, pairs_joined, pairs_counted}
 use Rattle.nested_refutations.proofs.StopLaws.{AllHeld, refuted_uncased}
 use Rattle.nested_refutations.proofs.WayLaws.{RoleFits, stands_left, stands_right, stands_exposed}
-use Rattle.nested_refutations.proofs.LeafLaws.{BeginsWell}
+use Rattle.nested_refutations.proofs.LeafLaws.{BeginsHeld, groups_wait}
 use Rattle.nested_refutations.proofs.LeavesLaws.{leaves_refute}
 use Rattle.nested_refutations.proofs.BeginLaws.{begin_groups, begin_held, claim_pairs}
 use Rattle.nested_refutations.proofs.ViewLaws.{two_view}
@@ -31,7 +32,7 @@ use Rattle.nested_refutations.proofs.WordLaws.{HaveGlobals}
 use Rattle.nested_refutations.proofs.AlongLaws.{first_reading}
 use Rattle.nested_refutations.proofs.InsideAtLaws.{inside_to}
 use Rattle.nested_refutations.proofs.InsideColumnLaws.{InsideLetter, frame_in, names_in, step_in, view_in, root_in, first_in, two_in}
-use Rattle.nested_refutations.proofs.InsideSumLaws.{own_block, new_block, bounds_on, front_in, later_rows, root_rows, OpenClaims, source_rows, target_rows, source_leaves, target_leaves, first_rows, first_roles, SameRows, same_rows, rows_fit_in, names_apart}
+use Rattle.nested_refutations.proofs.InsideSumLaws.{own_block, new_block, bounds_on, front_in, later_rows, root_rows, OpenClaims, source_rows, target_rows, source_leaves, target_leaves, first_rows, first_roles, RowsFit, rows_fit_in, SameRows, same_rows, names_apart}
 use Rattle.nested_refutations.proofs.InsideLeafLaws.{inside_adds_up, inside_told}
 
 same_some : {X : Type 0} (x y : X) → Some x ≡ Some y → x ≡ y
@@ -40,11 +41,11 @@ same_some x y e = cc
 none_some : {X : Type 0} (x : X) → None ≡ Some x → ⊥
 none_some x e = absurd (cc)
 
-kinds_same : (c : InsideLetter) → OpenClaims c → SameRows c (λ r s. r.kind ≡ s.kind)
-kinds_same c o = same_rows c (λ r s. r.kind ≡ s.kind) (rows_fit_in c o.fits) (λ rows h k. kinds_moved (names_in c) (names_apart c) rows h k)
+kinds_same : (c : InsideLetter) → RowsFit c → SameRows c (λ r s. r.kind ≡ s.kind)
+kinds_same c fits = same_rows c (λ r s. r.kind ≡ s.kind) fits (λ rows h k. kinds_moved (names_in c) (names_apart c) rows h k)
 
-frame_pairs : (c : InsideLetter) → OpenClaims c → AllPairs (RoleFits (view_in c) (root_in c) (root_of c.g c.w).rows) (before_bounds (suc c.r.letters) (frame_in c)) (map tightened (bounds 0 (types_of (frame_in c))))
-frame_pairs c o = by_begun c.at.begun
+frame_pairs : (c : InsideLetter) → RowsFit c → AllPairs (RoleFits (view_in c) (root_in c) (root_of c.g c.w).rows) (before_bounds (suc c.r.letters) (frame_in c)) (map tightened (bounds 0 (types_of (frame_in c))))
+frame_pairs c fits = by_begun c.at.begun
   where
     count : length (map tightened (bounds 0 (types_of (frame_in c)))) ≡ bounds_in (frame_in c)
     count = length-map (bounds 0 (types_of (frame_in c))) tightened ∙ bounds_counted 0 0 (types_of (frame_in c))
@@ -57,20 +58,20 @@ frame_pairs c o = by_begun c.at.begun
         let whole : before_bounds (suc c.r.letters) (frame_in c) ≡ branch_rows 0 (length (map tightened (bounds 0 (types_of (frame_in c))))) = here ∙ ap (branch_rows 0) (sym count) in
         subst (λ (l : List Role). AllPairs (RoleFits (view_in c) (root_in c) (root_of c.g c.w).rows) l (map tightened (bounds 0 (types_of (frame_in c))))) (sym whole)
         (branch_pairs (view_in c) (root_in c) (root_of c.g c.w).rows [] (map tightened (bounds 0 (types_of (frame_in c)))) (front_in c) ((own_block c ++ new_block c) ++ map tightened (later_rows c)) (root_rows c)
-        ((kinds_same c o).frame e.0 e.1))
+        ((kinds_same c fits).frame e.0 e.1))
     by_begun (inr l) =
         let here : before_bounds (suc c.r.letters) (frame_in c) ≡ spares (bounds_in (frame_in c)) =
         ap (λ (z : Bool). if z then branch_rows 0 (bounds_in (frame_in c)) else spares (bounds_in (frame_in c))) (ne_eqb (suc c.r.letters) 1 (λ (e : suc c.r.letters ≡ 1). omega (arith, l, e))) in
         subst (λ (l : List Role). AllPairs (RoleFits (view_in c) (root_in c) (root_of c.g c.w).rows) l (map tightened (bounds 0 (types_of (frame_in c))))) (sym (here ∙ ap spares (sym count)))
         (spare_pairs (view_in c) (root_in c) (root_of c.g c.w).rows 0 (map tightened (bounds 0 (types_of (frame_in c)))))
 
-all_pairs : (c : InsideLetter) → OpenClaims c → AllPairs (RoleFits (view_in c) (root_in c) (root_of c.g c.w).rows) (first_in c).roles (first_in c).rows
-all_pairs c o =
+all_pairs : (c : InsideLetter) → OpenClaims c → RowsFit c → AllPairs (RoleFits (view_in c) (root_in c) (root_of c.g c.w).rows) (first_in c).roles (first_in c).rows
+all_pairs c o fits =
     let P : Role → LinearRow → Type 0 = RoleFits (view_in c) (root_in c) (root_of c.g c.w).rows in
     let st = uncased_stands (view_in c).columns 0 (root_of c.g c.w) c.t o.uncased in
     let source_pairs = claim_pairs (view_in c) (root_in c) o.uncased st (root_of c.g c.w).rows 0 (source (here c.r) (λ x. x)) refl o.before in
     let target_pairs = claim_pairs (view_in c) (root_in c) o.uncased st (root_of c.g c.w).rows 1 (target (inside_to c.r c.written) (after_column 0 (length (frame_in c)) c.written)) refl o.after in
-    let kinds = kinds_same c o in
+    let kinds = kinds_same c fits in
     let own_pairs = branch_pairs (view_in c) (root_in c) (root_of c.g c.w).rows (front_in c) (map tightened c.rows) (own_block c) (new_block c ++ map tightened (later_rows c))
     (root_rows c ∙ ap (λ (l : List LinearRow). front_in c ++ l) (append_assoc (own_block c) (new_block c) (map tightened (later_rows c)))) kinds.own in
     let behind : length (front_in c ++ own_block c) ≡ length (front_in c) + length (map tightened c.rows) =
@@ -86,7 +87,7 @@ all_pairs c o =
     let f : List Role = branch_rows (length (front_in c) + length (map tightened c.rows)) (length (map tightened (bounds_on c))) in
     let frame_rows : List LinearRow = map tightened (bounds 0 (types_of (frame_in c))) in
     let new_rows : List LinearRow = map tightened (bounds_on c) in
-    let last = pairs_joined P e frame_rows f new_rows (frame_pairs c o) new_pairs in
+    let last = pairs_joined P e frame_rows f new_rows (frame_pairs c fits) new_pairs in
     let more = pairs_joined P d (target_rows c) (e ++ f) (frame_rows ++ new_rows) target_pairs last in
     let behind_source = pairs_joined P b (map tightened c.rows) (d ++ (e ++ f)) (target_rows c ++ (frame_rows ++ new_rows)) own_pairs more in
     let whole = pairs_joined P a (source_rows c) (b ++ (d ++ (e ++ f))) (map tightened c.rows ++ (target_rows c ++ (frame_rows ++ new_rows))) source_pairs behind_source in
@@ -114,22 +115,30 @@ all_held c o i d found used = by_claim i found
         (stands_left (atom_roles true 1 (target_leaves c)) _ 1 m (stands_exposed 1 (target_leaves c) m h))))))
     by_claim (suc (suc j)) e = absurd (none_some d e)
 
-pub inside_begins : (c : InsideLetter) → TreeRefutes c.t (rows_goal (root_of c.g c.w)) → OpenClaims c → BeginsWell (view_in c) (root_in c) (first_in c)
-inside_begins c refuted o = record {
+inside_held : (c : InsideLetter) → TreeRefutes c.t (rows_goal (root_of c.g c.w)) → OpenClaims c → BeginsHeld (view_in c) (root_in c) (first_in c)
+inside_held c refuted o = record {
   view = two_view (view_in c) (two_in c);
   refuted = refuted;
   stands = uncased_stands (view_in c).columns 0 (root_of c.g c.w) c.t o.uncased;
-  pairs = all_pairs c o;
   groups = begin_groups c.g c.w c.t (view_in c) o.uncased (uncased_stands (view_in c).columns 0 (root_of c.g c.w) c.t o.uncased) 0 (view_in c).claims
       (λ p d e. ap (slice_get (view_in c).claims) (let q : 0 + p ≡ p = omega arith in q) ∙ e);
   held = all_held c o;
   taken = refl;
 }
 
+claims_open : (c : InsideLetter) → TreeRefutes c.t (rows_goal (root_of c.g c.w)) → AllByRecursion (λ d. IsFalse c.g c.w c.t (view_in c) d → ⊥) (view_in c).claims → OpenClaims c
+claims_open c refuted open_claims = record { uncased = refuted_uncased c.t (root_of c.g c.w) refuted; before = open_claims.0; after = open_claims.1.0 }
+
 -- the leaves of the refutation of an inside letter's triple contradict their rows
 pub inside_refutes : (c : InsideLetter) → HaveGlobals c.g c.globals → TreeRefutes c.t (rows_goal (root_of c.g c.w)) → AreCutsAt (length (view_in c).columns) c.t →
     PlainFits (system_of (alphabet_of c.g) (step_in c).triple) → AllByRecursion (λ d. IsFalse c.g c.w c.t (view_in c) d → ⊥) (view_in c).claims → (sides : List Bool) →
     IfSome (leaf_from (view_in c) sides (first_in c) (stops (view_in c) [] 0 (root_of c.g c.w) c.t)) (λ l. LeafFits l → Contradicts l.rows l.parts)
 inside_refutes c have refuted cuts fits open_claims sides =
-    let o : OpenClaims c = record { uncased = refuted_uncased c.t (root_of c.g c.w) refuted; before = open_claims.0; after = open_claims.1.0; fits = fits } in
-    leaves_refute (view_in c) (root_in c) (first_in c) (inside_begins c refuted o) cuts ((λ i j l m e. e), (inside_told c, tt)) (λ more late n b parts f. inside_adds_up c have o more late n b parts f) sides
+    let o : OpenClaims c = claims_open c refuted open_claims in
+    let rows : RowsFit c = rows_fit_in c fits in
+    leaves_refute (view_in c) (root_in c) (first_in c) (record { begins = inside_held c refuted o; pairs = all_pairs c o rows }) cuts ((λ i j l m e. e), (inside_told c, tt))
+    (λ more late n b parts f. inside_adds_up c have o rows more late n b parts f) sides
+
+-- where it stops at a group, one waits
+pub inside_waits : (c : InsideLetter) → TreeRefutes c.t (rows_goal (root_of c.g c.w)) → StepWaits c.g c.w c.t (step_in c)
+inside_waits c refuted open_claims = groups_wait (view_in c) (root_in c) (first_in c) (inside_held c refuted (claims_open c refuted open_claims))

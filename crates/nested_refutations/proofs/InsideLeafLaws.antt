@@ -39,7 +39,7 @@ use Rattle.nested_refutations.proofs.LeavesLaws.{LeafFacts}
 use Rattle.nested_refutations.proofs.WordLaws.{HaveGlobals}
 use Rattle.nested_refutations.proofs.InsideAtLaws.{inside_to, inside_part_is}
 use Rattle.nested_refutations.proofs.InsideColumnLaws.{InsideLetter, frame_in, count_in, names_in, view_in, root_in, first_in, early_column, late_column, long_in, names_count, name_old, name_new, column_of, column_past}
-use Rattle.nested_refutations.proofs.InsideSumLaws.{own_block, new_block, stamps_now, front_in, later_rows, later_stamps, root_rows, root_stamps, later_within, early_front, now_counted, later_counted, OpenClaims, RowsFit, rows_fit_in, names_apart, same_rows, rows_added, leaf_counted, sums_differ}
+use Rattle.nested_refutations.proofs.InsideSumLaws.{own_block, new_block, stamps_now, front_in, later_rows, later_stamps, root_rows, root_stamps, later_within, early_front, now_counted, later_counted, OpenClaims, RowsFit, names_apart, same_rows, rows_added, leaf_counted, sums_differ}
 
 -- ---- the state after the letter
 
@@ -330,9 +330,9 @@ inside_told c i j l m e =
     after_told (length (frame_in c)) (length (frame_in c)) c.written i j (omega arith) (let k = in_frame c i l in let q = long_in c in omega (arith, k, q))
     (let k = in_frame c j m in let q = long_in c in omega (arith, k, q)) e
 
-pub inside_leaf : (c : InsideLetter) → HaveGlobals c.g c.globals → OpenClaims c → (more : List LinearRow) (late : List ℕ) (n : ℕ) (b : Branch) (parts : List (ℕ × ℤ)) →
+pub inside_leaf : (c : InsideLetter) → HaveGlobals c.g c.globals → OpenClaims c → RowsFit c → (more : List LinearRow) (late : List ℕ) (n : ℕ) (b : Branch) (parts : List (ℕ × ℤ)) →
     LeafFacts (view_in c) (root_in c) more late n b parts → InsideLeaf (view_in c) (root_in c) (first_in c) more late n b parts
-inside_leaf c have o more late n b parts f = record {
+inside_leaf c have o fits more late n b parts f = record {
   before = source (here c.r) (λ x. x);
   after = target (inside_to c.r c.written) (after_column 0 (length (frame_in c)) c.written);
   claims = refl;
@@ -366,9 +366,6 @@ inside_leaf c have o more late n b parts f = record {
   kept = λ j l m. kept_in j m (cases_in c j l);
 }
   where
-    fits : RowsFit c
-    fits = rows_fit_in c o.fits
-
     name_below : (x : ℕ) → x < length (names_in c) → slice_index (names_in c) x < c.r.stage.made + count_in c
     name_below x l = by_part (split_at (length c.r.stage.here) x)
       where
@@ -407,6 +404,6 @@ inside_leaf c have o more late n b parts f = record {
         let m = no_cuts (view_in c) (multiplier (view_in c) n b parts) x (column_past c x l) (length (root_of c.g c.w).rows) more late f.cuts in
         omega (arith, ints, a, d, e, m)
 
-pub inside_adds_up : (c : InsideLetter) → HaveGlobals c.g c.globals → OpenClaims c → (more : List LinearRow) (late : List ℕ) (n : ℕ) (b : Branch) (parts : List (ℕ × ℤ)) →
+pub inside_adds_up : (c : InsideLetter) → HaveGlobals c.g c.globals → OpenClaims c → RowsFit c → (more : List LinearRow) (late : List ℕ) (n : ℕ) (b : Branch) (parts : List (ℕ × ℤ)) →
     LeafFacts (view_in c) (root_in c) more late n b parts → AddsUp (view_in c) (root_in c) (first_in c) more late n b parts
-inside_adds_up c have o more late n b parts f = inside_adds (view_in c) (root_in c) (first_in c) more late n b parts (inside_leaf c have o more late n b parts f)
+inside_adds_up c have o fits more late n b parts f = inside_adds (view_in c) (root_in c) (first_in c) more late n b parts (inside_leaf c have o fits more late n b parts f)

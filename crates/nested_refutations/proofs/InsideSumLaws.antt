@@ -171,7 +171,6 @@ pub record OpenClaims (c : InsideLetter) : Type 0 where
   pub uncased : IsUncased c.t
   pub before : IsOpen false (truth_at (view_in c).columns (source (here c.r) (λ x. x)) (root_of c.g c.w) c.t)
   pub after : IsOpen true (truth_at (view_in c).columns (target (inside_to c.r c.written) (after_column 0 (length (frame_in c)) c.written)) (root_of c.g c.w) c.t)
-  pub fits : PlainFits (system_of (alphabet_of c.g) (step_in c).triple)
 
 abbrev pub source_rows : InsideLetter → List LinearRow
 source_rows c = map tightened (rows_in (said (λ x. x) (predicate_at c.g c.w c.t (here c.r))))

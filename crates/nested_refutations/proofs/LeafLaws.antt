@@ -1,5 +1,6 @@
--- The leaves of a triple's refutation: along any sides it goes on, and at a leaf each claim that is followed is held.
-use Rattle.std.proofs.Common.{◌≡◌, ◌∙◌, inl, inr, ℕ, ℤ, Bool, true, false, IsTrue, List, [], ◌∷◌, ◌++◌, map, refl, sym, ap, subst, Option, None, Some}
+-- The leaves of a triple's refutation and its groups: along any sides it goes on, at a leaf each claim that is followed is held, and
+-- where it stops at a group, one waits.
+use Rattle.std.proofs.Common.{◌≡◌, ◌∙◌, inl, inr, ℕ, ℤ, Bool, true, false, IsTrue, List, [], ◌∷◌, ◌++◌, length, map, refl, sym, ap, subst, Option, None, Some}
 use Rattle.std.specs.Prelude.{◌&&◌, nat_eq, nat_lt, slice_get, IfSome, if◌then◌else◌}
 use Rattle.std.specs.List.{AllByRecursion}
 use Rattle.std.proofs.lemmas.Bool.{eq-eqb, eqb-true}
@@ -11,11 +12,12 @@ use Rattle.nwa_base.specs.Members.{Member}
 use Rattle.nested_predicates.specs.Stamps.{column_stamp}
 use Rattle.nested_predicates.specs.Sums.{Branch, with_cut}
 use Rattle.nested_predicates.proofs.EndLaws.{rows_goal}
-use Rattle.nested_refutations.specs.Refutations.{Claim, Spot, side_of, low_side, high_side, exposed, spare, atom_at, branch_row, View, Goes, taken_at, Stop, at_leaf, at_cut, at_group, nowhere, stops, stops_at, with_own, rows_in, said_at, atom_roles, is_used, of_claim, with_member, member_taken, opened, Leaf, leaf_of, on_opened, leaf_from, stands as stands_among}
+use Rattle.nested_refutations.specs.Refutations.{Claim, Spot, side_of, low_side, high_side, exposed, spare, atom_at, branch_row, View, Goes, taken_at, Stop, at_leaf, at_cut, at_group, nowhere, stops, stops_at, with_own, rows_in, said_at, atom_roles, is_used, of_claim, with_member, member_taken, opened, Leaf, leaf_of, on_opened, leaf_from, own_cut, meets, stands as stands_among}
+use Rattle.nested_refutations.specs.Waiting.{IsNotEmpty, AfterOpening, HasGroupAlong, GroupsWait}
 use Rattle.nested_refutations.proofs.SpotLaws.{spot, StandsIn, IsUncased, sides_stand, one_node}
 use Rattle.nested_refutations.proofs.HeldLaws.{truth_at, WaitsUnless, StillWaits, Held, held_more, exposed_held}
 use Rattle.nested_refutations.proofs.RowsLaws.{AllPairs, pairs_mapped, IsAtomRow, exposed_rows, IsOpenCut, exposed_groups}
-use Rattle.nested_refutations.proofs.StopLaws.{IsView, AllHeld, HeldAt, Stands, TakenHeld, CutReached, GroupReached, LeafReached, StopsWell, refuted_uncased, stops_well}
+use Rattle.nested_refutations.proofs.StopLaws.{IsView, AllHeld, HeldAt, Stands, TakenHeld, KeepsWay, CutReached, GroupReached, LeafReached, StopsWell, refuted_uncased, stops_well}
 use Rattle.nested_refutations.proofs.WayLaws.{RoleFits, Way, first_way, keeps_way, low_way, high_way, atoms_way, stands_left, stands_right, stands_exposed}
 
 -- a group that waits is an open cut of a claim
@@ -29,15 +31,19 @@ pub record GoesWell (v : View) (root : Spot) (g : Goes) : Type 0 where
   pub groups : AllByRecursion (GroupFits v root) g.groups
   pub taken : TakenHeld v root g
 
--- where the refutation begins
-pub record BeginsWell (v : View) (root : Spot) (first : Goes) : Type 0 where
+-- where the refutation begins, each claim that is followed is held
+pub record BeginsHeld (v : View) (root : Spot) (first : Goes) : Type 0 where
   pub view : IsView v
   pub refuted : TreeRefutes root.tree (rows_goal root.branch)
   pub stands : Stands v root root
-  pub pairs : AllPairs (RoleFits v root root.branch.rows) first.roles first.rows
   pub groups : AllByRecursion (GroupFits v root) first.groups
   pub held : AllHeld v first root.node root.branch root.tree
   pub taken : first.taken ≡ []
+
+-- and each row there is what its role says
+pub record BeginsWell (v : View) (root : Spot) (first : Goes) : Type 0 where
+  pub begins : BeginsHeld v root first
+  pub pairs : AllPairs (RoleFits v root root.branch.rows) first.roles first.rows
 
 -- a leaf that is reached
 pub record LeafWell (v : View) (root : Spot) (first : Goes) (l : Leaf) : Type 0 where
@@ -177,6 +183,36 @@ member_way v root first g i c n side s rest b un e m w =
     atoms_way v root first g b (is_used v i) i y.leaves rows (member_of v i c n side s g rest) refl refl
     (member_pairs v root b.rows (is_used v i) i c e refl y.leaves (rows_in (said_at v.columns c s)) (exposed_rows v.columns root un c s.node s.branch s.tree m.stands m.is_open)) w
 
+-- what is kept by cuts that a claim tells, by own cuts, and where a member is taken
+record Keeps (v : View) (root : Spot) (W : Goes → Branch → Type 0) : Type 0 where
+  pub told : (g : Goes) → KeepsWay v (W g)
+  pub low : (g : Goes) (b : Branch) (col r : ℕ) (k : ℤ) → meets v.returns 0 v.claims (column_stamp v.columns col) ≡ own_cut → r ≡ length b.rows → W g b →
+      W (with_own v r col k false g) (with_cut b (column_stamp v.columns col) (at_most col k))
+  pub high : (g : Goes) (b : Branch) (col r : ℕ) (k : ℤ) → meets v.returns 0 v.claims (column_stamp v.columns col) ≡ own_cut → r ≡ length b.rows → W g b →
+      W (with_own v r col k true g) (with_cut b (column_stamp v.columns col) (above col k))
+  pub member : (g : Goes) (i : ℕ) (c : Claim) (n : ℕ) (side : Bool) (s : Spot) (rest : List (ℕ × Spot)) (b : Branch) → slice_get v.claims i ≡ Some c → MemberFits v root i c s → W g b →
+      W (member_of v i c n side s g rest) b
+
+way_kept : (v : View) (root : Spot) (first : Goes) → IsUncased root.tree → Keeps v root (Way v root first)
+way_kept v root first un = record {
+  told = keeps_way v root first;
+  low = λ g b col r k own row w. low_way v root first g b col r k own row w;
+  high = λ g b col r k own row w. high_way v root first g b col r k own row w;
+  member = λ g i c n side s rest b e m w. member_way v root first g i c n side s rest b un e m w;
+}
+
+-- where nothing is asked of the way
+abbrev AnyWay : Goes → Branch → Type 0
+AnyWay g b = Unit {0}
+
+any_kept : (v : View) (root : Spot) → Keeps v root AnyWay
+any_kept v root = record {
+  told = λ g b col k i c e w. (tt, tt);
+  low = λ g b col r k own row w. tt;
+  high = λ g b col r k own row w. tt;
+  member = λ g i c n side s rest b e m w. tt;
+}
+
 -- ---- from a group on
 
 -- the member with this side of an open cut
@@ -209,9 +245,9 @@ stands_uncased columns n b (cut_tree c k t u) un s e =
     at_cut false false f g h = g h
 stands_uncased columns n b (cases_tree ts) un s e = absurd un
 
-record Opens (v : View) (root : Spot) (first g h : Goes) (b : Branch) : Type 0 where
+record Opens (v : View) (root : Spot) (W : Goes → Branch → Type 0) (g h : Goes) (b : Branch) : Type 0 where
   pub goes : GoesWell v root h
-  pub way : Way v root first h b
+  pub way : W h b
   pub more : (i : ℕ) (c : Claim) (x : Spot) → HeldAt v g i c x → HeldAt v h i c x
 
 abbrev side_spot : View → Bool → ℕ → Branch → ℕ → ℤ → Tree → Tree → Spot
@@ -227,12 +263,12 @@ abbrev side_in : View → Bool → Spot → Spot
 side_in v side s = side_in_tree v side s.node s.branch s.tree
 
 -- by a member of the first group of a claim
-open_first : (v : View) (root : Spot) → IsUncased root.tree → (first g : Goes) (b : Branch) → GoesWell v root g → Way v root first g b → (i : ℕ) (c : Claim) → slice_get v.claims i ≡ Some c →
+open_first : (v : View) (root : Spot) → IsUncased root.tree → (W : Goes → Branch → Type 0) → Keeps v root W → (g : Goes) (b : Branch) → GoesWell v root g → W g b → (i : ℕ) (c : Claim) → slice_get v.claims i ≡ Some c →
     (n : ℕ) (d : Branch) (col : ℕ) (k : ℤ) (t u : Tree) → Stands v root (spot n d (cut_tree col k t u)) →
     truth_at v.columns c (with_cut d (column_stamp v.columns col) (at_most col k)) t ≡ None → truth_at v.columns c (with_cut d (column_stamp v.columns col) (above col k)) u ≡ None →
     (rest : List (ℕ × Spot)) → g.groups ≡ (i, spot n d (cut_tree col k t u)) ∷ rest → AllByRecursion (GroupFits v root) rest → (side : Bool) →
-    Opens v root first g (member_of v i c n side (side_of side (low_side v.columns n d col k t) (high_side v.columns n d col k t u)) g rest) b
-open_first v root un first g b goes way i c e n d col k t u st p q rest ge rest_fits side =
+    Opens v root W g (member_of v i c n side (side_of side (low_side v.columns n d col k t) (high_side v.columns n d col k t u)) g rest) b
+open_first v root un W keeps g b goes way i c e n d col k t u st p q rest ge rest_fits side =
     let cut : IsUncased t × IsUncased u = stands_uncased v.columns root.node root.branch root.tree un (spot n d (cut_tree col k t u)) st in
     let s : Spot = side_of side (low_side v.columns n d col k t) (high_side v.columns n d col k t u) in
     let m : MemberFits v root i c s = side_fits v root un i c n d col k t u st cut.0 cut.1 p q side in
@@ -243,7 +279,7 @@ open_first v root un first g b goes way i c e n d col k t u st p q rest ge rest_
             (groups_fit v root i c e y.groups (exposed_groups v.columns root un c s.node s.branch s.tree m.stands m.is_open));
         taken = λ j k2 x c2 e2 used q2 b2 col2 bound2 t2 u2 st2. by_test j k2 x c2 e2 used b2 col2 bound2 t2 u2 st2 (nat_eq i j && nat_eq n k2) refl q2;
       };
-      way = member_way v root first g i c n side s rest b un e m way;
+      way = keeps.member g i c n side s rest b e m way;
       more = λ j c2 x h. member_held v g i c (spot n d (cut_tree col k t u)) side s rest ge j c2 x h;
     }
   where
@@ -287,54 +323,52 @@ leaf_reached : (v : View) (root : Spot) (first g : Goes) (n : ℕ) (b : Branch) 
 leaf_reached v root first g n b parts h = record { goes = g; node = n; branch = b; parts = parts; leaf_is = refl; reached = h }
 
 -- after an own cut it stops well
-own_stops : (v : View) (root : Spot) (first : Goes) → BeginsWell v root first → (g : Goes) → GoesWell v root g → (r col : ℕ) (k : ℤ) (low high : Spot) → CutReached v root (Way v root first g) g r col k low high →
-    (side : Bool) → StopsWell v root (Way v root first (with_own v r col k side g)) (with_own v r col k side g) (stops_at v g.taken (side_of side low high))
-own_stops v root first begins g goes r col k low high h false =
+own_stops : (v : View) → IsView v → (root : Spot) → IsUncased root.tree → (W : Goes → Branch → Type 0) → Keeps v root W → (g : Goes) → GoesWell v root g → (r col : ℕ) (k : ℤ) (low high : Spot) →
+    CutReached v root (W g) g r col k low high → (side : Bool) →
+    StopsWell v root (W (with_own v r col k side g)) (with_own v r col k side g) (stops_at v g.taken (side_of side low high))
+own_stops v view root un W keeps g goes r col k low high h false =
     let next : Goes = with_own v r col k false g in
-    stops_well v begins.view root (Way v root first next) (keeps_way v root first next) next (own_goes v root g r col k false goes).taken (refuted_uncased root.tree root.branch begins.refuted)
-    low.node low.branch low.tree
-    (record { stands = h.low_stands; refuted = h.low_refuted; way = subst (Way v root first next) (sym h.low_branch) (low_way v root first g h.branch col r k h.own h.row h.way) })
+    stops_well v view root (W next) (keeps.told next) next (own_goes v root g r col k false goes).taken un low.node low.branch low.tree
+    (record { stands = h.low_stands; refuted = h.low_refuted; way = subst (W next) (sym h.low_branch) (keeps.low g h.branch col r k h.own h.row h.way) })
     (λ i c e used. own_held v g r col k false i c low.node low.branch low.tree (h.low_held i c e used))
-own_stops v root first begins g goes r col k low high h true =
+own_stops v view root un W keeps g goes r col k low high h true =
     let next : Goes = with_own v r col k true g in
-    stops_well v begins.view root (Way v root first next) (keeps_way v root first next) next (own_goes v root g r col k true goes).taken (refuted_uncased root.tree root.branch begins.refuted)
-    high.node high.branch high.tree
-    (record { stands = h.high_stands; refuted = h.high_refuted; way = subst (Way v root first next) (sym h.high_branch) (high_way v root first g h.branch col r k h.own h.row h.way) })
+    stops_well v view root (W next) (keeps.told next) next (own_goes v root g r col k true goes).taken un high.node high.branch high.tree
+    (record { stands = h.high_stands; refuted = h.high_refuted; way = subst (W next) (sym h.high_branch) (keeps.high g h.branch col r k h.own h.row h.way) })
     (λ i c e used. own_held v g r col k true i c high.node high.branch high.tree (h.high_held i c e used))
 
 -- after the first group is opened it stops well
-record Opened (v : View) (root : Spot) (first g : Goes) (s : Spot) (side : Bool) : Type 0 where
+record Opened (v : View) (root : Spot) (W : Goes → Branch → Type 0) (g : Goes) (s : Spot) (side : Bool) : Type 0 where
   pub next : Goes
   pub opened_is : opened v side g g.groups ≡ Some next
   pub goes : GoesWell v root next
-  pub stops : StopsWell v root (Way v root first next) next (stops_at v next.taken s)
+  pub stops : StopsWell v root (W next) next (stops_at v next.taken s)
 
 some_claim : (o : Option Claim) (c : Claim) → o ≡ Some c → (v : View) (i n : ℕ) (side : Bool) (sd : Option Spot) (g : Goes) → member_taken v i o n side sd g ≡ member_taken v i (Some c) n side sd g
 some_claim o c e v i n side sd g = ap (λ (x : Option Claim). member_taken v i x n side sd g) e
 
-group_opened : (v : View) (root : Spot) (first : Goes) → BeginsWell v root first → (g : Goes) → GoesWell v root g → (s : Spot) → GroupReached v root (Way v root first g) g s → (side : Bool) →
-    Opened v root first g s side
-group_opened v root first begins g goes s h side = by_groups g.groups refl h.waits goes.groups
+group_opened : (v : View) → IsView v → (root : Spot) → IsUncased root.tree → (W : Goes → Branch → Type 0) → Keeps v root W → (g : Goes) → GoesWell v root g → (s : Spot) → GroupReached v root (W g) g s →
+    (side : Bool) → Opened v root W g s side
+group_opened v view root un W keeps g goes s h side = by_groups g.groups refl h.waits goes.groups
   where
     opens : (i : ℕ) (n : ℕ) (d : Branch) (tree : Tree) (rest : List (ℕ × Spot)) → g.groups ≡ (i, spot n d tree) ∷ rest → (c : Claim) → slice_get v.claims i ≡ Some c →
         (col : ℕ) (k : ℤ) (t u : Tree) → tree ≡ cut_tree col k t u → Stands v root (spot n d (cut_tree col k t u)) →
         truth_at v.columns c (with_cut d (column_stamp v.columns col) (at_most col k)) t ≡ None → truth_at v.columns c (with_cut d (column_stamp v.columns col) (above col k)) u ≡ None →
-        AllByRecursion (GroupFits v root) rest → Opened v root first g s side
+        AllByRecursion (GroupFits v root) rest → Opened v root W g s side
     opens i n d tree rest ge c e col k t u te st p q rf =
-        let un : IsUncased root.tree = refuted_uncased root.tree root.branch begins.refuted in
         let m : Spot = side_of side (low_side v.columns n d col k t) (high_side v.columns n d col k t u) in
         let next : Goes = member_of v i c n side m g rest in
         let ge2 : g.groups ≡ (i, spot n d (cut_tree col k t u)) ∷ rest = ge ∙ ap (λ (y : Tree). (i, spot n d y) ∷ rest) te in
-        let o : Opens v root first g next s.branch = open_first v root un first g s.branch goes h.reached.way i c e n d col k t u st p q rest ge2 rf side in
+        let o : Opens v root W g next s.branch = open_first v root un W keeps g s.branch goes h.reached.way i c e n d col k t u st p q rest ge2 rf side in
         record {
           next = next;
           opened_is = ap (opened v side g) ge2 ∙ ap (λ (x : Option Claim). Some (member_taken v i x n side (Some m) (rest_of g rest))) e;
           goes = o.goes;
-          stops = stops_well v begins.view root (Way v root first next) (keeps_way v root first next) next o.goes.taken un s.node s.branch s.tree
+          stops = stops_well v view root (W next) (keeps.told next) next o.goes.taken un s.node s.branch s.tree
               (record { stands = h.reached.stands; refuted = h.reached.refuted; way = o.way }) (λ j c2 e2 used. o.more j c2 s (h.held j c2 e2 used));
         }
 
-    by_groups : (groups : List (ℕ × Spot)) → g.groups ≡ groups → Member g.groups (h.claim, s) → AllByRecursion (GroupFits v root) g.groups → Opened v root first g s side
+    by_groups : (groups : List (ℕ × Spot)) → g.groups ≡ groups → Member g.groups (h.claim, s) → AllByRecursion (GroupFits v root) g.groups → Opened v root W g s side
     by_groups [] e m f = absurd (none_there g.groups e m)
       where
         none_there : (l : List (ℕ × Spot)) → l ≡ [] → Member l (h.claim, s) → ⊥
@@ -349,21 +383,21 @@ group_opened v root first begins g goes s h side = by_groups g.groups refl h.wai
 on_some : (v : View) (root : Spot) (first next : Goes) (o : Option Goes) (go : Goes → Option Leaf) → o ≡ Some next → IfSome (go next) (LeafWell v root first) → IfSome (on_opened o go) (LeafWell v root first)
 on_some v root first next o go e h = subst (λ (x : Option Goes). IfSome (on_opened x go) (LeafWell v root first)) (sym e) h
 
-pub leaves_well : (v : View) (root : Spot) (first : Goes) → BeginsWell v root first → (sides : List Bool) (g : Goes) (stop : Stop) → GoesWell v root g →
+leaves_well : (v : View) → IsView v → (root : Spot) → IsUncased root.tree → (first : Goes) (sides : List Bool) (g : Goes) (stop : Stop) → GoesWell v root g →
     StopsWell v root (Way v root first g) g stop → IfSome (leaf_from v sides g stop) (LeafWell v root first)
-leaves_well v root first begins [] g (at_leaf n b parts) goes h = leaf_reached v root first g n b parts h
-leaves_well v root first begins [] g (at_cut r col k low high) goes h = tt
-leaves_well v root first begins [] g (at_group s) goes h = tt
-leaves_well v root first begins [] g nowhere goes h = tt
-leaves_well v root first begins (side ∷ sides) g (at_leaf n b parts) goes h = tt
-leaves_well v root first begins (side ∷ sides) g (at_cut r col k low high) goes h =
-    leaves_well v root first begins sides (with_own v r col k side g) (stops_at v g.taken (side_of side low high)) (own_goes v root g r col k side goes)
-    (own_stops v root first begins g goes r col k low high h side)
-leaves_well v root first begins (side ∷ sides) g (at_group s) goes h =
-    let o : Opened v root first g s side = group_opened v root first begins g goes s h side in
+leaves_well v view root un first [] g (at_leaf n b parts) goes h = leaf_reached v root first g n b parts h
+leaves_well v view root un first [] g (at_cut r col k low high) goes h = tt
+leaves_well v view root un first [] g (at_group s) goes h = tt
+leaves_well v view root un first [] g nowhere goes h = tt
+leaves_well v view root un first (side ∷ sides) g (at_leaf n b parts) goes h = tt
+leaves_well v view root un first (side ∷ sides) g (at_cut r col k low high) goes h =
+    leaves_well v view root un first sides (with_own v r col k side g) (stops_at v g.taken (side_of side low high)) (own_goes v root g r col k side goes)
+    (own_stops v view root un (Way v root first) (way_kept v root first un) g goes r col k low high h side)
+leaves_well v view root un first (side ∷ sides) g (at_group s) goes h =
+    let o : Opened v root (Way v root first) g s side = group_opened v view root un (Way v root first) (way_kept v root first un) g goes s h side in
     on_some v root first o.next (opened v side g g.groups) (λ x. leaf_from v sides x (stops_at v x.taken s)) o.opened_is
-    (leaves_well v root first begins sides o.next (stops_at v o.next.taken s) o.goes o.stops)
-leaves_well v root first begins (side ∷ sides) g nowhere goes h = tt
+    (leaves_well v view root un first sides o.next (stops_at v o.next.taken s) o.goes o.stops)
+leaves_well v view root un first (side ∷ sides) g nowhere goes h = tt
 
 first_taken : (v : View) (root : Spot) (first : Goes) → first.taken ≡ [] → TakenHeld v root first
 first_taken v root first e i n side c q used t b col k x y st = absurd (none_taken first.taken e t)
@@ -372,11 +406,50 @@ first_taken v root first e i n side c q used t b col k x y st = absurd (none_tak
     none_taken [] q h = absurd (cc)
     none_taken (z ∷ l) q h = absurd (cc)
 
+begin_uncased : (v : View) (root : Spot) (first : Goes) → BeginsHeld v root first → IsUncased root.tree
+begin_uncased v root first begins = refuted_uncased root.tree root.branch begins.refuted
+
+-- where it begins it stops well
+begin_stops : (v : View) (root : Spot) (first : Goes) → BeginsHeld v root first → (W : Goes → Branch → Type 0) → Keeps v root W → W first root.branch →
+    StopsWell v root (W first) first (stops v first.taken root.node root.branch root.tree)
+begin_stops v root first begins W keeps way =
+    stops_well v begins.view root (W first) (keeps.told first) first (first_taken v root first begins.taken) (begin_uncased v root first begins) root.node root.branch root.tree
+    (record { stands = begins.stands; refuted = begins.refuted; way = way }) begins.held
+
+begin_goes : (v : View) (root : Spot) (first : Goes) → BeginsHeld v root first → GoesWell v root first
+begin_goes v root first begins = record { groups = begins.groups; taken = first_taken v root first begins.taken }
+
 -- the leaves of a refutation that begins well are reached
 pub all_leaves_well : (v : View) (root : Spot) (first : Goes) → BeginsWell v root first → (sides : List Bool) →
     IfSome (leaf_from v sides first (stops v first.taken root.node root.branch root.tree)) (LeafWell v root first)
-all_leaves_well v root first begins sides =
-    let taken : TakenHeld v root first = first_taken v root first begins.taken in
-    leaves_well v root first begins sides first (stops v first.taken root.node root.branch root.tree) (record { groups = begins.groups; taken = taken })
-    (stops_well v begins.view root (Way v root first first) (keeps_way v root first first) first taken (refuted_uncased root.tree root.branch begins.refuted) root.node root.branch root.tree
-    (record { stands = begins.stands; refuted = begins.refuted; way = first_way v root first begins.pairs }) begins.held)
+all_leaves_well v root first h sides =
+    let un : IsUncased root.tree = begin_uncased v root first h.begins in
+    leaves_well v h.begins.view root un first sides first (stops v first.taken root.node root.branch root.tree) (begin_goes v root first h.begins)
+    (begin_stops v root first h.begins (Way v root first) (way_kept v root first un) (first_way v root first h.pairs))
+
+-- ---- groups
+
+some_waits : (groups : List (ℕ × Spot)) (x : ℕ × Spot) → Member groups x → IsNotEmpty groups
+some_waits [] x m = m
+some_waits (y ∷ groups) x m = tt
+
+groups_well : (v : View) → IsView v → (root : Spot) → IsUncased root.tree → (sides : List Bool) (g : Goes) (stop : Stop) → GoesWell v root g → StopsWell v root (AnyWay g) g stop → HasGroupAlong v sides g stop
+groups_well v view root un [] g (at_leaf n b parts) goes h = tt
+groups_well v view root un [] g (at_cut r col k low high) goes h = tt
+groups_well v view root un [] g (at_group s) goes h = some_waits g.groups (h.claim, s) h.waits
+groups_well v view root un [] g nowhere goes h = tt
+groups_well v view root un (side ∷ sides) g (at_leaf n b parts) goes h = tt
+groups_well v view root un (side ∷ sides) g (at_cut r col k low high) goes h =
+    groups_well v view root un sides (with_own v r col k side g) (stops_at v g.taken (side_of side low high)) (own_goes v root g r col k side goes)
+    (own_stops v view root un AnyWay (any_kept v root) g goes r col k low high h side)
+groups_well v view root un (side ∷ sides) g (at_group s) goes h =
+    let o : Opened v root AnyWay g s side = group_opened v view root un AnyWay (any_kept v root) g goes s h side in
+    subst (λ (x : Option Goes). AfterOpening x (λ y. HasGroupAlong v sides y (stops_at v y.taken s))) (sym o.opened_is)
+    (groups_well v view root un sides o.next (stops_at v o.next.taken s) o.goes o.stops)
+groups_well v view root un (side ∷ sides) g nowhere goes h = tt
+
+-- where a refutation stops at a group, one waits
+pub groups_wait : (v : View) (root : Spot) (first : Goes) → BeginsHeld v root first → GroupsWait v first (stops v first.taken root.node root.branch root.tree)
+groups_wait v root first begins sides =
+    groups_well v begins.view root (begin_uncased v root first begins) sides first (stops v first.taken root.node root.branch root.tree) (begin_goes v root first begins)
+    (begin_stops v root first begins AnyWay (any_kept v root) tt)

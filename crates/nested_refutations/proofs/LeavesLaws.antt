@@ -152,4 +152,4 @@ leaves_refute v root first begins cuts told adds sides =
         leaf_refutes v root first w.goes w.node w.branch w.parts w.reached
         (claims_stand v root first w.goes w.node w.branch w.parts w.reached 0 v.claims (λ p c e. ap (slice_get v.claims) (let q : 0 + p ≡ p = omega arith in q) ∙ e) told)
         (adds w.reached.way.more w.reached.way.late w.node w.branch w.parts
-        (leaf_facts v root first w.goes w.node w.branch w.parts (refuted_uncased root.tree root.branch begins.refuted) cuts w.reached)) fits)
+        (leaf_facts v root first w.goes w.node w.branch w.parts (refuted_uncased root.tree root.branch begins.begins.refuted) cuts w.reached)) fits)

@@ -3,3 +3,4 @@ pub mod Numbers
 pub mod Refutations
 pub mod Refuting
 pub mod Walked
+pub mod Waiting

@@ -14,6 +14,7 @@ ghost use Rattle.nested_refutations.specs.Numbers.{steps_of, AreCutsAt};
 ghost use Rattle.nested_refutations.specs.Refuting.{StepRefutes};
 ghost use Rattle.nested_refutations.specs.Walked.{WalkedRefutes};
 ghost use Rattle.nested_refutations.specs.Cuts.{WalkedCuts};
+ghost use Rattle.nested_refutations.specs.Waiting.{StepWaits};
 
 /// Under a tree that refutes the rows of an accepted word, the leaves of the refutation of each letter's triple contradict the
 /// rows that hold there, if their numbers fit.
@@ -33,4 +34,11 @@ pub fn walked_trees_refute()
 pub fn walked_trees_cut_within()
     ensures { (g : Graph) (w : List Letter) (t : Tree) → IsGraph g → IsAutomaton g.automaton → Accepts g.automaton w →
         AreCutsAt (length (stamps_of g w).columns) t → AllByRecursion (WalkedCuts g w t) (steps_of g w t) }
+{}
+
+/// Under a tree that refutes the rows of an accepted word, a group waits wherever the refutation of a letter's triple stops at one
+/// of which no member was taken.
+pub fn stops_have_groups()
+    ensures { (g : Graph) (w : List Letter) (t : Tree) → IsGraph g → IsAutomaton g.automaton → Accepts g.automaton w → RefutesRows (prefix_of t) (path_of g w).rows →
+        AllByRecursion (StepWaits g w t) (steps_of g w t) }
 {}

@@ -33,6 +33,9 @@ plain_goal x = record { roles = map role_of x.roles.items; groups = map group_of
 abbrev pub with_roles : List Role → PlainGoal → PlainGoal
 with_roles roles g = record g { roles = g.roles ++ roles }
 
+abbrev pub with_groups : List (ℕ × ℕ) → PlainGoal → PlainGoal
+with_groups groups g = record g { groups = g.groups ++ groups }
+
 -- with the rows of the atoms of a claim at these leaves, and with the groups of the claim at these cuts
 abbrev pub with_exposed : ℕ → Bool → List ℕ → List ℕ → PlainGoal → PlainGoal
 with_exposed i used leaves groups g = record g { roles = g.roles ++ atom_roles used i leaves; groups = g.groups ++ map (λ n. (i, n)) groups }

@@ -6,3 +6,4 @@ pub mod Putting
 pub mod Spots
 pub mod Stops
 pub mod Telling
+pub mod Walking

@@ -1,8 +1,9 @@
 //! The goal at hand on the walk of a triple: what each of its rows is, the groups, and the members that were taken.
 
-ghost use Rattle.std.specs.Prelude.{◌≡◌, [], ◌∷◌, IfOk, OnOk, MatchOption, None, Some, slice_get};
+ghost use Rattle.std.specs.Prelude.{◌≡◌, [], ◌∷◌, IfOk, OnOk, MatchOption, None, Some, slice_get, if◌then◌else◌};
+ghost use Rattle.nested_refutations.specs.Refutations.{spare, atom_at};
 ghost use Rattle.triple_walks.specs.Stops.{taken_of};
-ghost use Rattle.triple_walks.specs.Goals.{role_of, group_of, plain_goal, with_roles, with_exposed, with_taken, without_first, mark_of, gone_back};
+ghost use Rattle.triple_walks.specs.Goals.{role_of, group_of, plain_goal, with_roles, with_groups, with_exposed, with_taken, without_first, mark_of, gone_back};
 
 use crate::exposing::Exposed;
 use crate::stops::Taken;
@@ -27,6 +28,21 @@ pub(crate) enum Role {
 pub(crate) struct Group {
     pub(crate) claim: usize,
     pub(crate) node: usize,
+}
+
+impl Group {
+    ghost use Rattle.std.specs.Prelude.{◌≡◌};
+
+    /// A member of it.
+    pub(crate) fn member(self, second: bool) -> Taken
+        ensures { result ≡ record { claim = self.claim; node = self.node; second = second } }
+    {
+        Taken {
+            claim: self.claim,
+            node: self.node,
+            second,
+        }
+    }
 }
 
 /// How much there was of a goal.
@@ -85,8 +101,16 @@ impl Goal {
         }
         for i in 0..exposed.groups.len() {
             let node = exposed.groups[i];
-            self.groups.push(Group { claim, node })?;
+            self.add_group(Group { claim, node })?;
         }
+        Ok(())
+    }
+
+    /// Adds a group.
+    fn add_group(&mut self, group: Group) -> Result<(), AllocError>
+        ensures { OnOk result (plain_goal self.new ≡ with_groups (group_of group ∷ []) (plain_goal self.old)) }
+    {
+        self.groups.push(group)?;
         Ok(())
     }
 
@@ -135,7 +159,9 @@ impl Goal {
 }
 
 /// What the row is of a claim's atom at a leaf.
-fn atom_role(is_used: bool, claim: usize, leaf: usize) -> Role {
+fn atom_role(is_used: bool, claim: usize, leaf: usize) -> Role
+    ensures { role_of result ≡ (if is_used then atom_at claim leaf else spare) }
+{
     if is_used {
         Role::Atom { claim, leaf }
     } else {

@@ -15,7 +15,7 @@ ghost use Rattle.triple_walks.specs.Spots.{IsTree};
 ghost use Rattle.triple_walks.specs.Putting.{IsPlaced, IsPutFor};
 
 use crate::claims::Claim;
-use crate::exposing::exposed;
+use crate::exposing::exposed_at;
 use crate::goals::{Goal, Role};
 use crate::trees::Tree;
 use crate::walks::{Guide, run};
@@ -100,7 +100,7 @@ fn add_claim(
     let Some(found) = guide.claims.get(claim) else {
         return Ok(());
     };
-    let given = exposed(alloc, guide.tree, found, 0)?;
+    let given = exposed_at(alloc, guide.tree, found, 0)?;
     goal.give(claim, guide.is_used(claim), &given)
 }
 

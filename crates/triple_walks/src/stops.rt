@@ -1,6 +1,6 @@
 //! Where a triple's refutation stops on its way along the word's tree.
 
-ghost use Rattle.std.specs.Prelude.{◌≡◌, ℕ, ◌+◌, ◌&&◌, not, nat_eq, List, IfOk, map, reverse};
+ghost use Rattle.std.specs.Prelude.{◌≡◌, ◌≤◌, ℕ, ◌+◌, ◌&&◌, not, nat_eq, List, IfOk, OnErr, map, reverse};
 ghost use Rattle.farkas_check.specs.Nodes.{PlainNode};
 ghost use Rattle.nested_refutations.specs.Refutations as refutations;
 ghost use Rattle.nested_refutations.specs.Refutations.{View, stops_at, taken_at};
@@ -55,6 +55,7 @@ impl Spot {
     pub(crate) fn part(self, node: usize) -> Result<Spot, AllocError>
         ensures node { IfOk result (λ p. p.node ≡ node) }
         ensures depth { IfOk result (λ p. p.depth ≡ self.depth + 1) }
+        ensures refused { OnErr result (usize.MAX ≤ self.depth) }
     {
         match self.depth.checked_add(1) {
             Some(depth) => Ok(Spot { node, depth }),
