@@ -1,5 +1,5 @@
 -- Where the rows of the claims stand, as sections are added one after another.
-use Rattle.std.proofs.Common.{◌≡◌, ◌∙◌, ℕ, zero, suc, ◌+◌, Bool, true, false, List, [], ◌∷◌, ◌++◌, length, map, append_assoc, length-append, refl, sym, ap, subst, arith}
+use Rattle.std.proofs.Common.{◌≡◌, ◌∙◌, ℕ, zero, suc, ◌+◌, Bool, true, false, List, [], ◌∷◌, ◌++◌, length, append_assoc, length-append, refl, sym, ap, arith}
 use Rattle.std.specs.Prelude.{if◌then◌else◌}
 use Rattle.std.proofs.lemmas.List.{append-nil, length-map}
 use Rattle.letter_acts.specs.Invariant.{Graph}
@@ -9,7 +9,7 @@ use Rattle.nested_refutations.specs.Refutations.{Role, spare, branch_row, View}
 use Rattle.nested_refutations.specs.Numbers.{spares, branch_rows}
 use Rattle.triple_steps.specs.declared.sections.Section.{Section}
 use Rattle.triple_steps.specs.declared.sections.Section.TheVariants as sections
-use Rattle.triple_steps.specs.Sections.{section_roles, roles_in, gaps_in, claims_in, ClaimsStand, AddsNoClaim, AddsRoles}
+use Rattle.triple_steps.specs.Sections.{section_roles, roles_in, gaps_in, claims_in, ClaimsStand, AddsRoles}
 use Rattle.triple_steps.proofs.RoleLaws.{roles_joined, none_joined}
 
 -- ---- how many rows there are

@@ -87,7 +87,7 @@ FindsCall Call calls = Unit {0}
 FindsCall Back [] = ⊥
 FindsCall Back (c ∷ calls) = Unit {0}
 
--- the step is that of an inside letter which is read next, for any letter of whose triple the claims' rows stand there
+-- the step is that of an inside letter which is read next, for any letter in whose triple's system so many rows stand before those of each claim
 abbrev pub IsInsideStep : Reading → Columns → List ℕ → ℕ → ℕ → Step → Type 0
 IsInsideStep s frame written helpers count f =
     (g : Graph) (w : List Letter) (t : Tree) (letter : ℕ) (from to : Position) (rows : List LinearRow) → length rows ≡ count → inside_gaps (slice_get g.acts letter) ≡ 0 ∷ count ∷ [] →

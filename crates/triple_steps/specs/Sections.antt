@@ -52,16 +52,16 @@ claims_in (sections.Spare count ∷ ss) = claims_in ss
 claims_in (sections.Rows first count ∷ ss) = claims_in ss
 claims_in (sections.Tie tie ∷ ss) = claims_in ss
 
--- these claims' rows stand there, so many rows before those of each
+-- the rows of these claims stand there, in order, and so many rows before those of each
 pub record ClaimsStand (ss : List Section) (claims counts : List ℕ) : Type 0 where
   pub order : claims_in ss ≡ claims
   pub gaps : gaps_in 0 ss ≡ counts
 
--- how many in a call's system, whose act has so many rows
+-- how many stand before those of each claim in the system of a call whose act has so many rows
 abbrev pub call_counts : Columns → ℕ → List ℕ
 call_counts callee count = 0 ∷ (length (globals_of callee) + length (olds_of callee) + count) ∷ []
 
--- in that of a return from the call with these targets
+-- in that of a return from it with these targets
 abbrev pub back_counts : Columns → Columns → List ℕ → ℕ → List ℕ
 back_counts caller callee targets count =
     let kept = filter (λ c. not (is_listed targets c)) (variables_of caller) in

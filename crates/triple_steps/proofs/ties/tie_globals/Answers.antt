@@ -1,4 +1,4 @@
-use Rattle.std.proofs.Common.{◌≡◌, ◌∙◌, ◌++◌, List, ℕ, map, refl, ap}
+use Rattle.std.proofs.Common.{◌≡◌, ◌∙◌, ◌++◌, List, ℕ, map, ap}
 use Rattle.letter_acts.specs.Frames.{globals_of}
 use Rattle.nested_refutations.specs.Refutations.{target_tie}
 use Rattle.triple_steps.specs.declared.sections.Tie.TheVariants.{Target}

@@ -1,4 +1,4 @@
-use Rattle.std.proofs.Common.{◌≡◌, ◌∙◌, ◌++◌, List, ℕ, map, refl, ap}
+use Rattle.std.proofs.Common.{◌≡◌, ◌∙◌, ◌++◌, List, ℕ, map, ap}
 use Rattle.std.specs.Prelude.{filter, not}
 use Rattle.letter_acts.specs.Frames.{variables_of}
 use Rattle.triple_rows.specs.Systems.{is_listed}

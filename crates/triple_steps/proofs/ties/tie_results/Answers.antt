@@ -1,4 +1,4 @@
-use Rattle.std.proofs.Common.{◌≡◌, ◌++◌, List, ℕ, map, refl}
+use Rattle.std.proofs.Common.{◌≡◌, ◌++◌, List, ℕ, map}
 use Rattle.letter_acts.specs.Frames.{results_of}
 use Rattle.letter_acts.specs.Reading.{taken}
 use Rattle.nested_refutations.specs.Refutations.{target_tie}
