@@ -17,9 +17,10 @@ use Rattle.triple_steps.specs.declared.columns.Columns.{Columns}
 use Rattle.triple_walks.specs.Spots.{Everywhere, node_of, sides_in, with_second}
 use Rattle.triple_walks.specs.Telling.{IsNode, Tells, AllTell, IsKnown, IsExposed}
 use Rattle.triple_walks.specs.Stops.{taken_of, IsPlace, IsStop}
+use Rattle.triple_walks.specs.Leaves.{Ascends}
 use Rattle.triple_walks.specs.Putting.{IsPlaced}
 use Rattle.triple_walks.specs.Goals.{role_of, group_of, PlainGoal, plain_goal, with_roles, with_exposed, with_taken, without_first, mark_of, gone_back, IsGoal}
-use Rattle.triple_walks.specs.Walking.{parts_in, cut_in, IsLed, Known, IsThere, StopsThere, IsCutTree, IsGroup, IsAtHand, IsWithin, Keeps, TakesMember, TakesRow, IsBegun, IsWaiting, AreWaiting, HasCome, IsComing, ComesNext, HasOrderedParts}
+use Rattle.triple_walks.specs.Walking.{parts_in, cut_in, IsLed, Known, IsThere, StopsThere, IsCutTree, IsGroup, IsAtHand, IsWithin, Keeps, TakesMember, TakesRow, IsBegun, IsWaiting, AreWaiting, HasCome, IsComing, ComesNext}
 use Rattle.triple_walks.proofs.TellingLaws.{IsCut, HasCut, known_low, known_high, known_groups, groups_are_cuts, told_at}
 use Rattle.triple_walks.specs.declared.trees.Tree as code_trees
 use Rattle.triple_walks.specs.declared.claims.Claim as claims
@@ -244,7 +245,7 @@ in_nodes : (nodes : List PlainNode) (m : ℕ) (n : PlainNode) → slice_get node
 in_nodes nodes m n e = ap parts_in e
 
 -- the parts of a leaf of the word's refutation ascend
-pub parts_ordered : (nodes : List PlainNode) (m : ℕ) (parts : List (ℕ × ℤ)) → AllByRecursion HasOrderedParts nodes → parts_in (slice_get nodes m) ≡ Some parts → AscendsFrom 0 parts
+pub parts_ordered : (nodes : List PlainNode) (m : ℕ) (parts : List (ℕ × ℤ)) → AllByRecursion Ascends nodes → parts_in (slice_get nodes m) ≡ Some parts → AscendsFrom 0 parts
 parts_ordered [] m parts h e = absurd (cc)
 parts_ordered (leaf found ∷ nodes) zero parts h e = subst (AscendsFrom 0) (some_same (Some found) found parts refl e) h.0
 parts_ordered (cut c k ∷ nodes) zero parts h e = absurd (cc)
@@ -288,13 +289,6 @@ leaf_put v x first h from nowhere m old new parts found put roles at c ep f er e
 
 -- ---- a cut
 
--- where there is a claim, it is read at a cut where its sides begin
-sides_read : (columns : List ℕ) (x : code_trees.Tree) (n : ℕ) (b : Branch) (c : ℕ) (k : ℤ) (t u : Tree) (cs : List Claim) (ys : List claims.Claim) → 0 < length cs →
-    AllTell columns x (record { node = n; branch = b; tree = cut_tree c k t u }) cs ys → sides_in x n ≡ Some (suc n, suc n + length (prefix_of t))
-sides_read columns x n b c k t u [] ys l h = absurd (omega (arith, l))
-sides_read columns x n b c k t u (d ∷ cs) [] l h = absurd h
-sides_read columns x n b c k t u (d ∷ cs) (y ∷ ys) l h = h.0.nodes.0.sides
-
 two_pushed : {X : Type 0} (xs : List X) (a b : X) → reverse ((xs ++ a ∷ []) ++ b ∷ []) ≡ b ∷ a ∷ reverse xs
 two_pushed xs a b = reverse-append (xs ++ a ∷ []) (b ∷ []) ∙ ap (λ (l : List _). b ∷ l) (reverse-append xs (a ∷ []))
 
@@ -310,7 +304,7 @@ pub cut_sided : (v : View) (x : code.Guide) (stop : Stop) (p : place.Spot) → I
 cut_sided v x (at_leaf n b parts) p led h e = absurd h
 cut_sided v x (at_cut r col k low high) p led h e =
     none_some (sides_in x.tree.now p.node) (suc p.node, suc p.node + length (prefix_of h.first)) e
-    (sides_read v.columns x.tree.now p.node h.branch col k h.first h.second v.claims x.claims.now led.claims h.here.known.claims)
+    h.here.known.sides.0
 cut_sided v x (at_group s) p led h e = absurd h
 cut_sided v x nowhere p led h e = absurd h
 
@@ -336,14 +330,14 @@ side_there v x s p q b e f n d k = record { node = n; depth = omega (arith, e, f
 
 pub cut_put : (v : View) (x : code.Guide) (first h : Goes) (from stop : Stop) (p : place.Spot) (old new : walks.Walk) (c col row : ℕ) (k : ℤ) (sides : ℕ × ℕ) (put : Node) (low_at high_at : place.Spot)
     (low_part high_part : part.Waiting) → IsLed v x → StopsThere v x stop (stopped.Cut p) → IsComing v x first from h stop old → cut_in (slice_get (plain_nodes x.nodes.now) p.node) ≡ Some (c, k) →
-    sides_in x.tree.now p.node ≡ Some sides → col ≡ place_of x.columns.now c → plain put ≡ cut col k → row ≡ x.rows + p.depth → low_at ≡ record { node = sides.0; depth = p.depth + 1 } →
-    high_at ≡ record { node = sides.1; depth = p.depth + 1 } → low_part ≡ record { spot = low_at; begin = Side row; mark = mark_of (plain_goal old.goal) } →
+    sides_in x.tree.now p.node ≡ Some sides → col ≡ place_of x.columns.now c → plain put ≡ cut col k → row ≡ x.rows + p.depth → low_at.node ≡ sides.0 → low_at.depth ≡ p.depth + 1 →
+    high_at.node ≡ sides.1 → high_at.depth ≡ p.depth + 1 → low_part ≡ record { spot = low_at; begin = Side row; mark = mark_of (plain_goal old.goal) } →
     high_part ≡ record { spot = high_at; begin = Side row; mark = mark_of (plain_goal old.goal) } → new.nodes.items ≡ old.nodes.items ++ put ∷ [] → new.goal ≡ old.goal →
     new.waiting.items ≡ (old.waiting.items ++ high_part ∷ []) ++ low_part ∷ [] → HasCome v x first from new
-cut_put v x first h from (at_leaf n b parts) p old new c col row k sides put low_at high_at low_part high_part led at coming ec es ecol eput erow el eh elp ehp en eg ew = absurd at
-cut_put v x first h from (at_group s) p old new c col row k sides put low_at high_at low_part high_part led at coming ec es ecol eput erow el eh elp ehp en eg ew = absurd at
-cut_put v x first h from nowhere p old new c col row k sides put low_at high_at low_part high_part led at coming ec es ecol eput erow el eh elp ehp en eg ew = absurd at
-cut_put v x first h from (at_cut r c0 k0 low high) p old new c col row k sides put low_at high_at low_part high_part led at coming ec es ecol eput erow el eh elp ehp en eg ew =
+cut_put v x first h from (at_leaf n b parts) p old new c col row k sides put low_at high_at low_part high_part led at coming ec es ecol eput erow eln eld ehn ehd elp ehp en eg ew = absurd at
+cut_put v x first h from (at_group s) p old new c col row k sides put low_at high_at low_part high_part led at coming ec es ecol eput erow eln eld ehn ehd elp ehp en eg ew = absurd at
+cut_put v x first h from nowhere p old new c col row k sides put low_at high_at low_part high_part led at coming ec es ecol eput erow eln eld ehn ehd elp ehp en eg ew = absurd at
+cut_put v x first h from (at_cut r c0 k0 low high) p old new c col row k sides put low_at high_at low_part high_part led at coming ec es ecol eput erow eln eld ehn ehd elp ehp en eg ew =
     let nodes : List PlainNode = plain_nodes x.nodes.now in
     let g : PlainGoal = plain_goal old.goal in
     let b : Branch = at.branch in
@@ -351,8 +345,7 @@ cut_put v x first h from (at_cut r c0 k0 low high) p old new c col row k sides p
     let to_high : Spot = high_side v.columns p.node b c0 k0 at.first at.second in
     let pair : (c0, k0) ≡ (c, k) = some_same (cut_in (slice_get nodes p.node)) (c0, k0) (c, k) (ap cut_in at.here.known.spelled.0) ec in
     let read : sides ≡ (suc p.node, suc p.node + length (prefix_of at.first)) =
-    some_same (sides_in x.tree.now p.node) sides (suc p.node, suc p.node + length (prefix_of at.first)) es
-    (sides_read v.columns x.tree.now p.node b c0 k0 at.first at.second v.claims x.claims.now led.claims at.here.known.claims) in
+    some_same (sides_in x.tree.now p.node) sides (suc p.node, suc p.node + length (prefix_of at.first)) es at.here.known.sides.0 in
     let put_is : plain put ≡ cut (v.column c0) k0 =
     eput ∙ ap (λ (n : ℕ). cut n k) (ecol ∙ sym (led.column c)) ∙ ap (λ (q : ℕ × ℤ). cut (v.column q.0) q.1) (sym pair) in
     let listed : plain_nodes old.nodes.items ++ cut (v.column c0) k0 ∷ [] ≡ plain_nodes new.nodes.items =
@@ -360,11 +353,11 @@ cut_put v x first h from (at_cut r c0 k0 low high) p old new c col row k sides p
     let at_row : r ≡ row = at.row ∙ at.here.depth ∙ sym erow in
     let low_there : IsThere v x low low_at =
     subst (λ (s : Spot). IsThere v x s low_at) (sym at.low_is)
-    (side_there v x to_low p low_at b at.here.depth (length-append b.rows _) (ap (λ (z : place.Spot). z.node) el ∙ ap (λ (q : ℕ × ℕ). q.0) read) (ap (λ (z : place.Spot). z.depth) el)
+    (side_there v x to_low p low_at b at.here.depth (length-append b.rows _) (eln ∙ ap (λ (q : ℕ × ℕ). q.0) read) eld
     (known_low v.columns nodes x.tree.now v.claims x.claims.now p.node b c0 k0 at.first at.second at.here.known)) in
     let high_there : IsThere v x high high_at =
     subst (λ (s : Spot). IsThere v x s high_at) (sym at.high_is)
-    (side_there v x to_high p high_at b at.here.depth (length-append b.rows _) (ap (λ (z : place.Spot). z.node) eh ∙ ap (λ (q : ℕ × ℕ). q.1) read) (ap (λ (z : place.Spot). z.depth) eh)
+    (side_there v x to_high p high_at b at.here.depth (length-append b.rows _) (ehn ∙ ap (λ (q : ℕ × ℕ). q.1) read) ehd
     (known_high v.columns nodes x.tree.now v.claims x.claims.now p.node b c0 k0 at.first at.second at.here.known)) in
     let low_waits : IsWaiting v x g low_part (with_own v r c0 k0 false h) (stops_at v h.taken low) =
     side_waits v x g h r row c0 k0 false low high low_part at_row (ap (λ (z : part.Waiting). z.begin) elp) coming.goal
@@ -459,7 +452,7 @@ opens_cut v x h a b g led at eb l i n d (cut_tree col k t u) rest e ei en ed c f
         side = to side;
         first = suc n;
         second = suc n + length (prefix_of t);
-        sides = ap (sides_in x.tree.now) (sym en) ∙ sides_read v.columns x.tree.now n d col k t u v.claims x.claims.now led.claims known.claims;
+        sides = ap (sides_in x.tree.now) (sym en) ∙ known.sides.0;
         node = side_node side v.columns n d col k t u;
         known = side_known v x side n d col k t u known;
         goes = ap (λ (j : ℕ). with_member v j c n side (to side) left) ei ∙ ap (λ (m : ℕ). with_member v g.claim c m side (to side) left) en;

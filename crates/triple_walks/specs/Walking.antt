@@ -1,7 +1,6 @@
 -- The walk of a triple: the goal at hand, the parts that wait, and the nodes that were put down.
-use Rattle.std.specs.Prelude.{◌≡◌, ℕ, ◌≤◌, ◌<◌, ℤ, Bool, List, [], ◌∷◌, length, reverse, Option, None, Some, slice_get}
+use Rattle.std.specs.Prelude.{◌≡◌, ℕ, ◌≤◌, ℤ, Bool, List, [], ◌∷◌, length, reverse, Option, None, Some, slice_get}
 use Rattle.std.specs.List.{AllByRecursion}
-use Rattle.lin_rows.specs.Rows.{AscendsFrom}
 use Rattle.farkas_check.specs.Nodes.{PlainNode, leaf, cut, cases, plain_nodes}
 use Rattle.farkas_check.specs.Trees.{Tree, leaf_tree, cut_tree, cases_tree}
 use Rattle.nested_refutations.specs.Refutations.{Claim, Spot, side_of, View, Goes, Stop, stops_at, with_own, with_member}
@@ -49,7 +48,6 @@ cut_in (Some n) = cut_here n
 pub record IsLed (v : View) (x : code.Guide) : Type 0 where
   pub returns : v.returns ≡ x.returns
   pub column : (c : ℕ) → v.column c ≡ place_of x.columns.now c
-  pub claims : 0 < length v.claims
 
 abbrev pub Known : View → code.Guide → Spot → Type 0
 Known v x s = IsKnown v.columns (plain_nodes x.nodes.now) x.tree.now v.claims x.claims.now s
@@ -154,11 +152,3 @@ pub record ComesNext (v : View) (x : code.Guide) (first : Goes) (from : Stop) (n
   pub left : List (Goes × Stop)
   pub comes : ComesTo v first from (plain_nodes w.nodes.items) (here ∷ left)
   pub waiting : AreWaiting v x (plain_goal w.goal) (next ∷ reverse w.waiting.items) (here ∷ left)
-
--- ---- leaves
-
--- the parts of a leaf ascend
-abbrev pub HasOrderedParts : PlainNode → Type 0
-HasOrderedParts (leaf parts) = AscendsFrom 0 parts
-HasOrderedParts (cut c k) = Unit {0}
-HasOrderedParts (cases n) = Unit {0}

@@ -10,8 +10,10 @@ ghost use Rattle.nested_predicates.specs.Stamps.{stamps_of};
 ghost use Rattle.nested_predicates.specs.Positions.{positions_of};
 ghost use Rattle.nested_predicates.specs.Sums.{root_of};
 ghost use Rattle.nested_refutations.specs.Numbers as numbers;
+ghost use Rattle.nested_refutations.specs.Waiting.{StepWaits};
 ghost use Rattle.triple_steps.specs.Steps.{IsStep};
 ghost use Rattle.triple_walks.specs.Spots.{IsTree};
+ghost use Rattle.triple_walks.specs.Leaves.{Ascends};
 ghost use Rattle.triple_walks.specs.Putting.{IsPlaced, IsPutFor};
 
 use crate::claims::Claim;
@@ -33,7 +35,8 @@ pub fn refutation(
     rows: usize,
 ) -> Result<Vec<Node>, AllocError>
     requires placed { AllByRecursion (IsPlaced step.now.columns) (plain_nodes nodes.now) }
-    ensures { IfOk result (λ v. (g : Graph) (w : List Letter) (t : trees.Tree) (s : numbers.Step) → IsTree (stamps_of g w).columns (positions_of g w) (root_of g w) t (plain_nodes nodes.now) tree.now → IsStep g w t s step.now → rows ≡ length (root_of g w).rows → IsPutFor g w t s (plain_nodes v.items)) }
+    requires ascend { AllByRecursion Ascends (plain_nodes nodes.now) }
+    ensures { IfOk result (λ v. (g : Graph) (w : List Letter) (t : trees.Tree) (s : numbers.Step) → IsTree (stamps_of g w).columns (positions_of g w) (root_of g w) t (plain_nodes nodes.now) tree.now → IsStep g w t s step.now → StepWaits g w t s → rows ≡ length (root_of g w).rows → IsPutFor g w t s (plain_nodes v.items)) }
 {
     let claims = claims_of(alloc, tree, step)?;
     let guide = Guide {

@@ -8,10 +8,11 @@ ghost use Rattle.nested_refutations.specs.Refutations as refutations;
 ghost use Rattle.nested_refutations.specs.Walked.{AreWalkedFrom};
 ghost use Rattle.nested_refutations.specs.Waiting.{GroupsWait};
 ghost use Rattle.triple_walks.specs.Goals.{plain_goal, mark_of};
+ghost use Rattle.triple_walks.specs.Leaves.{Ascends};
 ghost use Rattle.triple_walks.specs.Putting.{IsPlaced};
 ghost use Rattle.triple_walks.specs.declared.stops.Stop.TheVariants as stopped;
 ghost use Rattle.triple_walks.specs.declared.walks.Guide as guides;
-ghost use Rattle.triple_walks.specs.Walking.{parts_in, cut_in, IsLed, IsThere, StopsThere, IsAtHand, Keeps, IsBegun, TakesMember, HasCome, IsComing, ComesNext, HasOrderedParts};
+ghost use Rattle.triple_walks.specs.Walking.{parts_in, cut_in, IsLed, IsThere, StopsThere, IsAtHand, Keeps, IsBegun, TakesMember, HasCome, IsComing, ComesNext};
 
 use crate::claims::Claim;
 use crate::exposing::{exposed_at, part_of};
@@ -67,7 +68,7 @@ struct Walk {
 /// The nodes that are put down from a goal on, which is that of a refutation at the root of the word's tree.
 pub(crate) fn run(alloc: Global, guide: &Guide, goal: Goal) -> Result<Vec<Node>, AllocError>
     requires placed { AllByRecursion (IsPlaced guide.now.columns.now) (plain_nodes guide.now.nodes.now) }
-    requires ordered { AllByRecursion HasOrderedParts (plain_nodes guide.now.nodes.now) }
+    requires ascend { AllByRecursion Ascends (plain_nodes guide.now.nodes.now) }
     ensures { IfOk result (λ f. (v : View) (h : Goes) (s : refutations.Spot) → IsLed v guide.now → IsAtHand v guide.now h (plain_goal goal) → IsThere v guide.now s (record { node = 0; depth = 0 }) → GroupsWait v h (stops_at v h.taken s) → AreWalkedFrom v h (stops_at v h.taken s) (plain_nodes f.items)) }
 {
     let mut walk = Walk {
@@ -175,7 +176,7 @@ impl Walk {
     /// Goes on with a part that waited.
     fn go_on(&mut self, alloc: Global, guide: &Guide, next: Waiting) -> Result<(), AllocError>
         requires placed { AllByRecursion (IsPlaced guide.now.columns.now) (plain_nodes guide.now.nodes.now) }
-        requires ordered { AllByRecursion HasOrderedParts (plain_nodes guide.now.nodes.now) }
+        requires ascend { AllByRecursion Ascends (plain_nodes guide.now.nodes.now) }
         ensures { OnOk result ((v : View) (first : Goes) (from : refutations.Stop) → IsLed v guide.now → ComesNext v guide.now first from next self.old → HasCome v guide.now first from self.new) }
     {
         self.goal.go_back(next.mark);
@@ -186,7 +187,7 @@ impl Walk {
     /// Puts down the next node from a spot on; its parts wait.
     fn put_down(&mut self, alloc: Global, guide: &Guide, spot: Spot) -> Result<(), AllocError>
         requires placed { AllByRecursion (IsPlaced guide.now.columns.now) (plain_nodes guide.now.nodes.now) }
-        requires ordered { AllByRecursion HasOrderedParts (plain_nodes guide.now.nodes.now) }
+        requires ascend { AllByRecursion Ascends (plain_nodes guide.now.nodes.now) }
         ensures { OnOk result ((v : View) (first h : Goes) (from : refutations.Stop) (s : refutations.Spot) → IsLed v guide.now → IsThere v guide.now s spot → IsComing v guide.now first from h (stops_at v h.taken s) self.old → HasCome v guide.now first from self.new) }
     {
         match stop_from(
@@ -204,7 +205,7 @@ impl Walk {
 
     /// Puts down a leaf.
     fn put_leaf(&mut self, alloc: Global, guide: &Guide, node: usize) -> Result<(), AllocError>
-        requires ordered { AllByRecursion HasOrderedParts (plain_nodes guide.now.nodes.now) }
+        requires ascend { AllByRecursion Ascends (plain_nodes guide.now.nodes.now) }
         ensures { OnOk result ((v : View) (first h : Goes) (from stop : refutations.Stop) → IsLed v guide.now → StopsThere v guide.now stop (stopped.Leaf node) → IsComing v guide.now first from h stop self.old → HasCome v guide.now first from self.new) }
     {
         let Some(parts) = parts_at(guide.nodes, node) else {

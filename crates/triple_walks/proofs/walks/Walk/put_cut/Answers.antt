@@ -28,7 +28,8 @@ returns c = λ v first h from stop led at coming.
     cut_put v c.args.guide.now first h from stop c.args.place c.args.self.now c.wait-2.new.self c.in-Some.col c.place-col.result c.in_ok-row.row c.in-Some.k c.in-Some-sides.sides
     (Cut c.place-col.result c.in-Some.k) c.in_ok-part-2.field-0 c.in_ok-part.field-0 low
     (record { spot = c.in_ok-part.field-0; begin = Side c.in_ok-row.row; mark = mark_of (plain_goal c.args.self.now.goal) }) led at coming (sym c.in-Some.ensures) (sym c.in-Some-sides.ensures)
-    c.place-col.ensures refl c.in_ok-row.ensures c.in_ok-part-2.ensures c.in_ok-part.ensures
+    c.place-col.ensures refl c.in_ok-row.ensures c.in_ok-part-2.ensures.node c.in_ok-part-2.ensures.depth c.in_ok-part.ensures.node
+    c.in_ok-part.ensures.depth
     (ap (λ (g : goals.Goal). record low { mark = mark_of (plain_goal g) }) c.in_ok-wait.ensures.goal) refl
     (ap (λ l. l.items) (c.in_ok-wait-2.ensures.nodes ∙ c.in_ok-wait.ensures.nodes) ∙ c.in_ok-push.ensures.items ∙ ap (λ (z : ℤ). c.args.self.now.nodes.items ++ Cut c.place-col.result z ∷ []) same) (c.in_ok-wait-2.ensures.goal ∙ c.in_ok-wait.ensures.goal)
     (c.in_ok-wait-2.ensures.waiting ∙ ap (λ (l : List part.Waiting). l ++ low ∷ []) c.in_ok-wait.ensures.waiting)

@@ -8,7 +8,7 @@ pub returns-in_default : goal.returns-in_default
 returns-in_default c = λ v first h from stop led at coming. absurd (leaf_there v c.args.guide.now stop c.args.node at c.in_default.ensures)
 
 pub leaf-requires : goal.leaf-requires
-leaf-requires c = parts_ordered (plain_nodes c.args.guide.now.nodes.now) c.args.node c.in-Some.parts.now c.requires.ordered c.in-Some.ensures
+leaf-requires c = parts_ordered (plain_nodes c.args.guide.now.nodes.now) c.args.node c.in-Some.parts.now c.requires.ascend c.in-Some.ensures
 
 pub returns : goal.returns
 returns c = λ v first h from stop led at coming.
