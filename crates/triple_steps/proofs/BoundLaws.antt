@@ -17,8 +17,8 @@ use Rattle.nested_predicates.proofs.StampCounts.{types_counted, types_counted_at
 use Rattle.nested_refutations.specs.Refutations.{Role, View}
 use Rattle.nested_refutations.specs.Numbers.{spares, branch_rows, bounds_in, before_bounds, callee_bounds}
 use Rattle.triple_steps.specs.declared.sections.Section.{Section}
-use Rattle.triple_steps.specs.Sections.{section_roles, roles_in, AddsRoles}
-use Rattle.triple_steps.proofs.RoleLaws.{roles_pushed}
+use Rattle.triple_steps.specs.Sections.{section_roles, roles_in, AddsNoClaim, AddsRoles}
+use Rattle.triple_steps.proofs.RoleLaws.{roles_pushed, adds_more}
 
 pub bounds_twice : (frame : Columns) (b n : ℕ) → b ≡ length (filter is_bool frame) → n ≡ b + b → n ≡ bounds_in frame
 bounds_twice frame b n e f = let t : bounds_in frame ≡ length (filter is_bool frame) + length (filter is_bool frame) = types_counted 0 frame in omega (arith, e, f, t)
@@ -90,19 +90,23 @@ bound_global old new s local before c n e f k h =
 pub record BoundsRead (start : List Section) (local old : ℕ) (callee : Columns) (i : ℕ) (now : List Section) (next_local next_old : ℕ) : Type 0 where
   pub roles : (g : Graph) (w : List Letter) (t : Tree) (v : View) →
       roles_in g w t v now ++ callee_bounds next_local next_old (drop i callee) ≡ roles_in g w t v start ++ callee_bounds local old callee
+  pub plain : AddsNoClaim start now
 
 pub bounds_next : (start now new : List Section) (local old : ℕ) (callee : Columns) (i : ℕ) (d : Column × VarInfo) (l o next_local next_old : ℕ) → i < length callee →
     BoundsRead start local old callee i now l o →
     ((g : Graph) (w : List Letter) (t : Tree) (v : View) (rest : Columns) → roles_in g w t v new ++ callee_bounds next_local next_old rest ≡ roles_in g w t v now ++ callee_bounds l o (get_or callee i d ∷ rest)) →
-    BoundsRead start local old callee (i + 1) new next_local next_old
-bounds_next start now new local old callee i d l o next_local next_old k h a = record {
+    AddsNoClaim now new → BoundsRead start local old callee (i + 1) new next_local next_old
+bounds_next start now new local old callee i d l o next_local next_old k h a p = record {
   roles = λ g w t v.
       a g w t v (drop (i + 1) callee) ∙
       subst (λ (cs : Columns). roles_in g w t v now ++ callee_bounds l o cs ≡ roles_in g w t v start ++ callee_bounds local old callee) (drop_more callee i d k) (h.roles g w t v);
+  plain = adds_more start now new h.plain p;
 }
 
 pub bounds_done : (start now : List Section) (local old : ℕ) (callee : Columns) (i l o : ℕ) → length callee ≤ i → BoundsRead start local old callee i now l o → AddsRoles start now (callee_bounds local old callee)
-bounds_done start now local old callee i l o k h =
-    λ g w t v.
-    sym (append-nil (roles_in g w t v now)) ∙
-    subst (λ (cs : Columns). roles_in g w t v now ++ callee_bounds l o cs ≡ roles_in g w t v start ++ callee_bounds local old callee) (drop_all i callee k) (h.roles g w t v)
+bounds_done start now local old callee i l o k h = record {
+  plain = h.plain;
+  roles = λ g w t v.
+      sym (append-nil (roles_in g w t v now)) ∙
+      subst (λ (cs : Columns). roles_in g w t v now ++ callee_bounds l o cs ≡ roles_in g w t v start ++ callee_bounds local old callee) (drop_all i callee k) (h.roles g w t v);
+}

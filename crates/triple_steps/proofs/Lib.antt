@@ -1,5 +1,6 @@
 pub mod ColumnLaws
 pub mod RoleLaws
+pub mod GapLaws
 pub mod BoundLaws
 pub mod ReadingLaws
 pub mod LetterLaws

@@ -8,8 +8,10 @@ use Rattle.letter_acts.specs.Invariant.{Graph, Take}
 use Rattle.letter_acts.specs.Reading.{taken}
 use Rattle.farkas_check.specs.Trees.{Tree}
 use Rattle.nested_refutations.specs.Refutations.{Role, target_tie, View}
+use Rattle.triple_steps.specs.declared.sections.Tie.{Tie}
 use Rattle.triple_steps.specs.declared.sections.Section.{Section}
-use Rattle.triple_steps.specs.Sections.{section_roles, roles_in, AddsRoles}
+use Rattle.triple_steps.specs.declared.sections.Section.TheVariants as sections
+use Rattle.triple_steps.specs.Sections.{tie_role, section_roles, roles_in, claims_in, AddsNoClaim, AddsRoles}
 
 pub roles_joined : (g : Graph) (w : List Letter) (t : Tree) (v : View) (xs ys : List Section) → roles_in g w t v (xs ++ ys) ≡ roles_in g w t v xs ++ roles_in g w t v ys
 roles_joined g w t v [] ys = refl
@@ -35,17 +37,50 @@ then_section g w t v x y old new s e f h = roles_pushed g w t v old new s e ∙ 
 pub first_section : (g : Graph) (w : List Letter) (t : Tree) (v : View) (old new : List Section) (s : Section) → old ≡ [] → new ≡ old ++ s ∷ [] → roles_in g w t v new ≡ section_roles g w t v s
 first_section g w t v old new s e f = roles_pushed g w t v old new s f ∙ ap (λ (l : List Section). roles_in g w t v l ++ section_roles g w t v s) e
 
-roles_mapped : {X : Type 0} (g : Graph) (w : List Letter) (t : Tree) (v : View) (h : X → Section) (r : X → Role) (xs : List X) → ((x : X) → section_roles g w t v (h x) ≡ r x ∷ []) →
-    roles_in g w t v (map h xs) ≡ map r xs
-roles_mapped g w t v h r [] e = refl
-roles_mapped {X} g w t v h r (x ∷ xs) e =
-    ap (λ (l : List Role). l ++ roles_in g w t v (map h xs)) (e x) ∙ ap (λ (l : List Role). r x ∷ l) (roles_mapped g w t v h r xs e)
+-- ---- what is added
 
--- a row for each member of a list
-pub adds_mapped : {X : Type 0} (old new : List Section) (h : X → Section) (r : X → Role) (xs : List X) → ((g : Graph) (w : List Letter) (t : Tree) (v : View) (x : X) → section_roles g w t v (h x) ≡ r x ∷ []) →
-    new ≡ old ++ map h xs → AddsRoles old new (map r xs)
-adds_mapped {X} old new h r xs e f =
-    λ g w t v. ap (roles_in g w t v) f ∙ roles_joined g w t v old (map h xs) ∙ ap (λ (l : List Role). roles_in g w t v old ++ l) (roles_mapped g w t v h r xs (e g w t v))
+pub adds_none : (old : List Section) → AddsNoClaim old old
+adds_none old = record { added = []; whole = sym (append-nil old); plain = refl }
+
+pub adds_one : (old new : List Section) (s : Section) → new ≡ old ++ s ∷ [] → claims_in (s ∷ []) ≡ [] → AddsNoClaim old new
+adds_one old new s e h = record { added = s ∷ []; whole = e; plain = h }
+
+pub adds_section : (old new : List Section) (s : Section) (roles : List Role) → new ≡ old ++ s ∷ [] → claims_in (s ∷ []) ≡ [] →
+    ((g : Graph) (w : List Letter) (t : Tree) (v : View) → section_roles g w t v s ≡ roles) → AddsRoles old new roles
+adds_section old new s roles e h k = record {
+  plain = adds_one old new s e h;
+  roles = λ g w t v. roles_pushed g w t v old new s e ∙ ap (λ (l : List Role). roles_in g w t v old ++ l) (k g w t v);
+}
+
+-- behind sections that are no claim's
+pub none_joined : (xs ys : List Section) → claims_in xs ≡ [] → claims_in (xs ++ ys) ≡ claims_in ys
+none_joined [] ys h = refl
+none_joined (sections.Claim i ∷ xs) ys h = absurd (cc)
+none_joined (sections.Spare count ∷ xs) ys h = none_joined xs ys h
+none_joined (sections.Rows first count ∷ xs) ys h = none_joined xs ys h
+none_joined (sections.Tie tie ∷ xs) ys h = none_joined xs ys h
+
+pub adds_more : (old now new : List Section) → AddsNoClaim old now → AddsNoClaim now new → AddsNoClaim old new
+adds_more old now new a b = record {
+  added = a.added ++ b.added;
+  whole = b.whole ∙ ap (λ (l : List Section). l ++ b.added) a.whole ∙ append_assoc old a.added b.added;
+  plain = none_joined a.added b.added a.plain ∙ b.plain;
+}
+
+ties_roles : {X : Type 0} (g : Graph) (w : List Letter) (t : Tree) (v : View) (h : X → Tie) (xs : List X) → roles_in g w t v (map (λ x. sections.Tie (h x)) xs) ≡ map (λ x. tie_role (h x)) xs
+ties_roles g w t v h [] = refl
+ties_roles {X} g w t v h (x ∷ xs) = ap (λ (l : List Role). tie_role (h x) ∷ l) (ties_roles g w t v h xs)
+
+ties_plain : {X : Type 0} (h : X → Tie) (xs : List X) → claims_in (map (λ x. sections.Tie (h x)) xs) ≡ []
+ties_plain h [] = refl
+ties_plain h (x ∷ xs) = ties_plain h xs
+
+-- a row that ties for each member of a list
+pub adds_tied : {X : Type 0} (old new : List Section) (h : X → Tie) (xs : List X) → new ≡ old ++ map (λ x. sections.Tie (h x)) xs → AddsRoles old new (map (λ x. tie_role (h x)) xs)
+adds_tied {X} old new h xs e = record {
+  plain = record { added = map (λ x. sections.Tie (h x)) xs; whole = e; plain = ties_plain h xs };
+  roles = λ g w t v. ap (roles_in g w t v) e ∙ roles_joined g w t v old (map (λ x. sections.Tie (h x)) xs) ∙ ap (λ (l : List Role). roles_in g w t v old ++ l) (ties_roles g w t v h xs);
+}
 
 pub adds_same : (old new : List Section) (a b : List Role) → a ≡ b → AddsRoles old new a → AddsRoles old new b
 adds_same old new a b e h = subst (AddsRoles old new) e h

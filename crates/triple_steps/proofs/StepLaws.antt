@@ -20,10 +20,12 @@ use Rattle.nested_predicates.specs.Stamps.{stamp_of, callee_stamp, column_stamps
 use Rattle.nested_predicates.specs.Positions.{Scope, has_return, Position, position_at, positions_along, positions_of}
 use Rattle.nested_predicates.proofs.WordLaws.{later, split_first}
 use Rattle.nested_refutations.specs.Numbers as numbers
+use Rattle.nested_refutations.specs.Walked.{inside_gaps, call_gaps, return_gaps, back_gaps}
 use Rattle.nested_refutations.specs.Numbers.{here, read_on, step_by, steps_back, steps_along, steps_of}
 use Rattle.triple_steps.specs.declared.readings.Reading.{Reading}
 use Rattle.triple_steps.specs.declared.readings.OpenCall.{OpenCall}
 use Rattle.triple_steps.specs.declared.making.Step.{Step}
+use Rattle.triple_steps.specs.Sections.{call_counts, back_counts}
 use Rattle.triple_steps.specs.Steps.{FitColumns, IsStep, AreSteps}
 use Rattle.triple_steps.specs.Readings.{IsAt, AreCalls, IsReading, start_reading, FindsCall, IsInsideStep, IsCallStep, IsBackStep, IsReturnOf, IsStepBy, IsStepBack}
 use Rattle.triple_steps.proofs.ReadingLaws.{matched_on, finds}
@@ -79,6 +81,25 @@ total_is g w column_at total e f =
 
 -- ---- one letter
 
+-- how many rows stand before those of each claim of its triple
+inside_counted : (g : Graph) (a : Letter) (q : ℕ) (written : List ℕ) (helpers : ℕ) (rows : List LinearRow) (count : ℕ) → act_of (alphabet_of g) a ≡ Some (inside_act q written helpers rows) → length rows ≡ count →
+    inside_gaps (slice_get g.acts a.id) ≡ 0 ∷ count ∷ []
+inside_counted g a q written helpers rows count e n = ap inside_gaps (act_found (alphabet_of g) a (inside_act q written helpers rows) e).0 ∙ ap (λ (k : ℕ). 0 ∷ k ∷ []) n
+
+call_counted : (g : Graph) (a : Letter) (caller callee helpers : ℕ) (rows : List LinearRow) (frame : Columns) (count : ℕ) → act_of (alphabet_of g) a ≡ Some (call_act caller callee helpers rows) →
+    frame ≡ frame_of (alphabet_of g) callee → length rows ≡ count → call_gaps (alphabet_of g) (slice_get g.acts a.id) ≡ call_counts frame count
+call_counted g a caller callee helpers rows frame count e f n =
+    ap (call_gaps (alphabet_of g)) (act_found (alphabet_of g) a (call_act caller callee helpers rows) e).0 ∙
+    ap (call_counts (frame_of (alphabet_of g) callee)) n ∙ ap (λ (x : Columns). call_counts x count) (sym f)
+
+back_counted : (g : Graph) (letter call : ℕ) (targets : List ℕ) (caller callee helpers : ℕ) (rows : List LinearRow) (from_frame to_frame : Columns) (count : ℕ) →
+    slice_get g.acts letter ≡ Some (back_act call targets) → slice_get g.acts call ≡ Some (call_act caller callee helpers rows) → from_frame ≡ frame_of (alphabet_of g) caller →
+    to_frame ≡ frame_of (alphabet_of g) callee → length rows ≡ count → back_gaps (alphabet_of g) (slice_get g.acts letter) ≡ back_counts from_frame to_frame targets count
+back_counted g letter call targets caller callee helpers rows from_frame to_frame count l e k m n =
+    let al : Alphabet = alphabet_of g in
+    ap (back_gaps al) l ∙ ap (return_gaps al targets) e ∙ ap (back_counts (frame_of al caller) (frame_of al callee) targets) n ∙
+    ap (λ (x : Columns). back_counts x (frame_of al callee) targets count) (sym k) ∙ ap (λ (x : Columns). back_counts from_frame x targets count) (sym m)
+
 -- the counts of a definition's reading are those of the code's
 same_inside : (g : Graph) (w : List Letter) (t : Tree) (letter : ℕ) (r : numbers.Reading) (s : Reading) (to : Position) (frame : Columns) (written : List ℕ) (helpers : ℕ) (rows : List LinearRow) (f : Step) →
     IsReading g w r s → IsStep g w t (numbers.inside_step g w t letter (suc s.letters) s.rows s.made (here r) to frame written helpers rows) f →
@@ -95,7 +116,8 @@ inside_by g w rest t a r s to q written helpers rows frame ws count f e k m n h 
     let al : Alphabet = alphabet_of g in
     let step : numbers.Step = numbers.inside_step g w t a.id (suc r.letters) r.rows r.stage.made (here r) to (frame_of al q) written helpers rows in
     let given : IsStep g w t (numbers.inside_step g w t a.id (suc s.letters) s.rows s.made (here r) to frame ws helpers rows) f =
-    h g w t a.id (here r) to rows n (subst (λ (x : ℕ). IsAt g w x (here r)) is.letters at_from) (subst (λ (x : ℕ). IsAt g w (suc x) to) is.letters at_to) in
+    h g w t a.id (here r) to rows n (inside_counted g a q written helpers rows count e n) (subst (λ (x : ℕ). IsAt g w x (here r)) is.letters at_from)
+    (subst (λ (x : ℕ). IsAt g w (suc x) to) is.letters at_to) in
     let framed : IsStep g w t (numbers.inside_step g w t a.id (suc s.letters) s.rows s.made (here r) to (frame_of al q) written helpers rows) f =
     subst (λ (x : Columns). IsStep g w t (numbers.inside_step g w t a.id (suc s.letters) s.rows s.made (here r) to x written helpers rows) f) k
     (subst (λ (x : List ℕ). IsStep g w t (numbers.inside_step g w t a.id (suc s.letters) s.rows s.made (here r) to frame x helpers rows) f) m given) in
@@ -112,7 +134,8 @@ pub call_by : (g : Graph) (w rest : List Letter) (t : Tree) (a : Letter) (r : nu
 call_by g w rest t a r s to caller callee helpers rows returns from_frame to_frame count f e k m n b h is at_from at_to =
     let al : Alphabet = alphabet_of g in
     let given : IsStep g w t (numbers.call_step g w t a.id (suc s.letters) s.rows s.made returns (here r) to from_frame to_frame helpers rows) f =
-    h g w t a.id (here r) to rows n (subst (λ (x : ℕ). IsAt g w x (here r)) is.letters at_from) (subst (λ (x : ℕ). IsAt g w (suc x) to) is.letters at_to) in
+    h g w t a.id (here r) to rows n (call_counted g a caller callee helpers rows to_frame count e m n) (subst (λ (x : ℕ). IsAt g w x (here r)) is.letters at_from)
+    (subst (λ (x : ℕ). IsAt g w (suc x) to) is.letters at_to) in
     let framed : IsStep g w t (numbers.call_step g w t a.id (suc s.letters) s.rows s.made (has_return 0 rest) (here r) to (frame_of al caller) (frame_of al callee) helpers rows) f =
     subst (λ (x : Bool). IsStep g w t (numbers.call_step g w t a.id (suc s.letters) s.rows s.made x (here r) to (frame_of al caller) (frame_of al callee) helpers rows) f) b
     (subst (λ (x : Columns). IsStep g w t (numbers.call_step g w t a.id (suc s.letters) s.rows s.made returns (here r) to x (frame_of al callee) helpers rows) f) k
@@ -137,9 +160,10 @@ pub back_found : (g : Graph) (s : Reading) (c : OpenCall) (call : ℕ) (targets 
     slice_get g.acts call ≡ Some (call_act caller callee helpers rows) → from_frame ≡ frame_of (alphabet_of g) caller → to_frame ≡ frame_of (alphabet_of g) callee → length rows ≡ count →
     IsBackStep s c from_frame to_frame helpers count targets f → IsStepBack g s c call targets f
 back_found g s c call targets caller callee helpers rows from_frame to_frame count f e k m n h =
-    λ w t letter o calls exit to opened at_exit at_to.
+    λ w t letter o calls exit to by opened at_exit at_to.
     let al : Alphabet = alphabet_of g in
-    let given : IsStep g w t (numbers.back_step g w t letter o exit to from_frame to_frame helpers rows targets) f = h g w t letter o exit to rows n opened at_exit at_to in (
+    let given : IsStep g w t (numbers.back_step g w t letter o exit to from_frame to_frame helpers rows targets) f = h g w t letter o exit to rows n
+    (back_counted g letter call targets caller callee helpers rows from_frame to_frame count by e k m n) opened at_exit at_to in (
       numbers.back_step g w t letter o exit to (frame_of al caller) (frame_of al callee) helpers rows targets,
       ap (λ (x : Option PlainAct). steps_back g w t letter targets (o ∷ calls) exit to x) e,
       subst (λ (x : Columns). IsStep g w t (numbers.back_step g w t letter o exit to x (frame_of al callee) helpers rows targets) f) k
@@ -147,10 +171,10 @@ back_found g s c call targets caller callee helpers rows from_frame to_frame cou
     )
 
 back_open : (g : Graph) (w : List Letter) (t : Tree) (letter : ℕ) (s : Reading) (c : OpenCall) (call : ℕ) (targets : List ℕ) (os : List numbers.OpenCall) (cs : List OpenCall) (exit to : Position) (f : Step) →
-    AreCalls g w os (c ∷ cs) → IsAt g w s.letters exit → IsAt g w (suc s.letters) to → IsStepBack g s c call targets f →
+    slice_get g.acts letter ≡ Some (back_act call targets) → AreCalls g w os (c ∷ cs) → IsAt g w s.letters exit → IsAt g w (suc s.letters) to → IsStepBack g s c call targets f →
     (x : numbers.Step) × (steps_back g w t letter targets os exit to (slice_get g.acts call) ≡ x ∷ []) × IsStep g w t x f
-back_open g w t letter s c call targets [] cs exit to f a at_exit at_to h = absurd a
-back_open g w t letter s c call targets (o ∷ os) cs exit to f a at_exit at_to h = h w t letter o os exit to a.0 at_exit at_to
+back_open g w t letter s c call targets [] cs exit to f by a at_exit at_to h = absurd a
+back_open g w t letter s c call targets (o ∷ os) cs exit to f by a at_exit at_to h = h w t letter o os exit to by a.0 at_exit at_to
 
 first_call : (cs : List OpenCall) (c d : OpenCall) → get_or cs 0 d ≡ c → 0 < length cs → (rest : List OpenCall) × (cs ≡ c ∷ rest)
 first_call [] c d e l = absurd (omega (arith, l))
@@ -171,7 +195,7 @@ pub back_by : (g : Graph) (w rest : List Letter) (t : Tree) (a : Letter) (r : nu
     IsAt g w (suc r.letters) to → IsStepBy g w t a rest r to f
 back_by g w rest t a r s to call targets ts c more f e m k h is at_from at_to =
     let same : IsStepBack g s c call targets f = subst (λ (x : List ℕ). IsStepBack g s c call x f) m h in
-    let found = back_open g w t a.id s c call targets r.calls more (here r) to f (subst (AreCalls g w r.calls) k is.calls) (subst (λ (x : ℕ). IsAt g w x (here r)) is.letters at_from)
+    let found = back_open g w t a.id s c call targets r.calls more (here r) to f (act_found (alphabet_of g) a (back_act call targets) e).0 (subst (AreCalls g w r.calls) k is.calls) (subst (λ (x : ℕ). IsAt g w x (here r)) is.letters at_from)
     (subst (λ (x : ℕ). IsAt g w (suc x) to) is.letters at_to) same in
     record { step = found.0; alone = ap (λ (o : Option PlainAct). step_by g w t a.id o rest r to) e ∙ found.1; is_step = found.2 }
 

@@ -5,7 +5,7 @@ use Rattle.nwa_base.specs.declared.letters.Kind.TheVariants.{Inside, Call, Back}
 use Rattle.nwa_base.specs.declared.letters.Letter.{Letter}
 use Rattle.lin_rows.specs.Rows.{LinearRow}
 use Rattle.letter_acts.specs.Frames.{Columns, is_variable}
-use Rattle.letter_acts.specs.Acts.{Alphabet, act_of}
+use Rattle.letter_acts.specs.Acts.{back_act, Alphabet, act_of}
 use Rattle.letter_acts.specs.Invariant.{Graph, alphabet_of, BackIsActedFrom}
 use Rattle.path_rows.specs.Rows.{bounds, types_at}
 use Rattle.path_rows.specs.Versions.{locals_of, old_part}
@@ -13,9 +13,11 @@ use Rattle.path_rows.specs.Paths.{start_frame, first_stage}
 use Rattle.farkas_check.specs.Trees.{Tree}
 use Rattle.nested_predicates.specs.Positions.{Position, positions_of, start_scope}
 use Rattle.nested_refutations.specs.Numbers as numbers
+use Rattle.nested_refutations.specs.Walked.{inside_gaps, call_gaps, back_gaps}
 use Rattle.triple_steps.specs.declared.readings.Reading.{Reading}
 use Rattle.triple_steps.specs.declared.readings.OpenCall.{OpenCall}
 use Rattle.triple_steps.specs.declared.making.Step.{Step}
+use Rattle.triple_steps.specs.Sections.{call_counts, back_counts}
 use Rattle.triple_steps.specs.Steps.{IsStep}
 
 -- the word's position with this number
@@ -85,23 +87,24 @@ FindsCall Call calls = Unit {0}
 FindsCall Back [] = ⊥
 FindsCall Back (c ∷ calls) = Unit {0}
 
--- the step is that of an inside letter which is read next, for any letter with this act
+-- the step is that of an inside letter which is read next, for any letter in whose triple's system so many rows stand before those of each claim
 abbrev pub IsInsideStep : Reading → Columns → List ℕ → ℕ → ℕ → Step → Type 0
 IsInsideStep s frame written helpers count f =
-    (g : Graph) (w : List Letter) (t : Tree) (letter : ℕ) (from to : Position) (rows : List LinearRow) → length rows ≡ count → IsAt g w s.letters from → IsAt g w (suc s.letters) to →
-    IsStep g w t (numbers.inside_step g w t letter (suc s.letters) s.rows s.made from to frame written helpers rows) f
+    (g : Graph) (w : List Letter) (t : Tree) (letter : ℕ) (from to : Position) (rows : List LinearRow) → length rows ≡ count → inside_gaps (slice_get g.acts letter) ≡ 0 ∷ count ∷ [] →
+    IsAt g w s.letters from → IsAt g w (suc s.letters) to → IsStep g w t (numbers.inside_step g w t letter (suc s.letters) s.rows s.made from to frame written helpers rows) f
 
 -- of a call
 abbrev pub IsCallStep : Reading → Bool → Columns → Columns → ℕ → ℕ → Step → Type 0
 IsCallStep s returns caller callee helpers count f =
-    (g : Graph) (w : List Letter) (t : Tree) (letter : ℕ) (from to : Position) (rows : List LinearRow) → length rows ≡ count → IsAt g w s.letters from → IsAt g w (suc s.letters) to →
-    IsStep g w t (numbers.call_step g w t letter (suc s.letters) s.rows s.made returns from to caller callee helpers rows) f
+    (g : Graph) (w : List Letter) (t : Tree) (letter : ℕ) (from to : Position) (rows : List LinearRow) → length rows ≡ count → call_gaps (alphabet_of g) (slice_get g.acts letter) ≡ call_counts callee count →
+    IsAt g w s.letters from → IsAt g w (suc s.letters) to → IsStep g w t (numbers.call_step g w t letter (suc s.letters) s.rows s.made returns from to caller callee helpers rows) f
 
 -- of a return from an open call
 abbrev pub IsBackStep : Reading → OpenCall → Columns → Columns → ℕ → ℕ → List ℕ → Step → Type 0
 IsBackStep s call caller callee helpers count targets f =
-    (g : Graph) (w : List Letter) (t : Tree) (letter : ℕ) (o : numbers.OpenCall) (exit to : Position) (rows : List LinearRow) → length rows ≡ count → IsCall g w o call → IsAt g w s.letters exit →
-    IsAt g w (suc s.letters) to → IsStep g w t (numbers.back_step g w t letter o exit to caller callee helpers rows targets) f
+    (g : Graph) (w : List Letter) (t : Tree) (letter : ℕ) (o : numbers.OpenCall) (exit to : Position) (rows : List LinearRow) → length rows ≡ count →
+    back_gaps (alphabet_of g) (slice_get g.acts letter) ≡ back_counts caller callee targets count → IsCall g w o call → IsAt g w s.letters exit → IsAt g w (suc s.letters) to →
+    IsStep g w t (numbers.back_step g w t letter o exit to caller callee helpers rows targets) f
 
 -- the one step of a letter that is read next
 pub record IsStepBy (g : Graph) (w : List Letter) (t : Tree) (a : Letter) (rest : List Letter) (r : numbers.Reading) (to : Position) (f : Step) : Type 0 where
@@ -116,5 +119,5 @@ IsReturnOf al call targets = BackIsActedFrom al targets (slice_get al.acts call)
 -- the one step of a return with these targets from an open call by the letter with this number
 abbrev pub IsStepBack : Graph → Reading → OpenCall → ℕ → List ℕ → Step → Type 0
 IsStepBack g s c call targets f =
-    (w : List Letter) (t : Tree) (letter : ℕ) (o : numbers.OpenCall) (calls : List numbers.OpenCall) (exit to : Position) → IsCall g w o c → IsAt g w s.letters exit → IsAt g w (suc s.letters) to →
+    (w : List Letter) (t : Tree) (letter : ℕ) (o : numbers.OpenCall) (calls : List numbers.OpenCall) (exit to : Position) → slice_get g.acts letter ≡ Some (back_act call targets) → IsCall g w o c → IsAt g w s.letters exit → IsAt g w (suc s.letters) to →
     (x : numbers.Step) × (numbers.steps_back g w t letter targets (o ∷ calls) exit to (slice_get g.acts call) ≡ x ∷ []) × IsStep g w t x f

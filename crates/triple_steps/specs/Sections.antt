@@ -1,8 +1,11 @@
 -- The rows of the system of a letter's triple, section by section: what multiplier each has at a leaf of the refutation.
-use Rattle.std.specs.Prelude.{◌≡◌, ℕ, ◌+◌, List, [], ◌∷◌, ◌++◌, Option, None, Some, slice_get}
+use Rattle.std.specs.Prelude.{◌≡◌, ℕ, ◌+◌, not, List, [], ◌∷◌, ◌++◌, filter, length, Option, None, Some, slice_get}
 use Rattle.nwa_base.specs.declared.letters.Letter.{Letter}
+use Rattle.letter_acts.specs.Frames.{Columns, globals_of, constants_of, variables_of, results_of, olds_of}
 use Rattle.letter_acts.specs.Invariant.{Graph}
+use Rattle.letter_acts.specs.Reading.{taken}
 use Rattle.farkas_check.specs.Trees.{Tree}
+use Rattle.triple_rows.specs.Systems.{is_listed}
 use Rattle.nested_refutations.specs.Refutations.{Claim, Role, target_tie, opposite_tie, source_tie, View}
 use Rattle.nested_refutations.specs.Numbers.{spares, branch_rows, roles_of}
 use Rattle.triple_steps.specs.declared.sections.Tie.{Tie}
@@ -49,6 +52,28 @@ claims_in (sections.Spare count ∷ ss) = claims_in ss
 claims_in (sections.Rows first count ∷ ss) = claims_in ss
 claims_in (sections.Tie tie ∷ ss) = claims_in ss
 
--- sections are added, whose rows have these multipliers
-abbrev pub AddsRoles : List Section → List Section → List Role → Type 0
-AddsRoles old new roles = (g : Graph) (w : List Letter) (t : Tree) (v : View) → roles_in g w t v new ≡ roles_in g w t v old ++ roles
+-- the rows of these claims stand there, in order, and so many rows before those of each
+pub record ClaimsStand (ss : List Section) (claims counts : List ℕ) : Type 0 where
+  pub order : claims_in ss ≡ claims
+  pub gaps : gaps_in 0 ss ≡ counts
+
+-- how many stand before those of each claim in the system of a call whose act has so many rows
+abbrev pub call_counts : Columns → ℕ → List ℕ
+call_counts callee count = 0 ∷ (length (globals_of callee) + length (olds_of callee) + count) ∷ []
+
+-- in that of a return from it with these targets
+abbrev pub back_counts : Columns → Columns → List ℕ → ℕ → List ℕ
+back_counts caller callee targets count =
+    let kept = filter (λ c. not (is_listed targets c)) (variables_of caller) in
+    0 ∷ 0 ∷ (length (constants_of callee) + length (olds_of callee) + count + length kept + length (taken targets (results_of callee))) ∷ []
+
+-- sections are added, none of them a claim's
+pub record AddsNoClaim (old new : List Section) : Type 0 where
+  pub added : List Section
+  pub whole : new ≡ old ++ added
+  pub plain : claims_in added ≡ []
+
+-- such sections are added, whose rows have these multipliers
+pub record AddsRoles (old new : List Section) (more : List Role) : Type 0 where
+  pub plain : AddsNoClaim old new
+  pub roles : (g : Graph) (w : List Letter) (t : Tree) (v : View) → roles_in g w t v new ≡ roles_in g w t v old ++ more

@@ -1,6 +1,6 @@
 //! The bounds of a system's columns.
 
-ghost use Rattle.std.specs.Prelude.{◌≡◌, ◌++◌, ◌∷◌, IfOk, OnOk, List, length};
+ghost use Rattle.std.specs.Prelude.{◌≡◌, ◌++◌, ◌∷◌, [], IfOk, OnOk, List, length};
 ghost use Rattle.nwa_base.specs.declared.letters.Letter.{Letter};
 ghost use Rattle.letter_acts.specs.Frames.{Columns};
 ghost use Rattle.letter_acts.specs.Invariant.{Graph};
@@ -9,7 +9,7 @@ ghost use Rattle.path_rows.specs.Versions.{locals_of, old_part};
 ghost use Rattle.farkas_check.specs.Trees.{Tree};
 ghost use Rattle.nested_refutations.specs.Refutations.{View};
 ghost use Rattle.nested_refutations.specs.Numbers.{bounds_in, before_bounds, callee_bounds};
-ghost use Rattle.triple_steps.specs.Sections.{section_roles, roles_in, AddsRoles};
+ghost use Rattle.triple_steps.specs.Sections.{section_roles, roles_in, claims_in, AddsNoClaim, AddsRoles};
 
 use crate::columns::sum;
 use crate::sections::Section;
@@ -57,7 +57,8 @@ pub(crate) fn before_bounds(
     frame: &[(Column, VarInfo)],
     number: usize,
 ) -> Result<Section, AllocError>
-    ensures { IfOk result (λ s. (g : Graph) (w : List Letter) (t : Tree) (v : View) → section_roles g w t v s ≡ before_bounds number frame.now) }
+    ensures roles { IfOk result (λ s. (g : Graph) (w : List Letter) (t : Tree) (v : View) → section_roles g w t v s ≡ before_bounds number frame.now) }
+    ensures plain { IfOk result (λ s. claims_in (s ∷ []) ≡ []) }
 {
     let count = bounds_in(frame)?;
     if number == 1 {
@@ -99,7 +100,8 @@ fn add_bounds(
     column: &(Column, VarInfo),
     next: &mut Next,
 ) -> Result<(), AllocError>
-    ensures { OnOk result ((g : Graph) (w : List Letter) (t : Tree) (v : View) (rest : Columns) → roles_in g w t v sections.new.items ++ callee_bounds next.new.local_row next.new.old_row rest ≡ roles_in g w t v sections.old.items ++ callee_bounds next.old.local_row next.old.old_row (column.now ∷ rest)) }
+    ensures roles { OnOk result ((g : Graph) (w : List Letter) (t : Tree) (v : View) (rest : Columns) → roles_in g w t v sections.new.items ++ callee_bounds next.new.local_row next.new.old_row rest ≡ roles_in g w t v sections.old.items ++ callee_bounds next.old.local_row next.old.old_row (column.now ∷ rest)) }
+    ensures plain { OnOk result (AddsNoClaim sections.old.items sections.new.items) }
 {
     if !is_bool(column) {
         return Ok(());

@@ -1,6 +1,6 @@
 //! The step of a letter, by its kind.
 
-ghost use Rattle.std.specs.Prelude.{◌≡◌, ◌++◌, IfOk, OnOk, List, length, map, filter, not, suc, slice_get, ◌+◌, if◌then◌else◌};
+ghost use Rattle.std.specs.Prelude.{◌≡◌, ◌++◌, ◌∷◌, [], IfOk, OnOk, List, length, map, filter, not, suc, slice_get, ◌+◌, if◌then◌else◌};
 ghost use Rattle.nwa_base.specs.declared.letters.Letter.{Letter};
 ghost use Rattle.letter_acts.specs.Frames.{globals_of, constants_of, variables_of, results_of, olds_of};
 ghost use Rattle.letter_acts.specs.Invariant.{Graph, Take};
@@ -11,7 +11,7 @@ ghost use Rattle.farkas_check.specs.Trees.{Tree};
 ghost use Rattle.triple_rows.specs.Systems.{is_listed};
 ghost use Rattle.nested_refutations.specs.Refutations.{View, target_tie, source_tie, opposite_tie};
 ghost use Rattle.nested_refutations.specs.Numbers.{spares, branch_rows, bounds_in, before_bounds, callee_bounds, made_by_call};
-ghost use Rattle.triple_steps.specs.Sections.{section_roles, roles_in, claim_roles, AddsRoles};
+ghost use Rattle.triple_steps.specs.Sections.{section_roles, roles_in, claims_in, claim_roles, ClaimsStand, call_counts, back_counts, AddsRoles};
 ghost use Rattle.triple_steps.specs.Steps.{FitColumns};
 ghost use Rattle.triple_steps.specs.Readings.{IsInsideStep, IsCallStep, IsBackStep};
 
@@ -67,7 +67,8 @@ fn inside_sections(
     written: &[u32],
     rows: usize,
 ) -> Result<Vec<Section>, AllocError>
-    ensures { IfOk result (λ ss. (g : Graph) (w : List Letter) (t : Tree) (v : View) → roles_in g w t v ss.items ≡ claim_roles g w t v 0 (slice_get v.claims 0) ++ branch_rows reading.now.rows rows ++ claim_roles g w t v 1 (slice_get v.claims 1) ++ before_bounds (suc reading.now.letters) frame.now ++ branch_rows (reading.now.rows + rows) (length (bounds 0 (types_at frame.now written.now)))) }
+    ensures roles { IfOk result (λ ss. (g : Graph) (w : List Letter) (t : Tree) (v : View) → roles_in g w t v ss.items ≡ claim_roles g w t v 0 (slice_get v.claims 0) ++ branch_rows reading.now.rows rows ++ claim_roles g w t v 1 (slice_get v.claims 1) ++ before_bounds (suc reading.now.letters) frame.now ++ branch_rows (reading.now.rows + rows) (length (bounds 0 (types_at frame.now written.now)))) }
+    ensures stand { IfOk result (λ ss. ClaimsStand ss.items (0 ∷ 1 ∷ []) (0 ∷ rows ∷ [])) }
 {
     let before = before_bounds(frame, sum(reading.letters, 1)?)?;
     let first = sum(reading.rows, rows)?;
@@ -142,7 +143,8 @@ fn call_sections(
     callee: &[(Column, VarInfo)],
     rows: usize,
 ) -> Result<Vec<Section>, AllocError>
-    ensures { IfOk result (λ ss. (g : Graph) (w : List Letter) (t : Tree) (v : View) → roles_in g w t v ss.items ≡ claim_roles g w t v 0 (slice_get v.claims 0) ++ map target_tie (globals_of callee.now) ++ (if returns then map (λ o. opposite_tie o.1) (olds_of callee.now) else branch_rows (reading.now.rows + rows) (length (olds_of callee.now))) ++ (if returns then spares rows else branch_rows reading.now.rows rows) ++ claim_roles g w t v 1 (slice_get v.claims 1) ++ (if returns then spares (bounds_in caller.now) else before_bounds (suc reading.now.letters) caller.now) ++ callee_bounds (reading.now.rows + rows + length (old_part callee.now)) (reading.now.rows + rows + length (old_part callee.now) + bounds_in (locals_of callee.now)) callee.now) }
+    ensures roles { IfOk result (λ ss. (g : Graph) (w : List Letter) (t : Tree) (v : View) → roles_in g w t v ss.items ≡ claim_roles g w t v 0 (slice_get v.claims 0) ++ map target_tie (globals_of callee.now) ++ (if returns then map (λ o. opposite_tie o.1) (olds_of callee.now) else branch_rows (reading.now.rows + rows) (length (olds_of callee.now))) ++ (if returns then spares rows else branch_rows reading.now.rows rows) ++ claim_roles g w t v 1 (slice_get v.claims 1) ++ (if returns then spares (bounds_in caller.now) else before_bounds (suc reading.now.letters) caller.now) ++ callee_bounds (reading.now.rows + rows + length (old_part callee.now)) (reading.now.rows + rows + length (old_part callee.now) + bounds_in (locals_of callee.now)) callee.now) }
+    ensures stand { IfOk result (λ ss. ClaimsStand ss.items (0 ∷ 1 ∷ []) (call_counts callee.now rows)) }
 {
     let entries = sum(reading.rows, rows)?;
     let local = sum(entries, old_count(callee))?;
@@ -183,7 +185,8 @@ fn add_entries(
 
 /// The own rows of a call. Where it returns no leaf uses them.
 fn call_rows(returns: bool, first: usize, count: usize) -> Section
-    ensures { (g : Graph) (w : List Letter) (t : Tree) (v : View) → section_roles g w t v result ≡ (if returns then spares count else branch_rows first count) }
+    ensures roles { (g : Graph) (w : List Letter) (t : Tree) (v : View) → section_roles g w t v result ≡ (if returns then spares count else branch_rows first count) }
+    ensures plain { claims_in (result ∷ []) ≡ [] }
 {
     if returns {
         Section::Spare(count)
@@ -198,7 +201,8 @@ fn caller_bounds(
     caller: &[(Column, VarInfo)],
     number: usize,
 ) -> Result<Section, AllocError>
-    ensures { IfOk result (λ s. (g : Graph) (w : List Letter) (t : Tree) (v : View) → section_roles g w t v s ≡ (if returns then spares (bounds_in caller.now) else before_bounds number caller.now)) }
+    ensures roles { IfOk result (λ s. (g : Graph) (w : List Letter) (t : Tree) (v : View) → section_roles g w t v s ≡ (if returns then spares (bounds_in caller.now) else before_bounds number caller.now)) }
+    ensures plain { IfOk result (λ s. claims_in (s ∷ []) ≡ []) }
 {
     if returns {
         Ok(Section::Spare(bounds_in(caller)?))
@@ -253,7 +257,8 @@ fn back_sections(
     written: &[u32],
 ) -> Result<Vec<Section>, AllocError>
     requires { Take caller.now callee.now targets.now (results_of callee.now) }
-    ensures { IfOk result (λ ss. (g : Graph) (w : List Letter) (t : Tree) (v : View) → roles_in g w t v ss.items ≡ claim_roles g w t v 0 (slice_get v.claims 0) ++ claim_roles g w t v 1 (slice_get v.claims 1) ++ map source_tie (constants_of callee.now) ++ map (λ o. source_tie o.0) (olds_of callee.now) ++ branch_rows call.rows rows ++ map target_tie (filter (λ c. not (is_listed targets.now c)) (variables_of caller.now)) ++ map (λ p. target_tie p.0) (taken targets.now (results_of callee.now)) ++ claim_roles g w t v 2 (slice_get v.claims 2) ++ spares (bounds_in callee.now) ++ before_bounds (suc call.at) caller.now ++ spares (length (bounds 0 (types_at caller.now written.now)))) }
+    ensures roles { IfOk result (λ ss. (g : Graph) (w : List Letter) (t : Tree) (v : View) → roles_in g w t v ss.items ≡ claim_roles g w t v 0 (slice_get v.claims 0) ++ claim_roles g w t v 1 (slice_get v.claims 1) ++ map source_tie (constants_of callee.now) ++ map (λ o. source_tie o.0) (olds_of callee.now) ++ branch_rows call.rows rows ++ map target_tie (filter (λ c. not (is_listed targets.now c)) (variables_of caller.now)) ++ map (λ p. target_tie p.0) (taken targets.now (results_of callee.now)) ++ claim_roles g w t v 2 (slice_get v.claims 2) ++ spares (bounds_in callee.now) ++ before_bounds (suc call.at) caller.now ++ spares (length (bounds 0 (types_at caller.now written.now)))) }
+    ensures stand { IfOk result (λ ss. ClaimsStand ss.items (0 ∷ 1 ∷ 2 ∷ []) (back_counts caller.now callee.now targets.now rows)) }
 {
     let exit = bounds_in(callee)?;
     let before = before_bounds(caller, sum(call.at, 1)?)?;

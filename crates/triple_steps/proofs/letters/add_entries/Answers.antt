@@ -5,8 +5,7 @@ use Rattle.nested_refutations.specs.Numbers.{branch_rows}
 use Rattle.triple_steps.specs.declared.sections.Tie.TheVariants.{Opposite}
 use Rattle.triple_steps.specs.declared.sections.Section.{Section}
 use Rattle.triple_steps.specs.declared.sections.Section.TheVariants.{Rows, Tie}
-use Rattle.triple_steps.specs.Sections.{roles_in}
-use Rattle.triple_steps.proofs.RoleLaws.{roles_pushed, adds_mapped, adds_then, adds_else, on_ok}
+use Rattle.triple_steps.proofs.RoleLaws.{adds_section, adds_tied, adds_then, adds_else, on_ok}
 use Rattle.triple_steps.proofs.letters.add_entries.Goals as goal
 
 pub returns-then-returns : goal.returns-then-returns
@@ -17,7 +16,7 @@ returns-then-returns c =
     let rows : List Role = branch_rows c.args.first (length (olds_of c.args.callee.now)) in
     on_ok (new ≡ old ++ map (λ (o : ℕ × ℕ). Tie (Opposite o.1)) c.deref.result.now) _
     (λ e. adds_then c.args.returns old new tied rows c.if-returns.true
-    (adds_mapped old new (λ (o : ℕ × ℕ). Tie (Opposite o.1)) (λ (o : ℕ × ℕ). opposite_tie o.1) (olds_of c.args.callee.now) (λ g w t v x. refl)
+    (adds_tied old new (λ (o : ℕ × ℕ). Opposite o.1) (olds_of c.args.callee.now)
     (e ∙ ap (λ (l : List (ℕ × ℕ)). old ++ map (λ (o : ℕ × ℕ). Tie (Opposite o.1)) l) (c.deref.ensures.value ∙ c.in_ok-olds.ensures)))) c.tie_entries.result c.tie_entries.ensures
 
 pub returns : goal.returns
@@ -28,5 +27,5 @@ returns c =
     let rows : List Role = branch_rows c.args.first (length (olds_of c.args.callee.now)) in
     let count : c.len.result ≡ length c.in_ok-olds.olds.items = search rules in
     adds_else c.args.returns old new tied rows c.if-returns.false
-    (λ g w t v. roles_pushed g w t v old new (Rows c.args.first c.len.result) c.in_ok-push.ensures.items ∙
-    ap (λ (n : ℕ). roles_in g w t v old ++ branch_rows c.args.first n) (count ∙ ap (λ (l : List (ℕ × ℕ)). length l) c.in_ok-olds.ensures))
+    (adds_section old new (Rows c.args.first c.len.result) rows c.in_ok-push.ensures.items refl
+    (λ g w t v. ap (branch_rows c.args.first) (count ∙ ap (λ (l : List (ℕ × ℕ)). length l) c.in_ok-olds.ensures)))

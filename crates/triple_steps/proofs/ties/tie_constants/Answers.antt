@@ -1,11 +1,11 @@
-use Rattle.std.proofs.Common.{◌≡◌, ◌∙◌, ◌++◌, List, ℕ, map, refl, ap}
+use Rattle.std.proofs.Common.{◌≡◌, ◌∙◌, ◌++◌, List, ℕ, map, ap}
 use Rattle.letter_acts.specs.Frames.{constants_of}
 use Rattle.nested_refutations.specs.Refutations.{source_tie}
 use Rattle.triple_steps.specs.declared.sections.Tie.TheVariants.{Source}
 use Rattle.triple_steps.specs.declared.sections.Section.{Section}
 use Rattle.triple_steps.specs.declared.sections.Section.TheVariants.{Tie}
 use Rattle.triple_steps.specs.Sections.{AddsRoles}
-use Rattle.triple_steps.proofs.RoleLaws.{adds_mapped, on_ok}
+use Rattle.triple_steps.proofs.RoleLaws.{adds_tied, on_ok}
 use Rattle.triple_steps.proofs.ties.tie_constants.Goals as goal
 
 pub returns : goal.returns
@@ -13,5 +13,5 @@ returns c =
     let old : List Section = c.args.sections.now.items in
     let new : List Section = c.tie_sources.new.sections.items in
     on_ok (new ≡ old ++ map (λ (x : ℕ). Tie (Source x)) c.deref.result.now) (AddsRoles old new (map source_tie (constants_of c.args.callee.now)))
-    (λ e. adds_mapped old new (λ (x : ℕ). Tie (Source x)) source_tie (constants_of c.args.callee.now) (λ g w t v x. refl)
+    (λ e. adds_tied old new (λ (x : ℕ). Source x) (constants_of c.args.callee.now)
     (e ∙ ap (λ (l : List ℕ). old ++ map (λ (x : ℕ). Tie (Source x)) l) (c.deref.ensures.value ∙ c.in_ok-constants.ensures))) c.tie_sources.result c.tie_sources.ensures

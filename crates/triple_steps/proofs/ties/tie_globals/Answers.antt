@@ -1,11 +1,11 @@
-use Rattle.std.proofs.Common.{◌≡◌, ◌∙◌, ◌++◌, List, ℕ, map, refl, ap}
+use Rattle.std.proofs.Common.{◌≡◌, ◌∙◌, ◌++◌, List, ℕ, map, ap}
 use Rattle.letter_acts.specs.Frames.{globals_of}
 use Rattle.nested_refutations.specs.Refutations.{target_tie}
 use Rattle.triple_steps.specs.declared.sections.Tie.TheVariants.{Target}
 use Rattle.triple_steps.specs.declared.sections.Section.{Section}
 use Rattle.triple_steps.specs.declared.sections.Section.TheVariants.{Tie}
 use Rattle.triple_steps.specs.Sections.{AddsRoles}
-use Rattle.triple_steps.proofs.RoleLaws.{adds_mapped, on_ok}
+use Rattle.triple_steps.proofs.RoleLaws.{adds_tied, on_ok}
 use Rattle.triple_steps.proofs.ties.tie_globals.Goals as goal
 
 pub returns : goal.returns
@@ -13,5 +13,5 @@ returns c =
     let old : List Section = c.args.sections.now.items in
     let new : List Section = c.tie_targets.new.sections.items in
     on_ok (new ≡ old ++ map (λ (x : ℕ). Tie (Target x)) c.deref.result.now) (AddsRoles old new (map target_tie (globals_of c.args.callee.now)))
-    (λ e. adds_mapped old new (λ (x : ℕ). Tie (Target x)) target_tie (globals_of c.args.callee.now) (λ g w t v x. refl)
+    (λ e. adds_tied old new (λ (x : ℕ). Target x) (globals_of c.args.callee.now)
     (e ∙ ap (λ (l : List ℕ). old ++ map (λ (x : ℕ). Tie (Target x)) l) (c.deref.ensures.value ∙ c.in_ok-globals.ensures))) c.tie_targets.result c.tie_targets.ensures

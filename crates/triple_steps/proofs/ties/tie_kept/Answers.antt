@@ -1,4 +1,4 @@
-use Rattle.std.proofs.Common.{◌≡◌, ◌∙◌, ◌++◌, List, ℕ, map, refl, ap}
+use Rattle.std.proofs.Common.{◌≡◌, ◌∙◌, ◌++◌, List, ℕ, map, ap}
 use Rattle.std.specs.Prelude.{filter, not}
 use Rattle.letter_acts.specs.Frames.{variables_of}
 use Rattle.triple_rows.specs.Systems.{is_listed}
@@ -7,7 +7,7 @@ use Rattle.triple_steps.specs.declared.sections.Tie.TheVariants.{Target}
 use Rattle.triple_steps.specs.declared.sections.Section.{Section}
 use Rattle.triple_steps.specs.declared.sections.Section.TheVariants.{Tie}
 use Rattle.triple_steps.specs.Sections.{AddsRoles}
-use Rattle.triple_steps.proofs.RoleLaws.{adds_mapped, on_ok}
+use Rattle.triple_steps.proofs.RoleLaws.{adds_tied, on_ok}
 use Rattle.triple_steps.proofs.ties.tie_kept.Goals as goal
 
 pub returns : goal.returns
@@ -16,7 +16,7 @@ returns c =
     let new : List Section = c.tie_targets.new.sections.items in
     let kept : List ℕ = filter (λ x. not (is_listed c.args.targets.now x)) (variables_of c.args.caller.now) in
     on_ok (new ≡ old ++ map (λ (x : ℕ). Tie (Target x)) c.deref-2.result.now) (AddsRoles old new (map target_tie kept))
-    (λ e. adds_mapped old new (λ (x : ℕ). Tie (Target x)) target_tie kept (λ g w t v x. refl)
+    (λ e. adds_tied old new (λ (x : ℕ). Target x) kept
     (e ∙ ap (λ (l : List ℕ). old ++ map (λ (x : ℕ). Tie (Target x)) l)
     (c.deref-2.ensures.value ∙ c.in_ok-kept.ensures ∙ ap (λ (l : List ℕ). filter (λ x. not (is_listed c.args.targets.now x)) l) (c.deref.ensures.value ∙ c.in_ok-variables.ensures))))
     c.tie_targets.result c.tie_targets.ensures

@@ -1,4 +1,4 @@
-use Rattle.std.proofs.Common.{◌≡◌, ◌∙◌, ◌++◌, List, ℕ, map, refl, sym, ap}
+use Rattle.std.proofs.Common.{◌≡◌, ◌∙◌, ◌++◌, List, ℕ, map, sym, ap}
 use Rattle.letter_acts.specs.Frames.{olds_of}
 use Rattle.nested_refutations.specs.Refutations.{source_tie}
 use Rattle.triple_steps.specs.declared.sections.Tie.TheVariants.{Source}
@@ -6,7 +6,7 @@ use Rattle.triple_steps.specs.declared.sections.Section.{Section}
 use Rattle.triple_steps.specs.declared.sections.Section.TheVariants.{Tie}
 use Rattle.triple_steps.specs.Sections.{AddsRoles}
 use Rattle.triple_steps.proofs.ColumnLaws.{olds_placed, mapped_twice}
-use Rattle.triple_steps.proofs.RoleLaws.{adds_mapped, on_ok}
+use Rattle.triple_steps.proofs.RoleLaws.{adds_tied, on_ok}
 use Rattle.triple_steps.proofs.ties.tie_olds.Goals as goal
 
 pub returns : goal.returns
@@ -14,6 +14,6 @@ returns c =
     let old : List Section = c.args.sections.now.items in
     let new : List Section = c.tie_sources.new.sections.items in
     on_ok (new ≡ old ++ map (λ (x : ℕ). Tie (Source x)) c.deref.result.now) (AddsRoles old new (map (λ (o : ℕ × ℕ). source_tie o.0) (olds_of c.args.callee.now)))
-    (λ e. adds_mapped old new (λ (o : ℕ × ℕ). Tie (Source o.0)) (λ (o : ℕ × ℕ). source_tie o.0) (olds_of c.args.callee.now) (λ g w t v x. refl)
+    (λ e. adds_tied old new (λ (o : ℕ × ℕ). Source o.0) (olds_of c.args.callee.now)
     (e ∙ ap (λ (l : List ℕ). old ++ map (λ (x : ℕ). Tie (Source x)) l) (c.deref.ensures.value ∙ c.in_ok-olds.ensures ∙ sym (olds_placed c.args.callee.now)) ∙
     ap (λ (l : List Section). old ++ l) (mapped_twice (λ (o : ℕ × ℕ). o.0) (λ (x : ℕ). let s : Section = Tie (Source x) in s) (olds_of c.args.callee.now)))) c.tie_sources.result c.tie_sources.ensures

@@ -1,4 +1,4 @@
-use Rattle.std.proofs.Common.{◌≡◌, ◌++◌, List, ℕ, map, refl}
+use Rattle.std.proofs.Common.{◌≡◌, ◌++◌, List, ℕ, map}
 use Rattle.letter_acts.specs.Frames.{results_of}
 use Rattle.letter_acts.specs.Reading.{taken}
 use Rattle.nested_refutations.specs.Refutations.{target_tie}
@@ -6,7 +6,7 @@ use Rattle.triple_steps.specs.declared.sections.Tie.TheVariants.{Target}
 use Rattle.triple_steps.specs.declared.sections.Section.{Section}
 use Rattle.triple_steps.specs.declared.sections.Section.TheVariants.{Tie}
 use Rattle.triple_steps.specs.Sections.{AddsRoles}
-use Rattle.triple_steps.proofs.RoleLaws.{adds_mapped, adds_same, taken_targets, on_ok}
+use Rattle.triple_steps.proofs.RoleLaws.{adds_tied, adds_same, taken_targets, on_ok}
 use Rattle.triple_steps.proofs.ties.tie_results.Goals as goal
 
 pub returns : goal.returns
@@ -16,4 +16,4 @@ returns c =
     on_ok (new ≡ old ++ map (λ (x : ℕ). Tie (Target x)) c.args.targets.now) (AddsRoles old new (map (λ (p : ℕ × ℕ). target_tie p.0) (taken c.args.targets.now (results_of c.args.callee.now))))
     (λ e. adds_same old new (map target_tie c.args.targets.now) (map (λ (p : ℕ × ℕ). target_tie p.0) (taken c.args.targets.now (results_of c.args.callee.now)))
     (taken_targets c.args.caller.now c.args.callee.now c.args.targets.now (results_of c.args.callee.now) c.requires)
-    (adds_mapped old new (λ (x : ℕ). Tie (Target x)) target_tie c.args.targets.now (λ g w t v x. refl) e)) c.tie_targets.result c.tie_targets.ensures
+    (adds_tied old new (λ (x : ℕ). Target x) c.args.targets.now e)) c.tie_targets.result c.tie_targets.ensures
