@@ -28,7 +28,9 @@ use Rattle.nested_predicates.specs.Interpolants.{RefutesRows}
 use Rattle.nested_refutations.specs.Numbers.{Step, StepFits, steps_of, AreCutsAt}
 use Rattle.nested_refutations.specs.Walked.{WalkedRefutes}
 use Rattle.nested_refutations.specs.Cuts.{IsCutWithin, WalkedCuts}
+use Rattle.nested_refutations.specs.Waiting.{StepWaits}
 use Rattle.nested_refutations.proofs.InsideColumnLaws.{length-repeated}
+use Rattle.nested_refutations.proofs.StepLaws.{steps_wait}
 use Rattle.nested_refutations.proofs.TripleLaws.{steps_walked}
 use Rattle.nested_refutations.proofs.WalkedCutLaws.{steps_cut}
 use Rattle.triple_steps.specs.declared.making.Step as found
@@ -139,6 +141,16 @@ step_proved g w t ok m acc refutes cuts fit i s there nodes put no_proof =
     let missed : IsUnrefuted (alphabet_of g) s.triple nodes = no_proof within fits.system in
     missed.unrefuted (subst (λ (ns : List PlainNode). Refutes ns missed.system) put.listed (walked fits put.tree put.put missed.system missed.is_system))
 
+-- the rows are refuted by the tree with these nodes
+refuted_by : (g : Graph) (w : List Letter) (nodes : List PlainNode) (rows : List LinearRow) → rows ≡ (path_of g w).rows → RefutesRows nodes rows → (t : Tree) → prefix_of t ≡ nodes →
+    RefutesRows (prefix_of t) (path_of g w).rows
+refuted_by g w nodes rows r refutes t e = subst (λ (ns : List PlainNode). RefutesRows ns (path_of g w).rows) (sym e) (subst (RefutesRows nodes) r refutes)
+
+-- wherever the refutation of a letter's triple stops at a group, one waits
+pub letters_wait : (g : Graph) (w : List Letter) → IsGraph g → IsAutomaton g.automaton → Accepts g.automaton w → (nodes : List PlainNode) (rows : List LinearRow) → rows ≡ (path_of g w).rows →
+    RefutesRows nodes rows → (t : Tree) → prefix_of t ≡ nodes → AllByRecursion (StepWaits g w t) (steps_of g w t)
+letters_wait g w ok m acc nodes rows r refutes t e = steps_wait g w t ok m acc (refuted_by g w nodes rows r refutes t e)
+
 -- what is put down for a letter along the tree that is read
 pub record LetterPut (g : Graph) (w : List Letter) (t : Tree) (i : ℕ) (triple : Triple) (nodes : List PlainNode) : Type 0 where
   pub step : Step
@@ -148,14 +160,15 @@ pub record LetterPut (g : Graph) (w : List Letter) (t : Tree) (i : ℕ) (triple 
 
 pub letter_put : (g : Graph) (w : List Letter) (t : Tree) (nodes given put : List PlainNode) (tree : code.Tree) (i : ℕ) (f : found.Step) (triple : Triple) (rows : ℕ) (row_at : List ℕ) →
     StepAt g w t (steps_of g w t) i f triple → IsTree (stamps_of g w).columns (positions_of g w) (root_of g w) t nodes tree → given ≡ nodes → rows ≡ length row_at → row_at ≡ (path_of g w).row_at →
-    ((g : Graph) (w : List Letter) (t : Tree) (s : Step) → IsTree (stamps_of g w).columns (positions_of g w) (root_of g w) t given tree → IsStep g w t s f → rows ≡ length (root_of g w).rows →
-    IsPutFor g w t s put) → LetterPut g w t i triple put
-letter_put g w t nodes given put tree i f triple rows row_at h is e n r run = record {
+    AllByRecursion (StepWaits g w t) (steps_of g w t) →
+    ((g : Graph) (w : List Letter) (t : Tree) (s : Step) → IsTree (stamps_of g w).columns (positions_of g w) (root_of g w) t given tree → IsStep g w t s f → StepWaits g w t s →
+    rows ≡ length (root_of g w).rows → IsPutFor g w t s put) → LetterPut g w t i triple put
+letter_put g w t nodes given put tree i f triple rows row_at h is e n r wait run = record {
   step = h.step;
   there = h.there;
   triple_is = h.triple_is;
   put = run g w t h.step (subst (λ (ns : List PlainNode). IsTree (stamps_of g w).columns (positions_of g w) (root_of g w) t ns tree) (sym e) is) h.is_step
-      (n ∙ ap length r ∙ rows_counted g w);
+      (all_at (StepWaits g w t) (steps_of g w t) i h.step h.there wait) (n ∙ ap length r ∙ rows_counted g w);
 }
 
 -- it is one tree
@@ -167,6 +180,6 @@ pub put_proved : (g : Graph) (w : List Letter) → IsGraph g → IsAutomaton g.a
     RefutesRows nodes rows → AllByRecursion (IsCutWithin (length (stamps_of g w).columns)) nodes → (t : Tree) → prefix_of t ≡ nodes → (i : ℕ) (triple : Triple) (put : List PlainNode) →
     LetterPut g w t i triple put → IsNoProof (alphabet_of g) triple put → AllByRecursion (StepFits g w t) (steps_of g w t) → ⊥
 put_proved g w ok m acc nodes rows r refutes cuts t e i triple put h no_proof fit =
-    let refuted : RefutesRows (prefix_of t) (path_of g w).rows = subst (λ (ns : List PlainNode). RefutesRows ns (path_of g w).rows) (sym e) (subst (RefutesRows nodes) r refutes) in
+    let refuted : RefutesRows (prefix_of t) (path_of g w).rows = refuted_by g w nodes rows r refutes t e in
     let at : AreCutsAt (length (stamps_of g w).columns) t = tree_cuts (length (stamps_of g w).columns) t (subst (AllByRecursion (IsCutWithin (length (stamps_of g w).columns))) (sym e) cuts) in
     step_proved g w t ok m acc refuted at fit i h.step h.there put h.put (subst (λ (x : Triple). IsNoProof (alphabet_of g) x put) (sym h.triple_is) no_proof)

@@ -7,11 +7,13 @@ use Rattle.nwa_base.specs.Automata.{IsAutomaton}
 use Rattle.nested_predicates.specs.Stamps.{stamps_of}
 use Rattle.triple_rows.specs.Triples.{Agrees}
 use Rattle.triple_steps.specs.Steps.{FitColumns}
+use Rattle.triple_walks.specs.Leaves.{Ascends}
 use Rattle.triple_walks.specs.Putting.{IsPlaced}
+use Rattle.triple_walks.proofs.AscendLaws.{refutation_ascends}
 use Rattle.nested_itp.proofs.AgreeingLaws.{kept_graph}
 use Rattle.nested_itp.proofs.CountLaws.{proofs_counted}
 use Rattle.nested_itp.proofs.CutLaws.{nodes_placed}
-use Rattle.nested_itp.proofs.PastLaws.{item_at, letter_step, letters_counted, letters_agree, letter_put, put_whole, put_proved}
+use Rattle.nested_itp.proofs.PastLaws.{item_at, letter_step, letters_counted, letters_agree, letters_wait, letter_put, put_whole, put_proved}
 use Rattle.nested_itp.proofs.making.proofs.Goals as goal
 
 pub bounds-steps-at : goal.bounds-steps-at
@@ -34,6 +36,7 @@ refutation-requires c =
           (nodes_placed n c.index-steps-at.result.columns
           (item_at (λ s. FitColumns n s.columns) c.args.steps.now c.loop-at.at c.index-steps-at.result (omega (arith, m, l)) c.index-steps-at.is c.requires.fit)
           c.args.proof.now c.requires.cuts);
+      ascend = subst (AllByRecursion Ascends) (sym c.nodes-nodes.ensures.value) (refutation_ascends c.args.proof.now c.args.path.now.rows c.requires.refutes);
     }
 
 pub proved-requires-clause-agrees : goal.proved-requires-clause-agrees
@@ -47,11 +50,14 @@ proved-requires-clause-tree c =
     let w : List Letter = c.args.path.now.word in
     let h = c.requires.triples in
     let nodes : List PlainNode = plain_nodes c.in_ok-refuting.refuting.items in
+    let m : IsAutomaton g.automaton = subst IsAutomaton c.nwa.ensures.value c.states-states.ensures.valid in
     let s = letter_step g w (kept_graph g c.nwa.ensures.valid) c.requires.path.accepted c.args.proof.now c.args.steps.now c.args.triples.now c.requires.steps h c.loop-at.at c.index-steps-at.result
     c.index-triples-at.result c.index-steps-at.is c.index-triples-at.is c.loop-at-test.true in
     put_whole g w h.tree c.loop-at.at c.index-triples-at.result nodes
     (letter_put g w h.tree c.args.proof.now (plain_nodes c.nodes-nodes.result.now) nodes c.args.tree.now c.loop-at.at c.index-steps-at.result c.index-triples-at.result (length c.row_at-rows.result.now)
-    c.args.path.now.row_at s (c.requires.tree h.tree h.spelled) c.nodes-nodes.ensures.value (ap length c.row_at-rows.ensures) c.requires.path.row_at c.in_ok-refuting.ensures)
+    c.args.path.now.row_at s (c.requires.tree h.tree h.spelled) c.nodes-nodes.ensures.value (ap length c.row_at-rows.ensures) c.requires.path.row_at
+    (letters_wait g w (kept_graph g c.nwa.ensures.valid) m c.requires.path.accepted c.args.proof.now c.args.path.now.rows c.requires.path.rows c.requires.refutes h.tree h.spelled)
+    c.in_ok-refuting.ensures)
 
 pub returns-in_err-proved-clause-past : goal.returns-in_err-proved-clause-past
 returns-in_err-proved-clause-past c was = λ fit.
@@ -65,7 +71,9 @@ returns-in_err-proved-clause-past c was = λ fit.
     put_proved g w (kept_graph g c.nwa.ensures.valid) m c.requires.path.accepted c.args.proof.now c.args.path.now.rows c.requires.path.rows c.requires.refutes c.requires.cuts h.tree h.spelled
     c.loop-at.at c.index-triples-at.result nodes
     (letter_put g w h.tree c.args.proof.now (plain_nodes c.nodes-nodes.result.now) nodes c.args.tree.now c.loop-at.at c.index-steps-at.result c.index-triples-at.result (length c.row_at-rows.result.now)
-    c.args.path.now.row_at s (c.requires.tree h.tree h.spelled) c.nodes-nodes.ensures.value (ap length c.row_at-rows.ensures) c.requires.path.row_at c.in_ok-refuting.ensures)
+    c.args.path.now.row_at s (c.requires.tree h.tree h.spelled) c.nodes-nodes.ensures.value (ap length c.row_at-rows.ensures) c.requires.path.row_at
+    (letters_wait g w (kept_graph g c.nwa.ensures.valid) m c.requires.path.accepted c.args.proof.now c.args.path.now.rows c.requires.path.rows c.requires.refutes h.tree h.spelled)
+    c.in_ok-refuting.ensures)
     (c.in_err-proved.ensures.past (search rules)) (fit h.tree h.spelled)
 
 pub returns-clause-count : goal.returns-clause-count
