@@ -81,7 +81,7 @@ keeps_added a b roles groups taken d e f = λ m w.
     let z = w.taken in (
       record { roles = omega (arith, p, i, x); groups = omega (arith, q, j, y); taken = omega (arith, r, k, z) },
       same_goal _ _ _ _ m.first _ _ (ap (take m.roles) d ∙ take-append-le m.roles a.roles roles w.roles) (ap (take m.groups) e ∙ take-append-le m.groups a.groups groups w.groups)
-      (ap (take m.taken) f ∙ take-append-le m.taken a.taken taken w.taken),
+          (ap (take m.taken) f ∙ take-append-le m.taken a.taken taken w.taken),
     )
 
 pub keeps_row : (a b : PlainGoal) (role : Role) → b ≡ with_roles (role ∷ []) a → Keeps a b

@@ -122,12 +122,7 @@ fn add_section(
 }
 
 /// Adds what the claim with a number gives, if there is one.
-fn add_claim(
-    alloc: Global,
-    guide: &Guide,
-    goal: &mut Goal,
-    claim: usize,
-) -> Result<(), AllocError>
+fn add_claim(alloc: Global, guide: &Guide, goal: &mut Goal, claim: usize) -> Result<(), AllocError>
     ensures { OnOk result ((g : Graph) (w : List Letter) (t : trees.Tree) (v : View) → IsLed v guide.now → Known v guide.now (root_spot g w t) → plain_goal goal.new ≡ with_section g w t v (sections.Claim claim) (plain_goal goal.old)) }
 {
     let Some(found) = claim_at(guide.claims, claim) else {

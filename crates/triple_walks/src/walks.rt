@@ -87,12 +87,7 @@ pub(crate) fn run(alloc: Global, guide: &Guide, goal: Goal) -> Result<Vec<Node>,
 }
 
 /// Goes on with a part: its row, or its member.
-fn begin_with(
-    alloc: Global,
-    guide: &Guide,
-    goal: &mut Goal,
-    begin: Begin,
-) -> Result<(), AllocError>
+fn begin_with(alloc: Global, guide: &Guide, goal: &mut Goal, begin: Begin) -> Result<(), AllocError>
     ensures keeps { OnOk result (Keeps (plain_goal goal.old) (plain_goal goal.new)) }
     ensures goal { OnOk result ((v : View) (g h : Goes) → IsLed v guide.now → IsAtHand v guide.now g (plain_goal goal.old) → IsBegun v guide.now begin g h → IsAtHand v guide.now h (plain_goal goal.new)) }
 {
@@ -104,12 +99,7 @@ fn begin_with(
 }
 
 /// Takes a member of a group.
-fn choose(
-    alloc: Global,
-    guide: &Guide,
-    goal: &mut Goal,
-    member: Taken,
-) -> Result<(), AllocError>
+fn choose(alloc: Global, guide: &Guide, goal: &mut Goal, member: Taken) -> Result<(), AllocError>
     ensures keeps { OnOk result (Keeps (plain_goal goal.old) (plain_goal goal.new)) }
     ensures goal { OnOk result ((v : View) (g h : Goes) → IsLed v guide.now → IsAtHand v guide.now g (plain_goal goal.old) → TakesMember v guide.now member g h → IsAtHand v guide.now h (plain_goal goal.new)) }
 {
