@@ -43,7 +43,7 @@ returns-in-Some-3 g c = λ t o e d n. subst (λ (x : Graph). IsEvidence x c.args
 pub returns-in-Refuted : goal.returns-in-Refuted
 returns-in-Refuted g c = λ t o e d n.
     let plain = subst (λ (f : Finding). IsPlainFinding c.args.icfg.now c.args.depth c.args.path.now.word f) c.in-Refuted.is (c.in_ok-own.ensures c.args.icfg.now c.requires.path) in
-    predicates_pass t c.args.icfg.now o.depth c.args.depth c.args.path.now.word c.in-Refuted.own e d plain.0 (c.in_ok-automaton-in-Refuted.ensures.passes c.in-None-3.is)
+    predicates_pass t c.args.icfg.now o.depth c.args.depth c.args.path.now.word c.in-Refuted.own e d plain.0 (c.in_ok-automaton-in-Refuted.ensures.passes c.in-None.is)
 
 pub unreachable-requires : goal.unreachable-requires
 unreachable-requires g c =
