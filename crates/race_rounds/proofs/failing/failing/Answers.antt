@@ -1,4 +1,4 @@
-use Rattle.std.proofs.Common.{◌≡◌, refl, subst}
+use Rattle.std.proofs.Common.{refl, subst}
 use Rattle.lin_rows.specs.Points.{point_of}
 use Rattle.typing_rules.specs.TypedParts.{typed_program}
 use Rattle.trace_replay.specs.declared.causes.ReplayFault.{ReplayFault}
