@@ -2,3 +2,4 @@ pub mod TreeCuts
 pub mod NoPoints
 pub mod Says
 pub mod RowsRefuted
+pub mod DecideCuts

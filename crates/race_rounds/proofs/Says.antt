@@ -1,13 +1,10 @@
 -- What is found of a word by way of its graph, said of the program.
-use Rattle.std.proofs.Common.{◌≡◌, ℕ, ℤ, List, refl, sym, subst, ◌∙◌}
-use Rattle.std.specs.List.{AllByRecursion}
-use Rattle.math_facts.specs.Fits.{Fits}
+use Rattle.std.proofs.Common.{◌≡◌, ℕ, ℤ, List, refl, sym, subst}
 use Rattle.lin_rows.specs.Points.{point_of}
 use Rattle.farkas_check.specs.Nodes.{PlainNode}
 use Rattle.int_decide.specs.Decisions.{refuted, whole}
 use Rattle.nwa_base.specs.declared.letters.Letter.{Letter}
-use Rattle.letter_acts.specs.Feasible.{IsFeasible}
-use Rattle.letter_acts.specs.Invariant.{Graph, alphabet_of}
+use Rattle.letter_acts.specs.Invariant.{Graph}
 use Rattle.typed_tree.specs.TypedTree.{TypedProgram}
 use Rattle.lowered_graph.specs.Lowered.{lowered}
 use Rattle.path_decide.specs.Decided.{RefutesPath, path_decision, PathFits}
@@ -15,12 +12,11 @@ use Rattle.trace_replay.specs.ToldRuns.{ToldPasses, IsToldFault}
 use Rattle.trace_replay.specs.declared.causes.ReplayCause.{ReplayCause}
 use Rattle.trace_replay.specs.declared.causes.ReplayCause.TheVariants as causes
 use Rattle.trace_replay.specs.declared.causes.ReplayFault.TheVariants.{At}
-use Rattle.race_core.specs.declared.ends.Cause.TheVariants.{Rounds, Whole, Number}
+use Rattle.race_core.specs.declared.ends.Cause.TheVariants.{Rounds, Number}
 use Rattle.race_core.specs.declared.ends.End.TheVariants.{Unknown}
 use Rattle.nested_refutations.specs.Numbers.{NumbersFit}
-use Rattle.itp_automaton.specs.Certified.{Certificate}
-use Rattle.race_rounds.specs.Ends.{Options, NumberPasses, of_decide, of_predicates, of_run, SaysOfWord}
-use Rattle.race_rounds.specs.Rounds.{IsEvidence}
+use Rattle.race_rounds.specs.Ends.{Options, PredicatesFit, NumberPasses, of_decide, of_predicates, of_run, SaysOfWord}
+use Rattle.race_rounds.proofs.DecideCuts.{decided_cuts}
 
 pub decide_passes : (t : TypedProgram) (g : Graph) (d depth : ℕ) (w : List Letter) → g ≡ lowered t → d ≡ depth → (PathFits g depth w → ⊥) → NumberPasses t d w
 decide_passes t g d depth w e s n =
@@ -29,8 +25,14 @@ decide_passes t g d depth w e s n =
 pub predicates_pass : (t : TypedProgram) (g : Graph) (d depth : ℕ) (w : List Letter) (nodes : List PlainNode) → g ≡ lowered t → d ≡ depth →
     path_decision g depth w ≡ refuted nodes → (NumbersFit g w nodes → ⊥) → NumberPasses t d w
 predicates_pass t g d depth w nodes e s p n =
-    of_predicates nodes (subst (λ (x : ℕ). path_decision (lowered t) x w ≡ refuted nodes) (sym s) (subst (λ (x : Graph). path_decision x depth w ≡ refuted nodes) e p))
-    (subst (λ (x : Graph). NumbersFit x w nodes → ⊥) e n)
+    let decided : path_decision (lowered t) d w ≡ refuted nodes =
+    subst (λ (x : ℕ). path_decision (lowered t) x w ≡ refuted nodes) (sym s) (subst (λ (x : Graph). path_decision x depth w ≡ refuted nodes) e p) in
+    let none : NumbersFit (lowered t) w nodes → ⊥ = subst (λ (x : Graph). NumbersFit x w nodes → ⊥) e n in
+    of_predicates nodes decided (λ (f : PredicatesFit (lowered t) w nodes). none (record {
+      cuts = decided_cuts (lowered t) d w nodes decided;
+      sums = f.sums;
+      steps = f.steps;
+    }))
 
 pub told_passes : (t : TypedProgram) (point : ℕ → ℤ) (w : List Letter) (step : ℕ) (cause : ReplayCause) → IsToldFault t point w (At step cause) → ToldPasses t point w step
 told_passes t point w step causes.Blocked h = absurd h

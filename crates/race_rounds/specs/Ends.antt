@@ -4,15 +4,20 @@ use Rattle.std.specs.List.{AllByRecursion}
 use Rattle.math_facts.specs.Fits.{Fits}
 use Rattle.lin_rows.specs.Points.{point_of}
 use Rattle.farkas_check.specs.Nodes.{PlainNode}
+use Rattle.farkas_check.specs.Trees.{Tree, prefix_of}
 use Rattle.int_decide.specs.Decisions.{refuted, whole}
 use Rattle.nwa_base.specs.declared.letters.Letter.{Letter}
 use Rattle.nwa_base.specs.Automata.{Automaton}
 use Rattle.nwa_base.specs.Acceptance.{Accepts}
 use Rattle.letter_acts.specs.Feasible.{IsFeasible}
-use Rattle.letter_acts.specs.Invariant.{alphabet_of}
+use Rattle.letter_acts.specs.Invariant.{Graph, alphabet_of}
 use Rattle.typed_tree.specs.TypedTree.{TypedProgram}
 use Rattle.lowered_graph.specs.Lowered.{lowered}
-use Rattle.nested_refutations.specs.Numbers.{NumbersFit}
+use Rattle.nested_predicates.specs.Stamps.{stamps_of}
+use Rattle.nested_predicates.specs.Positions.{positions_of}
+use Rattle.nested_predicates.specs.Sums.{root_of}
+use Rattle.nested_predicates.specs.Fitting.{SumsFit}
+use Rattle.nested_refutations.specs.Numbers.{steps_of, StepFits}
 use Rattle.path_decide.specs.Decided.{RefutesPath, path_decision, PathFits, IsGap}
 use Rattle.lowered_choices.specs.Choices.{FailsAtLast}
 use Rattle.trace_replay.specs.Replays.{choices_among, Replays}
@@ -42,11 +47,17 @@ pub record FailsAfter (t : TypedProgram) (steps : ℕ) (choices : List ℤ) : Ty
   pub replays : Replays t steps choices assertion
   pub fit : AllByRecursion Fits choices
 
+-- Under each tree with these nodes, all numbers of the prefix predicates of the word, of the systems of their triples and of the refutations of
+-- these fit.
+pub record PredicatesFit (g : Graph) (w : List Letter) (nodes : List PlainNode) : Type 0 where
+  pub sums : (t : Tree) → prefix_of t ≡ nodes → SumsFit (stamps_of g w).columns (positions_of g w) (root_of g w) t
+  pub steps : (t : Tree) → prefix_of t ≡ nodes → AllByRecursion (StepFits g w t) (steps_of g w t)
+
 -- A number that does not fit: one of Decide on the rows of the word; one of the prefix predicates, of the systems of their triples or of the
 -- refutations of these, under Decide's own refutation; or a value of the run that Decide's point and an accepting run tell.
 pub data NumberPasses (t : TypedProgram) (depth : ℕ) (w : List Letter) : Type 0 where
   of_decide : (PathFits (lowered t) depth w → ⊥) → NumberPasses t depth w
-  of_predicates : (nodes : List PlainNode) → path_decision (lowered t) depth w ≡ refuted nodes → (NumbersFit (lowered t) w nodes → ⊥) → NumberPasses t depth w
+  of_predicates : (nodes : List PlainNode) → path_decision (lowered t) depth w ≡ refuted nodes → (PredicatesFit (lowered t) w nodes → ⊥) → NumberPasses t depth w
   of_run : (values : List ℤ) (step : ℕ) → path_decision (lowered t) depth w ≡ whole values → ToldPasses t (point_of values) w step →
       NumberPasses t depth w
 
