@@ -1,4 +1,5 @@
 mod graphs;
+mod steps;
 
 use farkas_check::{Node, Refutation, tree};
 use graphs::{Said, back, call, graph, inside, node, nodes};

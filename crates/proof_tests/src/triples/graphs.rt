@@ -9,9 +9,9 @@
 //! Of `main` the columns are k, g, old g, x, b; of `inc` they are k, g, old g, n, r, s.
 
 use boogie_tree::{Column, Text, Ty, VarInfo};
-use letter_acts::{Act, Frame, Icfg, icfg};
+use letter_acts::{Act, AssertId, Frame, Icfg, Site, icfg};
 use lin_rows::{Row, RowKind, row};
-use nwa_base::empty;
+use nwa_base::{Kind, Letter, Nwa, empty};
 use std::alloc::Global;
 use std::test::Fail;
 use triple_rows::*;
@@ -120,6 +120,41 @@ pub fn graph(alloc: Global) -> Result<Icfg, Fail> {
         bodies.to_vec(alloc)?,
         bodies.to_vec(alloc)?,
         Vec::new(alloc),
+    );
+    Ok(made.ok_or("no graph")?)
+}
+
+/// The letter of an act.
+pub fn letter(id: u32, kind: Kind, call: u32) -> Letter {
+    Letter { id, kind, call }
+}
+
+/// Letter 0 from the start, then the call of `inc`, and the return from it to `g, x`, behind which an assertion fails.
+fn walk(alloc: Global) -> Result<Nwa, Fail> {
+    let mut nwa = empty(alloc, 4, 0)?;
+    nwa.add_inside(0, letter(0, Kind::Inside, 0), 1)?;
+    nwa.add_call(1, letter(1, Kind::Call, 0), 2)?;
+    nwa.add_back(2, 1, letter(3, Kind::Back, 1), 3)?;
+    nwa.set_final(3)?;
+    Ok(nwa)
+}
+
+/// The graph, of the places of a walk through `inc`.
+pub fn walked(alloc: Global) -> Result<Icfg, Fail> {
+    let bodies = [None, Some(2)];
+    let site = Site {
+        id: AssertId { number: 1, line: 1 },
+        place: 3,
+    };
+    let made = icfg(
+        walk(alloc)?,
+        acts(alloc)?,
+        frames(alloc)?,
+        names(alloc)?,
+        [0, 0, 1, 0].to_vec(alloc)?,
+        bodies.to_vec(alloc)?,
+        bodies.to_vec(alloc)?,
+        [site].to_vec(alloc)?,
     );
     Ok(made.ok_or("no graph")?)
 }
