@@ -4,10 +4,10 @@
 The words are those of bench/programs/interpolants.txt: through a loop, through calls one after another that return, through calls one
 within the other that return, and through calls one within the other that do not. Each is refuted by one leaf, the loop and the returned
 calls also by a chain of 64 cuts whose one side is refuted at once: from the last cut on, or in the long chains from the start on, where the
-predicates have up to 129 nodes. In the cases whose names end in `found` Decide finds the leaf.
+predicates have up to 129 nodes. In the cases whose names end in `found` Decide finds the leaf, and that is timed in place of `interpolants`.
 
 The program is run up to each stage, and a stage takes what it takes more than the one before: the best of five, in processor time, since
-other work may run beside. For each size the stages are told, how many times the letters and the time of `interpolants` are those of the
+other work may run beside. For each size the stages are told, how many times the letters and the time of the last stage are those of the
 size before, and the most memory. A case ends where a run takes more than ten seconds."""
 import os
 import pathlib
@@ -56,26 +56,29 @@ def best(program: str, case: str, size: int, stage: str) -> tuple[float, float, 
     return min(runs)
 
 
+def told(took: dict[str, float]) -> dict[str, float]:
+    """What each part takes."""
+    parts = {"rows": took["rows"] - took["word"], "refutation": took["refuted"] - took["rows"]}
+    if "whole" in took:
+        parts |= {"sums": took["sums"] - took["refuted"], "interpolants": took["whole"] - took["refuted"]}
+    return {name: max(part, 1e-6) for name, part in parts.items()}
+
+
 def report(program: str, cases: list[str]) -> None:
     for case in cases:
         last = None
         for size in CASES[case]:
-            runs = {stage: best(program, case, size, stage) for stage in STAGES}
-            took = {stage: runs[stage][0] for stage in STAGES}
-            made = max(took["whole"] - took["refuted"], 1e-6)
-            parts = {
-                "rows": took["rows"] - took["word"],
-                "refutation": took["refuted"] - took["rows"],
-                "sums": took["sums"] - took["refuted"],
-                "interpolants": made,
-            }
-            _, memory, printed = runs["whole"]
+            stages = STAGES[:3] if case.endswith("found") else STAGES
+            runs = {stage: best(program, case, size, stage) for stage in stages}
+            parts = told({stage: runs[stage][0] for stage in stages})
+            made = list(parts.values())[-1]
+            took, memory, printed = runs[stages[-1]]
             letters = int(printed.split()[0])
             ratio = "" if last is None else f", {letters / last[0]:.2f} times the letters in {made / last[1]:.2f} times the time"
-            told = ", ".join(f"{name} {max(part, 0) * 1000:.1f} ms" for name, part in parts.items())
-            print(f"{case} {size}: {printed}; {told}, {made / letters * 1e6:.1f} us a letter, {memory:.0f} MB{ratio}", flush=True)
+            times = ", ".join(f"{name} {part * 1000:.1f} ms" for name, part in parts.items())
+            print(f"{case} {size}: {printed}; {times}, {made / letters * 1e6:.1f} us a letter, {memory:.0f} MB{ratio}", flush=True)
             last = letters, made
-            if took["whole"] > MOST_SECONDS:
+            if took > MOST_SECONDS:
                 break
 
 
