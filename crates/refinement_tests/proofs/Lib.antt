@@ -1,0 +1,2 @@
+mod ParsedNames
+mod SmallTrees
