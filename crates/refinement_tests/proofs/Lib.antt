@@ -1,2 +1,3 @@
 mod ParsedNames
+mod RowsRefuted
 mod SmallTrees

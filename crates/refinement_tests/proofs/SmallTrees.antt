@@ -1,7 +1,8 @@
 -- A tree with few nodes has few cuts on a branch.
-use Rattle.std.proofs.Common.{◌≡◌, ◌≤◌, ◌+◌, ℕ, suc, max, List, length, ◌++◌, sym, subst, arith}
-use Rattle.std.proofs.lemmas.List.{length-append}
-use Rattle.farkas_check.specs.Nodes.{PlainNode}
+use Rattle.std.proofs.Common.{◌≡◌, ◌≤◌, ◌+◌, ℕ, suc, max, List, length, ◌++◌, sym, ap, ◌∙◌, arith}
+use Rattle.std.proofs.lemmas.List.{length-append, length-map}
+use Rattle.farkas_check.specs.declared.refutations.Node.{Node}
+use Rattle.farkas_check.specs.Nodes.{PlainNode, plain, plain_nodes}
 use Rattle.farkas_check.specs.Trees.{Tree, Trees, leaf_tree, cut_tree, cases_tree, no_tree, one_more, prefix_of, prefixes_of}
 use Rattle.nested_predicates.specs.Interpolants.{cuts_on_branch, most_cuts, HasCutsUpTo}
 
@@ -17,8 +18,9 @@ mutual
   twice_most (one_more t ts) =
       let a = twice_cuts t in let b = twice_most ts in let e = length-append (prefix_of t) (prefixes_of ts) in omega (arith, a, b, e)
 
-pub small_tree : (nodes : List PlainNode) → length nodes ≤ 129 → HasCutsUpTo 64 nodes
-small_tree nodes h = λ t e.
+pub few_cuts : (nodes : List Node) (proof : List PlainNode) → plain_nodes nodes ≡ proof → length nodes ≤ 129 → HasCutsUpTo 64 proof
+few_cuts nodes proof s h = λ t e.
     let a = twice_cuts t in
-    let b : length (prefix_of t) ≤ 129 = subst (λ (ns : List PlainNode). length ns ≤ 129) (sym e) h in
-    omega (arith, a, b)
+    let b : length (plain_nodes nodes) ≡ length nodes = length-map nodes plain in
+    let c : length (prefix_of t) ≡ length (plain_nodes nodes) = ap (λ (ns : List PlainNode). length ns) (e ∙ sym s) in
+    omega (arith, a, b, c, h)

@@ -28,7 +28,7 @@ struct Case {
     wanted: String,
 }
 
-fn case(alloc: Global) -> Case {
+fn empty_case(alloc: Global) -> Case {
     Case {
         program: String::new(alloc),
         word: String::new(alloc),
@@ -76,7 +76,7 @@ fn found(alloc: Global, asked: Asked, case: &Case) -> Result<String, Fail> {
 
 /// The first case of a table of which something else is found, and what that is.
 fn first_wrong(alloc: Global, asked: Asked, table: &str) -> Result<Option<String>, Fail> {
-    let mut read = case(alloc);
+    let mut read = empty_case(alloc);
     for line in table.lines() {
         if line != "=" {
             read_line(&mut read, line)?;
@@ -87,7 +87,7 @@ fn first_wrong(alloc: Global, asked: Asked, table: &str) -> Result<Option<String
                 let word = read.word;
                 return Ok(Some(format!(in alloc; "{program}{word}{given}")?));
             }
-            read = case(alloc);
+            read = empty_case(alloc);
         }
     }
     Ok(None)

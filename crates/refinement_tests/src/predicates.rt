@@ -3,7 +3,7 @@
 ghost use Rattle.path_rows.specs.Paths.{IsPathOf};
 
 use crate::paths::push_bound;
-use crate::refutations::is_refuted;
+use crate::refutations::{has_few_cuts, is_refuted};
 use boogie_tree::{Column, VarInfo};
 use farkas_check::Refutation;
 use letter_acts::Icfg;
@@ -97,6 +97,9 @@ pub(super) fn shown_predicates(
 ) -> Result<String, AllocError>
     requires { IsPathOf graph.now path.now }
 {
+    if !has_few_cuts(proof) {
+        return String::from_str(alloc, "many cuts\n");
+    }
     if !is_refuted(alloc, path, proof)? {
         return String::from_str(alloc, "not refuted\n");
     }

@@ -1,7 +1,6 @@
 //! Refutations as texts.
 
 ghost use Rattle.std.specs.Prelude.{IsTrue, IfOk};
-ghost use Rattle.farkas_check.specs.Nodes.{plain_nodes, is_tree};
 ghost use Rattle.nested_predicates.specs.Interpolants.{RefutesRows, HasCutsUpTo};
 
 use farkas_check::{Node, Refutation, check, tree};
@@ -53,24 +52,20 @@ pub(super) fn refutation(alloc: Global, text: &str) -> Result<Option<Refutation>
     Ok(tree(nodes))
 }
 
-/// Whether there are few enough nodes that no branch has more than 64 cuts: a branch of so many has twice as many nodes, and one.
-fn is_small(nodes: &[Node]) -> bool
-    ensures { IsTrue result → HasCutsUpTo 64 (plain_nodes nodes.now) }
+/// Whether it has few enough nodes that no branch has more than 64 cuts: one of so many has twice as many nodes, and one more.
+pub(super) fn has_few_cuts(proof: &Refutation) -> bool
+    ensures { IsTrue result → HasCutsUpTo 64 proof.now }
 {
-    nodes.len() <= 129
+    proof.nodes().len() <= 129
 }
 
-/// Whether the tree refutes the rows of the word, and is small.
+/// Whether the tree refutes the rows of the word.
 pub(super) fn is_refuted(
     alloc: Global,
     path: &PathSystem,
     proof: &Refutation,
 ) -> Result<bool, AllocError>
-    ensures refutes { IfOk result (λ yes. IsTrue yes → RefutesRows proof.now path.now.rows) }
-    ensures cuts { IfOk result (λ yes. IsTrue yes → HasCutsUpTo 64 proof.now) }
+    ensures { IfOk result (λ yes. IsTrue yes → RefutesRows proof.now path.now.rows) }
 {
-    if !is_small(proof.nodes()) {
-        return Ok(false);
-    }
     check(alloc, path.system(), proof)
 }
