@@ -1,84 +1,41 @@
+use crate::making::{A, B, C, R, add, automaton, letter, letters, states};
 use nwa_base::*;
 use std::alloc::{AllocError, Global};
+use std::mem;
 use std::test::Fail;
-
-/// The letters: `A` and `B` are inside letters, `C` is a call and `R` a return that names it.
-const A: Letter = Letter {
-    id: 0,
-    kind: Kind::Inside,
-    call: 0,
-};
-
-const B: Letter = Letter {
-    id: 1,
-    kind: Kind::Inside,
-    call: 0,
-};
-
-const C: Letter = Letter {
-    id: 2,
-    kind: Kind::Call,
-    call: 0,
-};
-
-const R: Letter = Letter {
-    id: 3,
-    kind: Kind::Back,
-    call: 2,
-};
-
-fn letter(name: u8) -> Letter {
-    match name {
-        b'A' => A,
-        b'B' => B,
-        b'C' => C,
-        _ => R,
-    }
-}
-
-fn letters(alloc: Global, names: &[u8]) -> Result<Vec<Letter>, AllocError> {
-    let mut letters = Vec::new(alloc);
-    for name in names {
-        letters.push(letter(*name))?;
-    }
-    Ok(letters)
-}
-
-fn state(digit: u8) -> u32 {
-    u32::from(digit.wrapping_sub(b'0'))
-}
-
-fn states(alloc: Global, digits: &[u8]) -> Result<Vec<u32>, AllocError> {
-    let mut states = Vec::new(alloc);
-    for digit in digits {
-        states.push(state(*digit))?;
-    }
-    Ok(states)
-}
 
 fn shared<T: Send + Sync>(_value: &T) {}
 
-/// Letters, one word a line, in which each return has a match, and others.
-const MATCHED: &str = "\nAB\nC\nCAR\nCCR";
+/// Letters, and whether each return has a match.
+const SPELLED: [(&str, bool); 8] = [
+    ("", true),
+    ("AB", true),
+    ("C", true),
+    ("CAR", true),
+    ("CCR", true),
+    ("R", false),
+    ("CRR", false),
+    ("RC", false),
+];
 
-const UNMATCHED: &str = "R\nCRR\nRC";
+/// Whether a copy of the word has these letters.
+fn spells(alloc: Global, word: &Word, names: &str) -> Result<bool, AllocError> {
+    let wanted = letters(alloc, names)?;
+    let copy = word.copy()?;
+    Ok(copy.letters() == wanted.as_slice())
+}
 
 /// Whether the letters make a word; its copy has them.
 fn is_word(alloc: Global, names: &str) -> Result<bool, AllocError> {
-    let letters = letters(alloc, names.as_bytes())?;
-    match word(letters.clone()?) {
-        Some(word) => Ok(word.copy()?.letters() == letters.as_slice()),
+    match word(letters(alloc, names)?) {
+        Some(word) => spells(alloc, &word, names),
         None => Ok(false),
     }
 }
 
-/// The first line that makes a word where it should not, or none where it should.
-fn first_misspelled<'a>(
-    alloc: Global,
-    lines: &'a str,
-    wanted: bool,
-) -> Result<Option<&'a str>, AllocError> {
-    for names in lines.split('\n') {
+/// The first letters that make a word where they should not, or none where they should.
+fn first_misspelled(alloc: Global) -> Result<Option<&'static str>, AllocError> {
+    for (names, wanted) in SPELLED {
         if is_word(alloc, names)? != wanted {
             return Ok(Some(names));
         }
@@ -88,70 +45,112 @@ fn first_misspelled<'a>(
 
 #[test]
 fn words_have_no_pending_return(rt: HostRuntime) -> Result<(), Fail> {
-    let wrong = first_misspelled(rt.alloc(), MATCHED, true)?;
-    assert!(rt; wrong.is_none(), "{wrong:?}");
-    let wrong = first_misspelled(rt.alloc(), UNMATCHED, false)?;
+    let wrong = first_misspelled(rt.alloc())?;
     assert!(rt; wrong.is_none(), "{wrong:?}");
     Ok(())
 }
 
-/// How many states an automaton has, its final states and edges, and words with their only accepting runs, or none. `f2` makes 2 final,
-/// `i1A2` leads by the inside letter `A` from 1 to 2, `c0C1` by the call `C` from 0 to 1, and `r20R3` by the return `R` from 2 to 3
-/// where 0 was the state before the call.
-const ACCEPTED: [(u32, &str, &str); 4] = [
+/// Words with their only accepting runs, or none.
+type Runs = &'static [(&'static str, &'static str)];
+
+/// How many states an automaton has, its final states and edges, and words with their runs.
+type Row = (u32, &'static str, Runs);
+
+const ACCEPTED: [Row; 4] = [
     // A call, an inside letter and a return, one after another. The state before the return is final, too. In the first word the call
     // is pending.
-    (4, "f2 f3 i1A2 c0C1 r20R3", "CA 012\nCAR 0123\nC \n"),
+    (
+        4,
+        "f2 f3 i1A2 c0C1 r20R3",
+        &[("CA", "012"), ("CAR", "0123"), ("C", "")],
+    ),
     // Returns read the state before their call: from 0 a call returns to 3, from 1 to 4. `A C R` goes through 0, 1, 2, 4, and 4 is
     // not final.
-    (5, "f3 i0A1 c0C2 c1C2 r20R3 r21R4", "CR 023\nACR \nC \n"),
+    (
+        5,
+        "f3 i0A1 c0C2 c1C2 r20R3 r21R4",
+        &[("CR", "023"), ("ACR", ""), ("C", "")],
+    ),
     // `main` calls `first`, which calls `second`, which calls `third`, in which an assertion fails at the inside letter `B`. A procedure
     // may also step by `A` and return. The failure is in state 8, with three calls open; in the second word the third procedure returns
     // once, and is called again.
     (
         9,
         "f8 i2A3 i4A5 i6A7 i7B8 c0C2 c3C4 c5C6 r75R5 r53R3 r30R1",
-        "CACACAB 02345678\nCACACARCAB 02345675678\nCACAB \nCACACARRR \n",
+        &[
+            ("CACACAB", "02345678"),
+            ("CACACARCAB", "02345675678"),
+            ("CACAB", ""),
+            ("CACACARRR", ""),
+        ],
     ),
-    (6, GUESSES, "AB 025\nCAB 0025\nCACRB 002325\nCACB \n"),
+    (
+        6,
+        GUESSES,
+        &[
+            ("AB", "025"),
+            ("CAB", "0025"),
+            ("CACRB", "002325"),
+            ("CACB", ""),
+        ],
+    ),
 ];
 
 /// Two edges by one letter, of which one leads nowhere, and a pending call in front of a matched one.
 const GUESSES: &str = "f5 i0A1 i0A2 i2B5 c0C0 c2C3 r32R2";
 
-/// Adds a final state or an edge.
-fn add(nwa: &mut Nwa, part: &[u8]) -> Result<(), NwaFault> {
-    match part {
-        [b'f', q] => nwa.set_final(state(*q)),
-        [b'i', q, a, to] => nwa.add_inside(state(*q), letter(*a), state(*to)),
-        [b'c', q, a, to] => nwa.add_call(state(*q), letter(*a), state(*to)),
-        [b'r', q, p, a, to] => nwa.add_back(state(*q), state(*p), letter(*a), state(*to)),
-        _ => Err(NwaFault::Memory),
-    }
-}
-
-fn automaton(alloc: Global, states: u32, parts: &str) -> Result<Nwa, NwaFault> {
-    let mut nwa = empty(alloc, states, 0)?;
-    for part in parts.split(' ') {
-        add(&mut nwa, part.as_bytes())?;
-    }
-    Ok(nwa)
+/// Whether the run is this one, or there is none where that is empty.
+fn has_run(alloc: Global, nwa: &Nwa, word: &Word, wanted: &[u32]) -> Result<bool, AllocError> {
+    let run = run_of(alloc, nwa, word)?.unwrap_or(Vec::new(alloc));
+    Ok(run.as_slice() == wanted)
 }
 
 /// Whether the word is accepted by this run, or not at all where that is empty.
-fn is_run(alloc: Global, nwa: &Nwa, word: &Word, wanted: &[u32]) -> Result<bool, AllocError> {
+fn is_run(alloc: Global, nwa: &Nwa, word: &Word, run: &str) -> Result<bool, AllocError> {
     let yes = accepts(alloc, nwa, word)?;
-    let run = run_of(alloc, nwa, word)?.unwrap_or(Vec::new(alloc));
-    Ok((yes != wanted.is_empty()) & (run.as_slice() == wanted))
+    let wanted = states(alloc, run)?;
+    Ok((yes != run.is_empty()) & has_run(alloc, nwa, word, &wanted)?)
 }
 
-/// The first line with another run.
-fn first_wrong_run<'a>(alloc: Global, nwa: &Nwa, lines: &'a str) -> Result<Option<&'a str>, Fail> {
-    for line in lines.lines() {
-        let (names, run) = line.split_once(' ').ok_or("no run")?;
-        let word = word(letters(alloc, names.as_bytes())?).ok_or("a return is pending")?;
-        if !is_run(alloc, nwa, &word, &states(alloc, run.as_bytes())?)? {
-            return Ok(Some(line));
+/// The first word with another run.
+fn first_wrong_run(
+    alloc: Global,
+    nwa: &Nwa,
+    runs: Runs,
+) -> Result<Option<&'static str>, AllocError> {
+    for (names, run) in runs {
+        let right = match word(letters(alloc, names)?) {
+            Some(word) => is_run(alloc, nwa, &word, run)?,
+            None => false,
+        };
+        if !right {
+            return Ok(Some(names));
+        }
+    }
+    Ok(None)
+}
+
+/// The first word with another run in a copy of the automaton.
+fn first_wrong_in_copy(
+    alloc: Global,
+    nwa: &Nwa,
+    runs: Runs,
+) -> Result<Option<&'static str>, AllocError> {
+    let copy = nwa.copy()?;
+    first_wrong_run(alloc, &copy, runs)
+}
+
+fn wrong_word_of(alloc: Global, row: &Row) -> Result<Option<&'static str>, NwaFault> {
+    let nwa = automaton(alloc, row.0, row.1)?;
+    Ok(first_wrong_in_copy(alloc, &nwa, row.2)?)
+}
+
+/// The first word of all with another run.
+fn first_wrong_word(alloc: Global) -> Result<Option<&'static str>, NwaFault> {
+    for row in &ACCEPTED {
+        let wrong = wrong_word_of(alloc, row)?;
+        if wrong.is_some() {
+            return Ok(wrong);
         }
     }
     Ok(None)
@@ -159,11 +158,8 @@ fn first_wrong_run<'a>(alloc: Global, nwa: &Nwa, lines: &'a str) -> Result<Optio
 
 #[test]
 fn words_have_their_runs(rt: HostRuntime) -> Result<(), Fail> {
-    for (states, parts, lines) in ACCEPTED {
-        let nwa = automaton(rt.alloc(), states, parts)?.copy()?;
-        let wrong = first_wrong_run(rt.alloc(), &nwa, lines)?;
-        assert!(rt; wrong.is_none(), "{wrong:?}");
-    }
+    let wrong = first_wrong_word(rt.alloc())?;
+    assert!(rt; wrong.is_none(), "{wrong:?}");
     Ok(())
 }
 
@@ -175,37 +171,57 @@ fn push_copies(letters: &mut Vec<Letter>, letter: Letter, count: u32) -> Result<
     Ok(())
 }
 
-/// How many states the run over so many calls and so many returns has.
-fn nested_states(alloc: Global, nwa: &Nwa, calls: u32, returns: u32) -> Result<usize, Fail> {
+/// So many calls and so many returns.
+fn nested(alloc: Global, calls: u32, returns: u32) -> Result<Option<Word>, AllocError> {
     let mut letters = Vec::new(alloc);
     push_copies(&mut letters, C, calls)?;
     push_copies(&mut letters, R, returns)?;
-    let word = word(letters).ok_or("a return is pending")?;
+    Ok(word(letters))
+}
+
+/// How many states the run over so many calls and so many returns has.
+fn nested_states(
+    alloc: Global,
+    nwa: &Nwa,
+    calls: u32,
+    returns: u32,
+) -> Result<Option<usize>, AllocError> {
+    let Some(word) = nested(alloc, calls, returns)? else {
+        return Ok(None);
+    };
     shared(&word);
-    Ok(run_of(alloc, nwa, &word)?.map_or(0, |run| run.len()))
+    Ok(Some(run_of(alloc, nwa, &word)?.map_or(0, |run| run.len())))
+}
+
+/// The states of the runs with 1000 calls pending, and with none.
+fn states_of_nested(alloc: Global) -> Result<[Option<usize>; 2], NwaFault> {
+    let nwa = automaton(alloc, 2, "f1 c0C1 c1C1 r11R1")?;
+    let pending = nested_states(alloc, &nwa, 2000, 1000)?;
+    let closed = nested_states(alloc, &nwa, 1000, 1000)?;
+    Ok([pending, closed])
 }
 
 /// In state 0 the outermost call is made, from which no return leads. With 1000 calls pending the run has 3001 states.
 #[test]
 fn calls_nest_a_thousand_deep(rt: HostRuntime) -> Result<(), Fail> {
-    let nwa = automaton(rt.alloc(), 2, "f1 c0C1 c1C1 r11R1")?;
-    assert_eq!(rt; nested_states(rt.alloc(), &nwa, 2000, 1000)?, 3001);
-    assert_eq!(rt; nested_states(rt.alloc(), &nwa, 1000, 1000)?, 0);
+    let states = states_of_nested(rt.alloc())?;
+    assert!(rt; states == [Some(3001), Some(0)], "{states:?}");
     Ok(())
 }
 
 /// What is refused, each edge by a letter of another kind, and the cause.
-const REFUSED: &str = "f2 state
-i2C0 state
-c2R0 state
-r20A0 state
-i0C2 state
-c0R2 state
-r02A0 state
-i0C1 letter
-c0R1 letter
-r01A0 letter
-";
+const REFUSED: [(&str, &str); 10] = [
+    ("f2", "state"),
+    ("i2C0", "state"),
+    ("c2R0", "state"),
+    ("r20A0", "state"),
+    ("i0C2", "state"),
+    ("c0R2", "state"),
+    ("r02A0", "state"),
+    ("i0C1", "letter"),
+    ("c0R1", "letter"),
+    ("r01A0", "letter"),
+];
 
 fn cause(answer: Result<(), NwaFault>) -> &'static str {
     match answer {
@@ -216,93 +232,96 @@ fn cause(answer: Result<(), NwaFault>) -> &'static str {
     }
 }
 
-/// The first line with another cause.
+/// The first part that is not refused, or for another cause.
 fn first_wrong_refusal(nwa: &mut Nwa) -> Option<&'static str> {
-    for line in REFUSED.lines() {
-        let (part, wanted) = line.split_once(' ').unwrap_or((line, ""));
+    for (part, wanted) in REFUSED {
         if cause(add(nwa, part.as_bytes())) != wanted {
-            return Some(line);
+            return Some(part);
         }
     }
     None
 }
 
+/// The state that is added to one, how many there are at the end, and the first wrong refusal.
+type Refusals = (u32, u32, Option<&'static str>);
+
+fn refusals_of(nwa: &mut Nwa) -> Result<Refusals, AllocError> {
+    let added = nwa.add_state()?;
+    let wrong = first_wrong_refusal(nwa);
+    Ok((added, nwa.states(), wrong))
+}
+
+fn refusals(alloc: Global) -> Result<Refusals, NwaFault> {
+    let mut nwa = empty(alloc, 1, 0)?;
+    Ok(refusals_of(&mut nwa)?)
+}
+
+/// Whether a start that is no state is refused.
+fn is_start_refused(alloc: Global) -> bool {
+    empty(alloc, 2, 2).is_err()
+}
+
 #[test]
 fn states_are_refused_before_letters(rt: HostRuntime) -> Result<(), Fail> {
-    let mut nwa = empty(rt.alloc(), 1, 0)?;
-    let added = nwa.add_state()?;
-    let wrong = first_wrong_refusal(&mut nwa);
-    assert!(rt; wrong.is_none(), "{wrong:?}");
-    assert!(rt; (added == 1) & (nwa.states() == 2));
-    assert!(rt; empty(rt.alloc(), 2, 2).is_err());
+    let found = refusals(rt.alloc())?;
+    let start = is_start_refused(rt.alloc());
+    assert!(rt; start && found == (1, 2, None), "{found:?}");
     Ok(())
 }
 
-fn name(letter: Letter) -> char {
-    if letter == A {
-        'A'
-    } else if letter == B {
-        'B'
-    } else if letter == C {
-        'C'
-    } else if letter == R {
-        'R'
-    } else {
-        '?'
-    }
-}
-
-fn edges_text(alloc: Global, edges: &[(u32, Letter, u32)]) -> Result<String, AllocError> {
-    let mut text = String::new(alloc);
-    for (q, a, to) in edges {
-        let name = name(*a);
-        text.push_str(&format!(in alloc; " {q}{name}{to}")?)?;
-    }
-    Ok(text)
-}
-
-fn backs_text(alloc: Global, edges: &[(u32, u32, Letter, u32)]) -> Result<String, AllocError> {
-    let mut text = String::new(alloc);
-    for (q, p, a, to) in edges {
-        let name = name(*a);
-        text.push_str(&format!(in alloc; " {q}{p}{name}{to}")?)?;
-    }
-    Ok(text)
-}
-
-/// What the readers of edges by state answer, in the order in which they were added.
-fn edges_found(alloc: Global, nwa: &Nwa) -> Result<String, AllocError> {
-    let insides = edges_text(alloc, nwa.insides_leaving(0))?;
-    let calls = edges_text(alloc, nwa.calls_leaving(2))?;
-    let entering = edges_text(alloc, nwa.calls_entering(3))?;
-    let backs = backs_text(alloc, nwa.backs_leaving(3))?;
-    let between = backs_text(alloc, nwa.backs_between(3, 2))?;
-    format!(in alloc; "{insides}/{calls}/{entering}/{backs}/{between}")
+/// Whether the readers of edges by state answer these, in the order in which they were added.
+fn are_edges_found(nwa: &Nwa) -> [bool; 5] {
+    [
+        nwa.insides_leaving(0) == [(0, A, 1), (0, A, 2)].as_slice(),
+        nwa.calls_leaving(2) == [(2, C, 3)].as_slice(),
+        nwa.calls_entering(3) == [(2, C, 3)].as_slice(),
+        nwa.backs_leaving(3) == [(3, 2, R, 2)].as_slice(),
+        nwa.backs_between(3, 2) == [(3, 2, R, 2)].as_slice(),
+    ]
 }
 
 /// Whether the readers of ends by state and letter answer these, in the order in which the edges were added.
-fn are_ends_found(nwa: &Nwa) -> bool {
-    nwa.finals() == [5].as_slice()
-        && nwa.inside_ends(0, A) == [1, 2].as_slice()
-        && nwa.call_ends(0, C) == [0].as_slice()
-        && nwa.back_ends(3, 2, R) == [2].as_slice()
+fn are_ends_found(nwa: &Nwa) -> [bool; 4] {
+    [
+        nwa.finals() == [5].as_slice(),
+        nwa.inside_ends(0, A) == [1, 2].as_slice(),
+        nwa.call_ends(0, C) == [0].as_slice(),
+        nwa.back_ends(3, 2, R) == [2].as_slice(),
+    ]
 }
 
-fn are_found(nwa: &Nwa) -> bool {
-    nwa.has_inside(0, A, 2) && nwa.has_back(3, 2, R, 2) && nwa.is_final(5)
+fn are_found(nwa: &Nwa) -> [bool; 3] {
+    [
+        nwa.has_inside(0, A, 2),
+        nwa.has_back(3, 2, R, 2),
+        nwa.is_final(5),
+    ]
 }
 
-fn is_one_found(nwa: &Nwa) -> bool {
-    nwa.has_inside(0, B, 2) || nwa.has_back(3, 0, R, 2) || nwa.is_final(2)
+fn are_others_found(nwa: &Nwa) -> [bool; 3] {
+    [
+        nwa.has_inside(0, B, 2),
+        nwa.has_back(3, 0, R, 2),
+        nwa.is_final(2),
+    ]
+}
+
+/// Whether each reader answers what was added, and nothing else.
+fn is_all_found(alloc: Global) -> Result<[bool; 4], NwaFault> {
+    let nwa = automaton(alloc, 6, GUESSES)?;
+    shared(&nwa);
+    Ok([
+        are_edges_found(&nwa) == [true; 5],
+        are_ends_found(&nwa) == [true; 4],
+        are_found(&nwa) == [true; 3],
+        are_others_found(&nwa) == [false; 3],
+    ])
 }
 
 #[test]
 fn edges_are_found(rt: HostRuntime) -> Result<(), Fail> {
-    let nwa = automaton(rt.alloc(), 6, GUESSES)?;
-    shared(&nwa);
-    let found = edges_found(rt.alloc(), &nwa)?;
-    assert_eq!(rt; found.as_str(), " 0A1 0A2/ 2C3/ 2C3/ 32R2/ 32R2");
-    assert!(rt; are_ends_found(&nwa) && are_found(&nwa) && !is_one_found(&nwa));
+    let found = is_all_found(rt.alloc())?;
+    assert!(rt; found == [true; 4], "{found:?}");
     Ok(())
 }
 
@@ -321,45 +340,64 @@ fn led(
     }
 }
 
-/// A name and pairs, behind which stands `final` where one ends in a final state.
-fn pairs_text(alloc: Global, nwa: &Nwa, name: char, pairs: &[Pair]) -> Result<String, AllocError> {
-    let mut text = format!(in alloc; "{name}")?;
-    for (from, to) in pairs {
-        text.push_str(&format!(in alloc; " {from}{to}")?)?;
-    }
-    if has_final(nwa, pairs) {
-        text.push_str(" final")?;
-    }
-    Ok(text)
+/// The steps by which `C A C R B` is read from the second letter on, from the start paired with itself: letters, where they lead, and
+/// whether a pair ends in a final state.
+const LED: [(u8, &[Pair], bool); 4] = [
+    (b'A', &[(0, 1), (0, 2)], false),
+    (b'C', &[(2, 3)], false),
+    (b'R', &[(0, 2)], false),
+    (b'B', &[(0, 5)], true),
+];
+
+/// The pairs before the last letter, and behind it.
+#[derive(Drop)]
+struct Reading {
+    before: Vec<Pair>,
+    here: Vec<Pair>,
 }
 
-/// The steps by which `C A C R B` is read from the second letter on, from the start paired with itself: letters, and where they lead.
-const LED: &str = "A 01 02
-C 23
-R 02
-B 05 final
-";
+/// Before the first letter.
+fn unread(alloc: Global) -> Result<Reading, AllocError> {
+    let here = vec![in alloc; (0, 0)]?;
+    let before = Vec::new(alloc);
+    Ok(Reading { before, here })
+}
 
-/// The first line that leads elsewhere.
-fn first_wrong_step(alloc: Global, nwa: &Nwa) -> Result<Option<&'static str>, Fail> {
-    let mut before = Vec::new(alloc);
-    let mut here = vec![in alloc; (0, 0)]?;
-    for line in LED.lines() {
-        let a = line.bytes().next().map_or(R, letter);
-        let next = led(alloc, nwa, &before, &here, a)?;
-        if pairs_text(alloc, nwa, name(a), &next)?.as_str() != line {
-            return Ok(Some(line));
+fn read(alloc: Global, nwa: &Nwa, reading: &mut Reading, letter: Letter) -> Result<(), AllocError> {
+    let next = led(alloc, nwa, &reading.before, &reading.here, letter)?;
+    reading.before = mem::replace(&mut reading.here, next);
+    Ok(())
+}
+
+/// The first letter that leads elsewhere.
+fn first_wrong_letter(
+    alloc: Global,
+    nwa: &Nwa,
+    reading: &mut Reading,
+) -> Result<Option<u8>, AllocError> {
+    for (name, pairs, ends) in &LED {
+        read(alloc, nwa, reading, letter(*name))?;
+        let here = reading.here.as_slice();
+        if here != *pairs || has_final(nwa, here) != *ends {
+            return Ok(Some(*name));
         }
-        before = here;
-        here = next;
     }
     Ok(None)
 }
 
+fn first_wrong_step(alloc: Global, nwa: &Nwa) -> Result<Option<u8>, AllocError> {
+    let mut reading = unread(alloc)?;
+    first_wrong_letter(alloc, nwa, &mut reading)
+}
+
+fn first_wrong_of_guesses(alloc: Global) -> Result<Option<u8>, NwaFault> {
+    let nwa = automaton(alloc, 6, GUESSES)?;
+    Ok(first_wrong_step(alloc, &nwa)?)
+}
+
 #[test]
 fn letters_lead_from_pairs_to_pairs(rt: HostRuntime) -> Result<(), Fail> {
-    let nwa = automaton(rt.alloc(), 6, GUESSES)?;
-    let wrong = first_wrong_step(rt.alloc(), &nwa)?;
+    let wrong = first_wrong_of_guesses(rt.alloc())?;
     assert!(rt; wrong.is_none(), "{wrong:?}");
     Ok(())
 }

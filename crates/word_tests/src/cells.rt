@@ -1,4 +1,4 @@
-ghost use Rattle.std.specs.Prelude.{◌≡◌, ◌≤◌, ◌+◌, Bool, not, [], ◌∷◌, length, IfOk};
+ghost use Rattle.std.specs.Prelude.{◌≡◌, ◌≤◌, ◌+◌, Bool, not, [], ◌∷◌, length, IfOk, IfSome};
 ghost use Rattle.std.specs.Arc.{arc_value};
 ghost use Rattle.nwa_base.specs.declared.letters.Kind.TheVariants as kinds;
 ghost use Rattle.race_core.specs.Histories.{Keeps};
@@ -6,7 +6,7 @@ ghost use Rattle.version_cell.specs.Passes.{IsPassOf, newcomer};
 ghost use Rattle.version_cell.specs.Samples.{letter_of, one_letter, two_words, one_word, no_words, IsRest};
 
 use nwa_base::{Kind, Letter, Nwa, NwaFault, Word, accepts, empty, word};
-use race_core::{End, EndKind, Entry, Evidence, FinishRefused, Refused, Why};
+use race_core::{End, EndKind, Entry, Evidence, FinishRefused, Refused, Shared, Why};
 use std::alloc::Global;
 use std::sync::{Arc, Wait};
 use std::test::Fail;
@@ -116,18 +116,56 @@ fn cell(
     Ok(create(alloc, program, limit, shares)?)
 }
 
-/// What the pass reads.
-fn look<R: Wait>(
-    rt: &R,
-    cell: &VersionCell<Sample>,
-    pass: &mut Pass<Sample>,
-) -> Result<Snapshot, NwaFault>
+/// What the pass reads, or nothing where there is no memory for it.
+fn look<R: Wait>(rt: &R, cell: &VersionCell<Sample>, pass: &mut Pass<Sample>) -> Option<Snapshot>
     requires { IsPassOf cell.now pass.old }
-    ensures kept { IfOk result (λ s. (length pass.new.seen ≡ s.version) × Keeps (λ (x : Sample). x.nwa) pass.new.program pass.new.seen (arc_value s.kept)) }
+    ensures kept { IfSome result (λ s. (length pass.new.seen ≡ s.version) × Keeps (λ (x : Sample). x.nwa) pass.new.program pass.new.seen (arc_value s.kept)) }
     ensures of_cell { IsPassOf cell.now pass.new }
     ensures shares { (pass.new.shares ≡ pass.old.shares) × (pass.new.total ≡ pass.old.total) }
 {
-    Ok(cell.read(rt, pass)?)
+    cell.read(rt, pass).ok()
+}
+
+fn spells(entry: Option<&Entry<Sample>>, first: bool) -> bool {
+    match entry {
+        Some(entry) => entry.word.letters() == [letter(first)].as_slice(),
+        None => false,
+    }
+}
+
+/// What came of a publication.
+#[derive(Clone, Copy, Debug, PartialEq, Eq)]
+enum Told {
+    /// It made this version.
+    Published(u64),
+    /// It was refused for this reason. The entry came back, with an automaton of as many edges.
+    Refused(Why, usize),
+    /// It was refused, and another entry came back.
+    Changed,
+    /// The word is not left.
+    NotLeft,
+    /// There is no memory.
+    Nothing,
+}
+
+/// Whether the entry for the word b came back.
+fn is_whole(entry: &Entry<Sample>) -> bool {
+    spells(Some(entry), false) && entry.evidence.nwa().insides().len() == 1
+}
+
+type Offered = Result<Option<Result<u64, Refused<Sample>>>, NwaFault>;
+
+fn summary(offered: &Offered) -> Told {
+    match offered {
+        Ok(Some(Ok(version))) => Told::Published(*version),
+        Ok(Some(Err(refused))) => if is_whole(&refused.entry) {
+            Told::Refused(refused.why, refused.kept.insides().len())
+        } else {
+            Told::Changed
+        }
+        Ok(None) => Told::NotLeft,
+        Err(_) => Told::Nothing,
+    }
 }
 
 /// Publishes the word over what was read. `None` where it is not left.
@@ -153,6 +191,33 @@ fn offer<R: Wait>(
     Ok(Some(cell.publish(rt, pass, found.version, entry, kept)))
 }
 
+/// Publishes the word over what was read, where there is memory.
+fn offer_over<R: Wait>(
+    rt: &R,
+    alloc: Global,
+    cell: &VersionCell<Sample>,
+    pass: &mut Pass<Sample>,
+    found: &Option<Snapshot>,
+    first: bool,
+) -> Told
+    requires of_cell { IsPassOf cell.now pass.old × (cell.now.program ≡ two_words) }
+    requires found { IfSome found.now (λ s. (length pass.old.seen ≡ s.version) × Keeps (λ (x : Sample). x.nwa) pass.old.program pass.old.seen (arc_value s.kept)) }
+    ensures of_cell { IsPassOf cell.now pass.new }
+    ensures shares { (pass.new.shares ≡ pass.old.shares) × (pass.new.total ≡ pass.old.total) }
+{
+    match found {
+        Some(found) => summary(&offer(rt, alloc, cell, pass, found, first)),
+        None => Told::Nothing,
+    }
+}
+
+fn refusal(answer: &Result<(), FinishRefused>) -> Option<Why> {
+    match answer {
+        Ok(()) => None,
+        Err(refused) => Some(refused.why),
+    }
+}
+
 /// Ends the race as safe at the base. The reason of a refusal.
 fn finish<R: Wait>(
     rt: &R,
@@ -164,109 +229,17 @@ fn finish<R: Wait>(
     ensures of_cell { IsPassOf cell.now pass.new }
     ensures shares { (pass.new.shares ≡ pass.old.shares) × (pass.new.total ≡ pass.old.total) }
 {
-    match cell.finish(rt, pass, base, End::Safe) {
-        Ok(()) => None,
-        Err(FinishRefused { why, end: _ }) => Some(why),
+    refusal(&cell.finish(rt, pass, base, End::Safe))
+}
+
+/// The version that was read, how many words are left, and the end.
+type Read = (u64, usize, Option<EndKind>);
+
+fn shown(found: &Option<Snapshot>) -> Option<Read> {
+    match found {
+        Some(found) => Some((found.version, found.kept.insides().len(), found.ended)),
+        None => None,
     }
-}
-
-/// The version that was published.
-fn version(offered: Option<Result<u64, Refused<Sample>>>) -> Option<u64> {
-    match offered {
-        Some(Ok(version)) => Some(version),
-        Some(Err(_)) | None => None,
-    }
-}
-
-fn spells(entry: Option<&Entry<Sample>>, first: bool) -> bool {
-    match entry {
-        Some(entry) => entry.word.letters() == [letter(first)].as_slice(),
-        None => false,
-    }
-}
-
-/// The reason of a refusal, where the entry for the word b and an automaton of as many edges came back.
-fn why(offered: Option<Result<u64, Refused<Sample>>>, edges: usize) -> Option<Why> {
-    match offered {
-        Some(Err(refused)) => {
-            let whole = spells(Some(&refused.entry), false)
-                && refused.entry.evidence.nwa().insides().len() == 1
-                && refused.kept.insides().len() == edges;
-            if whole { Some(refused.why) } else { None }
-        }
-        Some(Ok(_)) | None => None,
-    }
-}
-
-/// Two passes publish a word each, the second after it has read again, and the first ends the race.
-#[test]
-fn two_words_in_turn(rt: HostRuntime) -> Result<(), Fail> {
-    let alloc = rt.alloc();
-    let (cell, mut first) = cell(alloc, 2, 2)?;
-    let mut second = cell.split(&mut first);
-    shared(&cell);
-    sent(&second);
-    let opening = look(&rt, &cell, &mut first)?;
-    let early = look(&rt, &cell, &mut second)?;
-    let one = version(offer(&rt, alloc, &cell, &mut first, &opening, true)?);
-    let stale = why(offer(&rt, alloc, &cell, &mut second, &early, false)?, 1);
-    let later = look(&rt, &cell, &mut second)?;
-    let two = version(offer(&rt, alloc, &cell, &mut second, &later, false)?);
-    let last = look(&rt, &cell, &mut first)?;
-    let refused = finish(&rt, &cell, &mut first, 1);
-    let finished = finish(&rt, &cell, &mut first, 2);
-    let ended = finish(&rt, &cell, &mut second, 2);
-    cell.join(&mut first, second);
-    let state = cell.close(first);
-    let history = state.history();
-    let right = [
-        one == Some(1),
-        stale == Some(Why::Stale { version: 1 }),
-        later.version == 1,
-        two == Some(2),
-        last.version == 2,
-        last.kept.insides().is_empty() & last.ended.is_none(),
-        refused == Some(Why::Stale { version: 2 }),
-        finished.is_none(),
-        ended == Some(Why::Ended(EndKind::Safe)),
-        history.len() == 2,
-        spells(history.first(), true),
-        spells(history.last(), false),
-        state.end().is_some(),
-    ];
-    assert!(rt; !right.contains(&false), "{right:?}");
-    Ok(())
-}
-
-/// With a limit of 1 a second entry is refused as `Full` at any base, and after the end everything as `Ended`.
-#[test]
-fn full_comes_before_stale(rt: HostRuntime) -> Result<(), Fail> {
-    let alloc = rt.alloc();
-    let (cell, mut first) = cell(alloc, 1, 2)?;
-    let mut second = cell.split(&mut first);
-    let opening = look(&rt, &cell, &mut first)?;
-    let early = look(&rt, &cell, &mut second)?;
-    let one = version(offer(&rt, alloc, &cell, &mut first, &opening, true)?);
-    let at_0 = why(offer(&rt, alloc, &cell, &mut second, &early, false)?, 1);
-    let later = look(&rt, &cell, &mut second)?;
-    let at_1 = why(offer(&rt, alloc, &cell, &mut second, &later, false)?, 0);
-    let stale = finish(&rt, &cell, &mut second, 0);
-    let finished = finish(&rt, &cell, &mut second, 1);
-    let ended = finish(&rt, &cell, &mut first, 1);
-    let last = look(&rt, &cell, &mut first)?;
-    let late = why(offer(&rt, alloc, &cell, &mut first, &last, false)?, 0);
-    let right = [
-        one == Some(1),
-        at_0 == Some(Why::Full { limit: 1 }),
-        at_1 == Some(Why::Full { limit: 1 }),
-        stale == Some(Why::Stale { version: 1 }),
-        finished.is_none(),
-        ended == Some(Why::Ended(EndKind::Safe)),
-        last.ended == Some(EndKind::Safe),
-        late == Some(Why::Ended(EndKind::Safe)),
-    ];
-    assert!(rt; !right.contains(&false), "{right:?}");
-    Ok(())
 }
 
 /// Reads and publishes once.
@@ -276,14 +249,155 @@ fn attempt<R: Wait>(
     cell: &VersionCell<Sample>,
     pass: &mut Pass<Sample>,
     first: bool,
-) -> Result<bool, NwaFault>
+) -> (Option<Read>, Told)
     requires { IsPassOf cell.now pass.old × (cell.now.program ≡ two_words) }
     ensures of_cell { IsPassOf cell.now pass.new }
     ensures shares { (pass.new.shares ≡ pass.old.shares) × (pass.new.total ≡ pass.old.total) }
 {
-    let found = look(rt, cell, pass)?;
-    let offered = offer(rt, alloc, cell, pass, &found, first)?;
-    Ok(version(offered).is_some())
+    let found = look(rt, cell, pass);
+    let told = offer_over(rt, alloc, cell, pass, &found, first);
+    (shown(&found), told)
+}
+
+/// Both passes read, then the first publishes a, and the second b over what it read before.
+fn both_offer<R: Wait>(
+    rt: &R,
+    alloc: Global,
+    cell: &VersionCell<Sample>,
+    first: &mut Pass<Sample>,
+    second: &mut Pass<Sample>,
+) -> [Told; 2]
+    requires of_cell { IsPassOf cell.now first.old × (cell.now.program ≡ two_words) }
+    requires second { IsPassOf cell.now second.old }
+    ensures first { IsPassOf cell.now first.new × (first.new.shares ≡ first.old.shares) × (first.new.total ≡ first.old.total) }
+    ensures second { IsPassOf cell.now second.new × (second.new.shares ≡ second.old.shares) × (second.new.total ≡ second.old.total) }
+{
+    let opening = look(rt, cell, first);
+    let early = look(rt, cell, second);
+    let one = offer_over(rt, alloc, cell, first, &opening, true);
+    let other = offer_over(rt, alloc, cell, second, &early, false);
+    [one, other]
+}
+
+/// The second publishes a word after it has read again, and the first ends the race.
+fn two_words<R: Wait>(
+    rt: &R,
+    alloc: Global,
+    cell: &VersionCell<Sample>,
+    first: &mut Pass<Sample>,
+    second: &mut Pass<Sample>,
+) -> [bool; 5]
+    requires of_cell { IsPassOf cell.now first.old × (cell.now.program ≡ two_words) }
+    requires second { IsPassOf cell.now second.old }
+    ensures first { IsPassOf cell.now first.new × (first.new.shares ≡ first.old.shares) × (first.new.total ≡ first.old.total) }
+    ensures second { IsPassOf cell.now second.new × (second.new.shares ≡ second.old.shares) × (second.new.total ≡ second.old.total) }
+{
+    let (later, two) = attempt(rt, alloc, cell, second, false);
+    let last = shown(&look(rt, cell, first));
+    let refused = finish(rt, cell, first, 1);
+    let finished = finish(rt, cell, first, 2);
+    let ended = finish(rt, cell, second, 2);
+    [
+        later == Some((1, 1, None)) && two == Told::Published(2),
+        last == Some((2, 0, None)),
+        refused == Some(Why::Stale { version: 2 }),
+        finished.is_none(),
+        ended == Some(Why::Ended(EndKind::Safe)),
+    ]
+}
+
+/// Whether the closed race has both words in this order, and an end.
+fn has_both(state: &Shared<Sample>) -> [bool; 4] {
+    let history = state.history();
+    [
+        history.len() == 2,
+        spells(history.first(), true),
+        spells(history.last(), false),
+        state.end().is_some(),
+    ]
+}
+
+/// Two passes publish a word each, and the first ends the race.
+fn words_in_turn<R: Wait>(
+    rt: &R,
+    alloc: Global,
+) -> Result<([Told; 2], [bool; 5], [bool; 4]), NwaFault> {
+    let (cell, mut first) = cell(alloc, 2, 2)?;
+    let mut second = cell.split(&mut first);
+    shared(&cell);
+    sent(&second);
+    let offered = both_offer(rt, alloc, &cell, &mut first, &mut second);
+    let words = two_words(rt, alloc, &cell, &mut first, &mut second);
+    cell.join(&mut first, second);
+    let state = cell.close(first);
+    Ok((offered, words, has_both(&state)))
+}
+
+/// What both passes are told of their first words: the second has read too early.
+const IN_TURN: [Told; 2] = [
+    Told::Published(1),
+    Told::Refused(Why::Stale { version: 1 }, 1),
+];
+
+#[test]
+fn two_words_in_turn(rt: HostRuntime) -> Result<(), Fail> {
+    let (offered, words, closed) = words_in_turn(&rt, rt.alloc())?;
+    assert!(rt; offered == IN_TURN, "{offered:?}");
+    assert!(rt;
+        words == [true; 5] && closed == [true; 4],
+        "{words:?} {closed:?}"
+    );
+    Ok(())
+}
+
+/// The second word is refused also over the last version; after the end everything is.
+fn full<R: Wait>(
+    rt: &R,
+    alloc: Global,
+    cell: &VersionCell<Sample>,
+    first: &mut Pass<Sample>,
+    second: &mut Pass<Sample>,
+) -> [bool; 5]
+    requires of_cell { IsPassOf cell.now first.old × (cell.now.program ≡ two_words) }
+    requires second { IsPassOf cell.now second.old }
+{
+    let (_, at_1) = attempt(rt, alloc, cell, second, false);
+    let stale = finish(rt, cell, second, 0);
+    let finished = finish(rt, cell, second, 1);
+    let ended = finish(rt, cell, first, 1);
+    let (last, late) = attempt(rt, alloc, cell, first, false);
+    let safe = Why::Ended(EndKind::Safe);
+    [
+        at_1 == Told::Refused(Why::Full { limit: 1 }, 0),
+        stale == Some(Why::Stale { version: 1 }),
+        finished.is_none(),
+        ended == Some(safe),
+        last == Some((1, 1, Some(EndKind::Safe))) && late == Told::Refused(safe, 0),
+    ]
+}
+
+fn full_race<R: Wait>(rt: &R, alloc: Global) -> Result<([Told; 2], [bool; 5]), NwaFault> {
+    let (cell, mut first) = cell(alloc, 1, 2)?;
+    let mut second = cell.split(&mut first);
+    let offered = both_offer(rt, alloc, &cell, &mut first, &mut second);
+    let after = full(rt, alloc, &cell, &mut first, &mut second);
+    Ok((offered, after))
+}
+
+/// What both passes are told where the limit is 1: the second has read too early, and is refused for the limit.
+const FULL: [Told; 2] = [Told::Published(1), Told::Refused(Why::Full { limit: 1 }, 1)];
+
+/// With a limit of 1 a second entry is refused as `Full` at any base, and after the end everything as `Ended`.
+#[test]
+fn full_comes_before_stale(rt: HostRuntime) -> Result<(), Fail> {
+    let (offered, after) = full_race(&rt, rt.alloc())?;
+    assert!(rt; offered == FULL, "{offered:?}");
+    assert!(rt; after == [true; 5], "{after:?}");
+    Ok(())
+}
+
+fn is_published(told: Told) -> bool {
+    matches!(told, Told::Published(_))
 }
 
 /// Reads and publishes, and once more. Where the other thread came first, the second time succeeds.
@@ -293,14 +407,14 @@ fn attempts<R: Wait>(
     cell: &VersionCell<Sample>,
     pass: &mut Pass<Sample>,
     first: bool,
-) -> Result<bool, NwaFault>
+) -> bool
     requires { IsPassOf cell.now pass.old × (cell.now.program ≡ two_words) }
     ensures of_cell { IsPassOf cell.now pass.new }
     ensures shares { (pass.new.shares ≡ pass.old.shares) × (pass.new.total ≡ pass.old.total) }
 {
-    let once = attempt(rt, alloc, cell, pass, first)?;
-    let twice = attempt(rt, alloc, cell, pass, first)?;
-    Ok(once | twice)
+    let (_, once) = attempt(rt, alloc, cell, pass, first);
+    let (_, twice) = attempt(rt, alloc, cell, pass, first);
+    is_published(once) | is_published(twice)
 }
 
 /// What one of two threads does.
@@ -310,7 +424,7 @@ fn work<R: Wait>(
     cell: &VersionCell<Sample>,
     pass: Pass<Sample>,
     first: bool,
-) -> (Result<bool, NwaFault>, Pass<Sample>)
+) -> (bool, Pass<Sample>)
     requires { IsPassOf cell.now pass × (cell.now.program ≡ two_words) }
     ensures of_cell { IsPassOf cell.now result.1 }
     ensures shares { (result.1.shares ≡ pass.shares) × (result.1.total ≡ pass.total) }
@@ -327,17 +441,17 @@ fn both_work<R: Threads + Wait + Sync>(
     cell: &VersionCell<Sample>,
     one: Pass<Sample>,
     two: Pass<Sample>,
-) -> (Result<bool, NwaFault>, Result<bool, NwaFault>, Pass<Sample>)
+) -> (bool, Pass<Sample>)
     requires { IsPassOf cell.now one × IsPassOf cell.now two × (cell.now.program ≡ two_words) }
-    ensures { IsPassOf cell.now result.2 × (result.2.shares ≡ one.shares + two.shares) × (result.2.total ≡ one.total) }
+    ensures { IsPassOf cell.now result.1 × (result.1.shares ≡ one.shares + two.shares) × (result.1.total ≡ one.total) }
 {
     let (one, two) = join(
         rt,
-        || -> (Result<bool, NwaFault>, Pass<Sample>)
+        || -> (bool, Pass<Sample>)
             requires { IsPassOf cell.now one × (cell.now.program ≡ two_words) }
             ensures { IsPassOf cell.entry.now result.1 × (result.1.shares ≡ one.shares) × (result.1.total ≡ one.total) }
         { work(rt, alloc, cell, one, true) },
-        || -> (Result<bool, NwaFault>, Pass<Sample>)
+        || -> (bool, Pass<Sample>)
             requires { IsPassOf cell.now two × (cell.now.program ≡ two_words) }
             ensures { IsPassOf cell.entry.now result.1 × (result.1.shares ≡ two.shares) × (result.1.total ≡ two.total) }
         { work(rt, alloc, cell, two, false) },
@@ -345,21 +459,33 @@ fn both_work<R: Threads + Wait + Sync>(
     let (one_done, mut pass) = one;
     let (two_done, other) = two;
     cell.join(&mut pass, other);
-    (one_done, two_done, pass)
+    (one_done & two_done, pass)
+}
+
+/// Whether both words stand in the history, in either order.
+fn are_words(history: &[Entry<Sample>]) -> bool {
+    let in_order = spells(history.first(), true) & spells(history.last(), false);
+    let in_other_order = spells(history.first(), false) & spells(history.last(), true);
+    (history.len() == 2) & (in_order | in_other_order)
+}
+
+/// Whether both threads have published, and whether the closed history has both words.
+fn words_of_threads<R: Threads + Wait + Sync>(
+    rt: &R,
+    alloc: Global,
+) -> Result<(bool, bool), NwaFault> {
+    let (cell, mut first) = cell(alloc, 2, 2)?;
+    let second = cell.split(&mut first);
+    let (done, pass) = both_work(rt, alloc, &cell, first, second);
+    let state = cell.close(pass);
+    Ok((done, are_words(state.history())))
 }
 
 /// Two threads publish a word each, and the closed history has both.
 #[test]
 fn two_threads(rt: HostRuntime) -> Result<(), Fail> {
-    let alloc = rt.alloc();
-    let (cell, mut first) = cell(alloc, 2, 2)?;
-    let second = cell.split(&mut first);
-    let (one, two, pass) = both_work(&rt, alloc, &cell, first, second);
-    let state = cell.close(pass);
-    let history = state.history();
-    let in_order = spells(history.first(), true) & spells(history.last(), false);
-    let in_other_order = spells(history.first(), false) & spells(history.last(), true);
-    assert!(rt; one? & two? & (history.len() == 2) & (in_order | in_other_order));
+    let found = words_of_threads(&rt, rt.alloc())?;
+    assert!(rt; found == (true, true), "{found:?}");
     Ok(())
 }
 
@@ -375,25 +501,36 @@ fn split_and_join(cell: &VersionCell<Sample>, pass: &mut Pass<Sample>, times: u6
     }
 }
 
+/// The version of the closed race, and whether it has an end.
+fn closed(alloc: Global) -> Result<(u64, bool), NwaFault> {
+    let (cell, mut pass) = cell(alloc, 1, 64)?;
+    split_and_join(&cell, &mut pass, 63);
+    let state = cell.close(pass);
+    Ok((state.version(), state.end().is_some()))
+}
+
 /// 64 passes at one time, which are joined and closed.
 #[test]
 fn many_passes(rt: HostRuntime) -> Result<(), Fail> {
-    let (cell, mut pass) = cell(rt.alloc(), 1, 64)?;
-    split_and_join(&cell, &mut pass, 63);
-    let state = cell.close(pass);
-    assert!(rt; (state.version() == 0) & state.end().is_none());
+    let found = closed(rt.alloc())?;
+    assert!(rt; found == (0, false), "{found:?}");
     Ok(())
+}
+
+/// Publishes with one pass where the other was dropped, and ends the race.
+fn with_one_left<R: Wait>(rt: &R, alloc: Global) -> Result<(bool, Option<Why>), NwaFault> {
+    let (cell, mut first) = cell(alloc, 2, 2)?;
+    let dropped = cell.split(&mut first);
+    drop(dropped);
+    let (_, told) = attempt(rt, alloc, &cell, &mut first, true);
+    let refused = finish(rt, &cell, &mut first, 1);
+    Ok((is_published(told), refused))
 }
 
 /// A pass that is dropped keeps its shares, and the others go on.
 #[test]
 fn a_dropped_pass(rt: HostRuntime) -> Result<(), Fail> {
-    let alloc = rt.alloc();
-    let (cell, mut first) = cell(alloc, 2, 2)?;
-    let dropped = cell.split(&mut first);
-    drop(dropped);
-    let done = attempt(&rt, alloc, &cell, &mut first, true)?;
-    let finished = finish(&rt, &cell, &mut first, 1);
-    assert!(rt; done & finished.is_none());
+    let found = with_one_left(&rt, rt.alloc())?;
+    assert!(rt; found == (true, None), "{found:?}");
     Ok(())
 }

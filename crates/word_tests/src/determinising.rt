@@ -1,61 +1,89 @@
-use nwa_base::{Kind, Letter, Nwa, NwaFault, empty};
+ghost use Rattle.std.specs.Prelude.{◌<◌, length, IfOk};
+
+use crate::making::{A, C, R, automaton};
+use nwa_base::NwaFault;
 use nwa_determinise::*;
-use std::alloc::Global;
+use std::alloc::{AllocError, Global};
 use std::test::Fail;
 
-const A: Letter = Letter {
-    id: 0,
-    kind: Kind::Inside,
-    call: 0,
-};
-
-const C: Letter = Letter {
-    id: 1,
-    kind: Kind::Call,
-    call: 0,
-};
-
-const R: Letter = Letter {
-    id: 2,
-    kind: Kind::Back,
-    call: 1,
-};
-
 /// Returns read the state before their call: from 0 a call returns to 3, which is final, from 1 to 4.
-fn remembers(alloc: Global) -> Result<Nwa, NwaFault> {
-    let mut nwa = empty(alloc, 5, 0)?;
-    nwa.set_final(3)?;
-    nwa.add_inside(0, A, 1)?;
-    nwa.add_call(0, C, 2)?;
-    nwa.add_call(1, C, 2)?;
-    nwa.add_back(2, 0, R, 3)?;
-    nwa.add_back(2, 1, R, 4)?;
-    Ok(nwa)
+const REMEMBERS: &str = "f3 i0A1 c0C2 c1C2 r20R3 r21R4";
+
+fn start(sets: &mut Det<'_>) -> Result<u32, AllocError>
+    ensures { IfOk result (λ s. s < length sets.new.sets) }
+{
+    sets.start()
 }
 
-/// After `C R`, whose call was made in 0. The set is worked out by hand from the edges.
+fn step(sets: &mut Det<'_>, from: u32) -> Result<u32, AllocError>
+    requires { from < length sets.old.sets }
+    ensures { IfOk result (λ s. s < length sets.new.sets) }
+{
+    sets.on_inside(from, A)
+}
+
+/// Makes the call. The set before it stays.
+fn call(sets: &mut Det<'_>, before: u32) -> Result<u32, AllocError>
+    requires { before < length sets.old.sets }
+    ensures made { IfOk result (λ s. s < length sets.new.sets) }
+    ensures stays { IfOk result (λ s. before < length sets.new.sets) }
+{
+    sets.on_call(before, C)
+}
+
+/// Returns from the call that was made after a set.
+fn back(sets: &mut Det<'_>, from: u32, before: u32) -> Result<u32, AllocError>
+    requires from { from < length sets.old.sets }
+    requires before { before < length sets.old.sets }
+    ensures { IfOk result (λ s. s < length sets.new.sets) }
+{
+    sets.on_back(from, before, R)
+}
+
+/// After `C R`, whose call was made in 0: whether the pair is that from 0 to 3, and whether the set after `C R` and that after `C` accept.
+fn returned_from_start(sets: &mut Det<'_>) -> Result<[bool; 3], AllocError> {
+    let first = start(sets)?;
+    let called = call(sets, first)?;
+    let open = sets.accepting(called);
+    let back = back(sets, called, first)?;
+    let right = sets.pairs(back) == [(0, 3)].as_slice();
+    Ok([right, sets.accepting(back), open])
+}
+
+/// After `A C R`, which differs from `C R` only in the state before its call: whether the pair is that from 0 to 4, and whether the set
+/// accepts.
+fn returned_from_another(sets: &mut Det<'_>) -> Result<[bool; 2], AllocError> {
+    let first = start(sets)?;
+    let moved = step(sets, first)?;
+    let called = call(sets, moved)?;
+    let back = back(sets, called, moved)?;
+    let right = sets.pairs(back) == [(0, 4)].as_slice();
+    Ok([right, sets.accepting(back)])
+}
+
+fn from_start(alloc: Global) -> Result<[bool; 3], NwaFault> {
+    let nwa = automaton(alloc, 5, REMEMBERS)?;
+    let mut sets = det(alloc, &nwa)?;
+    Ok(returned_from_start(&mut sets)?)
+}
+
+fn from_another(alloc: Global) -> Result<[bool; 2], NwaFault> {
+    let nwa = automaton(alloc, 5, REMEMBERS)?;
+    let mut sets = det(alloc, &nwa)?;
+    Ok(returned_from_another(&mut sets)?)
+}
+
+/// The sets are worked out by hand from the edges.
 #[test]
 fn a_call_from_the_start_returns(rt: HostRuntime) -> Result<(), Fail> {
-    let nwa = remembers(rt.alloc())?;
-    let mut sets = det(rt.alloc(), &nwa)?;
-    let first = sets.start()?;
-    let called = sets.on_call(first, C)?;
-    let back = sets.on_back(called, first, R)?;
-    let right = sets.pairs(back) == [(0, 3)].as_slice();
-    assert!(rt; right & sets.accepting(back) & !sets.accepting(called));
+    let found = from_start(rt.alloc())?;
+    assert!(rt; found == [true, true, false], "{found:?}");
     Ok(())
 }
 
-/// After `A C R`, which differs from `C R` only in the state before its call.
 #[test]
 fn another_state_before_the_call_is_told_apart(rt: HostRuntime) -> Result<(), Fail> {
-    let nwa = remembers(rt.alloc())?;
-    let mut sets = det(rt.alloc(), &nwa)?;
-    let first = sets.start()?;
-    let moved = sets.on_inside(first, A)?;
-    let called = sets.on_call(moved, C)?;
-    let back = sets.on_back(called, moved, R)?;
-    let right = sets.pairs(back) == [(0, 4)].as_slice();
-    assert!(rt; right & !sets.accepting(back));
+    let found = from_another(rt.alloc())?;
+    assert!(rt; found == [true, false], "{found:?}");
     Ok(())
 }

@@ -12,6 +12,8 @@ mod differences;
 #[cfg(test)]
 mod emptiness;
 #[cfg(test)]
+mod making;
+#[cfg(test)]
 mod races;
 #[cfg(test)]
 mod reducing;

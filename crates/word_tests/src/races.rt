@@ -3,7 +3,7 @@ ghost use Rattle.race_core.specs.Samples.{empty_word, no_word};
 
 use nwa_base::{Nwa, NwaFault, Word, empty, word};
 use race_core::{
-    Cause, End, EndKind, Entry, Event, Evidence, Outcome, Shared, Why, shared as open,
+    Cause, End, EndKind, Entry, Event, Evidence, Outcome, Refused, Shared, Why, shared as open,
 };
 use std::alloc::Global;
 use std::sync::Arc;
@@ -68,110 +68,196 @@ fn race(alloc: Global, limit: u64) -> Result<Shared<Sample>, Fail>
     Ok(open(alloc, program, limit)?)
 }
 
+/// What came of an event.
+#[derive(Clone, Copy, Debug, PartialEq, Eq)]
+enum Told {
+    /// The version that was read.
+    Seen(u64),
+    /// The version that was made.
+    Published(u64),
+    Finished,
+    /// The reason of a refusal, where what was handed in came back.
+    Refused(Why),
+    /// Something else came back.
+    Changed,
+}
+
+/// Whether the entry for the empty word and the automaton of nothing came back.
+fn is_whole(refused: &Refused<Sample>) -> bool {
+    refused.entry.word.letters().is_empty()
+        && refused.entry.evidence.nwa().is_final(0)
+        && refused.kept.finals().is_empty()
+}
+
+fn summary(outcome: &Outcome<Sample>) -> Told {
+    match outcome {
+        Outcome::Seen { version } => Told::Seen(*version),
+        Outcome::Published { version } => Told::Published(*version),
+        Outcome::Finished => Told::Finished,
+        Outcome::NotPublished(refused) if is_whole(refused) => Told::Refused(refused.why),
+        Outcome::NotFinished(refused) if refused.end.kind() == EndKind::Safe => Told::Refused(
+            refused.why,
+        ),
+        _ => Told::Changed,
+    }
+}
+
+fn read(state: &mut Shared<Sample>) -> Told
+    ensures { state.new.program ≡ state.old.program }
+{
+    summary(&state.apply(Event::Read { worker: 0 }))
+}
+
 /// Publishes the entry for the empty word at base 0.
-fn publish(alloc: Global, state: &mut Shared<Sample>) -> Result<Outcome<Sample>, Fail>
+fn publish(alloc: Global, state: &mut Shared<Sample>) -> Result<Told, Fail>
     requires { state.old.program ≡ empty_word }
     ensures { state.new.program ≡ empty_word }
 {
     let entry = entry(alloc)?;
     let kept = Arc::new(alloc, automaton_of_nothing(alloc)?)?;
-    Ok(state.apply(Event::Publish {
+    Ok(summary(&state.apply(Event::Publish {
         worker: 0,
         base: 0,
         entry,
         kept,
+    })))
+}
+
+/// Ends the race as safe.
+fn finish(state: &mut Shared<Sample>, base: u64) -> Told
+    ensures { state.new.program ≡ state.old.program }
+{
+    summary(&state.apply(Event::Finish {
+        worker: 0,
+        base,
+        end: End::Safe,
     }))
 }
 
-fn finish(state: &mut Shared<Sample>, base: u64, end: End) -> Outcome<Sample>
-    ensures { state.new.program ≡ state.old.program }
+/// Reads, publishes twice, and ends the race too early.
+fn open_race(alloc: Global, state: &mut Shared<Sample>) -> Result<[Told; 4], Fail>
+    requires { state.old.program ≡ empty_word }
+    ensures { state.new.program ≡ empty_word }
 {
-    state.apply(Event::Finish {
-        worker: 0,
-        base,
-        end,
-    })
+    let seen = read(state);
+    let one = publish(alloc, state)?;
+    let two = publish(alloc, state)?;
+    Ok([seen, one, two, finish(state, 0)])
 }
 
-/// The reason of a refusal, where what was handed in came back.
-fn why(outcome: Outcome<Sample>) -> Option<Why> {
-    match outcome {
-        Outcome::NotPublished(refused) => {
-            let whole = refused.entry.word.letters().is_empty()
-                && refused.entry.evidence.nwa().is_final(0)
-                && refused.kept.finals().is_empty();
-            if whole { Some(refused.why) } else { None }
-        }
-        Outcome::NotFinished(refused) => {
-            if refused.end.kind() == EndKind::Safe {
-                Some(refused.why)
-            } else {
-                None
-            }
-        }
-        _ => None,
-    }
+const OPEN: [Told; 4] = [
+    Told::Seen(0),
+    Told::Published(1),
+    Told::Refused(Why::Stale { version: 1 }),
+    Told::Refused(Why::Stale { version: 1 }),
+];
+
+/// Ends the race, publishes, and ends it again.
+fn ended_race(alloc: Global, state: &mut Shared<Sample>) -> Result<[Told; 3], Fail>
+    requires { state.old.program ≡ empty_word }
+{
+    let finished = finish(state, 1);
+    let late = publish(alloc, state)?;
+    Ok([finished, late, finish(state, 1)])
 }
 
-fn version_of(outcome: Outcome<Sample>) -> Option<u64> {
-    match outcome {
-        Outcome::Seen { version } | Outcome::Published { version } => Some(version),
-        _ => None,
-    }
+const ENDED: [Told; 3] = [
+    Told::Finished,
+    Told::Refused(Why::Ended(EndKind::Safe)),
+    Told::Refused(Why::Ended(EndKind::Safe)),
+];
+
+/// Whether it is open with room for one entry.
+fn has_room(state: &Shared<Sample>) -> bool {
+    state.end().is_none() && state.sized() == 1
+}
+
+/// Whether it has ended with one entry, and nothing is left.
+fn has_ended(state: &Shared<Sample>) -> [bool; 4] {
+    [
+        state.version() == 1,
+        state.history().len() == 1,
+        state.kept().finals().is_empty(),
+        state.end().is_some(),
+    ]
+}
+
+/// What is told before the end and after it, and whether the race is then as it should be.
+fn raced(
+    alloc: Global,
+    state: &mut Shared<Sample>,
+) -> Result<([Told; 4], bool, [Told; 3], [bool; 4]), Fail>
+    requires { state.old.program ≡ empty_word }
+{
+    let before = open_race(alloc, state)?;
+    let room = has_room(state);
+    let after = ended_race(alloc, state)?;
+    Ok((before, room, after, has_ended(state)))
+}
+
+fn race_of_two(alloc: Global) -> Result<([Told; 4], bool, [Told; 3], [bool; 4]), Fail> {
+    let mut state = race(alloc, 2)?;
+    shared(&state);
+    raced(alloc, &mut state)
 }
 
 #[test]
 fn one_entry_and_an_end(rt: HostRuntime) -> Result<(), Fail> {
-    let alloc = rt.alloc();
-    let mut state = race(alloc, 2)?;
-    shared(&state);
-    assert_eq!(rt; version_of(state.apply(Event::Read { worker: 0 })), Some(0));
-    assert_eq!(rt; version_of(publish(alloc, &mut state)?), Some(1));
-    assert_eq!(rt;
-        why(publish(alloc, &mut state)?),
-        Some(Why::Stale { version: 1 })
-    );
-    assert_eq!(rt;
-        why(finish(&mut state, 0, End::Safe)),
-        Some(Why::Stale { version: 1 })
-    );
-    assert!(rt; state.end().is_none() && state.sized() == 1);
-    assert!(rt; matches!(finish(&mut state, 1, End::Safe), Outcome::Finished));
-    let ended = Some(Why::Ended(EndKind::Safe));
-    assert_eq!(rt; why(publish(alloc, &mut state)?), ended);
-    assert_eq!(rt; why(finish(&mut state, 1, End::Safe)), ended);
-    assert!(rt; state.version() == 1 && state.history().len() == 1);
-    assert!(rt; state.kept().finals().is_empty() && state.end().is_some());
+    let (before, room, after, ended) = race_of_two(rt.alloc())?;
+    assert!(rt; before == OPEN, "{before:?}");
+    assert!(rt; after == ENDED, "{after:?}");
+    assert!(rt; room && ended == [true; 4], "{room} {ended:?}");
     Ok(())
 }
+
+/// Publishes twice.
+fn twice(alloc: Global, state: &mut Shared<Sample>) -> Result<[Told; 2], Fail>
+    requires { state.old.program ≡ empty_word }
+{
+    let one = publish(alloc, state)?;
+    Ok([one, publish(alloc, state)?])
+}
+
+fn race_of_one(alloc: Global) -> Result<[Told; 2], Fail> {
+    let mut state = race(alloc, 1)?;
+    twice(alloc, &mut state)
+}
+
+const FULL: [Told; 2] = [Told::Published(1), Told::Refused(Why::Full { limit: 1 })];
 
 #[test]
 fn full_comes_before_stale(rt: HostRuntime) -> Result<(), Fail> {
-    let alloc = rt.alloc();
-    let mut state = race(alloc, 1)?;
-    assert_eq!(rt; version_of(publish(alloc, &mut state)?), Some(1));
-    assert_eq!(rt;
-        why(publish(alloc, &mut state)?),
-        Some(Why::Full { limit: 1 })
-    );
+    let found = race_of_one(rt.alloc())?;
+    assert!(rt; found == FULL, "{found:?}");
     Ok(())
 }
 
-#[test]
-fn ends_have_kinds(rt: HostRuntime) -> Result<(), Fail> {
-    let alloc = rt.alloc();
+/// The kind of an end in an error.
+fn kind_of_error(alloc: Global) -> Result<EndKind, Fail> {
+    let word = no_letters(alloc)?;
+    let choices = Vec::new(alloc);
     let found = End::Unsafe {
-        word: no_letters(alloc)?,
+        word,
         steps: 1,
-        choices: Vec::new(alloc),
+        choices,
     };
+    Ok(found.kind())
+}
+
+/// The kind of an end without an answer.
+fn kind_of_unknown(alloc: Global) -> Result<EndKind, Fail> {
     let unknown = End::Unknown {
         cause: Cause::Whole,
         word: no_letters(alloc)?,
     };
-    assert_eq!(rt;
-        [found.kind(), unknown.kind()],
-        [EndKind::Unsafe, EndKind::Unknown(Cause::Whole)]
-    );
+    Ok(unknown.kind())
+}
+
+#[test]
+fn ends_have_kinds(rt: HostRuntime) -> Result<(), Fail> {
+    let found = kind_of_error(rt.alloc())?;
+    let unknown = kind_of_unknown(rt.alloc())?;
+    let right = found == EndKind::Unsafe && unknown == EndKind::Unknown(Cause::Whole);
+    assert!(rt; right, "{found:?} {unknown:?}");
     Ok(())
 }

@@ -1,200 +1,122 @@
-use nwa_base::{Kind, Letter, Nwa, NwaFault, accepts, empty, word};
+use crate::making::{automaton, letters};
+use nwa_base::{Nwa, NwaFault, accepts, word};
 use nwa_reduce::*;
-use std::alloc::Global;
-use std::process::Abort;
+use std::alloc::{AllocError, Global};
 use std::test::Fail;
 
-const A: Letter = Letter {
-    id: 0,
-    kind: Kind::Inside,
-    call: 0,
-};
+/// How many states an automaton has, its final states and edges, how many states it has when it is reduced, and words with whether it
+/// accepts them.
+type Row = (u32, &'static str, u32, &'static [(&'static str, bool)]);
 
-const B: Letter = Letter {
-    id: 1,
-    kind: Kind::Inside,
-    call: 0,
-};
+const REDUCED: [Row; 6] = [
+    // The two final states are twins.
+    (
+        3,
+        "f1 f2 i0A1 i0B2",
+        2,
+        &[("A", true), ("B", true), ("", false), ("AA", false)],
+    ),
+    // 3 and 4 are twins, and where they are one state 1 and 2 are. 5 is like 1, but that it is final.
+    (
+        6,
+        "f3 f4 f5 i0A1 i0B2 i1B3 i2B4 i3A5 i5B3 i4A5",
+        4,
+        &[
+            ("AB", true),
+            ("BB", true),
+            ("A", false),
+            ("BBA", true),
+            ("ABAA", false),
+        ],
+    ),
+    // 1 and 2 are twins: they call 3, and its return names either. 4 is no twin of 1, since its return leads elsewhere.
+    (
+        6,
+        "f5 i0A1 i0B2 i5A4 c1C3 c2C3 c4C3 r31R5 r32R5 r34R0",
+        5,
+        &[
+            ("ACR", true),
+            ("BCR", true),
+            ("BC", false),
+            ("ACRACR", false),
+            ("ACRACRBCR", true),
+        ],
+    ),
+    // No edge leads to 3, so no return follows the edge that names it, and no way leads on from 2. A call of 4 stays open.
+    (
+        5,
+        "f1 i0A1 i0B2 i4B1 c3C2 c0C4 r23R1",
+        3,
+        &[("A", true), ("B", false), ("CB", true), ("CBR", false)],
+    ),
+    // No way leads to a final state.
+    (3, "f2 i0A1 i1A1", 1, &[("", false), ("A", false)]),
+    // No two states of the ring are twins. One of its edges stands there twice.
+    (
+        3,
+        "f0 i0A1 i0A1 i1A2 i2A0",
+        3,
+        &[("", true), ("AAA", true), ("AA", false)],
+    ),
+];
 
-const C: Letter = Letter {
-    id: 2,
-    kind: Kind::Call,
-    call: 0,
-};
-
-const R: Letter = Letter {
-    id: 3,
-    kind: Kind::Back,
-    call: 2,
-};
-
-/// What an automaton with the start 0 is built of, and how many states it has when it is reduced.
-#[derive(Clone, Copy)]
-struct Built {
-    states: u32,
-    finals: &'static [u32],
-    insides: &'static [(u32, Letter, u32)],
-    calls: &'static [(u32, Letter, u32)],
-    backs: &'static [(u32, u32, Letter, u32)],
-    reduced: u32,
+/// Whether the automaton accepts letters, or nothing where they are no word.
+fn takes(alloc: Global, nwa: &Nwa, names: &str) -> Result<Option<bool>, AllocError> {
+    match word(letters(alloc, names)?) {
+        Some(word) => Ok(Some(accepts(alloc, nwa, &word)?)),
+        None => Ok(None),
+    }
 }
 
-/// The two final states are twins.
-const TWO_ENDS: Built = Built {
-    states: 3,
-    finals: &[1, 2],
-    insides: &[(0, A, 1), (0, B, 2)],
-    calls: &[],
-    backs: &[],
-    reduced: 2,
-};
-
-const TWO_ENDS_WORDS: [(&[Letter], bool); 4] = [
-    (&[A], true),
-    (&[B], true),
-    (&[], false),
-    (&[A, A], false),
-];
-
-/// 3 and 4 are twins, and where they are one state 1 and 2 are. 5 is like 1, but that it is final.
-const TWINS_AFTER_TWINS: Built = Built {
-    states: 6,
-    finals: &[3, 4, 5],
-    insides: &[
-        (0, A, 1),
-        (0, B, 2),
-        (1, B, 3),
-        (2, B, 4),
-        (3, A, 5),
-        (5, B, 3),
-        (4, A, 5),
-    ],
-    calls: &[],
-    backs: &[],
-    reduced: 4,
-};
-
-const TWINS_AFTER_TWINS_WORDS: [(&[Letter], bool); 5] = [
-    (&[A, B], true),
-    (&[B, B], true),
-    (&[A], false),
-    (&[B, B, A], true),
-    (&[A, B, A, A], false),
-];
-
-/// 1 and 2 are twins: they call 3, and its return names either. 4 is no twin of 1, since its return leads elsewhere.
-const NAMED_TWINS: Built = Built {
-    states: 6,
-    finals: &[5],
-    insides: &[(0, A, 1), (0, B, 2), (5, A, 4)],
-    calls: &[(1, C, 3), (2, C, 3), (4, C, 3)],
-    backs: &[(3, 1, R, 5), (3, 2, R, 5), (3, 4, R, 0)],
-    reduced: 5,
-};
-
-const NAMED_TWINS_WORDS: [(&[Letter], bool); 5] = [
-    (&[A, C, R], true),
-    (&[B, C, R], true),
-    (&[B, C], false),
-    (&[A, C, R, A, C, R], false),
-    (&[A, C, R, A, C, R, B, C, R], true),
-];
-
-/// No edge leads to 3, so no return follows the edge that names it, and no way leads on from 2. A call of 4 stays open.
-const DEAD_END_BEHIND_A_RETURN: Built = Built {
-    states: 5,
-    finals: &[1],
-    insides: &[(0, A, 1), (0, B, 2), (4, B, 1)],
-    calls: &[(3, C, 2), (0, C, 4)],
-    backs: &[(2, 3, R, 1)],
-    reduced: 3,
-};
-
-const DEAD_END_BEHIND_A_RETURN_WORDS: [(&[Letter], bool); 4] = [
-    (&[A], true),
-    (&[B], false),
-    (&[C, B], true),
-    (&[C, B, R], false),
-];
-
-/// No way leads to a final state.
-const NOTHING: Built = Built {
-    states: 3,
-    finals: &[2],
-    insides: &[(0, A, 1), (1, A, 1)],
-    calls: &[],
-    backs: &[],
-    reduced: 1,
-};
-
-const NOTHING_WORDS: [(&[Letter], bool); 2] = [(&[], false), (&[A], false)];
-
-/// No two states of the ring are twins. One of its edges stands there twice.
-const RING: Built = Built {
-    states: 3,
-    finals: &[0],
-    insides: &[(0, A, 1), (0, A, 1), (1, A, 2), (2, A, 0)],
-    calls: &[],
-    backs: &[],
-    reduced: 3,
-};
-
-const RING_WORDS: [(&[Letter], bool); 3] = [(&[], true), (&[A, A, A], true), (&[A, A], false)];
-
-/// The automata, with words for each, and whether it accepts them.
-const CASES: [(Built, &[(&[Letter], bool)]); 6] = [
-    (TWO_ENDS, &TWO_ENDS_WORDS),
-    (TWINS_AFTER_TWINS, &TWINS_AFTER_TWINS_WORDS),
-    (NAMED_TWINS, &NAMED_TWINS_WORDS),
-    (DEAD_END_BEHIND_A_RETURN, &DEAD_END_BEHIND_A_RETURN_WORDS),
-    (NOTHING, &NOTHING_WORDS),
-    (RING, &RING_WORDS),
-];
-
-fn automaton(alloc: Global, built: Built) -> Result<Nwa, NwaFault> {
-    let mut nwa = empty(alloc, built.states, 0)?;
-    for &q in built.finals {
-        nwa.set_final(q)?;
-    }
-    for &(q, a, to) in built.insides {
-        nwa.add_inside(q, a, to)?;
-    }
-    for &(q, a, to) in built.calls {
-        nwa.add_call(q, a, to)?;
-    }
-    for &(q, p, a, to) in built.backs {
-        nwa.add_back(q, p, a, to)?;
-    }
-    Ok(nwa)
-}
-
-/// Whether the automaton accepts the word.
-fn takes(alloc: Global, nwa: &Nwa, letters: &[Letter]) -> Result<bool, Fail> {
-    let word = word(Vec::from_slice(alloc, letters)?).ok_or("a return is pending")?;
-    Ok(accepts(alloc, nwa, &word)?)
-}
-
-fn assert_reduced(
-    rt: &impl Abort,
+/// The first word that one of the automata accepts and should not, or does not and should.
+fn first_wrong_word(
     alloc: Global,
-    built: Built,
-    words: &[(&[Letter], bool)],
-) -> Result<(), Fail> {
-    let nwa = automaton(alloc, built)?;
-    let reduced = reduce(alloc, &nwa)?;
-    assert_eq!(rt; reduced.states(), built.reduced);
-    for &(letters, wanted) in words {
-        let before = takes(alloc, &nwa, letters)?;
-        let after = takes(alloc, &reduced, letters)?;
-        assert!(rt; (before == wanted) & (after == wanted), "{letters:?}");
+    nwa: &Nwa,
+    reduced: &Nwa,
+    words: &[(&'static str, bool)],
+) -> Result<Option<&'static str>, AllocError> {
+    for (names, wanted) in words {
+        let before = takes(alloc, nwa, names)?;
+        let after = takes(alloc, reduced, names)?;
+        if before != Some(*wanted) || after != Some(*wanted) {
+            return Ok(Some(names));
+        }
     }
-    Ok(())
+    Ok(None)
+}
+
+/// How many states the reduced automaton has, and the first word that is wrong.
+type Reduction = (u32, Option<&'static str>);
+
+fn reduction_of(
+    alloc: Global,
+    nwa: &Nwa,
+    words: &[(&'static str, bool)],
+) -> Result<Reduction, AllocError> {
+    let reduced = reduce(alloc, nwa)?;
+    let wrong = first_wrong_word(alloc, nwa, &reduced, words)?;
+    Ok((reduced.states(), wrong))
+}
+
+fn reduction(alloc: Global, row: &Row) -> Result<Reduction, NwaFault> {
+    let nwa = automaton(alloc, row.0, row.1)?;
+    Ok(reduction_of(alloc, &nwa, row.3)?)
+}
+
+/// The edges of the first automaton that is reduced otherwise, with what was found.
+fn first_wrong(alloc: Global) -> Result<Option<(&'static str, u32)>, NwaFault> {
+    for row in &REDUCED {
+        let (states, wrong) = reduction(alloc, row)?;
+        if states != row.2 || wrong.is_some() {
+            return Ok(Some((wrong.unwrap_or(row.1), states)));
+        }
+    }
+    Ok(None)
 }
 
 #[test]
 fn automata_are_reduced(rt: HostRuntime) -> Result<(), Fail> {
-    for (built, words) in CASES {
-        assert_reduced(&rt, rt.alloc(), built, words)?;
-    }
+    let wrong = first_wrong(rt.alloc())?;
+    assert!(rt; wrong.is_none(), "{wrong:?}");
     Ok(())
 }
