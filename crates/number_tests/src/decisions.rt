@@ -1,15 +1,18 @@
+use crate::making::system_of;
 use farkas_check::Node;
 use int_decide::*;
-use lin_rows::{Row, RowKind, System, row};
+use lin_rows::System;
 use std::alloc::{AllocError, Global};
 use std::test::Fail;
 
-// Systems over the columns below a number, and what Decide answers at the depths 0, 1 and 2; the last text holds for the depths
-// after it, too. A row gives the coefficients of the columns from 0 on; groups follow in braces, the members parted by `|`.
-// `W 5 -2` is a whole point, `G` a gap and `P` a number that does not fit. Else these are the nodes of a refutation: `L 0:1 1:-1`
-// is a leaf with its parts, `C 1 2` a cut of column 1 at 2, and `A 3` cases of 3 members. bench/decide_rows.py computes all but
-// `P` from the definition.
-const DECIDED: [(u32, &str, &[&str]); 57] = [
+/// Systems over the columns below a number, and what Decide answers at the depths 0, 1 and 2; the last text holds for the depths
+/// after it, too. A row gives the coefficients of the columns from 0 on; groups follow in braces, the members parted by `|`.
+/// `W 5 -2` is a whole point, `G` a gap and `P` a number that does not fit. Else these are the nodes of a refutation: `L 0:1 1:-1`
+/// is a leaf with its parts, `C 1 2` a cut of column 1 at 2, and `A 3` cases of 3 members. bench/decide_rows.py computes all but
+/// `P` from the definition.
+type Decided = (u32, &'static str, &'static [&'static str]);
+
+const DECIDED: [Decided; 57] = [
     (
         2,
         "1 0 = 5,-1 2 = 0",
@@ -164,92 +167,6 @@ const DECIDED: [(u32, &str, &[&str]); 57] = [
     ),
 ];
 
-/// The row that a text gives.
-fn row_of(alloc: Global, text: &str) -> Result<Row, Fail> {
-    let mut terms = Vec::new(alloc);
-    let mut kind = None;
-    let mut column = 0u32;
-    let mut bound = 0;
-    for word in text.split_whitespace() {
-        match word {
-            "<=" => kind = Some(RowKind::Le),
-            "=" => kind = Some(RowKind::Eq),
-            _ => {
-                bound = word.parse::<i128>()?;
-                if kind.is_none() {
-                    terms.push((column, bound))?;
-                    column = column.saturating_add(1);
-                }
-            }
-        }
-    }
-    Ok(row(alloc, &terms, kind.unwrap_or(RowKind::Eq), bound)?)
-}
-
-/// The rows of a text, parted by commas.
-fn rows_of(alloc: Global, text: &str) -> Result<Vec<Row>, Fail> {
-    let mut rows = Vec::new(alloc);
-    for piece in text.split(',') {
-        if !piece.is_empty() {
-            rows.push(row_of(alloc, piece)?)?;
-        }
-    }
-    Ok(rows)
-}
-
-/// The members of a group.
-fn members_of(alloc: Global, text: &str) -> Result<Vec<System>, Fail> {
-    let mut members = Vec::new(alloc);
-    for piece in text.split('|') {
-        members.push(System {
-            rows: rows_of(alloc, piece)?,
-            groups: Vec::new(alloc),
-        })?;
-    }
-    Ok(members)
-}
-
-/// The system that a text gives.
-fn system_of(alloc: Global, text: &str) -> Result<System, Fail> {
-    let mut pieces = text.split('{');
-    let rows = rows_of(alloc, pieces.next().unwrap_or(""))?;
-    let mut groups = Vec::new(alloc);
-    for piece in pieces {
-        groups.push(members_of(alloc, piece.trim_end_matches('}'))?)?;
-    }
-    Ok(System { rows, groups })
-}
-
-/// What `plain` and `decide` answer of a system, in short.
-fn decided(
-    alloc: Global,
-    system: &System,
-    columns: u32,
-    depth: u32,
-) -> Result<Option<(String, String)>, Fail> {
-    let Some(size) = measure(system, columns) else {
-        return Ok(None);
-    };
-    if size > 1000 || depth > 1000 {
-        return Ok(None);
-    }
-    let own = shown(alloc, &plain(alloc, system, columns, depth))?;
-    let other = shown(alloc, &decide(alloc, system, columns, depth))?;
-    Ok(Some((own, other)))
-}
-
-/// An answer in short.
-fn shown(alloc: Global, answer: &Result<Answer, DecideFault>) -> Result<String, AllocError> {
-    let mut text = String::new(alloc);
-    match answer {
-        Ok(answer) => show(&mut text, answer)?,
-        Err(DecideFault::Gap) => text.push_str("G")?,
-        Err(DecideFault::Past) => text.push_str("P")?,
-        Err(DecideFault::Memory) => text.push_str("M")?,
-    }
-    Ok(text)
-}
-
 /// The kind of an answer in short: all of it, unless it is a refutation.
 fn kind(text: &str) -> &str {
     if text.starts_with(['A', 'C', 'L']) {
@@ -271,7 +188,7 @@ fn is_allowed(wanted: &str, other: &str) -> bool {
 }
 
 /// Writes an answer in short.
-fn show(text: &mut String, answer: &Answer) -> Result<(), AllocError> {
+fn show_answer(text: &mut String, answer: &Answer) -> Result<(), AllocError> {
     match answer {
         Answer::Whole(values) => {
             write!(text, "W")?;
@@ -306,55 +223,142 @@ fn show_node(text: &mut String, node: &Node) -> Result<(), AllocError> {
     Ok(())
 }
 
-#[test]
-fn systems_are_decided(rt: HostRuntime) -> Result<(), Fail> {
-    let alloc = rt.alloc();
-    for (columns, text, answers) in DECIDED {
-        let system = system_of(alloc, text)?;
-        let mut wanted = "";
-        for depth in 0..3 {
-            wanted = answers.get(depth as usize).copied().unwrap_or(wanted);
-            let found = decided(alloc, &system, columns, depth)?;
-            let (own, other) = found.ok_or("too large")?;
-            assert_eq!(rt; own.as_str(), wanted, "{text} at {depth}");
-            assert!(rt;
-                is_allowed(wanted, other.as_str()),
-                "{text} at {depth}: {other}"
-            );
+/// Writes an answer, or a letter for why there is none.
+fn show(text: &mut String, answer: &Result<Answer, DecideFault>) -> Result<(), AllocError> {
+    match answer {
+        Ok(answer) => show_answer(text, answer),
+        Err(DecideFault::Gap) => text.push_str("G"),
+        Err(DecideFault::Past) => text.push_str("P"),
+        Err(DecideFault::Memory) => text.push_str("M"),
+    }
+}
+
+/// What `plain` and `decide` answer.
+#[derive(Drop)]
+struct Answers {
+    own: String,
+    other: String,
+}
+
+/// Writes what `plain` and `decide` answer of a system, where it is small.
+fn show_both(
+    alloc: Global,
+    answers: &mut Answers,
+    system: &System,
+    columns: u32,
+    depth: u32,
+) -> Result<bool, AllocError> {
+    let Some(size) = measure(system, columns) else {
+        return Ok(false);
+    };
+    if size > 1000 || depth > 1000 {
+        return Ok(false);
+    }
+    show(&mut answers.own, &plain(alloc, system, columns, depth))?;
+    show(&mut answers.other, &decide(alloc, system, columns, depth))?;
+    Ok(true)
+}
+
+/// Whether `plain` answers the first text of a system, and `decide` the second one, or without a second one as it may.
+fn is_decided(
+    alloc: Global,
+    system: &System,
+    columns: u32,
+    depth: u32,
+    wanted: (&str, Option<&str>),
+) -> Result<bool, AllocError> {
+    let mut answers = Answers {
+        own: String::new(alloc),
+        other: String::new(alloc),
+    };
+    let small = show_both(alloc, &mut answers, system, columns, depth)?;
+    let other = answers.other.as_str();
+    let allowed = match wanted.1 {
+        Some(text) => text == other,
+        None => is_allowed(wanted.0, other),
+    };
+    Ok(small && answers.own.as_str() == wanted.0 && allowed)
+}
+
+/// The first depth at which something else is answered.
+fn first_wrong_depth(
+    alloc: Global,
+    row: &Decided,
+    system: &System,
+) -> Result<Option<u32>, AllocError> {
+    let mut wanted = "";
+    for depth in 0..3 {
+        wanted = row.2.get(depth as usize).copied().unwrap_or(wanted);
+        if !is_decided(alloc, system, row.0, depth, (wanted, None))? {
+            return Ok(Some(depth));
         }
     }
+    Ok(None)
+}
+
+fn wrong_depth_of(alloc: Global, row: &Decided) -> Result<Option<u32>, Fail> {
+    let system = system_of(alloc, row.1)?;
+    Ok(first_wrong_depth(alloc, row, &system)?)
+}
+
+/// The first system, with the depth, of which something else is answered.
+fn first_wrong(alloc: Global) -> Result<Option<(&'static str, u32)>, Fail> {
+    for row in &DECIDED {
+        if let Some(depth) = wrong_depth_of(alloc, row)? {
+            return Ok(Some((row.1, depth)));
+        }
+    }
+    Ok(None)
+}
+
+#[test]
+fn systems_are_decided(rt: HostRuntime) -> Result<(), Fail> {
+    let wrong = first_wrong(rt.alloc())?;
+    assert!(rt; wrong.is_none(), "{wrong:?}");
     Ok(())
 }
 
-// With N = 2^100-1, eliminating y forms N * N, which does not fit. The simplex refutes by the first two rows.
-const PAST_FOR_PLAIN: &str =
-    "1 0 <= 0,-1 0 <= -1,1267650600228229401496703205375 1267650600228229401496703205376 <= 0,1 -1267650600228229401496703205375 <= 0";
-
-#[test]
-fn simplex_refutes_first(rt: HostRuntime) -> Result<(), Fail> {
-    let alloc = rt.alloc();
-    let found = decided(alloc, &system_of(alloc, PAST_FOR_PLAIN)?, 2, 0)?;
-    let (own, other) = found.ok_or("too large")?;
-    assert_eq!(rt; own.as_str(), "P");
-    assert_eq!(rt; other.as_str(), "L 0:1 1:1");
-    Ok(())
-}
-
-#[test]
-fn point_is_found_where_plain_is_past(rt: HostRuntime) -> Result<(), Fail> {
-    let alloc = rt.alloc();
+/// Systems over two columns that are past for `plain`, and what `decide` answers at depth 0.
+const PAST_FOR_PLAIN: [(&str, &str); 2] = [
+    // With N = 2^100-1, eliminating y forms N * N, which does not fit. The simplex refutes by the first two rows.
+    (
+        "1 0 <= 0,-1 0 <= -1,1267650600228229401496703205375 1267650600228229401496703205376 <= 0,1 -1267650600228229401496703205375 <= 0",
+        "L 0:1 1:1",
+    ),
     // The first number is 2^127-1. Both rows hold at 0, which is nearest 0 in both columns.
-    let text = "1 2 <= 0,170141183460469231731687303715884105727 -3 <= 0";
-    let found = decided(alloc, &system_of(alloc, text)?, 2, 0)?;
-    let (own, other) = found.ok_or("too large")?;
-    assert_eq!(rt; own.as_str(), "P");
-    assert_eq!(rt; other.as_str(), "W 0 0");
+    (
+        "1 2 <= 0,170141183460469231731687303715884105727 -3 <= 0",
+        "W 0 0",
+    ),
+];
+
+fn is_past_for_plain(alloc: Global, text: &str, other: &str) -> Result<bool, Fail> {
+    let system = system_of(alloc, text)?;
+    Ok(is_decided(alloc, &system, 2, 0, ("P", Some(other)))?)
+}
+
+/// The first system of which something else is answered.
+fn first_not_past(alloc: Global) -> Result<Option<&'static str>, Fail> {
+    for (text, other) in &PAST_FOR_PLAIN {
+        if !is_past_for_plain(alloc, text, other)? {
+            return Ok(Some(text));
+        }
+    }
+    Ok(None)
+}
+
+#[test]
+fn decide_answers_where_plain_is_past(rt: HostRuntime) -> Result<(), Fail> {
+    let wrong = first_not_past(rt.alloc())?;
+    assert!(rt; wrong.is_none(), "{wrong:?}");
     Ok(())
 }
 
-// A number of columns, a system and how many rows and members it has, if its columns are below the number.
-// A member counts itself and its rows.
-const MEASURED: [(u32, &str, Option<u32>); 8] = [
+/// A number of columns, a system and how many rows and members it has, if its columns are below the number.
+/// A member counts itself and its rows.
+type Measured = (u32, &'static str, Option<u32>);
+
+const MEASURED: [Measured; 8] = [
     (0, "", Some(0)),
     (2, "1 -1 <= 3", Some(1)),
     (1, "1 -1 <= 3", None),
@@ -370,30 +374,41 @@ const MEASURED: [(u32, &str, Option<u32>); 8] = [
 ];
 
 /// The system with no rows and one group, whose only member is the system given.
-fn inside(alloc: Global, member: System) -> Result<System, Fail> {
-    let mut members = Vec::new(alloc);
-    members.push(member)?;
-    let mut groups = Vec::new(alloc);
-    groups.push(members)?;
+fn inside(alloc: Global, member: System) -> Result<System, AllocError> {
+    let members = vec![in alloc; member]?;
+    let groups = vec![in alloc; members]?;
     Ok(System {
         rows: Vec::new(alloc),
         groups,
     })
 }
 
+/// The measure of the system as a member of another.
+fn measure_inside(alloc: Global, system: System, columns: u32) -> Result<Option<u32>, AllocError> {
+    Ok(measure(&inside(alloc, system)?, columns))
+}
+
+/// Whether the system has this measure, and as a member of another one more.
+fn is_measured(alloc: Global, row: &Measured) -> Result<bool, Fail> {
+    let system = system_of(alloc, row.1)?;
+    let own = measure(&system, row.0);
+    let nested = measure_inside(alloc, system, row.0)?;
+    Ok(own == row.2 && nested == row.2.and_then(|size| size.checked_add(1)))
+}
+
+/// The first system of another measure.
+fn first_mismeasured(alloc: Global) -> Result<Option<&'static str>, Fail> {
+    for row in &MEASURED {
+        if !is_measured(alloc, row)? {
+            return Ok(Some(row.1));
+        }
+    }
+    Ok(None)
+}
+
 #[test]
 fn systems_are_measured(rt: HostRuntime) -> Result<(), Fail> {
-    let alloc = rt.alloc();
-    for (columns, text, wanted) in MEASURED {
-        let system = system_of(alloc, text)?;
-        assert_eq!(rt; measure(&system, columns), wanted, "{text} below {columns}");
-        let nested = inside(alloc, system)?;
-        let one_more = wanted.and_then(|size| size.checked_add(1));
-        assert_eq!(rt;
-            measure(&nested, columns),
-            one_more,
-            "{text} as a member, below {columns}"
-        );
-    }
+    let wrong = first_mismeasured(rt.alloc())?;
+    assert!(rt; wrong.is_none(), "{wrong:?}");
     Ok(())
 }

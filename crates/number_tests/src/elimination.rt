@@ -3,11 +3,9 @@ ghost use Rattle.math_facts.specs.Terms.{IsBelow};
 ghost use Rattle.fm_elim.specs.Worth.{ColumnsBelow};
 
 use fm_elim::*;
-use frac::{den, num};
+use frac::{Frac, den, num};
 use lin_rows::{Row, RowKind, row};
 use std::alloc::Global;
-use std::process::Abort;
-use std::test::Fail;
 
 const LE: RowKind = RowKind::Le;
 
@@ -29,7 +27,9 @@ enum Wanted {
 }
 
 /// Rows over a number of columns, and what their elimination finds. The column 0 is x, 1 is y, 2 is z.
-const ELIMINATED: [(&[Said], u32, Wanted); 12] = [
+type Eliminated = (&'static [Said], u32, Wanted);
+
+const ELIMINATED: [Eliminated; 12] = [
     (&[], 2, Wanted::Point(&[(0, 1), (0, 1)])),
     // 2x <= -3 is tightened to x <= -2, the nearest to 0 is -2
     (&[(&[(0, 2)], LE, -3)], 1, Wanted::Point(&[(-2, 1)])),
@@ -134,35 +134,61 @@ fn all_below(rows: &[Row], columns: u32) -> bool
     }
 }
 
-/// The elimination of rows that are made first, of at most four.
-fn eliminated(alloc: Global, given: &[Said], columns: u32) -> Result<Option<Elim>, ElimFault> {
-    let mut rows = Vec::new(alloc);
+fn push_rows(alloc: Global, rows: &mut Vec<Row>, given: &[Said]) -> Result<(), ElimFault> {
     for (terms, kind, bound) in given {
         rows.push(row(alloc, terms, *kind, *bound)?)?;
     }
-    if rows.len() > 4 || !all_below(&rows, columns) {
+    Ok(())
+}
+
+/// The elimination of at most four rows whose columns are below the number given.
+fn eliminated(alloc: Global, rows: &[Row], columns: u32) -> Result<Option<Elim>, ElimFault> {
+    if rows.len() > 4 || !all_below(rows, columns) {
         return Ok(None);
     }
-    let found = eliminate(alloc, &rows, columns)?;
-    Ok(Some(found))
+    Ok(Some(eliminate(alloc, rows, columns)?))
+}
+
+/// The elimination of rows that are made first.
+fn elimination_of(alloc: Global, given: &[Said], columns: u32) -> Result<Option<Elim>, ElimFault> {
+    let mut rows = Vec::new(alloc);
+    push_rows(alloc, &mut rows, given)?;
+    eliminated(alloc, &rows, columns)
+}
+
+/// Whether the values have these numerators and denominators.
+fn are_values(values: &[Frac], parts: &[(i128, i128)]) -> bool {
+    for (value, (n, d)) in values.iter().zip(parts) {
+        if num(value) != *n || den(value) != *d {
+            return false;
+        }
+    }
+    values.len() == parts.len()
+}
+
+fn is_wanted(found: &Result<Option<Elim>, ElimFault>, wanted: Wanted) -> bool {
+    match (found, wanted) {
+        (Ok(Some(Elim::Refuted(parts))), Wanted::Refuted(multipliers)) => {
+            parts.as_slice() == multipliers
+        }
+        (Ok(Some(Elim::Point(values))), Wanted::Point(parts)) => are_values(values, parts),
+        (Err(ElimFault::Past), Wanted::Past) => true,
+        _ => false,
+    }
+}
+
+/// What the first elimination that finds something else should find.
+fn first_wrong(alloc: Global) -> Option<Wanted> {
+    for (given, columns, wanted) in &ELIMINATED {
+        if !is_wanted(&elimination_of(alloc, given, *columns), *wanted) {
+            return Some(*wanted);
+        }
+    }
+    None
 }
 
 #[test]
 fn columns_are_eliminated(rt: HostRuntime) {
-    for (given, columns, wanted) in ELIMINATED {
-        match (eliminated(rt.alloc(), given, columns), wanted) {
-            (Ok(Some(Elim::Refuted(parts))), Wanted::Refuted(multipliers)) => {
-                assert_eq!(rt; parts.as_slice(), multipliers);
-            }
-            (Ok(Some(Elim::Point(values))), Wanted::Point(parts)) => {
-                assert_eq!(rt; values.len(), parts.len(), "{wanted:?}");
-                for (value, (n, d)) in values.iter().zip(parts) {
-                    assert_eq!(rt; num(value), *n, "{wanted:?}");
-                    assert_eq!(rt; den(value), *d, "{wanted:?}");
-                }
-            }
-            (Err(ElimFault::Past), Wanted::Past) => {}
-            _ => panic!(rt; "{wanted:?}"),
-        }
-    }
+    let wrong = first_wrong(rt.alloc());
+    assert!(rt; wrong.is_none(), "{wrong:?}");
 }

@@ -1,6 +1,5 @@
 use frac::*;
 use std::cmp::Ordering;
-use std::process::Abort;
 
 /// 2^127-1, the largest number that fits.
 const MOST: i128 = i128::MAX;
@@ -32,8 +31,11 @@ const MADE: [(Parts, Option<Parts>); 12] = [
     ((1, LEAST), None),
 ];
 
+/// Two fractions, and what they are combined to, if it fits.
+type Combined = (Parts, Parts, Option<Parts>);
+
 /// Two fractions and their product.
-const PRODUCTS: [(Parts, Parts, Option<Parts>); 8] = [
+const PRODUCTS: [Combined; 8] = [
     ((2, 3), (-9, 4), Some((-3, 2))),
     ((0, 1), (MOST, 1), Some((0, 1))),
     ((-MOST, 1), (-1, 1), Some((MOST, 1))),
@@ -46,7 +48,7 @@ const PRODUCTS: [(Parts, Parts, Option<Parts>); 8] = [
 ];
 
 /// Two fractions and their quotient.
-const QUOTIENTS: [(Parts, Parts, Option<Parts>); 6] = [
+const QUOTIENTS: [Combined; 6] = [
     ((3, 4), (-9, 2), Some((-1, 6))),
     ((0, 1), (-5, 3), Some((0, 1))),
     ((MOST, 2), (-MOST, 4), Some((-2, 1))),
@@ -56,7 +58,7 @@ const QUOTIENTS: [(Parts, Parts, Option<Parts>); 6] = [
 ];
 
 /// Two fractions and their sum.
-const SUMS: [(Parts, Parts, Option<Parts>); 9] = [
+const SUMS: [Combined; 9] = [
     // 5/30 + 3/30
     ((1, 6), (1, 10), Some((4, 15))),
     ((1, 2), (1, 2), Some((1, 1))),
@@ -73,7 +75,7 @@ const SUMS: [(Parts, Parts, Option<Parts>); 9] = [
 ];
 
 /// Two fractions and their difference.
-const DIFFERENCES: [(Parts, Parts, Option<Parts>); 5] = [
+const DIFFERENCES: [Combined; 5] = [
     ((1, 2), (1, 3), Some((1, 6))),
     ((-MOST, 1), (-MOST, 1), Some((0, 1))),
     ((MOST, 1), (1, 1), Some((MOST - 1, 1))),
@@ -105,94 +107,151 @@ const FLOORS: [(Parts, i128, bool); 8] = [
     ((-MOST, 2), -HALF, false),
 ];
 
-fn made(rt: &impl Abort, parts: Parts) -> Result<Frac, Past> {
-    assert_ne!(rt; parts.1, 0);
-    of(parts.0, parts.1)
-}
-
-fn frac(rt: &impl Abort, parts: Parts) -> Frac {
-    match made(rt, parts) {
-        Ok(fraction) => fraction,
-        Err(Past) => panic!(rt; "{parts:?}"),
+/// The fraction of these parts, whose numbers fit.
+fn fraction(parts: Parts) -> Option<Frac> {
+    if parts.1 == 0 {
+        return None;
     }
+    of(parts.0, parts.1).ok()
 }
 
-fn parts_of(made: Result<Frac, Past>) -> Option<Parts> {
+fn parts_of(made: &Result<Frac, Past>) -> Option<Parts> {
     match made {
-        Ok(fraction) => Some((num(&fraction), den(&fraction))),
+        Ok(fraction) => Some((num(fraction), den(fraction))),
         Err(Past) => None,
     }
 }
 
+/// Whether the quotient has these parts in lowest terms.
+fn is_made(given: Parts, wanted: Option<Parts>) -> bool {
+    if given.1 == 0 {
+        return false;
+    }
+    parts_of(&of(given.0, given.1)) == wanted
+}
+
+/// The first quotient with other parts.
+fn first_wrong_quotient() -> Option<Parts> {
+    for (given, wanted) in &MADE {
+        if !is_made(*given, *wanted) {
+            return Some(*given);
+        }
+    }
+    None
+}
+
 #[test]
 fn fractions_are_in_lowest_terms(rt: HostRuntime) {
-    for (given, wanted) in MADE {
-        assert_eq!(rt; parts_of(made(&rt, given)), wanted, "{given:?}");
+    let wrong = first_wrong_quotient();
+    assert!(rt; wrong.is_none(), "{wrong:?}");
+}
+
+#[derive(Clone, Copy)]
+enum Operation {
+    Product,
+    Quotient,
+    Sum,
+    Difference,
+}
+
+/// What the fractions are combined to. A divisor of 0 is no such thing.
+fn combined(operation: Operation, a: &Frac, b: &Frac) -> Option<Result<Frac, Past>> {
+    match operation {
+        Operation::Product => Some(mul(a, b)),
+        Operation::Quotient => if num(b) == 0 { None } else { Some(div(a, b)) }
+        Operation::Sum => Some(add(a, b)),
+        Operation::Difference => Some(sub(a, b)),
     }
+}
+
+/// Whether two fractions are combined to this one, or to none that fits.
+fn is_combined(operation: Operation, row: &Combined) -> bool {
+    let (Some(a), Some(b)) = (fraction(row.0), fraction(row.1)) else {
+        return false;
+    };
+    match combined(operation, &a, &b) {
+        Some(made) => parts_of(&made) == row.2,
+        None => false,
+    }
+}
+
+/// The first two fractions that are combined to something else.
+fn first_wrong(operation: Operation, rows: &[Combined]) -> Option<(Parts, Parts)> {
+    for row in rows {
+        if !is_combined(operation, row) {
+            return Some((row.0, row.1));
+        }
+    }
+    None
 }
 
 #[test]
 fn fractions_are_multiplied(rt: HostRuntime) {
-    for (a, b, wanted) in PRODUCTS {
-        assert_eq!(rt;
-            parts_of(mul(&frac(&rt, a), &frac(&rt, b))),
-            wanted,
-            "{a:?} {b:?}"
-        );
-    }
+    let wrong = first_wrong(Operation::Product, &PRODUCTS);
+    assert!(rt; wrong.is_none(), "{wrong:?}");
 }
 
 #[test]
 fn fractions_are_divided(rt: HostRuntime) {
-    for (a, b, wanted) in QUOTIENTS {
-        let divisor = frac(&rt, b);
-        assert_ne!(rt; num(&divisor), 0);
-        assert_eq!(rt;
-            parts_of(div(&frac(&rt, a), &divisor)),
-            wanted,
-            "{a:?} {b:?}"
-        );
-    }
+    let wrong = first_wrong(Operation::Quotient, &QUOTIENTS);
+    assert!(rt; wrong.is_none(), "{wrong:?}");
 }
 
 #[test]
 fn fractions_are_added(rt: HostRuntime) {
-    for (a, b, wanted) in SUMS {
-        assert_eq!(rt;
-            parts_of(add(&frac(&rt, a), &frac(&rt, b))),
-            wanted,
-            "{a:?} {b:?}"
-        );
-    }
+    let wrong = first_wrong(Operation::Sum, &SUMS);
+    assert!(rt; wrong.is_none(), "{wrong:?}");
 }
 
 #[test]
 fn fractions_are_subtracted(rt: HostRuntime) {
-    for (a, b, wanted) in DIFFERENCES {
-        assert_eq!(rt;
-            parts_of(sub(&frac(&rt, a), &frac(&rt, b))),
-            wanted,
-            "{a:?} {b:?}"
-        );
+    let wrong = first_wrong(Operation::Difference, &DIFFERENCES);
+    assert!(rt; wrong.is_none(), "{wrong:?}");
+}
+
+/// Whether two fractions are in this order, or in none that is told.
+fn is_compared(a: Parts, b: Parts, wanted: Option<Ordering>) -> bool {
+    let (Some(a), Some(b)) = (fraction(a), fraction(b)) else {
+        return false;
+    };
+    cmp(&a, &b).ok() == wanted
+}
+
+/// The first two fractions that are in another order.
+fn first_wrong_order() -> Option<(Parts, Parts)> {
+    for (a, b, wanted) in &COMPARED {
+        if !is_compared(*a, *b, *wanted) {
+            return Some((*a, *b));
+        }
     }
+    None
 }
 
 #[test]
 fn fractions_are_compared(rt: HostRuntime) {
-    for (a, b, wanted) in COMPARED {
-        assert_eq!(rt;
-            cmp(&frac(&rt, a), &frac(&rt, b)).ok(),
-            wanted,
-            "{a:?} {b:?}"
-        );
+    let wrong = first_wrong_order();
+    assert!(rt; wrong.is_none(), "{wrong:?}");
+}
+
+fn is_rounded(given: Parts, wanted: i128, whole: bool) -> bool {
+    let Some(fraction) = fraction(given) else {
+        return false;
+    };
+    floor(&fraction) == wanted && is_whole(&fraction) == whole
+}
+
+/// The first fraction with another floor, or that is whole and should not be, or is not and should.
+fn first_wrong_floor() -> Option<Parts> {
+    for (given, wanted, whole) in &FLOORS {
+        if !is_rounded(*given, *wanted, *whole) {
+            return Some(*given);
+        }
     }
+    None
 }
 
 #[test]
 fn fractions_are_rounded_down(rt: HostRuntime) {
-    for (given, wanted, whole) in FLOORS {
-        let fraction = frac(&rt, given);
-        assert_eq!(rt; floor(&fraction), wanted, "{given:?}");
-        assert_eq!(rt; is_whole(&fraction), whole, "{given:?}");
-    }
+    let wrong = first_wrong_floor();
+    assert!(rt; wrong.is_none(), "{wrong:?}");
 }

@@ -1,13 +1,16 @@
+use crate::making::plain_system;
 use farkas_check::{Node, Refutation};
 use int_decide::{Answer, decide, measure};
 use late_refutations::*;
-use lin_rows::{Row, RowKind, System, row};
+use lin_rows::System;
 use std::alloc::{AllocError, Global};
 use std::test::Fail;
 
-// Rows over the columns below a number, and the late refutation with at most 4 cuts on a branch. A row gives the coefficients
-// of the columns from 0 on. `L 0:1 1:1` is a leaf of row numbers with their multipliers, and `C 0 5` a cut at 5 in column 0.
-const LATE: [(u32, &str, &str); 6] = [
+/// Rows over the columns below a number, and the late refutation with at most 4 cuts on a branch. A row gives the coefficients
+/// of the columns from 0 on. `L 0:1 1:1` is a leaf of row numbers with their multipliers, and `C 0 5` a cut at 5 in column 0.
+type Late = (u32, &'static str, &'static str);
+
+const LATE: [Late; 6] = [
     // x <= 0 and -x <= -1 add up to 0 <= -1
     (1, "1 <= 0,-1 <= -1", "L 0:1 1:1"),
     // x0 = 0 and x1 = x0 + 1 refute x1 >= 10; the guards x1 >= 10 and x1 <= 9 refute each other, and are later
@@ -30,47 +33,36 @@ const LATE: [(u32, &str, &str); 6] = [
     ),
 ];
 
-/// The row that a text gives.
-fn row_of(alloc: Global, text: &str) -> Result<Row, Fail> {
-    let mut terms = Vec::new(alloc);
-    let mut kind = None;
-    let mut column = 0u32;
-    let mut bound = 0;
-    for word in text.split_whitespace() {
-        match word {
-            "<=" => kind = Some(RowKind::Le),
-            "=" => kind = Some(RowKind::Eq),
-            _ => {
-                bound = word.parse::<i128>()?;
-                if kind.is_none() {
-                    terms.push((column, bound))?;
-                    column = column.saturating_add(1);
-                }
+/// Writes a node in short.
+fn show_node(text: &mut String, node: &Node) -> Result<(), AllocError> {
+    match node {
+        Node::Leaf(parts) => {
+            text.push_str("L")?;
+            for (number, multiplier) in parts {
+                write!(text, " {number}:{multiplier}")?;
             }
         }
+        Node::Cut { col, k } => write!(text, "C {col} {k}")?,
+        Node::Cases(members) => write!(text, "G {members}")?,
     }
-    Ok(row(alloc, &terms, kind.unwrap_or(RowKind::Eq), bound)?)
+    Ok(())
 }
 
 /// Writes a refutation in short.
-fn shown(alloc: Global, refutation: &Refutation) -> Result<String, AllocError> {
-    let mut text = String::new(alloc);
+fn show(text: &mut String, refutation: &Refutation) -> Result<(), AllocError> {
     for node in refutation.nodes() {
         if !text.is_empty() {
             text.push_str(" ")?;
         }
-        match node {
-            Node::Leaf(parts) => {
-                text.push_str("L")?;
-                for (number, multiplier) in parts {
-                    write!(text, " {number}:{multiplier}")?;
-                }
-            }
-            Node::Cut { col, k } => write!(text, "C {col} {k}")?,
-            Node::Cases(members) => write!(text, "G {members}")?,
-        }
+        show_node(text, node)?;
     }
-    Ok(text)
+    Ok(())
+}
+
+fn is_shown(alloc: Global, refutation: &Refutation, wanted: &str) -> Result<bool, AllocError> {
+    let mut text = String::new(alloc);
+    show(&mut text, refutation)?;
+    Ok(text.as_str() == wanted)
 }
 
 /// The late refutation of rows, from Decide's; `None` where Decide has none.
@@ -87,20 +79,31 @@ fn late_of(alloc: Global, columns: u32, system: &System) -> Result<Option<Refuta
     }
 }
 
+fn is_refuted(alloc: Global, columns: u32, system: &System, wanted: &str) -> Result<bool, Fail> {
+    match late_of(alloc, columns, system)? {
+        Some(found) => Ok(is_shown(alloc, &found, wanted)?),
+        None => Ok(false),
+    }
+}
+
+fn is_late(alloc: Global, row: &Late) -> Result<bool, Fail> {
+    let system = plain_system(alloc, row.1)?;
+    is_refuted(alloc, row.0, &system, row.2)
+}
+
+/// The first rows that are refuted otherwise.
+fn first_wrong(alloc: Global) -> Result<Option<&'static str>, Fail> {
+    for row in &LATE {
+        if !is_late(alloc, row)? {
+            return Ok(Some(row.1));
+        }
+    }
+    Ok(None)
+}
+
 #[test]
 fn rows_are_refuted_late(rt: HostRuntime) -> Result<(), Fail> {
-    let alloc = rt.alloc();
-    for (columns, text, wanted) in LATE {
-        let mut rows = Vec::new(alloc);
-        for piece in text.split(',') {
-            rows.push(row_of(alloc, piece)?)?;
-        }
-        let system = System {
-            rows,
-            groups: Vec::new(alloc),
-        };
-        let found = late_of(alloc, columns, &system)?.ok_or("not refuted")?;
-        assert_eq!(rt; shown(alloc, &found)?.as_str(), wanted, "{text}");
-    }
+    let wrong = first_wrong(rt.alloc())?;
+    assert!(rt; wrong.is_none(), "{wrong:?}");
     Ok(())
 }

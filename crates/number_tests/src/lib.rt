@@ -12,6 +12,8 @@ mod fractions;
 #[cfg(test)]
 mod late;
 #[cfg(test)]
+mod making;
+#[cfg(test)]
 mod rows;
 #[cfg(test)]
 mod simplex;

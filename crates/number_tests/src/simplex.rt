@@ -1,12 +1,15 @@
+use crate::making::rows_of;
 use frac::{den, num};
-use lin_rows::{Row, RowKind, row};
+use lin_rows::Row;
 use simplex_rows::*;
 use std::alloc::{AllocError, Global};
 use std::test::Fail;
 
-// Rows over the columns below a number, and what is proposed of them with 100 pivots. A row gives the coefficients of the
-// columns from 0 on. `L 0:1 1:1` are row numbers with their multipliers, and `P 5 5/2` are values.
-const PROPOSED: [(u32, &str, &str); 16] = [
+/// Rows over the columns below a number, and what is proposed of them with 100 pivots. A row gives the coefficients of the
+/// columns from 0 on. `L 0:1 1:1` are row numbers with their multipliers, and `P 5 5/2` are values.
+type Proposal = (u32, &'static str, &'static str);
+
+const PROPOSED: [Proposal; 16] = [
     // x <= 0 and -x <= -1 add up to 0 <= -1
     (1, "1 <= 0,-1 <= -1", "L 0:1 1:1"),
     (0, "", "P"),
@@ -42,28 +45,6 @@ const PROPOSED: [(u32, &str, &str); 16] = [
     ),
 ];
 
-/// The row that a text gives.
-fn row_of(alloc: Global, text: &str) -> Result<Row, Fail> {
-    let mut terms = Vec::new(alloc);
-    let mut kind = None;
-    let mut column = 0u32;
-    let mut bound = 0;
-    for word in text.split_whitespace() {
-        match word {
-            "<=" => kind = Some(RowKind::Le),
-            "=" => kind = Some(RowKind::Eq),
-            _ => {
-                bound = word.parse::<i128>()?;
-                if kind.is_none() {
-                    terms.push((column, bound))?;
-                    column = column.saturating_add(1);
-                }
-            }
-        }
-    }
-    Ok(row(alloc, &terms, kind.unwrap_or(RowKind::Eq), bound)?)
-}
-
 /// Writes a proposal in short.
 fn show(text: &mut String, found: &Option<Found>) -> Result<(), AllocError> {
     match found {
@@ -93,19 +74,35 @@ fn show_value(text: &mut String, numerator: i128, denominator: i128) -> Result<(
     Ok(())
 }
 
+fn is_shown(alloc: Global, found: &Option<Found>, wanted: &str) -> Result<bool, AllocError> {
+    let mut text = String::new(alloc);
+    show(&mut text, found)?;
+    Ok(text.as_str() == wanted)
+}
+
+fn is_solved(alloc: Global, rows: &[Row], columns: u32, wanted: &str) -> Result<bool, AllocError> {
+    let found = try_solve(alloc, rows, columns, 100)?;
+    is_shown(alloc, &found, wanted)
+}
+
+fn is_proposed(alloc: Global, proposal: &Proposal) -> Result<bool, Fail> {
+    let rows = rows_of(alloc, proposal.1)?;
+    Ok(is_solved(alloc, &rows, proposal.0, proposal.2)?)
+}
+
+/// The first rows of which something else is proposed.
+fn first_wrong(alloc: Global) -> Result<Option<&'static str>, Fail> {
+    for proposal in &PROPOSED {
+        if !is_proposed(alloc, proposal)? {
+            return Ok(Some(proposal.1));
+        }
+    }
+    Ok(None)
+}
+
 #[test]
 fn rows_are_solved(rt: HostRuntime) -> Result<(), Fail> {
-    let alloc = rt.alloc();
-    for (columns, text, wanted) in PROPOSED {
-        let mut rows = Vec::new(alloc);
-        for piece in text.split(',') {
-            if !piece.is_empty() {
-                rows.push(row_of(alloc, piece)?)?;
-            }
-        }
-        let mut found = String::new(alloc);
-        show(&mut found, &try_solve(alloc, &rows, columns, 100)?)?;
-        assert_eq!(rt; found.as_str(), wanted, "{text}");
-    }
+    let wrong = first_wrong(rt.alloc())?;
+    assert!(rt; wrong.is_none(), "{wrong:?}");
     Ok(())
 }
