@@ -6,7 +6,6 @@ use crate::paths::{path_of, shown_path};
 use crate::predicates::shown_predicates;
 use crate::refutations::refutation;
 use crate::tables;
-use crate::trails::trail_of;
 use std::alloc::{AllocError, Global};
 use std::process::Abort;
 use std::test::Fail;
@@ -113,13 +112,5 @@ fn words_have_predicates(rt: HostRuntime) -> Result<(), Fail> {
         let wrong = first_wrong(rt.alloc(), Asked::Predicates, table)?;
         assert!(rt; wrong.is_none(), "{wrong:?}");
     }
-    Ok(())
-}
-
-/// The one letter behind the start fails without a choice.
-#[test]
-fn an_empty_point_tells_a_run(rt: HostRuntime) -> Result<(), Fail> {
-    let told = trail_of(rt.alloc(), "procedure main() { assert false; }", "0 0")?;
-    assert!(rt; told == Some((1, 0)), "{told:?}");
     Ok(())
 }

@@ -1,4 +1,4 @@
-//! Tests of what is made of a word: its rows, what Decide finds of them, the predicates along it, and the values of its run.
+//! Tests of what is made of a word: its rows, what Decide finds of them, and the predicates along it.
 #![tactic(auto)]
 
 #[cfg(test)]
@@ -17,5 +17,3 @@ mod programs;
 mod refutations;
 #[cfg(test)]
 mod tables;
-#[cfg(test)]
-mod trails;
