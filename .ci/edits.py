@@ -1,21 +1,38 @@
 #!/usr/bin/env python3
 """Must-fail edits: those of crates/NAME/must-fail, which the gate tries, and those of edits/NAME, which it leaves out for time.
 
-  .ci/edits.py                 whether each edit of both kinds can be applied: each of its old texts stands in its file exactly once
-  .ci/edits.py try NAME..      has the prover refuse all edits of these crates, in a copy of what is committed; prints what `rt must-fail` says
+  .ci/edits.py                        whether each edit of both kinds can be applied: each of its old texts stands in its file exactly once
+  .ci/edits.py try NAME..             has the prover refuse all edits of these crates, both kinds, in a copy of what is committed
+  .ci/edits.py try --changed BASE     those of the crates that differ from the commit BASE
+  .ci/edits.py try --all              those of all crates
+
+A try takes what `rt ci` has kept on this machine of the crates below, proves each crate once more, and ends with a line for each edit and a table.
+Its status is 0 where each edit was refused.
 """
+import collections
 import glob
 import os
+import re
+import shutil
 import subprocess
 import sys
 import tempfile
 
 TOP = os.path.dirname(os.path.dirname(os.path.abspath(__file__)))
 
+# What `rt ci` says of an edit, and how the table calls it.
+ENDS = {
+    "refused, as it must be (only": "barely",
+    "refused, as it must be": "refused",
+    "NOT REFUSED": "passes",
+    "BAD EDIT": "bad",
+    "NOT TRIED": "untried",
+}
 
-def edits_of(name):
+
+def edits_of(name, top=TOP):
     """The paths of a crate's edits, of both kinds."""
-    return sorted(glob.glob(f"{TOP}/crates/{name}/must-fail/*.edit") + glob.glob(f"{TOP}/edits/{name}/*.edit"))
+    return sorted(glob.glob(f"{top}/crates/{name}/must-fail/*.edit") + glob.glob(f"{top}/edits/{name}/*.edit"))
 
 
 def wrong_with(name, edit):
@@ -42,28 +59,80 @@ def wrong_with(name, edit):
     return wrong
 
 
+def crates():
+    return sorted(name for name in {*os.listdir(f"{TOP}/crates"), *os.listdir(f"{TOP}/edits")} if edits_of(name))
+
+
 def check():
-    names = sorted({*os.listdir(f"{TOP}/crates"), *os.listdir(f"{TOP}/edits")})
-    wrong = [it for name in names for edit in edits_of(name) for it in wrong_with(name, edit)]
+    wrong = [it for name in crates() for edit in edits_of(name) for it in wrong_with(name, edit)]
     wrong += [f"edits/{name}: there is no such crate" for name in os.listdir(f"{TOP}/edits") if not os.path.isdir(f"{TOP}/crates/{name}")]
     print("\n".join(wrong), end="\n" if wrong else "")
     return 1 if wrong else 0
 
 
+def changed(base):
+    """The crates with edits of which a file differs between a commit and the newest one."""
+    said = subprocess.run(["git", "diff", "--name-only", base, "HEAD", "--", "crates", "edits"], cwd=TOP, check=True, capture_output=True, text=True).stdout
+    return sorted({path.split("/")[1] for path in said.split()} & set(crates()))
+
+
+def copy_with_edits(names, copy):
+    """Clones what is committed, where these crates alone have edits, and all of theirs."""
+    subprocess.run(["git", "clone", "-q", TOP, copy], check=True)
+    for folder in glob.glob(f"{copy}/crates/*/must-fail"):
+        if os.path.basename(os.path.dirname(folder)) not in names:
+            shutil.rmtree(folder)
+    for name in names:
+        there = f"{copy}/crates/{name}/must-fail"
+        os.makedirs(there, exist_ok=True)
+        for edit in glob.glob(f"{copy}/edits/{name}/*.edit"):
+            os.rename(edit, f"{there}/{os.path.basename(edit)}")
+    return {name: len(glob.glob(f"{copy}/crates/{name}/must-fail/*.edit")) for name in names}
+
+
 def try_all(names):
+    found = collections.defaultdict(collections.Counter)
     with tempfile.TemporaryDirectory(prefix="edits-") as room:
-        copy = f"{room}/copy"
-        subprocess.run(["git", "clone", "-q", TOP, copy], check=True)
-        for name in names:
-            there = f"{copy}/crates/{name}/must-fail"
-            os.makedirs(there, exist_ok=True)
-            for edit in glob.glob(f"{copy}/edits/{name}/*.edit"):
-                os.rename(edit, f"{there}/{os.path.basename(edit)}")
-        return subprocess.run(["rt", "must-fail", *names], cwd=copy).returncode
+        count = copy_with_edits(names, f"{room}/copy")
+        how = {"cwd": f"{room}/copy", "stdout": subprocess.PIPE, "text": True, "errors": "replace"}
+        with subprocess.Popen(["rt", "ci", *names], **how) as run:
+            for line in run.stdout:
+                told = re.search(r"must-fail (\w+)/[\w.-]+: (.*)", line)
+                end = told and next((it for it in ENDS if told[2].startswith(it)), None)
+                if end:
+                    found[told[1]][ENDS[end]] += 1
+                if end or "NOT PROVED" in line:
+                    print(line.removeprefix("rt: "), end="", flush=True)
+    width = max(len(name) for name in names)
+    print(f"{'crate':{width}} edits " + " ".join(f"{it:>7}" for it in ENDS.values()))
+    for name in names:
+        print(f"{name:{width}} {count[name]:5} " + " ".join(f"{found[name][it]:7}" for it in ENDS.values()))
+    refused = sum(it["refused"] + it["barely"] for it in found.values())
+    print(f"{refused} of {sum(count.values())} refused")
+    return 0 if refused == sum(count.values()) else 1
 
 
-if sys.argv[1:2] == ["try"] and sys.argv[2:]:
-    sys.exit(try_all(sys.argv[2:]))
-if sys.argv[1:]:
-    sys.exit(__doc__)
-sys.exit(check())
+def main(words):
+    if not words:
+        return check()
+    if words[0] != "try" or len(words) < 2:
+        sys.exit(__doc__)
+    if words[1] == "--all" and len(words) == 2:
+        names = crates()
+    elif words[1] == "--changed" and len(words) == 3:
+        names = changed(words[2])
+    elif not words[1].startswith("-"):
+        names = words[1:]
+    else:
+        sys.exit(__doc__)
+    unknown = [name for name in names if not edits_of(name)]
+    if unknown:
+        sys.exit(f"no edits of {' '.join(unknown)}")
+    if not names:
+        print("no crate with edits has changed")
+        return 0
+    return try_all(names)
+
+
+if __name__ == "__main__":
+    sys.exit(main(sys.argv[1:]))
