@@ -19,7 +19,9 @@ for path in $(grep -oE '(examples|docs|bench)/[A-Za-z0-9_./-]+' README.md | sort
   [ -e "${path%.}" ] || wrong "README.md names $path, which is not there"
 done
 cannot=$(.ci/edits.py) || wrong "an edit cannot be applied: $cannot"
-[ -x automizer ] || wrong 'the script ./automizer is not there'
+for path in automizer tools/unproved.py bench/gate.py; do
+  [ -x "$path" ] || wrong "the script $path is not there"
+done
 # The examples are verified as they say, by the proved program, and each verdict is confirmed.
 program=crates/automizer/out/automizer
 if [ -x "$program" ]; then
@@ -38,5 +40,14 @@ if [ -x "$program" ]; then
     done
   done
   rm -f "$text" "$text.answer"
+fi
+# The script runs it too, where no source is newer, through a link from another folder, and names of files are those of that folder.
+if [ -x "$program" ] && [ -z "$(find crates -path '*/src/*' -name '*.rt' -newer "$program" -print -quit)" ]; then
+  away=$(mktemp -d) || exit 1
+  ln -s "$PWD/automizer" "$away/link"
+  cp examples/check/fill.bpl examples/check/fill.proof "$away"
+  said=$(cd "$away" && ./link check fill.bpl fill.proof 2>&1)
+  [ "$said" = accepted ] || wrong "./automizer through a link from another folder says: $said"
+  rm -rf "$away"
 fi
 exit "$failed"

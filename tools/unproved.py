@@ -172,25 +172,32 @@ def build(out, name):
 def main(out, name):
     for number in (signal.SIGTERM, signal.SIGHUP, signal.SIGINT):
         signal.signal(number, lambda number, _: sys.exit(128 + number))
-    os.makedirs(out, exist_ok=True)
-    with open(f"{out}/building.lock", "w") as lock:
-        try:
-            fcntl.flock(lock, fcntl.LOCK_EX | fcntl.LOCK_NB)
-        except BlockingIOError:
-            say("another run of this script is building the program; waiting for it")
-            fcntl.flock(lock, fcntl.LOCK_EX)
+    # (a lock on the folder itself leaves no file behind)
+    lock = os.open(TOP, os.O_RDONLY)
+    try:
+        fcntl.flock(lock, fcntl.LOCK_EX | fcntl.LOCK_NB)
+    except BlockingIOError:
+        say("another run of this script is building the program; waiting for it")
+        fcntl.flock(lock, fcntl.LOCK_EX)
+    if os.path.exists(f"{out}/{name}"):
+        return 0
+    say("building an optimised program without proofs, once for these sources: some four minutes on four processors, and 3 GB of memory")
+    try:
+        os.makedirs(out, exist_ok=True)
         # Whoever left these was killed, since this run has the lock.
         for left in glob.glob(f"{glob.escape(out)}/building-*/"):
             shutil.rmtree(left, ignore_errors=True)
-        if os.path.exists(f"{out}/{name}"):
-            return 0
-        say("building an optimised program without proofs, once for these sources: some four minutes on four processors, and 3 GB of memory")
+        say(f"built in {build(out, name):.0f} s")
+        return 0
+    except (Failed, OSError) as error:
+        say(f"that failed: {error}")
+        return 1
+    finally:
         try:
-            say(f"built in {build(out, name):.0f} s")
-            return 0
-        except (Failed, OSError) as error:
-            say(f"that failed: {error}")
-            return 1
+            # (only where nothing stands in it)
+            os.rmdir(out)
+        except OSError:
+            pass
 
 
 if __name__ == "__main__":
