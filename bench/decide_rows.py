@@ -1,10 +1,11 @@
 #!/usr/bin/env python3
 """Decide of small systems, computed plainly from its definition: fractions, elimination, cuts and cases.
 
-It prints for each system at each depth what Decide answers, in the short form of the tests of int_decide:
-`W 5 -2` for a whole point, `G` for a gap, and for a refutation its nodes in order: `L 0:1 1:-1` a leaf with
-its parts, `C 1 2` a cut of column 1 at 2, `A 3` cases of 3 members.
+It reads the lines of `number_table` that ask for `plain_and_decide`, and prints them with the answers at the depths 0, 1 and 2, as
+crates/number_table/stdout has them, but without limits on numbers:
+decide_rows.py < crates/number_table/stdin
 """
+import re
 from fractions import Fraction
 from math import ceil, floor, gcd
 
@@ -168,42 +169,57 @@ def decide(n, depth, rows, groups):
 
 def shown(answer):
     if answer[0] == "W":
-        return " ".join(["W"] + [str(v) for v in answer[1]])
+        return " ".join(["point"] + [str(v) for v in answer[1]])
     if answer[0] == "G":
-        return "G"
+        return "gap"
     words = []
     for node in answer[1]:
         if node[0] == "L":
             words.append(" ".join(["L"] + [f"{i}:{x}" for i, x in node[1]]))
+        elif node[0] == "C":
+            words.append(f"x{node[1]}<={node[2]}")
         else:
-            words.append(" ".join(str(x) for x in node))
+            words.append(f"A{node[1]}")
     return " ".join(words)
 
 
-def parsed_row(text):
-    """A row like `2 -1 <= 5`: the coefficients of the columns from 0 on, the kind, the bound."""
-    kind = "=" if " = " in text else "<="
-    left, bound = text.split(f" {kind} ")
-    return Row({c: int(a) for c, a in enumerate(left.split())}, kind == "=", int(bound))
+def number(word):
+    """Digits, or a number as `(2^127-1)`."""
+    power = re.fullmatch(r"\(?(-?)2\^(\d+)([+-]\d+)?\)?", word)
+    if power is None:
+        return int(word)
+    sign, exponent, more = power.groups()
+    return (-1 if sign else 1) * 2 ** int(exponent) + int(more or 0)
 
 
-def parsed(text):
-    """Rows parted by `,`; then groups, each in braces, its members parted by `|`. One level of groups."""
-    rows, *groups = text.split("{")
-    row_list = [parsed_row(r.strip()) for r in rows.split(",") if r.strip()]
-    members = [
-        [([parsed_row(r.strip()) for r in m.split(",") if r.strip()], []) for m in g.rstrip("} ").split("|")]
-        for g in groups
-    ]
-    return row_list, members
+def parsed(words):
+    """The rows and groups of the words of a system, up to the end or the parenthesis behind a member."""
+    rows, groups, terms, is_equality = [], [], {}, None
+    for word in words:
+        if word == ")":
+            break
+        if word == "{":
+            groups.append([])
+        elif word == "(":
+            groups[-1].append(parsed(words))
+        elif word in ("<=", "="):
+            is_equality = word == "="
+        elif "x" in word:
+            coefficient, column = word.split("x")
+            terms[int(column)] = terms.get(int(column), 0) + number(coefficient)
+        elif word != "}" and is_equality is not None:
+            rows.append(Row(terms, is_equality, number(word.rstrip(","))))
+            terms, is_equality = {}, None
+    return rows, groups
 
 
 if __name__ == "__main__":
     import sys
 
     for line in sys.stdin:
-        if line.strip():
-            columns, text = line.strip().split(";")
-            rows, groups = parsed(text)
+        function, _, arguments = line.strip().partition(" ")
+        if function == "int_decide::plain_and_decide":
+            system, columns = arguments.split(";")
+            rows, groups = parsed(iter(system.split()))
             answers = [shown(decide(int(columns), d, [tightened(r) for r in rows], groups)) for d in range(3)]
-            print(f"{columns};{text};" + ";".join(answers))
+            print(f"{line.strip()} => {' | '.join(answers)} | agrees")
