@@ -35,7 +35,7 @@ fn call_of(text: &str) -> Call<'_> {
     }
 }
 
-/// Writes words so often, a number and the words behind it.
+/// Writes the words behind a number, so many times.
 fn repeat(whole: &mut String, repeated: &str) -> Result<(), Fault> {
     let (times, words) = repeated.split_once(' ').ok_or(Fault::NoCall)?;
     for _time in 0..small_number(times)? {
@@ -72,7 +72,8 @@ fn answer(alloc: Global, text: &mut String, owner: &str, call: Call) -> Result<(
 }
 
 fn answer_expanded(alloc: Global, text: &mut String, whole: &str) -> Result<(), Fault> {
-    let (owner, call) = whole.split_once("::").ok_or(Fault::NoCall)?;
+    let (owner, path) = whole.split_once(':').ok_or(Fault::NoCall)?;
+    let call = path.strip_prefix(':').ok_or(Fault::NoCall)?;
     answer(alloc, text, owner, call_of(call))
 }
 

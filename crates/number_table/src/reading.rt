@@ -8,7 +8,7 @@ use std::alloc::Global;
 
 /// A count, a column, or the number of a row.
 pub(crate) fn small_number(word: &str) -> Result<u32, Fault> {
-    Ok(u32::try_from(number(word)?).map_err(|_| Fault::NoCall)?)
+    u32::try_from(number(word)?).map_err(|_| Fault::NoCall)
 }
 
 /// A number: digits, `2^k`, `-2^k`, `(2^k-n)` or `(-2^k+n)`.
@@ -188,7 +188,8 @@ fn add_part(nodes: &mut Vec<Node>, number: u32, multiplier: i128) -> Result<(), 
 
 /// The column and the number of a cut.
 pub(crate) fn cut_of(word: &str) -> Result<(Col, i128), Fault> {
-    let (column, k) = word.split_once("<=").ok_or(Fault::NoCall)?;
+    let (column, kind) = word.split_once('<').ok_or(Fault::NoCall)?;
+    let k = kind.strip_prefix('=').ok_or(Fault::NoCall)?;
     Ok((small_number(column)?, number(k)?))
 }
 
