@@ -1,9 +1,0 @@
-use denote.Param.Send.{sendable}
-use Rattle.boogie_tree.proofs.Crossing.{program_send, program_sync}
-use Rattle.language_tests.proofs.printing.programs_go_between_threads.Goals as goal
-
-pub shared-requires-send-T : goal.shared-requires-send-T
-shared-requires-send-T g c κs = search (sendable, program_send)
-
-pub shared-requires-sync-T : goal.shared-requires-sync-T
-shared-requires-sync-T g c κs = search (sendable, program_sync)

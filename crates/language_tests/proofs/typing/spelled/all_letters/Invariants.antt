@@ -1,7 +1,0 @@
-use Rattle.std.proofs.Common.{◌≡◌, drop}
-use Rattle.std.specs.List.{list_all}
-use Rattle.typing_rules.specs.Names.{is_letter}
-use Rattle.language_tests.proofs.typing.spelled.all_letters.Given as goal
-
-abbrev pub invariant-loop-byte : goal.invariant-loop-byte
-invariant-loop-byte l = list_all is_letter (drop l.byte-index l.bytes) ≡ list_all is_letter l.bytes
