@@ -1,5 +1,6 @@
-ghost use Rattle.std.specs.Prelude.{◌≡◌, ◌≤◌, ◌+◌, Bool, not, [], ◌∷◌, length, IfOk, IfSome};
+ghost use Rattle.std.specs.Prelude.{◌≡◌, ◌≤◌, ◌+◌, ◌↔◌, Bool, not, [], ◌∷◌, length, IsTrue, IfOk, IfSome};
 ghost use Rattle.std.specs.Arc.{arc_value};
+ghost use Rattle.nwa_base.specs.Acceptance.{Accepts};
 ghost use Rattle.nwa_base.specs.declared.letters.Kind.TheVariants as kinds;
 ghost use Rattle.race_core.specs.Histories.{Keeps};
 ghost use Rattle.version_cell.specs.Passes.{IsPassOf, newcomer};
@@ -80,10 +81,10 @@ fn one(alloc: Global, first: bool) -> Result<Word, NwaFault>
     word(letters).ok_or(NwaFault::BadLetter)
 }
 
-fn entry(alloc: Global, first: bool) -> Result<Entry<Sample>, NwaFault>
-    ensures { IfOk result (λ e. (e.word ≡ letter_of first ∷ []) × (e.evidence.nwa ≡ one_word first)) }
+/// The entry of the word with an automaton of its own.
+fn entry_for(alloc: Global, word: Word, first: bool) -> Result<Entry<Sample>, NwaFault>
+    ensures { IfOk result (λ e. (e.word ≡ word) × (e.evidence.nwa ≡ one_word first)) }
 {
-    let word = one(alloc, first)?;
     let nwa = only(alloc, first)?;
     Ok(Entry {
         word,
@@ -91,12 +92,26 @@ fn entry(alloc: Global, first: bool) -> Result<Entry<Sample>, NwaFault>
     })
 }
 
+fn entry(alloc: Global, first: bool) -> Result<Entry<Sample>, NwaFault>
+    ensures { IfOk result (λ e. (e.word ≡ letter_of first ∷ []) × (e.evidence.nwa ≡ one_word first)) }
+{
+    let word = one(alloc, first)?;
+    entry_for(alloc, word, first)
+}
+
+/// Whether the word is kept.
+fn is_left(alloc: Global, kept: &Nwa, first: bool) -> Result<bool, NwaFault>
+    ensures { IfOk result (λ b. IsTrue b ↔ Accepts kept.now (letter_of first ∷ [])) }
+{
+    let word = one(alloc, first)?;
+    Ok(accepts(alloc, kept, &word)?)
+}
+
 /// What is kept when the other word was taken: this one, where it is kept.
 fn rest(alloc: Global, kept: &Nwa, first: bool) -> Result<Nwa, NwaFault>
     ensures { IfOk result (λ m. IsRest kept.now first m) }
 {
-    let word = one(alloc, first)?;
-    if accepts(alloc, kept, &word)? {
+    if is_left(alloc, kept, first)? {
         Ok(only(alloc, first)?)
     } else {
         Ok(nothing(alloc)?)
@@ -121,7 +136,7 @@ fn look<R: Wait>(rt: &R, cell: &VersionCell<Sample>, pass: &mut Pass<Sample>) ->
     requires { IsPassOf cell.now pass.old }
     ensures kept { IfSome result (λ s. (length pass.new.seen ≡ s.version) × Keeps (λ (x : Sample). x.nwa) pass.new.program pass.new.seen (arc_value s.kept)) }
     ensures of_cell { IsPassOf cell.now pass.new }
-    ensures shares { (pass.new.shares ≡ pass.old.shares) × (pass.new.total ≡ pass.old.total) }
+    ensures shares { pass.new.shares ≡ pass.old.shares }
 {
     cell.read(rt, pass).ok()
 }
@@ -133,17 +148,23 @@ fn spells(entry: Option<&Entry<Sample>>, first: bool) -> bool {
     }
 }
 
-/// What came of a publication.
+/// What a pass is told.
 #[derive(Clone, Copy, Debug, PartialEq, Eq)]
 enum Told {
-    /// It made this version.
+    /// It has read this version, with so many words left, and this end.
+    Read(u64, usize, Option<EndKind>),
+    /// Its publication made this version.
     Published(u64),
-    /// It was refused for this reason. The entry came back, with an automaton of as many edges.
+    /// Its publication was refused for this reason. The entry came back, with an automaton of as many edges.
     Refused(Why, usize),
-    /// It was refused, and another entry came back.
+    /// Its publication was refused, and another entry came back.
     Changed,
     /// The word is not left.
     NotLeft,
+    /// It has ended the race.
+    Finished,
+    /// Its end was refused for this reason.
+    NotFinished(Why),
     /// There is no memory.
     Nothing,
 }
@@ -180,10 +201,9 @@ fn offer<R: Wait>(
     requires of_cell { IsPassOf cell.now pass.old × (cell.now.program ≡ two_words) }
     requires found { (length pass.old.seen ≡ found.now.version) × Keeps (λ (x : Sample). x.nwa) pass.old.program pass.old.seen (arc_value found.now.kept) }
     ensures of_cell { IsPassOf cell.now pass.new }
-    ensures shares { (pass.new.shares ≡ pass.old.shares) × (pass.new.total ≡ pass.old.total) }
+    ensures shares { pass.new.shares ≡ pass.old.shares }
 {
-    let word = one(alloc, first)?;
-    if !accepts(alloc, &found.kept, &word)? {
+    if !is_left(alloc, &found.kept, first)? {
         return Ok(None);
     }
     let kept = Arc::new(alloc, rest(alloc, &found.kept, !first)?)?;
@@ -203,7 +223,7 @@ fn offer_over<R: Wait>(
     requires of_cell { IsPassOf cell.now pass.old × (cell.now.program ≡ two_words) }
     requires found { IfSome found.now (λ s. (length pass.old.seen ≡ s.version) × Keeps (λ (x : Sample). x.nwa) pass.old.program pass.old.seen (arc_value s.kept)) }
     ensures of_cell { IsPassOf cell.now pass.new }
-    ensures shares { (pass.new.shares ≡ pass.old.shares) × (pass.new.total ≡ pass.old.total) }
+    ensures shares { pass.new.shares ≡ pass.old.shares }
 {
     match found {
         Some(found) => summary(&offer(rt, alloc, cell, pass, found, first)),
@@ -211,35 +231,37 @@ fn offer_over<R: Wait>(
     }
 }
 
-fn refusal(answer: &Result<(), FinishRefused>) -> Option<Why> {
+fn ended(answer: &Result<(), FinishRefused>) -> Told {
     match answer {
-        Ok(()) => None,
-        Err(refused) => Some(refused.why),
+        Ok(()) => Told::Finished,
+        Err(refused) => Told::NotFinished(refused.why),
     }
 }
 
-/// Ends the race as safe at the base. The reason of a refusal.
-fn finish<R: Wait>(
-    rt: &R,
-    cell: &VersionCell<Sample>,
-    pass: &mut Pass<Sample>,
-    base: u64,
-) -> Option<Why>
+/// Ends the race as safe at the base.
+fn finish<R: Wait>(rt: &R, cell: &VersionCell<Sample>, pass: &mut Pass<Sample>, base: u64) -> Told
     requires { IsPassOf cell.now pass.old }
     ensures of_cell { IsPassOf cell.now pass.new }
-    ensures shares { (pass.new.shares ≡ pass.old.shares) × (pass.new.total ≡ pass.old.total) }
+    ensures shares { pass.new.shares ≡ pass.old.shares }
 {
-    refusal(&cell.finish(rt, pass, base, End::Safe))
+    ended(&cell.finish(rt, pass, base, End::Safe))
 }
 
-/// The version that was read, how many words are left, and the end.
-type Read = (u64, usize, Option<EndKind>);
-
-fn shown(found: &Option<Snapshot>) -> Option<Read> {
+fn seen(found: &Option<Snapshot>) -> Told {
     match found {
-        Some(found) => Some((found.version, found.kept.insides().len(), found.ended)),
-        None => None,
+        Some(found) => Told::Read(found.version, found.kept.insides().len(), found.ended),
+        None => Told::Nothing,
     }
+}
+
+/// Reads.
+fn glance<R: Wait>(rt: &R, cell: &VersionCell<Sample>, pass: &mut Pass<Sample>) -> Told
+    requires { IsPassOf cell.now pass.old }
+    ensures of_cell { IsPassOf cell.now pass.new }
+    ensures shares { pass.new.shares ≡ pass.old.shares }
+{
+    let found = look(rt, cell, pass);
+    seen(&found)
 }
 
 /// Reads and publishes once.
@@ -249,14 +271,90 @@ fn attempt<R: Wait>(
     cell: &VersionCell<Sample>,
     pass: &mut Pass<Sample>,
     first: bool,
-) -> (Option<Read>, Told)
+) -> Told
     requires { IsPassOf cell.now pass.old × (cell.now.program ≡ two_words) }
     ensures of_cell { IsPassOf cell.now pass.new }
-    ensures shares { (pass.new.shares ≡ pass.old.shares) × (pass.new.total ≡ pass.old.total) }
+    ensures shares { pass.new.shares ≡ pass.old.shares }
 {
     let found = look(rt, cell, pass);
-    let told = offer_over(rt, alloc, cell, pass, &found, first);
-    (shown(&found), told)
+    offer_over(rt, alloc, cell, pass, &found, first)
+}
+
+/// What a pass does.
+#[derive(Clone, Copy)]
+enum Step {
+    /// It reads.
+    Read,
+    /// It reads, and publishes the word a for true, b for false.
+    Publish(bool),
+    /// It ends the race as safe at this base.
+    Finish(u64),
+}
+
+fn act<R: Wait>(
+    rt: &R,
+    alloc: Global,
+    cell: &VersionCell<Sample>,
+    pass: &mut Pass<Sample>,
+    step: Step,
+) -> Told
+    requires { IsPassOf cell.now pass.old × (cell.now.program ≡ two_words) }
+    ensures of_cell { IsPassOf cell.now pass.new }
+    ensures shares { pass.new.shares ≡ pass.old.shares }
+{
+    match step {
+        Step::Read => glance(rt, cell, pass),
+        Step::Publish(first) => attempt(rt, alloc, cell, pass, first),
+        Step::Finish(base) => finish(rt, cell, pass, base),
+    }
+}
+
+/// A step of the first pass, or of the second.
+fn turn<R: Wait>(
+    rt: &R,
+    alloc: Global,
+    cell: &VersionCell<Sample>,
+    first: &mut Pass<Sample>,
+    second: &mut Pass<Sample>,
+    is_first: bool,
+    step: Step,
+) -> Told
+    requires of_cell { IsPassOf cell.now first.old × (cell.now.program ≡ two_words) }
+    requires second { IsPassOf cell.now second.old }
+    ensures first { IsPassOf cell.now first.new × (first.new.shares ≡ first.old.shares) }
+    ensures second { IsPassOf cell.now second.new × (second.new.shares ≡ second.old.shares) }
+{
+    if is_first {
+        act(rt, alloc, cell, first, step)
+    } else {
+        act(rt, alloc, cell, second, step)
+    }
+}
+
+/// Whether it is the first pass that acts, its step, and what it is told.
+type Turn = (bool, Step, Told);
+
+/// What was told at the first turn at which something else is wanted.
+fn first_wrong_turn<R: Wait>(
+    rt: &R,
+    alloc: Global,
+    cell: &VersionCell<Sample>,
+    first: &mut Pass<Sample>,
+    second: &mut Pass<Sample>,
+    turns: &[Turn],
+) -> Option<Told>
+    requires of_cell { IsPassOf cell.now first.old × (cell.now.program ≡ two_words) }
+    requires second { IsPassOf cell.now second.old }
+    ensures first { IsPassOf cell.now first.new × (first.new.shares ≡ first.old.shares) }
+    ensures second { IsPassOf cell.now second.new × (second.new.shares ≡ second.old.shares) }
+{
+    for (is_first, step, wanted) in turns {
+        let told = turn(rt, alloc, cell, first, second, *is_first, *step);
+        if told != *wanted {
+            return Some(told);
+        }
+    }
+    None
 }
 
 /// Both passes read, then the first publishes a, and the second b over what it read before.
@@ -269,8 +367,8 @@ fn both_offer<R: Wait>(
 ) -> [Told; 2]
     requires of_cell { IsPassOf cell.now first.old × (cell.now.program ≡ two_words) }
     requires second { IsPassOf cell.now second.old }
-    ensures first { IsPassOf cell.now first.new × (first.new.shares ≡ first.old.shares) × (first.new.total ≡ first.old.total) }
-    ensures second { IsPassOf cell.now second.new × (second.new.shares ≡ second.old.shares) × (second.new.total ≡ second.old.total) }
+    ensures first { IsPassOf cell.now first.new × (first.new.shares ≡ first.old.shares) }
+    ensures second { IsPassOf cell.now second.new × (second.new.shares ≡ second.old.shares) }
 {
     let opening = look(rt, cell, first);
     let early = look(rt, cell, second);
@@ -280,31 +378,22 @@ fn both_offer<R: Wait>(
 }
 
 /// The second publishes a word after it has read again, and the first ends the race.
-fn two_words<R: Wait>(
-    rt: &R,
-    alloc: Global,
-    cell: &VersionCell<Sample>,
-    first: &mut Pass<Sample>,
-    second: &mut Pass<Sample>,
-) -> [bool; 5]
-    requires of_cell { IsPassOf cell.now first.old × (cell.now.program ≡ two_words) }
-    requires second { IsPassOf cell.now second.old }
-    ensures first { IsPassOf cell.now first.new × (first.new.shares ≡ first.old.shares) × (first.new.total ≡ first.old.total) }
-    ensures second { IsPassOf cell.now second.new × (second.new.shares ≡ second.old.shares) × (second.new.total ≡ second.old.total) }
-{
-    let (later, two) = attempt(rt, alloc, cell, second, false);
-    let last = shown(&look(rt, cell, first));
-    let refused = finish(rt, cell, first, 1);
-    let finished = finish(rt, cell, first, 2);
-    let ended = finish(rt, cell, second, 2);
-    [
-        later == Some((1, 1, None)) && two == Told::Published(2),
-        last == Some((2, 0, None)),
-        refused == Some(Why::Stale { version: 2 }),
-        finished.is_none(),
-        ended == Some(Why::Ended(EndKind::Safe)),
-    ]
-}
+const TWO_WORDS: [Turn; 6] = [
+    (false, Step::Read, Told::Read(1, 1, None)),
+    (false, Step::Publish(false), Told::Published(2)),
+    (true, Step::Read, Told::Read(2, 0, None)),
+    (
+        true,
+        Step::Finish(1),
+        Told::NotFinished(Why::Stale { version: 2 }),
+    ),
+    (true, Step::Finish(2), Told::Finished),
+    (
+        false,
+        Step::Finish(2),
+        Told::NotFinished(Why::Ended(EndKind::Safe)),
+    ),
+];
 
 /// Whether the closed race has both words in this order, and an end.
 fn has_both(state: &Shared<Sample>) -> [bool; 4] {
@@ -321,16 +410,16 @@ fn has_both(state: &Shared<Sample>) -> [bool; 4] {
 fn words_in_turn<R: Wait>(
     rt: &R,
     alloc: Global,
-) -> Result<([Told; 2], [bool; 5], [bool; 4]), NwaFault> {
+) -> Result<([Told; 2], Option<Told>, [bool; 4]), NwaFault> {
     let (cell, mut first) = cell(alloc, 2, 2)?;
     let mut second = cell.split(&mut first);
     shared(&cell);
     sent(&second);
     let offered = both_offer(rt, alloc, &cell, &mut first, &mut second);
-    let words = two_words(rt, alloc, &cell, &mut first, &mut second);
+    let wrong = first_wrong_turn(rt, alloc, &cell, &mut first, &mut second, &TWO_WORDS);
     cell.join(&mut first, second);
     let state = cell.close(first);
-    Ok((offered, words, has_both(&state)))
+    Ok((offered, wrong, has_both(&state)))
 }
 
 /// What both passes are told of their first words: the second has read too early.
@@ -341,47 +430,45 @@ const IN_TURN: [Told; 2] = [
 
 #[test]
 fn two_words_in_turn(rt: HostRuntime) -> Result<(), Fail> {
-    let (offered, words, closed) = words_in_turn(&rt, rt.alloc())?;
+    let (offered, wrong, closed) = words_in_turn(&rt, rt.alloc())?;
     assert!(rt; offered == IN_TURN, "{offered:?}");
-    assert!(rt;
-        words == [true; 5] && closed == [true; 4],
-        "{words:?} {closed:?}"
-    );
+    assert!(rt; wrong.is_none(), "{wrong:?}");
+    assert!(rt; closed == [true; 4], "{closed:?}");
     Ok(())
 }
 
 /// The second word is refused also over the last version; after the end everything is.
-fn full<R: Wait>(
-    rt: &R,
-    alloc: Global,
-    cell: &VersionCell<Sample>,
-    first: &mut Pass<Sample>,
-    second: &mut Pass<Sample>,
-) -> [bool; 5]
-    requires of_cell { IsPassOf cell.now first.old × (cell.now.program ≡ two_words) }
-    requires second { IsPassOf cell.now second.old }
-{
-    let (_, at_1) = attempt(rt, alloc, cell, second, false);
-    let stale = finish(rt, cell, second, 0);
-    let finished = finish(rt, cell, second, 1);
-    let ended = finish(rt, cell, first, 1);
-    let (last, late) = attempt(rt, alloc, cell, first, false);
-    let safe = Why::Ended(EndKind::Safe);
-    [
-        at_1 == Told::Refused(Why::Full { limit: 1 }, 0),
-        stale == Some(Why::Stale { version: 1 }),
-        finished.is_none(),
-        ended == Some(safe),
-        last == Some((1, 1, Some(EndKind::Safe))) && late == Told::Refused(safe, 0),
-    ]
-}
+const AFTER_FULL: [Turn; 6] = [
+    (
+        false,
+        Step::Publish(false),
+        Told::Refused(Why::Full { limit: 1 }, 0),
+    ),
+    (
+        false,
+        Step::Finish(0),
+        Told::NotFinished(Why::Stale { version: 1 }),
+    ),
+    (false, Step::Finish(1), Told::Finished),
+    (
+        true,
+        Step::Finish(1),
+        Told::NotFinished(Why::Ended(EndKind::Safe)),
+    ),
+    (true, Step::Read, Told::Read(1, 1, Some(EndKind::Safe))),
+    (
+        true,
+        Step::Publish(false),
+        Told::Refused(Why::Ended(EndKind::Safe), 0),
+    ),
+];
 
-fn full_race<R: Wait>(rt: &R, alloc: Global) -> Result<([Told; 2], [bool; 5]), NwaFault> {
+fn full_race<R: Wait>(rt: &R, alloc: Global) -> Result<([Told; 2], Option<Told>), NwaFault> {
     let (cell, mut first) = cell(alloc, 1, 2)?;
     let mut second = cell.split(&mut first);
     let offered = both_offer(rt, alloc, &cell, &mut first, &mut second);
-    let after = full(rt, alloc, &cell, &mut first, &mut second);
-    Ok((offered, after))
+    let wrong = first_wrong_turn(rt, alloc, &cell, &mut first, &mut second, &AFTER_FULL);
+    Ok((offered, wrong))
 }
 
 /// What both passes are told where the limit is 1: the second has read too early, and is refused for the limit.
@@ -390,9 +477,9 @@ const FULL: [Told; 2] = [Told::Published(1), Told::Refused(Why::Full { limit: 1 
 /// With a limit of 1 a second entry is refused as `Full` at any base, and after the end everything as `Ended`.
 #[test]
 fn full_comes_before_stale(rt: HostRuntime) -> Result<(), Fail> {
-    let (offered, after) = full_race(&rt, rt.alloc())?;
+    let (offered, wrong) = full_race(&rt, rt.alloc())?;
     assert!(rt; offered == FULL, "{offered:?}");
-    assert!(rt; after == [true; 5], "{after:?}");
+    assert!(rt; wrong.is_none(), "{wrong:?}");
     Ok(())
 }
 
@@ -410,10 +497,10 @@ fn attempts<R: Wait>(
 ) -> bool
     requires { IsPassOf cell.now pass.old × (cell.now.program ≡ two_words) }
     ensures of_cell { IsPassOf cell.now pass.new }
-    ensures shares { (pass.new.shares ≡ pass.old.shares) × (pass.new.total ≡ pass.old.total) }
+    ensures shares { pass.new.shares ≡ pass.old.shares }
 {
-    let (_, once) = attempt(rt, alloc, cell, pass, first);
-    let (_, twice) = attempt(rt, alloc, cell, pass, first);
+    let once = attempt(rt, alloc, cell, pass, first);
+    let twice = attempt(rt, alloc, cell, pass, first);
     is_published(once) | is_published(twice)
 }
 
@@ -427,7 +514,7 @@ fn work<R: Wait>(
 ) -> (bool, Pass<Sample>)
     requires { IsPassOf cell.now pass × (cell.now.program ≡ two_words) }
     ensures of_cell { IsPassOf cell.now result.1 }
-    ensures shares { (result.1.shares ≡ pass.shares) × (result.1.total ≡ pass.total) }
+    ensures shares { result.1.shares ≡ pass.shares }
 {
     let mut pass = pass;
     let done = attempts(rt, alloc, cell, &mut pass, first);
@@ -443,17 +530,17 @@ fn both_work<R: Threads + Wait + Sync>(
     two: Pass<Sample>,
 ) -> (bool, Pass<Sample>)
     requires { IsPassOf cell.now one × IsPassOf cell.now two × (cell.now.program ≡ two_words) }
-    ensures { IsPassOf cell.now result.1 × (result.1.shares ≡ one.shares + two.shares) × (result.1.total ≡ one.total) }
+    ensures { IsPassOf cell.now result.1 × (result.1.shares ≡ one.shares + two.shares) }
 {
     let (one, two) = join(
         rt,
         || -> (bool, Pass<Sample>)
             requires { IsPassOf cell.now one × (cell.now.program ≡ two_words) }
-            ensures { IsPassOf cell.entry.now result.1 × (result.1.shares ≡ one.shares) × (result.1.total ≡ one.total) }
+            ensures { IsPassOf cell.entry.now result.1 × (result.1.shares ≡ one.shares) }
         { work(rt, alloc, cell, one, true) },
         || -> (bool, Pass<Sample>)
             requires { IsPassOf cell.now two × (cell.now.program ≡ two_words) }
-            ensures { IsPassOf cell.entry.now result.1 × (result.1.shares ≡ two.shares) × (result.1.total ≡ two.total) }
+            ensures { IsPassOf cell.entry.now result.1 × (result.1.shares ≡ two.shares) }
         { work(rt, alloc, cell, two, false) },
     );
     let (one_done, mut pass) = one;
@@ -492,7 +579,7 @@ fn two_threads(rt: HostRuntime) -> Result<(), Fail> {
 /// Splits a pass off as often as is said, and joins all of them again.
 fn split_and_join(cell: &VersionCell<Sample>, pass: &mut Pass<Sample>, times: u64)
     requires { IsPassOf cell.now pass.old × (times + 1 ≤ pass.old.shares) }
-    ensures { IsPassOf cell.now pass.new × (pass.new.shares ≡ pass.old.shares) × (pass.new.total ≡ pass.old.total) }
+    ensures { IsPassOf cell.now pass.new × (pass.new.shares ≡ pass.old.shares) }
 {
     if times > 0 {
         let other = cell.split(pass);
@@ -518,19 +605,18 @@ fn many_passes(rt: HostRuntime) -> Result<(), Fail> {
 }
 
 /// Publishes with one pass where the other was dropped, and ends the race.
-fn with_one_left<R: Wait>(rt: &R, alloc: Global) -> Result<(bool, Option<Why>), NwaFault> {
+fn with_one_left<R: Wait>(rt: &R, alloc: Global) -> Result<[Told; 2], NwaFault> {
     let (cell, mut first) = cell(alloc, 2, 2)?;
     let dropped = cell.split(&mut first);
     drop(dropped);
-    let (_, told) = attempt(rt, alloc, &cell, &mut first, true);
-    let refused = finish(rt, &cell, &mut first, 1);
-    Ok((is_published(told), refused))
+    let told = attempt(rt, alloc, &cell, &mut first, true);
+    Ok([told, finish(rt, &cell, &mut first, 1)])
 }
 
 /// A pass that is dropped keeps its shares, and the others go on.
 #[test]
 fn a_dropped_pass(rt: HostRuntime) -> Result<(), Fail> {
     let found = with_one_left(&rt, rt.alloc())?;
-    assert!(rt; found == (true, None), "{found:?}");
+    assert!(rt; found == [Told::Published(1), Told::Finished], "{found:?}");
     Ok(())
 }

@@ -1,19 +1,5 @@
-//! Tests of nested words: automata, their operations, and the race over them.
+//! Tests of the cell that the threads of a race share.
 #![tactic(auto)]
 
 #[cfg(test)]
-mod automata;
-#[cfg(test)]
 mod cells;
-#[cfg(test)]
-mod determinising;
-#[cfg(test)]
-mod differences;
-#[cfg(test)]
-mod emptiness;
-#[cfg(test)]
-mod making;
-#[cfg(test)]
-mod races;
-#[cfg(test)]
-mod reducing;
