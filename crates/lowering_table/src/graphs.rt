@@ -1,39 +1,38 @@
 //! An automaton as text: its frames, letters, edges and assertions, a line each.
 
+use crate::printing::{
+    end_line, show_count, show_line, show_number, show_numbers, show_text, show_value,
+};
 use boogie_tree::Column;
-use letter_acts::{Act, Frame, Icfg};
+use letter_acts::{Act, Frame, Icfg, Site};
 use lin_rows::{Row, RowKind};
+use nwa_base::{Letter, Nwa};
 use std::io;
-
-fn show_numbers(rt: &HostRuntime, numbers: &[u32]) -> io::Result<()> {
-    for number in numbers {
-        print!(rt; " {number}")?;
-    }
-    Ok(())
-}
 
 fn show_row(rt: &HostRuntime, row: &Row) -> io::Result<()> {
     for (column, coefficient) in row.terms() {
-        print!(rt; " {coefficient}*{column}")?;
+        show_value(rt, " ", *coefficient)?;
+        show_number(rt, "*", *column)?;
     }
-    let bound = row.bound();
-    match row.kind() {
-        RowKind::Le => print!(rt; " <= {bound};")?,
-        RowKind::Eq => print!(rt; " = {bound};")?,
-    }
-    Ok(())
+    let mark = match row.kind() {
+        RowKind::Le => " <= ",
+        RowKind::Eq => " = ",
+    };
+    show_value(rt, mark, row.bound())?;
+    show_text(rt, ";")
 }
 
-fn show_rows(rt: &HostRuntime, rows: &[Row]) -> io::Result<()> {
-    print!(rt; ":")?;
+/// The rows behind a colon, up to the end of the line.
+pub(crate) fn show_rows(rt: &HostRuntime, rows: &[Row]) -> io::Result<()> {
+    show_text(rt, ":")?;
     for row in rows {
         show_row(rt, row)?;
     }
-    println!(rt; "")?;
-    Ok(())
+    end_line(rt)
 }
 
-fn show_act(rt: &HostRuntime, act: &Act) -> io::Result<()> {
+/// What a letter does, as a line.
+pub(crate) fn show_act(rt: &HostRuntime, act: &Act) -> io::Result<()> {
     match act {
         Act::Inside {
             proc,
@@ -41,7 +40,9 @@ fn show_act(rt: &HostRuntime, act: &Act) -> io::Result<()> {
             helpers,
             rows,
         } => {
-            print!(rt; "in {proc} +{helpers} writes")?;
+            show_number(rt, "in ", *proc)?;
+            show_number(rt, " +", *helpers)?;
+            show_text(rt, " writes")?;
             show_numbers(rt, written)?;
             show_rows(rt, rows)
         }
@@ -51,37 +52,48 @@ fn show_act(rt: &HostRuntime, act: &Act) -> io::Result<()> {
             helpers,
             rows,
         } => {
-            print!(rt; "call {caller} {callee} +{helpers}")?;
+            show_number(rt, "call ", *caller)?;
+            show_number(rt, " ", *callee)?;
+            show_number(rt, " +", *helpers)?;
             show_rows(rt, rows)
         }
         Act::Back { call, targets } => {
-            print!(rt; "back {call} gives")?;
+            show_number(rt, "back ", *call)?;
+            show_text(rt, " gives")?;
             show_numbers(rt, targets)?;
-            println!(rt; "")?;
-            Ok(())
+            end_line(rt)
         }
     }
 }
 
-fn show_frame(rt: &HostRuntime, frame: &Frame) -> io::Result<()> {
-    print!(rt; "frame")?;
+/// A column by its set and number.
+pub(crate) fn show_column(rt: &HostRuntime, column: Column) -> io::Result<()> {
+    match column {
+        Column::Global(number) => show_number(rt, " g", number),
+        Column::Old(number) => show_number(rt, " o", number),
+        Column::Local(number) => show_number(rt, " l", number),
+    }
+}
+
+pub(crate) fn show_frame(rt: &HostRuntime, frame: &Frame) -> io::Result<()> {
+    show_text(rt, "frame")?;
     for (column, _) in &frame.columns {
-        match column {
-            Column::Global(number) => print!(rt; " g{number}")?,
-            Column::Old(number) => print!(rt; " o{number}")?,
-            Column::Local(number) => print!(rt; " l{number}")?,
-        }
+        show_column(rt, *column)?;
     }
-    println!(rt; "")?;
-    Ok(())
+    end_line(rt)
 }
 
-fn show_place(rt: &HostRuntime, name: &str, place: &Option<u32>) -> io::Result<()> {
-    match place {
-        Some(number) => print!(rt; " {name} {number}")?,
-        None => print!(rt; " no {name}")?,
+fn show_ends(rt: &HostRuntime, entry: Option<u32>, exit: Option<u32>) -> io::Result<()> {
+    show_text(rt, "proc")?;
+    match entry {
+        Some(number) => show_number(rt, " entry ", number)?,
+        None => show_text(rt, " no entry")?,
     }
-    Ok(())
+    match exit {
+        Some(number) => show_number(rt, " exit ", number)?,
+        None => show_text(rt, " no exit")?,
+    }
+    end_line(rt)
 }
 
 fn show_procedures(rt: &HostRuntime, graph: &Icfg) -> io::Result<()> {
@@ -91,62 +103,106 @@ fn show_procedures(rt: &HostRuntime, graph: &Icfg) -> io::Result<()> {
         .zip(graph.entries().iter().zip(graph.exits()))
     {
         show_frame(rt, frame)?;
-        print!(rt; "proc")?;
-        show_place(rt, "entry", entry)?;
-        show_place(rt, "exit", exit)?;
-        println!(rt; "")?;
+        show_ends(rt, *entry, *exit)?;
     }
-    print!(rt; "places")?;
+    show_text(rt, "places")?;
     show_numbers(rt, graph.place_procs())?;
-    println!(rt; "")?;
-    Ok(())
+    end_line(rt)
 }
 
-fn show_letters(rt: &HostRuntime, graph: &Icfg) -> io::Result<()> {
-    for (number, act) in graph.acts().iter().enumerate() {
-        print!(rt; "{number} ")?;
+/// The letters by their numbers.
+pub(crate) fn show_acts(rt: &HostRuntime, acts: &[Act]) -> io::Result<()> {
+    for (number, act) in acts.iter().enumerate() {
+        show_count(rt, "", number)?;
+        show_text(rt, " ")?;
         show_act(rt, act)?;
     }
     Ok(())
 }
 
-fn show_edges(rt: &HostRuntime, graph: &Icfg) -> io::Result<()> {
-    for (from, letter, to) in graph.nwa().insides() {
-        let id = letter.id;
-        print!(rt; "{from}-{id}-{to} ")?;
+fn show_edge(rt: &HostRuntime, from: u32, letter: &Letter, to: u32) -> io::Result<()> {
+    show_number(rt, "", from)?;
+    show_number(rt, "-", letter.id)?;
+    show_number(rt, "-", to)
+}
+
+fn show_insides(rt: &HostRuntime, nwa: &Nwa) -> io::Result<()> {
+    for (from, letter, to) in nwa.insides() {
+        show_edge(rt, *from, letter, *to)?;
+        show_text(rt, " ")?;
     }
-    println!(rt; "")?;
-    for (from, letter, to) in graph.nwa().calls() {
-        let id = letter.id;
-        println!(rt; "call {from}-{id}-{to}")?;
-    }
-    for (from, before, letter, to) in graph.nwa().backs() {
-        let id = letter.id;
-        println!(rt; "back {from} {before}-{id}-{to}")?;
+    end_line(rt)
+}
+
+fn show_calls(rt: &HostRuntime, nwa: &Nwa) -> io::Result<()> {
+    for (from, letter, to) in nwa.calls() {
+        show_text(rt, "call ")?;
+        show_edge(rt, *from, letter, *to)?;
+        end_line(rt)?;
     }
     Ok(())
+}
+
+fn show_backs(rt: &HostRuntime, nwa: &Nwa) -> io::Result<()> {
+    for (from, before, letter, to) in nwa.backs() {
+        show_number(rt, "back ", *from)?;
+        show_text(rt, " ")?;
+        show_edge(rt, *before, letter, *to)?;
+        end_line(rt)?;
+    }
+    Ok(())
+}
+
+fn show_site(rt: &HostRuntime, site: &Site) -> io::Result<()> {
+    show_number(rt, "fails ", site.id.number)?;
+    show_number(rt, " line ", site.id.line)?;
+    show_number(rt, " at ", site.place)?;
+    end_line(rt)
+}
+
+fn show_sites(rt: &HostRuntime, sites: &[Site]) -> io::Result<()> {
+    for site in sites {
+        show_site(rt, site)?;
+    }
+    show_line(rt, "---")
 }
 
 /// An automaton with more letters is counted alone.
 const MOST_LETTERS: usize = 200;
 
+fn show_size(rt: &HostRuntime, graph: &Icfg) -> io::Result<()> {
+    show_number(rt, "places ", graph.nwa().states())?;
+    show_count(rt, " letters ", graph.acts().len())?;
+    end_line(rt)
+}
+
 /// The automaton.
 pub(crate) fn show_graph(rt: &HostRuntime, graph: &Icfg) -> io::Result<()> {
-    let letters = graph.acts().len();
-    if letters > MOST_LETTERS {
-        let places = graph.nwa().states();
-        println!(rt; "places {places} letters {letters}")?;
-        return Ok(());
+    if graph.acts().len() > MOST_LETTERS {
+        return show_size(rt, graph);
     }
     show_procedures(rt, graph)?;
-    show_letters(rt, graph)?;
-    show_edges(rt, graph)?;
-    for site in graph.sites() {
-        let number = site.id.number;
-        let line = site.id.line;
-        let place = site.place;
-        println!(rt; "fails {number} line {line} at {place}")?;
+    show_acts(rt, graph.acts())?;
+    show_insides(rt, graph.nwa())?;
+    show_calls(rt, graph.nwa())?;
+    show_backs(rt, graph.nwa())?;
+    show_sites(rt, graph.sites())
+}
+
+fn show_names(rt: &HostRuntime, graph: &Icfg) -> io::Result<()> {
+    show_text(rt, "names")?;
+    for name in graph.names() {
+        show_text(rt, " ")?;
+        show_text(rt, str::from_utf8(name.bytes()).unwrap_or("?"))?;
     }
-    println!(rt; "---")?;
-    Ok(())
+    end_line(rt)
+}
+
+/// The names of the procedures, the final places, and the automaton.
+pub(crate) fn show_whole(rt: &HostRuntime, graph: &Icfg) -> io::Result<()> {
+    show_names(rt, graph)?;
+    show_text(rt, "finals")?;
+    show_numbers(rt, graph.nwa().finals())?;
+    end_line(rt)?;
+    show_graph(rt, graph)
 }

@@ -1,8 +1,10 @@
 //! Whole programs.
 
 use crate::graphs::show_graph;
+use crate::printing::{end_line, show_line, show_number};
 use crate::runs::{read_line, show_run};
 use boogie_parse::parse;
+use boogie_tree::Span;
 use boogie_types::resolve;
 use icfg_lower::{LowerFault, lower};
 use std::io;
@@ -12,20 +14,27 @@ use typing_rules::Typed;
 const MOST_BYTES: usize = 1_048_576;
 
 /// The program of a text; where it is none, that is printed.
-fn resolved(rt: &HostRuntime, text: &[u8]) -> io::Result<Option<Typed>> {
+pub(crate) fn resolved(rt: &HostRuntime, text: &[u8]) -> io::Result<Option<Typed>> {
     if text.len() > MOST_BYTES {
-        println!(rt; "too long")?;
+        show_line(rt, "too long")?;
         return Ok(None);
     }
     let Ok(program) = parse(rt.alloc(), text) else {
-        println!(rt; "no program")?;
+        show_line(rt, "no program")?;
         return Ok(None);
     };
     let Ok(typed) = resolve(rt.alloc(), program, "main") else {
-        println!(rt; "ill typed")?;
+        show_line(rt, "ill typed")?;
         return Ok(None);
     };
     Ok(Some(typed))
+}
+
+/// Where a statement or a condition cannot be lowered.
+fn show_refused(rt: &HostRuntime, why: &str, span: Span) -> io::Result<()> {
+    show_number(rt, why, span.line)?;
+    show_number(rt, " ", span.col)?;
+    end_line(rt)
 }
 
 /// The automaton of a program, or why it has none.
@@ -35,22 +44,9 @@ pub(crate) fn show_program(rt: &HostRuntime, text: &[u8]) -> io::Result<()> {
     };
     match lower(rt.alloc(), &typed) {
         Ok(graph) => show_graph(rt, &graph),
-        Err(LowerFault::TooWide(span)) => {
-            let line = span.line;
-            let col = span.col;
-            println!(rt; "TooWide {line} {col}")?;
-            Ok(())
-        }
-        Err(LowerFault::TooBig(span)) => {
-            let line = span.line;
-            let col = span.col;
-            println!(rt; "TooBig {line} {col}")?;
-            Ok(())
-        }
-        Err(LowerFault::Memory) => {
-            println!(rt; "memory")?;
-            Ok(())
-        }
+        Err(LowerFault::TooWide(span)) => show_refused(rt, "TooWide ", span),
+        Err(LowerFault::TooBig(span)) => show_refused(rt, "TooBig ", span),
+        Err(LowerFault::Memory) => show_line(rt, "memory"),
     }
 }
 
@@ -61,9 +57,6 @@ pub(crate) fn show_told(rt: &HostRuntime, text: &[u8], line: &[u8]) -> io::Resul
     };
     match read_line(rt.alloc(), line)? {
         Some(told) => show_run(rt, &typed, &told),
-        None => {
-            println!(rt; "no word and point")?;
-            Ok(())
-        }
+        None => show_line(rt, "no word and point"),
     }
 }

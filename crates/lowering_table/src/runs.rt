@@ -11,6 +11,8 @@ ghost use Rattle.nwa_base.specs.Acceptance.{Accepts};
 ghost use Rattle.lowered_graph.specs.Lowered.{lowered};
 ghost use Rattle.path_rows.specs.Paths.{path_of};
 
+use crate::printing::{end_line, show_line, show_number, show_value};
+use crate::reading::{numbers, values};
 use icfg_lower::lower;
 use letter_acts::{Act, Icfg};
 use lin_rows::{Col, Row, holds};
@@ -26,30 +28,6 @@ use typing_rules::Typed;
 pub(crate) struct Told {
     pub(crate) letters: Vec<u32>,
     pub(crate) point: Vec<i128>,
-}
-
-/// The numbers of a text with blanks between them.
-fn numbers(alloc: Global, text: &str) -> Result<Option<Vec<u32>>, AllocError> {
-    let mut numbers = Vec::new(alloc);
-    for word in text.split_whitespace() {
-        let Ok(number) = word.parse::<u32>() else {
-            return Ok(None);
-        };
-        numbers.push(number)?;
-    }
-    Ok(Some(numbers))
-}
-
-/// The values of a text with blanks between them.
-fn values(alloc: Global, text: &str) -> Result<Option<Vec<i128>>, AllocError> {
-    let mut values = Vec::new(alloc);
-    for word in text.split_whitespace() {
-        let Ok(value) = word.parse::<i128>() else {
-            return Ok(None);
-        };
-        values.push(value)?;
-    }
-    Ok(Some(values))
 }
 
 /// What a line tells behind its first word: the letters, and behind a colon the point.
@@ -156,18 +134,16 @@ fn show_trail(rt: &HostRuntime, program: &Typed, trail: &Trail) -> io::Result<()
     let steps = trail.steps;
     print!(rt; "steps {steps} choices")?;
     for choice in &trail.choices {
-        let value = choice.0;
-        print!(rt; " {value}")?;
+        show_value(rt, " ", choice.0)?;
     }
     match replay(rt.alloc(), program, trail) {
         Ok(id) => {
-            let number = id.number;
-            let line = id.line;
-            println!(rt; " fails {number} line {line}")?;
+            show_number(rt, " fails ", id.number)?;
+            show_number(rt, " line ", id.line)?;
+            end_line(rt)
         }
-        Err(_) => println!(rt; " does not replay")?,
+        Err(_) => show_line(rt, " does not replay"),
     }
-    Ok(())
 }
 
 /// Whether the point has a value for each column of the rows of the word, and meets them.
@@ -201,14 +177,8 @@ fn show_choices(
 {
     match choices_of(rt.alloc(), program, graph, word, point) {
         Ok(trail) => show_trail(rt, program, &trail),
-        Err(ReplayFault::At { step, cause }) => {
-            println!(rt; "{cause:?} at step {step}")?;
-            Ok(())
-        }
-        Err(ReplayFault::Memory) => {
-            println!(rt; "memory")?;
-            Ok(())
-        }
+        Err(ReplayFault::At { step, cause }) => { println!(rt; "{cause:?} at step {step}") }
+        Err(ReplayFault::Memory) => show_line(rt, "memory"),
     }
 }
 
@@ -223,12 +193,10 @@ fn show_word(
     requires { graph.now ≡ lowered (typed_program program.now) }
 {
     if !accepts(rt.alloc(), graph.nwa(), word)? {
-        println!(rt; "not accepted")?;
-        return Ok(());
+        return show_line(rt, "not accepted");
     }
     if !is_solved(rt.alloc(), graph, word, point)? {
-        println!(rt; "no point of the rows")?;
-        return Ok(());
+        return show_line(rt, "no point of the rows");
     }
     show_choices(rt, program, graph, word, point)
 }
@@ -239,10 +207,7 @@ fn show_letters(rt: &HostRuntime, program: &Typed, graph: &Icfg, told: &Told) ->
 {
     match spelled(rt.alloc(), graph.acts(), &told.letters)? {
         Some(word) => show_word(rt, program, graph, &word, &told.point),
-        None => {
-            println!(rt; "no word")?;
-            Ok(())
-        }
+        None => show_line(rt, "no word"),
     }
 }
 
@@ -250,9 +215,6 @@ fn show_letters(rt: &HostRuntime, program: &Typed, graph: &Icfg, told: &Told) ->
 pub(crate) fn show_run(rt: &HostRuntime, program: &Typed, told: &Told) -> io::Result<()> {
     match lower(rt.alloc(), program) {
         Ok(graph) => show_letters(rt, program, &graph, told),
-        Err(_) => {
-            println!(rt; "not lowered")?;
-            Ok(())
-        }
+        Err(_) => show_line(rt, "not lowered"),
     }
 }
