@@ -1,0 +1,4 @@
+mod ParsedNames
+mod ReturnTests
+mod RowsRefuted
+mod SmallTrees

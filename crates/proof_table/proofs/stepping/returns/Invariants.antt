@@ -1,0 +1,6 @@
+use Rattle.std.proofs.Common.{◌≡◌, ◌++◌, drop}
+use Rattle.nested_predicates.specs.Walking.{return_tests}
+use Rattle.proof_table.proofs.stepping.returns.Given as goal
+
+abbrev pub invariant-loop-i : goal.invariant-loop-i
+invariant-loop-i l = l.tests.items ++ return_tests (drop l.i l.letters) ≡ return_tests l.letters

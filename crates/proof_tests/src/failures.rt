@@ -1,2 +1,0 @@
-mod replays;
-mod texts;

@@ -1,3 +1,0 @@
-mod ParsedNames
-mod RowsRefuted
-mod SmallTrees
