@@ -1,9 +1,5 @@
-//! Tests of the command line, files and races.
+//! Tests of files and of the standard output, and of texts in memory. The cases of the command line are those of `command_table`.
 #![tactic(auto)]
 
 #[cfg(test)]
-mod commands;
-#[cfg(test)]
 mod files;
-#[cfg(test)]
-mod races;

@@ -1,22 +1,11 @@
-//! Schedules of several workers, by gates. That workers run at the same time is shown here and nowhere else.
+//! Schedules of several workers, forced by gates. That workers run at the same time is shown here and nowhere else.
 
-use automizer_top::run;
-use outer_io::{MemShelf, MemSink};
 use race_workers::{Gate, Moment};
-use std::alloc::Global;
-use std::sync::Wait;
+use std::alloc::AllocError;
 use std::sync::atomic::{AtomicU64, Ordering};
-use std::test::Fail;
-use std::thread::Threads;
 
 /// How often a gate looks before it gives up.
 const TURNS: u64 = 1_000_000_000;
-
-/// Two error words, each of which needs an automaton of its own.
-const TWO_WORDS: &str = "procedure main() { var x: int; x := 1; assert x == 1; }";
-
-/// One error word.
-const ONE_WORD: &str = "procedure main() { var x: int; x := 1; assert x >= 1; }";
 
 /// A count of workers that have come to a moment, for which others wait.
 #[derive(Drop)]
@@ -58,7 +47,7 @@ impl Arrivals {
 
 /// The moments of one worker, a digit for each, as far as nine of them.
 #[derive(Drop)]
-struct Record {
+pub(crate) struct Record {
     digits: AtomicU64,
 }
 
@@ -98,7 +87,7 @@ impl Gate for Record {
 
 /// Nobody passes a moment of this kind before so many workers have come to it.
 #[derive(Drop)]
-struct AllAt {
+pub(crate) struct AllAt {
     moment: Moment,
     workers: u64,
     there: Arrivals,
@@ -111,6 +100,11 @@ impl AllAt {
             workers,
             there: Arrivals::new(),
         }
+    }
+
+    /// Whether a worker comes to the moment once.
+    fn is_once(&self) -> bool {
+        self.moment == Moment::Finishing
     }
 }
 
@@ -126,7 +120,7 @@ impl Gate for AllAt {
 /// Holds worker 1 at Publishing until worker 0 is there, worker 0 there until worker 1 has published, and worker 1 at Published until
 /// worker 0 has published too. So worker 0 is refused as stale.
 #[derive(Drop)]
-struct FirstIsStale {
+pub(crate) struct FirstIsStale {
     first_publishes: Arrivals,
     first_published: Arrivals,
     second_published: Arrivals,
@@ -167,7 +161,7 @@ impl Gate for FirstIsStale {
 
 /// Nobody passes Publishing before two workers are there, and the one that then publishes is held until the other is about to finish.
 #[derive(Drop)]
-struct OtherIsFull {
+pub(crate) struct OtherIsFull {
     publishing: Arrivals,
     finishing: Arrivals,
 }
@@ -195,115 +189,73 @@ impl Gate for OtherIsFull {
     }
 }
 
-/// How what is written of the program begins with these words, whether as wanted, how many entries the closed history has, and the
-/// status.
-fn begins<G: Gate + Sync, R: Threads + Wait + Sync>(
-    rt: &R,
-    alloc: Global,
-    words: &[&str],
-    program: &str,
-    wanted: &str,
-    gate: &G,
-) -> Result<(bool, usize, u8), Fail> {
-    let mut all = Vec::new(alloc);
-    for word in words {
-        all.push(String::from_str(alloc, word)?)?;
+/// What forces a schedule, and tells of it.
+#[derive(Drop)]
+pub(crate) enum Schedule {
+    Free,
+    Moments(Record),
+    Together(AllAt),
+    Stale(FirstIsStale),
+    Full(OtherIsFull),
+}
+
+impl Schedule {
+    /// The schedule of that name.
+    pub(crate) fn named(name: &str) -> Option<Schedule> {
+        match name {
+            "moments" => Some(Schedule::Moments(Record::new())),
+            "four build" => Some(Schedule::Together(AllAt::new(Moment::Built, 4))),
+            "two finish" => Some(Schedule::Together(AllAt::new(Moment::Finishing, 2))),
+            "first is stale" => Some(Schedule::Stale(FirstIsStale::new())),
+            "other is full" => Some(Schedule::Full(OtherIsFull::new())),
+            _ => None,
+        }
     }
-    let text = program.as_bytes().to_vec(alloc)?;
-    let texts = vec![in alloc; (String::from_str(alloc, "p")?, text)]?;
-    let mut shelf = MemShelf::new(texts, 65_536, Vec::new(alloc));
-    let mut sink = MemSink::new(alloc, 65_536, Vec::new(alloc));
-    let mut closed = Vec::new(alloc);
-    let status = run(rt, alloc, &all, &mut shelf, &mut sink, gate, &mut closed);
-    let entries = match closed.last() {
-        Some(race) => race.history().len(),
-        None => 0,
-    };
-    Ok((sink.taken().starts_with(wanted.as_bytes()), entries, status))
+
+    /// Puts what the gate saw behind a text, and how many entries the closed history has.
+    pub(crate) fn push_seen(&self, shown: &mut String, entries: usize) -> Result<(), AllocError> {
+        match self {
+            Schedule::Free => return Ok(()),
+            Schedule::Moments(record) => push_moments(shown, record.digits())?,
+            Schedule::Together(all) => push_arrivals(shown, all.there.all(), all.is_once())?,
+            Schedule::Stale(stale) => {
+                push_moments(shown, stale.first_moments.digits())?;
+                push_arrivals(shown, stale.second_published.all(), true)?;
+            }
+            Schedule::Full(full) => {
+                push_arrivals(shown, full.publishing.all(), true)?;
+                push_arrivals(shown, full.finishing.all(), false)?;
+            }
+        }
+        writeln!(shown, "entries {entries}")
+    }
 }
 
-/// One worker reads, makes an entry, reads, builds and publishes, reads, and finishes.
-#[test]
-fn one_worker_is_told_of(rt: HostRuntime) -> Result<(), Fail> {
-    let gate = Record::new();
-    let words = ["verify", "p", "--workers", "1"];
-    let found = begins(&rt, rt.alloc(), &words, ONE_WORD, "safe\nrounds 1\n", &gate)?;
-    assert_eq!(rt; found, (true, 1, 0));
-    assert_eq!(rt; gate.digits(), 1_123_416);
-    Ok(())
+impl Gate for Schedule {
+    fn at(&self, worker: u32, moment: Moment) {
+        match self {
+            Schedule::Free => {}
+            Schedule::Moments(record) => record.at(worker, moment),
+            Schedule::Together(all) => all.at(worker, moment),
+            Schedule::Stale(stale) => stale.at(worker, moment),
+            Schedule::Full(full) => full.at(worker, moment),
+        }
+    }
 }
 
-/// Worker 0 is refused as stale once, and offers its entry anew at version 1, since the other took another word.
-#[test]
-fn one_worker_is_stale(rt: HostRuntime) -> Result<(), Fail> {
-    let gate = FirstIsStale::new();
-    let words = ["verify", "p", "--rounds", "1000", "--workers", "2"];
-    let found = begins(
-        &rt,
-        rt.alloc(),
-        &words,
-        TWO_WORDS,
-        "safe\nrounds 2\n",
-        &gate,
-    )?;
-    assert_eq!(rt; found, (true, 2, 0));
-    assert_eq!(rt; gate.first_moments.digits(), 112_351_234);
-    assert_eq!(rt; gate.second_published.all(), Some(1));
-    Ok(())
+fn push_moments(shown: &mut String, digits: u64) -> Result<(), AllocError> {
+    writeln!(shown, "moments {digits}")
 }
 
-/// Four workers have built from version 0 at one time.
-#[test]
-fn four_workers_build(rt: HostRuntime) -> Result<(), Fail> {
-    let gate = AllAt::new(Moment::Built, 4);
-    let words = ["verify", "p", "--workers", "4"];
-    let found = begins(
-        &rt,
-        rt.alloc(),
-        &words,
-        TWO_WORDS,
-        "safe\nrounds 2\n",
-        &gate,
-    )?;
-    assert_eq!(rt; found, (true, 2, 0));
-    assert!(rt; gate.there.all().is_some());
-    Ok(())
-}
-
-/// Two workers are about to end the race of a program without error words: one end is taken and the other refused.
-#[test]
-fn two_workers_finish(rt: HostRuntime) -> Result<(), Fail> {
-    let gate = AllAt::new(Moment::Finishing, 2);
-    let words = ["verify", "p", "--workers", "2"];
-    let wanted = "safe\nrounds 0\nannotation 1\nnode 0 0 0\nnode 1 1 0\nstep 0 0 1\nend\n";
-    let found = begins(
-        &rt,
-        rt.alloc(),
-        &words,
-        "procedure main() { }",
-        wanted,
-        &gate,
-    )?;
-    assert_eq!(rt; found, (true, 0, 0));
-    assert_eq!(rt; gate.there.all(), Some(2));
-    Ok(())
-}
-
-/// Two workers publish where there is room for one entry: the other reads again, and finishes by what is kept then.
-#[test]
-fn one_worker_finds_no_room(rt: HostRuntime) -> Result<(), Fail> {
-    let gate = OtherIsFull::new();
-    let words = ["verify", "p", "--rounds", "1", "--workers", "2"];
-    let found = begins(
-        &rt,
-        rt.alloc(),
-        &words,
-        TWO_WORDS,
-        "unknown rounds\nrounds 1\n",
-        &gate,
-    )?;
-    assert_eq!(rt; found, (true, 1, 2));
-    assert_eq!(rt; gate.publishing.all(), Some(2));
-    assert!(rt; gate.finishing.all().is_some());
-    Ok(())
+/// How many came, where they are counted, unless one gave up waiting for more.
+fn push_arrivals(
+    shown: &mut String,
+    came: Option<u64>,
+    is_counted: bool,
+) -> Result<(), AllocError> {
+    match came {
+        None => shown.push_str("gave up\n"),
+        Some(count) if is_counted => writeln!(shown, "came {count}"),
+        Some(_) => shown.push_str("came\n"),
+    }
 }
