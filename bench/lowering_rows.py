@@ -1,7 +1,8 @@
 #!/usr/bin/env python3
 """Programs with their automata, worked out by hand from the tables of paths, points and edges in docs/FORMATS.md, as what `lowering_table`
 reads and prints, and runs that words and points of their rows tell, from the tables of steps and of the rows of a word there:
-lowering_rows.py [FOLDER] writes the files stdin and stdout, into crates/lowering_table where no folder is named.
+lowering_rows.py [FOLDER] writes the files stdin and stdout, into crates/lowering_table where no folder is named. What stands in them from the
+first line with `#` on stays.
 
 A row: the program; the procedure of each place; of each procedure its frame, entry and exit; the letters; the inside edges; calls; returns;
 and of each assertion its line and its place."""
@@ -334,10 +335,17 @@ none(GLOBALS + "assert false; }", "0 1", "5 2 0 0 5 2", "no point of the rows")
 none(GLOBALS + "assert false; }", "0", "5 1 0 0 5 1", "not accepted")
 
 
+def write(path: pathlib.Path, text: str, behind: str) -> None:
+    """Writes the text in place of what stands before the other cases, which begin with a mark behind a line."""
+    old = path.read_text(encoding="ascii") if path.exists() else ""
+    at = old.find("\n" + behind)
+    path.write_text(text + (old[at + 1 :] if at >= 0 else ""), encoding="ascii")
+
+
 def main() -> None:
     folder = pathlib.Path(sys.argv[1]) if len(sys.argv) > 1 else pathlib.Path(__file__).resolve().parent.parent / "crates" / "lowering_table"
-    (folder / "stdin").write_text("".join(text + "\n" + end + "\n" for text, end, _ in rows), encoding="ascii")
-    (folder / "stdout").write_text("".join(told + "\n" for _, _, told in rows), encoding="ascii")
+    write(folder / "stdin", "".join(text + "\n" + end + "\n" for text, end, _ in rows), "\n#")
+    write(folder / "stdout", "".join(told + "\n" for _, _, told in rows), "#")
     print(len(rows), "programs")
 
 
