@@ -42,7 +42,7 @@ if [ -x "$program" ]; then
   rm -f "$text" "$text.answer"
 fi
 # The script runs it too, where no source is newer, through a link from another folder, and names of files are those of that folder.
-if [ -x "$program" ] && [ -z "$(find crates -path '*/src/*' -name '*.rt' -newer "$program" -print -quit)" ]; then
+if [ -x "$program" ] && [ -z "$(find crates/*/src -name '*.rt' -newer "$program" -print -quit)" ]; then
   away=$(mktemp -d) || exit 1
   ln -s "$PWD/automizer" "$away/link"
   cp examples/check/fill.bpl examples/check/fill.proof "$away"
