@@ -30,9 +30,9 @@ ENDS = {
 }
 
 
-def edits_of(name, top=TOP):
+def edits_of(name):
     """The paths of a crate's edits, of both kinds."""
-    return sorted(glob.glob(f"{top}/crates/{name}/must-fail/*.edit") + glob.glob(f"{top}/edits/{name}/*.edit"))
+    return sorted(glob.glob(f"{TOP}/crates/{name}/must-fail/*.edit") + glob.glob(f"{TOP}/edits/{name}/*.edit"))
 
 
 def wrong_with(name, edit):

@@ -144,7 +144,7 @@ def link(room, life):
 
 
 def answers(program):
-    """Whether the program prints a program as it should."""
+    """Whether the program accepts an annotation that proves a program."""
     text = f"{CRATE}/data/p"
     try:
         ran = subprocess.run([program, "check", text, f"{CRATE}/data/q"], stdin=subprocess.DEVNULL, capture_output=True, timeout=60)
