@@ -1,11 +1,13 @@
 //! Paths that are being made, letter by letter.
 
-ghost use Rattle.std.specs.Prelude.{◌≡◌, ◌+◌, ◌<◌, ◌≤◌, ◌^◌, ◌++◌, [], ◌∷◌, Some, IfOk, OnOk, length, slice_get};
+ghost use Rattle.std.specs.Prelude.{◌≡◌, ◌+◌, ◌<◌, ◌≤◌, ◌^◌, ◌++◌, [], ◌∷◌, Some, IfOk, OnOk, length, map, slice_get};
 ghost use Rattle.letter_acts.specs.Acts.{plain_act, frame_of};
 ghost use Rattle.letter_acts.specs.Invariant.{alphabet_of};
 ghost use Rattle.letter_acts.specs.Kept.{Keeps};
 ghost use Rattle.path_rows.specs.Paths.{repeated};
 ghost use Rattle.path_rows.specs.Stages.{BackFitsFrom, returned_from};
+ghost use Rattle.path_rows.specs.Rows.{bounds, types_of};
+ghost use Rattle.path_rows.specs.Versions.{columns_from};
 
 use crate::frames::types_of;
 use crate::parts::{MOST_COLUMNS, Made, call_part, inside_part};
@@ -56,23 +58,34 @@ impl Draft {
         if frame.len() > MOST_COLUMNS {
             return Err(AllocError);
         }
-        let types = types_of(alloc, frame)?;
-        let rows = bound_rows(alloc, 0, &types)?;
-        let mut row_at = Vec::new(alloc);
-        add_times(&mut row_at, 0, rows.len())?;
-        let mut column_at = Vec::new(alloc);
-        add_times(&mut column_at, 0, frame.len())?;
-        let mut here = Vec::new(alloc);
-        add_columns(&mut here, 0, frame.len())?;
-        Ok(Draft {
+        let rows = start_rows(alloc, frame)?;
+        let mut draft = Draft {
             made: frame.len(),
-            here,
+            here: Vec::new(alloc),
             saved: Vec::new(alloc),
             rows,
-            row_at,
-            column_at,
+            row_at: Vec::new(alloc),
+            column_at: Vec::new(alloc),
             states: Vec::new(alloc),
-        })
+        };
+        draft.number_all()?;
+        Ok(draft)
+    }
+
+    /// Adds the versions at the start, and says that no letter made the rows and columns.
+    fn number_all(&mut self) -> Result<(), AllocError>
+        requires { self.old.made ≤ 2 ^ 32 }
+        ensures here { OnOk result (self.new.here.items ≡ self.old.here.items ++ columns_from 0 self.old.made) }
+        ensures row_at { OnOk result (self.new.row_at.items ≡ self.old.row_at.items ++ repeated 0 (length self.old.rows.items)) }
+        ensures column_at { OnOk result (self.new.column_at.items ≡ self.old.column_at.items ++ repeated 0 self.old.made) }
+        ensures made { self.new.made ≡ self.old.made }
+        ensures rows { self.new.rows ≡ self.old.rows }
+        ensures saved { self.new.saved ≡ self.old.saved }
+        ensures states { self.new.states ≡ self.old.states }
+    {
+        add_times(&mut self.row_at, 0, self.rows.len())?;
+        add_times(&mut self.column_at, 0, self.made)?;
+        add_columns(&mut self.here, 0, self.made)
     }
 
     /// Adds what a letter of this number made.
@@ -85,11 +98,44 @@ impl Draft {
             columns,
             here,
         } = made;
+        self.go_to(here)?;
+        self.add_rows(number, &mut rows, columns)
+    }
+
+    /// Adds rows and columns that a letter of this number made.
+    fn add_rows(
+        &mut self,
+        number: u32,
+        rows: &mut Vec<Row>,
+        columns: usize,
+    ) -> Result<(), AllocError>
+        requires { self.old.made + columns ≤ 2 ^ 32 }
+        ensures made { OnOk result (self.new.made ≡ self.old.made + columns) }
+        ensures rows { OnOk result (self.new.rows.items ≡ self.old.rows.items ++ rows.old.items) }
+        ensures row_at { OnOk result (self.new.row_at.items ≡ self.old.row_at.items ++ repeated number (length rows.old.items)) }
+        ensures column_at { OnOk result (self.new.column_at.items ≡ self.old.column_at.items ++ repeated number columns) }
+        ensures here { self.new.here ≡ self.old.here }
+        ensures saved { self.new.saved ≡ self.old.saved }
+        ensures states { self.new.states ≡ self.old.states }
+    {
         add_times(&mut self.row_at, number, rows.len())?;
         add_times(&mut self.column_at, number, columns)?;
-        self.rows.append(&mut rows)?;
-        self.states.push(replace(&mut self.here, here))?;
+        self.rows.append(rows)?;
         self.made += columns;
+        Ok(())
+    }
+
+    /// Goes on with these versions.
+    fn go_to(&mut self, here: Vec<Col>) -> Result<(), AllocError>
+        ensures here { OnOk result (self.new.here.items ≡ here.items) }
+        ensures states { OnOk result (map (λ v. v.items) self.new.states.items ≡ map (λ v. v.items) self.old.states.items ++ self.old.here.items ∷ []) }
+        ensures made { self.new.made ≡ self.old.made }
+        ensures rows { self.new.rows ≡ self.old.rows }
+        ensures saved { self.new.saved ≡ self.old.saved }
+        ensures row_at { self.new.row_at ≡ self.old.row_at }
+        ensures column_at { self.new.column_at ≡ self.old.column_at }
+    {
+        self.states.push(replace(&mut self.here, here))?;
         Ok(())
     }
 
@@ -189,6 +235,15 @@ impl Draft {
             Act::Back { call, targets } => { self.read_back(alloc, icfg, *call, targets, number) }
         }
     }
+}
+
+/// The bounds of the columns of the frame at the start.
+fn start_rows(alloc: Global, frame: &[(Column, VarInfo)]) -> Result<Vec<Row>, AllocError>
+    requires { length frame.now ≤ 2 ^ 32 }
+    ensures { IfOk result (λ v. v.items ≡ bounds 0 (types_of frame.now)) }
+{
+    let types = types_of(alloc, frame)?;
+    bound_rows(alloc, 0, &types)
 }
 
 /// The act of a letter.

@@ -66,8 +66,8 @@ pub(crate) fn entered(
     requires olds_fit { olds.0 + olds.1 ≤ 2 ^ 32 }
     ensures { IfOk result (λ v. v.items ≡ entered callee.now locals.0 olds.0 here.now) }
 {
-    let globals = numbers_of(alloc, callee, Class::Global)?;
-    let mut entry = Vec::from_slice(alloc, &here[..globals.len()])?;
+    let globals = global_count(alloc, callee)?;
+    let mut entry = Vec::from_slice(alloc, &here[..globals])?;
     add_columns(&mut entry, olds.0, olds.1)?;
     add_columns(&mut entry, locals.0, locals.1)?;
     Ok(entry)
@@ -90,11 +90,37 @@ pub(crate) fn returned(
     requires targets { AllByRecursion (λ c. c < length before.now) targets.now }
     ensures { IfOk result (λ v. v.items ≡ returned caller.now callee.now targets.now exit.now before.now) }
 {
-    let globals = numbers_of(alloc, caller, Class::Global)?;
+    let globals = global_count(alloc, caller)?;
+    let mut after = Vec::from_slice(alloc, &exit[..globals])?;
+    after.extend_from_slice(&before[globals..])?;
+    write_results(alloc, callee, targets, exit, after.as_mut_slice())?;
+    Ok(after)
+}
+
+/// How many constants and globals a frame has.
+fn global_count(alloc: Global, frame: &[(Column, VarInfo)]) -> Result<usize, AllocError>
+    requires { length frame.now ≤ 2 ^ 32 }
+    ensures { IfOk result (λ n. n ≡ length (globals_of frame.now)) }
+{
+    let globals = numbers_of(alloc, frame, Class::Global)?;
+    Ok(globals.len())
+}
+
+/// Writes the results of a callee over the targets.
+fn write_results(
+    alloc: Global,
+    callee: &[(Column, VarInfo)],
+    targets: &[u32],
+    exit: &[Col],
+    after: &mut [Col],
+) -> Result<(), AllocError>
+    requires numbers { length callee.now ≤ 2 ^ 32 }
+    requires results { AllByRecursion (λ c. c < length exit.now) (results_of callee.now) }
+    requires targets { AllByRecursion (λ c. c < length after.old) targets.now }
+    ensures { OnOk result (after.new ≡ written_over after.old targets.now (map (slice_index exit.now) (results_of callee.now))) }
+{
     let results = numbers_of(alloc, callee, Class::Outcome)?;
     let news = picked(alloc, exit, &results)?;
-    let mut after = Vec::from_slice(alloc, &exit[..globals.len()])?;
-    after.extend_from_slice(&before[globals.len()..])?;
-    write_over(after.as_mut_slice(), targets, &news);
-    Ok(after)
+    write_over(after, targets, &news);
+    Ok(())
 }
