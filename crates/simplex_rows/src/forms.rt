@@ -30,11 +30,17 @@ pub type Form = SmallVec<Term, 4>;
 /// What the terms of a row add up to, as a form over columns.
 pub fn form_of(alloc: Global, row: &Row) -> Result<Form, Stop> {
     let mut form = Form::new(alloc);
-    form.reserve(row.terms().len())?;
-    for (column, coefficient) in row.terms() {
+    push_terms(&mut form, row.terms())?;
+    Ok(form)
+}
+
+/// Adds the terms of a row at the end.
+fn push_terms(form: &mut Form, terms: &[(Col, i128)]) -> Result<(), Stop> {
+    form.reserve(terms.len())?;
+    for (column, coefficient) in terms {
         form.push((Variable::Column(*column), *coefficient))?;
     }
-    Ok(form)
+    Ok(())
 }
 
 /// The coefficient of a variable.
@@ -48,11 +54,17 @@ pub fn coefficient_of(form: &[Term], variable: Variable) -> i128 {
 /// `n*a + m*b`.
 pub fn combined(alloc: Global, n: i128, a: &[Term], m: i128, b: &[Term]) -> Result<Form, Stop> {
     let mut sum = Form::new(alloc);
+    push_combined(&mut sum, n, a, m, b)?;
+    Ok(sum)
+}
+
+/// Adds the terms of `n*a + m*b` at the end.
+fn push_combined(sum: &mut Form, n: i128, a: &[Term], m: i128, b: &[Term]) -> Result<(), Stop> {
     sum.reserve(a.len())?;
     let mut left = a;
     for (variable, coefficient) in b {
         let (before, rest) = left.split_at(left.partition_point(|term| term.0 < *variable));
-        push_products(&mut sum, n, before)?;
+        push_products(sum, n, before)?;
         let (other, rest) = split_at_variable(rest, *variable);
         let coefficient = combination(n, other, m, *coefficient)?;
         if coefficient != 0 {
@@ -60,8 +72,7 @@ pub fn combined(alloc: Global, n: i128, a: &[Term], m: i128, b: &[Term]) -> Resu
         }
         left = rest;
     }
-    push_products(&mut sum, n, left)?;
-    Ok(sum)
+    push_products(sum, n, left)
 }
 
 /// Adds the terms, each taken n times, at the end.

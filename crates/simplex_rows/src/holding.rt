@@ -42,25 +42,43 @@ impl<'a> Tableau<'a> {
 
     /// Takes up the row that fixes a column.
     pub fn aim(&mut self, column: Col) -> Result<(), Stop> {
-        let row = self.fixing(column)?;
-        let mut line = Line {
+        let mut line = self.fixed_line(column)?;
+        self.take_variables_out(&mut line)?;
+        self.lines.push(line)?;
+        Ok(())
+    }
+
+    /// The line of the row that fixes a column, over that column alone, with the value 0.
+    fn fixed_line(&self, column: Col) -> Result<Line, Stop> {
+        let (row, value) = (self.fixing(column)?, whole(0)?);
+        Ok(Line {
             row,
             form: Form::from_slice(self.alloc, &[(Variable::Column(column), 1)])?,
             denominator: 1,
-            value: whole(0)?,
-        };
+            value,
+        })
+    }
+
+    /// Takes out of a line what is no variable of the forms, and gives it the value at hand.
+    fn take_variables_out(&self, line: &mut Line) -> Result<(), Stop> {
         for Solved { column, zero } in &self.solved {
             line.substitute(self.alloc, Variable::Column(*column), zero.as_slice())?;
         }
         for other in &self.lines {
-            if coefficient_of(line.form.as_slice(), Variable::Sum(other.row)) != 0 {
-                let zero = self.zero_of(other)?;
-                line.substitute(self.alloc, Variable::Sum(other.row), zero.as_slice())?;
-            }
+            self.take_row_out(line, other)?;
         }
-        line.value = self.value_at_hand(&line)?;
-        self.lines.push(line)?;
+        line.value = self.value_at_hand(line)?;
         Ok(())
+    }
+
+    /// Takes the row of another line out of a line.
+    fn take_row_out(&self, line: &mut Line, other: &Line) -> Result<(), Stop> {
+        let variable = Variable::Sum(other.row);
+        if coefficient_of(line.form.as_slice(), variable) == 0 {
+            return Ok(());
+        }
+        let zero = self.zero_of(other)?;
+        line.substitute(self.alloc, variable, zero.as_slice())
     }
 
     /// The value of a line at the values of its variables.
@@ -150,7 +168,7 @@ impl<'a> Tableau<'a> {
     }
 
     /// How far the variable with that coefficient moves until the line has the bound of its row.
-    fn way_to_bound(&self, line: &Line, coefficient: i128) -> Result<Frac, Stop> {
+    pub(crate) fn way_to_bound(&self, line: &Line, coefficient: i128) -> Result<Frac, Stop> {
         let missing = sub(&whole(self.bound(line.row)?)?, &line.value)?;
         Ok(mul(&missing, &ratio(line.denominator, coefficient)?)?)
     }
@@ -188,7 +206,7 @@ impl<'a> Tableau<'a> {
     }
 
     /// Drops a line.
-    fn drop_line(&mut self, place: usize) {
+    pub(crate) fn drop_line(&mut self, place: usize) {
         if place < self.lines.len() {
             let _forced = self.lines.swap_remove(place);
         }

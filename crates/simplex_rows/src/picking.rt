@@ -31,23 +31,18 @@ fn picked(alloc: Global, rows: &[Row], columns: u32, pivots: u32) -> Result<Pick
     if let Some(parts) = tableau.solve(pivots)? {
         return Ok(Picked::Refuted(parts));
     }
-    let point = tableau.point(columns)?;
     let mut picker = Picker {
         alloc,
         rows,
-        last_columns: last_columns(alloc, rows)?,
+        last_columns: Vec::new(alloc),
         columns,
         pivots,
         tableau,
-        point,
+        point: Vec::new(alloc),
         waiting: Vec::new(alloc),
         shown: Vec::new(alloc),
     };
-    for column in 0..columns {
-        if !picker.pick(column)? {
-            break;
-        }
-    }
+    picker.pick_columns()?;
     Ok(Picked::Point {
         values: picker.point,
         shown: picker.shown,
@@ -82,44 +77,75 @@ struct Picker<'a> {
 }
 
 impl<'a> Picker<'a> {
+    /// Picks the values of the columns, up to the first that has no whole number.
+    fn pick_columns(&mut self) -> Result<(), Stop> {
+        self.point = self.tableau.point(self.columns)?;
+        self.last_columns = last_columns(self.alloc, self.rows)?;
+        for column in 0..self.columns {
+            if !self.pick(column)? {
+                break;
+            }
+        }
+        Ok(())
+    }
+
     /// Picks the value of a column. False where it has no whole number.
     fn pick(&mut self, column: Col) -> Result<bool, Stop> {
         let Some(value) = self.point.get(column as usize) else {
             return Err(Stop::Past);
         };
         let (k, whole) = (floor(value), is_whole(value));
-        if whole {
-            if let Some(parts) = self.shown_at_once(column, k)? {
-                self.tableau.fix(k)?;
-                self.shown.push(parts)?;
-                return Ok(true);
-            }
-        } else if let (Some(below), Some(above)) = (
-            self.side_shown(column, Way::Down, k)?,
-            self.side_shown(column, Way::Up, k)?,
-        ) {
-            self.shown.push(below)?;
-            self.shown.push(above)?;
-            return Ok(false);
-        }
-        self.seek(column)
+        let shown = if whole {
+            self.take_at_once(column, k)?
+        } else {
+            self.show_sides(column, k)?
+        };
+        if shown { Ok(whole) } else { self.seek(column) }
     }
 
-    /// The parts that show that a whole value is nearest 0, by one row; none for 0.
-    fn shown_at_once(&mut self, column: Col, k: i128) -> Result<Option<Parts>, Stop> {
+    /// Keeps a whole value that is shown to be nearest 0 by one row. False where none shows it.
+    fn take_at_once(&mut self, column: Col, k: i128) -> Result<bool, Stop> {
+        if !self.show_at_once(column, k)? {
+            return Ok(false);
+        }
+        self.waiting.push(column)?;
+        self.tableau.fix(k)?;
+        Ok(true)
+    }
+
+    /// Shows that a whole value is nearest 0, by one row; 0 by none. False where no row shows it.
+    fn show_at_once(&mut self, column: Col, k: i128) -> Result<bool, Stop> {
         if k == 0 {
-            self.waiting.push(column)?;
-            return Ok(Some(Vec::new(self.alloc)));
+            self.shown.push(Vec::new(self.alloc))?;
+            return Ok(true);
         }
-        let parts = if k > 0 {
-            self.side_shown(column, Way::Down, k.saturating_sub(1))?
+        if k > 0 {
+            self.show_side(column, Way::Down, k.saturating_sub(1))
         } else {
-            self.side_shown(column, Way::Up, k)?
-        };
-        if parts.is_some() {
-            self.waiting.push(column)?;
+            self.show_side(column, Way::Up, k)
         }
-        Ok(parts)
+    }
+
+    /// Shows that the column is neither at most k nor at least k + 1, each by one row. False where no row shows it.
+    fn show_sides(&mut self, column: Col, k: i128) -> Result<bool, Stop> {
+        let before = self.shown.len();
+        let below = self.show_side(column, Way::Down, k)?;
+        let above = self.show_side(column, Way::Up, k)?;
+        if !below || !above {
+            self.shown.truncate(before);
+        }
+        Ok(below && above)
+    }
+
+    /// Shows that the column is not at most k, or at least k + 1, by one row. False where no row shows it.
+    fn show_side(&mut self, column: Col, way: Way, k: i128) -> Result<bool, Stop> {
+        match self.side_shown(column, way, k)? {
+            Some(parts) => {
+                self.shown.push(parts)?;
+                Ok(true)
+            }
+            None => Ok(false),
+        }
     }
 
     /// The parts that refute that the column is at most k, or at least k + 1, by one row whose last column it is.
@@ -141,38 +167,69 @@ impl<'a> Picker<'a> {
         let Some(row) = self.rows.get(number as usize) else {
             return Ok(None);
         };
+        match self.sign_shown(row, way, k)? {
+            Some(sign) => Ok(Some(self.parts_of(row, (number, sign))?)),
+            None => Ok(None),
+        }
+    }
+
+    /// How often the row is taken to show that its last column is not at most k, or at least k + 1; `None` where it does not.
+    fn sign_shown(&self, row: &Row, way: Way, k: i128) -> Result<Option<i128>, Stop> {
         let Some((last, others)) = row.terms().split_last() else {
             return Ok(None);
         };
-        let rises = last.1 > 0;
-        let sign = if rises == (way == Way::Up) { 1 } else { -1 };
+        let sign = sign_for(last.1, way);
         if sign < 0 && row.kind() == RowKind::Le {
             return Ok(None);
         }
-        let mut room = row.bound();
-        for (column, coefficient) in others {
+        // the row, with the values, says `sign*last*x <= sign*room`
+        let room = less_product(self.room(row.bound(), others)?, last.1, end_of(way, k))?;
+        Ok(if is_passed(room, sign) {
+            Some(sign)
+        } else {
+            None
+        })
+    }
+
+    /// The part, and those that take the terms out of its row by the values of their columns.
+    fn parts_of(&self, row: &Row, part: (u32, i128)) -> Result<Parts, Stop> {
+        let mut parts = Vec::with_capacity(self.alloc, row.terms().len().saturating_add(1))?;
+        self.push_parts(&mut parts, part, row.terms())?;
+        Ok(parts)
+    }
+
+    /// What a bound leaves where the columns of these terms have the values that are said.
+    fn room(&self, bound: i128, terms: &[(Col, i128)]) -> Result<i128, Stop> {
+        let mut room = bound;
+        for (column, coefficient) in terms {
             room = less_product(room, *coefficient, self.tableau.fixed_at(*column)?)?;
         }
-        // the row, with the values, says `sign*last*x <= sign*room`
-        let end = if way == Way::Down {
-            k
-        } else {
-            k.saturating_add(1)
+        Ok(room)
+    }
+
+    /// Adds a part at the end, and those that take the terms out of its row: all but the last by the values of their columns, and the
+    /// last by what is said of its column.
+    fn push_parts(
+        &self,
+        parts: &mut Parts,
+        part: (u32, i128),
+        terms: &[(Col, i128)],
+    ) -> Result<(), Stop> {
+        parts.push(part)?;
+        let Some((last, others)) = terms.split_last() else {
+            return Ok(());
         };
-        let left = less_product(room, last.1, end)?;
-        if (left < 0) != (sign > 0) || left == 0 {
-            return Ok(None);
-        }
-        let mut parts = Vec::with_capacity(self.alloc, row.terms().len().saturating_add(1))?;
-        parts.push((number, sign))?;
+        let times = if part.1 < 0 { 1 } else { -1 };
         for (column, coefficient) in others {
-            parts.push((
-                self.tableau.fixing(*column)?,
-                coefficient.saturating_mul(-sign),
-            ))?;
+            self.push_fixing(parts, *column, coefficient.saturating_mul(times))?;
         }
-        parts.push((self.tableau.fixing(last.0)?, last.1.saturating_abs()))?;
-        Ok(Some(parts))
+        self.push_fixing(parts, last.0, last.1.saturating_abs())
+    }
+
+    /// Adds so many times the row that fixes a column at the end.
+    fn push_fixing(&self, parts: &mut Parts, column: Col, times: i128) -> Result<(), Stop> {
+        parts.push((self.tableau.fixing(column)?, times))?;
+        Ok(())
     }
 
     /// Picks the value of a column by moving it. False where it has no whole number.
@@ -184,8 +241,16 @@ impl<'a> Picker<'a> {
         self.tableau.fix(0)?;
         self.tableau.aim(column)?;
         let Some(parts) = self.tableau.reach(column, self.pivots)? else {
-            return self.reached(column, Vec::new(self.alloc), true);
+            self.shown.push(Vec::new(self.alloc))?;
+            return self.reached(column, true);
         };
+        self.shown.push(parts)?;
+        self.seek_whole(column)
+    }
+
+    /// Picks the value of a column that was moved as far as it goes, by moving it on to the whole number beyond. False where it has
+    /// no whole number.
+    fn seek_whole(&mut self, column: Col) -> Result<bool, Stop> {
         let end = self.tableau.value_of(column)?;
         // a column that is moved has another value then, and nothing moves without it
         let moves = !is_whole(&end) || !self.is_at(column, &end);
@@ -195,18 +260,20 @@ impl<'a> Picker<'a> {
             k = k.saturating_add(1);
         }
         self.tableau.move_aim(k)?;
-        let Some(others) = self.tableau.reach(column, self.pivots)? else {
-            return self.reached(column, parts, moves);
-        };
-        self.point = self.tableau.point(self.columns)?;
-        if from_above {
-            self.shown.push(parts)?;
-            self.shown.push(others)?;
-        } else {
-            self.shown.push(others)?;
-            self.shown.push(parts)?;
+        match self.tableau.reach(column, self.pivots)? {
+            Some(others) => self.show_other_end(others, from_above)?,
+            None => return self.reached(column, moves),
         }
+        self.point = self.tableau.point(self.columns)?;
         Ok(false)
+    }
+
+    /// Keeps what shows the other end of a column, beside what shows the one that was reached first. The lower end comes first.
+    fn show_other_end(&mut self, others: Parts, is_above: bool) -> Result<(), Stop> {
+        let last = self.shown.len().saturating_sub(1);
+        let place = if is_above { self.shown.len() } else { last };
+        self.shown.insert(place, others)?;
+        Ok(())
     }
 
     /// Whether the point has that value in the column.
@@ -218,14 +285,35 @@ impl<'a> Picker<'a> {
     }
 
     /// Keeps the value of the column that was reached, by moves or without one.
-    fn reached(&mut self, column: Col, parts: Parts, moves: bool) -> Result<bool, Stop> {
+    fn reached(&mut self, column: Col, moves: bool) -> Result<bool, Stop> {
         self.tableau.pin(column)?;
         if moves {
             self.point = self.tableau.point(self.columns)?;
         }
-        self.shown.push(parts)?;
         Ok(true)
     }
+}
+
+/// How often a row with that coefficient of a column is taken to bound it against a way: 1 or -1 times.
+fn sign_for(coefficient: i128, way: Way) -> i128 {
+    match way {
+        Way::Up if coefficient > 0 => 1,
+        Way::Down if coefficient <= 0 => 1,
+        _ => -1,
+    }
+}
+
+/// The end of a side: it is up to k, or from k + 1 on.
+fn end_of(way: Way, k: i128) -> i128 {
+    match way {
+        Way::Down => k,
+        Way::Up => k.saturating_add(1),
+    }
+}
+
+/// Whether so much room, of a row that is taken 1 or -1 times, is too little.
+fn is_passed(room: i128, sign: i128) -> bool {
+    if sign > 0 { room < 0 } else { room > 0 }
 }
 
 /// `a - b*c`.

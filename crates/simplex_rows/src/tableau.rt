@@ -36,6 +36,22 @@ impl Line {
         Ok(())
     }
 
+    /// Takes a variable out, by a form that is 0 and has that coefficient of it, and moves it.
+    fn take_out(
+        &mut self,
+        alloc: Global,
+        by: Term,
+        zero: &[Term],
+        moved: &Frac,
+    ) -> Result<(), Stop> {
+        let other = coefficient_of(self.form.as_slice(), by.0);
+        if other == 0 {
+            return Ok(());
+        }
+        self.move_by(&mul(&ratio(other, self.denominator)?, moved)?)?;
+        self.subtract(alloc, &ratio(other, by.1)?, zero)
+    }
+
     /// Takes a variable out, by a form that is 0. The value stays as it is.
     pub(crate) fn substitute(
         &mut self,
@@ -104,25 +120,15 @@ fn compared(value: &Frac, bound: i128) -> Ordering {
 impl<'a> Tableau<'a> {
     /// The tableau in which all columns are 0.
     pub fn new(alloc: Global, rows: &'a [Row]) -> Result<Self, Stop> {
-        let mut lines = Vec::with_capacity(alloc, rows.len())?;
-        for (number, row) in rows.iter().enumerate() {
-            let Ok(number) = u32::try_from(number) else {
-                return Err(Stop::Past);
-            };
-            lines.push(Line {
-                row: number,
-                form: form_of(alloc, row)?,
-                denominator: 1,
-                value: whole(0)?,
-            })?;
-        }
-        Ok(Tableau {
+        let mut tableau = Tableau {
             alloc,
             rows,
             fixed: Vec::new(alloc),
-            lines,
+            lines: Vec::new(alloc),
             solved: Vec::new(alloc),
-        })
+        };
+        push_lines(alloc, &mut tableau.lines, rows)?;
+        Ok(tableau)
     }
 
     /// Multipliers that refute the rows, or none: then all rows hold at the values at hand.
@@ -224,20 +230,25 @@ impl<'a> Tableau<'a> {
     /// Moves a variable until the row of the line at that place adds up to its bound. The two change places: the row becomes a
     /// variable.
     pub fn pivot(&mut self, place: usize, by: Term) -> Result<(), Stop> {
-        if place >= self.lines.len() {
+        let Some(line) = self.lines.get(place) else {
             return Err(Stop::Past);
+        };
+        let moved = self.way_to_bound(line, by.1)?;
+        let zero = self.zero_of(line)?;
+        self.drop_line(place);
+        self.exchange(by, zero, &moved)
+    }
+
+    /// Takes a variable out of all lines, by a form that is 0, and moves it. It becomes a line, or a column that is solved for.
+    fn exchange(&mut self, by: Term, zero: Form, moved: &Frac) -> Result<(), Stop> {
+        self.substitute(by, zero.as_slice(), moved)?;
+        match by.0 {
+            Variable::Column(column) => {
+                self.solved.push(Solved { column, zero })?;
+                Ok(())
+            }
+            Variable::Sum(row) => self.take_line(row, by.1, zero.as_slice(), moved),
         }
-        let line = self.lines.swap_remove(place);
-        let (variable, coefficient) = by;
-        let missing = sub(&whole(self.bound(line.row)?)?, &line.value)?;
-        let moved = mul(&missing, &ratio(line.denominator, coefficient)?)?;
-        let zero = self.zero_of(&line)?;
-        self.substitute(variable, coefficient, zero.as_slice(), &moved)?;
-        match variable {
-            Variable::Column(column) => self.solved.push(Solved { column, zero })?,
-            Variable::Sum(row) => self.take_line(row, coefficient, zero.as_slice(), &moved)?,
-        }
-        Ok(())
     }
 
     /// The line's form with its own row taken away, which is 0.
@@ -247,20 +258,9 @@ impl<'a> Tableau<'a> {
     }
 
     /// Takes a variable out of all lines, by a form that is 0 and has that coefficient of it, and moves it.
-    fn substitute(
-        &mut self,
-        variable: Variable,
-        coefficient: i128,
-        zero: &[Term],
-        moved: &Frac,
-    ) -> Result<(), Stop> {
+    fn substitute(&mut self, by: Term, zero: &[Term], moved: &Frac) -> Result<(), Stop> {
         for line in &mut self.lines {
-            let other = coefficient_of(line.form.as_slice(), variable);
-            if other != 0 {
-                let times = ratio(other, coefficient)?;
-                line.move_by(&mul(&ratio(other, line.denominator)?, moved)?)?;
-                line.subtract(self.alloc, &times, zero)?;
-            }
+            line.take_out(self.alloc, by, zero, moved)?;
         }
         Ok(())
     }
@@ -275,9 +275,9 @@ impl<'a> Tableau<'a> {
     ) -> Result<(), Stop> {
         let sign = if coefficient < 0 { 1 } else { -1 };
         let denominator = product(-sign, coefficient)?;
+        let value = add(&whole(self.bound(row)?)?, moved)?;
         let own = [(Variable::Sum(row), denominator)];
         let form = combined(self.alloc, sign, zero, 1, &own)?;
-        let value = add(&whole(self.bound(row)?)?, moved)?;
         self.lines.push(Line {
             row,
             form,
@@ -295,41 +295,34 @@ impl<'a> Tableau<'a> {
         };
         let sign = if violated.way == Way::Up { 1 } else { -1 };
         let zero = self.zero_of(line)?;
-        let mut parts = Vec::with_capacity(self.alloc, zero.len())?;
-        for (variable, coefficient) in zero.as_slice() {
-            if let Variable::Sum(row) = variable {
-                parts.push((*row, product(sign, *coefficient)?))?;
-            }
-        }
-        Ok(parts)
+        parts_of(self.alloc, zero.as_slice(), sign)
     }
 
     /// The values at hand of the columns below a number.
     pub fn point(&self, columns: u32) -> Result<Vec<Frac>, Stop> {
-        let sums = self.sums()?;
         let mut values = Vec::with_capacity(self.alloc, columns as usize)?;
-        for _ in 0..columns {
-            values.push(whole(0)?)?;
-        }
+        push_zeros(&mut values, columns)?;
+        self.put_solutions(&mut values)?;
+        Ok(values)
+    }
+
+    /// Puts the values at hand of the columns that were solved for in their places.
+    fn put_solutions(&self, values: &mut Vec<Frac>) -> Result<(), Stop> {
+        let sums = self.sums()?;
         // a form names columns that were solved for later, or never
         for Solved { column, zero } in self.solved.iter().rev() {
-            let value = solution(*column, zero.as_slice(), &values, &sums)?;
+            let value = solution(*column, zero.as_slice(), values.as_slice(), &sums)?;
             if let Some(at) = values.get_mut(*column as usize) {
                 *at = value;
             }
         }
-        Ok(values)
+        Ok(())
     }
 
     /// What each row adds up to at the values at hand.
     fn sums(&self) -> Result<Vec<Frac>, Stop> {
         let mut sums = Vec::with_capacity(self.alloc, self.rows.len())?;
-        for row in self.rows {
-            sums.push(whole(row.bound())?)?;
-        }
-        for value in &self.fixed {
-            sums.push(whole(*value)?)?;
-        }
+        self.push_bounds(&mut sums)?;
         for line in &self.lines {
             if let Some(sum) = sums.get_mut(line.row as usize) {
                 *sum = line.value;
@@ -337,6 +330,59 @@ impl<'a> Tableau<'a> {
         }
         Ok(sums)
     }
+
+    /// Adds the bound of each row at the end.
+    fn push_bounds(&self, sums: &mut Vec<Frac>) -> Result<(), Stop> {
+        for row in self.rows {
+            sums.push(whole(row.bound())?)?;
+        }
+        for value in &self.fixed {
+            sums.push(whole(*value)?)?;
+        }
+        Ok(())
+    }
+}
+
+/// Adds a line for each row at the end, with the value 0.
+fn push_lines(alloc: Global, lines: &mut Vec<Line>, rows: &[Row]) -> Result<(), Stop> {
+    lines.reserve(rows.len())?;
+    for (number, row) in rows.iter().enumerate() {
+        lines.push(line_of(alloc, number, row)?)?;
+    }
+    Ok(())
+}
+
+/// The line of a row, with the value 0.
+fn line_of(alloc: Global, number: usize, row: &Row) -> Result<Line, Stop> {
+    let Ok(number) = u32::try_from(number) else {
+        return Err(Stop::Past);
+    };
+    let value = whole(0)?;
+    Ok(Line {
+        row: number,
+        form: form_of(alloc, row)?,
+        denominator: 1,
+        value,
+    })
+}
+
+/// The rows of a form, with so many times their coefficients.
+fn parts_of(alloc: Global, form: &[Term], sign: i128) -> Result<Parts, Stop> {
+    let mut parts = Vec::with_capacity(alloc, form.len())?;
+    for (variable, coefficient) in form {
+        if let Variable::Sum(row) = variable {
+            parts.push((*row, product(sign, *coefficient)?))?;
+        }
+    }
+    Ok(parts)
+}
+
+/// Adds so many zeros at the end.
+fn push_zeros(values: &mut Vec<Frac>, count: u32) -> Result<(), Stop> {
+    for _ in 0..count {
+        values.push(whole(0)?)?;
+    }
+    Ok(())
 }
 
 /// The value of the column at which the form is 0.
