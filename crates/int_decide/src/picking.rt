@@ -72,8 +72,8 @@ fn point_outcome(
     if !is_met(alloc, rows, columns, &values)? {
         return Ok(None);
     }
-    let held = copied(alloc, rows)?;
-    if are_picked(alloc, held, &values, shown)? {
+    let mut held = copied(alloc, rows)?;
+    if are_picked(alloc, &mut held, &values, shown)? {
         Ok(Some(Elim::Point(values)))
     } else {
         Ok(None)
@@ -96,20 +96,19 @@ fn copied(alloc: Global, rows: &[Row]) -> Result<Vec<Row>, AllocError>
 /// it.
 fn are_picked(
     alloc: Global,
-    rows: Vec<Row>,
+    rows: &mut Vec<Row>,
     values: &[Frac],
     shown: &[Parts],
 ) -> Result<bool, AllocError>
-    ensures { IfOk result (λ yes. IsTrue yes → ArePicked rows.items 0 values.now) }
+    ensures { IfOk result (λ yes. IsTrue yes → ArePicked rows.old.items 0 values.now) }
 {
-    let mut rows = rows;
     let mut column: Col = 0;
     let mut left = values;
     while let [value, rest @ ..] = left {
         if den(value) != 1 {
             return is_apart(alloc, rows, column, floor(value), shown);
         }
-        if !take_nearest(alloc, &mut rows, column, num(value), shown)? {
+        if !take_nearest(alloc, rows, column, num(value), shown)? {
             return Ok(false);
         }
         let Some(next) = column.checked_add(1) else {
@@ -153,19 +152,18 @@ fn take_nearest(
 /// Whether a column is shown to have no value up to k, and none from k + 1 on.
 fn is_apart(
     alloc: Global,
-    rows: Vec<Row>,
+    rows: &mut Vec<Row>,
     column: Col,
     k: i128,
     shown: &[Parts],
 ) -> Result<bool, AllocError>
-    ensures { IfOk result (λ yes. IsTrue yes → IsApart rows.items column k) }
+    ensures { IfOk result (λ yes. IsTrue yes → IsApart rows.old.items column k) }
 {
-    let mut rows = rows;
     let Some([below, above]) = shown.get(column as usize..) else {
         return Ok(false);
     };
-    if refutes_at_most(alloc, &mut rows, column, k, below)? {
-        refutes_above(alloc, &mut rows, column, k, above)
+    if refutes_at_most(alloc, rows, column, k, below)? {
+        refutes_above(alloc, rows, column, k, above)
     } else {
         Ok(false)
     }

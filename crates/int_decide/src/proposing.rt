@@ -109,15 +109,11 @@ fn proposed_nodes(
     depth: u32,
 ) -> Result<Option<Vec<Node>>, AllocError> {
     let mut proposal = Proposal::new(alloc, system, depth)?;
-    for _goal in 0..MOST_GOALS {
-        let Some(left) = proposal.lefts.pop() else {
-            return Ok(Some(proposal.nodes));
-        };
-        if !proposal.walk.take_goal()? || !proposal.meet(alloc, columns, left)? {
-            return Ok(None);
-        }
+    if proposal.meet_all(alloc, columns)? {
+        Ok(Some(proposal.nodes))
+    } else {
+        Ok(None)
     }
-    Ok(None)
 }
 
 /// The goals that are still to be refuted, with the cuts that are left for each, and the nodes of what was refuted before them.
@@ -131,26 +127,47 @@ struct Proposal<'a> {
 impl<'a> Proposal<'a> {
     /// The goal of the system.
     fn new(alloc: Global, system: &'a System, depth: u32) -> Result<Self, AllocError> {
-        let walk = Walk::new(alloc, system)?;
-        let mut lefts = Vec::new(alloc);
-        lefts.push(depth)?;
+        let lefts = Vec::from_slice(alloc, &[depth])?;
         Ok(Proposal {
-            walk,
+            walk: Walk::new(alloc, system)?,
             lefts,
             nodes: Vec::new(alloc),
         })
     }
 
+    /// Meets all goals with nodes. False where none is found for one, or there are too many goals.
+    fn meet_all(&mut self, alloc: Global, columns: u32) -> Result<bool, AllocError> {
+        for _goal in 0..MOST_GOALS {
+            let Some(left) = self.lefts.pop() else {
+                return Ok(true);
+            };
+            if !self.walk.take_goal()? || !self.meet(alloc, columns, left)? {
+                return Ok(false);
+            }
+        }
+        Ok(false)
+    }
+
     /// Meets the goal at hand with a node. False where none is found.
     fn meet(&mut self, alloc: Global, columns: u32, left: u32) -> Result<bool, AllocError> {
-        if let Some(members) = self.walk.open_group()? {
-            let Ok(count) = u32::try_from(members) else {
-                return Ok(false);
-            };
-            self.nodes.push(Node::Cases(count))?;
-            push_copies(&mut self.lefts, left, members)?;
-            return Ok(true);
+        match self.walk.open_group()? {
+            Some(members) => self.open_cases(members, left),
+            None => self.meet_rows(alloc, columns, left),
         }
+    }
+
+    /// Meets the goal at hand, whose first group has so many members, with cases. False where they are too many.
+    fn open_cases(&mut self, members: usize, left: u32) -> Result<bool, AllocError> {
+        let Ok(count) = u32::try_from(members) else {
+            return Ok(false);
+        };
+        self.nodes.push(Node::Cases(count))?;
+        push_copies(&mut self.lefts, left, members)?;
+        Ok(true)
+    }
+
+    /// Meets the goal at hand, which has no group, with a leaf or a cut. False where none is found.
+    fn meet_rows(&mut self, alloc: Global, columns: u32, left: u32) -> Result<bool, AllocError> {
         let rows = self.walk.rows();
         let Some(pivots) = pivots_for(rows, columns) else {
             return Ok(false);

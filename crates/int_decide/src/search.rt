@@ -51,11 +51,9 @@ impl<'a> Search<'a> {
             record { gap = false; nodes = []; tasks = record { left = depth; goal = goal_of system.now } ∷ [] }) }
         ensures paired { IfOk result (λ s. IsPaired s) }
     {
-        let walk = Walk::new(alloc, system)?;
-        let mut lefts = Vec::new(alloc);
-        lefts.push(depth)?;
+        let lefts = Vec::from_slice(alloc, &[depth])?;
         Ok(Search {
-            walk,
+            walk: Walk::new(alloc, system)?,
             lefts,
             nodes: Vec::new(alloc),
             gap: false,
