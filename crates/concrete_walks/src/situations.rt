@@ -25,13 +25,7 @@ impl Situation {
         let mut values = Vec::new(alloc);
         let proc = item(icfg.place_procs(), icfg.nwa().start());
         if let Some(frame) = proc.and_then(|proc| item(icfg.frames(), *proc)) {
-            for (column, info) in &frame.columns {
-                let value = match column {
-                    Column::Old(global) => item(&values, *global).copied(),
-                    _ => None,
-                };
-                values.push(value.unwrap_or(choices.value(info.ty)))?;
-            }
+            push_free(&mut values, frame, choices)?;
         }
         Ok(Situation {
             alloc,
@@ -135,13 +129,19 @@ impl Situation {
         if !solve(choices, rows, &self.values, &mut self.sought) {
             return Ok(false);
         }
-        let mut entered = Vec::with_capacity(self.alloc, frame.columns.len())?;
-        for found in self.sought.iter().take(frame.columns.len()) {
-            entered.push(found.value.unwrap_or(0))?;
-        }
+        let entered = self.entered(frame.columns.len())?;
         let caller = mem::replace(&mut self.values, entered);
         self.callers.push(caller)?;
         Ok(true)
+    }
+
+    /// The values that were found of the first columns that were sought, so many.
+    fn entered(&self, count: usize) -> Result<Vec<i128>, AllocError> {
+        let mut entered = Vec::with_capacity(self.alloc, count)?;
+        for found in self.sought.iter().take(count) {
+            entered.push(found.value.unwrap_or(0))?;
+        }
+        Ok(entered)
     }
 
     /// A return: the caller's values, with the globals and into the targets the results of the callee.
@@ -178,6 +178,22 @@ impl Situation {
         }
         Ok(())
     }
+}
+
+/// Adds free values of a frame at the end. Old columns are as the globals.
+fn push_free(
+    values: &mut Vec<i128>,
+    frame: &Frame,
+    choices: &mut Choices,
+) -> Result<(), AllocError> {
+    for (column, info) in &frame.columns {
+        let value = match column {
+            Column::Old(global) => item(values.as_slice(), *global).copied(),
+            _ => None,
+        };
+        values.push(value.unwrap_or(choices.value(info.ty)))?;
+    }
+    Ok(())
 }
 
 /// The member with a number.

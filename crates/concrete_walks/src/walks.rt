@@ -1,7 +1,8 @@
 //! One walk, and how long walks may be.
 
-ghost use Rattle.std.specs.Prelude.{IfOk, IfSome};
+ghost use Rattle.std.specs.Prelude.{IfOk, IfSome, OnOk};
 ghost use Rattle.nwa_base.specs.Acceptance.{Accepts};
+ghost use Rattle.concrete_walks.specs.Paths.{IsPath};
 
 use crate::choices::Choices;
 use crate::leading::Leading;
@@ -74,16 +75,37 @@ pub(crate) fn walk(
 {
     let nwa = icfg.nwa();
     let mut path = Path::new(alloc, nwa);
+    if walk_along(alloc, icfg, leading, choices, length, tries, &mut path)? {
+        Ok(path.word(nwa))
+    } else {
+        Ok(None)
+    }
+}
+
+/// Walks on along a path, which has no letters. Whether the walk reaches a final state.
+fn walk_along(
+    alloc: Global,
+    icfg: &Icfg,
+    leading: &Leading,
+    choices: &mut Choices,
+    length: u32,
+    tries: &mut u64,
+    path: &mut Path,
+) -> Result<bool, AllocError>
+    requires { IsPath icfg.now.automaton path.old }
+    ensures { OnOk result (IsPath icfg.now.automaton path.new) }
+{
+    let nwa = icfg.nwa();
     let mut situation = Situation::start(alloc, icfg, choices)?;
     for _ in 0..length {
         let (place, before) = (path.place(), path.before());
         let Some(next) = step(icfg, leading, place, before, &mut situation, choices, tries)? else {
-            return Ok(None);
+            return Ok(false);
         };
         path.go(nwa, next)?;
         if nwa.is_final(path.place()) {
-            return Ok(path.word(nwa));
+            return Ok(true);
         }
     }
-    Ok(None)
+    Ok(false)
 }
