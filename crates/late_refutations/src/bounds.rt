@@ -47,6 +47,12 @@ impl Bound {
 /// The numbers that are tried as bounds, ascending: those near 0, those of the rows, and their opposites.
 pub(crate) fn numbers_of(alloc: Global, rows: &[Row]) -> Result<Vec<i128>, AllocError> {
     let mut numbers = Vec::new(alloc);
+    add_numbers(&mut numbers, rows)?;
+    Ok(numbers)
+}
+
+/// Adds those numbers, and sorts them.
+fn add_numbers(numbers: &mut Vec<i128>, rows: &[Row]) -> Result<(), AllocError> {
     for number in [-1, 0, 1] {
         numbers.push(number)?;
     }
@@ -54,10 +60,9 @@ pub(crate) fn numbers_of(alloc: Global, rows: &[Row]) -> Result<Vec<i128>, Alloc
         if numbers.len() >= MOST {
             break;
         }
-        add_number(&mut numbers, row.bound())?;
+        add_number(numbers, row.bound())?;
     }
-    numbers.sort()?;
-    Ok(numbers)
+    numbers.sort()
 }
 
 /// Adds a number and its opposite, where they are not there.

@@ -109,32 +109,74 @@ pub(crate) fn chained(
 ) -> Result<Option<Vec<Node>>, AllocError> {
     let used = used_by(alloc, given, lemmas, nodes)?;
     let numbers = numbers_of(alloc, given, &used)?;
-    let mut chain = Vec::new(alloc);
-    let mut after = Vec::new(alloc);
-    for (lemma, is_used) in lemmas.iter().zip(&used) {
-        if *is_used {
-            let Some(k) = lemma.bound.cut() else {
-                return Ok(None);
-            };
-            chain.push(Node::Cut {
-                col: lemma.bound.column,
-                k,
-            })?;
-            let leaf = Node::Leaf(numbers.parts(alloc, &lemma.parts)?);
-            if lemma.bound.is_turned {
-                chain.push(leaf)?;
-            } else {
-                after.push(leaf)?;
+    let mut chain = Chain {
+        alloc,
+        numbers,
+        nodes: Vec::new(alloc),
+        after: Vec::new(alloc),
+    };
+    if chain.add_all(lemmas, &used, nodes)? {
+        Ok(Some(chain.nodes))
+    } else {
+        Ok(None)
+    }
+}
+
+/// A chain that is being made.
+#[derive(Drop)]
+struct Chain {
+    alloc: Global,
+    numbers: Numbers,
+    nodes: Vec<Node>,
+    /// The leaves that come after all others, the last one first.
+    after: Vec<Node>,
+}
+
+impl Chain {
+    /// Adds the lemmas that are used, and the nodes below them. False where a number would not fit.
+    fn add_all(
+        &mut self,
+        lemmas: &[Lemma],
+        used: &[bool],
+        nodes: &[Node],
+    ) -> Result<bool, AllocError> {
+        for (lemma, is_used) in lemmas.iter().zip(used) {
+            if *is_used && !self.add_lemma(lemma)? {
+                return Ok(false);
             }
         }
-    }
-    for node in nodes {
-        chain.push(numbers.node(alloc, node)?)?;
-    }
-    for _leaf in 0..after.len() {
-        if let Some(leaf) = after.pop() {
-            chain.push(leaf)?;
+        for node in nodes {
+            self.nodes.push(self.numbers.node(self.alloc, node)?)?;
         }
+        self.add_after()?;
+        Ok(true)
     }
-    Ok(Some(chain))
+
+    /// Adds a lemma: its cut, and the leaf of the side on which it does not hold. False where a number would not fit.
+    fn add_lemma(&mut self, lemma: &Lemma) -> Result<bool, AllocError> {
+        let Some(k) = lemma.bound.cut() else {
+            return Ok(false);
+        };
+        self.nodes.push(Node::Cut {
+            col: lemma.bound.column,
+            k,
+        })?;
+        let leaf = Node::Leaf(self.numbers.parts(self.alloc, &lemma.parts)?);
+        if lemma.bound.is_turned {
+            self.nodes.push(leaf)?;
+        } else {
+            self.after.push(leaf)?;
+        }
+        Ok(true)
+    }
+
+    /// Adds the leaves that come after all others.
+    fn add_after(&mut self) -> Result<(), AllocError> {
+        for _leaf in 0..self.after.len() {
+            if let Some(leaf) = self.after.pop() {
+                self.nodes.push(leaf)?;
+            }
+        }
+        Ok(())
+    }
 }

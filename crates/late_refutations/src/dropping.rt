@@ -57,18 +57,26 @@ impl Waiting {
     /// Those of no rows, over the columns below a number, all of which are to be looked at.
     fn new(alloc: Global, columns: u32) -> Result<Self, Stop> {
         let mut waiting = Waiting {
-            uses: Vec::with_capacity(alloc, columns as usize)?,
-            columns: Vec::with_capacity(alloc, columns as usize)?,
+            uses: Vec::new(alloc),
+            columns: Vec::new(alloc),
         };
+        waiting.add_columns(columns)?;
+        Ok(waiting)
+    }
+
+    /// Adds the columns below a number, which no row has.
+    fn add_columns(&mut self, columns: u32) -> Result<(), Stop> {
+        self.uses.reserve(columns as usize)?;
+        self.columns.reserve(columns as usize)?;
         for column in 0..columns {
-            waiting.uses.push(Uses {
+            self.uses.push(Uses {
                 positive: 0,
                 negative: 0,
                 equalities: 0,
             })?;
-            waiting.columns.push(column)?;
+            self.columns.push(column)?;
         }
-        Ok(waiting)
+        Ok(())
     }
 
     /// Counts one more or one less row.
@@ -106,12 +114,17 @@ pub(crate) fn drop_met(alloc: Global, lines: &mut Lines, columns: u32) -> Result
             waiting.count(row, true);
         }
     }
+    drop_waiting(lines, &mut waiting)
+}
+
+/// Drops the rows of the columns that wait, and of those that come to wait, where they may be moved so that all their rows are met.
+fn drop_waiting(lines: &mut Lines, waiting: &mut Waiting) -> Result<(), Stop> {
     for _look in 0..u64::MAX {
         let Some(column) = waiting.columns.pop() else {
             break;
         };
         if waiting.is_free(column) {
-            drop_users(lines, column, &mut waiting)?;
+            drop_users(lines, column, waiting)?;
         }
     }
     Ok(())
@@ -120,9 +133,20 @@ pub(crate) fn drop_met(alloc: Global, lines: &mut Lines, columns: u32) -> Result
 /// Drops the rows that have a column.
 fn drop_users(lines: &mut Lines, column: Col, waiting: &mut Waiting) -> Result<(), Stop> {
     for number in &lines.take_users(column) {
-        if let Some(row) = lines.take_with(*number, column) {
-            waiting.drop_row(&row)?;
-        }
+        drop_user(lines, *number, column, waiting)?;
     }
     Ok(())
+}
+
+/// Drops the row with a number, where it has a column.
+fn drop_user(
+    lines: &mut Lines,
+    number: u32,
+    column: Col,
+    waiting: &mut Waiting,
+) -> Result<(), Stop> {
+    match lines.take_with(number, column) {
+        Some(row) => waiting.drop_row(&row),
+        None => Ok(()),
+    }
 }

@@ -65,6 +65,12 @@ impl<'a> Trials<'a> {
         }
     }
 
+    /// Makes the trials.
+    fn try_all(&mut self, order: &[u32]) -> Result<(), AllocError> {
+        self.begin_late(order)?;
+        self.drop_rows(order)
+    }
+
     /// Turns on the rows of the order from the last place on from which they are refuted alone, by halving.
     fn begin_late(&mut self, order: &[u32]) -> Result<(), AllocError> {
         let mut low = first_used(order, &self.best);
@@ -109,15 +115,15 @@ pub(crate) fn late_leaf(
     given: &[(u32, i128)],
     work: u64,
 ) -> Result<(Parts, u64), AllocError> {
+    let on = vec![in alloc; false; rows.len()]?;
     let mut trials = Trials {
         alloc,
         rows,
         columns,
-        on: vec![in alloc; false; rows.len()]?,
+        on,
         best: Vec::from_slice(alloc, given)?,
         work,
     };
-    trials.begin_late(order)?;
-    trials.drop_rows(order)?;
+    trials.try_all(order)?;
     Ok((trials.best, trials.work))
 }

@@ -7,10 +7,10 @@ use crate::accepting::accepted;
 use crate::chains::chained;
 use crate::late_trees::{WORK, late, tight_rows};
 use crate::orders::Order;
-use crate::searching::Search;
+use crate::searching::{Lemma, Search};
 use crate::shrinking::shrunk;
 use farkas_check::{Node, Refutation};
-use lin_rows::{Col, System};
+use lin_rows::{Col, Row, System};
 use std::alloc::{AllocError, Global};
 
 /// How many rows may be looked at in the search for lemmas.
@@ -66,28 +66,89 @@ fn lemma_nodes(
     if calls.candidates.is_empty() {
         return Ok(None);
     }
+    let ranks = ranks_of(alloc, calls)?;
+    let (rows, lemmas) = found_lemmas(alloc, system, columns, calls, &ranks)?;
+    nodes_by(alloc, columns, refutation, &ranks, rows, &lemmas)
+}
+
+/// The ranks of the rows.
+fn ranks_of(alloc: Global, calls: Calls) -> Result<Vec<u32>, AllocError> {
     let mut ranks = Vec::with_capacity(alloc, calls.depths.len())?;
     for depth in calls.depths {
         ranks.push(rank_of(*depth, calls.is_by_depth))?;
     }
+    Ok(ranks)
+}
+
+/// The rows of the system, tightened, and then the lemmas, and what shows these.
+fn found_lemmas(
+    alloc: Global,
+    system: &System,
+    columns: u32,
+    calls: Calls,
+    ranks: &[u32],
+) -> Result<(Vec<Row>, Vec<Lemma>), AllocError> {
     let rows = tight_rows(alloc, system)?;
-    let mut order = Order::new(alloc, &rows, columns, &ranks)?;
-    let own: &[u32] = if calls.is_by_depth { &ranks } else { &[] };
-    let own = Order::new(alloc, &rows, columns, own)?.numbers()?;
-    let mut search = Search::new(alloc, columns, &own, rows, SEARCH_WORK)?;
-    for (column, before) in calls.candidates {
-        search.try_column(*column, *before as usize)?;
-    }
+    let ranks: &[u32] = if calls.is_by_depth { ranks } else { &[] };
+    let order = numbers_by(alloc, columns, ranks, &rows)?;
+    searched(alloc, columns, &order, calls.candidates, rows)
+}
+
+/// The numbers of the rows, in the order of these ranks.
+fn numbers_by(
+    alloc: Global,
+    columns: u32,
+    ranks: &[u32],
+    rows: &[Row],
+) -> Result<Vec<u32>, AllocError> {
+    let order = Order::new(alloc, rows, columns, ranks)?;
+    order.numbers()
+}
+
+/// The rows with the lemmas that are found among the candidates, and what shows these.
+fn searched(
+    alloc: Global,
+    columns: u32,
+    order: &[u32],
+    candidates: &[(Col, u32)],
+    rows: Vec<Row>,
+) -> Result<(Vec<Row>, Vec<Lemma>), AllocError> {
+    let mut search = Search::new(alloc, columns, order, rows, SEARCH_WORK)?;
+    search.try_columns(candidates)?;
     let Search { rows, lemmas, .. } = search;
+    Ok((rows, lemmas))
+}
+
+/// The nodes of the tree with these lemmas, which stand at the end of the rows.
+fn nodes_by(
+    alloc: Global,
+    columns: u32,
+    refutation: &Refutation,
+    ranks: &[u32],
+    rows: Vec<Row>,
+    lemmas: &[Lemma],
+) -> Result<Option<Vec<Node>>, AllocError> {
     let count = u32::try_from(lemmas.len()).unwrap_or(0);
     let given = u32::try_from(rows.len())
         .unwrap_or(u32::MAX)
         .saturating_sub(count);
-    for place in 0..count {
-        order.push_last(given.saturating_add(place))?;
-    }
+    let order = order_by(alloc, columns, ranks, &rows, given)?;
     match shrunk(alloc, columns, rows, count, order, refutation, WORK)? {
-        Some(nodes) => chained(alloc, given, &lemmas, &nodes),
+        Some(nodes) => chained(alloc, given, lemmas, &nodes),
         None => Ok(None),
     }
+}
+
+/// The order of the rows by rank, those from a number on last.
+fn order_by(
+    alloc: Global,
+    columns: u32,
+    ranks: &[u32],
+    rows: &[Row],
+    given: u32,
+) -> Result<Order, AllocError> {
+    let (ranked, lemmas) = rows.split_at(rows.len().min(given as usize));
+    let mut order = Order::new(alloc, ranked, columns, ranks)?;
+    order.push_all_last(given, lemmas.len())?;
+    Ok(order)
 }

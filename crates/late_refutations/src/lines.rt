@@ -67,20 +67,33 @@ impl Lines {
         on: &[bool],
         columns: u32,
     ) -> Result<Self, Stop> {
-        let mut users = Vec::with_capacity(alloc, columns as usize)?;
-        for _ in 0..columns {
-            users.push(Vec::new(alloc))?;
-        }
         let mut lines = Lines {
             alloc,
-            rows: Vec::with_capacity(alloc, rows.len())?,
-            users,
+            rows: Vec::new(alloc),
+            users: Vec::new(alloc),
             steps: Vec::new(alloc),
         };
-        for (row, is_on) in rows.iter().zip(on) {
-            lines.add(row, *is_on)?;
-        }
+        lines.add_all(rows, on, columns)?;
         Ok(lines)
+    }
+
+    /// Adds the rows that are on, over the columns below a number.
+    fn add_all(&mut self, rows: &[Row], on: &[bool], columns: u32) -> Result<(), Stop> {
+        self.add_columns(columns)?;
+        self.rows.reserve(rows.len())?;
+        for (row, is_on) in rows.iter().zip(on) {
+            self.add(row, *is_on)?;
+        }
+        Ok(())
+    }
+
+    /// Adds so many columns, which no row has.
+    fn add_columns(&mut self, columns: u32) -> Result<(), Stop> {
+        self.users.reserve(columns as usize)?;
+        for _ in 0..columns {
+            self.users.push(Vec::new(self.alloc))?;
+        }
+        Ok(())
     }
 
     /// Adds the row with the next number.
@@ -135,8 +148,20 @@ impl Lines {
         let Some(zero) = slot.take() else {
             return Ok(None);
         };
+        self.take_from_users(place, &zero, column, unit)
+    }
+
+    /// Adds an equality to the rows that have a column so often that it is gone from them. The number of a row that no point meets,
+    /// where one comes up.
+    fn take_from_users(
+        &mut self,
+        place: usize,
+        zero: &Row,
+        column: Col,
+        unit: i128,
+    ) -> Result<Option<u32>, Stop> {
         for number in &self.take_users(column) {
-            if self.add_times(*number, place, &zero, column, unit)? {
+            if self.add_times(*number, place, zero, column, unit)? {
                 return Ok(Some(*number));
             }
         }
@@ -171,19 +196,23 @@ impl Lines {
         }
     }
 
-    /// Takes the rows out that are left, with their numbers.
-    pub(crate) fn take_rest(&mut self) -> Result<(Vec<u32>, Vec<Row>), Stop> {
-        let mut numbers = Vec::new(self.alloc);
-        let mut rest = Vec::new(self.alloc);
+    /// Takes the rows out that are left, and adds them to others, with their numbers.
+    pub(crate) fn take_rest(
+        &mut self,
+        numbers: &mut Vec<u32>,
+        rest: &mut Vec<Row>,
+    ) -> Result<(), Stop> {
         let mut number = 0u32;
         for slot in &mut self.rows {
-            if let Some(row) = slot.take() {
+            if slot.is_some() {
                 numbers.push(number)?;
+            }
+            if let Some(row) = slot.take() {
                 rest.push(row)?;
             }
             number = number.saturating_add(1);
         }
-        Ok((numbers, rest))
+        Ok(())
     }
 
     /// Adds an equality to a row so often that the column is gone from it. Whether no point meets the row then.
@@ -210,19 +239,23 @@ impl Lines {
         let (Some(times), Ok(from)) = (times, u32::try_from(place)) else {
             return Err(Stop::Nothing);
         };
-        let sum = sum_of(self.alloc, row, times, zero)?;
-        let is_done = is_false(&sum);
         self.use_columns(number, zero)?;
         self.steps.push(Step {
             to: number,
             from,
             times,
         })?;
-        if let Some(slot) = self.rows.get_mut(number as usize) {
-            *slot = Some(sum);
+        match self.rows.get_mut(number as usize) {
+            Some(Some(row)) => replace_by_sum(self.alloc, row, times, zero),
+            _ => Ok(false),
         }
-        Ok(is_done)
     }
+}
+
+/// Adds an equality to a row so many times. Whether no point meets the row then.
+fn replace_by_sum(alloc: Global, row: &mut Row, times: i128, zero: &Row) -> Result<bool, Stop> {
+    *row = sum_of(alloc, row, times, zero)?;
+    Ok(is_false(row))
 }
 
 /// `row + times*zero`, where `zero` is an equality.

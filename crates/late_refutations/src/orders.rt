@@ -26,15 +26,22 @@ impl Order {
         let mut order = Order {
             alloc,
             firsts: vec![in alloc; (u32::MAX, u32::MAX); columns as usize]?,
-            keys: Vec::with_capacity(alloc, rows.len())?,
+            keys: Vec::new(alloc),
         };
+        order.add_rows(rows, ranks)?;
+        Ok(order)
+    }
+
+    /// Adds the first rows, with their ranks.
+    fn add_rows(&mut self, rows: &[Row], ranks: &[u32]) -> Result<(), AllocError> {
+        self.keys.reserve(rows.len())?;
         for (place, row) in rows.iter().enumerate() {
             let number = u32::try_from(place).unwrap_or(u32::MAX);
             let rank = ranks.get(place).copied().unwrap_or(0);
-            order.see(row, (rank, number));
-            order.keys.push((rank, number, number))?;
+            self.see(row, (rank, number));
+            self.keys.push((rank, number, number))?;
         }
-        Ok(order)
+        Ok(())
     }
 
     /// Notes the columns of a row at a place.
@@ -54,9 +61,13 @@ impl Order {
         Ok(())
     }
 
-    /// Adds a row as the last.
-    pub(crate) fn push_last(&mut self, number: u32) -> Result<(), AllocError> {
-        self.keys.push((u32::MAX, u32::MAX, number))?;
+    /// Adds so many rows from a number on as the last.
+    pub(crate) fn push_all_last(&mut self, first: u32, count: usize) -> Result<(), AllocError> {
+        let mut number = first;
+        for _row in 0..count {
+            self.keys.push((u32::MAX, u32::MAX, number))?;
+            number = number.saturating_add(1);
+        }
         Ok(())
     }
 
@@ -69,10 +80,15 @@ impl Order {
     pub(crate) fn numbers(&self) -> Result<Vec<u32>, AllocError> {
         let mut keys = self.keys.clone()?;
         keys.sort()?;
-        let mut numbers = Vec::with_capacity(self.alloc, keys.len())?;
-        for (_, _, number) in &keys {
-            numbers.push(*number)?;
-        }
-        Ok(numbers)
+        numbers_in(self.alloc, &keys)
     }
+}
+
+/// The numbers of the rows with these keys.
+fn numbers_in(alloc: Global, keys: &[Key]) -> Result<Vec<u32>, AllocError> {
+    let mut numbers = Vec::with_capacity(alloc, keys.len())?;
+    for (_, _, number) in keys {
+        numbers.push(*number)?;
+    }
+    Ok(numbers)
 }

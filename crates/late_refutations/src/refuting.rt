@@ -28,18 +28,43 @@ pub(crate) fn refuted(
 
 /// The multipliers.
 fn multipliers_of(alloc: Global, rows: &[Row], on: &[bool], columns: u32) -> Result<Parts, Stop> {
-    let mut lines = Lines::new(alloc, rows, on, columns)?;
     let mut multipliers = vec![in alloc; 0i128; rows.len()]?;
-    match lines.substitute()? {
-        Some(number) => set_multiplier(&mut multipliers, number, sign_of(&lines, number)),
-        None => {
-            drop_met(alloc, &mut lines, columns)?;
-            solve(alloc, &mut lines, &mut multipliers)?;
-        }
-    }
-    carry_back(&mut multipliers, lines.steps())?;
+    set_multipliers(alloc, rows, on, columns, &mut multipliers)?;
     divide(&mut multipliers);
     parts_of(alloc, &multipliers)
+}
+
+/// Sets the multipliers of the rows.
+fn set_multipliers(
+    alloc: Global,
+    rows: &[Row],
+    on: &[bool],
+    columns: u32,
+    multipliers: &mut [i128],
+) -> Result<(), Stop> {
+    let mut lines = Lines::new(alloc, rows, on, columns)?;
+    refute(alloc, &mut lines, columns, multipliers)?;
+    carry_back(multipliers, lines.steps())
+}
+
+/// Sets the multipliers of the rows as they are after the steps that refute them.
+fn refute(
+    alloc: Global,
+    lines: &mut Lines,
+    columns: u32,
+    multipliers: &mut [i128],
+) -> Result<(), Stop> {
+    match lines.substitute()? {
+        Some(number) => {
+            let sign = sign_of(lines, number);
+            set_multiplier(multipliers, number, sign);
+            Ok(())
+        }
+        None => {
+            drop_met(alloc, lines, columns)?;
+            solve(alloc, lines, multipliers)
+        }
+    }
 }
 
 /// The multiplier of a row that no point meets.
@@ -59,20 +84,38 @@ fn set_multiplier(multipliers: &mut [i128], number: u32, multiplier: i128) {
 
 /// Sets the multipliers that refute the rows that are left.
 fn solve(alloc: Global, lines: &mut Lines, multipliers: &mut [i128]) -> Result<(), Stop> {
-    let (numbers, rest) = lines.take_rest()?;
+    let mut numbers = Vec::new(alloc);
+    let mut rest = Vec::new(alloc);
+    lines.take_rest(&mut numbers, &mut rest)?;
+    solve_rest(alloc, &numbers, &rest, multipliers)
+}
+
+/// Sets the multipliers that refute the rows with these numbers.
+fn solve_rest(
+    alloc: Global,
+    numbers: &[u32],
+    rest: &[Row],
+    multipliers: &mut [i128],
+) -> Result<(), Stop> {
     let Ok(count) = u32::try_from(rest.len()) else {
         return Err(Stop::Nothing);
     };
-    let Some(Found::Refuted(parts)) = try_solve(alloc, &rest, 0, count.saturating_mul(PIVOTS))?
-    else {
-        return Err(Stop::Nothing);
-    };
-    for (place, multiplier) in &parts {
+    match try_solve(alloc, rest, 0, count.saturating_mul(PIVOTS))? {
+        Some(Found::Refuted(parts)) => {
+            set_refuting(numbers, &parts, multipliers);
+            Ok(())
+        }
+        _ => Err(Stop::Nothing),
+    }
+}
+
+/// Sets the multipliers of rows with these numbers.
+fn set_refuting(numbers: &[u32], parts: &[(u32, i128)], multipliers: &mut [i128]) {
+    for (place, multiplier) in parts {
         if let Some(number) = numbers.get(*place as usize) {
             set_multiplier(multipliers, *number, *multiplier);
         }
     }
-    Ok(())
 }
 
 /// From multipliers of the rows as they are after the steps to those of the rows before them.
@@ -124,6 +167,12 @@ fn quotient(number: i128, positive: i128) -> i128 {
 /// The rows that are taken, with their multipliers.
 fn parts_of(alloc: Global, multipliers: &[i128]) -> Result<Parts, Stop> {
     let mut parts = Vec::new(alloc);
+    push_parts(&mut parts, multipliers)?;
+    Ok(parts)
+}
+
+/// Adds the rows that are taken, with their multipliers, at the end.
+fn push_parts(parts: &mut Parts, multipliers: &[i128]) -> Result<(), Stop> {
     for (place, multiplier) in multipliers.iter().enumerate() {
         if *multiplier != 0 {
             let Ok(number) = u32::try_from(place) else {
@@ -132,5 +181,5 @@ fn parts_of(alloc: Global, multipliers: &[i128]) -> Result<Parts, Stop> {
             parts.push((number, *multiplier))?;
         }
     }
-    Ok(parts)
+    Ok(())
 }

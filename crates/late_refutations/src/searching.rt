@@ -56,14 +56,22 @@ impl<'a> Search<'a> {
         })
     }
 
+    /// Tries the candidates.
+    pub(crate) fn try_columns(&mut self, candidates: &[(Col, u32)]) -> Result<(), AllocError> {
+        for (column, before) in candidates {
+            self.try_column(*column, *before as usize)?;
+        }
+        Ok(())
+    }
+
     /// Tries both bounds of a column, from the first rows, so many.
-    pub(crate) fn try_column(&mut self, column: Col, before: usize) -> Result<(), AllocError> {
+    fn try_column(&mut self, column: Col, before: usize) -> Result<(), AllocError> {
         for is_turned in [false, true] {
             if self.lemmas.len() >= MOST_LEMMAS {
                 return Ok(());
             }
             if let Some((bound, parts)) = self.tightest(column, is_turned, before)? {
-                self.add(bound, parts, before)?;
+                self.add(bound, &parts, before)?;
             }
         }
         Ok(())
@@ -77,6 +85,18 @@ impl<'a> Search<'a> {
         before: usize,
     ) -> Result<Option<(Bound, Parts)>, AllocError> {
         let mut found = None;
+        self.tighten(column, is_turned, before, &mut found)?;
+        Ok(found)
+    }
+
+    /// Puts down each bound that holds, the tightest at last.
+    fn tighten(
+        &mut self,
+        column: Col,
+        is_turned: bool,
+        before: usize,
+        found: &mut Option<(Bound, Parts)>,
+    ) -> Result<(), AllocError> {
         let mut low = 0usize;
         let mut high = self.numbers.len();
         let mut middle = high.saturating_sub(1);
@@ -91,7 +111,7 @@ impl<'a> Search<'a> {
             };
             match self.refutation_of_opposite(bound, before)? {
                 Some(parts) => {
-                    found = Some((bound, parts));
+                    *found = Some((bound, parts));
                     high = middle;
                 }
                 None => low = middle.saturating_add(1),
@@ -101,7 +121,7 @@ impl<'a> Search<'a> {
             }
             middle = low.saturating_add(high.saturating_sub(low) / 2);
         }
-        Ok(found)
+        Ok(())
     }
 
     /// The parts that refute the opposite of a bound, from the first rows and the lemmas; `None` where none are found.
@@ -118,18 +138,28 @@ impl<'a> Search<'a> {
         if !self.push_opposite(bound)? {
             return Ok(None);
         }
-        let on = self.rows_on(before)?;
-        let parts = refuted(self.alloc, &self.rows, &on, self.columns)?;
-        let _opposite = self.rows.pop();
+        let parts = self.refutation_from(before)?;
+        self.drop_last();
         Ok(parts)
+    }
+
+    /// The parts that refute the first rows and those after the rows of the system; `None` where none are found.
+    fn refutation_from(&self, before: usize) -> Result<Option<Parts>, AllocError> {
+        let on = self.rows_on(before)?;
+        refuted(self.alloc, &self.rows, &on, self.columns)
     }
 
     /// Adds the opposite of a bound as the last row. False where a number would not fit.
     fn push_opposite(&mut self, bound: Bound) -> Result<bool, AllocError> {
-        let Some(opposite) = bound.opposite() else {
-            return Ok(false);
-        };
-        let Some(row) = opposite.row(self.alloc)? else {
+        match bound.opposite() {
+            Some(opposite) => self.push_bound(opposite),
+            None => Ok(false),
+        }
+    }
+
+    /// Adds a bound as the last row. False where a number would not fit.
+    fn push_bound(&mut self, bound: Bound) -> Result<bool, AllocError> {
+        let Some(row) = bound.row(self.alloc)? else {
             return Ok(false);
         };
         self.rows.push(row)?;
@@ -163,29 +193,41 @@ impl<'a> Search<'a> {
 
     /// Adds a lemma, whose opposite is refuted by the parts, without the rows that these do not need. A bound that a row says is
     /// no lemma.
-    fn add(&mut self, bound: Bound, parts: Parts, before: usize) -> Result<(), AllocError> {
+    fn add(
+        &mut self,
+        bound: Bound,
+        parts: &[(u32, i128)],
+        before: usize,
+    ) -> Result<(), AllocError> {
         if !self.push_opposite(bound)? {
             return Ok(());
         }
+        let parts = self.late_parts(parts, before)?;
+        self.drop_last();
+        if !self.is_said(&parts) && self.push_bound(bound)? {
+            self.lemmas.push(Lemma { bound, parts })?;
+        }
+        Ok(())
+    }
+
+    /// The parts without the rows that they do not need.
+    fn late_parts(&mut self, parts: &[(u32, i128)], before: usize) -> Result<Parts, AllocError> {
         let order = self.order_before(before)?;
-        let (parts, work) = late_leaf(
+        let (late, work) = late_leaf(
             self.alloc,
             &self.rows,
             self.columns,
             &order,
-            &parts,
+            parts,
             self.work,
         )?;
         self.work = work;
-        let _opposite = self.rows.pop();
-        if self.is_said(&parts) {
-            return Ok(());
-        }
-        if let Some(row) = bound.row(self.alloc)? {
-            self.rows.push(row)?;
-            self.lemmas.push(Lemma { bound, parts })?;
-        }
-        Ok(())
+        Ok(late)
+    }
+
+    /// Takes the last row away.
+    fn drop_last(&mut self) {
+        let _last = self.rows.pop();
     }
 
     /// Whether the parts are of one bound of a column and an opposite alone.

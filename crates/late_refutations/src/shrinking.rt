@@ -51,6 +51,16 @@ struct Shrinking {
 }
 
 impl Shrinking {
+    /// Takes the nodes of a tree. False where it has cases, or a number would not fit.
+    fn take_all(&mut self, nodes: &[Node]) -> Result<bool, AllocError> {
+        for node in nodes {
+            if !self.take(node)? {
+                return Ok(false);
+            }
+        }
+        Ok(true)
+    }
+
     /// Takes a node. False where it is of cases, or a number would not fit.
     fn take(&mut self, node: &Node) -> Result<bool, AllocError> {
         match node {
@@ -85,17 +95,28 @@ impl Shrinking {
     /// Takes a leaf, and goes on to the side after it. False where a number would not fit.
     fn shrink(&mut self, parts: &[(u32, i128)]) -> Result<bool, AllocError> {
         let parts = moved_parts(self.alloc, parts, self.given, self.lemmas)?;
+        let late = self.late_parts(&parts)?;
+        self.nodes.push(Node::Leaf(late))?;
+        self.go_on()
+    }
+
+    /// The parts that are to refute the rows at hand as given ones do, without the rows that they do not need.
+    fn late_parts(&mut self, parts: &[(u32, i128)]) -> Result<Parts, AllocError> {
         let order = self.order.numbers()?;
         let (late, work) = late_leaf(
             self.alloc,
             &self.rows,
             self.columns,
             &order,
-            &parts,
+            parts,
             self.work,
         )?;
         self.work = work;
-        self.nodes.push(Node::Leaf(late))?;
+        Ok(late)
+    }
+
+    /// Goes on to the side after a leaf. False where a number would not fit.
+    fn go_on(&mut self) -> Result<bool, AllocError> {
         for _side in 0..self.sides.len() {
             let _row = self.rows.pop();
             self.order.pop();
@@ -155,10 +176,9 @@ pub(crate) fn shrunk(
         nodes: Vec::new(alloc),
         work,
     };
-    for node in refutation.nodes() {
-        if !shrinking.take(node)? {
-            return Ok(None);
-        }
+    if shrinking.take_all(refutation.nodes())? {
+        Ok(Some(shrinking.nodes))
+    } else {
+        Ok(None)
     }
-    Ok(Some(shrinking.nodes))
 }
