@@ -96,8 +96,8 @@ fn opposite(alloc: Global, terms: &[(u32, i128)]) -> Result<Vec<(u32, i128)>, Al
     ensures { IfOk result (λ parts. parts.items ≡ opposite terms.now) }
 {
     let mut parts = Vec::with_capacity(alloc, terms.len())?;
-    for term in terms {
-        parts.push((term.0, -term.1))?;
+    for (number, multiplier) in terms {
+        parts.push((*number, -*multiplier))?;
     }
     Ok(parts)
 }
