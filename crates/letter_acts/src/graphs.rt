@@ -1,4 +1,4 @@
-ghost use Rattle.std.specs.Prelude.{◌≡◌, IfOk};
+ghost use Rattle.std.specs.Prelude.{◌≡◌, IfOk, OnOk};
 ghost use Rattle.letter_acts.specs.Acts.{plain_acts, plain_frames};
 ghost use Rattle.letter_acts.specs.Parts.{graph_of};
 
@@ -120,16 +120,55 @@ impl Icfg {
 fn copied_parts(parts: &Parts) -> Result<Parts, AllocError>
     ensures { IfOk result (λ copied. graph_of copied ≡ graph_of parts.now) }
 {
-    Ok(Parts {
-        nwa: parts.nwa.copy()?,
-        acts: copied_acts(&parts.acts)?,
-        frames: copied_frames(&parts.frames)?,
-        names: copied_names(&parts.names)?,
-        place_procs: Vec::from_slice(*parts.place_procs.allocator(), &parts.place_procs)?,
-        entries: Vec::from_slice(*parts.entries.allocator(), &parts.entries)?,
-        exits: Vec::from_slice(*parts.exits.allocator(), &parts.exits)?,
-        sites: Vec::from_slice(*parts.sites.allocator(), &parts.sites)?,
-    })
+    let alloc = *parts.acts.allocator();
+    let nwa = parts.nwa.copy()?;
+    let mut copied = Parts {
+        nwa,
+        acts: Vec::new(alloc),
+        frames: Vec::new(alloc),
+        names: Vec::new(alloc),
+        place_procs: Vec::new(alloc),
+        entries: Vec::new(alloc),
+        exits: Vec::new(alloc),
+        sites: Vec::new(alloc),
+    };
+    copy_letters(parts, &mut copied)?;
+    Ok(copied)
+}
+
+/// Puts equal acts, frames, names and numbers of places in place of those of the copy.
+fn copy_letters(parts: &Parts, copied: &mut Parts) -> Result<(), AllocError>
+    ensures automaton { OnOk result (copied.new.nwa ≡ copied.old.nwa) }
+    ensures acts { OnOk result (plain_acts copied.new.acts.items ≡ plain_acts parts.now.acts.items) }
+    ensures frames { OnOk result (plain_frames copied.new.frames.items ≡ plain_frames parts.now.frames.items) }
+    ensures names { OnOk result (copied.new.names.items ≡ parts.now.names.items) }
+    ensures place_procs { OnOk result (copied.new.place_procs.items ≡ parts.now.place_procs.items) }
+    ensures entries { OnOk result (copied.new.entries.items ≡ parts.now.entries.items) }
+    ensures exits { OnOk result (copied.new.exits.items ≡ parts.now.exits.items) }
+    ensures sites { OnOk result (copied.new.sites.items ≡ parts.now.sites.items) }
+{
+    copied.acts = copied_acts(&parts.acts)?;
+    copied.frames = copied_frames(&parts.frames)?;
+    copied.names = copied_names(&parts.names)?;
+    copy_places(parts, copied)
+}
+
+/// Puts equal numbers of places in place of those of the copy.
+fn copy_places(parts: &Parts, copied: &mut Parts) -> Result<(), AllocError>
+    ensures automaton { OnOk result (copied.new.nwa ≡ copied.old.nwa) }
+    ensures acts { OnOk result (copied.new.acts ≡ copied.old.acts) }
+    ensures frames { OnOk result (copied.new.frames ≡ copied.old.frames) }
+    ensures names { OnOk result (copied.new.names ≡ copied.old.names) }
+    ensures place_procs { OnOk result (copied.new.place_procs.items ≡ parts.now.place_procs.items) }
+    ensures entries { OnOk result (copied.new.entries.items ≡ parts.now.entries.items) }
+    ensures exits { OnOk result (copied.new.exits.items ≡ parts.now.exits.items) }
+    ensures sites { OnOk result (copied.new.sites.items ≡ parts.now.sites.items) }
+{
+    copied.place_procs = Vec::from_slice(*parts.place_procs.allocator(), &parts.place_procs)?;
+    copied.entries = Vec::from_slice(*parts.entries.allocator(), &parts.entries)?;
+    copied.exits = Vec::from_slice(*parts.exits.allocator(), &parts.exits)?;
+    copied.sites = Vec::from_slice(*parts.sites.allocator(), &parts.sites)?;
+    Ok(())
 }
 
 /// A copy of each act.
