@@ -1,10 +1,13 @@
 //! Whole-number expressions as sums over columns, with the rows of their helpers.
 
-ghost use Rattle.std.specs.Prelude.{◌≡◌, ◌+◌, true, false, IfOk, ℤ, pos, ◌+ℤ◌, ◌-ℤ◌, ◌*ℤ◌, neg_ℤ, [], ◌∷◌, ◌++◌, length, unsigned_abs};
+ghost use Rattle.std.specs.Prelude.{◌≡◌, ◌+◌, true, false, IfOk, OnOk, IsOk, Err, ℤ, pos, ◌+ℤ◌, ◌-ℤ◌, ◌*ℤ◌, neg_ℤ, [], ◌∷◌, ◌++◌, length, unsigned_abs};
 ghost use Rattle.math_facts.specs.Terms.{scaled, opposite};
-ghost use Rattle.cond_jumps.specs.Forms.{number, column, over, over_quotient};
+ghost use Rattle.lin_rows.specs.declared.types.RowKind.TheVariants.{Le};
+ghost use Rattle.lin_rows.specs.Sums.{row_of};
+ghost use Rattle.cond_jumps.specs.Conjunctions.{row_fits};
+ghost use Rattle.cond_jumps.specs.Forms.{number, column, over, quotient_rows};
 ghost use Rattle.cond_jumps.specs.LongView.{long};
-ghost use Rattle.cond_jumps.specs.SumView.{sum_of, IsDivideAnswer};
+ghost use Rattle.cond_jumps.specs.SumView.{sum_of, rows_fit, IsDivideAnswer};
 ghost use Rattle.cond_jumps.specs.Totals.{terms_of};
 
 use crate::long::Long;
@@ -108,14 +111,22 @@ pub fn plus(alloc: Global, a: Sum, b: Sum) -> Result<Sum, AllocError>
     ensures { IfOk result (λ s. sum_of s ≡
         over (sum_of a) (sum_of b) ((sum_of a).terms ++ (sum_of b).terms) ((sum_of a).constant +ℤ (sum_of b).constant)) }
 {
-    let constant = Long::plus(alloc, &a.constant, &b.constant)?;
-    let helpers = later(a.helpers, b.helpers)?;
-    Ok(Sum {
-        terms: joined(a.terms, b.terms)?,
-        constant,
-        rows: joined(a.rows, b.rows)?,
-        helpers,
-    })
+    let mut sum = a;
+    let mut other = b;
+    add(alloc, &mut sum, &mut other)?;
+    Ok(sum)
+}
+
+/// Adds a sum to another one, which takes its terms and rows.
+fn add(alloc: Global, a: &mut Sum, b: &mut Sum) -> Result<(), AllocError>
+    ensures { OnOk result (sum_of a.new ≡
+        over (sum_of a.old) (sum_of b.old) ((sum_of a.old).terms ++ (sum_of b.old).terms) ((sum_of a.old).constant +ℤ (sum_of b.old).constant)) }
+{
+    a.constant = Long::plus(alloc, &a.constant, &b.constant)?;
+    a.helpers = later(a.helpers, b.helpers)?;
+    a.terms.append(&mut b.terms)?;
+    a.rows.append(&mut b.rows)?;
+    Ok(())
 }
 
 /// `-a`.
@@ -135,15 +146,31 @@ pub fn minus(alloc: Global, a: Sum, b: Sum) -> Result<Sum, AllocError>
     ensures { IfOk result (λ s. sum_of s ≡
         over (sum_of a) (sum_of b) ((sum_of a).terms ++ opposite (sum_of b).terms) ((sum_of a).constant -ℤ (sum_of b).constant)) }
 {
-    let constant = Long::minus(alloc, &a.constant, &b.constant)?;
-    let helpers = later(a.helpers, b.helpers)?;
-    let opposites = opposite_terms(alloc, b.terms.as_slice())?;
-    Ok(Sum {
-        terms: joined(a.terms, opposites)?,
-        constant,
-        rows: joined(a.rows, b.rows)?,
-        helpers,
-    })
+    let mut sum = a;
+    let mut other = b;
+    subtract(alloc, &mut sum, &mut other)?;
+    Ok(sum)
+}
+
+/// Subtracts a sum from another one, which takes its rows.
+fn subtract(alloc: Global, a: &mut Sum, b: &mut Sum) -> Result<(), AllocError>
+    ensures { OnOk result (sum_of a.new ≡
+        over (sum_of a.old) (sum_of b.old) ((sum_of a.old).terms ++ opposite (sum_of b.old).terms) ((sum_of a.old).constant -ℤ (sum_of b.old).constant)) }
+{
+    a.constant = Long::minus(alloc, &a.constant, &b.constant)?;
+    a.helpers = later(a.helpers, b.helpers)?;
+    push_opposites(alloc, &mut a.terms, b.terms.as_slice())?;
+    a.rows.append(&mut b.rows)?;
+    Ok(())
+}
+
+/// Puts terms with the other sign behind others.
+fn push_opposites(alloc: Global, terms: &mut Vec<Term>, others: &[Term]) -> Result<(), AllocError>
+    ensures { OnOk result (terms_of terms.new.items ≡ terms_of terms.old.items ++ opposite (terms_of others.now)) }
+{
+    let mut opposites = opposite_terms(alloc, others)?;
+    terms.append(&mut opposites)?;
+    Ok(())
 }
 
 /// `k*b + l*a - k*l`.
@@ -152,16 +179,38 @@ pub fn times(alloc: Global, k: &Long, l: &Long, a: Sum, b: Sum) -> Result<Sum, A
         over (sum_of a) (sum_of b) (scaled (long k.now) (sum_of b).terms ++ scaled (long l.now) (sum_of a).terms)
         (((long k.now *ℤ (sum_of b).constant) +ℤ (long l.now *ℤ (sum_of a).constant)) -ℤ (long k.now *ℤ long l.now))) }
 {
-    let constant = product_constant(alloc, k, l, &a.constant, &b.constant)?;
-    let helpers = later(a.helpers, b.helpers)?;
-    let first = scaled_terms(alloc, k, b.terms.as_slice())?;
-    let second = scaled_terms(alloc, l, a.terms.as_slice())?;
-    Ok(Sum {
-        terms: joined(first, second)?,
-        constant,
-        rows: joined(a.rows, b.rows)?,
-        helpers,
-    })
+    let mut product = a;
+    let mut other = b;
+    multiply(alloc, k, l, &mut product, &mut other)?;
+    Ok(product)
+}
+
+/// Multiplies a sum by another one, whose rows it takes.
+fn multiply(alloc: Global, k: &Long, l: &Long, a: &mut Sum, b: &mut Sum) -> Result<(), AllocError>
+    ensures { OnOk result (sum_of a.new ≡
+        over (sum_of a.old) (sum_of b.old) (scaled (long k.now) (sum_of b.old).terms ++ scaled (long l.now) (sum_of a.old).terms)
+        (((long k.now *ℤ (sum_of b.old).constant) +ℤ (long l.now *ℤ (sum_of a.old).constant)) -ℤ (long k.now *ℤ long l.now))) }
+{
+    a.constant = product_constant(alloc, k, l, &a.constant, &b.constant)?;
+    a.helpers = later(a.helpers, b.helpers)?;
+    a.terms = product_terms(alloc, k, l, a.terms.as_slice(), b.terms.as_slice())?;
+    a.rows.append(&mut b.rows)?;
+    Ok(())
+}
+
+/// The terms of `k*b + l*a`.
+fn product_terms(
+    alloc: Global,
+    k: &Long,
+    l: &Long,
+    a: &[Term],
+    b: &[Term],
+) -> Result<Vec<Term>, AllocError>
+    ensures { IfOk result (λ ts. terms_of ts.items ≡ scaled (long k.now) (terms_of b.now) ++ scaled (long l.now) (terms_of a.now)) }
+{
+    let first = scaled_terms(alloc, k, b)?;
+    let second = scaled_terms(alloc, l, a)?;
+    joined(first, second)
 }
 
 /// `k*b + l*a - k*l` of constants.
@@ -205,21 +254,54 @@ pub fn divide(alloc: Global, k: &Divisor, x: Sum, next: u32) -> Result<Divided, 
 {
     let column = later(next, x.helpers)?;
     let helpers = later(x.helpers, 1)?;
-    let low = first_terms(alloc, column, &k.value, x.terms.as_slice())?;
-    let rest = last_terms(alloc, column, &k.value, x.terms)?;
-    let bound = rest_bound(alloc, &k.magnitude, &x.constant)?;
-    let first = row_from(alloc, low.as_slice(), RowKind::Le, &x.constant)?;
-    let second = row_from(alloc, rest.as_slice(), RowKind::Le, &bound)?;
-    let mut rows = x.rows;
-    rows.push(first)?;
-    rows.push(second)?;
-    Ok(Divided {
+    let mut divided = Divided {
         column,
-        rest,
+        rest: x.terms,
         constant: x.constant,
-        rows,
+        rows: x.rows,
         helpers,
-    })
+    };
+    push_quotient(alloc, k, &mut divided)?;
+    Ok(divided)
+}
+
+/// Takes k times the quotient from what is left, and puts the rows of the quotient behind the others.
+fn push_quotient(alloc: Global, k: &Divisor, divided: &mut Divided) -> Result<(), Refusal>
+    requires { long k.now.magnitude ≡ pos (unsigned_abs (long k.now.value)) }
+    ensures column { OnOk result (divided.new.column ≡ divided.old.column) }
+    ensures rest { OnOk result (terms_of divided.new.rest.items ≡ terms_of divided.old.rest.items ++ (divided.old.column, neg_ℤ (long k.now.value)) ∷ []) }
+    ensures constant { OnOk result (long divided.new.constant ≡ long divided.old.constant) }
+    ensures rows { OnOk result (divided.new.rows.items ≡ divided.old.rows.items ++ quotient_rows (long k.now.value) (record { terms = terms_of divided.old.rest.items; constant = long divided.old.constant; rows = divided.old.rows.items; helpers = 0 }) divided.old.column) }
+    ensures helpers { OnOk result (divided.new.helpers ≡ divided.old.helpers) }
+    ensures fit { OnOk result (rows_fit (quotient_rows (long k.now.value) (record { terms = terms_of divided.old.rest.items; constant = long divided.old.constant; rows = divided.old.rows.items; helpers = 0 }) divided.old.column) ≡ true) }
+    ensures too_big { result ≡ Err Refusal.TooBig → rows_fit (quotient_rows (long k.now.value) (record { terms = terms_of divided.old.rest.items; constant = long divided.old.constant; rows = divided.old.rows.items; helpers = 0 }) divided.old.column) ≡ false }
+{
+    let first = first_row(alloc, &k.value, divided)?;
+    divided.rows.push(first)?;
+    push_last_term(alloc, divided.column, &k.value, &mut divided.rest)?;
+    let second = second_row(alloc, &k.magnitude, divided)?;
+    divided.rows.push(second)?;
+    Ok(())
+}
+
+/// The row `k*q - x <= 0`.
+fn first_row(alloc: Global, k: &Long, divided: &Divided) -> Result<Row, Refusal>
+    ensures ok { IfOk result (λ r. r ≡ row_of ((divided.now.column, long k.now) ∷ opposite (terms_of divided.now.rest.items)) Le (long divided.now.constant)) }
+    ensures fits { IsOk result → row_fits (row_of ((divided.now.column, long k.now) ∷ opposite (terms_of divided.now.rest.items)) Le (long divided.now.constant)) ≡ true }
+    ensures too_big { result ≡ Err Refusal.TooBig → row_fits (row_of ((divided.now.column, long k.now) ∷ opposite (terms_of divided.now.rest.items)) Le (long divided.now.constant)) ≡ false }
+{
+    let low = first_terms(alloc, divided.column, k, divided.rest.as_slice())?;
+    row_from(alloc, low.as_slice(), RowKind::Le, &divided.constant)
+}
+
+/// The row `x - k*q <= |k| - 1`, of what is left.
+fn second_row(alloc: Global, magnitude: &Long, divided: &Divided) -> Result<Row, Refusal>
+    ensures ok { IfOk result (λ r. r ≡ row_of (terms_of divided.now.rest.items) Le ((long magnitude.now -ℤ pos 1) -ℤ long divided.now.constant)) }
+    ensures fits { IsOk result → row_fits (row_of (terms_of divided.now.rest.items) Le ((long magnitude.now -ℤ pos 1) -ℤ long divided.now.constant)) ≡ true }
+    ensures too_big { result ≡ Err Refusal.TooBig → row_fits (row_of (terms_of divided.now.rest.items) Le ((long magnitude.now -ℤ pos 1) -ℤ long divided.now.constant)) ≡ false }
+{
+    let bound = rest_bound(alloc, magnitude, &divided.constant)?;
+    row_from(alloc, divided.rest.as_slice(), RowKind::Le, &bound)
 }
 
 /// The terms of `k*q - x`.
@@ -239,21 +321,20 @@ fn first_terms(
     joined(first, opposite_terms(alloc, terms)?)
 }
 
-/// The terms of `x - k*q`.
-fn last_terms(
+/// Puts the term `- k*q` behind the others.
+fn push_last_term(
     alloc: Global,
     column: u32,
     k: &Long,
-    terms: Vec<Term>,
-) -> Result<Vec<Term>, AllocError>
-    ensures { IfOk result (λ ts. terms_of ts.items ≡ terms_of terms.items ++ (column, neg_ℤ (long k.now)) ∷ []) }
+    terms: &mut Vec<Term>,
+) -> Result<(), AllocError>
+    ensures { OnOk result (terms_of terms.new.items ≡ terms_of terms.old.items ++ (column, neg_ℤ (long k.now)) ∷ []) }
 {
-    let mut terms = terms;
     terms.push(Term {
         column,
         coefficient: k.opposite(alloc)?,
     })?;
-    Ok(terms)
+    Ok(())
 }
 
 /// `|k| - 1 - c`.
