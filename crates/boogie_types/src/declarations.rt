@@ -1,6 +1,6 @@
 //! The declarations of a program with their names replaced.
 
-ghost use Rattle.std.specs.Prelude.{◌≡◌, true, Some, [], map, IfOk, IfErr};
+ghost use Rattle.std.specs.Prelude.{◌≡◌, true, Some, [], map, IfOk, OnOk, IfErr};
 ghost use Rattle.std.specs.List.{list_all};
 ghost use Rattle.boogie_tree.specs.View as view;
 ghost use Rattle.typed_tree.specs.Scope.{seen};
@@ -176,21 +176,80 @@ pub(crate) fn replace_names<'a>(
     ensures fault { IfErr result (λ f. IsRefused (map view.declaration decls.entry.now) f) }
 {
     let globals = sorted::globals(alloc, decls)?;
+    let mut replaced = Replaced {
+        globals,
+        axioms: Vec::new(alloc),
+        procs: Vec::new(alloc),
+    };
+    replace_all(alloc, decls, procs, &mut replaced)?;
+    Ok(replaced)
+}
+
+/// Puts the axioms and the procedures with their names replaced behind the globals.
+fn replace_all<'a>(
+    alloc: Global,
+    decls: &'a [Decl],
+    procs: &Listed<'a>,
+    replaced: &mut Replaced,
+) -> Result<(), TypeFault>
+    requires procs_are { procedures_by procs.now.procs.items ≡ procedures_of (map view.declaration decls.now) }
+    requires procs_differ { is_set (map (λ p. p.name) (procedures_of (map view.declaration decls.now))) ≡ true }
+    requires globals_are { replaced.old.globals.items ≡ globals_of (map view.declaration decls.now) }
+    ensures ok { OnOk result (IsReplaced (map view.declaration decls.entry.now) (program_by replaced.new)) }
+    ensures fault { IfErr result (λ f. IsRefused (map view.declaration decls.entry.now) f) }
+{
     let numbers = global_numbers(alloc, decls)?;
-    let implementations = implementations(alloc, decls, procs)?;
+    replace_axioms(alloc, decls, &numbers, replaced)?;
+    replace_procedures(alloc, decls, procs, &numbers, replaced)?;
+    Ok(())
+}
+
+/// Puts the axioms with their names replaced in place of those that are there.
+fn replace_axioms(
+    alloc: Global,
+    decls: &[Decl],
+    numbers: &Numbered<'_>,
+    replaced: &mut Replaced,
+) -> Result<(), TypeFault>
+    requires globals_are { replaced.old.globals.items ≡ globals_of (map view.declaration decls.now) }
+    requires numbers_are { numbers.now ≡ info_names (globals_of (map view.declaration decls.now)) }
+    ensures ok { OnOk result (each (naming.named (scopes.axiom_scope (globals_of (map view.declaration decls.now)))) (axioms_of (map view.declaration decls.now)) ≡ Some (map typed.expression replaced.new.axioms.items)) }
+    ensures globals { OnOk result (replaced.new.globals ≡ replaced.old.globals) }
+    ensures fault { IfErr result (λ f. IsRefused (map view.declaration decls.now) f) }
+{
     let listed = sorted::axioms(alloc, decls)?;
-    let axioms = axioms(alloc, &globals, &numbers, &listed)?;
+    let axioms = axioms(alloc, &replaced.globals, numbers, &listed)?;
+    replaced.axioms = axioms;
+    Ok(())
+}
+
+/// Puts the procedures with their names replaced in place of those that are there.
+fn replace_procedures<'a>(
+    alloc: Global,
+    decls: &'a [Decl],
+    procs: &Listed<'a>,
+    numbers: &Numbered<'a>,
+    replaced: &mut Replaced,
+) -> Result<(), TypeFault>
+    requires procs_are { procedures_by procs.now.procs.items ≡ procedures_of (map view.declaration decls.now) }
+    requires globals_are { replaced.old.globals.items ≡ globals_of (map view.declaration decls.now) }
+    requires numbers_are { numbers.now ≡ info_names (globals_of (map view.declaration decls.now)) }
+    ensures ok { OnOk result (each (named_procedure (map view.declaration decls.entry.now)) (procedures_of (map view.declaration decls.entry.now)) ≡ Some (map typed.procedure replaced.new.procs.items)) }
+    ensures sets { OnOk result (list_all (λ p. has_sets p (sorted.body_of (map view.declaration decls.entry.now) p)) (procedures_of (map view.declaration decls.entry.now)) ≡ true) }
+    ensures implementations { OnOk result (are_implementations (map view.declaration decls.entry.now) ≡ true) }
+    ensures globals { OnOk result (replaced.new.globals ≡ replaced.old.globals) }
+    ensures axioms { OnOk result (replaced.new.axioms ≡ replaced.old.axioms) }
+    ensures fault { IfErr result (λ f. IsRefused (map view.declaration decls.entry.now) f) }
+{
+    let implementations = implementations(alloc, decls, procs)?;
     let declared = Declared {
         decls,
-        globals: &globals,
-        global_numbers: &numbers,
+        globals: &replaced.globals,
+        global_numbers: numbers,
         procs: &procs.procs,
         proc_numbers: &procs.numbers,
     };
-    let procs = procedures_named(alloc, &declared, &implementations, &procs.procs)?;
-    Ok(Replaced {
-        globals,
-        axioms,
-        procs,
-    })
+    let made = procedures_named(alloc, &declared, &implementations, &procs.procs)?;
+    replaced.procs = made;
+    Ok(())
 }

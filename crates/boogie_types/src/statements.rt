@@ -1,6 +1,7 @@
 //! Statements with their names replaced.
 
-ghost use Rattle.std.specs.Prelude.{◌≡◌, ◌+◌, ◌++◌, Some, None, [], ◌∷◌, map, drop, OnOk, IfOk, IfErr};
+ghost use Rattle.std.specs.Prelude.{◌≡◌, ◌+◌, ◌++◌, ℕ, List, Option, Some, None, [], ◌∷◌, map, drop, OnOk, IfOk, IfErr};
+ghost use Rattle.std.specs.Borrow.{Bor};
 ghost use Rattle.std.specs.Option.{option_map};
 ghost use Rattle.boogie_tree.specs.Tree as tree;
 ghost use Rattle.boogie_tree.specs.View as view;
@@ -8,7 +9,7 @@ ghost use Rattle.typed_tree.specs.TypedTree as out_tree;
 ghost use Rattle.typed_tree.specs.TypedView as typed;
 ghost use Rattle.boogie_types.specs.Naming.{named_statement, named_block, named_call, hidden_in, hidden_in_block, label_of, levels_in};
 ghost use Rattle.boogie_types.specs.Places.{label_by, loops_by};
-ghost use Rattle.boogie_types.specs.PlaceViews.{place_at};
+ghost use Rattle.boogie_types.specs.PlaceViews.{place_at, place_outside};
 ghost use Rattle.boogie_types.specs.Making.{made};
 ghost use Rattle.boogie_types.specs.NamingFaults.{IsStatementFault, IsBlockFault, IsLeavingFault, IsCallFault};
 ghost use Rattle.boogie_types.specs.Numbers.{IsMemoryFault};
@@ -17,7 +18,7 @@ use crate::calls::call;
 use crate::expressions::named;
 use crate::lists::{all_named, guard, invariants, targets};
 use crate::places::{Placed, label_numbers, levels};
-use boogie_tree::{Expr, Name, Span, Stmt};
+use boogie_tree::{Expr, Guard, Inv, Name, Span, Stmt};
 use std::alloc::Global;
 use typed_tree::{TStmt, TypeFault};
 
@@ -109,6 +110,72 @@ fn call_inside<'a>(
     )
 }
 
+/// An assignment with its names replaced, put behind the other statements.
+fn assign(
+    alloc: Global,
+    place: &Placed<'_, '_>,
+    out: &mut Vec<TStmt>,
+    span: Span,
+    names: &[Name],
+    values: &[Expr],
+) -> Result<(), TypeFault>
+    ensures ok { OnOk result (made (map typed.statement out.old.items) (named_statement (place_outside place.now) None 0 (tree.Assign span names.now (map view.expression values.now))) ≡ Some (map typed.statement out.new.items)) }
+    ensures fault { (loops : List (Option (Bor (List ℕ)))) (before : Option (List ℕ)) → IfErr result (λ f. IsStatementFault (place_at place.now loops) before (tree.Assign span names.now (map view.expression values.now)) f) }
+{
+    let columns = targets(alloc, &place.names, names)?;
+    let values = all_named(alloc, &place.names, values)?;
+    put(out, TStmt::Assign(span, columns, values))
+}
+
+/// An `if` with its names replaced, put behind the other statements.
+#[cycle(statements)]
+fn put_branches<'a>(
+    alloc: Global,
+    place: &Placed<'a, '_>,
+    walk: &mut Walk<'a>,
+    out: &mut Vec<TStmt>,
+    span: Span,
+    cond: &Guard,
+    then: &'a [Stmt],
+    otherwise: &'a [Stmt],
+) -> Result<(), TypeFault>
+    ensures ok { OnOk result (made (map typed.statement out.old.items) (named_statement (place_at place.now walk.old.loops.items) None walk.old.hidden (tree.If span (view.guard cond.now) (view.statements then.entry.now) (view.statements otherwise.entry.now))) ≡ Some (map typed.statement out.new.items)) }
+    ensures hidden { OnOk result (walk.new.hidden ≡ walk.old.hidden + hidden_in (place_at place.now walk.old.loops.items) (tree.If span (view.guard cond.now) (view.statements then.entry.now) (view.statements otherwise.entry.now))) }
+    ensures loops { OnOk result (walk.new.loops.items ≡ walk.old.loops.items) }
+    ensures fault { (before : Option (List ℕ)) → IfErr result (λ f. IsStatementFault (place_at place.now walk.old.loops.items) before (tree.If span (view.guard cond.now) (view.statements then.entry.now) (view.statements otherwise.entry.now)) f) }
+{
+    let cond = guard(alloc, &place.names, cond)?;
+    let first = block(alloc, place, walk, then)?;
+    let second = block(alloc, place, walk, otherwise)?;
+    put(out, TStmt::If(span, cond, first, second))
+}
+
+/// A loop with its names replaced, put behind the other statements.
+#[cycle(statements)]
+fn looped<'a>(
+    alloc: Global,
+    place: &Placed<'a, '_>,
+    walk: &mut Walk<'a>,
+    before: Option<&'a [u8]>,
+    out: &mut Vec<TStmt>,
+    span: Span,
+    cond: &Guard,
+    conditions: &[Inv],
+    body: &'a [Stmt],
+) -> Result<(), TypeFault>
+    ensures ok { OnOk result (made (map typed.statement out.old.items) (named_statement (place_at place.now walk.old.loops.items) (label_by before.entry) walk.old.hidden (tree.While span (view.guard cond.now) (map view.invariant conditions.now) (view.statements body.entry.now))) ≡ Some (map typed.statement out.new.items)) }
+    ensures hidden { OnOk result (walk.new.hidden ≡ walk.old.hidden + hidden_in (place_at place.now walk.old.loops.items) (tree.While span (view.guard cond.now) (map view.invariant conditions.now) (view.statements body.entry.now))) }
+    ensures loops { OnOk result (walk.new.loops.items ≡ walk.old.loops.items) }
+    ensures fault { IfErr result (λ f. IsStatementFault (place_at place.now walk.old.loops.items) (label_by before.entry) (tree.While span (view.guard cond.now) (map view.invariant conditions.now) (view.statements body.entry.now)) f) }
+{
+    let cond = guard(alloc, &place.names, cond)?;
+    let conditions = invariants(alloc, &place.names, conditions)?;
+    enter(&mut walk.loops, before)?;
+    let inside = block(alloc, place, walk, body)?;
+    leave(&mut walk.loops);
+    put(out, TStmt::While(span, cond, conditions, inside))
+}
+
 /// A statement with its names replaced, put behind the others.
 #[cycle(statements)]
 fn statement<'a>(
@@ -137,27 +204,17 @@ fn statement<'a>(
             let columns = targets(alloc, &place.names, names)?;
             put(out, TStmt::Havoc(*span, columns))
         }
-        Stmt::Assign(span, names, values) => {
-            let columns = targets(alloc, &place.names, names)?;
-            let values = all_named(alloc, &place.names, values)?;
-            put(out, TStmt::Assign(*span, columns, values))
-        }
+        Stmt::Assign(span, names, values) => assign(alloc, place, out, *span, names, values),
         Stmt::Call(span, names, callee, arguments) => {
             call_inside(alloc, place, walk, out, *span, names, callee, arguments)
         }
         Stmt::If(span, cond, then, otherwise) => {
-            let cond = guard(alloc, &place.names, cond)?;
-            let then = block(alloc, place, walk, then)?;
-            let otherwise = block(alloc, place, walk, otherwise)?;
-            put(out, TStmt::If(*span, cond, then, otherwise))
+            put_branches(alloc, place, walk, out, *span, cond, then, otherwise)
         }
         Stmt::While(span, cond, conditions, body) => {
-            let cond = guard(alloc, &place.names, cond)?;
-            let conditions = invariants(alloc, &place.names, conditions)?;
-            enter(&mut walk.loops, before)?;
-            let body = block(alloc, place, walk, body)?;
-            leave(&mut walk.loops);
-            put(out, TStmt::While(*span, cond, conditions, body))
+            looped(
+                alloc, place, walk, before, out, *span, cond, conditions, body,
+            )
         }
         Stmt::Break(span, label) => {
             let leaving = leaving(&walk.loops, *span, label)?;

@@ -11,9 +11,9 @@ use Rattle.boogie_types.specs.Making.{made, block_made}
 use Rattle.boogie_types.specs.BrokenNames.{IsMisnamedIn}
 use Rattle.boogie_types.specs.NamingFaults.{IsStatementFault, IsBlockFault}
 use Rattle.boogie_types.proofs.BlockLaws.{block_anywhere, block_turn, block_end, hidden_turn, faults_turn, fault_turn}
-use Rattle.boogie_types.proofs.Weights.{member_weight}
+use Rattle.boogie_types.proofs.Weights.{weight, block_weight, member_weight}
 use Rattle.boogie_types.proofs.Seen.{assert_seen, assume_seen, havoc_seen, assign_seen, call_seen, if_seen, while_seen, break_seen, goto_seen, label_seen, goto_typed}
-use Rattle.boogie_types.proofs.FaultLaws.{or_memory_to, fault_in_assert, fault_in_assume, fault_in_havoc, fault_in_assigned, fault_in_value, fault_in_call, fault_in_branch, fault_in_then, fault_in_else, fault_in_loop, fault_in_invariant, fault_in_body, fault_in_break, fault_in_goto, fault_in_label}
+use Rattle.boogie_types.proofs.FaultLaws.{or_memory_to, fault_in_assert, fault_in_assume, fault_in_havoc, fault_in_call, fault_in_branch, fault_in_then, fault_in_else, fault_in_loop, fault_in_invariant, fault_in_body, fault_in_break, fault_in_goto, fault_in_label}
 use Rattle.boogie_types.proofs.statements.+statements.Goals as goal
 
 pub statement-returns-in_err-claim-in-Assert-clause-fault : goal.statement-returns-in_err-claim-in-Assert-clause-fault
@@ -34,54 +34,6 @@ statement-returns-in_err-columns-in-Havoc-clause-fault t c =
     let v = ap view.statement c.in-Havoc.is ∙ havoc_seen c.in-Havoc.span c.in-Havoc.names in
     rw (p.1, p.2, v) (rw (← c.deref.ensures.value) (fault_in_havoc _ _ _ _ _ c.in_err-columns-in-Havoc.ensures.fault))
 
-pub statement-returns-in_err-columns-in-Assign-clause-fault : goal.statement-returns-in_err-columns-in-Assign-clause-fault
-statement-returns-in_err-columns-in-Assign-clause-fault t c =
-    let p = err_from_is_err_and c.from_residual-in_err-columns-in-Assign.result c.from_residual-in_err-columns-in-Assign.ensures.1 in
-    let v = ap view.statement c.in-Assign.is ∙ assign_seen c.in-Assign.span c.in-Assign.names c.in-Assign.values in
-    rw (p.1, p.2, v) (rw (← c.deref-in-Assign.ensures.value) (fault_in_assigned _ _ _ _ _ _ c.in_err-columns-in-Assign.ensures.fault))
-
-pub statement-returns-in_err-values-in-Assign-clause-fault : goal.statement-returns-in_err-values-in-Assign-clause-fault
-statement-returns-in_err-values-in-Assign-clause-fault t c =
-    let p = err_from_is_err_and c.from_residual-in_err-values-in-Assign.result c.from_residual-in_err-values-in-Assign.ensures.1 in
-    let v = ap view.statement c.in-Assign.is ∙ assign_seen c.in-Assign.span c.in-Assign.names c.in-Assign.values in
-    rw (p.1, p.2, v) (rw (← c.deref-in-Assign-2.ensures.value) (fault_in_value _ _ _ _ _ _ c.in_err-values-in-Assign.ensures.fault))
-
-pub statement-returns-in_err-cond-in-If-clause-fault : goal.statement-returns-in_err-cond-in-If-clause-fault
-statement-returns-in_err-cond-in-If-clause-fault t c =
-    let p = err_from_is_err_and c.from_residual-in_err-cond-in-If.result c.from_residual-in_err-cond-in-If.ensures.1 in
-    let v = ap view.statement c.in-If.is ∙ if_seen c.in-If.span c.in-If.cond c.in-If.then c.in-If.otherwise in
-    rw (p.1, p.2, v) (fault_in_branch _ _ _ _ _ _ _ c.in_err-cond-in-If.ensures.fault)
-
-pub statement-returns-in_err-then-in-If-clause-fault : goal.statement-returns-in_err-then-in-If-clause-fault
-statement-returns-in_err-then-in-If-clause-fault t c =
-    let p = err_from_is_err_and c.from_residual-in_err-then-in-If.result c.from_residual-in_err-then-in-If.ensures.1 in
-    let v = ap view.statement c.in-If.is ∙ if_seen c.in-If.span c.in-If.cond c.in-If.then c.in-If.otherwise in
-    rw (p.1, p.2, v) (rw (← c.deref-in-If.ensures.value) (fault_in_then _ _ _ _ _ _ _ c.in_err-then-in-If.ensures.fault))
-
-pub statement-returns-in_err-otherwise-in-If-clause-fault : goal.statement-returns-in_err-otherwise-in-If-clause-fault
-statement-returns-in_err-otherwise-in-If-clause-fault t c =
-    let p = err_from_is_err_and c.from_residual-in_err-otherwise-in-If.result c.from_residual-in_err-otherwise-in-If.ensures.1 in
-    let v = ap view.statement c.in-If.is ∙ if_seen c.in-If.span c.in-If.cond c.in-If.then c.in-If.otherwise in
-    rw (p.1, p.2, v) (rw (← c.deref-in-If-2.ensures.value) (fault_in_else _ _ _ _ _ _ _ (subst (λ ls. IsBlockFault (place_at c.args.place.now ls) None (view.statements c.deref-in-If-2.result.now) c.in_err-otherwise-in-If.field-0.0) c.in_ok-then-in-If.ensures.loops c.in_err-otherwise-in-If.ensures.fault)))
-
-pub statement-returns-in_err-cond-in-While-clause-fault : goal.statement-returns-in_err-cond-in-While-clause-fault
-statement-returns-in_err-cond-in-While-clause-fault t c =
-    let p = err_from_is_err_and c.from_residual-in_err-cond-in-While.result c.from_residual-in_err-cond-in-While.ensures.1 in
-    let v = ap view.statement c.in-While.is ∙ while_seen c.in-While.span c.in-While.cond c.in-While.conditions c.in-While.body in
-    rw (p.1, p.2, v) (fault_in_loop _ _ _ _ _ _ _ c.in_err-cond-in-While.ensures.fault)
-
-pub statement-returns-in_err-conditions-in-While-clause-fault : goal.statement-returns-in_err-conditions-in-While-clause-fault
-statement-returns-in_err-conditions-in-While-clause-fault t c =
-    let p = err_from_is_err_and c.from_residual-in_err-conditions-in-While.result c.from_residual-in_err-conditions-in-While.ensures.1 in
-    let v = ap view.statement c.in-While.is ∙ while_seen c.in-While.span c.in-While.cond c.in-While.conditions c.in-While.body in
-    rw (p.1, p.2, v) (rw (← c.deref-in-While.ensures.value) (fault_in_invariant _ _ _ _ _ _ _ c.in_err-conditions-in-While.ensures.fault))
-
-pub statement-returns-in_err-body-in-While-clause-fault : goal.statement-returns-in_err-body-in-While-clause-fault
-statement-returns-in_err-body-in-While-clause-fault t c =
-    let p = err_from_is_err_and c.from_residual-in_err-body-in-While.result c.from_residual-in_err-body-in-While.ensures.1 in
-    let v = ap view.statement c.in-While.is ∙ while_seen c.in-While.span c.in-While.cond c.in-While.conditions c.in-While.body in
-    rw (p.1, p.2, v) (rw (← c.deref-in-While-2.ensures.value) (fault_in_body _ _ _ _ _ _ _ (subst (λ ls. IsBlockFault (place_at c.args.place.now ls) None (view.statements c.deref-in-While-2.result.now) c.in_err-body-in-While.field-0.0) c.in_ok-enter-in-While.ensures.ok c.in_err-body-in-While.ensures.fault)))
-
 pub statement-returns-in_err-leaving-in-Break-clause-fault : goal.statement-returns-in_err-leaving-in-Break-clause-fault
 statement-returns-in_err-leaving-in-Break-clause-fault t c =
     let p = err_from_is_err_and c.from_residual-in_err-leaving-in-Break.result c.from_residual-in_err-leaving-in-Break.ensures.1 in
@@ -93,6 +45,98 @@ statement-returns-in_err-numbers-in-Goto-clause-fault t c =
     let p = err_from_is_err_and c.from_residual-in_err-numbers-in-Goto.result c.from_residual-in_err-numbers-in-Goto.ensures.1 in
     let v = ap view.statement c.in-Goto.is ∙ goto_seen c.in-Goto.span c.in-Goto.names in
     rw (p.1, p.2, v) (rw (← c.deref-in-Goto.ensures.value) (fault_in_goto _ _ _ _ _ c.in_err-numbers-in-Goto.ensures.fault))
+
+pub statement-put_branches-requires : goal.statement-put_branches-requires
+statement-put_branches-requires t c =
+    let v = ap view.statement c.in-If.is ∙ if_seen c.in-If.span c.in-If.cond c.in-If.then c.in-If.otherwise in
+    let w : weight (view.statement c.args.statement.now) ≡ 1 + (block_weight (view.statements c.in-If.then.items) + block_weight (view.statements c.in-If.otherwise.items)) = ap weight v in
+    let x : block_weight (view.statements c.deref-in-If.result.now) ≡ block_weight (view.statements c.in-If.then.items) = ap (λ ss. block_weight (view.statements ss)) c.deref-in-If.ensures.value in
+    let y : block_weight (view.statements c.deref-in-If-2.result.now) ≡ block_weight (view.statements c.in-If.otherwise.items) = ap (λ ss. block_weight (view.statements ss)) c.deref-in-If-2.ensures.value in
+    let d = c.decreases in (omega arith, tt)
+
+pub statement-looped-requires : goal.statement-looped-requires
+statement-looped-requires t c =
+    let v = ap view.statement c.in-While.is ∙ while_seen c.in-While.span c.in-While.cond c.in-While.conditions c.in-While.body in
+    let w : weight (view.statement c.args.statement.now) ≡ 1 + block_weight (view.statements c.in-While.body.items) = ap weight v in
+    let x : block_weight (view.statements c.deref-in-While-2.result.now) ≡ block_weight (view.statements c.in-While.body.items) = ap (λ ss. block_weight (view.statements ss)) c.deref-in-While-2.ensures.value in
+    let d = c.decreases in (omega arith, tt)
+
+pub statement-returns-in-Assign-clause-ok : goal.statement-returns-in-Assign-clause-ok
+statement-returns-in-Assign-clause-ok t c =
+    let v = ap view.statement c.in-Assign.is ∙ assign_seen c.in-Assign.span c.in-Assign.names c.in-Assign.values in
+    rw (v, ← c.deref-in-Assign.ensures.value, ← c.deref-in-Assign-2.ensures.value) c.assign.ensures.ok
+
+pub statement-returns-in-Assign-clause-fault : goal.statement-returns-in-Assign-clause-fault
+statement-returns-in-Assign-clause-fault t c =
+    let v = ap view.statement c.in-Assign.is ∙ assign_seen c.in-Assign.span c.in-Assign.names c.in-Assign.values in
+    rw (v, ← c.deref-in-Assign.ensures.value, ← c.deref-in-Assign-2.ensures.value)
+    (c.assign.ensures.fault c.args.walk.now.loops.items (label_by c.args.before))
+
+pub statement-returns-in-If-clause-ok : goal.statement-returns-in-If-clause-ok
+statement-returns-in-If-clause-ok t c =
+    let v = ap view.statement c.in-If.is ∙ if_seen c.in-If.span c.in-If.cond c.in-If.then c.in-If.otherwise in
+    rw (v, ← c.deref-in-If.ensures.value, ← c.deref-in-If-2.ensures.value) c.put_branches.ensures.ok
+
+pub statement-returns-in-If-clause-hidden : goal.statement-returns-in-If-clause-hidden
+statement-returns-in-If-clause-hidden t c =
+    let v = ap view.statement c.in-If.is ∙ if_seen c.in-If.span c.in-If.cond c.in-If.then c.in-If.otherwise in
+    rw (v, ← c.deref-in-If.ensures.value, ← c.deref-in-If-2.ensures.value) c.put_branches.ensures.hidden
+
+pub statement-returns-in-If-clause-fault : goal.statement-returns-in-If-clause-fault
+statement-returns-in-If-clause-fault t c =
+    let v = ap view.statement c.in-If.is ∙ if_seen c.in-If.span c.in-If.cond c.in-If.then c.in-If.otherwise in
+    rw (v, ← c.deref-in-If.ensures.value, ← c.deref-in-If-2.ensures.value) (c.put_branches.ensures.fault (label_by c.args.before))
+
+pub statement-returns-in-While-clause-ok : goal.statement-returns-in-While-clause-ok
+statement-returns-in-While-clause-ok t c =
+    let v = ap view.statement c.in-While.is ∙ while_seen c.in-While.span c.in-While.cond c.in-While.conditions c.in-While.body in
+    rw (v, ← c.deref-in-While.ensures.value, ← c.deref-in-While-2.ensures.value) c.looped.ensures.ok
+
+pub statement-returns-in-While-clause-hidden : goal.statement-returns-in-While-clause-hidden
+statement-returns-in-While-clause-hidden t c =
+    let v = ap view.statement c.in-While.is ∙ while_seen c.in-While.span c.in-While.cond c.in-While.conditions c.in-While.body in
+    rw (v, ← c.deref-in-While.ensures.value, ← c.deref-in-While-2.ensures.value) c.looped.ensures.hidden
+
+pub statement-returns-in-While-clause-fault : goal.statement-returns-in-While-clause-fault
+statement-returns-in-While-clause-fault t c =
+    let v = ap view.statement c.in-While.is ∙ while_seen c.in-While.span c.in-While.cond c.in-While.conditions c.in-While.body in
+    rw (v, ← c.deref-in-While.ensures.value, ← c.deref-in-While-2.ensures.value) c.looped.ensures.fault
+
+pub put_branches-returns-in_err-cond-clause-fault : goal.put_branches-returns-in_err-cond-clause-fault
+put_branches-returns-in_err-cond-clause-fault t c =
+    let p = err_from_is_err_and c.from_residual.result c.from_residual.ensures.1 in
+    λ before. rw (p.1, p.2) (fault_in_branch _ _ _ _ _ _ _ c.in_err-cond.ensures.fault)
+
+pub put_branches-returns-in_err-first-clause-fault : goal.put_branches-returns-in_err-first-clause-fault
+put_branches-returns-in_err-first-clause-fault t c =
+    let p = err_from_is_err_and c.from_residual-in_err-first.result c.from_residual-in_err-first.ensures.1 in
+    λ before. rw (p.1, p.2) (fault_in_then _ _ _ _ _ _ _ c.in_err-first.ensures.fault)
+
+pub put_branches-returns-in_err-second-clause-fault : goal.put_branches-returns-in_err-second-clause-fault
+put_branches-returns-in_err-second-clause-fault t c =
+    let p = err_from_is_err_and c.from_residual-in_err-second.result c.from_residual-in_err-second.ensures.1 in
+    λ before. rw (p.1, p.2) (fault_in_else _ _ _ _ _ _ _ (subst (λ ls. IsBlockFault (place_at c.args.place.now ls) None (view.statements c.args.otherwise.now) c.in_err-second.field-0.0) c.in_ok-first.ensures.loops c.in_err-second.ensures.fault))
+
+pub looped-returns-in_err-cond-clause-fault : goal.looped-returns-in_err-cond-clause-fault
+looped-returns-in_err-cond-clause-fault t c =
+    let p = err_from_is_err_and c.from_residual.result c.from_residual.ensures.1 in
+    rw (p.1, p.2) (fault_in_loop _ _ _ _ _ _ _ c.in_err-cond.ensures.fault)
+
+pub looped-returns-in_err-conditions-clause-fault : goal.looped-returns-in_err-conditions-clause-fault
+looped-returns-in_err-conditions-clause-fault t c =
+    let p = err_from_is_err_and c.from_residual-in_err-conditions.result c.from_residual-in_err-conditions.ensures.1 in
+    rw (p.1, p.2) (fault_in_invariant _ _ _ _ _ _ _ c.in_err-conditions.ensures.fault)
+
+pub looped-returns-in_err-inside-clause-fault : goal.looped-returns-in_err-inside-clause-fault
+looped-returns-in_err-inside-clause-fault t c =
+    let p = err_from_is_err_and c.from_residual-in_err-inside.result c.from_residual-in_err-inside.ensures.1 in
+    rw (p.1, p.2) (fault_in_body _ _ _ _ _ _ _ (subst (λ ls. IsBlockFault (place_at c.args.place.now ls) None (view.statements c.args.body.now) c.in_err-inside.field-0.0) c.in_ok-enter.ensures.ok c.in_err-inside.ensures.fault))
+
+pub looped-returns-clause-hidden : goal.looped-returns-clause-hidden
+looped-returns-clause-hidden t c =
+    let h = c.in_ok-inside.ensures.hidden in
+    let a = block_anywhere (place_at c.args.place.now c.args.walk.now.loops.items) (loops_by c.enter.new.loops.items) (view.statements c.args.body.now) in
+    on_ok_weaker c.put.result (λ u. h ∙ ap (λ (k : ℕ). c.args.walk.now.hidden + k) a) c.put.ensures.ok
 
 pub statement-returns-in-Call-clause-fault : goal.statement-returns-in-Call-clause-fault
 statement-returns-in-Call-clause-fault t c =
@@ -108,13 +152,6 @@ statement-returns-in-None-clause-fault t c =
 pub block-statement-requires : goal.block-statement-requires
 block-statement-requires t c =
     let w = member_weight c.args.statements.now _ _ c.loop-each-test.true c.each-item.is in let d = c.decreases in (omega arith, tt)
-
-pub statement-returns-in_ok-body-in-While-clause-hidden : goal.statement-returns-in_ok-body-in-While-clause-hidden
-statement-returns-in_ok-body-in-While-clause-hidden t c =
-    let v = ap view.statement c.in-While.is ∙ while_seen c.in-While.span c.in-While.cond c.in-While.conditions c.in-While.body in
-    let h = c.in_ok-body-in-While.ensures.hidden in
-    let a = block_anywhere (place_at c.args.place.now c.args.walk.now.loops.items) (loops_by c.enter.new.loops.items) (view.statements c.deref-in-While-2.result.now) in
-    rw (v, ← c.deref-in-While-2.ensures.value) (on_ok_weaker c.put-in-While.result (λ u. h ∙ ap (λ (k : ℕ). c.args.walk.now.hidden + k) a) c.put-in-While.ensures.ok)
 
 pub statement-returns-in_ok-numbers-in-Goto-clause-ok : goal.statement-returns-in_ok-numbers-in-Goto-clause-ok
 statement-returns-in_ok-numbers-in-Goto-clause-ok t c =

@@ -12,10 +12,17 @@ use Rattle.boogie_types.proofs.Weights.{weight, block_weight}
 use Rattle.boogie_types.proofs.statements.+statements.Given as goal
 
 abbrev pub decreases-statement : goal.decreases-statement
-decreases-statement l = weight (view.statement l.statement.now)
+decreases-statement l = weight (view.statement l.statement.now) + weight (view.statement l.statement.now)
+
+abbrev pub decreases-put_branches : goal.decreases-put_branches
+decreases-put_branches l =
+    1 + ((block_weight (view.statements l.then.now) + block_weight (view.statements l.then.now)) + (block_weight (view.statements l.otherwise.now) + block_weight (view.statements l.otherwise.now)))
+
+abbrev pub decreases-looped : goal.decreases-looped
+decreases-looped l = 1 + (block_weight (view.statements l.body.now) + block_weight (view.statements l.body.now))
 
 abbrev pub decreases-block : goal.decreases-block
-decreases-block l = block_weight (view.statements l.statements.now)
+decreases-block l = block_weight (view.statements l.statements.now) + block_weight (view.statements l.statements.now)
 
 -- what is made and what is still to be made is the whole
 abbrev pub invariant-block-loop-each : goal.invariant-block-loop-each
