@@ -187,6 +187,18 @@ combined_answer v old at op e f d1 d2 d3 d4 n m k l x y s i1 i2 i3 i4 o ke le hx
     both_combined op (constant_of e) (constant_of f) (divisor_of f) (linear v old e) (linear v old f) n m x y s o (subst P i3 hx) hm (subst Q i4 hy)
     (hs ∙ (λ j. combination op (p j) (q j) (sum_of x) (sum_of y)))
 
+-- the same, where the constants were computed behind the sums
+pub combination_answer : (v : Environment) (old : Bool) (at : Span) (op : Op) (e f d1 d2 d3 d4 : TypedExpression) (n m : ℕ) (x y s : Sum) →
+    d1 ≡ e → d2 ≡ f → d3 ≡ e → d4 ≡ f → is_combination op ≡ true → IsSumOf (linear v old d1 n) x → m ≡ n + x.helpers →
+    IsSumOf (linear v old d2 m) y → sum_of s ≡ combination op (constant_of d3) (constant_of d4) (sum_of x) (sum_of y) → IsSumOf (linear v old (Bin at op e f) n) s
+combination_answer v old at op e f d1 d2 d3 d4 n m x y s i1 i2 i3 i4 o hx hm hy hs =
+    let p : constant_of d3 ≡ constant_of e = ap constant_of i3 in
+    let q : constant_of d4 ≡ constant_of f = ap constant_of i4 in
+    let P : TypedExpression → Type 0 = λ d. IsSumOf (linear v old d n) x in
+    let Q : TypedExpression → Type 0 = λ d. IsSumOf (linear v old d m) y in
+    both_combined op (constant_of e) (constant_of f) (divisor_of f) (linear v old e) (linear v old f) n m x y s o (subst P i1 hx) hm (subst Q i2 hy)
+    (hs ∙ (λ j. combination op (p j) (q j) (sum_of x) (sum_of y)))
+
 -- the second of them was refused
 pub second_answer : (v : Environment) (old : Bool) (at : Span) (op : Op) (e f d3 d4 : TypedExpression) (n m : ℕ) (x : Sum) (g : Refusal) (r : Result Sum Refusal) →
     d3 ≡ e → d4 ≡ f → is_combination op ≡ true → IsSumOf (linear v old d3 n) x → m ≡ n + x.helpers → (g ≡ TooBig → rows_fit (linear v old d4 m).rows ≡ false) →

@@ -13,6 +13,7 @@ pub mod AssignLemmas
 pub mod FrameLemmas
 pub mod PassingLemmas
 pub mod MovingLemmas
+pub mod TermTurns
 pub mod EvenLemmas
 pub mod ListLemmas
 pub mod LongLemmas

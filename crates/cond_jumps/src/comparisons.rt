@@ -1,6 +1,8 @@
 //! Comparisons of two sums, each one conjunction, and conditions of one column.
 
-ghost use Rattle.std.specs.Prelude.{◌≡◌, IfOk, true, ℤ, pos, ◌+ℤ◌, ◌-ℤ◌, [], ◌∷◌, ◌++◌};
+ghost use Rattle.std.specs.Prelude.{◌≡◌, ◌+◌, IfOk, OnOk, IsOk, Err, true, false, ℤ, pos, ◌+ℤ◌, ◌-ℤ◌, [], ◌∷◌, ◌++◌};
+ghost use Rattle.lin_rows.specs.Sums.{row_of};
+ghost use Rattle.cond_jumps.specs.Conjunctions.{row_fits};
 ghost use Rattle.math_facts.specs.Terms.{opposite};
 ghost use Rattle.cond_jumps.specs.Comparisons.{always, named};
 ghost use Rattle.cond_jumps.specs.Conjs.{conjunctions};
@@ -12,9 +14,9 @@ ghost use Rattle.cond_jumps.specs.Totals.{terms_of};
 use crate::conj::Conj;
 use crate::long::Long;
 use crate::refusal::Refusal;
-use crate::sums::{Sum, joined, later, opposite_terms};
+use crate::sums::{Sum, later, push_opposites};
 use crate::totals::{Term, row_from};
-use lin_rows::RowKind;
+use lin_rows::{Row, RowKind};
 use std::alloc::{AllocError, Global};
 
 /// The conjunction of the helpers of two sums and the row `a - b <= k` or `a - b = k`; the second sum's helpers are numbered
@@ -24,12 +26,16 @@ pub fn compared(alloc: Global, kind: RowKind, k: i128, a: Sum, b: Sum) -> Result
     requires second { rows_fit (sum_of b).rows ≡ true }
     ensures { IsListAnswer (compared_list (compared_row kind k (sum_of a) (sum_of b)) (sum_of a) (sum_of b)) result }
 {
-    let helpers = later(a.helpers, b.helpers)?;
-    let mut rows = joined(a.rows, b.rows)?;
-    let bound = bound_of(alloc, k, &a.constant, &b.constant)?;
-    let terms = difference(alloc, a.terms, b.terms.as_slice())?;
-    rows.push(row_from(alloc, terms.as_slice(), kind, &bound)?)?;
-    Ok(single(alloc, Conj { rows, helpers })?)
+    let mut first = a;
+    let mut second = b;
+    push_difference(alloc, kind, k, &mut first, &mut second)?;
+    Ok(single(
+        alloc,
+        Conj {
+            rows: first.rows,
+            helpers: first.helpers,
+        },
+    )?)
 }
 
 /// The same with the row `b - a <= k` or `b - a = k`.
@@ -44,12 +50,74 @@ pub fn compared_above(
     requires second { rows_fit (sum_of b).rows ≡ true }
     ensures { IsListAnswer (compared_list (compared_row kind k (sum_of b) (sum_of a)) (sum_of a) (sum_of b)) result }
 {
-    let helpers = later(a.helpers, b.helpers)?;
-    let mut rows = joined(a.rows, b.rows)?;
-    let bound = bound_of(alloc, k, &b.constant, &a.constant)?;
-    let terms = difference(alloc, b.terms, a.terms.as_slice())?;
-    rows.push(row_from(alloc, terms.as_slice(), kind, &bound)?)?;
-    Ok(single(alloc, Conj { rows, helpers })?)
+    let mut first = a;
+    let mut second = b;
+    push_opposite(alloc, kind, k, &mut first, &mut second)?;
+    Ok(single(
+        alloc,
+        Conj {
+            rows: first.rows,
+            helpers: first.helpers,
+        },
+    )?)
+}
+
+/// Puts the rows of the helpers of b, and the row `a - b`, behind the rows of a.
+fn push_difference(
+    alloc: Global,
+    kind: RowKind,
+    k: i128,
+    a: &mut Sum,
+    b: &mut Sum,
+) -> Result<(), Refusal>
+    ensures rows { OnOk result (a.new.rows.items ≡ (a.old.rows.items ++ b.old.rows.items) ++ compared_row kind k (sum_of a.old) (sum_of b.old) ∷ []) }
+    ensures helpers { OnOk result (a.new.helpers ≡ a.old.helpers + b.old.helpers) }
+    ensures fits { OnOk result (row_fits (compared_row kind k (sum_of a.old) (sum_of b.old)) ≡ true) }
+    ensures too_big { result ≡ Err Refusal.TooBig → row_fits (compared_row kind k (sum_of a.old) (sum_of b.old)) ≡ false }
+{
+    a.helpers = later(a.helpers, b.helpers)?;
+    a.rows.append(&mut b.rows)?;
+    let row = difference_row(alloc, kind, k, &mut a.terms, &a.constant, b)?;
+    a.rows.push(row)?;
+    Ok(())
+}
+
+/// Puts the rows of the helpers of b, and the row `b - a`, behind the rows of a.
+fn push_opposite(
+    alloc: Global,
+    kind: RowKind,
+    k: i128,
+    a: &mut Sum,
+    b: &mut Sum,
+) -> Result<(), Refusal>
+    ensures rows { OnOk result (a.new.rows.items ≡ (a.old.rows.items ++ b.old.rows.items) ++ compared_row kind k (sum_of b.old) (sum_of a.old) ∷ []) }
+    ensures helpers { OnOk result (a.new.helpers ≡ a.old.helpers + b.old.helpers) }
+    ensures fits { OnOk result (row_fits (compared_row kind k (sum_of b.old) (sum_of a.old)) ≡ true) }
+    ensures too_big { result ≡ Err Refusal.TooBig → row_fits (compared_row kind k (sum_of b.old) (sum_of a.old)) ≡ false }
+{
+    a.helpers = later(a.helpers, b.helpers)?;
+    a.rows.append(&mut b.rows)?;
+    let row = difference_row(alloc, kind, k, &mut b.terms, &b.constant, a)?;
+    a.rows.push(row)?;
+    Ok(())
+}
+
+/// The row `a - b` of terms and a constant, and of a sum, whose terms come behind the others.
+fn difference_row(
+    alloc: Global,
+    kind: RowKind,
+    k: i128,
+    terms: &mut Vec<Term>,
+    constant: &Long,
+    b: &Sum,
+) -> Result<Row, Refusal>
+    ensures ok { IfOk result (λ r. r ≡ row_of (terms_of terms.old.items ++ opposite (terms_of b.now.terms.items)) kind ((k -ℤ long constant.now) +ℤ long b.now.constant)) }
+    ensures fits { IsOk result → row_fits (row_of (terms_of terms.old.items ++ opposite (terms_of b.now.terms.items)) kind ((k -ℤ long constant.now) +ℤ long b.now.constant)) ≡ true }
+    ensures too_big { result ≡ Err Refusal.TooBig → row_fits (row_of (terms_of terms.old.items ++ opposite (terms_of b.now.terms.items)) kind ((k -ℤ long constant.now) +ℤ long b.now.constant)) ≡ false }
+{
+    let bound = bound_of(alloc, k, constant, &b.constant)?;
+    push_opposites(alloc, terms, b.terms.as_slice())?;
+    row_from(alloc, terms.as_slice(), kind, &bound)
 }
 
 /// One conjunction.
@@ -68,13 +136,6 @@ fn bound_of(alloc: Global, k: i128, a: &Long, b: &Long) -> Result<Long, AllocErr
     let k = Long::new(alloc, k)?;
     let less = Long::minus(alloc, &k, a)?;
     Long::plus(alloc, &less, b)
-}
-
-/// The terms of `a - b`.
-fn difference(alloc: Global, a: Vec<Term>, b: &[Term]) -> Result<Vec<Term>, AllocError>
-    ensures { IfOk result (λ ts. terms_of ts.items ≡ terms_of a.items ++ opposite (terms_of b.now)) }
-{
-    joined(a, opposite_terms(alloc, b)?)
 }
 
 /// The empty conjunction.

@@ -1,10 +1,11 @@
 //! The sums of whole-number expressions.
 
-ghost use Rattle.std.specs.Prelude.{◌≡◌, IfOk, pos, neg_ℤ, unsigned_abs};
+ghost use Rattle.std.specs.Prelude.{◌≡◌, true, IfOk, pos, neg_ℤ, unsigned_abs};
 ghost use Rattle.typed_tree.specs.TypedView.{expression};
 ghost use Rattle.typed_tree.specs.AffineForm.{divisor_of, read_at};
 ghost use Rattle.cond_jumps.specs.CodeView.{IsDivisorFound, combination, is_combination, is_division};
 ghost use Rattle.cond_jumps.specs.Frames.{frame_environment, place, sum_at};
+ghost use Rattle.cond_jumps.specs.Forms.{number};
 ghost use Rattle.cond_jumps.specs.LongView.{long};
 ghost use Rattle.cond_jumps.specs.Paths.{constant_of, linear};
 ghost use Rattle.cond_jumps.specs.SumView.{sum_of, IsSumAnswer, IsPartAnswer};
@@ -122,14 +123,54 @@ fn is_division(op: Op) -> bool
     matches!(op, Op::Div | Op::Mod)
 }
 
-/// The sum, the difference or the product of two sums, whose forms have these constants.
-fn combined(alloc: Global, op: Op, k: &Long, l: &Long, a: Sum, b: Sum) -> Result<Sum, AllocError>
-    ensures { IfOk result (λ s. sum_of s ≡ combination op (long k.now) (long l.now) (sum_of a) (sum_of b)) }
+/// A number as a sum.
+fn number(alloc: Global, n: i128) -> Result<Sum, Refusal>
+    ensures { IsSumAnswer (number n 0) result }
+{
+    Ok(Sum::number(alloc, n)?)
+}
+
+/// The constants of the affine forms of two operands.
+#[derive(Drop)]
+struct Constants {
+    first: Long,
+    second: Long,
+}
+
+/// The constants of two operands.
+fn constants_of(alloc: Global, left: &TExpr, right: &TExpr) -> Result<Constants, AllocError>
+    ensures first { IfOk result (λ c. long c.first ≡ constant_of (expression left.now)) }
+    ensures second { IfOk result (λ c. long c.second ≡ constant_of (expression right.now)) }
+{
+    let first = constant(alloc, left)?;
+    let second = constant(alloc, right)?;
+    Ok(Constants { first, second })
+}
+
+/// The product of the sums of two operands.
+fn product(alloc: Global, left: &TExpr, right: &TExpr, a: Sum, b: Sum) -> Result<Sum, AllocError>
+    ensures { IfOk result (λ s. sum_of s ≡ combination Op.Mul (constant_of (expression left.now)) (constant_of (expression right.now)) (sum_of a) (sum_of b)) }
+{
+    let constants = constants_of(alloc, left, right)?;
+    times(alloc, &constants.first, &constants.second, a, b)
+}
+
+/// The sum, the difference or the product of the sums of two operands.
+fn combined(
+    alloc: Global,
+    op: Op,
+    left: &TExpr,
+    right: &TExpr,
+    a: Sum,
+    b: Sum,
+) -> Result<Sum, AllocError>
+    requires { is_combination op ≡ true }
+    ensures { IfOk result (λ s. sum_of s ≡ combination op (constant_of (expression left.now)) (constant_of (expression right.now)) (sum_of a) (sum_of b)) }
 {
     match op {
         Op::Add => plus(alloc, a, b),
         Op::Sub => minus(alloc, a, b),
-        _ => times(alloc, k, l, a, b),
+        _ => product(alloc, left, right, a, b),
     }
 }
 
@@ -156,22 +197,20 @@ pub fn linear(
     ensures { IsSumAnswer (linear (frame_environment frame.now.columns.items) old (expression expr.now) next) result }
 {
     match &expr.kind {
-        TExprKind::Lit(n) => Ok(Sum::number(alloc, *n)?),
-        TExprKind::Truth(_) => Ok(Sum::number(alloc, 0)?),
+        TExprKind::Lit(n) => number(alloc, *n),
+        TExprKind::Truth(_) => number(alloc, 0),
         TExprKind::Var(column) => Ok(column_sum(alloc, frame, read_at(old, *column))?),
         TExprKind::Old(inner) => linear(alloc, frame, true, inner, next),
-        TExprKind::Not(_) => Ok(Sum::number(alloc, 0)?),
+        TExprKind::Not(_) => number(alloc, 0),
         TExprKind::Neg(inner) => {
             let sum = linear(alloc, frame, old, inner, next)?;
             Ok(negated(alloc, sum)?)
         }
         TExprKind::Bin(op, left, right) => {
             if is_combination(*op) {
-                let k = constant(alloc, left)?;
-                let l = constant(alloc, right)?;
                 let a = linear(alloc, frame, old, left, next)?;
                 let b = linear(alloc, frame, old, right, later(next, a.helpers)?)?;
-                return Ok(combined(alloc, *op, &k, &l, a, b)?);
+                return Ok(combined(alloc, *op, left, right, a, b)?);
             }
             if !is_division(*op) {
                 return Ok(Sum::number(alloc, 0)?);

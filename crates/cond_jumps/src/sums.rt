@@ -165,7 +165,11 @@ fn subtract(alloc: Global, a: &mut Sum, b: &mut Sum) -> Result<(), AllocError>
 }
 
 /// Puts terms with the other sign behind others.
-fn push_opposites(alloc: Global, terms: &mut Vec<Term>, others: &[Term]) -> Result<(), AllocError>
+pub fn push_opposites(
+    alloc: Global,
+    terms: &mut Vec<Term>,
+    others: &[Term],
+) -> Result<(), AllocError>
     ensures { OnOk result (terms_of terms.new.items ≡ terms_of terms.old.items ++ opposite (terms_of others.now)) }
 {
     let mut opposites = opposite_terms(alloc, others)?;

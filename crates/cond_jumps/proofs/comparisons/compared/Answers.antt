@@ -1,34 +1,26 @@
-use Rattle.std.proofs.Common.{◌≡◌, true, false, ap, ◌∙◌, subst, Err, refl, FitsSigned}
+use Rattle.std.proofs.Common.{◌≡◌, true, false, ap, ◌++◌, Err, refl, FitsSigned}
 use Rattle.std.specs.Int.{w128}
 use Rattle.std.proofs.lemmas.Int.{to_z-of_z}
-use Rattle.lin_rows.specs.Rows.{LinearRow}
-use Rattle.cond_jumps.specs.Conjunctions.{row_fits}
 use Rattle.cond_jumps.specs.SumView.{sum_of}
 use Rattle.cond_jumps.specs.CompareView.{compared_row, compared_list}
-use Rattle.cond_jumps.proofs.ListAnswers.{list_handed_on, compared_fits, compared_too_big, compared_row_is, compared_list_is}
+use Rattle.cond_jumps.proofs.ListAnswers.{list_handed_on, compared_fits, compared_too_big, compared_list_is}
 use Rattle.cond_jumps.proofs.comparisons.compared.Goals as goal
 
-pub returns-in_err-row_from : goal.returns-in_err-row_from
-returns-in_err-row_from c =
+pub returns-in_err-push_difference : goal.returns-in_err-push_difference
+returns-in_err-push_difference c =
     let f : FitsSigned w128 c.args.k = c.ranges.k in
-    let b = simp to_z-of_z at c.in_ok-bound.ensures in
-    let e = compared_row_is c.args.kind c.args.k c.args.a c.args.b c.as_slice-2.result.now c.in_ok-terms.terms.items c.as_slice.result.now c.in_ok-bound.bound
-    c.as_slice-2.ensures.value c.in_ok-terms.ensures c.as_slice.ensures.value b in
-    let P : LinearRow → Type 0 = λ r. row_fits r ≡ false in
-    list_handed_on (compared_list (compared_row c.args.kind c.args.k (sum_of c.args.a) (sum_of c.args.b)) (sum_of c.args.a) (sum_of c.args.b))
-    c.from_residual-in_err-row_from.result c.in_err-row_from.field-0.0 c.from_residual-in_err-row_from.ensures.1
-    (λ t. compared_too_big (compared_row c.args.kind c.args.k (sum_of c.args.a) (sum_of c.args.b)) (sum_of c.args.a) (sum_of c.args.b)
-    (subst P e (c.in_err-row_from.ensures.too_big (ap Err t))))
+    let s = compared_row c.args.kind c.args.k (sum_of c.args.a) (sum_of c.args.b) in
+    let h = simp to_z-of_z at c.in_err-push_difference.ensures.too_big in
+    list_handed_on (compared_list s (sum_of c.args.a) (sum_of c.args.b))
+    c.from_residual.result c.in_err-push_difference.field-0.0 c.from_residual.ensures.1
+    (λ t. compared_too_big s (sum_of c.args.a) (sum_of c.args.b) (h (ap Err t)))
 
 pub returns : goal.returns
 returns c =
     let f : FitsSigned w128 c.args.k = c.ranges.k in
-    let b = simp to_z-of_z at c.in_ok-bound.ensures in
-    let e = compared_row_is c.args.kind c.args.k c.args.a c.args.b c.as_slice-2.result.now c.in_ok-terms.terms.items c.as_slice.result.now c.in_ok-bound.bound
-    c.as_slice-2.ensures.value c.in_ok-terms.ensures c.as_slice.ensures.value b in
-    let P : LinearRow → Type 0 = λ r. row_fits r ≡ true in
-    let s = compared_row c.args.kind c.args.k (sum_of c.args.a) (sum_of c.args.b) in (
-      compared_list_is c.in_ok-single.field-0.items _ c.in_ok-row_from.field-0 s c.args.a c.args.b c.in_ok-rows.rows.items c.in_ok-single.ensures c.in_ok-push.ensures.items c.in_ok-rows.ensures
-          (c.in_ok-row_from.ensures.ok ∙ e) c.in_ok-helpers.ensures,
-      compared_fits s (sum_of c.args.a) (sum_of c.args.b) c.requires.first c.requires.second (subst P e (c.in_ok-row_from.ensures.fits refl)),
+    let s = compared_row c.args.kind c.args.k (sum_of c.args.a) (sum_of c.args.b) in
+    let rows = simp to_z-of_z at c.in_ok-push_difference.ensures.rows in
+    let fits = simp to_z-of_z at c.in_ok-push_difference.ensures.fits in (
+      compared_list_is c.in_ok-single.field-0.items _ s s c.args.a c.args.b (c.args.a.rows.items ++ c.args.b.rows.items) c.in_ok-single.ensures rows refl refl c.in_ok-push_difference.ensures.helpers,
+      compared_fits s (sum_of c.args.a) (sum_of c.args.b) c.requires.first c.requires.second fits,
     )

@@ -1,4 +1,6 @@
-use Rattle.std.proofs.Common.{◌≡◌, true, Option, sym, ap, subst, ◌∙◌}
+use Rattle.std.proofs.Common.{rules, ◌≡◌, true, Option, sym, ap, subst, ◌∙◌, FitsSigned}
+use Rattle.std.specs.Int.{w128}
+use Rattle.std.proofs.lemmas.Int.{to_z-of_z}
 use Rattle.typed_tree.specs.TypedTree.{TypedExpression}
 use Rattle.typed_tree.specs.TypedView.{expression, kind_view}
 use Rattle.typed_tree.specs.AffineForm.{divisor_of}
@@ -8,7 +10,7 @@ use Rattle.cond_jumps.specs.Frames.{frame_environment}
 use Rattle.cond_jumps.specs.Environments.{Environment}
 use Rattle.cond_jumps.specs.Paths.{linear}
 use Rattle.cond_jumps.specs.SumView.{IsSumOf, IsSumAnswer}
-use Rattle.cond_jumps.proofs.AnswerLemmas.{combined_answer, second_answer, quotient_answer}
+use Rattle.cond_jumps.proofs.AnswerLemmas.{combination_answer, second_answer, quotient_answer}
 use Rattle.cond_jumps.proofs.linear.+linear.Goals as goal
 
 pub returns-in_err-b-in-Bin : goal.returns-in_err-b-in-Bin
@@ -17,9 +19,9 @@ returns-in_err-b-in-Bin t c =
     let P : TypedExpression → Type 0 = λ e. IsSumAnswer (linear v c.args.old e c.args.next) c.from_residual-in_err-b-in-Bin.result in
     subst P (sym (ap (kind_view c.args.expr.now.span) c.in-Bin.is))
     (second_answer v c.args.old c.args.expr.now.span c.in-Bin.op (expression c.in-Bin.left.value) (expression c.in-Bin.right.value)
-    (expression c.deref-then-is_combination-3.result.now) (expression c.deref-then-is_combination-4.result.now) c.args.next c.in_ok-later-in-Bin.field-0
-    c.in_ok-a-in-Bin.a c.in_err-b-in-Bin.field-0.0 c.from_residual-in_err-b-in-Bin.result (ap expression c.deref-then-is_combination-3.ensures)
-    (ap expression c.deref-then-is_combination-4.ensures) (sym c.is_combination.ensures ∙ c.if-is_combination.true) c.in_ok-a-in-Bin.ensures c.in_ok-later-in-Bin.ensures
+    (expression c.deref-then-is_combination.result.now) (expression c.deref-then-is_combination-2.result.now) c.args.next c.in_ok-later-in-Bin.field-0
+    c.in_ok-a-in-Bin.a c.in_err-b-in-Bin.field-0.0 c.from_residual-in_err-b-in-Bin.result (ap expression c.deref-then-is_combination.ensures)
+    (ap expression c.deref-then-is_combination-2.ensures) (sym c.is_combination.ensures ∙ c.if-is_combination.true) c.in_ok-a-in-Bin.ensures c.in_ok-later-in-Bin.ensures
     c.in_err-b-in-Bin.ensures c.from_residual-in_err-b-in-Bin.ensures.1)
 
 pub returns-then-is_combination : goal.returns-then-is_combination
@@ -27,13 +29,13 @@ returns-then-is_combination t c =
     let v : Environment = frame_environment c.args.frame.now.columns.items in
     let P : TypedExpression → Type 0 = λ e. IsSumOf (linear v c.args.old e c.args.next) c.in_ok-combined-in-Bin.field-0 in
     subst P (sym (ap (kind_view c.args.expr.now.span) c.in-Bin.is))
-    (combined_answer v c.args.old c.args.expr.now.span c.in-Bin.op (expression c.in-Bin.left.value) (expression c.in-Bin.right.value)
+    (combination_answer v c.args.old c.args.expr.now.span c.in-Bin.op (expression c.in-Bin.left.value) (expression c.in-Bin.right.value)
     (expression c.deref-then-is_combination.result.now) (expression c.deref-then-is_combination-2.result.now)
     (expression c.deref-then-is_combination-3.result.now) (expression c.deref-then-is_combination-4.result.now) c.args.next c.in_ok-later-in-Bin.field-0
-    c.in_ok-k-in-Bin.k c.in_ok-l-in-Bin.l c.in_ok-a-in-Bin.a c.in_ok-b-in-Bin.b c.in_ok-combined-in-Bin.field-0
+    c.in_ok-a-in-Bin.a c.in_ok-b-in-Bin.b c.in_ok-combined-in-Bin.field-0
     (ap expression c.deref-then-is_combination.ensures) (ap expression c.deref-then-is_combination-2.ensures)
     (ap expression c.deref-then-is_combination-3.ensures) (ap expression c.deref-then-is_combination-4.ensures)
-    (sym c.is_combination.ensures ∙ c.if-is_combination.true) c.in_ok-k-in-Bin.ensures c.in_ok-l-in-Bin.ensures c.in_ok-a-in-Bin.ensures c.in_ok-later-in-Bin.ensures
+    (sym c.is_combination.ensures ∙ c.if-is_combination.true) c.in_ok-a-in-Bin.ensures c.in_ok-later-in-Bin.ensures
     c.in_ok-b-in-Bin.ensures c.in_ok-combined-in-Bin.ensures)
 
 pub returns-in_ok-x-in-Some : goal.returns-in_ok-x-in-Some
@@ -47,3 +49,22 @@ returns-in_ok-x-in-Some t c =
     (expression c.deref-in-Bin.result.now) (expression c.deref-in-Some.result.now) c.args.next c.in_ok-x-in-Some.x c.in-Some.k c.part_of.result
     (ap expression c.deref-in-Bin.ensures) (ap expression c.deref-in-Some.ensures) o (subst D c.in-Some.is c.in_ok-divisor-in-Bin.ensures)
     c.in_ok-x-in-Some.ensures c.part_of.ensures)
+
+pub returns-in-Lit : goal.returns-in-Lit
+returns-in-Lit t c =
+    let v : Environment = frame_environment c.args.frame.now.columns.items in
+    let P : TypedExpression → Type 0 = λ e. IsSumAnswer (linear v c.args.old e c.args.next) c.number.result in
+    let f : FitsSigned w128 c.in-Lit.n = search rules in
+    subst P (sym (ap (kind_view c.args.expr.now.span) c.in-Lit.is)) (simp to_z-of_z at c.number.ensures)
+
+pub returns-in-Truth : goal.returns-in-Truth
+returns-in-Truth t c =
+    let v : Environment = frame_environment c.args.frame.now.columns.items in
+    let P : TypedExpression → Type 0 = λ e. IsSumAnswer (linear v c.args.old e c.args.next) c.number-in-Truth.result in
+    subst P (sym (ap (kind_view c.args.expr.now.span) c.in-Truth.is)) c.number-in-Truth.ensures
+
+pub returns-in-Not : goal.returns-in-Not
+returns-in-Not t c =
+    let v : Environment = frame_environment c.args.frame.now.columns.items in
+    let P : TypedExpression → Type 0 = λ e. IsSumAnswer (linear v c.args.old e c.args.next) c.number-in-Not.result in
+    subst P (sym (ap (kind_view c.args.expr.now.span) c.in-Not.is)) c.number-in-Not.ensures
