@@ -1,4 +1,9 @@
+use Rattle.std.specs.Borrow.{Bor}
 use Rattle.std.proofs.lemmas.Result.{err_from_is_err_and}
+use Rattle.boogie_tree.specs.declared.tree.Expr.{Expr}
+use Rattle.boogie_tree.specs.View as view
+use Rattle.typed_tree.specs.TypedView as typed
+use Rattle.boogie_types.proofs.EachLaws.{loop_made}
 use Rattle.boogie_types.proofs.Refusals.{fault_of_axiom}
 use Rattle.boogie_types.proofs.declarations.all_named.Goals as goal
 
@@ -6,3 +11,8 @@ pub returns-in_err-value-clause-fault : goal.returns-in_err-value-clause-fault
 returns-in_err-value-clause-fault c =
     let p = err_from_is_err_and c.from_residual.result c.from_residual.ensures.1 in
     rw (p.1, p.2) (fault_of_axiom _ _ _ _ _ c.loop-axiom-test.true c.axiom-item.is c.in_err-value.ensures.fault)
+
+pub loop-axiom-preserved : goal.loop-axiom-preserved
+loop-axiom-preserved c =
+    loop_made _ (λ (e : Bor Expr). view.expression e.now) typed.expression _ _ _ c.in_ok-value.value c.loop-axiom.values.items c.push.new.self.items _
+    c.loop-axiom-test.true c.axiom-item.is c.in_ok-value.ensures.ok c.in_ok-push.ensures.items c.loop-axiom.invariant
