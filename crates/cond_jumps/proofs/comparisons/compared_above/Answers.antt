@@ -1,4 +1,4 @@
-use Rattle.std.proofs.Common.{◌≡◌, true, false, ap, ◌++◌, Err, refl, FitsSigned}
+use Rattle.std.proofs.Common.{ap, ◌++◌, Err, refl, FitsSigned}
 use Rattle.std.specs.Int.{w128}
 use Rattle.std.proofs.lemmas.Int.{to_z-of_z}
 use Rattle.cond_jumps.specs.SumView.{sum_of}
