@@ -1,5 +1,5 @@
 -- Images that are built edge by edge.
-use Rattle.std.proofs.Common.{◌≡◌, ◌∙◌, ◌↔◌, ℕ, List, [], ◌++◌, Option, Some, Result, Ok, IfOk, sym, ap, subst}
+use Rattle.std.proofs.Common.{◌≡◌, ◌∙◌, ◌↔◌, ℕ, List, [], ◌++◌, Option, Some, Result, Ok, Err, IfOk, OnOk, refl, sym, ap, subst}
 use Rattle.nwa_base.specs.declared.letters.Letter.{Letter}
 use Rattle.nwa_base.specs.Members.{Member}
 use Rattle.nwa_base.specs.Automata.{Automaton}
@@ -8,6 +8,16 @@ use Rattle.nwa_reduce.proofs.CollectLemmas.{IsCollected}
 
 pub made_ok : {A E : Type 0} (r : Result A E) (x : A) (P : A → Type 0) → r ≡ Ok x → IfOk r P → P x
 made_ok {A} {E} r x P e h = subst (λ (z : Result A E). IfOk z P) e h
+
+pub on_ok : {T E P Q : Type 0} (r : Result T E) → (P → Q) → OnOk r P → OnOk r Q
+on_ok (Ok x) f h = f h
+on_ok (Err e) f h = h
+
+-- an automaton that was made without edges has none
+pub bare_is : (e : Automaton) (count start : ℕ) → e ≡ record { states = count; start = start; finals = []; insides = []; calls = []; backs = [] } →
+    e ≡ record { states = e.states; start = e.start; finals = []; insides = []; calls = []; backs = [] }
+bare_is e count start o =
+    subst (λ (z : Automaton). z ≡ record { states = z.states; start = z.start; finals = []; insides = []; calls = []; backs = [] }) (sym o) refl
 
 of_list : {X Y : Type 0} (R : X → Y → Type 0) (xs : List X) (ys zs : List Y) → zs ≡ ys → IsCollected R xs ys → (y : Y) → Member zs y ↔ Among R xs y
 of_list {X} {Y} R xs ys zs e h y = subst (λ (l : List Y). Member l y ↔ Among R xs y) (sym e) (h y)

@@ -1,6 +1,6 @@
 //! Automata under names: states with one name become one, and states without a name are left out.
 
-ghost use Rattle.std.specs.Prelude.{◌≡◌, ◌++◌, ◌↔◌, ℕ, Some, Ok, IfOk, OnOk};
+ghost use Rattle.std.specs.Prelude.{◌≡◌, ◌++◌, ◌↔◌, ℕ, List, [], Some, Ok, IfOk, OnOk};
 ghost use Rattle.nwa_base.specs.declared.letters.Letter.{Letter};
 ghost use Rattle.nwa_base.specs.Members.{Member};
 ghost use Rattle.nwa_reduce.specs.Naming.{named, IsNaming};
@@ -20,23 +20,52 @@ pub fn image(alloc: Global, nwa: &Nwa, names: &Names) -> Result<Nwa, AllocError>
         unreachable!();
     };
     let mut image = in_memory(empty(alloc, names.count, start))?;
-    add_finals(
-        &mut image,
-        named_states(alloc, nwa.finals(), names)?.as_slice(),
-    )?;
-    add_insides(
-        &mut image,
-        named_edges(alloc, nwa.insides(), names)?.as_slice(),
-    )?;
-    add_calls(
-        &mut image,
-        named_edges(alloc, nwa.calls(), names)?.as_slice(),
-    )?;
-    add_backs(
-        &mut image,
-        named_backs(alloc, nwa.backs(), names)?.as_slice(),
-    )?;
+    fill(alloc, nwa, names, &mut image)?;
     Ok(image)
+}
+
+/// Gives an image that has no edges yet its final states and its edges.
+fn fill(alloc: Global, nwa: &Nwa, names: &Names, image: &mut Nwa) -> Result<(), AllocError>
+    requires start { named names.now.of.items nwa.now.start ≡ Some image.old.start }
+    requires bare { image.old ≡ record { states = image.old.states; start = image.old.start; finals = []; insides = []; calls = []; backs = [] } }
+    ensures { OnOk result (IsImage nwa.now (named names.now.of.items) image.new × (image.new.states ≡ image.old.states)) }
+{
+    name_finals(alloc, nwa, names, image)?;
+    name_insides(alloc, nwa, names, image)?;
+    name_calls(alloc, nwa, names, image)?;
+    name_backs(alloc, nwa, names, image)
+}
+
+/// Adds the names of the final states.
+fn name_finals(alloc: Global, nwa: &Nwa, names: &Names, image: &mut Nwa) -> Result<(), AllocError>
+    ensures { OnOk result ((s : List ℕ) × (image.new ≡ record image.old { finals = image.old.finals ++ s }) × ((x : ℕ) → Member s x ↔ Among (λ q y. named names.now.of.items q ≡ Some y) nwa.now.finals x)) }
+{
+    let states = named_states(alloc, nwa.finals(), names)?;
+    add_finals(image, states.as_slice())
+}
+
+/// Adds the inside edges between names.
+fn name_insides(alloc: Global, nwa: &Nwa, names: &Names, image: &mut Nwa) -> Result<(), AllocError>
+    ensures { OnOk result ((s : List (ℕ × Letter × ℕ)) × (image.new ≡ record image.old { insides = image.old.insides ++ s }) × ((x : ℕ × Letter × ℕ) → Member s x ↔ Among (IsNamedEdge (named names.now.of.items)) nwa.now.insides x)) }
+{
+    let edges = named_edges(alloc, nwa.insides(), names)?;
+    add_insides(image, edges.as_slice())
+}
+
+/// Adds the edges by calls between names.
+fn name_calls(alloc: Global, nwa: &Nwa, names: &Names, image: &mut Nwa) -> Result<(), AllocError>
+    ensures { OnOk result ((s : List (ℕ × Letter × ℕ)) × (image.new ≡ record image.old { calls = image.old.calls ++ s }) × ((x : ℕ × Letter × ℕ) → Member s x ↔ Among (IsNamedEdge (named names.now.of.items)) nwa.now.calls x)) }
+{
+    let edges = named_edges(alloc, nwa.calls(), names)?;
+    add_calls(image, edges.as_slice())
+}
+
+/// Adds the edges by returns between names.
+fn name_backs(alloc: Global, nwa: &Nwa, names: &Names, image: &mut Nwa) -> Result<(), AllocError>
+    ensures { OnOk result ((s : List (ℕ × ℕ × Letter × ℕ)) × (image.new ≡ record image.old { backs = image.old.backs ++ s }) × ((x : ℕ × ℕ × Letter × ℕ) → Member s x ↔ Among (IsNamedBack (named names.now.of.items)) nwa.now.backs x)) }
+{
+    let edges = named_backs(alloc, nwa.backs(), names)?;
+    add_backs(image, edges.as_slice())
 }
 
 /// The names of the states.

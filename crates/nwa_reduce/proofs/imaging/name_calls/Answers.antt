@@ -1,0 +1,14 @@
+use Rattle.std.proofs.Common.{◌≡◌, ◌++◌}
+use Rattle.nwa_reduce.specs.Naming.{named}
+use Rattle.nwa_reduce.specs.Images.{IsNamedEdge}
+use Rattle.nwa_reduce.proofs.MadeLemmas.{on_ok, collected_from}
+use Rattle.nwa_reduce.proofs.imaging.name_calls.Goals as goal
+
+pub returns : goal.returns
+returns c =
+    on_ok c.add_calls.result
+    (λ (e : c.add_calls.new.image ≡ record c.args.image.now { calls = c.args.image.now.calls ++ c.as_slice.result.now }). (
+      c.as_slice.result.now,
+      e,
+      collected_from (IsNamedEdge (named c.args.names.now.of.items)) _ _ _ _ c.calls.ensures c.as_slice.ensures.keys c.in_ok-edges.ensures,
+    )) c.add_calls.ensures
