@@ -1,6 +1,6 @@
 //! The difference.
 
-ghost use Rattle.std.specs.Prelude.{◌≡◌, ◌↔◌, List, None, IfOk};
+ghost use Rattle.std.specs.Prelude.{◌≡◌, ◌↔◌, List, None, IfOk, OnOk};
 ghost use Rattle.nwa_base.specs.declared.letters.Letter.{Letter};
 ghost use Rattle.nwa_base.specs.Members.{Member};
 ghost use Rattle.nwa_base.specs.Acceptance.{Accepts};
@@ -20,13 +20,31 @@ pub fn difference(alloc: Global, first: &Nwa, second: &Nwa) -> Result<Nwa, Alloc
     ensures { IfOk result (λ d. (w : List Letter) → Accepts d w ↔ (Accepts first.now w × (Accepts second.now w → ⊥))) }
 {
     let mut product = Product::new(alloc, first, second)?;
-    let mut pairs = begin(alloc, &product)?;
+    search(alloc, &mut product)?;
+    Ok(product.into_nwa())
+}
+
+/// Makes all of the product to which words lead from its start.
+fn search(alloc: Global, product: &mut Product) -> Result<(), AllocError>
+    requires { IsMade (seen product.old) }
+    ensures { OnOk result ((w : List Letter) → Accepts (seen product.new).product w ↔ (Accepts (seen product.old).first w × (Accepts (seen product.old).sets.nwa w → ⊥))) }
+{
+    let mut pairs = begin(alloc, product)?;
+    expand_all(alloc, product, &mut pairs)
+}
+
+/// Follows the edges of each pair, also of those that are found on the way.
+fn expand_all(alloc: Global, product: &mut Product, pairs: &mut Pairs) -> Result<(), AllocError>
+    requires stage { IsStage (stage product.old pairs.old) }
+    requires start { Member (found pairs.old).pairs (None, (seen product.old).product.start) }
+    ensures { OnOk result ((w : List Letter) → Accepts (seen product.new).product w ↔ (Accepts (seen product.old).first w × (Accepts (seen product.old).sets.nwa w → ⊥))) }
+{
     // there are fewer pairs than 2 to the 64, since a state is a number of 32 bits
     for place in 0..usize::MAX {
         let Some((entry, state)) = pairs.at(place) else {
-            return Ok(product.into_nwa());
+            return Ok(());
         };
-        expand(alloc, &mut product, &mut pairs, entry, state)?;
+        expand(alloc, product, pairs, entry, state)?;
     }
     Err(AllocError)
 }
