@@ -10,11 +10,12 @@ ghost use Rattle.proof_spell.specs.Drafts.{MayBeSpelled};
 ghost use Rattle.proof_spell.specs.Spelled.{Outlines, Spells};
 ghost use Rattle.proof_check.specs.Proves.{Proves};
 ghost use Rattle.proof_unwind.specs.Exploring.{IsOverPreds};
-ghost use Rattle.proof_build.specs.Numbering.{StartHasBody};
+ghost use Rattle.proof_build.specs.Numbering.{StartHasBody, AreListed, AreAllNumbered};
 ghost use Rattle.proof_build.specs.Unwindings.{draft_of};
 ghost use Rattle.proof_build.specs.Unwound.{AreCovering};
 ghost use Rattle.proof_build.specs.Built.{unwinding_of, IsUnwoundBy};
 ghost use Rattle.proof_build.specs.Sketches.{Says, AreReachable, AreInOrder, AreUsed, AreOnce};
+ghost use Rattle.proof_build.specs.Unions.{IsUnionOf};
 
 use crate::listing::listed_preds;
 use crate::needs::needed_by;
@@ -71,9 +72,84 @@ pub fn build(alloc: Global, icfg: &Icfg, automata: &[&Certified]) -> Result<Anno
     ensures once { IfOk result (Says icfg.now AreOnce) }
 {
     let preds = listed_preds(alloc, icfg, automata)?;
-    let union = union_of(alloc, &preds, automata)?;
-    let unwound = unwound_by(alloc, icfg, &union)?;
-    let needed = needed_by(alloc, &union, &unwound)?;
-    let triples = triples_of(alloc, &preds, &needed, automata)?;
-    spelled(alloc, icfg, &preds, &triples, &unwound)
+    over_preds(alloc, icfg, automata, &preds)
+}
+
+/// The annotation over the predicates that are listed.
+fn over_preds(
+    alloc: Global,
+    icfg: &Icfg,
+    automata: &[&Certified],
+    preds: &[Scoped],
+) -> Result<Annotation, AllocError>
+    requires certified { AllByRecursion (IsCertified (alphabet_of icfg.now)) (map (λ c. c.now) automata.now) }
+    requires covering { AreCovering icfg.now.automaton (map (λ c. c.now.automaton) automata.now) }
+    requires body { StartHasBody icfg.now }
+    requires listed { AreListed icfg.now preds.now }
+    requires numbered { AreAllNumbered icfg.now preds.now (map (λ c. c.now) automata.now) }
+    requires none { automata.now ≡ [] → preds.now ≡ [] }
+    ensures proves { IfOk result (Proves icfg.now) }
+    ensures none { IfOk result (λ a. automata.now ≡ [] → (a.preds ≡ []) × (a.triples ≡ [])) }
+    ensures reachable { IfOk result (Says icfg.now AreReachable) }
+    ensures ascend { IfOk result (Says icfg.now AreInOrder) }
+    ensures used { IfOk result (Says icfg.now AreUsed) }
+    ensures once { IfOk result (Says icfg.now AreOnce) }
+{
+    let union = union_of(alloc, preds, automata)?;
+    over_union(alloc, icfg, automata, preds, &union)
+}
+
+/// The annotation over the union of the automata.
+fn over_union(
+    alloc: Global,
+    icfg: &Icfg,
+    automata: &[&Certified],
+    preds: &[Scoped],
+    union: &Nwa,
+) -> Result<Annotation, AllocError>
+    requires certified { AllByRecursion (IsCertified (alphabet_of icfg.now)) (map (λ c. c.now) automata.now) }
+    requires covering { AreCovering icfg.now.automaton (map (λ c. c.now.automaton) automata.now) }
+    requires body { StartHasBody icfg.now }
+    requires listed { AreListed icfg.now preds.now }
+    requires numbered { AreAllNumbered icfg.now preds.now (map (λ c. c.now) automata.now) }
+    requires none { automata.now ≡ [] → preds.now ≡ [] }
+    requires union { IsUnionOf preds.now (map (λ c. c.now) automata.now) union.now }
+    ensures proves { IfOk result (Proves icfg.now) }
+    ensures none { IfOk result (λ a. automata.now ≡ [] → (a.preds ≡ []) × (a.triples ≡ [])) }
+    ensures reachable { IfOk result (Says icfg.now AreReachable) }
+    ensures ascend { IfOk result (Says icfg.now AreInOrder) }
+    ensures used { IfOk result (Says icfg.now AreUsed) }
+    ensures once { IfOk result (Says icfg.now AreOnce) }
+{
+    let unwound = unwound_by(alloc, icfg, union)?;
+    over_nodes(alloc, icfg, automata, preds, union, &unwound)
+}
+
+/// The annotation of the graph that is unwound.
+fn over_nodes(
+    alloc: Global,
+    icfg: &Icfg,
+    automata: &[&Certified],
+    preds: &[Scoped],
+    union: &Nwa,
+    unwound: &Unwound,
+) -> Result<Annotation, AllocError>
+    requires certified { AllByRecursion (IsCertified (alphabet_of icfg.now)) (map (λ c. c.now) automata.now) }
+    requires covering { AreCovering icfg.now.automaton (map (λ c. c.now.automaton) automata.now) }
+    requires body { StartHasBody icfg.now }
+    requires listed { AreListed icfg.now preds.now }
+    requires numbered { AreAllNumbered icfg.now preds.now (map (λ c. c.now) automata.now) }
+    requires none { automata.now ≡ [] → preds.now ≡ [] }
+    requires union { IsUnionOf preds.now (map (λ c. c.now) automata.now) union.now }
+    requires unwound { IsUnwoundBy icfg.now union.now unwound.now }
+    ensures proves { IfOk result (Proves icfg.now) }
+    ensures none { IfOk result (λ a. automata.now ≡ [] → (a.preds ≡ []) × (a.triples ≡ [])) }
+    ensures reachable { IfOk result (Says icfg.now AreReachable) }
+    ensures ascend { IfOk result (Says icfg.now AreInOrder) }
+    ensures used { IfOk result (Says icfg.now AreUsed) }
+    ensures once { IfOk result (Says icfg.now AreOnce) }
+{
+    let needed = needed_by(alloc, union, unwound)?;
+    let triples = triples_of(alloc, preds, &needed, automata)?;
+    spelled(alloc, icfg, preds, &triples, unwound)
 }
