@@ -1,7 +1,8 @@
 -- Sources: all triples over the states by a letter whose kinds and scopes agree come from them.
-use Rattle.std.proofs.Common.{◌≡◌, ◌∙◌, ℕ, zero, suc, ◌<◌, List, [], ◌∷◌, length, map, Option, None, Some, refl, sym, ap, subst, inl, inr, arith}
+use Rattle.std.proofs.Common.{◌≡◌, ◌∙◌, ℕ, zero, suc, ◌+◌, ◌<◌, List, [], ◌∷◌, ◌++◌, length, take, get_or, map, append_assoc, append-nil, Option, None, Some, refl, sym, ap, subst, inl, inr, arith}
 use Rattle.std.specs.Prelude.{slice_get}
 use Rattle.std.specs.List.{AllByRecursion, flat_map}
+use Rattle.std.proofs.lemmas.List.{take_more, map_more}
 use Rattle.nwa_base.specs.Members.{Member}
 use Rattle.nwa_base.proofs.MemberLemmas.{member_front, member_rest, member_split, member_map, member_from_map}
 use Rattle.letter_acts.specs.Acts.{PlainAct, inside_act, call_act, back_act, Alphabet}
@@ -12,9 +13,34 @@ use Rattle.triple_rows.specs.Triples.{IsScoped, InsideAgrees, CallAgrees, Return
 use Rattle.itp_automaton.specs.declared.sources.Source.{Source}
 use Rattle.itp_automaton.specs.declared.sources.Source.TheVariants.{Inside, Call, Back}
 use Rattle.itp_automaton.specs.Settling.{NamesStates, letter_in, state_at, IsWithin, AgreesTo, IsFrom, AreSources, IsStateIn, AreStatesIn, AreReturnSources, AreActSources}
-use Rattle.itp_automaton.proofs.StateLaws.{place_of}
+use Rattle.itp_automaton.proofs.StateLaws.{place_of, take_next}
 use Rattle.itp_automaton.proofs.EdgeLaws.{place_below}
 use Rattle.itp_automaton.proofs.BuiltLaws.{all_of, all_member}
+
+-- ---- lists that are made member by member
+
+pub mapped_next : {X Y : Type 0} (f : X → Y) (xs : List X) (i : ℕ) (d : X) (old new : List Y) → i < length xs → old ≡ map f (take i xs) →
+    new ≡ old ++ f (get_or xs i d) ∷ [] → new ≡ map f (take (i + 1) xs)
+mapped_next f xs i d old new l h e = e ∙ ap (λ (ys : List _). ys ++ f (get_or xs i d) ∷ []) h ∙ sym (map_more f xs i d l)
+
+pub mapped_behind : {X Y : Type 0} (f : X → Y) (xs : List X) (i : ℕ) (d : X) (begin old new : List Y) → i < length xs → old ≡ begin ++ map f (take i xs) →
+    new ≡ old ++ f (get_or xs i d) ∷ [] → new ≡ begin ++ map f (take (i + 1) xs)
+mapped_behind f xs i d begin old new l h e =
+    e ∙ ap (λ (ys : List _). ys ++ f (get_or xs i d) ∷ []) h ∙ append_assoc begin (map f (take i xs)) (f (get_or xs i d) ∷ []) ∙
+    ap (λ (ys : List _). begin ++ ys) (sym (map_more f xs i d l))
+
+flat_behind : {X Y : Type 0} (f : X → List Y) (xs : List X) (x : X) → flat_map f (xs ++ x ∷ []) ≡ flat_map f xs ++ f x
+flat_behind f [] x = append-nil (f x)
+flat_behind f (y ∷ xs) x = ap (λ (ys : List _). f y ++ ys) (flat_behind f xs x) ∙ sym (append_assoc (f y) (flat_map f xs) (f x))
+
+pub flat_next : {X Y : Type 0} (f : X → List Y) (xs : List X) (i : ℕ) (d : X) (old new : List Y) → i < length xs → old ≡ flat_map f (take i xs) →
+    new ≡ old ++ f (get_or xs i d) → new ≡ flat_map f (take (i + 1) xs)
+flat_next f xs i d old new l h e =
+    e ∙ ap (λ (ys : List _). ys ++ f (get_or xs i d)) h ∙ sym (flat_behind f (take i xs) (get_or xs i d)) ∙ ap (flat_map f) (sym (take_more xs i d l))
+
+pub taken_next : {X : Type 0} (xs : List X) (i : ℕ) (x y : X) (old new : List X) → i < length xs → x ≡ get_or xs i x → y ≡ x → old ≡ take i xs →
+    new ≡ old ++ y ∷ [] → new ≡ take (i + 1) xs
+taken_next xs i x y old new l g s h e = e ∙ (λ k. h k ++ s k ∷ []) ∙ sym (take_next xs i x l g)
 
 -- the predicate at a place
 pub state_stands : (preds : List Scoped) (q : ℕ) (s : Scoped) → slice_get preds q ≡ Some s → state_at preds q ≡ s

@@ -1,4 +1,4 @@
-use Rattle.std.proofs.Common.{◌≡◌, ◌∙◌, List, [], Bor, map, sym, subst}
+use Rattle.std.proofs.Common.{◌∙◌, List, Bor, map, sym, subst}
 use Rattle.triple_rows.specs.declared.triples.Scoped.{Scoped}
 use Rattle.itp_automaton.specs.Certified.{Certificate}
 use Rattle.proof_build.specs.Numbering.{AreListed, AreAllNumbered}
