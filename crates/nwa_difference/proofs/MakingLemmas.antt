@@ -256,6 +256,17 @@ state_there p place q s y l e t =
     let g = same_pair (q, s) y t in
     (l, ap (λ (z : ℕ × ℕ). z.0) f ∙ sym (ap (λ (z : ℕ × ℕ). z.0) g), ap (λ (z : ℕ × ℕ). z.1) f ∙ sym (ap (λ (z : ℕ × ℕ). z.1) g))
 
+-- the state that is new
+pub state_last : (p : Made) (old : List (ℕ × ℕ)) (state q s : ℕ) → p.states ≡ old ++ (q, s) ∷ [] → state ≡ length old →
+    (state < length p.states) × (first_at p state ≡ q) × (number_at p state ≡ s)
+state_last p old state q s e h =
+    let f : slice_index_or p.states state (0, 0) ≡ (q, s) = (λ i. slice_index_or (e i) (h i) (0, 0)) ∙ last_at old (q, s) (0, 0) in
+    let l : length p.states ≡ length old + 1 = ap length e ∙ length-append old ((q, s) ∷ []) in
+    (omega arith, ap (λ (z : ℕ × ℕ). z.0) f, ap (λ (z : ℕ × ℕ). z.1) f)
+
+pub place_small : {X : Type 0} (old new : List X) (place n : ℕ) → place < length new → new ≡ old → length old ≡ n → n < 2 ^ 32 → place < 2 ^ 32
+place_small old new place n l e c m = let f = ap length e in omega arith
+
 pub at_ok : {X E : Type 0} (r : Result X E) (x : X) (P : Type 0) → r ≡ Ok x → OnOk r P → P
 at_ok {X} {E} r x P e h = subst (λ (z : Result X E). OnOk z P) e h
 
