@@ -9,6 +9,10 @@ use Rattle.nwa_reduce.proofs.CollectLemmas.{IsCollected}
 pub made_ok : {A E : Type 0} (r : Result A E) (x : A) (P : A → Type 0) → r ≡ Ok x → IfOk r P → P x
 made_ok {A} {E} r x P e h = subst (λ (z : Result A E). IfOk z P) e h
 
+pub if_ok_so : {T E : Type 0} {P Q : T → Type 0} (r : Result T E) → IfOk r P → ((x : T) → P x → Q x) → IfOk r Q
+if_ok_so (Ok x) h f = f x h
+if_ok_so (Err e) h f = tt
+
 pub on_ok : {T E P Q : Type 0} (r : Result T E) → (P → Q) → OnOk r P → OnOk r Q
 on_ok (Ok x) f h = f h
 on_ok (Err e) f h = h

@@ -1,5 +1,6 @@
 -- Images of automata, and what stays of them.
-use Rattle.std.proofs.Common.{◌≡◌, ◌≢◌, ◌∙◌, ◌<◌, ℕ, List, [], ◌∷◌, Option, Some, refl, sym, subst, inl, inr, arith}
+use Rattle.std.proofs.Common.{◌≡◌, ◌≢◌, ◌∙◌, ◌<◌, ℕ, List, [], ◌∷◌, Option, Some, Result, Ok, Err, IfOk, refl, sym, subst, inl, inr, arith}
+use Rattle.std.specs.declared.alloc.AllocError.{AllocError}
 use Rattle.nwa_base.specs.Automata.{Automaton, IsAutomaton}
 use Rattle.nwa_reduce.specs.Ways.{Leads, IsWay, IsUseful}
 use Rattle.nwa_reduce.specs.Lean.{IsTrim, IsReduced}
@@ -14,6 +15,11 @@ image_reduces m n names count v i e = record {
   words = λ w. let r = image_accepts m n (named names) i v.safe w in (r.1, r.0);
   states = let f = v.few in omega arith;
 }
+
+pub images_reduce : (m : Automaton) (names : List (Option ℕ)) (count : ℕ) (r : Result Automaton AllocError) → IsNaming m names count →
+    IfOk r (λ n. IsImage m (named names) n × (n.states ≡ count)) → IfOk r (IsReduced m)
+images_reduce m names count (Ok n) v h = image_reduces m n names count v h.0 h.1
+images_reduce m names count (Err e) v h = tt
 
 pub reduced_on : (m n k : Automaton) → IsReduced m n → IsReduced n k → IsReduced m k
 reduced_on m n k g h = record {

@@ -1,6 +1,6 @@
 //! The reduction.
 
-ghost use Rattle.std.specs.Prelude.{◌↔◌, ◌≤◌, List, IfOk};
+ghost use Rattle.std.specs.Prelude.{◌↔◌, ◌<◌, ◌≤◌, List, IfOk, OnOk, MatchOption};
 ghost use Rattle.nwa_base.specs.declared.letters.Letter.{Letter};
 ghost use Rattle.nwa_base.specs.Acceptance.{Accepts};
 ghost use Rattle.nwa_reduce.specs.Lean.{IsTrim, IsLean, IsReduced};
@@ -27,15 +27,38 @@ pub fn reduce(alloc: Global, nwa: &Nwa) -> Result<Nwa, AllocError>
 fn trimmed(alloc: Global, nwa: &Nwa) -> Result<Nwa, AllocError>
     ensures { IfOk result (λ n. IsReduced nwa.now n × IsTrim n) }
 {
-    let names = useful_names(alloc, nwa)?;
-    let mut kept = image(alloc, nwa, &names)?;
-    loop {
-        let names = useful_names(alloc, &kept)?;
-        if names.count == kept.states() {
-            return Ok(kept);
-        }
-        kept = image(alloc, &kept, &names)?;
+    let mut kept = useful_image(alloc, nwa)?;
+    trim(alloc, &mut kept)?;
+    Ok(kept)
+}
+
+/// Takes away useless states until there are none.
+fn trim(alloc: Global, kept: &mut Nwa) -> Result<(), AllocError>
+    ensures { OnOk result (IsReduced kept.old kept.new × IsTrim kept.new) }
+{
+    while let Some(smaller) = useful_part(alloc, kept)? {
+        *kept = smaller;
     }
+    Ok(())
+}
+
+/// The automaton of the start and the useful states.
+fn useful_image(alloc: Global, nwa: &Nwa) -> Result<Nwa, AllocError>
+    ensures { IfOk result (IsReduced nwa.now) }
+{
+    let names = useful_names(alloc, nwa)?;
+    image(alloc, nwa, &names)
+}
+
+/// The automaton of the start and the useful states, if there are others.
+fn useful_part(alloc: Global, nwa: &Nwa) -> Result<Option<Nwa>, AllocError>
+    ensures { IfOk result (λ part. MatchOption part (IsTrim nwa.now) (λ n. IsReduced nwa.now n × (n.states < nwa.now.states))) }
+{
+    let names = useful_names(alloc, nwa)?;
+    if names.count == nwa.states() {
+        return Ok(None);
+    }
+    Ok(Some(image(alloc, nwa, &names)?))
 }
 
 /// Twins become one state, until there are none. Where states become one, others may become twins.
@@ -44,11 +67,29 @@ fn merged(alloc: Global, nwa: Nwa) -> Result<Nwa, AllocError>
     ensures { IfOk result (λ n. IsReduced nwa n × IsLean n) }
 {
     let mut kept = nwa;
-    loop {
-        let names = class_names(alloc, &kept)?;
-        if names.count == kept.states() {
-            return Ok(kept);
-        }
-        kept = image(alloc, &kept, &names)?;
+    merge(alloc, &mut kept)?;
+    Ok(kept)
+}
+
+/// Makes twins one state until there are none.
+fn merge(alloc: Global, kept: &mut Nwa) -> Result<(), AllocError>
+    requires { IsTrim kept.old }
+    ensures { OnOk result (IsReduced kept.old kept.new × IsLean kept.new) }
+{
+    while let Some(smaller) = class_image(alloc, kept)? {
+        *kept = smaller;
     }
+    Ok(())
+}
+
+/// The automaton of the classes of states, if any two states are of one class.
+fn class_image(alloc: Global, nwa: &Nwa) -> Result<Option<Nwa>, AllocError>
+    requires { IsTrim nwa.now }
+    ensures { IfOk result (λ part. MatchOption part (IsLean nwa.now) (λ n. IsReduced nwa.now n × IsTrim n × (n.states < nwa.now.states))) }
+{
+    let names = class_names(alloc, nwa)?;
+    if names.count == nwa.states() {
+        return Ok(None);
+    }
+    Ok(Some(image(alloc, nwa, &names)?))
 }

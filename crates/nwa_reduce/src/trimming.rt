@@ -1,6 +1,6 @@
 //! Names for the states that lie on ways from the start to final states.
 
-ghost use Rattle.std.specs.Prelude.{◌≡◌, ◌≤◌, ◌↔◌, ℕ, length, IfOk};
+ghost use Rattle.std.specs.Prelude.{◌≡◌, ◌≤◌, ◌↔◌, ℕ, List, length, IfOk};
 ghost use Rattle.nwa_base.specs.Members.{Member};
 ghost use Rattle.nwa_reduce.specs.Ways.{IsReached, CanEnd};
 ghost use Rattle.nwa_reduce.specs.Naming.{IsTrimming, IsOrder, IsIndex};
@@ -16,10 +16,25 @@ use std::alloc::{AllocError, Global};
 pub fn useful_names(alloc: Global, nwa: &Nwa) -> Result<Names, AllocError>
     ensures { IfOk result (λ n. IsTrimming nwa.now n.of.items n.count) }
 {
+    let kept = useful_states(alloc, nwa)?;
+    named_by(alloc, nwa, &kept)
+}
+
+/// The start and the useful states, in the order of the ways back from the final states.
+fn useful_states(alloc: Global, nwa: &Nwa) -> Result<IndexSet<u32>, AllocError>
+    ensures { IfOk result (λ kept. (reached : List ℕ) × (ending : List ℕ) × ((q : ℕ) → Member reached q ↔ IsReached nwa.now q) × ((q : ℕ) → Member ending q ↔ CanEnd nwa.now q) × IsOrder nwa.now.start reached ending kept.keys) }
+{
     let reached = reached(alloc, nwa)?;
     let ending = ending(alloc, nwa)?;
-    let kept = ordered(alloc, nwa, &reached, ending.as_slice())?;
-    let of = places(alloc, nwa.states(), &kept)?;
+    ordered(alloc, nwa, &reached, ending.as_slice())
+}
+
+/// The places of the states that are kept as their names.
+fn named_by(alloc: Global, nwa: &Nwa, kept: &IndexSet<u32>) -> Result<Names, AllocError>
+    requires { (reached : List ℕ) × (ending : List ℕ) × ((q : ℕ) → Member reached q ↔ IsReached nwa.now q) × ((q : ℕ) → Member ending q ↔ CanEnd nwa.now q) × IsOrder nwa.now.start reached ending kept.now.keys }
+    ensures { IfOk result (λ n. IsTrimming nwa.now n.of.items n.count) }
+{
+    let of = places(alloc, nwa.states(), kept)?;
     Ok(Names {
         of,
         count: kept.len() as u32,

@@ -1,0 +1,12 @@
+use Rattle.std.proofs.Common.{◌∙◌, sym}
+use Rattle.nwa_reduce.proofs.ReduceLemmas.{image_reduces, fewer}
+use Rattle.nwa_reduce.proofs.reducing.useful_part.Goals as goal
+
+pub returns-then-names-states : goal.returns-then-names-states
+returns-then-names-states c = c.in_ok-names.ensures.whole (c.if-names-states.true ∙ c.states.ensures.value)
+
+pub returns : goal.returns
+returns c =
+    let v = c.in_ok-names.ensures.naming in
+    let i = c.in_ok-image.ensures in
+    (image_reduces c.args.nwa.now c.in_ok-image.field-0 _ _ v i.0 i.1, fewer c.args.nwa.now c.in_ok-image.field-0 _ _ v i.1 (λ e. c.if-names-states.false (e ∙ sym c.states.ensures.value)))
