@@ -1,10 +1,11 @@
 -- Edges that are added by number.
 use Rattle.std.proofs.Common.{◌≡◌, ◌∙◌, ℕ, ◌+◌, ◌<◌, List, [], ◌∷◌, ◌++◌, length, take, get_or, Option, None, Some, refl, sym, ap}
-use Rattle.std.specs.Prelude.{Result, Ok, OnOk}
+use Rattle.std.specs.Prelude.{Result, Ok, Err, OnOk}
 use Rattle.std.specs.List.{filter_map, cons_option}
 use Rattle.nwa_base.specs.declared.letters.Letter.{Letter}
 use Rattle.nwa_base.specs.declared.faults.NwaFault.{NwaFault}
 use Rattle.nwa_base.specs.Automata.{Automaton}
+use Rattle.proof_build.specs.Unions.{numbered, numbered_back, with_edges}
 use Rattle.proof_build.proofs.ListLaws.{passed_next, on_ok}
 
 -- the list with what is made of one member more
@@ -56,3 +57,17 @@ pub back_passed : (f : (ℕ × ℕ × Letter × ℕ) → Option (ℕ × ℕ × L
     old ≡ record u { backs = u.backs ++ filter_map f (take i es) } → i < length es → o ≡ f (get_or es i d) → o ≡ None → new ≡ old →
     new ≡ record u { backs = u.backs ++ filter_map f (take (i + 1) es) }
 back_passed f u old new es i d o b l e h m = m ∙ b ∙ (λ j. record u { backs = none_next f u.backs es i (get_or es i d) d l refl (sym e ∙ h) j })
+
+-- the edges of all kinds, one kind after another
+pub edges_added : {T E : Type 0} (f : ℕ → Option ℕ) (b u i k n : Automaton) (xs ys : List (ℕ × Letter × ℕ)) (zs : List (ℕ × ℕ × Letter × ℕ)) (r : Result T E) →
+    xs ≡ b.insides → ys ≡ b.calls → zs ≡ b.backs → i ≡ record u { insides = u.insides ++ filter_map (numbered f) xs } →
+    k ≡ record i { calls = i.calls ++ filter_map (numbered f) ys } → OnOk r (n ≡ record k { backs = k.backs ++ filter_map (numbered_back f) zs }) →
+    OnOk r (n ≡ with_edges f b u)
+edges_added f b u i k n xs ys zs (Ok t) ex ey ez ei ek h =
+    h ∙ ap (λ (z : Automaton). record z { backs = z.backs ++ filter_map (numbered_back f) zs }) (ek ∙ ap (λ (z : Automaton). record z { calls = z.calls ++ filter_map (numbered f) ys }) ei) ∙
+    (λ j. record u {
+      insides = u.insides ++ filter_map (numbered f) (ex j);
+      calls = u.calls ++ filter_map (numbered f) (ey j);
+      backs = u.backs ++ filter_map (numbered_back f) (ez j);
+    })
+edges_added f b u i k n xs ys zs (Err e) ex ey ez ei ek h = tt

@@ -2,9 +2,19 @@
 use Rattle.std.proofs.Common.{◌≡◌, ◌∙◌, ℕ, zero, suc, ◌+◌, ◌<◌, ◌≤◌, List, [], ◌∷◌, ◌++◌, length, take, get_or, Option, None, Some, refl, sym, ap, subst, arith, add-one, append_assoc}
 use Rattle.std.specs.Prelude.{map, slice_get, Result, Ok, Err, OnOk}
 use Rattle.std.specs.List.{AllByRecursion, filter_map, cons_option}
-use Rattle.std.proofs.lemmas.List.{take_more, take_all}
+use Rattle.std.proofs.lemmas.List.{take_more, take_all, map_more}
 use Rattle.itp_automaton.proofs.StateLaws.{take_next}
 use Rattle.proof_spell.specs.Correspond.{Correspond}
+
+pub mapped_behind : {X Y : Type 0} (f : X → Y) (xs : List X) (i : ℕ) (d : X) (begin old new : List Y) → i < length xs → old ≡ begin ++ map f (take i xs) →
+    new ≡ old ++ f (get_or xs i d) ∷ [] → new ≡ begin ++ map f (take (i + 1) xs)
+mapped_behind f xs i d begin old new l h e =
+    e ∙ ap (λ (ys : List _). ys ++ f (get_or xs i d) ∷ []) h ∙ append_assoc begin (map f (take i xs)) (f (get_or xs i d) ∷ []) ∙
+    ap (λ (ys : List _). begin ++ ys) (sym (map_more f xs i d l))
+
+pub taken_next : {X : Type 0} (xs : List X) (i : ℕ) (d : X) (old new : List X) → i < length xs → old ≡ take i xs → new ≡ old ++ get_or xs i d ∷ [] →
+    new ≡ take (i + 1) xs
+taken_next xs i d old new l h e = e ∙ ap (λ (ys : List _). ys ++ get_or xs i d ∷ []) h ∙ sym (take_more xs i d l)
 
 pub got_front : {X : Type 0} (xs ys : List X) (n : ℕ) (x : X) → slice_get xs n ≡ Some x → slice_get (xs ++ ys) n ≡ Some x
 got_front [] ys n x e = absurd (cc)
