@@ -1,6 +1,7 @@
 -- What tells states apart.
-use Rattle.std.proofs.Common.{◌≡◌, ◌∙◌, ◌⊎◌, ◌↔◌, ℕ, List, [], ◌∷◌, ◌++◌, refl, sym, ap, subst, inl, inr, eqb}
+use Rattle.std.proofs.Common.{◌≡◌, ◌∙◌, ◌⊎◌, ◌↔◌, ◌<◌, ◌+◌, ℕ, List, [], ◌∷◌, ◌++◌, length, drop, get_or, map, refl, sym, ap, subst, inl, inr, eqb, append_assoc}
 use Rattle.std.proofs.lemmas.Bool.{eqb-true}
+use Rattle.std.proofs.lemmas.List.{drop_more}
 use Rattle.nwa_base.specs.declared.letters.Letter.{Letter}
 use Rattle.nwa_base.specs.Members.{Member}
 use Rattle.nwa_base.specs.Edges.{leaving, backs_leaving}
@@ -11,6 +12,13 @@ use Rattle.nwa_reduce.specs.declared.marking.Mark.{Mark}
 use Rattle.nwa_reduce.specs.declared.marking.Mark.TheVariants as marks
 use Rattle.nwa_reduce.specs.Marks.{HasMark, backs_before, inside_marks, call_marks, back_marks, before_marks}
 use Rattle.nwa_reduce.proofs.ListLemmas.{only_member}
+
+-- marks that are added one by one: those of the next member are made
+pub mapped_on : {X Y : Type 0} (f : X → Y) (xs : List X) (i : ℕ) (d : X) (begin old new : List Y) (y : Y) → i < length xs →
+    old ++ map f (drop i xs) ≡ begin ++ map f xs → new ≡ old ++ y ∷ [] → y ≡ f (get_or xs i d) → new ++ map f (drop (i + 1) xs) ≡ begin ++ map f xs
+mapped_on f xs i d begin old new y l h e k =
+    (λ j. e j ++ map f (drop (i + 1) xs)) ∙ append_assoc old (y ∷ []) (map f (drop (i + 1) xs)) ∙ (λ j. old ++ k j ∷ map f (drop (i + 1) xs)) ∙
+    ap (λ (zs : List _). old ++ map f zs) (sym (drop_more xs i d l)) ∙ h
 
 -- the marks after being final
 abbrev pub FinalAdded : Automaton → ℕ → List Mark → List Mark → Type 0
