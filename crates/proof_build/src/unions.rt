@@ -135,9 +135,24 @@ pub(crate) fn union_of(
     ensures { IfOk result (IsUnionOf preds.now (map (λ c. c.now) automata.now)) }
 {
     let mut union = begun(alloc, preds)?;
+    add_automata(alloc, preds, automata, &mut union)?;
+    Ok(union)
+}
+
+/// Adds the edges of the automata between states that have numbers.
+fn add_automata(
+    alloc: Global,
+    preds: &[Scoped],
+    automata: &[&Certified],
+    union: &mut Nwa,
+) -> Result<(), AllocError>
+    requires union { IsUnionOf preds.now [] union.old }
+    requires states { union.old.states ≡ 2 + length preds.now }
+    ensures { OnOk result (IsUnionOf preds.now (map (λ c. c.now) automata.now) union.new) }
+{
     for automaton in automata {
         let numbers = numbers_of(alloc, preds, automaton.preds())?;
-        add_edges(&mut union, &numbers, automaton.nwa())?;
+        add_edges(union, &numbers, automaton.nwa())?;
     }
-    Ok(union)
+    Ok(())
 }

@@ -6,7 +6,7 @@ use Rattle.proof_build.specs.Numbering.{number_at, AreNumbers}
 use Rattle.proof_build.specs.Unions.{with_edges, IsUnionOf}
 use Rattle.proof_build.proofs.ListLaws.{images_next, images_end}
 use Rattle.proof_build.proofs.UnionLaws.{union_more}
-use Rattle.proof_build.proofs.unions.union_of.Goals as goal
+use Rattle.proof_build.proofs.unions.add_automata.Goals as goal
 
 pub add_edges-requires : goal.add_edges-requires
 add_edges-requires c = λ q k e.
