@@ -1,5 +1,6 @@
 -- The union of automata by number grows by one of them.
 use Rattle.std.proofs.Common.{◌≡◌, ◌∙◌, ◌⊎◌, ℕ, List, [], ◌∷◌, ◌++◌, Option, None, Some, refl, sym, ap, subst, inl, inr}
+use Rattle.std.specs.Prelude.{Result, Ok, OnOk}
 use Rattle.std.specs.List.{filter_map, cons_option}
 use Rattle.std.specs.Option.{option_map}
 use Rattle.nwa_base.specs.declared.letters.Letter.{Letter}
@@ -222,3 +223,21 @@ module _ (preds : List Scoped) (cs : List Certificate) (c : Certificate) (number
         ];
       } in
       subst (λ (v : Automaton). IsUnionOf preds (cs ++ c ∷ []) v) (sym is) grown
+
+-- ---- the union of none
+
+none_united : (preds : List Scoped) (count : ℕ) → IsUnionOf preds [] (record { states = count; start = 0; finals = 1 ∷ []; insides = []; calls = []; backs = [] })
+none_united preds count = record {
+  over = record { start = refl; finals = λ q m. elim m [ inl e ↦ sym e | inr z ↦ absurd z ] };
+  each = λ c m. absurd m;
+  insides = λ q r a m. absurd m;
+  calls = λ q r a m. absurd m;
+  backs = λ q p r a m. absurd m;
+}
+
+pub union_none : {T E : Type 0} (preds : List Scoped) (e u : Automaton) (count : ℕ) (r : Result T E) (t : T) →
+    e ≡ record { states = count; start = 0; finals = []; insides = []; calls = []; backs = [] } → r ≡ Ok t → OnOk r (u ≡ record e { finals = e.finals ++ 1 ∷ [] }) →
+    IsUnionOf preds [] u
+union_none {T} {E} preds e u count r t b k h =
+    let m = subst (λ (z : Result T E). OnOk z (u ≡ record e { finals = e.finals ++ 1 ∷ [] })) k h in
+    subst (λ (z : Automaton). IsUnionOf preds [] z) (sym (m ∙ ap (λ (z : Automaton). record z { finals = z.finals ++ 1 ∷ [] }) b)) (none_united preds count)
