@@ -6,6 +6,7 @@ pub mod RenamingLaws
 pub mod DraftLaws
 pub mod AddingLaws
 pub mod TableLaws
+mod FilterLaws
 pub mod FrontLaws
 pub mod PieceLaws
 pub mod BuildingLaws
