@@ -7,6 +7,7 @@ pub mod DraftLaws
 pub mod AddingLaws
 pub mod TableLaws
 mod FilterLaws
+mod RowLists
 pub mod FrontLaws
 pub mod PieceLaws
 pub mod BuildingLaws
