@@ -1,4 +1,4 @@
-ghost use Rattle.std.specs.Prelude.{◌≡◌, ◌↔◌, IsSome, IfOk, IfSome};
+ghost use Rattle.std.specs.Prelude.{◌≡◌, ◌↔◌, false, IsTrue, IsSome, IfOk, IfSome};
 ghost use Rattle.letter_acts.specs.Invariant.{alphabet_of};
 ghost use Rattle.triple_rows.specs.Systems.{PlainFits};
 ghost use Rattle.triple_rows.specs.Triples.{Agrees, IsValid, IsRefuted, IsUnrefuted, system_of};
@@ -25,14 +25,29 @@ pub fn proof(
     ensures value { IfOk result (λ o. IfSome o (λ p. p ≡ record { triple = triple; refutation = refutation })) }
     ensures valid { IfOk result (λ o. IsSome o → IsValid (alphabet_of icfg.now) triple) }
 {
-    let system = match systems_of(alloc, icfg, &triple) {
-        Ok(system) => system,
-        Err(RowFault::Past) => return Ok(None),
-        Err(RowFault::Memory) => return Err(AllocError),
-    };
-    if check(alloc, &system, &refutation)? {
+    if is_refuted(alloc, icfg, &triple, &refutation)? {
         Ok(Some(Proof::new(triple, refutation)))
     } else {
         Ok(None)
     }
+}
+
+/// Whether all numbers of the triple's system fit, and the refutation refutes it.
+fn is_refuted(
+    alloc: Global,
+    icfg: &Icfg,
+    triple: &Triple,
+    refutation: &Refutation,
+) -> Result<bool, AllocError>
+    requires { Agrees (alphabet_of icfg.now) triple.now }
+    ensures exact { IfOk result (λ yes. IsTrue yes ↔ IsRefuted (alphabet_of icfg.now) triple.now refutation.now) }
+    ensures missed { IfOk result (λ yes. yes ≡ false → PlainFits (system_of (alphabet_of icfg.now) triple.now) → IsUnrefuted (alphabet_of icfg.now) triple.now refutation.now) }
+    ensures valid { IfOk result (λ yes. IsTrue yes → IsValid (alphabet_of icfg.now) triple.now) }
+{
+    let system = match systems_of(alloc, icfg, triple) {
+        Ok(system) => system,
+        Err(RowFault::Past) => return Ok(false),
+        Err(RowFault::Memory) => return Err(AllocError),
+    };
+    check(alloc, &system, refutation)
 }
