@@ -1,4 +1,5 @@
 pub mod AllLaws
+mod FoundLaws
 pub mod NumberLaws
 pub mod AtomLaws
 pub mod RefutationLaws
