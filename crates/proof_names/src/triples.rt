@@ -11,6 +11,7 @@ ghost use Rattle.proof_form.specs.Refutations as form;
 ghost use Rattle.proof_names.specs.declared.outlines.NamedTriple.{NamedTriple};
 ghost use Rattle.proof_names.specs.Naming as spec;
 ghost use Rattle.proof_names.specs.Naming.{NamesTriple};
+ghost use Rattle.proof_names.specs.Refutations.{refutation_of};
 ghost use Rattle.proof_names.specs.Scopes.{call_scopes, back_scopes};
 
 use crate::columns::columns_of;
@@ -335,6 +336,24 @@ fn letter_in(listed: Listed) -> u32
     }
 }
 
+/// The triple with the refutation of the nodes.
+fn with_proof(
+    alloc: Global,
+    listed: Listed,
+    triple: Triple,
+    nodes: &[RNode],
+) -> Result<NamedTriple, AllocError>
+    requires { IsTrue (form.is_refutation (map form.plain nodes.now)) }
+    ensures { IfOk result (λ t. t ≡ record { listed = listed; triple = triple; proof = refutation_of (map form.plain nodes.now) }) }
+{
+    let proof = refutation_of(alloc, nodes)?;
+    Ok(NamedTriple {
+        listed,
+        triple,
+        proof,
+    })
+}
+
 /// The triple that a line names.
 pub(crate) fn triple_named(
     alloc: Global,
@@ -350,20 +369,15 @@ pub(crate) fn triple_named(
     let Some(listed) = listed_of(line) else {
         return Ok(None);
     };
-    let Some(triple) = triple_at(alloc, icfg, preds, listed)? else {
-        return Ok(None);
-    };
     let nodes = proof_in(line);
-    if !agrees(icfg, &triple) {
-        return Ok(None);
-    }
     if !is_named(width(icfg, letter_in(listed)), nodes) {
         return Ok(None);
     }
-    let proof = refutation_of(alloc, nodes)?;
-    Ok(Some(NamedTriple {
-        listed,
-        triple,
-        proof,
-    }))
+    let Some(triple) = triple_at(alloc, icfg, preds, listed)? else {
+        return Ok(None);
+    };
+    if !agrees(icfg, &triple) {
+        return Ok(None);
+    }
+    Ok(Some(with_proof(alloc, listed, triple, nodes)?))
 }
