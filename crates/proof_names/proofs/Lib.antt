@@ -6,6 +6,7 @@ pub mod RefutationLaws
 pub mod SpelledLaws
 pub mod PredLaws
 pub mod WidthLaws
+mod NodeLaws
 pub mod TripleLaws
 pub mod PairLaws
 pub mod ItemLaws
