@@ -9,5 +9,6 @@ pub mod WidthLaws
 mod NodeLaws
 pub mod TripleLaws
 pub mod PairLaws
+mod SoFarLaws
 pub mod ItemLaws
 pub mod OutlineLaws
