@@ -60,6 +60,16 @@ fn add_backs(nwa: &mut Nwa, edges: &[(u32, u32, Letter, u32)]) -> Result<(), Nwa
     Ok(())
 }
 
+/// Adds these edges, and makes the places where assertions fail final.
+fn fill(nwa: &mut Nwa, sites: &[Site], lettered: &Lettered) -> Result<(), NwaFault>
+    ensures { OnOk result (nwa.new ≡ record nwa.old { finals = nwa.old.finals ++ site_places sites.now; insides = nwa.old.insides ++ lettered.now.insides.items; calls = nwa.old.calls ++ lettered.now.calls.items; backs = nwa.old.backs ++ lettered.now.backs.items }) }
+{
+    set_finals(nwa, sites)?;
+    add_insides(nwa, &lettered.insides)?;
+    add_calls(nwa, &lettered.calls)?;
+    add_backs(nwa, &lettered.backs)
+}
+
 /// The automaton with these edges, which starts at place 0 and whose final states are the places where assertions fail.
 fn automaton(
     alloc: Global,
@@ -70,10 +80,7 @@ fn automaton(
     ensures { IfOk result (λ m. m ≡ record { states = states; start = 0; finals = site_places sites.now; insides = lettered.now.insides.items; calls = lettered.now.calls.items; backs = lettered.now.backs.items }) }
 {
     let mut nwa = empty(alloc, states, 0)?;
-    set_finals(&mut nwa, sites)?;
-    add_insides(&mut nwa, &lettered.insides)?;
-    add_calls(&mut nwa, &lettered.calls)?;
-    add_backs(&mut nwa, &lettered.backs)?;
+    fill(&mut nwa, sites, lettered)?;
     Ok(nwa)
 }
 
@@ -209,6 +216,34 @@ fn names_of(alloc: Global, procs: &[TProc]) -> Result<Vec<Text>, AllocError>
     Ok(found)
 }
 
+/// What a graph lists of its procedures and places.
+#[derive(Drop)]
+struct ProcedureLists {
+    names: Vec<Text>,
+    owners: Vec<u32>,
+    entries: Vec<Option<u32>>,
+    exits: Vec<Option<u32>>,
+}
+
+/// The lists of a program.
+fn procedure_lists(alloc: Global, layout: &Layout<'_>) -> Result<ProcedureLists, AllocError>
+    ensures names { IfOk result (λ l. l.names.items ≡ map (λ q. q.name) (typed_program layout.now).procs) }
+    ensures owners { IfOk result (λ l. l.owners.items ≡ place_owners (typed_program layout.now)) }
+    ensures entries { IfOk result (λ l. l.entries.items ≡ map (entry_of (typed_program layout.now)) (counted_procs 0 (typed_program layout.now).procs)) }
+    ensures exits { IfOk result (λ l. l.exits.items ≡ map (exit_of (typed_program layout.now)) (counted_procs 0 (typed_program layout.now).procs)) }
+{
+    let entries = entries_of(alloc, layout)?;
+    let exits = exits_of(alloc, layout)?;
+    let owners = owners_of(alloc, layout)?;
+    let names = names_of(alloc, layout.program().procs())?;
+    Ok(ProcedureLists {
+        names,
+        owners,
+        entries,
+        exits,
+    })
+}
+
 /// The graph of a program whose edges and assertions these are. That of a typed program keeps the invariant of graphs wherever the
 /// numbers of the columns of its acts have 32 bits (`lowered_graph::laws::lowered_programs_are_graphs`). So it is refused only where
 /// such a number passes 32 bits, and this is answered as want of memory.
@@ -222,15 +257,18 @@ pub(crate) fn graph(
     requires lettered { plain_lettered lettered ≡ letters.lettered (program_arcs (typed_program layout)) }
     ensures { IfOk result (λ i. i ≡ lowered (typed_program layout.entry)) }
 {
+    let lists = procedure_lists(alloc, &layout)?;
     let Ok(nwa) = automaton(alloc, layout.places(), &sites, &lettered) else {
         return Err(AllocError);
     };
-    let names = names_of(alloc, layout.program().procs())?;
-    let owners = owners_of(alloc, &layout)?;
-    let entries = entries_of(alloc, &layout)?;
-    let exits = exits_of(alloc, &layout)?;
     let frames = layout.into_frames();
     let acts = lettered.acts;
+    let ProcedureLists {
+        names,
+        owners,
+        entries,
+        exits,
+    } = lists;
     match icfg(nwa, acts, frames, names, owners, entries, exits, sites) {
         Some(found) => Ok(found),
         None => Err(AllocError),
