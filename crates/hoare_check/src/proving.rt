@@ -1,16 +1,19 @@
 //! Proofs of triples.
 
-ghost use Rattle.std.specs.Prelude.{◌≡◌, ◌++◌, IfOk, OnOk, Ok, map};
+ghost use Rattle.std.specs.Prelude.{◌≡◌, ◌++◌, IfOk, MatchOption, OnOk, Ok, map};
 ghost use Rattle.std.specs.List.{AllByRecursion, AllZip, flat_map};
 ghost use Rattle.letter_acts.specs.Invariant.{alphabet_of};
-ghost use Rattle.triple_rows.specs.Triples.{Agrees};
-ghost use Rattle.hoare_check.specs.Decided.{MayProve};
+ghost use Rattle.int_decide.specs.Worth.{IsTreeOf};
+ghost use Rattle.triple_rows.specs.Systems.{PlainFits, IsSystem};
+ghost use Rattle.triple_rows.specs.Triples.{Agrees, IsRefuted, system_of};
+ghost use Rattle.hoare_check.specs.Decided.{MayProve, RefutesUncut};
 
 use crate::counting::columns_of;
 use crate::meeting::is_met_by_one;
+use farkas_check::Refutation;
 use int_decide::{Answer, DecideFault, decide, measure};
 use letter_acts::Icfg;
-use lin_rows::RowFault;
+use lin_rows::{RowFault, System};
 use rayon::prelude::*;
 use std::alloc::{AllocError, Global};
 use std::thread::Threads;
@@ -42,23 +45,58 @@ fn prove_at(
     requires { Agrees (alphabet_of icfg.now) triple }
     ensures { IfOk result (MayProve (alphabet_of icfg.now) triple) }
 {
-    let system = match systems_of(alloc, icfg, &triple) {
+    match refuted_at(alloc, icfg, &triple, points)? {
+        Some(refutation) => proof(alloc, icfg, triple, refutation),
+        None => Ok(None),
+    }
+}
+
+/// A refutation of the triple's system without cuts. `None` only where Decide does not refute it so within the numbers that fit.
+fn refuted_at(
+    alloc: Global,
+    icfg: &Icfg,
+    triple: &Triple,
+    points: &mut Vec<Vec<i128>>,
+) -> Result<Option<Refutation>, AllocError>
+    requires { Agrees (alphabet_of icfg.now) triple.now }
+    ensures { IfOk result (λ found. MatchOption found
+        (RefutesUncut (alphabet_of icfg.now) triple.now → ⊥)
+        (λ nodes. IsRefuted (alphabet_of icfg.now) triple.now nodes × IsTreeOf 0 nodes)) }
+{
+    let system = match systems_of(alloc, icfg, triple) {
         Ok(system) => system,
         Err(RowFault::Past) => return Ok(None),
         Err(RowFault::Memory) => return Err(AllocError),
     };
-    let Some(columns) = columns_of(icfg, &triple) else {
+    decided_at(alloc, icfg, triple, &system, points)
+}
+
+/// The same of a triple whose system this is.
+fn decided_at(
+    alloc: Global,
+    icfg: &Icfg,
+    triple: &Triple,
+    system: &System,
+    points: &mut Vec<Vec<i128>>,
+) -> Result<Option<Refutation>, AllocError>
+    requires fits { PlainFits (system_of (alphabet_of icfg.now) triple.now) }
+    requires system { IsSystem (system_of (alphabet_of icfg.now) triple.now) system.now }
+    ensures { IfOk result (λ found. MatchOption found
+        (RefutesUncut (alphabet_of icfg.now) triple.now → ⊥)
+        (λ nodes. IsRefuted (alphabet_of icfg.now) triple.now nodes × IsTreeOf 0 nodes)) }
+{
+    let Some(columns) = columns_of(icfg, triple) else {
         return Err(AllocError);
     };
     // A system of 2^32 rows is not decided.
-    let Some(_) = measure(&system, columns) else {
+    let Some(_) = measure(system, columns) else {
         return Err(AllocError);
     };
-    if is_met_by_one(&system, points) {
+    if is_met_by_one(system, points) {
         return Ok(None);
     }
-    match decide(alloc, &system, columns, 0) {
-        Ok(Answer::Refuted(nodes)) => proof(alloc, icfg, triple, nodes),
+    match decide(alloc, system, columns, 0) {
+        Ok(Answer::Refuted(refutation)) => Ok(Some(refutation)),
         Ok(Answer::Whole(point)) => {
             points.push(point)?;
             Ok(None)
