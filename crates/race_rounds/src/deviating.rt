@@ -33,12 +33,19 @@ fn fork(
     Ok(forks.get(place as usize).copied())
 }
 
-/// The automaton without the edges that leave the state by the letter, which is no return.
-fn avoiding(alloc: Global, nwa: &Nwa, state: u32, letter: Letter) -> Result<Nwa, NwaFault> {
-    let mut left = empty(alloc, nwa.states(), nwa.start())?;
+/// Adds the final states of an automaton and its returns.
+fn add_ends(nwa: &Nwa, left: &mut Nwa) -> Result<(), NwaFault> {
     for &last in nwa.finals() {
         left.set_final(last)?;
     }
+    for &(from, before, a, to) in nwa.backs() {
+        left.add_back(from, before, a, to)?;
+    }
+    Ok(())
+}
+
+/// Adds the other edges of an automaton, without those that leave the state by the letter.
+fn add_others(nwa: &Nwa, state: u32, letter: Letter, left: &mut Nwa) -> Result<(), NwaFault> {
     for &(from, a, to) in nwa.insides() {
         if from != state || a != letter {
             left.add_inside(from, a, to)?;
@@ -49,9 +56,14 @@ fn avoiding(alloc: Global, nwa: &Nwa, state: u32, letter: Letter) -> Result<Nwa,
             left.add_call(from, a, to)?;
         }
     }
-    for &(from, before, a, to) in nwa.backs() {
-        left.add_back(from, before, a, to)?;
-    }
+    Ok(())
+}
+
+/// The automaton without the edges that leave the state by the letter, which is no return.
+fn avoiding(alloc: Global, nwa: &Nwa, state: u32, letter: Letter) -> Result<Nwa, NwaFault> {
+    let mut left = empty(alloc, nwa.states(), nwa.start())?;
+    add_ends(nwa, &mut left)?;
+    add_others(nwa, state, letter, &mut left)?;
     Ok(left)
 }
 
@@ -78,6 +90,39 @@ fn other_word(
     }
 }
 
+/// Replaces a word of the automaton by one that goes another way at a fork, and the automaton by what is left of it without that fork.
+/// Whether there is such a fork.
+fn leave_once(
+    alloc: Global,
+    way: &mut (Word, Nwa),
+    worker: u32,
+    seed: u64,
+) -> Result<bool, AllocError> {
+    match other_word(alloc, &way.1, &way.0, worker, seed)? {
+        Some(other) => {
+            *way = other;
+            Ok(true)
+        }
+        None => Ok(false),
+    }
+}
+
+/// The same at further forks, as many as the number of the worker says, where there are so many.
+fn leave_more(
+    alloc: Global,
+    way: &mut (Word, Nwa),
+    worker: u32,
+    seed: u64,
+) -> Result<(), AllocError> {
+    for more in 1..worker.min(MOST_FORKS) {
+        let seed = seed.wrapping_add(u64::from(more).wrapping_mul(5));
+        if !leave_once(alloc, way, worker, seed)? {
+            break;
+        }
+    }
+    Ok(())
+}
+
 /// A word that goes other ways than the given one, at as many forks as the number of the worker says, where there are so many; `None`
 /// where there is no fork, or for worker 0. `version` varies which forks.
 pub(crate) fn deviating(
@@ -91,18 +136,9 @@ pub(crate) fn deviating(
         return Ok(None);
     }
     let seed = version.wrapping_add(u64::from(worker)).wrapping_mul(7);
-    let Some((mut word, mut left)) = other_word(alloc, kept, word, worker, seed)? else {
+    let Some(mut way) = other_word(alloc, kept, word, worker, seed)? else {
         return Ok(None);
     };
-    for more in 1..worker.min(MOST_FORKS) {
-        let seed = seed.wrapping_add(u64::from(more).wrapping_mul(5));
-        match other_word(alloc, &left, &word, worker, seed)? {
-            Some((other, next)) => {
-                word = other;
-                left = next;
-            }
-            None => return Ok(Some(word)),
-        }
-    }
-    Ok(Some(word))
+    leave_more(alloc, &mut way, worker, seed)?;
+    Ok(Some(way.0))
 }

@@ -2,19 +2,23 @@
 
 ghost use Rattle.std.specs.Prelude.{◌≡◌, ◌≤◌, IfOk};
 ghost use Rattle.nwa_base.specs.Acceptance.{Accepts};
+ghost use Rattle.typed_tree.specs.TypedTree.{TypedProgram};
 ghost use Rattle.typing_rules.specs.TypedParts.{typed_program};
 ghost use Rattle.lowered_graph.specs.Lowered.{lowered};
+ghost use Rattle.path_rows.specs.Paths.{IsPathOf};
+ghost use Rattle.path_decide.specs.Decided.{IsRefutation};
 ghost use Rattle.race_rounds.specs.Ends.{Options};
 ghost use Rattle.race_rounds.specs.Rounds.{IsSettled};
 
 use crate::failing::failing;
 use crate::plans::{Plan, plan_of};
 use crate::refining::{Refined, refine};
+use farkas_check::Refutation;
 use itp_automaton::Certified;
 use letter_acts::Icfg;
 use nwa_base::Word;
 use path_decide::{Finding, decide_path};
-use path_rows::rows_of;
+use path_rows::{PathSystem, rows_of};
 use race_core::{Cause, End, Entry};
 use std::alloc::{AllocError, Global};
 use std::thread::Threads;
@@ -49,22 +53,53 @@ pub fn settle<R: Threads + Sync>(
 {
     let path = rows_of(alloc, icfg, &word)?;
     match decide_path(alloc, &path, depth)? {
-        Finding::Refuted(refutation) => {
-            if version == rounds {
-                return Ok(unknown(Cause::Rounds, word));
-            }
-            let Plan { choice, .. } = plan_of(worker, version);
-            match refine(rt, alloc, icfg, &path, &refutation, depth, choice)? {
-                Refined::Evidence(evidence) => Ok(Settled::Removed(Entry { word, evidence })),
-                Refined::Unknown(cause) => Ok(unknown(cause, word)),
-            }
-        }
+        Finding::Refuted(refutation) => refuted(
+            rt,
+            alloc,
+            icfg,
+            rounds,
+            depth,
+            version,
+            worker,
+            word,
+            &path,
+            &refutation,
+        ),
         Finding::Whole(point) => {
             let end = failing(alloc, program, icfg, depth, word, &point)?;
             Ok(Settled::Ended(end))
         }
         Finding::Gap => Ok(unknown(Cause::Whole, word)),
         Finding::Past => Ok(unknown(Cause::Number, word)),
+    }
+}
+
+/// What is made of a kept word whose rows are refuted.
+fn refuted<R: Threads + Sync>(
+    rt: &R,
+    alloc: Global,
+    icfg: &Icfg,
+    rounds: u64,
+    depth: u32,
+    version: u64,
+    worker: u32,
+    word: Word,
+    path: &PathSystem,
+    refutation: &Refutation,
+) -> Result<Settled, AllocError>
+    requires path { IsPathOf icfg.now path.now }
+    requires word { path.now.word ≡ word }
+    requires refutation { IsRefutation icfg.now depth path.now.word refutation.now }
+    requires depth { depth ≤ 64 }
+    ensures { (t : TypedProgram) (o : Options) → icfg.now ≡ lowered t → o.rounds ≡ rounds → o.depth ≡ depth → IfOk result (IsSettled t o version word) }
+{
+    if version == rounds {
+        return Ok(unknown(Cause::Rounds, word));
+    }
+    let Plan { choice, .. } = plan_of(worker, version);
+    match refine(rt, alloc, icfg, path, refutation, depth, choice)? {
+        Refined::Evidence(evidence) => Ok(Settled::Removed(Entry { word, evidence })),
+        Refined::Unknown(cause) => Ok(unknown(cause, word)),
     }
 }
 
