@@ -1,7 +1,8 @@
-ghost use Rattle.std.specs.Prelude.{◌≡◌, ◌≢◌, ◌≤◌, ◌<◌, ℕ, List, length, map, Some, None, Err, IfOk, IfSome, IsSome, MatchOption, MatchResult, vec_len};
+ghost use Rattle.std.specs.Prelude.{◌≡◌, ◌≢◌, ◌≤◌, ◌<◌, ℕ, List, Option, length, map, Some, None, Err, IfOk, IfSome, IsSome, MatchOption, MatchResult, vec_len};
 ghost use Rattle.std.specs.String.{string_bytes};
 ghost use Rattle.outer_io.specs.Faults.{Rose};
 ghost use Rattle.outer_io.specs.Texts.{text_named};
+ghost use Rattle.typed_tree.specs.TypedTree.{TypedProgram};
 ghost use Rattle.typed_tree.specs.declared.fault.TypeFault.TheVariants as TypeFault;
 ghost use Rattle.typing_rules.specs.TypedParts.{typed_program};
 ghost use Rattle.automizer_top.specs.declared.reporting.Halt.TheVariants.{Fault, Memory};
@@ -160,6 +161,42 @@ fn judged(alloc: Global, icfg: &Icfg, text: &[u8]) -> Result<Answer, AllocError>
     }
 }
 
+/// The graph of the program of a text, or what is answered to the text and to an annotation where there is none.
+fn lowered_text(alloc: Global, text: &[u8], entry: &str) -> Result<Result<Icfg, Answer>, AllocError>
+    requires { length text.now ≤ PROGRAM_LIMIT }
+    ensures { IfOk result (λ r. MatchResult r
+        (λ g. (t : TypedProgram) × IsTypedText entry.now text.now t × IsGraphOf t g)
+        (λ a. ((second : List ℕ) (texts : Option (List (List ℕ × List ℕ))) → IfSome texts (λ shown.
+        ReportsCheck entry.now text.now (text_named second shown) (answered a))) × ((answered a).status ≡ 3))) }
+{
+    match typed(alloc, text, entry)? {
+        Ok(program) => graph(alloc, &program),
+        Err(answer) => Ok(Err(answer)),
+    }
+}
+
+/// What is answered to the graph of the program of a text and to the annotation in the text of that name.
+fn judged_within<H: Shelf>(
+    alloc: Global,
+    shelf: &mut H,
+    icfg: &Icfg,
+    second: &str,
+) -> Result<Answer, Halt>
+    ensures texts { H.texts shelf.new ≡ H.texts shelf.old }
+    ensures reported { (entry program : List ℕ) (t : TypedProgram) → IsTypedText entry program t → IsGraphOf t icfg.now →
+        IfOk result (λ a. IfSome (H.texts shelf.old) (λ shown. ReportsCheck entry program (text_named second.now shown) (answered a))) }
+    ensures accepted { IfOk result (λ a. answered a ≡ accepted_answer → HasNoErrorWord icfg.now) }
+    ensures no_usage { IfOk result (λ a. (answered a).status ≢ 4) }
+    ensures fault { result ≡ Err Halt.Fault → Rose (H.faults shelf.old) (H.faults shelf.new) }
+    ensures no_fault { result ≢ Err Halt.Fault → H.faults shelf.new ≡ H.faults shelf.old }
+    ensures never_falls { H.faults shelf.old ≤ H.faults shelf.new }
+{
+    let Some(proof) = text_within(alloc, shelf, second, SECOND_LIMIT)? else {
+        return Ok(Answer::TooLong);
+    };
+    Ok(judged(alloc, icfg, &proof)?)
+}
+
 /// What is answered to a program text and to the annotation in the text of that name.
 fn checked<H: Shelf>(
     alloc: Global,
@@ -178,18 +215,11 @@ fn checked<H: Shelf>(
     ensures no_fault { result ≢ Err Halt.Fault → H.faults shelf.new ≡ H.faults shelf.old }
     ensures never_falls { H.faults shelf.old ≤ H.faults shelf.new }
 {
-    let program = match typed(alloc, text, entry)? {
-        Ok(program) => program,
-        Err(answer) => return Ok(answer),
-    };
-    let icfg = match graph(alloc, &program)? {
+    let icfg = match lowered_text(alloc, text, entry)? {
         Ok(icfg) => icfg,
         Err(answer) => return Ok(answer),
     };
-    let Some(proof) = text_within(alloc, shelf, second, SECOND_LIMIT)? else {
-        return Ok(Answer::TooLong);
-    };
-    Ok(judged(alloc, &icfg, &proof)?)
+    judged_within(alloc, shelf, &icfg, second)
 }
 
 /// The verdict on a program by a race over its graph.
