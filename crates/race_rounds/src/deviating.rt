@@ -44,7 +44,7 @@ fn add_ends(nwa: &Nwa, left: &mut Nwa) -> Result<(), NwaFault> {
     Ok(())
 }
 
-/// Adds the other edges of an automaton, without those that leave the state by the letter.
+/// Adds the final states and edges of an automaton, without those edges that leave the state by the letter, which is no return.
 fn add_others(nwa: &Nwa, state: u32, letter: Letter, left: &mut Nwa) -> Result<(), NwaFault> {
     for &(from, a, to) in nwa.insides() {
         if from != state || a != letter {
@@ -56,13 +56,12 @@ fn add_others(nwa: &Nwa, state: u32, letter: Letter, left: &mut Nwa) -> Result<(
             left.add_call(from, a, to)?;
         }
     }
-    Ok(())
+    add_ends(nwa, left)
 }
 
 /// The automaton without the edges that leave the state by the letter, which is no return.
 fn avoiding(alloc: Global, nwa: &Nwa, state: u32, letter: Letter) -> Result<Nwa, NwaFault> {
     let mut left = empty(alloc, nwa.states(), nwa.start())?;
-    add_ends(nwa, &mut left)?;
     add_others(nwa, state, letter, &mut left)?;
     Ok(left)
 }
