@@ -1,9 +1,8 @@
-use Rattle.std.proofs.Common.{◌≡◌, ℕ, List, Option, Result, Ok, Err}
-use Rattle.std.specs.Prelude.{IfOk, IfSome, MatchResult}
-use Rattle.outer_io.specs.Texts.{text_named}
+use Rattle.std.proofs.Common.{Result, Ok, Err}
+use Rattle.std.specs.Prelude.{IfOk, MatchResult}
 use Rattle.typing_rules.specs.TypedParts.{typed_program}
-use Rattle.automizer_top.specs.Answers.{answered, IsGraphOf}
-use Rattle.automizer_top.specs.Report.{ReportsCheck, IsTypedText, RefusesTyped}
+use Rattle.automizer_top.specs.Answers.{answered}
+use Rattle.automizer_top.specs.Report.{IsTypedText, RefusesTyped}
 use Rattle.automizer_top.proofs.ReportLaws.{refused_reported, lowering_reported, typed_is_three, lowering_is_three}
 use Rattle.automizer_top.proofs.reporting.lowered_text.Goals as goal
 
