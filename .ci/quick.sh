@@ -18,6 +18,7 @@ done < crates.txt
 for path in $(grep -oE '(examples|docs|bench)/[A-Za-z0-9_./-]+' README.md | sort -u); do
   [ -e "${path%.}" ] || wrong "README.md names $path, which is not there"
 done
+differs=$(.ci/crates.py) || wrong "docs/ARCHITECTURE.md says other crates than crates.txt: $differs"
 cannot=$(.ci/edits.py) || wrong "an edit cannot be applied: $cannot"
 for path in automizer tools/unproved.py bench/gate.py; do
   [ -x "$path" ] || wrong "the script $path is not there"
