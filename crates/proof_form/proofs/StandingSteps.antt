@@ -1,13 +1,15 @@
 -- Which line stands behind which: reading a line finds exactly the lines that can stand there.
 use Rattle.std.proofs.Common.{◌≡◌, ◌≢◌, ℕ, ◌+◌, ◌≤◌, Bool, true, false, cond, nat_eq, List, [], ◌∷◌, length, codes, Option, Some, None, Result, Ok, Err, ◌⊎◌, inl, inr, refl, sym, ap, ◌∙◌, subst, arith}
+use Rattle.std.proofs.lemmas.Bool.{false≢true}
 use Rattle.std.proofs.lemmas.List.{append_cancel_right}
 use Rattle.std.proofs.lemmas.Option.{cond_some, none-some, same_Some}
+use Rattle.proof_form.specs.declared.lines.StepLine.{StepLine}
 use Rattle.proof_form.specs.declared.lines.StepLine.TheVariants as steps
 use Rattle.proof_form.specs.declared.drafts.Draft.{Draft}
 use Rattle.proof_form.specs.declared.fault.ProofFault.{ProofFault}
 use Rattle.proof_form.specs.declared.fault.ProofFault.TheVariants as faults
 use Rattle.proof_form.specs.Outcomes.{◌>>=◌}
-use Rattle.proof_form.specs.Lines.{inside_triple, call_triple, back_triple, pred_text, triple_text, node_text, step_text, is_pred, is_triple, is_node, is_step}
+use Rattle.proof_form.specs.Lines.{Pred, Triple, Node, inside_triple, call_triple, back_triple, pred_text, triple_text, node_text, step_text, is_pred, is_triple, is_node, is_step}
 use Rattle.proof_form.specs.LineReading.{checked, pred_of, triple_of, node_of, step_of}
 use Rattle.proof_form.specs.Annotations.{Content, ended}
 use Rattle.proof_form.specs.Standing.{Item, pred_item, triple_item, node_item, step_item, is_item, item_text, with_item, Adds, onto_first, lines_of, end_line, Completes, FirstWrong, no_content}
@@ -64,20 +66,40 @@ line_by_adds a c l false false false h = step_adds a c l h
 
 pub line_adds : (a c : Content) (l : List ℕ) → with_line a l ≡ Some c → Adds a (ended l) c
 unfolding with_line
-line_adds a c [] h = absurd (let no : ⊥ = cc in no)
+line_adds a c [] h = absurd (none-some c h)
 line_adds a c (b ∷ bs) h = line_by_adds a c (b ∷ bs) (nat_eq b 112) (nat_eq b 116) (nat_eq b 110) h
 
 -- a line that can stand there is read
 
+pred_read : (a b : Content) (p : Pred) → is_pred p ≡ true → with_item a (pred_item p) ≡ Some b → with_pred a (pred_text (length a.preds + 2) p) ≡ Some b
+unfolding with_pred checked_pred_of
+pred_read a b p h e =
+    let k = length a.preds + 2 in
+    ap (λ o. o >>= λ q. with_item a (pred_item q)) (check_read (pred_of k (pred_text k p)) is_pred p (pred_reads k p h) h) ∙ e
+
+triple_read : (a b : Content) (t : Triple) → is_triple t ≡ true → with_item a (triple_item t) ≡ Some b → with_triple a (triple_text t) ≡ Some b
+unfolding with_triple checked_triple_of
+triple_read a b t h e = ap (λ o. o >>= λ u. with_item a (triple_item u)) (check_read (triple_of (triple_text t)) is_triple t (triple_reads t h) h) ∙ e
+
+node_read : (a b : Content) (x : Node) → is_node x ≡ true → with_item a (node_item x) ≡ Some b → with_node a (node_text (length a.nodes) x) ≡ Some b
+unfolding with_node checked_node_of
+node_read a b x h e =
+    let n = length a.nodes in
+    ap (λ o. o >>= λ y. with_item a (node_item y)) (check_read (node_of n (node_text n x)) is_node x (node_reads n x h) h) ∙ e
+
+step_read : (a b : Content) (s : StepLine) → is_step s ≡ true → with_item a (step_item s) ≡ Some b → with_step a (step_text s) ≡ Some b
+unfolding with_step checked_step_of
+step_read a b s h e = ap (λ o. o >>= λ t. with_item a (step_item t)) (check_read (step_of (step_text s)) is_step s (step_reads s h) h) ∙ e
+
 item_read : (a b : Content) (x : Item) → is_item x ≡ true → with_item a x ≡ Some b → with_line a (item_text a x) ≡ Some b
-unfolding with_line with_pred with_triple with_node with_step checked_pred_of checked_triple_of checked_node_of checked_step_of
-item_read a b (pred_item p) h e = rw (check_read (pred_of (length a.preds + 2) (pred_text (length a.preds + 2) p)) is_pred p (pred_reads (length a.preds + 2) p h) h) e
-item_read a b (triple_item (inside_triple f l t r)) h e = rw (check_read (triple_of (triple_text (inside_triple f l t r))) is_triple (inside_triple f l t r) (triple_reads (inside_triple f l t r) h) h) e
-item_read a b (triple_item (call_triple f l t r)) h e = rw (check_read (triple_of (triple_text (call_triple f l t r))) is_triple (call_triple f l t r) (triple_reads (call_triple f l t r) h) h) e
-item_read a b (triple_item (back_triple x f l t r)) h e = rw (check_read (triple_of (triple_text (back_triple x f l t r))) is_triple (back_triple x f l t r) (triple_reads (back_triple x f l t r) h) h) e
-item_read a b (node_item x) h e = rw (check_read (node_of (length a.nodes) (node_text (length a.nodes) x)) is_node x (node_reads (length a.nodes) x h) h) e
-item_read a b (step_item (steps.Step f l t)) h e = rw (check_read (step_of (step_text (steps.Step f l t))) is_step (steps.Step f l t) (step_reads (steps.Step f l t) h) h) e
-item_read a b (step_item (steps.Back x c l t)) h e = rw (check_read (step_of (step_text (steps.Back x c l t))) is_step (steps.Back x c l t) (step_reads (steps.Back x c l t) h) h) e
+unfolding with_line
+item_read a b (pred_item p) h e = pred_read a b p h e
+item_read a b (triple_item (inside_triple f l t r)) h e = triple_read a b (inside_triple f l t r) h e
+item_read a b (triple_item (call_triple f l t r)) h e = triple_read a b (call_triple f l t r) h e
+item_read a b (triple_item (back_triple x f l t r)) h e = triple_read a b (back_triple x f l t r) h e
+item_read a b (node_item x) h e = node_read a b x h e
+item_read a b (step_item (steps.Step f l t)) h e = step_read a b (steps.Step f l t) h e
+item_read a b (step_item (steps.Back x c l t)) h e = step_read a b (steps.Back x c l t) h e
 
 pub adds_read : (a b : Content) (l : List ℕ) → Adds a (ended l) b → with_line a l ≡ Some b
 adds_read a b l h = ap (with_line a) (append_cancel_right l (item_text a h.item) (10 ∷ []) h.spelled) ∙ item_read a b h.item h.is h.added
@@ -89,15 +111,20 @@ adds_once a b c l h k =
     let second = adds_read a c (item_text a h.item) (record { item = k.item; is = k.is; spelled = sym h.spelled ∙ k.spelled; added = k.added }) in
     same_Some b c (sym first ∙ second)
 
+-- whether the first letter is that of the end
+abbrev begins_as_end : List ℕ → Bool
+begins_as_end [] = false
+begins_as_end (b ∷ bs) = nat_eq b 101
+
 -- the end is no such line
 item_no_end : (a : Content) (x : Item) → ended (item_text a x) ≡ end_line → ⊥
-item_no_end a (pred_item p) e = let no : ⊥ = cc in no
-item_no_end a (triple_item (inside_triple f l t r)) e = let no : ⊥ = cc in no
-item_no_end a (triple_item (call_triple f l t r)) e = let no : ⊥ = cc in no
-item_no_end a (triple_item (back_triple x f l t r)) e = let no : ⊥ = cc in no
-item_no_end a (node_item x) e = let no : ⊥ = cc in no
-item_no_end a (step_item (steps.Step f l t)) e = let no : ⊥ = cc in no
-item_no_end a (step_item (steps.Back x c l t)) e = let no : ⊥ = cc in no
+item_no_end a (pred_item p) e = false≢true (ap begins_as_end e)
+item_no_end a (triple_item (inside_triple f l t r)) e = false≢true (ap begins_as_end e)
+item_no_end a (triple_item (call_triple f l t r)) e = false≢true (ap begins_as_end e)
+item_no_end a (triple_item (back_triple x f l t r)) e = false≢true (ap begins_as_end e)
+item_no_end a (node_item x) e = false≢true (ap begins_as_end e)
+item_no_end a (step_item (steps.Step f l t)) e = false≢true (ap begins_as_end e)
+item_no_end a (step_item (steps.Back x c l t)) e = false≢true (ap begins_as_end e)
 
 pub adds_no_end : (a b : Content) (l : List ℕ) → Adds a l b → l ≡ end_line → ⊥
 adds_no_end a b l h e = item_no_end a h.item (sym h.spelled ∙ e)
