@@ -21,6 +21,7 @@ pub mod RunLaws
 pub mod SpelledLaws
 pub mod StandingLaws
 pub mod StandingSteps
+mod TestLaws
 pub mod TreeLaws
 pub mod WholeLaws
 pub mod WritingLaws

@@ -1,5 +1,6 @@
+use Rattle.std.proofs.Common.{arith}
 use Rattle.proof_form.specs.Predicates.{plain, head, parts}
-use Rattle.proof_form.proofs.PendingLaws.{begins, goes_on}
+use Rattle.proof_form.proofs.PendingLaws.{begins, some_left, goes_on, ends}
 use Rattle.proof_form.proofs.predicates.push_predicate.Goals as goal
 
 pub loop-node-init : goal.loop-node-init
@@ -9,3 +10,9 @@ pub loop-node-preserved : goal.loop-node-preserved
 loop-node-preserved c =
     goes_on plain head parts _ _ _ _ _ _ _ _ _ _ _ _ _ c.loop-node-test.true c.node-item.is c.loop-node.invariant c.in_ok-push_head.ensures c.in_ok-push.ensures.items c.parts.ensures
     c.in_ok-left.ensures.same c.in_ok-left.ensures.kept c.in_ok-left.ensures.ready
+
+pub overflow_sub-left : goal.overflow_sub-left
+overflow_sub-left c = let some = some_left plain head parts _ _ _ _ _ _ c.loop-node-test.true c.loop-node.invariant in omega arith
+
+pub returns : goal.returns
+returns c = ends plain head parts _ _ _ _ _ _ c.loop-node-test.false c.loop-node.invariant
