@@ -3,6 +3,7 @@ pub mod AscentLaws
 pub mod BeginningLaws
 pub mod BuiltLaws
 pub mod CountLaws
+mod DraftLaws
 pub mod ForestLaws
 pub mod HeaderLaws
 pub mod HeightLaws

@@ -1,7 +1,8 @@
 //! What was read of an annotation so far.
 
-ghost use Rattle.std.specs.Prelude.{◌≡◌, ◌+◌, length};
+ghost use Rattle.std.specs.Prelude.{◌≡◌, ◌+◌, ◌&&◌, length};
 ghost use Rattle.proof_form.specs.Outcomes.{Gives};
+ghost use Rattle.proof_form.specs.LineReading.{checked};
 ghost use Rattle.proof_form.specs.Lines as lines;
 ghost use Rattle.proof_form.specs.Standing.{none, no_content};
 ghost use Rattle.proof_form.specs.TextReading as spec;
@@ -22,16 +23,21 @@ pub(crate) struct Draft {
     pub steps: Vec<StepLine>,
 }
 
+/// The value, if that holds of it.
+fn kept<T: Drop>(value: T, holds: bool) -> Result<T, Refusal>
+    ensures { Gives (λ x. x) result (checked (λ _. holds) value) }
+{
+    if holds { Ok(value) } else { Err(Refusal::Form) }
+}
+
 /// Reads the line of the predicate with that number, if it is in the grammar.
 #[tactic(auto, unfolding(crate::specs::TextReading::checked_pred_of))]
 fn checked_pred(alloc: Global, number: u64, line: &[u8]) -> Result<PredLine, Refusal>
     ensures { Gives lines.pred result (spec.checked_pred_of number line.now) }
 {
     let pred = pred_of(alloc, number, line)?;
-    if !is_pred(alloc, &pred)? {
-        return Err(Refusal::Form);
-    }
-    Ok(pred)
+    let holds = is_pred(alloc, &pred)?;
+    kept(pred, holds)
 }
 
 /// Reads the line of a triple, if it is in the grammar.
@@ -40,10 +46,8 @@ fn checked_triple(alloc: Global, line: &[u8]) -> Result<TripleLine, Refusal>
     ensures { Gives lines.triple result (spec.checked_triple_of line.now) }
 {
     let triple = triple_of(alloc, line)?;
-    if !is_triple(&triple) {
-        return Err(Refusal::Form);
-    }
-    Ok(triple)
+    let holds = is_triple(&triple);
+    kept(triple, holds)
 }
 
 /// Reads the line of the node with that number, if it is in the grammar.
@@ -52,10 +56,8 @@ fn checked_node(alloc: Global, number: u64, line: &[u8]) -> Result<NodeLine, Ref
     ensures { Gives lines.node result (spec.checked_node_of number line.now) }
 {
     let node = node_of(alloc, number, line)?;
-    if !is_node(&node) {
-        return Err(Refusal::Form);
-    }
-    Ok(node)
+    let holds = is_node(&node);
+    kept(node, holds)
 }
 
 /// Reads the line of a step, if it is in the grammar.
@@ -64,10 +66,8 @@ fn checked_step(alloc: Global, line: &[u8]) -> Result<StepLine, Refusal>
     ensures { Gives (λ s. s) result (spec.checked_step_of line.now) }
 {
     let step = step_of(alloc, line)?;
-    if !is_step(&step) {
-        return Err(Refusal::Form);
-    }
-    Ok(step)
+    let holds = is_step(&step);
+    kept(step, holds)
 }
 
 impl Draft {
@@ -101,6 +101,20 @@ impl Draft {
         self.steps.is_empty()
     }
 
+    /// Whether one more triple may come.
+    fn takes_triples(&self) -> bool
+        ensures { result ≡ (none (spec.content_of self.now).nodes && none (spec.content_of self.now).steps) }
+    {
+        self.no_nodes() && self.no_steps()
+    }
+
+    /// Whether one more predicate may come.
+    fn takes_preds(&self) -> bool
+        ensures { result ≡ (none (spec.content_of self.now).triples && (none (spec.content_of self.now).nodes && none (spec.content_of self.now).steps)) }
+    {
+        self.no_triples() && self.takes_triples()
+    }
+
     /// The number of the next predicate.
     fn next_pred(&self) -> u64
         ensures { result ≡ length (spec.content_of self.now).preds + 2 }
@@ -119,10 +133,10 @@ impl Draft {
     fn add_pred(&mut self, alloc: Global, line: &[u8]) -> Result<(), Refusal>
         ensures { Gives (λ _. spec.content_of self.new) result (spec.with_pred (spec.content_of self.old) line.now) }
     {
-        let pred = checked_pred(alloc, self.next_pred(), line)?;
-        if !(self.no_triples() && self.no_nodes() && self.no_steps()) {
+        if !self.takes_preds() {
             return Err(Refusal::Form);
         }
+        let pred = checked_pred(alloc, self.next_pred(), line)?;
         self.preds.push(pred)?;
         Ok(())
     }
@@ -131,10 +145,10 @@ impl Draft {
     fn add_triple(&mut self, alloc: Global, line: &[u8]) -> Result<(), Refusal>
         ensures { Gives (λ _. spec.content_of self.new) result (spec.with_triple (spec.content_of self.old) line.now) }
     {
-        let triple = checked_triple(alloc, line)?;
-        if !(self.no_nodes() && self.no_steps()) {
+        if !self.takes_triples() {
             return Err(Refusal::Form);
         }
+        let triple = checked_triple(alloc, line)?;
         self.triples.push(triple)?;
         Ok(())
     }
@@ -143,10 +157,10 @@ impl Draft {
     fn add_node(&mut self, alloc: Global, line: &[u8]) -> Result<(), Refusal>
         ensures { Gives (λ _. spec.content_of self.new) result (spec.with_node (spec.content_of self.old) line.now) }
     {
-        let node = checked_node(alloc, self.next_node(), line)?;
         if !self.no_steps() {
             return Err(Refusal::Form);
         }
+        let node = checked_node(alloc, self.next_node(), line)?;
         self.nodes.push(node)?;
         Ok(())
     }

@@ -1,13 +1,15 @@
 //! Which lines are in the grammar.
 
-ghost use Rattle.std.specs.Prelude.{◌≡◌, IfOk};
+ghost use Rattle.std.specs.Prelude.{◌≡◌, ◌&&◌, map, IfOk};
 ghost use Rattle.std.specs.List.{list_all};
 ghost use Rattle.proof_form.specs.Lines as spec;
+ghost use Rattle.proof_form.specs.Numerals as numerals;
+ghost use Rattle.proof_form.specs.Refutations as refutations;
 
 use crate::lines::{NodeLine, PredLine, StepLine, TripleLine};
 use crate::numerals::{Numeral, is_below, is_numeral, is_zero};
 use crate::predicates::is_predicate;
-use crate::refutations::is_refutation;
+use crate::refutations::{RNode, is_refutation};
 use crate::spelling::is_procedure;
 use std::alloc::{AllocError, Global};
 
@@ -21,6 +23,14 @@ pub(crate) fn is_pred(alloc: Global, line: &PredLine) -> Result<bool, AllocError
     is_predicate(alloc, &line.nodes)
 }
 
+/// Whether three numerals and a refutation are in the grammar.
+fn are_proved(first: &Numeral, second: &Numeral, third: &Numeral, proof: &[RNode]) -> bool
+    ensures { result ≡ (numerals.is_numeral first.now && (numerals.is_numeral second.now && (numerals.is_numeral third.now
+        && refutations.is_refutation (map refutations.plain proof.now)))) }
+{
+    is_numeral(first) && is_numeral(second) && is_numeral(third) && is_refutation(proof)
+}
+
 /// Whether the line of a triple is in the grammar.
 pub(crate) fn is_triple(line: &TripleLine) -> bool
     ensures { result ≡ spec.is_triple (spec.triple line.now) }
@@ -31,26 +41,20 @@ pub(crate) fn is_triple(line: &TripleLine) -> bool
             letter,
             to,
             proof,
-        } => is_numeral(from) && is_numeral(letter) && is_numeral(to) && is_refutation(proof),
+        } => are_proved(from, letter, to, proof),
         TripleLine::Call {
             from,
             letter,
             to,
             proof,
-        } => is_numeral(from) && is_numeral(letter) && is_numeral(to) && is_refutation(proof),
+        } => are_proved(from, letter, to, proof),
         TripleLine::Back {
             exit,
             before,
             letter,
             to,
             proof,
-        } => {
-            is_numeral(exit)
-                && is_numeral(before)
-                && is_numeral(letter)
-                && is_numeral(to)
-                && is_refutation(proof)
-        }
+        } => is_numeral(exit) && are_proved(before, letter, to, proof),
     }
 }
 
@@ -90,19 +94,24 @@ pub(crate) fn is_node(line: &NodeLine) -> bool
         && ascend(&line.preds)
 }
 
+/// Whether three numerals are in the grammar.
+fn are_numerals(first: &Numeral, second: &Numeral, third: &Numeral) -> bool
+    ensures { result ≡ (numerals.is_numeral first.now && (numerals.is_numeral second.now && numerals.is_numeral third.now)) }
+{
+    is_numeral(first) && is_numeral(second) && is_numeral(third)
+}
+
 /// Whether the line of a step is in the grammar.
 pub(crate) fn is_step(line: &StepLine) -> bool
     ensures { result ≡ spec.is_step line.now }
 {
     match line {
-        StepLine::Step { from, letter, to } => {
-            is_numeral(from) && is_numeral(letter) && is_numeral(to)
-        }
+        StepLine::Step { from, letter, to } => are_numerals(from, letter, to),
         StepLine::Back {
             exit,
             call,
             letter,
             to,
-        } => is_numeral(exit) && is_numeral(call) && is_numeral(letter) && is_numeral(to),
+        } => is_numeral(exit) && are_numerals(call, letter, to),
     }
 }
