@@ -6,6 +6,7 @@ ghost use Rattle.std.specs.Fmt.{decimal};
 ghost use Rattle.proof_form.specs.Outcomes.{Gives};
 ghost use Rattle.proof_form.specs.Lines as spec;
 ghost use Rattle.proof_form.specs.LineReading as reading;
+ghost use Rattle.proof_form.specs.Reading as bytes;
 
 use crate::numerals::{Numeral, is_below, is_numeral, is_zero, push_numeral};
 use crate::predicates::{PNode, is_predicate, predicate_of, push_predicate};
@@ -105,6 +106,22 @@ fn node_front(alloc: Global, number: u64) -> Result<Vec<u8>, AllocError>
     Ok(front)
 }
 
+/// What stands behind the number of the predicate with that number.
+fn behind_pred(alloc: Global, number: u64, line: &[u8]) -> Result<&[u8], Refusal>
+    ensures { Gives (λ x. x.now) result (bytes.after (reading.pred_front number) line.now) }
+{
+    let front = pred_front(alloc, number)?;
+    after(line, &front)
+}
+
+/// What stands behind the number of the node with that number.
+fn behind_node(alloc: Global, number: u64, line: &[u8]) -> Result<&[u8], Refusal>
+    ensures { Gives (λ x. x.now) result (bytes.after (reading.node_front number) line.now) }
+{
+    let front = node_front(alloc, number)?;
+    after(line, &front)
+}
+
 /// Reads a space and a number.
 #[tactic(auto, unfolding(crate::specs::LineReading::next_at))]
 fn next_at(alloc: Global, bytes: &[u8]) -> Result<(Numeral, &[u8]), Refusal>
@@ -119,8 +136,7 @@ fn next_at(alloc: Global, bytes: &[u8]) -> Result<(Numeral, &[u8]), Refusal>
 pub(crate) fn pred_of(alloc: Global, number: u64, line: &[u8]) -> Result<PredLine, Refusal>
     ensures { Gives spec.pred result (reading.pred_of number line.now) }
 {
-    let front = pred_front(alloc, number)?;
-    let rest = after(line, &front)?;
+    let rest = behind_pred(alloc, number, line)?;
     let (proc, rest) = word_at(alloc, rest)?;
     let nodes = predicate_of(alloc, rest)?;
     Ok(PredLine { proc, nodes })
@@ -223,8 +239,7 @@ fn numbers_of(alloc: Global, bytes: &[u8]) -> Result<Vec<Numeral>, Refusal>
 pub(crate) fn node_of(alloc: Global, number: u64, line: &[u8]) -> Result<NodeLine, Refusal>
     ensures { Gives spec.node result (reading.node_of number line.now) }
 {
-    let front = node_front(alloc, number)?;
-    let rest = after(line, &front)?;
+    let rest = behind_node(alloc, number, line)?;
     let (place, rest) = next_at(alloc, rest)?;
     let (entry, rest) = next_at(alloc, rest)?;
     let preds = numbers_of(alloc, rest)?;

@@ -11,7 +11,9 @@ ghost use Rattle.proof_form.specs.Predicates as spec;
 ghost use Rattle.proof_form.specs.PredicateReading as reading;
 
 use crate::numerals::{Numeral, is_numeral, is_zero, push_numeral};
-use crate::reading::{after, item_follows, more_follow, number_at, text_at, word_at};
+use crate::reading::{
+    after, item_follows, more_follow, number_at, number_before, text_at, word_at,
+};
 use crate::refusal::Refusal;
 use crate::spelling::is_column;
 use crate::trees::{Piece, close, open};
@@ -43,8 +45,7 @@ fn term_at(alloc: Global, bytes: &[u8]) -> Result<((Numeral, Text), &[u8]), Refu
     ensures { Gives (λ x. (x.0, x.1.now)) result (reading.term_at bytes.now) }
 {
     let rest = after(bytes, b" ")?;
-    let (coefficient, rest) = number_at(alloc, rest)?;
-    let rest = after(rest, b" ")?;
+    let (coefficient, rest) = number_before(alloc, rest, b" ")?;
     let (column, rest) = word_at(alloc, rest)?;
     Ok(((coefficient, column), rest))
 }

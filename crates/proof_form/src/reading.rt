@@ -50,6 +50,20 @@ pub(crate) fn number_at(alloc: Global, bytes: &[u8]) -> Result<(Numeral, &[u8]),
     Ok((numeral_of(alloc, number)?, rest))
 }
 
+/// The numeral at the front, behind which that text must stand.
+pub(crate) fn number_before<'a>(
+    alloc: Global,
+    bytes: &'a [u8],
+    text: &[u8],
+) -> Result<(Numeral, &'a [u8]), Refusal>
+    ensures behind { Gives (λ x. x.1.now) result (spec.after text.now (spec.number_at bytes.now).1) }
+    ensures number { IfOk result (λ x. x.0 ≡ (spec.number_at bytes.now).0) }
+{
+    let (number, rest) = number_at(alloc, bytes)?;
+    let rest = after(rest, text)?;
+    Ok((number, rest))
+}
+
 /// The numeral that the bytes are.
 fn numeral_of(alloc: Global, bytes: &[u8]) -> Result<Numeral, AllocError>
     ensures { IfOk result (λ n. spec.numeral_of bytes.now ≡ n) }

@@ -10,7 +10,7 @@ ghost use Rattle.proof_form.specs.Refutations as spec;
 ghost use Rattle.proof_form.specs.RefutationReading as reading;
 
 use crate::numerals::{Numeral, is_numeral, push_numeral};
-use crate::reading::{after, item_follows, more_follow, number_at, text_at};
+use crate::reading::{after, item_follows, more_follow, number_at, number_before, text_at};
 use crate::refusal::Refusal;
 use crate::trees::{Piece, close, open};
 use std::alloc::{AllocError, Global};
@@ -37,8 +37,7 @@ fn part_at(alloc: Global, bytes: &[u8]) -> Result<((Numeral, Numeral), &[u8]), R
     ensures { Gives (λ x. (x.0, x.1.now)) result (reading.part_at bytes.now) }
 {
     let rest = after(bytes, b" ")?;
-    let (row, rest) = number_at(alloc, rest)?;
-    let rest = after(rest, b":")?;
+    let (row, rest) = number_before(alloc, rest, b":")?;
     let (multiplier, rest) = number_at(alloc, rest)?;
     Ok(((row, multiplier), rest))
 }
@@ -72,8 +71,7 @@ fn leaf_at(alloc: Global, bytes: &[u8]) -> Result<(Piece<RNode>, &[u8]), Refusal
 fn cut_at(alloc: Global, bytes: &[u8]) -> Result<(Piece<RNode>, &[u8]), Refusal>
     ensures { Gives (λ x. (part spec.plain x.0, x.1.now)) result (reading.cut_at bytes.now) }
 {
-    let (col, rest) = number_at(alloc, bytes)?;
-    let rest = after(rest, b" ")?;
+    let (col, rest) = number_before(alloc, bytes, b" ")?;
     let (k, rest) = number_at(alloc, rest)?;
     Ok((Piece::Opens(RNode::Cut { col, k }), rest))
 }

@@ -21,9 +21,16 @@ pub(crate) enum Piece<T> {
 pub(crate) fn open(counts: &mut Vec<u32>) -> Result<u32, Refusal>
     ensures { Gives (λ n. (n, reverse counts.new.items)) result (opened (reverse counts.old.items)) }
 {
-    let count = counts.pop().ok_or(Refusal::Form)?;
-    let outer = counts.pop().ok_or(Refusal::Form)?;
-    counts.push(outer.checked_add(1).ok_or(Refusal::Form)?)?;
+    let Some(count) = counts.pop() else {
+        return Err(Refusal::Form);
+    };
+    let Some(outer) = counts.pop() else {
+        return Err(Refusal::Form);
+    };
+    let Some(outer) = outer.checked_add(1) else {
+        return Err(Refusal::Form);
+    };
+    counts.push(outer)?;
     Ok(count)
 }
 
