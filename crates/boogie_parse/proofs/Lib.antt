@@ -16,6 +16,7 @@ pub mod ExpressionSound
 pub mod ExpressionComplete
 pub mod ExpressionRoom
 mod ListTurns
+mod ExpressionExits
 mod ProgramCounts
 mod ListSound
 mod ConditionSound

@@ -13,7 +13,7 @@ use boogie_tree::{Span, Text};
 use std::alloc::{AllocError, Global};
 
 /// A word or a mark that the language fixes.
-#[derive(Clone, Copy, Debug, PartialEq, Eq)]
+#[derive(Clone, Copy, PartialEq, Eq)]
 pub(crate) enum Fixed {
     Const,
     Var,

@@ -59,7 +59,6 @@ impl Parser {
 
     /// The chain that goes on from its first operand.
     #[cycle(expressions)]
-    #[tactic(auto, using(crate::proofs::ExpressionSteps::chain_stops, crate::proofs::ExpressionSteps::chain_deep, crate::proofs::ExpressionSteps::chain_full, crate::proofs::ExpressionSteps::chain_goes))]
     fn chain_from<'a>(
         &self,
         chain: Chain,
@@ -115,7 +114,6 @@ impl Parser {
 
     /// `==>` groups to the right.
     #[cycle(expressions)]
-    #[tactic(auto, using(crate::proofs::ExpressionSteps::implication_step))]
     fn implication<'a>(
         &self,
         parentheses: u8,
@@ -159,7 +157,6 @@ impl Parser {
 
     /// One comparison at most.
     #[cycle(expressions)]
-    #[tactic(auto, unfolding(crate::specs::ExpressionReading::comparison))]
     fn comparison<'a>(
         &self,
         parentheses: u8,
@@ -262,7 +259,6 @@ impl Parser {
 
     /// An expression in parentheses.
     #[cycle(expressions)]
-    #[tactic(auto, using(crate::proofs::ExpressionSteps::inside_step))]
     fn group<'a>(
         &self,
         parentheses: u8,

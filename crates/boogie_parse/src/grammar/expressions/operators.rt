@@ -67,23 +67,29 @@ fn operator(level: Level, fixed: Fixed) -> Option<Op>
 pub(crate) fn infix_at<'a>(level: Level, symbols: &'a [Symbol]) -> Option<(Op, Span, &'a [Symbol])>
     ensures { seen result ≡ reading.infix_at level symbols.entry.now }
 {
-    let (first, rest) = symbols.split_first()?;
-    let Sign::Fixed(fixed) = &first.sign else {
-        return None;
-    };
-    let op = operator(level, *fixed)?;
-    Some((op, first.span, rest))
+    match symbols {
+        [first, rest @ ..] => match &first.sign {
+            Sign::Fixed(fixed) => match operator(level, *fixed) {
+                Some(op) => Some((op, first.span, rest)),
+                None => None,
+            },
+            Sign::Number(_) | Sign::Name(_) => None,
+        },
+        [] => None,
+    }
 }
 
 /// The `!` or `-` that the symbols begin with, its place, and the symbols behind it.
 pub(crate) fn prefix_at<'a>(symbols: &'a [Symbol]) -> Option<(Prefix, Span, &'a [Symbol])>
     ensures { seen result ≡ reading.prefix_at symbols.entry.now }
 {
-    let (first, rest) = symbols.split_first()?;
-    match &first.sign {
-        Sign::Fixed(Fixed::Not) => Some((Prefix::Not, first.span, rest)),
-        Sign::Fixed(Fixed::Minus) => Some((Prefix::Neg, first.span, rest)),
-        _ => None,
+    match symbols {
+        [first, rest @ ..] => match &first.sign {
+            Sign::Fixed(Fixed::Not) => Some((Prefix::Not, first.span, rest)),
+            Sign::Fixed(Fixed::Minus) => Some((Prefix::Neg, first.span, rest)),
+            _ => None,
+        },
+        [] => None,
     }
 }
 
@@ -91,10 +97,12 @@ pub(crate) fn prefix_at<'a>(symbols: &'a [Symbol]) -> Option<(Prefix, Span, &'a 
 pub(crate) fn behind_open<'a>(symbols: &'a [Symbol]) -> Option<&'a [Symbol]>
     ensures { behind result ≡ reading.after reading.opens symbols.entry.now }
 {
-    let (first, rest) = symbols.split_first()?;
-    match &first.sign {
-        Sign::Fixed(Fixed::OpenParenthesis) => Some(rest),
-        _ => None,
+    match symbols {
+        [first, rest @ ..] => match &first.sign {
+            Sign::Fixed(Fixed::OpenParenthesis) => Some(rest),
+            _ => None,
+        },
+        [] => None,
     }
 }
 
@@ -102,9 +110,11 @@ pub(crate) fn behind_open<'a>(symbols: &'a [Symbol]) -> Option<&'a [Symbol]>
 pub(crate) fn behind_close<'a>(symbols: &'a [Symbol]) -> Option<&'a [Symbol]>
     ensures { behind result ≡ reading.after reading.closes symbols.entry.now }
 {
-    let (first, rest) = symbols.split_first()?;
-    match &first.sign {
-        Sign::Fixed(Fixed::CloseParenthesis) => Some(rest),
-        _ => None,
+    match symbols {
+        [first, rest @ ..] => match &first.sign {
+            Sign::Fixed(Fixed::CloseParenthesis) => Some(rest),
+            _ => None,
+        },
+        [] => None,
     }
 }
