@@ -76,6 +76,16 @@ module _ {X : Type 0} (item : ℕ → List Symbol → Outcome (List X)) (end : S
 pub map-pushed : {C X : Type 0} (view : C → X) (xs ys : List C) (x : C) → ys ≡ xs ++ x ∷ [] → map view ys ≡ map view xs ++ view x ∷ []
 map-pushed view xs ys x e = rw (e, map-append) refl
 
+-- one more that is made, as what contracts see
+pub made-pushed : {A B X : Type 0} (view : A → X) (make : B → X) (done new : List A) (taken : List B) (a : A) (b : B)
+    → map view done ≡ map make taken → new ≡ done ++ a ∷ [] → view a ≡ make b → map view new ≡ map make (taken ++ b ∷ [])
+made-pushed view make done new taken a b h e same =
+    map-pushed view done new a e ∙ ap (λ xs. xs ++ view a ∷ []) h ∙ ap (λ x. map make taken ++ x ∷ []) same ∙ sym (map-append make taken (b ∷ []))
+
+-- one more that is made
+pub listed-pushed : {A B : Type 0} (make : B → A) (done new : List A) (taken : List B) (b : B) → done ≡ map make taken → new ≡ done ++ make b ∷ [] → new ≡ map make (taken ++ b ∷ [])
+listed-pushed make done new taken b h e = e ∙ ap (λ xs. xs ++ make b ∷ []) h ∙ sym (map-append make taken (b ∷ []))
+
 -- how many there are in items adds up
 pub record AddsUp {X : Type 0} (used : List X → ℕ) : Type 0 where
   pub none : used [] ≡ 0
