@@ -1,14 +1,15 @@
 //! Programs.
 
-ghost use Rattle.std.specs.Prelude.{◌≡◌, ◌-◌, [], ◌∷◌, map};
+ghost use Rattle.std.specs.Prelude.{◌≡◌, ◌-◌, [], ◌∷◌, map, None, Some};
 ghost use Rattle.boogie_tree.specs.View as view;
 ghost use Rattle.boogie_parse.specs.GrammarLimits as limits;
 ghost use Rattle.boogie_parse.specs.ListReading as list;
 ghost use Rattle.boogie_parse.specs.ProgramReading as spec;
+ghost use Rattle.boogie_parse.specs.ProgramViews.{head};
 ghost use Rattle.boogie_parse.specs.ListViews.{Gives, found, found_if, items_as};
 
 use super::blocks::there;
-use super::declarations::{VARIABLES, alone, constants, globals};
+use super::declarations::{Head, VARIABLES, alone, constants, globals};
 use super::lists::seen;
 use super::parser::{Parser, past_limit};
 use crate::fault::{Fault, Which};
@@ -62,13 +63,39 @@ impl Parser {
         Ok((globals(self.alloc, variables)?, rest))
     }
 
+    /// One declaration alone.
+    fn single<'a>(&self, declaration: Decl, symbols: &'a [Symbol]) -> Result<FoundDecls<'a>, Fault>
+        ensures { Gives (found (items_as view.declaration)) result (list.read (view.declaration declaration ∷ []) symbols.now) }
+    {
+        Ok((alone(self.alloc, declaration)?, symbols))
+    }
+
     #[tactic(auto, unfolding(crate::specs::ProgramReading::axiom_at))]
     fn axiom<'a>(&self, span: Span, symbols: &'a [Symbol]) -> Result<FoundDecls<'a>, Fault>
         ensures { Gives (found (items_as view.declaration)) result
             (spec.axiom_at (list.expression_at self.now.end) self.now.end 200 span symbols.now) }
     {
         let (condition, rest) = self.claim(symbols)?;
-        Ok((alone(self.alloc, Decl::Axiom(span, condition))?, rest))
+        self.single(Decl::Axiom(span, condition), rest)
+    }
+
+    /// A procedure that has no body, behind the semicolon of its front.
+    fn without_body<'a>(&self, front: Head, symbols: &'a [Symbol]) -> Result<FoundDecls<'a>, Fault>
+        ensures { Gives (found (items_as view.declaration)) result
+            (spec.procedure_by (list.expression_at self.now.end) self.now.end 200 200 1000 (head front) symbols.now (Some (record { value = front.span; rest = symbols.now }))) }
+    {
+        let (specs, rest) = self.specifications(symbols)?;
+        self.single(Decl::Procedure(front.procedure(specs, None)), rest)
+    }
+
+    /// A procedure that has a body, behind its front.
+    fn with_body<'a>(&self, front: Head, symbols: &'a [Symbol]) -> Result<FoundDecls<'a>, Fault>
+        ensures { Gives (found (items_as view.declaration)) result
+            (spec.procedure_by (list.expression_at self.now.end) self.now.end 200 200 1000 (head front) symbols.now None) }
+    {
+        let (specs, rest) = self.specifications(symbols)?;
+        let (body, rest) = self.body(front.room_behind(), rest)?;
+        self.single(Decl::Procedure(front.procedure(specs, Some(body))), rest)
     }
 
     #[tactic(auto, unfolding(crate::specs::ProgramReading::procedure_at))]
@@ -77,15 +104,10 @@ impl Parser {
             (spec.procedure_at (list.expression_at self.now.end) self.now.end 200 200 1000 span symbols.now) }
     {
         let (head, rest) = self.head(span, symbols)?;
-        if let Some((_, rest)) = seen(Fixed::Semicolon, rest) {
-            let (specs, rest) = self.specifications(rest)?;
-            let procedure = head.procedure(specs, None);
-            return Ok((alone(self.alloc, Decl::Procedure(procedure))?, rest));
+        match seen(Fixed::Semicolon, rest) {
+            Some((_, rest)) => self.without_body(head, rest),
+            None => self.with_body(head, rest),
         }
-        let (specs, rest) = self.specifications(rest)?;
-        let (body, rest) = self.body(head.room_behind(), rest)?;
-        let procedure = head.procedure(specs, Some(body));
-        Ok((alone(self.alloc, Decl::Procedure(procedure))?, rest))
     }
 
     #[tactic(auto, unfolding(crate::specs::ProgramReading::implementation_at))]
@@ -96,7 +118,7 @@ impl Parser {
         let (head, rest) = self.head(span, symbols)?;
         let (body, rest) = self.body(head.room_behind(), rest)?;
         let procedure = head.procedure(Vec::new(self.alloc), Some(body));
-        Ok((alone(self.alloc, Decl::Implementation(procedure))?, rest))
+        self.single(Decl::Implementation(procedure), rest)
     }
 
     /// A procedure, if there is room for one more.
