@@ -16,6 +16,9 @@ pub mod ExpressionSound
 pub mod ExpressionComplete
 pub mod ExpressionRoom
 mod ListTurns
+mod EndedValues
+mod SeenStatements
+mod BlockSteps
 mod ExpressionExits
 mod ProgramCounts
 mod ListSound

@@ -19,7 +19,6 @@ use boogie_tree::{Guard, Name, Span, Stmt};
 impl Parser {
     /// Statements in braces.
     #[cycle(statements)]
-    #[tactic(auto, unfolding(crate::specs::StatementReading::inside_at, crate::specs::StatementReading::no_block, crate::specs::StatementReading::block_by))]
     pub(super) fn block<'a>(
         &self,
         blocks: u8,
@@ -32,13 +31,11 @@ impl Parser {
             return Err(past_limit(Which::Nesting, span));
         }
         let (statements, rest) = self.list(blocks - 1, rest)?;
-        let (_, rest) = self.behind(Fixed::CloseBrace, rest)?;
-        Ok((statements, rest))
+        self.ended_by(Fixed::CloseBrace, statements, rest)
     }
 
     /// The branch of an `else if`, whose `if` stands at `span`; it is inside one block more.
     #[cycle(statements)]
-    #[tactic(auto, unfolding(crate::specs::StatementReading::inside_at, crate::specs::StatementReading::no_branch))]
     fn inner_branch<'a>(
         &self,
         blocks: u8,

@@ -5,6 +5,7 @@ ghost use Rattle.boogie_tree.specs.View as view;
 ghost use Rattle.boogie_parse.specs.ListReading as spec;
 ghost use Rattle.boogie_parse.specs.ListViews.{Gives, found, found_if, items_as};
 
+use super::blocks::there;
 use super::lists::seen;
 use super::parser::Parser;
 use super::variables::PARENTHESES;
@@ -27,8 +28,7 @@ impl Parser {
             return Ok((Vec::new(self.alloc), rest));
         }
         let (arguments, rest) = self.expressions(parentheses, rest)?;
-        let (_, rest) = self.behind(Fixed::CloseParenthesis, rest)?;
-        Ok((arguments, rest))
+        self.ended_by(Fixed::CloseParenthesis, arguments, rest)
     }
 
     /// The guard of a branch or a loop.
@@ -39,12 +39,10 @@ impl Parser {
     {
         let (parentheses, rest) = self.opened(Fixed::OpenParenthesis, PARENTHESES, symbols)?;
         if let Some((_, rest)) = seen(Fixed::Star, rest) {
-            let (_, rest) = self.behind(Fixed::CloseParenthesis, rest)?;
-            return Ok((Guard::Any, rest));
+            return self.ended_by(Fixed::CloseParenthesis, Guard::Any, rest);
         }
         let (condition, rest) = self.shallow_expression(parentheses, rest)?;
-        let (_, rest) = self.behind(Fixed::CloseParenthesis, rest)?;
-        Ok((Guard::Cond(condition), rest))
+        self.ended_by(Fixed::CloseParenthesis, Guard::Cond(condition), rest)
     }
 
     /// An expression, up to its semicolon.
@@ -54,8 +52,7 @@ impl Parser {
             (spec.claim_at (spec.expression_at self.now.end) self.now.end 200 symbols.now) }
     {
         let (expression, rest) = self.shallow_expression(PARENTHESES, symbols)?;
-        let (_, rest) = self.behind(Fixed::Semicolon, rest)?;
-        Ok((expression, rest))
+        self.ended_by(Fixed::Semicolon, expression, rest)
     }
 
     /// A condition, behind its word that stands there.
@@ -81,11 +78,11 @@ impl Parser {
     {
         if let Some((_, rest)) = seen(Fixed::Free, symbols) {
             let (span, rest) = self.behind(Fixed::Invariant, rest)?;
-            return Ok(Some(self.condition(true, span, rest)?));
+            return there(self.condition(true, span, rest));
         }
         match seen(Fixed::Invariant, symbols) {
             None => Ok(None),
-            Some((span, rest)) => Ok(Some(self.condition(false, span, rest)?)),
+            Some((span, rest)) => there(self.condition(false, span, rest)),
         }
     }
 

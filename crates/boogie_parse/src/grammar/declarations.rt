@@ -257,8 +257,7 @@ impl Parser {
         let (blocks, rest) = self.opened(Fixed::OpenBrace, BLOCKS, symbols)?;
         let (locals, rest) = self.locals(room, rest)?;
         let (stmts, rest) = self.list(blocks, rest)?;
-        let (_, rest) = self.behind(Fixed::CloseBrace, rest)?;
-        Ok((Body { locals, stmts }, rest))
+        self.ended_by(Fixed::CloseBrace, Body { locals, stmts }, rest)
     }
 
     /// The front of a procedure or an implementation, behind its word.

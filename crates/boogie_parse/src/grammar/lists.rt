@@ -47,6 +47,19 @@ impl Parser {
         seen(fixed, symbols).ok_or(self.refused(symbols))
     }
 
+    /// A value that was read, where that fixed word or mark ends it.
+    pub(crate) fn ended_by<'a, X: Drop>(
+        &self,
+        mark: Fixed,
+        value: X,
+        symbols: &'a [Symbol],
+    ) -> Result<(X, &'a [Symbol]), Fault>
+        ensures { Gives (found same) result (spec.◌>>=◌ (spec.behind self.now.end mark symbols.now) (λ s. spec.read value s.rest)) }
+    {
+        let (_, rest) = self.behind(mark, symbols)?;
+        Ok((value, rest))
+    }
+
     /// A name.
     #[tactic(auto, unfolding(crate::specs::ListReading::name_at))]
     pub(crate) fn name<'a>(&self, symbols: &'a [Symbol]) -> Result<(Name, &'a [Symbol]), Fault>
@@ -169,7 +182,6 @@ impl Parser {
         ensures { Gives (found items) result (spec.listed_names self.now.end symbols.now) }
     {
         let (names, rest) = self.names(symbols.len(), symbols)?;
-        let (_, rest) = self.behind(Fixed::Semicolon, rest)?;
-        Ok((names, rest))
+        self.ended_by(Fixed::Semicolon, names, rest)
     }
 }

@@ -76,8 +76,7 @@ impl Parser {
             return Ok((Stmt::Break(span, None), rest));
         }
         let (label, rest) = self.name(symbols)?;
-        let (_, rest) = self.behind(Fixed::Semicolon, rest)?;
-        Ok((Stmt::Break(span, Some(label)), rest))
+        self.ended_by(Fixed::Semicolon, Stmt::Break(span, Some(label)), rest)
     }
 
     #[tactic(auto, unfolding(crate::specs::StatementReading::return_at))]
@@ -88,8 +87,7 @@ impl Parser {
     ) -> Result<FoundStmt<'a>, Fault>
         ensures { Gives (found view.statement) result (spec.return_at self.now.end span symbols.now) }
     {
-        let (_, rest) = self.behind(Fixed::Semicolon, symbols)?;
-        Ok((Stmt::Return(span), rest))
+        self.ended_by(Fixed::Semicolon, Stmt::Return(span), symbols)
     }
 
     /// An assignment, from its first target on.
@@ -101,8 +99,7 @@ impl Parser {
         let (targets, rest) = self.names(symbols.len(), symbols)?;
         let (_, rest) = self.behind(Fixed::Becomes, rest)?;
         let (values, rest) = self.expressions(PARENTHESES, rest)?;
-        let (_, rest) = self.behind(Fixed::Semicolon, rest)?;
-        Ok((Stmt::Assign(span, targets, values), rest))
+        self.ended_by(Fixed::Semicolon, Stmt::Assign(span, targets, values), rest)
     }
 
     /// A label or an assignment, whose name stands first; `rest` stands behind it.
@@ -135,8 +132,8 @@ impl Parser {
             (spec.called_at (list.expression_at self.now.end) self.now.end 200 span targets.items procedure symbols.now) }
     {
         let (arguments, rest) = self.arguments(symbols)?;
-        let (_, rest) = self.behind(Fixed::Semicolon, rest)?;
-        Ok((Stmt::Call(span, targets, procedure, arguments), rest))
+        let call = Stmt::Call(span, targets, procedure, arguments);
+        self.ended_by(Fixed::Semicolon, call, rest)
     }
 
     /// A call with targets.

@@ -98,8 +98,7 @@ impl Parser {
         ensures { Gives (found items) result (spec.declared_behind self.now.end room symbols.now) }
     {
         let (variables, rest) = self.variables(room, symbols)?;
-        let (_, rest) = self.behind(Fixed::Semicolon, rest)?;
-        Ok((variables, rest))
+        self.ended_by(Fixed::Semicolon, variables, rest)
     }
 
     /// Parameters or results in parentheses, so many at most.
@@ -116,8 +115,7 @@ impl Parser {
             return Ok((Vec::new(self.alloc), rest));
         }
         let (variables, rest) = self.variables(room, rest)?;
-        let (_, rest) = self.behind(Fixed::CloseParenthesis, rest)?;
-        Ok((variables, rest))
+        self.ended_by(Fixed::CloseParenthesis, variables, rest)
     }
 
     /// Results, if there are any, so many at most.

@@ -3,8 +3,11 @@ use Rattle.std.proofs.lemmas.Result.{err_from_is_err_and}
 use Rattle.boogie_tree.specs.View.{statement}
 use Rattle.boogie_parse.specs.ListReading.{one_there, expression_at}
 use Rattle.boogie_parse.specs.StatementReading.{statement_item, list_at}
-use Rattle.boogie_parse.specs.StatementViews.{inside}
+use Rattle.boogie_parse.specs.StatementViews.{inside, block_of}
+use Rattle.boogie_parse.specs.declared.symbols.Fixed.TheVariants as fixed
 use Rattle.boogie_parse.proofs.ListTurns.{starts, continues, stops, fails, completes, length-adds, map-pushed}
+use Rattle.boogie_parse.proofs.BlockSteps.{block_unopened, block_full, block_opened, block_fails, branch_full, branch_goes}
+use Rattle.boogie_parse.proofs.EndedValues.{ended_as}
 use Rattle.boogie_parse.proofs.grammar.parser.Parser.+statements.Goals as goal
 
 pub list-loop-turn-init : goal.list-loop-turn-init
@@ -26,3 +29,31 @@ list-loop-turn-preserved t c =
 
 pub list-returns : goal.list-returns
 list-returns t c = completes (statement_item (expression_at c.args.self.now.end) c.args.self.now.end 200 (inside c.args.self.now.end c.args.blocks)) length _ _ _ _ _ c.loop-turn.invariant (omega arith)
+
+-- a block
+
+pub block-returns-in_err-span : goal.block-returns-in_err-span
+block-returns-in_err-span t c =
+    let p = err_from_is_err_and c.from_residual.result c.from_residual.ensures.1 in
+    rw (p.1, p.2) (λ m. block_unopened c.args.self.now.end c.args.blocks c.args.symbols.now _ (c.in_err-span.ensures m))
+
+pub block-returns-then-blocks-eq0 : goal.block-returns-then-blocks-eq0
+block-returns-then-blocks-eq0 t c = λ _. block_full c.args.self.now.end c.args.blocks c.args.symbols.now _ _ _ c.in_ok-span.ensures c.if-blocks-eq0.true c.past_limit.ensures
+
+pub block-returns-in_err-statements : goal.block-returns-in_err-statements
+block-returns-in_err-statements t c =
+    let p = err_from_is_err_and c.from_residual-in_err-statements.result c.from_residual-in_err-statements.ensures.1 in
+    rw (p.1, p.2) (λ m. block_fails c.args.self.now.end c.args.blocks c.args.symbols.now _ _ _ c.in_ok-span.ensures c.if-blocks-eq0.false (c.in_err-statements.ensures m))
+
+pub block-returns : goal.block-returns
+block-returns t c =
+    rw (block_opened c.args.self.now.end c.args.blocks c.args.symbols.now _ _ c.in_ok-span.ensures c.if-blocks-eq0.false, c.in_ok-statements.ensures)
+    (ended_as block_of c.ended_by.result c.args.self.now.end fixed.CloseBrace _ _ c.ended_by.ensures)
+
+-- a branch inside a block
+
+pub inner_branch-returns-then-blocks-eq0 : goal.inner_branch-returns-then-blocks-eq0
+inner_branch-returns-then-blocks-eq0 t c = λ _. branch_full c.args.self.now.end c.args.blocks c.args.span c.args.symbols.now _ c.if-blocks-eq0.true c.past_limit.ensures
+
+pub inner_branch-returns : goal.inner_branch-returns
+inner_branch-returns t c = rw (branch_goes c.args.self.now.end c.args.blocks c.args.span c.args.symbols.now c.if-blocks-eq0.false) c.branch-self.ensures

@@ -1,0 +1,9 @@
+use Rattle.boogie_parse.specs.ListViews.{items}
+use Rattle.boogie_parse.specs.declared.symbols.Fixed.TheVariants as fixed
+use Rattle.boogie_parse.specs.ListReading.{declared_behind}
+use Rattle.boogie_parse.proofs.EndedValues.{ended_as}
+use Rattle.boogie_parse.proofs.grammar.parser.Parser.declared.Goals as goal
+
+pub returns : goal.returns
+unfolding declared_behind
+returns c = rw c.in_ok-variables.ensures (ended_as items c.ended_by.result c.args.self.now.end fixed.Semicolon _ _ c.ended_by.ensures)

@@ -1,0 +1,9 @@
+use Rattle.boogie_parse.specs.ListViews.{items}
+use Rattle.boogie_parse.specs.declared.symbols.Fixed.TheVariants as fixed
+use Rattle.boogie_parse.specs.ListReading.{listed_names}
+use Rattle.boogie_parse.proofs.EndedValues.{ended_as}
+use Rattle.boogie_parse.proofs.grammar.parser.Parser.listed_names.Goals as goal
+
+pub returns : goal.returns
+unfolding listed_names
+returns c = rw c.in_ok-names.ensures (ended_as items c.ended_by.result c.args.self.now.end fixed.Semicolon _ _ c.ended_by.ensures)
