@@ -8,3 +8,6 @@ pub mod FormParts
 pub mod FormValues
 pub mod Truths
 pub mod Euclidean
+mod Copied
+mod FormAnswers
+mod Sums

@@ -2,10 +2,11 @@
 
 ghost use Rattle.std.specs.Prelude.{◌≡◌, IfOk, map};
 ghost use Rattle.std.specs.Option.{option_map};
+ghost use Rattle.typed_tree.specs.TypedTree as tree;
 ghost use Rattle.typed_tree.specs.TypedView as view;
 
 use crate::types::{Affine, TExpr, TExprKind, TGuard, TInv, TProc, TSpec, TStmt};
-use boogie_tree::VarInfo;
+use boogie_tree::{Column, Span, VarInfo};
 use smallvec::SmallVec;
 use std::alloc::AllocError;
 
@@ -143,6 +144,52 @@ fn variables(parts: &Vec<VarInfo>) -> Result<Vec<VarInfo>, AllocError>
     Ok(copied)
 }
 
+/// An assignment of equal values to the same targets.
+fn assignment(span: Span, targets: &Vec<Column>, values: &Vec<TExpr>) -> Result<TStmt, AllocError>
+    ensures { IfOk result (λ copied. view.statement copied ≡ tree.Assign span targets.now.items (map view.expression values.now.items)) }
+{
+    let values = expressions(values)?;
+    Ok(TStmt::Assign(span, plain(targets)?, values))
+}
+
+/// A call with equal arguments and the same targets.
+fn call(
+    span: Span,
+    targets: &Vec<Column>,
+    callee: u32,
+    arguments: &Vec<TExpr>,
+) -> Result<TStmt, AllocError>
+    ensures { IfOk result (λ copied. view.statement copied ≡ tree.Call span targets.now.items callee (map view.expression arguments.now.items)) }
+{
+    let arguments = expressions(arguments)?;
+    Ok(TStmt::Call(span, plain(targets)?, callee, arguments))
+}
+
+/// A branch with an equal guard and these statements.
+fn conditional(
+    span: Span,
+    guard: &TGuard,
+    then: Vec<TStmt>,
+    otherwise: Vec<TStmt>,
+) -> Result<TStmt, AllocError>
+    ensures { IfOk result (λ copied. view.statement copied ≡ tree.If span (view.guard guard.now) (view.statements then.items) (view.statements otherwise.items)) }
+{
+    Ok(TStmt::If(span, guard.copy()?, then, otherwise))
+}
+
+/// A loop with an equal guard, equal invariants and these statements.
+fn looped(
+    span: Span,
+    guard: &TGuard,
+    claims: &Vec<TInv>,
+    body: Vec<TStmt>,
+) -> Result<TStmt, AllocError>
+    ensures { IfOk result (λ copied. view.statement copied ≡ tree.While span (view.guard guard.now) (map view.invariant claims.now.items) (view.statements body.items)) }
+{
+    let claims = invariants(claims)?;
+    Ok(TStmt::While(span, guard.copy()?, claims, body))
+}
+
 impl TStmt {
     /// An equal one. It recurses as deep as statements are nested, as dropping one does.
     #[cycle(statements)]
@@ -153,25 +200,18 @@ impl TStmt {
             TStmt::Assert(span, claim) => Ok(TStmt::Assert(*span, claim.copy()?)),
             TStmt::Assume(span, claim) => Ok(TStmt::Assume(*span, claim.copy()?)),
             TStmt::Havoc(span, targets) => Ok(TStmt::Havoc(*span, plain(targets)?)),
-            TStmt::Assign(span, targets, values) => {
-                let values = expressions(values)?;
-                Ok(TStmt::Assign(*span, plain(targets)?, values))
-            }
+            TStmt::Assign(span, targets, values) => assignment(*span, targets, values),
             TStmt::Call(span, targets, callee, arguments) => {
-                let arguments = expressions(arguments)?;
-                Ok(TStmt::Call(*span, plain(targets)?, *callee, arguments))
+                call(*span, targets, *callee, arguments)
             }
             TStmt::If(span, guard, then, otherwise) => {
-                let guard = guard.copy()?;
                 let then = statements(then)?;
                 let otherwise = statements(otherwise)?;
-                Ok(TStmt::If(*span, guard, then, otherwise))
+                conditional(*span, guard, then, otherwise)
             }
             TStmt::While(span, guard, claims, body) => {
-                let guard = guard.copy()?;
-                let claims = invariants(claims)?;
                 let body = statements(body)?;
-                Ok(TStmt::While(*span, guard, claims, body))
+                looped(*span, guard, claims, body)
             }
             TStmt::Break(span, further) => Ok(TStmt::Break(*span, *further)),
             TStmt::Goto(span, labels) => Ok(TStmt::Goto(*span, plain(labels)?)),

@@ -1,15 +1,17 @@
 //! The affine forms of whole-number expressions.
 
-ghost use Rattle.std.specs.Prelude.{◌≡◌, true, false, [], Err, IfOk, IsOk};
+ghost use Rattle.std.specs.Prelude.{◌≡◌, true, false, pos, negsuc, [], Err, IfOk, IsOk};
 ghost use Rattle.typed_tree.specs.TypedView.{expression};
-ghost use Rattle.typed_tree.specs.AffineForm.{form, is_affine, is_linear, forms_fit};
+ghost use Rattle.typed_tree.specs.AffineForm.{form, is_affine, is_linear, forms_fit, form_fits, number, times, operation};
 ghost use Rattle.typed_tree.specs.FormView.{IsFormAnswer};
+ghost use Rattle.typed_tree.specs.FormView.{form_of as form_view};
 
 use crate::columns::read_at;
 use crate::fault::AffineFault;
 use crate::form::Form;
 use crate::operations::{operation, times};
 use crate::types::{Affine, TExpr, TExprKind};
+use boogie_tree::Op;
 use std::alloc::Global;
 
 /// The affine form of a whole-number expression without `div` and `mod`: exact, its columns ascending, no coefficient 0.
@@ -43,18 +45,34 @@ fn form_of(alloc: Global, old: bool, expr: &TExpr) -> Result<Form, AffineFault>
         TExprKind::Truth(_) => Ok(Form::number(alloc, 0)),
         TExprKind::Var(column) => Ok(Form::once(alloc, read_at(old, *column))?),
         TExprKind::Old(inner) => form_of(alloc, true, inner),
-        TExprKind::Not(inner) => {
-            let _form = form_of(alloc, old, inner)?;
-            Ok(Form::number(alloc, 0))
-        }
-        TExprKind::Neg(inner) => {
-            let form = form_of(alloc, old, inner)?;
-            times(alloc, -1, &form)
-        }
+        TExprKind::Not(inner) => Ok(no_number(alloc, form_of(alloc, old, inner)?)),
+        TExprKind::Neg(inner) => opposite(alloc, form_of(alloc, old, inner)?),
         TExprKind::Bin(op, left, right) => {
             let first = form_of(alloc, old, left)?;
-            let second = form_of(alloc, old, right)?;
-            operation(alloc, *op, &first, &second)
+            combined(alloc, *op, first, form_of(alloc, old, right)?)
         }
     }
+}
+
+/// The form of a `!` before an operand of that form.
+fn no_number(alloc: Global, _operand: Form) -> Form
+    ensures { form_view result ≡ number (pos 0) }
+{
+    Form::number(alloc, 0)
+}
+
+/// The form of a `-` before an operand of that form.
+fn opposite(alloc: Global, operand: Form) -> Result<Form, AffineFault>
+    ensures value { IfOk result (λ f. form_view f ≡ times (negsuc 0) (form_view operand)) }
+    ensures too_big { result ≡ Err AffineFault.TooBig → form_fits (times (negsuc 0) (form_view operand)) ≡ false }
+{
+    times(alloc, -1, &operand)
+}
+
+/// The form of an operation on operands of these forms, which it takes.
+fn combined(alloc: Global, op: Op, first: Form, second: Form) -> Result<Form, AffineFault>
+    ensures value { IfOk result (λ f. form_view f ≡ operation op (form_view first) (form_view second)) }
+    ensures too_big { result ≡ Err AffineFault.TooBig → form_fits (operation op (form_view first) (form_view second)) ≡ false }
+{
+    operation(alloc, op, &first, &second)
 }

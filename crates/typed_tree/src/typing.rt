@@ -60,18 +60,46 @@ fn part_of(alloc: Global, scope: &Scope<'_>, old: bool, expr: &TExpr) -> Result<
         }
         TExprKind::Not(inner) => {
             let part = part_of(alloc, scope, old, inner)?;
-            negation(alloc, expr.span, &part)
+            negated(alloc, expr.span, part)
         }
         TExprKind::Neg(inner) => {
             let part = part_of(alloc, scope, old, inner)?;
-            opposite(alloc, expr.span, &part)
+            opposed(alloc, expr.span, part)
         }
         TExprKind::Bin(op, left, right) => {
             let first = part_of(alloc, scope, old, left)?;
             let second = part_of(alloc, scope, old, right)?;
-            operated(alloc, expr.span, *op, &first, &second, right)
+            combined(alloc, expr.span, *op, first, second, right)
         }
     }
+}
+
+/// `!` at that place before a part, which it takes.
+fn negated(alloc: Global, at: Span, part: Part) -> Result<Part, TypeFault>
+    ensures { IsNotAnswer at part result }
+{
+    negation(alloc, at, &part)
+}
+
+/// A `-` at that place before a part, which it takes.
+fn opposed(alloc: Global, at: Span, part: Part) -> Result<Part, TypeFault>
+    ensures { IsNegAnswer at part result }
+{
+    opposite(alloc, at, &part)
+}
+
+/// An operation at that place on two parts, which it takes.
+fn combined(
+    alloc: Global,
+    at: Span,
+    op: Op,
+    first: Part,
+    second: Part,
+    right: &TExpr,
+) -> Result<Part, TypeFault>
+    ensures { IsOperationAnswer at op (expression right.now) first second result }
+{
+    operated(alloc, at, op, &first, &second, right)
 }
 
 /// A number.
