@@ -12,3 +12,6 @@ pub mod LabelLaws
 pub mod ValidLaws
 pub mod SeenLaws
 pub mod GotoLaws
+mod LoopLaws
+mod CountLaws
+mod FrameLaws

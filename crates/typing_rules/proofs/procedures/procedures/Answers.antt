@@ -1,6 +1,16 @@
-use Rattle.std.proofs.Common.{rules}
+use Rattle.std.proofs.Common.{rules, sym, map}
 use Rattle.typing_rules.proofs.Faults.{item_fault}
+use Rattle.typed_tree.specs.TypedView as view
+use Rattle.typing_rules.specs.Rules.{is_procedure}
+use Rattle.typing_rules.proofs.LoopLaws.{all_step, all_end}
 use Rattle.typing_rules.proofs.procedures.procedures.Goals as goal
 
 pub returns-in_err-procedure : goal.returns-in_err-procedure
 returns-in_err-procedure c = search (rules, item_fault)
+
+pub loop-checked-preserved : goal.loop-checked-preserved
+loop-checked-preserved c =
+    all_step (is_procedure c.args.globals.now (map view.procedure c.args.procs.now)) view.procedure c.args.procs.now c.loop-checked.checked-index c.checked-item.result c.checked-item.result _ c.loop-checked-test.true c.checked-item.is c.in_ok-procedure.ensures c.loop-checked.invariant
+
+pub returns : goal.returns
+returns c = sym (all_end (is_procedure c.args.globals.now (map view.procedure c.args.procs.now)) view.procedure c.args.procs.now c.loop-checked.checked-index _ c.loop-checked-test.false c.loop-checked.invariant)

@@ -1,8 +1,12 @@
-use Rattle.std.proofs.Common.{ap, map, ◌∙◌}
+use Rattle.std.proofs.Common.{List, ap, map, sym, ◌∙◌}
 use Rattle.std.proofs.lemmas.Result.{err_from_is_err_and}
+use Rattle.typed_tree.specs.declared.types.TStmt.{TStmt}
 use Rattle.typed_tree.specs.TypedView as view
+use Rattle.typing_rules.specs.Rules.{is_block}
 use Rattle.typing_rules.specs.Judged.{context}
 use Rattle.typing_rules.proofs.StatementParts.{if_seen, while_seen, then_fault, if_judged, while_judged, each_fault, each_step, each_out}
+use Rattle.typing_rules.proofs.LoopLaws.{left_end}
+use Rattle.typing_rules.proofs.FrameLaws.{round_kept, list_kept}
 use Rattle.typing_rules.proofs.statements.+statements.Goals as goal
 
 pub each-returns-in_err-frame : goal.each-returns-in_err-frame
@@ -44,3 +48,23 @@ statement-returns-in-While t c =
     (map view.invariant c.in-While.field-2.items) (view.statements c.in-While.body.items) (view.statements c.deref-in-While.result.now)
     (ap view.statement c.in-While.is ∙ while_seen c.in-While.field-0 c.in-While.field-1 c.in-While.field-2 c.in-While.body)
     (ap view.statements c.deref-in-While.ensures.value) c.in_ok-head.ensures c.round.ensures
+
+pub statement-returns-in_err-head : goal.statement-returns-in_err-head
+statement-returns-in_err-head t c =
+    let p = err_from_is_err_and c.from_residual.result c.from_residual.ensures.1 in
+    rw (p.1, p.2) c.in_err-head.ensures
+
+pub round-returns : goal.round-returns
+round-returns t c =
+    round_kept c.args.frame c.in_ok-one_loop_more.field-0 c.in_ok-frame.frame (view.statements c.args.body.now) c.in_ok-one_loop_more.ensures c.in_ok-frame.ensures.0 c.in_ok-frame.ensures.1
+
+pub block-returns : goal.block-returns
+block-returns t c =
+    list_kept c.args.frame c.in_ok-entered.field-0 c.in_ok-inner.inner c.in_ok-left.field-0 c.count-count.result (view.statements c.args.listed.now)
+    c.count-count.ensures c.in_ok-entered.ensures c.in_ok-inner.ensures.0 c.in_ok-inner.ensures.1 c.in_ok-left.ensures
+
+pub each-returns : goal.each-returns
+each-returns t c = (
+  c.loop-checked.invariant.same,
+  sym (left_end (λ (xs : List TStmt). is_block (context c.args.frame) (view.statements xs)) c.args.listed.now c.loop-checked.checked-index _ c.loop-checked-test.false c.loop-checked.invariant.kept),
+)
