@@ -7,3 +7,6 @@ pub mod ToldLaws
 pub mod SeekLaws
 pub mod WayLaws
 pub mod LabelLaws
+mod EitherLaws
+mod CountSteps
+mod SearchSteps

@@ -305,24 +305,28 @@ fn statement_on<'a>(
     match statement {
         TStmt::If(_, _, then, otherwise) => {
             let after = past(program.procs(), here, statement, rest);
-            branch_on(program, point, here, after, then, otherwise, way)?;
+            branch_on(program, point, here, after, then, otherwise, way)
         }
         TStmt::While(_, _, conditions, inside) => loop_on(
             program, point, here, conditions, inside, way,
-        )?,
+        ),
         TStmt::Break(_, more) => {
             leave_loops(program.procs(), &mut point.todo, *more);
             settle(point);
+            Ok(())
         }
-        TStmt::Goto(_, labels) => jump(program, body, point, labels, way)?,
-        TStmt::Return(_) => leave(point),
-        TStmt::Havoc(_, columns) => havoc_on(program, point, columns.len())?,
-        TStmt::Call(_, _, _, _) => call_on(program, point, statement, here.id)?,
+        TStmt::Goto(_, labels) => jump(program, body, point, labels, way),
+        TStmt::Return(_) => {
+            leave(point);
+            Ok(())
+        }
+        TStmt::Havoc(_, columns) => havoc_on(program, point, columns.len()),
+        TStmt::Call(_, _, _, _) => call_on(program, point, statement, here.id),
         TStmt::Assert(_, _) | TStmt::Assume(_, _) | TStmt::Assign(_, _, _) | TStmt::Label(_) => {
             pass_call(program, point);
+            Ok(())
         }
     }
-    Ok(())
 }
 
 /// On from the first statement that is still to do.
