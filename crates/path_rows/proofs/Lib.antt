@@ -17,3 +17,6 @@ pub mod StageLemmas
 pub mod GoingLemmas
 pub mod DraftLemmas
 pub mod MakingLemmas
+mod BackSteps
+mod PushSteps
+mod CallSteps

@@ -1,6 +1,6 @@
 //! The rows of letters: with their columns renamed, columns that are equal, and the bounds of booleans.
 
-ghost use Rattle.std.specs.Prelude.{◌≡◌, ◌+◌, ◌<◌, ◌≤◌, ◌^◌, ◌++◌, IfOk, OnOk, map, length, slice_index};
+ghost use Rattle.std.specs.Prelude.{◌≡◌, ◌+◌, ◌<◌, ◌≤◌, ◌^◌, ◌++◌, ◌∷◌, [], IfOk, OnOk, map, length, slice_index};
 ghost use Rattle.std.specs.List.{AllByRecursion};
 ghost use Rattle.math_facts.specs.Terms.{IsBelow};
 ghost use Rattle.lin_rows.specs.Rows.{IsRow};
@@ -88,6 +88,23 @@ pub(crate) fn entry_rows(
     Ok(made)
 }
 
+/// Adds the row that says that a column times a number is at most a bound.
+fn add_bound(
+    alloc: Global,
+    column: Col,
+    coefficient: i128,
+    bound: i128,
+    made: &mut Vec<Row>,
+) -> Result<(), AllocError>
+    requires fits { SumsFit ((column, coefficient) ∷ []) bound }
+    requires valid { AllByRecursion IsRow made.old.items }
+    ensures value { OnOk result (made.new.items ≡ made.old.items ++ row_of ((column, coefficient) ∷ []) RowKind.Le bound ∷ []) }
+    ensures valid { AllByRecursion IsRow made.new.items }
+{
+    made.push(fitting_row(alloc, &[(column, coefficient)], RowKind::Le, bound)?)?;
+    Ok(())
+}
+
 /// Adds the bounds of a column, if it is a boolean one.
 fn add_bounds(
     alloc: Global,
@@ -101,9 +118,8 @@ fn add_bounds(
 {
     match ty {
         Some(Ty::Bool) => {
-            made.push(fitting_row(alloc, &[(column, -1)], RowKind::Le, 0)?)?;
-            made.push(fitting_row(alloc, &[(column, 1)], RowKind::Le, 1)?)?;
-            Ok(())
+            add_bound(alloc, column, -1, 0, made)?;
+            add_bound(alloc, column, 1, 1, made)
         }
         Some(Ty::Int) | None => Ok(()),
     }
