@@ -86,13 +86,42 @@ pub(crate) fn node_table(
     ensures value { IfOk result (λ t. map (λ v. v.items) t.items ≡ table_along (stamps_of icfg.now path.now.word).columns (positions_of icfg.now path.now.word) (plain_nodes nodes.now) (root_of icfg.now path.now.word ∷ [])) }
     ensures past { result ≡ Err ItpFault.Past → (t : Tree) → prefix_of t ≡ plain_nodes nodes.now → SumsFit (stamps_of icfg.now path.now.word).columns (positions_of icfg.now path.now.word) (root_of icfg.now path.now.word) t → ⊥ }
 {
+    let mut branches = root_branches(alloc, path, layout)?;
+    branch_table(alloc, icfg, path, layout, &mut branches, nodes)
+}
+
+/// The branch of no cut, whose rows are those of a word, tightened, with their stamps.
+fn root_branches(alloc: Global, path: &PathSystem, layout: &Layout) -> Result<Branches, AllocError>
+    requires { length layout.now.stamps.rows.items ≡ length path.now.rows }
+    ensures value { IfOk result (λ b. Await b (record { rows = map tightened path.now.rows; stamps = layout.now.stamps.rows.items } ∷ [])) }
+    ensures valid { OnOk result (AllByRecursion IsRow (map tightened path.now.rows)) }
+{
     let rows = tightened(alloc, &path.system().rows)?;
     let stamps = Vec::from_slice(alloc, &layout.stamps.rows)?;
-    let mut branches = Branches::root(alloc, rows, stamps)?;
+    Branches::root(alloc, rows, stamps)
+}
+
+/// For each of the nodes the node that stands for it at each position, where the branch of no cut waits.
+fn branch_table(
+    alloc: Global,
+    icfg: &Icfg,
+    path: &PathSystem,
+    layout: &Layout,
+    branches: &mut Branches,
+    nodes: &[Node],
+) -> Result<Vec<Vec<PredNode>>, ItpFault>
+    requires path { IsPathOf icfg.now path.now }
+    requires layout { IsLayout icfg.now path.now.word layout.now }
+    requires refutes { RefutesRows (plain_nodes nodes.now) path.now.rows }
+    requires waits { Await branches.old (root_of icfg.now path.now.word ∷ []) }
+    requires valid { AllByRecursion IsRow (root_of icfg.now path.now.word).rows }
+    ensures value { IfOk result (λ t. map (λ v. v.items) t.items ≡ table_along (stamps_of icfg.now path.now.word).columns (positions_of icfg.now path.now.word) (plain_nodes nodes.now) (root_of icfg.now path.now.word ∷ [])) }
+    ensures past { result ≡ Err ItpFault.Past → (t : Tree) → prefix_of t ≡ plain_nodes nodes.now → SumsFit (stamps_of icfg.now path.now.word).columns (positions_of icfg.now path.now.word) (root_of icfg.now path.now.word) t → ⊥ }
+{
     let mut table = Vec::with_capacity(alloc, nodes.len())?;
     for i in 0..nodes.len() {
         branches.go_on()?;
-        table.push(node_row(alloc, icfg, path, layout, &mut branches, &nodes[i])?)?;
+        table.push(node_row(alloc, icfg, path, layout, branches, &nodes[i])?)?;
     }
     Ok(table)
 }
