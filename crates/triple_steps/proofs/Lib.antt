@@ -5,3 +5,4 @@ pub mod BoundLaws
 pub mod ReadingLaws
 pub mod LetterLaws
 pub mod StepLaws
+mod JoinLaws

@@ -70,9 +70,6 @@ fn inside_sections(
     ensures roles { IfOk result (λ ss. (g : Graph) (w : List Letter) (t : Tree) (v : View) → roles_in g w t v ss.items ≡ claim_roles g w t v 0 (slice_get v.claims 0) ++ branch_rows reading.now.rows rows ++ claim_roles g w t v 1 (slice_get v.claims 1) ++ before_bounds (suc reading.now.letters) frame.now ++ branch_rows (reading.now.rows + rows) (length (bounds 0 (types_at frame.now written.now)))) }
     ensures stand { IfOk result (λ ss. ClaimsStand ss.items (0 ∷ 1 ∷ []) (0 ∷ rows ∷ [])) }
 {
-    let before = before_bounds(frame, sum(reading.letters, 1)?)?;
-    let first = sum(reading.rows, rows)?;
-    let count = bounds_at(frame, written)?;
     let mut sections = Vec::new(alloc);
     sections.push(Section::Claim(0))?;
     sections.push(Section::Rows {
@@ -80,9 +77,26 @@ fn inside_sections(
         count: rows,
     })?;
     sections.push(Section::Claim(1))?;
+    add_inside_bounds(&mut sections, reading, frame, written, rows)?;
+    Ok(sections)
+}
+
+/// Adds the bounds before an inside letter, and of what it writes.
+fn add_inside_bounds(
+    sections: &mut Vec<Section>,
+    reading: &Reading,
+    frame: &[(Column, VarInfo)],
+    written: &[u32],
+    rows: usize,
+) -> Result<(), AllocError>
+    ensures { OnOk result (AddsRoles sections.old.items sections.new.items (before_bounds (suc reading.now.letters) frame.now ++ branch_rows (reading.now.rows + rows) (length (bounds 0 (types_at frame.now written.now))))) }
+{
+    let before = before_bounds(frame, sum(reading.letters, 1)?)?;
+    let first = sum(reading.rows, rows)?;
+    let count = bounds_at(frame, written)?;
     sections.push(before)?;
     sections.push(Section::Rows { first, count })?;
-    Ok(sections)
+    Ok(())
 }
 
 /// That of a call with so many rows, which returns or does not.
@@ -146,19 +160,48 @@ fn call_sections(
     ensures roles { IfOk result (λ ss. (g : Graph) (w : List Letter) (t : Tree) (v : View) → roles_in g w t v ss.items ≡ claim_roles g w t v 0 (slice_get v.claims 0) ++ map target_tie (globals_of callee.now) ++ (if returns then map (λ o. opposite_tie o.1) (olds_of callee.now) else branch_rows (reading.now.rows + rows) (length (olds_of callee.now))) ++ (if returns then spares rows else branch_rows reading.now.rows rows) ++ claim_roles g w t v 1 (slice_get v.claims 1) ++ (if returns then spares (bounds_in caller.now) else before_bounds (suc reading.now.letters) caller.now) ++ callee_bounds (reading.now.rows + rows + length (old_part callee.now)) (reading.now.rows + rows + length (old_part callee.now) + bounds_in (locals_of callee.now)) callee.now) }
     ensures stand { IfOk result (λ ss. ClaimsStand ss.items (0 ∷ 1 ∷ []) (call_counts callee.now rows)) }
 {
-    let entries = sum(reading.rows, rows)?;
-    let local = sum(entries, old_count(callee))?;
-    let old = sum(local, local_bounds(callee)?)?;
-    let before = caller_bounds(returns, caller, sum(reading.letters, 1)?)?;
     let mut sections = Vec::new(alloc);
     sections.push(Section::Claim(0))?;
-    tie_globals(alloc, &mut sections, callee)?;
-    add_entries(alloc, &mut sections, returns, entries, callee)?;
-    sections.push(call_rows(returns, reading.rows, rows))?;
+    tie_call(alloc, &mut sections, reading, returns, callee, rows)?;
     sections.push(Section::Claim(1))?;
-    sections.push(before)?;
-    add_callee_bounds(&mut sections, callee, local, old)?;
+    add_call_bounds(&mut sections, reading, returns, caller, callee, rows)?;
     Ok(sections)
+}
+
+/// Adds the rows of a call that tie its frames, and its own behind them.
+fn tie_call(
+    alloc: Global,
+    sections: &mut Vec<Section>,
+    reading: &Reading,
+    returns: bool,
+    callee: &[(Column, VarInfo)],
+    rows: usize,
+) -> Result<(), AllocError>
+    ensures { OnOk result (AddsRoles sections.old.items sections.new.items (map target_tie (globals_of callee.now) ++ (if returns then map (λ o. opposite_tie o.1) (olds_of callee.now) else branch_rows (reading.now.rows + rows) (length (olds_of callee.now))) ++ (if returns then spares rows else branch_rows reading.now.rows rows))) }
+{
+    let entries = sum(reading.rows, rows)?;
+    tie_globals(alloc, sections, callee)?;
+    add_entries(alloc, sections, returns, entries, callee)?;
+    sections.push(call_rows(returns, reading.rows, rows))?;
+    Ok(())
+}
+
+/// Adds the bounds of a call's frames.
+fn add_call_bounds(
+    sections: &mut Vec<Section>,
+    reading: &Reading,
+    returns: bool,
+    caller: &[(Column, VarInfo)],
+    callee: &[(Column, VarInfo)],
+    rows: usize,
+) -> Result<(), AllocError>
+    ensures { OnOk result (AddsRoles sections.old.items sections.new.items ((if returns then spares (bounds_in caller.now) else before_bounds (suc reading.now.letters) caller.now) ++ callee_bounds (reading.now.rows + rows + length (old_part callee.now)) (reading.now.rows + rows + length (old_part callee.now) + bounds_in (locals_of callee.now)) callee.now)) }
+{
+    let local = sum(sum(reading.rows, rows)?, old_count(callee))?;
+    let old = sum(local, local_bounds(callee)?)?;
+    let before = caller_bounds(returns, caller, sum(reading.letters, 1)?)?;
+    sections.push(before)?;
+    add_callee_bounds(sections, callee, local, old)
 }
 
 /// Adds the entry rows of a callee, the first of which is this row of the word. Where the call returns the sources are not added,
@@ -228,15 +271,19 @@ pub(crate) fn back_step(
     ensures fit { IfOk result (λ s. FitColumns total s.columns) }
 {
     let written = written(alloc, caller, targets)?;
-    let frames = sum(callee.len(), caller.len())?;
-    let helpers_at = sum(frames, written.len())?;
-    let made = made_by_call(alloc, 0, helpers_at, helpers, callee)?;
-    let columns = Columns::of(callee.len(), call.made, made, total)?;
-    let sections = back_sections(alloc, call, caller, callee, rows, targets, &written)?;
     let target = sum(reading.letters, 1)?;
+    let columns = back_columns(
+        alloc,
+        call,
+        caller.len(),
+        callee,
+        helpers,
+        written.len(),
+        total,
+    )?;
+    let sections = back_sections(alloc, call, caller, callee, rows, targets, &written)?;
     let mut sources = Vec::new(alloc);
-    sources.push(reading.letters)?;
-    sources.push(call.at)?;
+    add_sources(&mut sources, reading, call)?;
     Ok(Step {
         sources,
         target,
@@ -244,6 +291,39 @@ pub(crate) fn back_step(
         columns,
         sections,
     })
+}
+
+/// Where the columns of a word stand that has so many, where the caller's frame has so many and so many are written.
+fn back_columns(
+    alloc: Global,
+    call: OpenCall,
+    caller: usize,
+    callee: &[(Column, VarInfo)],
+    helpers: u32,
+    written: usize,
+    total: usize,
+) -> Result<Columns, AllocError>
+    ensures at { IfOk result (λ c. c.at ≡ length callee.now) }
+    ensures first { IfOk result (λ c. c.first ≡ call.made) }
+    ensures made { IfOk result (λ c. c.made.items ≡ made_by_call 0 (length callee.now + caller + written) helpers callee.now) }
+    ensures fit { IfOk result (FitColumns total) }
+{
+    let helpers_at = sum(sum(callee.len(), caller)?, written)?;
+    let made = made_by_call(alloc, 0, helpers_at, helpers, callee)?;
+    Columns::of(callee.len(), call.made, made, total)
+}
+
+/// Adds the positions before a return and before its call.
+fn add_sources(
+    sources: &mut Vec<usize>,
+    reading: &Reading,
+    call: OpenCall,
+) -> Result<(), AllocError>
+    ensures { OnOk result (sources.new.items ≡ sources.old.items ++ reading.now.letters ∷ call.at ∷ []) }
+{
+    sources.push(reading.letters)?;
+    sources.push(call.at)?;
+    Ok(())
 }
 
 /// Its rows, where it writes these columns.
@@ -260,23 +340,53 @@ fn back_sections(
     ensures roles { IfOk result (λ ss. (g : Graph) (w : List Letter) (t : Tree) (v : View) → roles_in g w t v ss.items ≡ claim_roles g w t v 0 (slice_get v.claims 0) ++ claim_roles g w t v 1 (slice_get v.claims 1) ++ map source_tie (constants_of callee.now) ++ map (λ o. source_tie o.0) (olds_of callee.now) ++ branch_rows call.rows rows ++ map target_tie (filter (λ c. not (is_listed targets.now c)) (variables_of caller.now)) ++ map (λ p. target_tie p.0) (taken targets.now (results_of callee.now)) ++ claim_roles g w t v 2 (slice_get v.claims 2) ++ spares (bounds_in callee.now) ++ before_bounds (suc call.at) caller.now ++ spares (length (bounds 0 (types_at caller.now written.now)))) }
     ensures stand { IfOk result (λ ss. ClaimsStand ss.items (0 ∷ 1 ∷ 2 ∷ []) (back_counts caller.now callee.now targets.now rows)) }
 {
-    let exit = bounds_in(callee)?;
-    let before = before_bounds(caller, sum(call.at, 1)?)?;
-    let after = bounds_at(caller, written)?;
     let mut sections = Vec::new(alloc);
     sections.push(Section::Claim(0))?;
     sections.push(Section::Claim(1))?;
-    tie_constants(alloc, &mut sections, callee)?;
-    tie_olds(alloc, &mut sections, callee)?;
+    tie_back(alloc, &mut sections, call, caller, callee, rows, targets)?;
+    sections.push(Section::Claim(2))?;
+    add_back_bounds(&mut sections, call, caller, callee, written)?;
+    Ok(sections)
+}
+
+/// Adds the rows of a return that tie its frames, with those of its call among them.
+fn tie_back(
+    alloc: Global,
+    sections: &mut Vec<Section>,
+    call: OpenCall,
+    caller: &[(Column, VarInfo)],
+    callee: &[(Column, VarInfo)],
+    rows: usize,
+    targets: &[u32],
+) -> Result<(), AllocError>
+    requires { Take caller.now callee.now targets.now (results_of callee.now) }
+    ensures { OnOk result (AddsRoles sections.old.items sections.new.items (map source_tie (constants_of callee.now) ++ map (λ o. source_tie o.0) (olds_of callee.now) ++ branch_rows call.rows rows ++ map target_tie (filter (λ c. not (is_listed targets.now c)) (variables_of caller.now)) ++ map (λ p. target_tie p.0) (taken targets.now (results_of callee.now)))) }
+{
+    tie_constants(alloc, sections, callee)?;
+    tie_olds(alloc, sections, callee)?;
     sections.push(Section::Rows {
         first: call.rows,
         count: rows,
     })?;
-    tie_kept(alloc, &mut sections, caller, targets)?;
-    tie_results(&mut sections, caller, callee, targets)?;
-    sections.push(Section::Claim(2))?;
+    tie_kept(alloc, sections, caller, targets)?;
+    tie_results(sections, caller, callee, targets)
+}
+
+/// Adds the bounds of a return's frames, where it writes these columns.
+fn add_back_bounds(
+    sections: &mut Vec<Section>,
+    call: OpenCall,
+    caller: &[(Column, VarInfo)],
+    callee: &[(Column, VarInfo)],
+    written: &[u32],
+) -> Result<(), AllocError>
+    ensures { OnOk result (AddsRoles sections.old.items sections.new.items (spares (bounds_in callee.now) ++ before_bounds (suc call.at) caller.now ++ spares (length (bounds 0 (types_at caller.now written.now))))) }
+{
+    let exit = bounds_in(callee)?;
+    let before = before_bounds(caller, sum(call.at, 1)?)?;
+    let after = bounds_at(caller, written)?;
     sections.push(Section::Spare(exit))?;
     sections.push(before)?;
     sections.push(Section::Spare(after))?;
-    Ok(sections)
+    Ok(())
 }

@@ -1,11 +1,13 @@
 //! Where a word has come to, letter by letter.
 
-ghost use Rattle.std.specs.Prelude.{◌≡◌, IfOk, OnOk, List, IsSome};
+ghost use Rattle.std.specs.Prelude.{◌≡◌, ◌+◌, IfOk, OnOk, List, IsSome, filter, length};
 ghost use Rattle.nwa_base.specs.declared.letters.Letter.{Letter};
+ghost use Rattle.letter_acts.specs.Frames.{is_variable};
 ghost use Rattle.letter_acts.specs.Acts.{act_of};
 ghost use Rattle.letter_acts.specs.Invariant.{Graph, alphabet_of};
+ghost use Rattle.path_rows.specs.Versions.{locals_of, old_part};
 ghost use Rattle.path_rows.specs.Paths.{start_frame};
-ghost use Rattle.nested_refutations.specs.Numbers.{here, read_on};
+ghost use Rattle.nested_refutations.specs.Numbers.{here, read_on, bounds_in};
 
 use crate::bounds::{bounds_at, bounds_in, local_bounds, old_bounds};
 use crate::columns::sum;
@@ -98,13 +100,8 @@ impl Reading {
     ) -> Result<(), AllocError>
         ensures { OnOk result (PassesCall self.old callee.now helpers rows self.new) }
     {
-        let bounds = sum(local_bounds(callee)?, old_bounds(callee)?)?;
-        let rows = sum(self.rows, sum(rows, sum(variable_count(callee), bounds)?)?)?;
-        let columns = sum(
-            local_count(callee),
-            sum(helpers as usize, old_count(callee))?,
-        )?;
-        let made = sum(self.made, columns)?;
+        let rows = sum(self.rows, call_rows(callee, rows)?)?;
+        let made = sum(self.made, call_columns(callee, helpers)?)?;
         let letters = sum(self.letters, 1)?;
         self.calls.push(OpenCall {
             at: self.letters,
@@ -125,4 +122,22 @@ impl Reading {
         let _ = self.calls.pop();
         Ok(())
     }
+}
+
+/// How many rows a call with so many of its own makes.
+fn call_rows(callee: &[(Column, VarInfo)], rows: usize) -> Result<usize, AllocError>
+    ensures { IfOk result (λ n. n ≡ rows + (length (filter is_variable callee.now) + (bounds_in (locals_of callee.now) + bounds_in (old_part callee.now)))) }
+{
+    let bounds = sum(local_bounds(callee)?, old_bounds(callee)?)?;
+    sum(rows, sum(variable_count(callee), bounds)?)
+}
+
+/// How many columns a call with so many helpers makes.
+fn call_columns(callee: &[(Column, VarInfo)], helpers: u32) -> Result<usize, AllocError>
+    ensures { IfOk result (λ n. n ≡ length (locals_of callee.now) + (helpers + length (old_part callee.now))) }
+{
+    sum(
+        local_count(callee),
+        sum(helpers as usize, old_count(callee))?,
+    )
 }
