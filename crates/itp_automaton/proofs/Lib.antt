@@ -8,3 +8,5 @@ pub mod AnswerLaws
 pub mod SettlingLaws
 pub mod SaturatedLaws
 pub mod RunLaws
+mod PlaceSteps
+mod AssembledSteps

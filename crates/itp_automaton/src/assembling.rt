@@ -98,6 +98,28 @@ fn add_edges(
     Ok(true)
 }
 
+/// The edges of the proofs over the states, with the start and final ones. `None` exactly where one of them names a predicate
+/// that is no state.
+fn nwa_of(
+    alloc: Global,
+    icfg: &Icfg,
+    states: &[Scoped],
+    proofs: &[Proof],
+) -> Result<Option<Nwa>, AllocError>
+    requires truths { (p : ℕ) (b : Bool) → p < length icfg.now.frames → Member states.now (truth_of p b) }
+    requires proofs { AllByRecursion (IsProofFor (alphabet_of icfg.now)) proofs.now }
+    ensures valid { OnOk result (Keeps icfg.now) }
+    ensures found { IfOk result (λ o. IsSome o ↔ AllByRecursion (λ p. NamesStates states.now p.triple) proofs.now) }
+    ensures built { IfOk result (λ o. IfSome o (IsBuilt icfg.now states.now proofs.now)) }
+{
+    let mut nwa = begun(alloc, icfg, states)?;
+    if add_edges(icfg, states, &mut nwa, proofs)? {
+        Ok(Some(nwa))
+    } else {
+        Ok(None)
+    }
+}
+
 /// The automaton of the states whose edges are those of the proofs, which are for the graph. `None` exactly where one of them
 /// names a predicate that is no state.
 pub(crate) fn assembled(
@@ -114,10 +136,8 @@ pub(crate) fn assembled(
     ensures proofs { IfOk result (λ o. IfSome o (λ c. c.proofs ≡ proofs.items)) }
     ensures built { IfOk result (λ o. IfSome o (λ c. IsBuilt icfg.now states.items proofs.items c.automaton)) }
 {
-    let mut nwa = begun(alloc, icfg, &states)?;
-    if add_edges(icfg, &states, &mut nwa, &proofs)? {
-        Ok(Some(Certified::new(states, proofs, nwa)))
-    } else {
-        Ok(None)
+    match nwa_of(alloc, icfg, &states, &proofs)? {
+        Some(nwa) => Ok(Some(Certified::new(states, proofs, nwa))),
+        None => Ok(None),
     }
 }

@@ -2,13 +2,18 @@ use Rattle.std.proofs.Common.{◌≡◌, ℕ, List, length, Option, IsSome, IfSo
 use Rattle.std.proofs.lemmas.Bool.{false≢true}
 use Rattle.letter_acts.specs.Invariant.{alphabet_of}
 use Rattle.triple_rows.specs.declared.triples.Scoped.{Scoped}
-use Rattle.itp_automaton.specs.Certified.{Certificate}
+use Rattle.itp_automaton.specs.Certified.{Certificate, IsCertified}
 use Rattle.itp_automaton.specs.Making.{AreStates}
 use Rattle.itp_automaton.specs.Settling.{Adds, SettledBelow}
 use Rattle.itp_automaton.specs.Edges.{IsBuilt}
 use Rattle.itp_automaton.proofs.MakingLaws.{built_states, frame_count}
 use Rattle.itp_automaton.proofs.SaturatedLaws.{all_grounded, grounded_proofs, grounded_named, built_saturated, old_edges}
 use Rattle.itp_automaton.proofs.saturating.saturate.Goals as goal
+
+pub assembled-requires-clause-truths : goal.assembled-requires-clause-truths
+assembled-requires-clause-truths g c =
+    let count = frame_count c.frames.result.now c.args.icfg.now.frames c.frames.ensures.value in
+    (subst (λ (n : ℕ). AreStates n c.args.preds.items c.in_ok-states.states.items) count c.in_ok-states.ensures).truths
 
 pub assembled-requires-clause-proofs : goal.assembled-requires-clause-proofs
 assembled-requires-clause-proofs g c =
@@ -26,6 +31,10 @@ unreachable-requires g c =
     let some = c.in_ok-certified.ensures.found.1 (grounded_named (alphabet_of c.args.icfg.now) c.in_ok-states.states.items c.in_ok-all.all.items
     (adds.grounded (all_grounded c.args.icfg.now c.args.preds.items c.in_ok-states.states.items c.args.proofs.items states c.requires.proofs c.requires.named))) in
     false≢true (subst (λ (o : Option Certificate). IsSome o) c.in-None.is some)
+
+pub returns-clause-certified : goal.returns-clause-certified
+returns-clause-certified g c =
+    subst (λ (o : Option Certificate). IfSome o (IsCertified (alphabet_of c.args.icfg.now))) c.in-Some.is c.in_ok-certified.ensures.certified
 
 pub returns-clause-saturated : goal.returns-clause-saturated
 returns-clause-saturated g c =

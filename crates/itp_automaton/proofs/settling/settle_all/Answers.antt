@@ -1,15 +1,29 @@
 use Rattle.std.proofs.Common.{◌≡◌, ◌∙◌, ℕ, List, length, sym, ap, subst, arith}
 use Rattle.std.proofs.lemmas.List.{length-map}
+use Rattle.std.specs.List.{AllByRecursion}
 use Rattle.letter_acts.specs.declared.acts.Act.{Act}
 use Rattle.letter_acts.specs.Acts.{PlainAct, plain_act, plain_acts}
 use Rattle.letter_acts.specs.Invariant.{alphabet_of}
 use Rattle.itp_automaton.specs.declared.settling.Work.{Work}
-use Rattle.itp_automaton.specs.Settling.{DueBelow}
-use Rattle.itp_automaton.proofs.SettlingLaws.{waiting_agree, goes_more, due_more, all_settled}
+use Rattle.itp_automaton.specs.Settling.{MayWait, DueBelow}
+use Rattle.itp_automaton.proofs.SettlingLaws.{waiting_agree, goes_same, goes_more, due_more, all_settled}
 use Rattle.itp_automaton.proofs.settling.settle_all.Goals as goal
 
 act_count : (acts : List Act) (plain : List PlainAct) → plain_acts acts ≡ plain → length acts ≡ length plain
 act_count acts plain e = sym (length-map acts plain_act) ∙ ap length e
+
+pub loop-letter-init : goal.loop-letter-init
+loop-letter-init g c =
+    let al = alphabet_of c.args.icfg.now in
+    let states = c.args.states.now in
+    let first : Work = record { waiting = c.new.result; proofs = c.args.proofs } in
+    record {
+      goes = goes_same al states first (subst (AllByRecursion (MayWait al states)) (sym c.new.ensures.items) tt);
+      due = λ t l n a. absurd (omega (arith, l));
+    }
+
+pub settle_letter-requires-clause-waiting : goal.settle_letter-requires-clause-waiting
+settle_letter-requires-clause-waiting g c κs o = c.loop-letter.invariant.goes.waiting
 
 pub loop-letter-preserved : goal.loop-letter-preserved
 loop-letter-preserved g c =
