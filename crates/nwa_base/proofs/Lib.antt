@@ -8,3 +8,4 @@ pub mod WayLemmas
 pub mod ReadingLemmas
 pub mod TracingLemmas
 pub mod StateLemmas
+mod LoopLemmas

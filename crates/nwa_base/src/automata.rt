@@ -57,15 +57,39 @@ impl Nwa {
     pub fn copy(&self) -> Result<Nwa, AllocError>
         ensures { IfOk result (λ m. m ≡ self.now) }
     {
+        let mut finals = Finals::new(self.alloc);
+        let mut insides = Edges::new(self.alloc);
+        let mut calls = Calls::new(self.alloc);
+        let mut backs = BackEdges::new(self.alloc);
+        self.add_to(&mut finals, &mut insides, &mut calls, &mut backs)?;
         Ok(Nwa {
             alloc: self.alloc,
             states: self.states,
             start: self.start,
-            finals: self.finals.copy(self.alloc)?,
-            insides: self.insides.copy(self.alloc)?,
-            calls: self.calls.copy(self.alloc)?,
-            backs: self.backs.copy(self.alloc)?,
+            finals,
+            insides,
+            calls,
+            backs,
         })
+    }
+
+    /// Adds the final states and the edges to others, at their ends.
+    fn add_to(
+        &self,
+        finals: &mut Finals,
+        insides: &mut Edges,
+        calls: &mut Calls,
+        backs: &mut BackEdges,
+    ) -> Result<(), AllocError>
+        ensures finals { OnOk result (finals.new ≡ finals.old ++ self.now.finals) }
+        ensures insides { OnOk result (insides.new ≡ insides.old ++ self.now.insides) }
+        ensures calls { OnOk result (calls.new ≡ calls.old ++ self.now.calls) }
+        ensures backs { OnOk result (backs.new ≡ backs.old ++ self.now.backs) }
+    {
+        finals.add_all(self.finals.as_slice())?;
+        insides.add_all(self.insides.as_slice())?;
+        calls.add_all(self.calls.as_slice())?;
+        backs.add_all(self.backs.as_slice())
     }
 
     /// How many states there are.

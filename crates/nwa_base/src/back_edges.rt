@@ -1,6 +1,6 @@
 //! Return edges, found by their state and by their states and letter.
 
-ghost use Rattle.std.specs.Prelude.{◌≡◌, [], ◌∷◌, ◌++◌, IfOk, OnOk, OnErr};
+ghost use Rattle.std.specs.Prelude.{◌≡◌, [], ◌∷◌, ◌++◌, OnOk, OnErr};
 
 use crate::groups::Groups;
 use crate::letters::Letter;
@@ -93,18 +93,17 @@ impl BackEdges {
             self.by_pair.drop_last(&(edge.0, edge.1));
             return Err(fault);
         }
-        self.list.push(edge)?;
+        self.list.push_reserved(edge);
         Ok(())
     }
 
-    /// Equal edges.
-    pub fn copy(&self, alloc: Global) -> Result<BackEdges, AllocError>
-        ensures { IfOk result (λ e. e ≡ self.now) }
+    /// Adds edges at the end.
+    pub fn add_all(&mut self, edges: &[(u32, u32, Letter, u32)]) -> Result<(), AllocError>
+        ensures { OnOk result (self.new ≡ self.old ++ edges.now) }
     {
-        let mut copy = BackEdges::new(alloc);
-        for &edge in self.as_slice() {
-            copy.push(edge)?;
+        for &edge in edges {
+            self.push(edge)?;
         }
-        Ok(copy)
+        Ok(())
     }
 }

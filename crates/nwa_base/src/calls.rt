@@ -1,6 +1,6 @@
 //! Call edges, which are found also by the state that they lead to.
 
-ghost use Rattle.std.specs.Prelude.{◌≡◌, [], ◌∷◌, ◌++◌, IfOk, OnOk, OnErr};
+ghost use Rattle.std.specs.Prelude.{◌≡◌, [], ◌∷◌, ◌++◌, OnOk, OnErr};
 
 use crate::edges::Edges;
 use crate::groups::Groups;
@@ -83,14 +83,13 @@ impl Calls {
         Ok(())
     }
 
-    /// Equal edges.
-    pub fn copy(&self, alloc: Global) -> Result<Calls, AllocError>
-        ensures { IfOk result (λ c. c ≡ self.now) }
+    /// Adds edges at the end.
+    pub fn add_all(&mut self, edges: &[(u32, Letter, u32)]) -> Result<(), AllocError>
+        ensures { OnOk result (self.new ≡ self.old ++ edges.now) }
     {
-        let mut copy = Calls::new(alloc);
-        for &edge in self.as_slice() {
-            copy.push(edge)?;
+        for &edge in edges {
+            self.push(edge)?;
         }
-        Ok(copy)
+        Ok(())
     }
 }

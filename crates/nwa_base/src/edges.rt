@@ -1,6 +1,6 @@
 //! Edges of one kind, found by their state and by their state and letter.
 
-ghost use Rattle.std.specs.Prelude.{◌≡◌, [], ◌∷◌, ◌++◌, IfOk, OnOk, OnErr};
+ghost use Rattle.std.specs.Prelude.{◌≡◌, [], ◌∷◌, ◌++◌, OnOk, OnErr};
 
 use crate::groups::Groups;
 use crate::letters::Letter;
@@ -77,18 +77,17 @@ impl Edges {
             self.by_state.drop_last(&edge.0);
             return Err(fault);
         }
-        self.list.push(edge)?;
+        self.list.push_reserved(edge);
         Ok(())
     }
 
-    /// Equal edges.
-    pub fn copy(&self, alloc: Global) -> Result<Edges, AllocError>
-        ensures { IfOk result (λ e. e ≡ self.now) }
+    /// Adds edges at the end.
+    pub fn add_all(&mut self, edges: &[(u32, Letter, u32)]) -> Result<(), AllocError>
+        ensures { OnOk result (self.new ≡ self.old ++ edges.now) }
     {
-        let mut copy = Edges::new(alloc);
-        for &edge in self.as_slice() {
-            copy.push(edge)?;
+        for &edge in edges {
+            self.push(edge)?;
         }
-        Ok(copy)
+        Ok(())
     }
 }

@@ -1,6 +1,6 @@
 //! Final states, in the order in which they were set.
 
-ghost use Rattle.std.specs.Prelude.{◌≡◌, ◌↔◌, [], ◌∷◌, ◌++◌, IsTrue, IfOk, OnOk, OnErr};
+ghost use Rattle.std.specs.Prelude.{◌≡◌, ◌↔◌, [], ◌∷◌, ◌++◌, IsTrue, OnOk, OnErr};
 
 use std::alloc::{AllocError, Global};
 use std::collections::HashSet;
@@ -59,18 +59,17 @@ impl Finals {
     {
         self.list.reserve(1)?;
         self.set.insert(q)?;
-        self.list.push(q)?;
+        self.list.push_reserved(q);
         Ok(())
     }
 
-    /// Equal states.
-    pub fn copy(&self, alloc: Global) -> Result<Finals, AllocError>
-        ensures { IfOk result (λ f. f ≡ self.now) }
+    /// Adds states at the end.
+    pub fn add_all(&mut self, states: &[u32]) -> Result<(), AllocError>
+        ensures { OnOk result (self.new ≡ self.old ++ states.now) }
     {
-        let mut copy = Finals::new(alloc);
-        for &q in self.as_slice() {
-            copy.push(q)?;
+        for &q in states {
+            self.push(q)?;
         }
-        Ok(copy)
+        Ok(())
     }
 }

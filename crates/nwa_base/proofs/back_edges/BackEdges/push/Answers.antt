@@ -17,4 +17,4 @@ invariant_of-self-in-Err-add c =
 pub invariant_of-self-2 : goal.invariant_of-self-2
 invariant_of-self-2 c =
     back_indexed_push _ _ _ _ _ _ _ _ c.args.edge c.self.invariant
-    (c.in_ok-push.ensures.items ∙ ap (λ l. l ++ c.args.edge ∷ []) c.reserve.ensures.items) c.in_ok-add.ensures.ok c.in_default.ensures.ok c.in_default-add.ensures.ok
+    (c.push_reserved.ensures.items ∙ ap (λ l. l ++ c.args.edge ∷ []) c.reserve.ensures.items) c.in_ok-add.ensures.ok c.in_default.ensures.ok c.in_default-add.ensures.ok
