@@ -1,13 +1,12 @@
 //! The search for an accepted word.
 
-ghost use Rattle.std.specs.Prelude.{◌≡◌, None, IfOk};
+ghost use Rattle.std.specs.Prelude.{None, IfOk, OnOk};
 ghost use Rattle.nwa_base.specs.Members.{Member};
-ghost use Rattle.nwa_base.specs.Automata.{IsAutomaton};
 ghost use Rattle.nwa_emptiness.specs.Found.{IsFound};
-ghost use Rattle.nwa_emptiness.specs.Search.{IsSearch};
+ghost use Rattle.nwa_emptiness.specs.Search.{IsSearch, IsPoint, Keeps};
 ghost use Rattle.nwa_emptiness.specs.Seen.{seen};
 
-use crate::search::{Link, Search, Way};
+use crate::search::{Link, Point, Search, Way};
 use crate::spelling::letters_to;
 use crate::stepping::expand;
 use nwa_base::{Nwa, Word, word};
@@ -27,32 +26,59 @@ pub enum Found {
 pub fn find(alloc: Global, nwa: &Nwa, order: u32) -> Result<Found, AllocError>
     ensures { IfOk result (IsFound nwa.now) }
 {
-    // one pass for each pair of an entry, or none, and a state, and one that finds no more
+    // each is a pair of an entry, or none, and a state
     let states = nwa.states() as usize;
-    let mut search = begin(alloc, nwa)?;
-    for place in 0..=(states + 1) * states {
-        let Some(point) = search.point(place) else {
-            return Ok(Found::Empty);
-        };
-        if nwa.is_final(point.state) {
-            let letters = letters_to(alloc, &search, place)?;
-            return Ok(Found::Word(word(letters).unwrap()));
-        }
-        expand(&mut search, point, order % 2 == 1)?;
-    }
-    Err(AllocError)
+    let pairs = (states + 1) * states;
+    let mut search = Search::new(alloc, nwa);
+    seek(alloc, &mut search, pairs, order % 2 == 1)
 }
 
-/// The start alone is found.
-fn begin(alloc: Global, nwa: &Nwa) -> Result<Search<'_>, AllocError>
-    requires { IsAutomaton nwa.now }
-    ensures { IfOk result (λ s. IsSearch (seen s) × ((seen s).nwa ≡ nwa.now) × Member (seen s).pairs (None, nwa.now.start)) }
+/// The start is found.
+fn begin(search: &mut Search) -> Result<(), AllocError>
+    requires { IsSearch (seen search.old) }
+    ensures { OnOk result (Keeps (seen search.old) (seen search.new) × Member (seen search.new).pairs (None, (seen search.old).nwa.start)) }
 {
-    let mut search = Search::new(alloc, nwa);
+    let start = search.nwa().start();
     let way = Way {
         link: Link::Begin,
         caller: None,
     };
-    search.add(None, nwa.start(), way)?;
-    Ok(search)
+    search.add(None, start, way)
+}
+
+/// Goes through the pairs of a search from the start on, along calls first or along inside letters first. There are so many pairs at
+/// most.
+fn seek(
+    alloc: Global,
+    search: &mut Search,
+    pairs: usize,
+    calls_first: bool,
+) -> Result<Found, AllocError>
+    requires { IsSearch (seen search.old) }
+    ensures { IfOk result (IsFound (seen search.old).nwa) }
+{
+    let nwa = search.nwa();
+    begin(search)?;
+    // one pass for each pair, and one that finds no more
+    for place in 0..=pairs {
+        let Some(point) = search.point(place) else {
+            return Ok(Found::Empty);
+        };
+        if nwa.is_final(point.state) {
+            return spelled(alloc, search, point);
+        }
+        expand(search, point, calls_first)?;
+    }
+    Err(AllocError)
+}
+
+/// The word that leads to a pair with a final state.
+fn spelled(alloc: Global, search: &Search, point: Point) -> Result<Found, AllocError>
+    requires search { IsSearch (seen search.now) }
+    requires point { IsPoint (seen search.now) point }
+    requires ends { Member (seen search.now).nwa.finals point.state }
+    ensures { IfOk result (IsFound (seen search.now).nwa) }
+{
+    let letters = letters_to(alloc, search, point.place)?;
+    Ok(Found::Word(word(letters).unwrap()))
 }

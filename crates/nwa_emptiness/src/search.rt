@@ -133,10 +133,7 @@ impl<'a> Search<'a> {
         self.ways.push(way)?;
         self.by_state.add(state, place)?;
         match entry {
-            Some(entry) => {
-                self.by_entry.add(entry, place)?;
-                Ok(())
-            }
+            Some(entry) => self.by_entry.add(entry, place),
             None => Ok(()),
         }
     }

@@ -54,14 +54,8 @@ fn perform(
             letters.push(letter)?;
             Ok(())
         }
-        Task::Segment(place) => {
-            split(search, tasks, place)?;
-            Ok(())
-        }
-        Task::Whole(place) => {
-            enter(search, tasks, place)?;
-            Ok(())
-        }
+        Task::Segment(place) => split(search, tasks, place),
+        Task::Whole(place) => enter(search, tasks, place),
     }
 }
 

@@ -18,10 +18,7 @@ pub fn expand(search: &mut Search, point: Point, calls_first: bool) -> Result<()
 {
     step_forward(search, point, calls_first)?;
     match point.entry {
-        Some(entry) => {
-            step_returns(search, point.place, entry)?;
-            Ok(())
-        }
+        Some(entry) => step_returns(search, point.place, entry),
         None => Ok(()),
     }
 }
@@ -34,12 +31,10 @@ fn step_forward(search: &mut Search, point: Point, calls_first: bool) -> Result<
 {
     if calls_first {
         step_calls(search, point)?;
-        step_inside(search, point)?;
-        Ok(())
+        step_inside(search, point)
     } else {
         step_inside(search, point)?;
-        step_calls(search, point)?;
-        Ok(())
+        step_calls(search, point)
     }
 }
 
@@ -82,8 +77,7 @@ fn step_call(search: &mut Search, outer: usize, call: Letter, entry: u32) -> Res
         caller: Some((outer, call)),
     };
     search.add(Some(entry), entry, way)?;
-    join_exits(search, outer, call, entry)?;
-    Ok(())
+    join_exits(search, outer, call, entry)
 }
 
 /// Goes on along the returns from the pairs inside a call, to the pair from which the call is made.
@@ -138,8 +132,7 @@ fn join(search: &mut Search, outer: usize, call: Letter, exit: usize) -> Result<
     let (Some(outer), Some(exit)) = (search.point(outer), search.point(exit)) else {
         return Ok(());
     };
-    follow_returns(search, outer, call, exit)?;
-    Ok(())
+    follow_returns(search, outer, call, exit)
 }
 
 /// Goes on along the returns from a pair inside a call, to the pair from which the call is made.

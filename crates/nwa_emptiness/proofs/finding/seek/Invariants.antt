@@ -2,7 +2,7 @@ use Rattle.std.proofs.Common.{◌≡◌}
 use Rattle.nwa_emptiness.specs.Seen.{seen}
 use Rattle.nwa_emptiness.specs.Search.{IsSearch}
 use Rattle.nwa_emptiness.proofs.FoundLemmas.{IsDone}
-use Rattle.nwa_emptiness.proofs.finding.find.Given as goal
+use Rattle.nwa_emptiness.proofs.finding.seek.Given as goal
 
 abbrev pub invariant-loop-place : goal.invariant-loop-place
 invariant-loop-place l =
