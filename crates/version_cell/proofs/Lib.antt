@@ -6,3 +6,5 @@ pub mod Seats
 pub mod Steps
 pub mod Passing
 pub mod Sampled
+mod Putting
+mod Opened

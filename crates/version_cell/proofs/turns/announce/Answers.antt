@@ -36,3 +36,9 @@ store-requires g c =
           (c.fetch_add-entry.ensures.2.0 ∙ ap (λ (m : Me (Option (Race g.row.E.Denot)) (Sight g.row.E.Denot)). (with_entry m.0 (out m.1) n, m.1)) carried)
           (record { shares = grows.shares; program = grows.program; limit = grows.limit; names = refl }),
     )
+
+pub returns-clause-version : goal.returns-clause-version
+returns-clause-version g c =
+    let v = c.args.place.now.me.0 in
+    let carried = c.exchange.ensures.3 ∙ ap (λ (l : List (ℕ × Option (Race g.row.E.Denot))). (v, (0, Some c.args.state) ∷ rest l)) c.requires.slot in
+    c.fetch_add-entry.ensures.2.1 c.args.state (ap (λ (m : Me (Option (Race g.row.E.Denot)) (Sight g.row.E.Denot)). out m.1) carried)
