@@ -85,15 +85,27 @@ impl Situation {
         helpers: u32,
         rows: &[Row],
     ) -> Result<bool, AllocError> {
+        self.seek_written(frame, written)?;
+        self.add_helpers(helpers)?;
+        if !solve(choices, rows, &self.values, &mut self.sought) {
+            return Ok(false);
+        }
+        self.write(written);
+        Ok(true)
+    }
+
+    /// The written columns are sought.
+    fn seek_written(&mut self, frame: &Frame, written: &[u32]) -> Result<(), AllocError> {
         self.sought.clear();
         for &column in written {
             let ty = item(&frame.columns, column).map_or(Ty::Int, |known| known.1.ty);
             self.sought.push(Sought { ty, value: None })?;
         }
-        self.add_helpers(helpers)?;
-        if !solve(choices, rows, &self.values, &mut self.sought) {
-            return Ok(false);
-        }
+        Ok(())
+    }
+
+    /// The written columns get the values that were found.
+    fn write(&mut self, written: &[u32]) {
         for (&column, found) in written.iter().zip(self.sought.iter()) {
             if let (Some(place), Some(value)) = (
                 self.values.get_mut(column as usize),
@@ -102,7 +114,6 @@ impl Situation {
                 *place = value;
             }
         }
-        Ok(true)
     }
 
     /// A call: the callee's globals and old columns are the caller's globals, its parameters are found, its other locals are free.
@@ -113,6 +124,17 @@ impl Situation {
         helpers: u32,
         rows: &[Row],
     ) -> Result<bool, AllocError> {
+        self.seek_columns(choices, frame)?;
+        self.add_helpers(helpers)?;
+        if !solve(choices, rows, &self.values, &mut self.sought) {
+            return Ok(false);
+        }
+        self.enter(frame.columns.len())?;
+        Ok(true)
+    }
+
+    /// The columns of a callee are sought. Only the parameters have no values yet.
+    fn seek_columns(&mut self, choices: &mut Choices, frame: &Frame) -> Result<(), AllocError> {
         self.sought.clear();
         for (column, info) in &frame.columns {
             let value = match column {
@@ -125,14 +147,15 @@ impl Situation {
             let ty = info.ty;
             self.sought.push(Sought { ty, value })?;
         }
-        self.add_helpers(helpers)?;
-        if !solve(choices, rows, &self.values, &mut self.sought) {
-            return Ok(false);
-        }
-        let entered = self.entered(frame.columns.len())?;
+        Ok(())
+    }
+
+    /// The frame is that of a callee, with the values that were found of its columns, so many. That of the caller is put aside.
+    fn enter(&mut self, count: usize) -> Result<(), AllocError> {
+        let entered = self.entered(count)?;
         let caller = mem::replace(&mut self.values, entered);
         self.callers.push(caller)?;
-        Ok(true)
+        Ok(())
     }
 
     /// The values that were found of the first columns that were sought, so many.

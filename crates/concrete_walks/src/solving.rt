@@ -48,11 +48,23 @@ fn try_solve(
         let Some(place) = open_place(rows, known, sought) else {
             return Some(());
         };
-        let (low, high) = bounds(rows, known, sought, place)?;
-        let column = sought.get_mut(place)?;
-        column.value = Some(choices.value_within(column.ty, low, high)?);
+        choose(choices, rows, known, sought, place)?;
     }
     None
+}
+
+/// Gives the column at a place a value that the inequalities in which it is alone leave it.
+fn choose(
+    choices: &mut Choices,
+    rows: &[Row],
+    known: &[i128],
+    sought: &mut [Sought],
+    place: usize,
+) -> Option<()> {
+    let (low, high) = bounds(rows, known, sought, place)?;
+    let column = sought.get_mut(place)?;
+    column.value = Some(choices.value_within(column.ty, low, high)?);
+    Some(())
 }
 
 /// What the bound of a row leaves to the columns without a value, and which they are.
@@ -78,24 +90,31 @@ fn rest(row: &Row, known: &[i128], sought: &[Sought]) -> Option<(i128, Open)> {
 
 /// Gives columns the values that equalities force, and tests the rows that are left without an open column. Answers whether a
 /// column got a value, `None` where a row cannot hold.
-fn follow(rows: &[Row], known: &[i128], sought: &mut Vec<Sought>) -> Option<bool> {
+fn follow(rows: &[Row], known: &[i128], sought: &mut [Sought]) -> Option<bool> {
     let mut found = false;
     for row in rows {
-        match (rest(row, known, sought)?, row.kind()) {
-            ((left, Open::Nothing), RowKind::Le) if left < 0 => return None,
-            ((left, Open::Nothing), RowKind::Eq) if left != 0 => return None,
-            ((left, Open::One(place, coefficient)), RowKind::Eq) => {
-                let value = left.checked_div_euclid(coefficient)?;
-                if coefficient.checked_mul(value)? != left {
-                    return None;
-                }
-                sought.get_mut(place)?.value = Some(value);
-                found = true;
-            }
-            _ => {}
+        if follow_row(row, known, sought)? {
+            found = true;
         }
     }
     Some(found)
+}
+
+/// The same for one row.
+fn follow_row(row: &Row, known: &[i128], sought: &mut [Sought]) -> Option<bool> {
+    match (rest(row, known, sought)?, row.kind()) {
+        ((left, Open::Nothing), RowKind::Le) if left < 0 => None,
+        ((left, Open::Nothing), RowKind::Eq) if left != 0 => None,
+        ((left, Open::One(place, coefficient)), RowKind::Eq) => {
+            let value = left.checked_div_euclid(coefficient)?;
+            if coefficient.checked_mul(value)? != left {
+                return None;
+            }
+            sought.get_mut(place)?.value = Some(value);
+            Some(true)
+        }
+        _ => Some(false),
+    }
 }
 
 /// The place of a column without a value: one that is alone in a row if there is one, else the first.
