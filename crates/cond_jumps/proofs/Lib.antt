@@ -24,4 +24,8 @@ pub mod ListAnswers
 pub mod PlanAnswers
 pub mod WidthAnswers
 pub mod PairAnswers
+mod ShapeFaults
+mod ListTurns
+mod TotalTurns
+mod SumFaults
 pub mod AssignAnswers

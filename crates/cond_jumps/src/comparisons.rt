@@ -1,7 +1,9 @@
 //! Comparisons of two sums, each one conjunction, and conditions of one column.
 
 ghost use Rattle.std.specs.Prelude.{◌≡◌, ◌+◌, IfOk, OnOk, IsOk, Err, true, false, ℤ, pos, ◌+ℤ◌, ◌-ℤ◌, [], ◌∷◌, ◌++◌};
+ghost use Rattle.lin_rows.specs.declared.types.RowKind.TheVariants.{Eq};
 ghost use Rattle.lin_rows.specs.Sums.{row_of};
+ghost use Rattle.typed_tree.specs.Values.{truth};
 ghost use Rattle.cond_jumps.specs.Conjunctions.{row_fits};
 ghost use Rattle.math_facts.specs.Terms.{opposite};
 ghost use Rattle.cond_jumps.specs.Comparisons.{always, named};
@@ -151,13 +153,29 @@ pub fn always(alloc: Global) -> Result<Vec<Conj>, AllocError>
     )
 }
 
+/// A truth value as a number.
+fn number_of(want: bool) -> i128
+    ensures { result ≡ truth want }
+{
+    if want { 1 } else { 0 }
+}
+
+/// The row that a column has the wanted truth value.
+fn named_row(alloc: Global, column: u32, want: bool) -> Result<Row, Refusal>
+    ensures ok { IfOk result (λ r. r ≡ row_of ((column, pos 1) ∷ []) Eq (truth want)) }
+    ensures fits { IsOk result → row_fits (row_of ((column, pos 1) ∷ []) Eq (truth want)) ≡ true }
+    ensures too_big { result ≡ Err Refusal.TooBig → row_fits (row_of ((column, pos 1) ∷ []) Eq (truth want)) ≡ false }
+{
+    let bound = Long::new(alloc, number_of(want))?;
+    let sum = Sum::column(alloc, column)?;
+    row_from(alloc, sum.terms.as_slice(), RowKind::Eq, &bound)
+}
+
 /// The column has the wanted truth value.
 pub fn named(alloc: Global, column: u32, want: bool) -> Result<Vec<Conj>, Refusal>
     ensures { IsListAnswer (named column want 0) result }
 {
-    let sum = Sum::column(alloc, column)?;
-    let bound = Long::new(alloc, if want { 1 } else { 0 })?;
-    let mut rows = Vec::with_capacity(alloc, 1)?;
-    rows.push(row_from(alloc, sum.terms.as_slice(), RowKind::Eq, &bound)?)?;
+    let row = named_row(alloc, column, want)?;
+    let rows = vec![in alloc; row]?;
     Ok(single(alloc, Conj { rows, helpers: 0 })?)
 }

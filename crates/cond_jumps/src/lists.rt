@@ -15,7 +15,7 @@ use crate::columns::place;
 use crate::comparisons::{always, compared, compared_above, named};
 use crate::conj::Conj;
 use crate::linear::{linear, read_at};
-use crate::pairs::{Lists, alike_lists, both_lists, over_lists};
+use crate::pairs::{Lists, together};
 use crate::refusal::Refusal;
 use crate::shapes::Shape;
 use crate::sums::{joined, later};
@@ -244,22 +244,30 @@ pub fn lists(
         TExprKind::Not(inner) => lists(alloc, frame, old, inner, !want, both, base),
         TExprKind::Bin(op, left, right) => {
             let truths = is_truth(frame, old, left)?;
-            match Shape::of(*op, truths, want) {
+            let shape = Shape::of(*op, truths, want);
+            match shape {
                 Shape::Sums => sums_lists(alloc, frame, old, *op, left, right, want, both, base),
-                Shape::Both(x, y) => {
-                    let a = lists(alloc, frame, old, left, x, both, base)?;
-                    let b = lists(alloc, frame, old, right, y, both, base)?;
-                    Ok(both_lists(alloc, base, both, a, b)?)
-                }
-                Shape::Over(x, y) => {
-                    let a = lists(alloc, frame, old, left, x, true, base)?;
-                    let b = lists(alloc, frame, old, right, y, both, base)?;
-                    Ok(over_lists(alloc, base, both, a, b)?)
-                }
-                Shape::Alike(same) => {
-                    let a = lists(alloc, frame, old, left, true, true, base)?;
-                    let b = lists(alloc, frame, old, right, same, true, base)?;
-                    Ok(alike_lists(alloc, base, both, a, b)?)
+                _ => {
+                    let needs = shape.needs(both);
+                    let a = lists(
+                        alloc,
+                        frame,
+                        old,
+                        left,
+                        needs.first,
+                        needs.first_other,
+                        base,
+                    )?;
+                    let b = lists(
+                        alloc,
+                        frame,
+                        old,
+                        right,
+                        needs.second,
+                        needs.second_other,
+                        base,
+                    )?;
+                    Ok(together(alloc, base, both, shape, a, b)?)
                 }
             }
         }

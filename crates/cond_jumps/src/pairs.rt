@@ -1,6 +1,6 @@
 //! Both lists of a condition, that of the wanted value and that of the other, put together from those of its parts.
 
-ghost use Rattle.std.specs.Prelude.{◌≡◌, ◌++◌, IfOk};
+ghost use Rattle.std.specs.Prelude.{◌≡◌, ◌++◌, Bool, IfOk};
 ghost use Rattle.cond_jumps.specs.Conjunctions.{Plan, Then, With};
 ghost use Rattle.cond_jumps.specs.Conjs.{conjunctions};
 ghost use Rattle.cond_jumps.specs.JoinView.{each_moved};
@@ -10,6 +10,7 @@ ghost use Rattle.cond_jumps.specs.Moving.{IsEvenPlan};
 
 use crate::conj::Conj;
 use crate::joining::with;
+use crate::shapes::Shape;
 use crate::sums::joined;
 use std::alloc::{AllocError, Global};
 
@@ -23,13 +24,7 @@ pub struct Lists {
 
 /// One of the first operand with one of the second; and else the first operand's other one, and then one of the first with the
 /// second's other one.
-pub fn both_lists(
-    alloc: Global,
-    base: u32,
-    both: bool,
-    a: Lists,
-    b: Lists,
-) -> Result<Lists, AllocError>
+fn both_lists(alloc: Global, base: u32, both: bool, a: Lists, b: Lists) -> Result<Lists, AllocError>
     ensures { (p s q r : Plan) → IsEvenPlan base q → IsEvenPlan base r → ArePlanLists p (asked both s) base a → ArePlanLists q (asked both r) base b →
         IfOk result (ArePlanLists (With p q) (asked both (Then s (With p r))) base) }
 {
@@ -48,13 +43,7 @@ pub fn both_lists(
 }
 
 /// One of the first operand, and then its other one with one of the second; and else its other one with the second's other one.
-pub fn over_lists(
-    alloc: Global,
-    base: u32,
-    both: bool,
-    a: Lists,
-    b: Lists,
-) -> Result<Lists, AllocError>
+fn over_lists(alloc: Global, base: u32, both: bool, a: Lists, b: Lists) -> Result<Lists, AllocError>
     ensures { (p s q r : Plan) → IsEvenPlan base q → IsEvenPlan base r → ArePlanLists p s base a → ArePlanLists q (asked both r) base b →
         IfOk result (ArePlanLists (Then p (With s q)) (asked both (With s r)) base) }
 {
@@ -89,7 +78,7 @@ fn crossed(
 }
 
 /// Both operands have one truth value, or they differ.
-pub fn alike_lists(
+fn alike_lists(
     alloc: Global,
     base: u32,
     both: bool,
@@ -110,4 +99,29 @@ pub fn alike_lists(
         wanted,
         other: crossed(alloc, base, &a, b.other.as_slice(), b.wanted.as_slice())?,
     })
+}
+
+/// Both lists of an operation of two truth values, from those of its operands.
+pub fn together(
+    alloc: Global,
+    base: u32,
+    both: bool,
+    shape: Shape,
+    a: Lists,
+    b: Lists,
+) -> Result<Lists, AllocError>
+    requires { shape ≡ Shape.Sums → ⊥ }
+    ensures both { (x y : Bool) → shape ≡ Shape.Both x y → (p s q r : Plan) → IsEvenPlan base q → IsEvenPlan base r → ArePlanLists p (asked both s) base a → ArePlanLists q (asked both r) base b →
+        IfOk result (ArePlanLists (With p q) (asked both (Then s (With p r))) base) }
+    ensures over { (x y : Bool) → shape ≡ Shape.Over x y → (p s q r : Plan) → IsEvenPlan base q → IsEvenPlan base r → ArePlanLists p s base a → ArePlanLists q (asked both r) base b →
+        IfOk result (ArePlanLists (Then p (With s q)) (asked both (With s r)) base) }
+    ensures alike { (same : Bool) → shape ≡ Shape.Alike same → (p s q r : Plan) → IsEvenPlan base q → IsEvenPlan base r → ArePlanLists p s base a → ArePlanLists q r base b →
+        IfOk result (ArePlanLists (crossed p s q r) (asked both (crossed p s r q)) base) }
+{
+    match shape {
+        Shape::Both(_, _) => both_lists(alloc, base, both, a, b),
+        Shape::Over(_, _) => over_lists(alloc, base, both, a, b),
+        Shape::Alike(_) => alike_lists(alloc, base, both, a, b),
+        Shape::Sums => unreachable!(),
+    }
 }

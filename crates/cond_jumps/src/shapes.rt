@@ -1,4 +1,4 @@
-ghost use Rattle.std.specs.Prelude.{◌≡◌};
+ghost use Rattle.std.specs.Prelude.{◌≡◌, Bool, true};
 
 use boogie_tree::Op;
 
@@ -13,6 +13,16 @@ pub enum Shape {
     Alike(bool),
     /// A comparison of two sums.
     Sums,
+}
+
+/// Which lists of its operands an operation of two truth values needs: the wanted value of each operand, and whether the list
+/// of its other value is needed, too.
+#[derive(Clone, Copy)]
+pub struct Needs {
+    pub first: bool,
+    pub first_other: bool,
+    pub second: bool,
+    pub second_other: bool,
 }
 
 impl Shape {
@@ -33,6 +43,35 @@ impl Shape {
             (Op::Eq, true, _) => Shape::Alike(want),
             (Op::Ne, true, _) => Shape::Alike(!want),
             _ => Shape::Sums,
+        }
+    }
+    /// Which lists of its operands the operation needs, whose list of the other value is asked for, too, or not.
+    pub fn needs(self, both: bool) -> Needs
+        requires { self ≡ Shape.Sums → ⊥ }
+        ensures both { (x y : Bool) → self ≡ Shape.Both x y → result ≡ record { first = x; first_other = both; second = y; second_other = both } }
+        ensures over { (x y : Bool) → self ≡ Shape.Over x y → result ≡ record { first = x; first_other = true; second = y; second_other = both } }
+        ensures alike { (same : Bool) → self ≡ Shape.Alike same → result ≡ record { first = true; first_other = true; second = same; second_other = true } }
+    {
+        match self {
+            Shape::Both(first, second) => Needs {
+                first,
+                first_other: both,
+                second,
+                second_other: both,
+            },
+            Shape::Over(first, second) => Needs {
+                first,
+                first_other: true,
+                second,
+                second_other: both,
+            },
+            Shape::Alike(same) => Needs {
+                first: true,
+                first_other: true,
+                second: same,
+                second_other: true,
+            },
+            Shape::Sums => unreachable!(),
         }
     }
 }

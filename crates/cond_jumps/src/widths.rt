@@ -1,6 +1,6 @@
 //! How many members the lists of a condition have.
 
-ghost use Rattle.std.specs.Prelude.{◌≤◌, ℕ, Bool, not, IfOk, length};
+ghost use Rattle.std.specs.Prelude.{◌≡◌, ◌≤◌, ℕ, Bool, not, IfOk, length};
 ghost use Rattle.typed_tree.specs.TypedView.{expression};
 ghost use Rattle.cond_jumps.specs.Conjunctions.{Plan, Then, With};
 ghost use Rattle.cond_jumps.specs.Comparisons.{literal};
@@ -158,6 +158,24 @@ fn alike_widths(both: bool, a: Counts, b: Counts) -> Result<Counts, JumpFault>
     Ok(Counts { wanted, other })
 }
 
+/// The members of both lists of an operation of two truth values, from those of its operands.
+fn together(both: bool, shape: Shape, a: Counts, b: Counts) -> Result<Counts, JumpFault>
+    requires { shape ≡ Shape.Sums → ⊥ }
+    ensures both { (x y : Bool) → shape ≡ Shape.Both x y → (n : ℕ) → (p s q r : Plan) → IsEvenPlan n q → IsEvenPlan n r → AreWidths p (asked both s) n a → AreWidths q (asked both r) n b →
+        AreWidthAnswers (With p q) (asked both (Then s (With p r))) n result }
+    ensures over { (x y : Bool) → shape ≡ Shape.Over x y → (n : ℕ) → (p s q r : Plan) → IsEvenPlan n q → IsEvenPlan n r → AreWidths p s n a → AreWidths q (asked both r) n b →
+        AreWidthAnswers (Then p (With s q)) (asked both (With s r)) n result }
+    ensures alike { (same : Bool) → shape ≡ Shape.Alike same → (n : ℕ) → (p s q r : Plan) → IsEvenPlan n q → IsEvenPlan n r → AreWidths p s n a → AreWidths q r n b →
+        AreWidthAnswers (crossed p s q r) (asked both (crossed p s r q)) n result }
+{
+    match shape {
+        Shape::Both(_, _) => both_widths(both, a, b),
+        Shape::Over(_, _) => over_widths(both, a, b),
+        Shape::Alike(_) => alike_widths(both, a, b),
+        Shape::Sums => unreachable!(),
+    }
+}
+
 /// The members of the list of a condition, and where it is asked for also of that of the other value; `TooWide` where one of
 /// them, or one that is used for a part of it, has more than 4,096.
 pub fn widths(
@@ -182,22 +200,14 @@ pub fn widths(
         TExprKind::Not(inner) => widths(frame, old, inner, !want, both),
         TExprKind::Bin(op, left, right) => {
             let truths = is_truth(frame, old, left)?;
-            match Shape::of(*op, truths, want) {
+            let shape = Shape::of(*op, truths, want);
+            match shape {
                 Shape::Sums => Ok(sums_widths(*op, want, both)),
-                Shape::Both(x, y) => {
-                    let a = widths(frame, old, left, x, both)?;
-                    let b = widths(frame, old, right, y, both)?;
-                    both_widths(both, a, b)
-                }
-                Shape::Over(x, y) => {
-                    let a = widths(frame, old, left, x, true)?;
-                    let b = widths(frame, old, right, y, both)?;
-                    over_widths(both, a, b)
-                }
-                Shape::Alike(same) => {
-                    let a = widths(frame, old, left, true, true)?;
-                    let b = widths(frame, old, right, same, true)?;
-                    alike_widths(both, a, b)
+                _ => {
+                    let needs = shape.needs(both);
+                    let a = widths(frame, old, left, needs.first, needs.first_other)?;
+                    let b = widths(frame, old, right, needs.second, needs.second_other)?;
+                    together(both, shape, a, b)
                 }
             }
         }
