@@ -7,3 +7,4 @@ pub mod ImportLemmas
 pub mod ConjoinedLemmas
 pub mod ResultLemmas
 pub mod EnsuredLemmas
+mod FilterTurns

@@ -3,7 +3,7 @@
 ghost use Rattle.std.specs.Prelude.{◌≡◌, IfOk, pos};
 ghost use Rattle.typed_tree.specs.TypedTree.{Lit, Not, Neg, Bin};
 ghost use Rattle.typed_tree.specs.TypedView.{expression};
-ghost use Rattle.call_jumps.specs.Reading.{product, is_divisor_form, division, truth_equality, equality};
+ghost use Rattle.call_jumps.specs.Reading.{constant_part, product, is_divisor_form, division, truth_equality, equality};
 
 use crate::constants::constant_part;
 use boogie_tree::{Op, Span};
@@ -62,10 +62,34 @@ pub fn product(
 ) -> Result<TExpr, AllocError>
     ensures { IfOk result (λ e. expression e ≡ product span (expression a.now) (expression b.now) (expression x) (expression y)) }
 {
-    let rest = binary(alloc, span, Op::Sub, x, constant_part(alloc, a)?)?;
-    let first = binary(alloc, span, Op::Mul, rest, constant_part(alloc, b)?)?;
-    let second = binary(alloc, span, Op::Mul, constant_part(alloc, a)?, y)?;
+    let rest = without_constant(alloc, span, x, a)?;
+    let first = times_constant(alloc, span, rest, b)?;
+    let second = constant_times(alloc, span, a, y)?;
     binary(alloc, span, Op::Add, first, second)
+}
+
+/// `x - k`, where k is the constant of `a`.
+fn without_constant(alloc: Global, span: Span, x: TExpr, a: &TExpr) -> Result<TExpr, AllocError>
+    ensures { IfOk result (λ e. expression e ≡ Bin span Op.Sub (expression x) (constant_part (expression a.now))) }
+{
+    let constant = constant_part(alloc, a)?;
+    binary(alloc, span, Op::Sub, x, constant)
+}
+
+/// `x*l`, where l is the constant of `b`.
+fn times_constant(alloc: Global, span: Span, x: TExpr, b: &TExpr) -> Result<TExpr, AllocError>
+    ensures { IfOk result (λ e. expression e ≡ Bin span Op.Mul (expression x) (constant_part (expression b.now))) }
+{
+    let constant = constant_part(alloc, b)?;
+    binary(alloc, span, Op::Mul, x, constant)
+}
+
+/// `k*y`, where k is the constant of `a`.
+fn constant_times(alloc: Global, span: Span, a: &TExpr, y: TExpr) -> Result<TExpr, AllocError>
+    ensures { IfOk result (λ e. expression e ≡ Bin span Op.Mul (constant_part (expression a.now)) (expression y)) }
+{
+    let constant = constant_part(alloc, a)?;
+    binary(alloc, span, Op::Mul, constant, y)
 }
 
 /// Whether an expression is a divisor: a literal, or one after one `-`.
