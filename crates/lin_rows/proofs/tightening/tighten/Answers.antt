@@ -6,10 +6,10 @@ use Rattle.std.proofs.lemmas.Bool.{false≢true}
 use Rattle.lin_rows.specs.declared.types.RowKind.TheVariants.{Eq}
 use Rattle.lin_rows.specs.Rows.{LinearRow, IsRow}
 use Rattle.lin_rows.specs.Tightening.{content, divided, tightened, all_divisible}
-use Rattle.lin_rows.proofs.TighteningLaw.{holds_tightened, tightened_is_row, content_fits, content_divides}
+use Rattle.lin_rows.proofs.TighteningLaw.{holds_tightened, never_is_row, tightened_is_row, content_fits, content_divides}
 use Rattle.lin_rows.proofs.TighteningLemmas.{tightened_stays, tightened_divided}
 use Rattle.lin_rows.proofs.tightening.tighten.Goals as goal
-use Rattle.lin_rows.proofs.tightening.tighten.Goals.{else-eq-via-then-eq+else-unsigned_abs-divisor-ne0, else-eq-via-else-eq, After-content-divisor, After-div_euclid, Joined-else-eq}
+use Rattle.lin_rows.proofs.tightening.tighten.Goals.{else-eq-via-then-eq+else-unsigned_abs-divisor-ne0, else-eq-via-else-eq, After-content-divisor, After-bound, After-new-then-unsigned_abs-divisor-ne0, After-div_euclid, Joined-else-eq}
 
 content_of : (c : After-content-divisor) → content c.args.row.now.terms ≡ c.content-divisor.result
 content_of c = rw c.terms.ensures.value at (sym c.content-divisor.ensures)
@@ -83,3 +83,23 @@ returns-clause-value c =
 
 pub returns-clause-same_points : goal.returns-clause-same_points
 returns-clause-same_points c = λ point. holds_tightened point c.args.row.now c.terms.ensures.valid
+
+pub new-requires : goal.new-requires
+new-requires c =
+    let f : FitsSigned w128 c.bound.result = search rules in
+    simp to_z-of_z (rw (c.in_ok-terms.ensures.ok, c.terms-then-divisor-le1.ensures.value, c.kind.ensures, c.bound.ensures) c.terms.ensures.valid)
+
+pub returns-then-divisor-le1-clause-valid : goal.returns-then-divisor-le1-clause-valid
+returns-then-divisor-le1-clause-valid c =
+    subst IsRow (sym c.new.ensures) (new-requires (goal.at.returns-then-divisor-le1-clause-valid c).After-bound)
+
+pub new-requires-then-unsigned_abs-divisor-ne0-2 : goal.new-requires-then-unsigned_abs-divisor-ne0-2
+new-requires-then-unsigned_abs-divisor-ne0-2 c = rw c.new-then-unsigned_abs-divisor-ne0.ensures.items never_is_row
+
+pub returns-then-unsigned_abs-divisor-ne0-clause-valid : goal.returns-then-unsigned_abs-divisor-ne0-clause-valid
+returns-then-unsigned_abs-divisor-ne0-clause-valid c =
+    subst IsRow (sym c.new-then-unsigned_abs-divisor-ne0-2.ensures)
+    (new-requires-then-unsigned_abs-divisor-ne0-2 (goal.at.returns-then-unsigned_abs-divisor-ne0-clause-valid c).After-new-then-unsigned_abs-divisor-ne0)
+
+pub returns-clause-valid : goal.returns-clause-valid
+returns-clause-valid c = subst IsRow (sym c.new-2.ensures) (new-requires-2 (goal.at.returns-clause-valid c).After-div_euclid)
