@@ -24,3 +24,5 @@ pub mod ValueLemmas
 pub mod FoldLaws
 pub mod FreeColumns
 pub mod Written
+mod LoopSteps
+mod ColumnSteps

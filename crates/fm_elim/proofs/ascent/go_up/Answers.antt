@@ -1,10 +1,11 @@
-use Rattle.std.proofs.Common.{◌≡◌, [], map}
+use Rattle.std.proofs.Common.{◌≡◌, [], map, ◌∙◌}
 use Rattle.fm_elim.specs.Answers.{aside_of}
 use Rattle.fm_elim.specs.Values.{ValueFits}
 use Rattle.fm_elim.specs.Elimination.{point}
 use Rattle.fm_elim.specs.Climb.{climb, ClimbFits}
-use Rattle.fm_elim.proofs.Exits.{exit_part}
-use Rattle.fm_elim.proofs.WayBack.{loop_sets, loop_fits, loop_more, values_more, length_more}
+use Rattle.fm_elim.proofs.Exits.{exit_part, exit_memory}
+use Rattle.fm_elim.proofs.WayBack.{loop_sets, loop_fits, loop_more, values_more, length_more, up_start}
+use Rattle.std.proofs.lemmas.List.{length-map}
 use Rattle.fm_elim.proofs.ascent.go_up.Goals as goal
 
 pub value_of-requires-clause-set : goal.value_of-requires-clause-set
@@ -40,3 +41,22 @@ loop-aside-preserved c =
       values = values_more c.loop-aside.values.items c.push.new.self.items c.in_ok-value.value c.loop-aside.invariant.values c.in_ok-value.ensures.1.0 c.in_ok-push.ensures.items;
       column = length_more c.loop-aside.column c.loop-aside.values.items c.push.new.self.items c.in_ok-value.value c.loop-aside.invariant.column c.in_ok-push.ensures.items;
     }
+
+pub returns-in_err-values : goal.returns-in_err-values
+returns-in_err-values c =
+    let given = map aside_of c.args.asides.items in
+    exit_memory c.from_residual.result (λ values. climb c.args.columns given (point []) ≡ point values.items) (ClimbFits c.args.columns given (point [])) c.from_residual.ensures.1
+
+pub loop-aside-init : goal.loop-aside-init
+loop-aside-init c =
+    rw c.in_ok-values.ensures.items
+    (record {
+      up = up_start c.args.columns (map aside_of c.args.asides.items) (length-map c.args.asides.items aside_of ∙ c.requires.height) c.requires.set;
+      values = tt;
+      column = λ i. 0;
+    })
+
+pub returns-in_err-push : goal.returns-in_err-push
+returns-in_err-push c =
+    let given = map aside_of c.args.asides.items in
+    exit_memory c.from_residual-in_err-push.result (λ values. climb c.args.columns given (point []) ≡ point values.items) (ClimbFits c.args.columns given (point [])) c.from_residual-in_err-push.ensures.1

@@ -7,6 +7,7 @@ use Rattle.fm_elim.specs.Derivations.{DerivedRow}
 use Rattle.fm_elim.specs.Values.{lower_end, raised, RaisedFits}
 use Rattle.fm_elim.proofs.Exits.{exit_part}
 use Rattle.fm_elim.proofs.FoldLaws.{fits_step}
+use Rattle.fm_elim.proofs.LoopSteps.{fold_next, fold_end}
 use Rattle.fm_elim.proofs.values.lower_end.Goals as goal
 
 pub returns-in_err-best : goal.returns-in_err-best
@@ -21,3 +22,20 @@ returns-in_err-best c =
     (λ h. subst (λ (o : Option Fraction). RaisedFits k values o r) (sym c.loop-row.invariant.value.1)
     (subst (λ (q : DerivedRow). RaisedFits k values (fold (raised k values) None (take i rows)) q) e (fits_step (raised k values) (RaisedFits k values) None rows i r c.loop-row-test.true h)))
     c.in_err-best.ensures c.from_residual.ensures.1
+
+pub loop-row-preserved : goal.loop-row-preserved
+loop-row-preserved c =
+    let k = c.args.column in
+    let values = c.args.values.now in
+    let r = c.row-item.result in
+    let more = fold_next (raised k values) (RaisedFits k values) None c.args.rows.now c.loop-row.row-index r r c.loop-row.best c.in_ok-best.best c.loop-row-test.true c.row-item.is
+    c.loop-row.invariant.value.1 c.loop-row.invariant.fits c.in_ok-best.ensures.0 c.in_ok-best.ensures.1.1 in
+    record { value = (c.in_ok-best.ensures.1.0, more.0); fits = more.1 }
+
+pub returns : goal.returns
+returns c =
+    let k = c.args.column in
+    let values = c.args.values.now in
+    let done = fold_end (raised k values) (RaisedFits k values) None c.args.rows.now c.loop-row.row-index c.loop-row.best c.loop-row-test.false
+    c.loop-row.invariant.value.1 c.loop-row.invariant.fits in
+    (done.0, (c.loop-row.invariant.value.0, done.1))
