@@ -41,6 +41,21 @@ pub(crate) fn short(alloc: Global, number: u32) -> Result<Numeral, AllocError>
     natural(alloc, u64::from(number))
 }
 
+/// The numerals of a letter and of the members of lists between which it moves.
+pub(crate) fn move_numerals(
+    alloc: Global,
+    from: usize,
+    letter: u32,
+    to: usize,
+) -> Result<(Numeral, Numeral, Numeral), AllocError>
+    ensures { IfOk result (λ n. WritesIndex n.0 from × WritesShort n.1 letter × WritesIndex n.2 to) }
+{
+    let from = index(alloc, from)?;
+    let letter = short(alloc, letter)?;
+    let to = index(alloc, to)?;
+    Ok((from, letter, to))
+}
+
 /// The numeral of a number.
 pub(crate) fn integer(alloc: Global, number: i128) -> Result<Numeral, AllocError>
     requires { Fits number }

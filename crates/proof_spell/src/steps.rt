@@ -3,7 +3,7 @@
 ghost use Rattle.std.specs.Prelude.{IfOk};
 ghost use Rattle.proof_spell.specs.Spelled.{SpellsStep};
 
-use crate::numerals::{index, short};
+use crate::numerals::{index, move_numerals};
 use proof_form::StepLine;
 use proof_names::NamedStep;
 use std::alloc::{AllocError, Global};
@@ -12,22 +12,25 @@ use std::alloc::{AllocError, Global};
 pub(crate) fn step_line(alloc: Global, step: NamedStep) -> Result<StepLine, AllocError>
     ensures { IfOk result (λ line. SpellsStep line step) }
 {
-    Ok(match step {
-        NamedStep::Step { from, letter, to } => StepLine::Step {
-            from: index(alloc, from)?,
-            letter: short(alloc, letter)?,
-            to: index(alloc, to)?,
-        },
+    match step {
+        NamedStep::Step { from, letter, to } => {
+            let (from, letter, to) = move_numerals(alloc, from, letter, to)?;
+            Ok(StepLine::Step { from, letter, to })
+        }
         NamedStep::Back {
             exit,
             call,
             letter,
             to,
-        } => StepLine::Back {
-            exit: index(alloc, exit)?,
-            call: index(alloc, call)?,
-            letter: short(alloc, letter)?,
-            to: index(alloc, to)?,
-        },
-    })
+        } => {
+            let exit = index(alloc, exit)?;
+            let (call, letter, to) = move_numerals(alloc, call, letter, to)?;
+            Ok(StepLine::Back {
+                exit,
+                call,
+                letter,
+                to,
+            })
+        }
+    }
 }
