@@ -24,3 +24,4 @@ pub mod Rationals
 pub mod Numerators
 pub mod PickedValues
 pub mod Alikes
+mod SearchSteps

@@ -13,3 +13,6 @@ returns-then-den-ne1 c =
     apart_ends c.is_apart.result c.loop-left.rows.items c.loop-left.column c.loop-left.left.now c.value-item.result c.floor.result
     (ArePicked c.args.rows.now.items 0 c.args.values.now) c.in-len1-up.len_at_least c.value-item.is c.den.ensures.valid.lowest
     (λ z. c.if-den-ne1.true (ap (λ x. of_z w128 x) (c.den.ensures.value ∙ z))) c.floor.ensures.not_above c.floor.ensures.greatest c.loop-left.invariant a
+
+pub loop-left-init : goal.loop-left-init
+loop-left-init c = λ a. a

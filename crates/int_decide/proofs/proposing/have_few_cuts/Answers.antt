@@ -1,6 +1,6 @@
-use Rattle.std.proofs.Common.{rules, ◌≡◌, ◌<◌, ◌∙◌, sym, None, Some, reverse, get_or, length}
-use Rattle.farkas_check.specs.Nodes.{plain}
-use Rattle.int_decide.specs.CutCounts.{after_node}
+use Rattle.std.proofs.Common.{◌≡◌, ◌<◌, ◌∙◌, sym, None, Some, reverse, get_or, length, [], ◌∷◌, ◌++◌, List, ℕ, ap}
+use Rattle.farkas_check.specs.Nodes.{plain, plain_nodes}
+use Rattle.int_decide.specs.CutCounts.{after_node, have_few_cuts}
 use Rattle.int_decide.proofs.CutLaws.{few_stop, few_go}
 use Rattle.int_decide.proofs.proposing.have_few_cuts.Goals as goal
 
@@ -9,8 +9,8 @@ returns-then-not-passes c =
     let nodes = c.args.nodes.now in
     let i = c.loop-node.node-index in
     let d = c.node-item.result in
-    let within : i < length nodes = search rules in
-    let stops : after_node (reverse c.loop-node.lefts.items) (plain (get_or nodes i d)) ≡ None = search rules in
+    let within : i < length nodes = c.loop-node-test.true in
+    let stops : after_node (reverse c.loop-node.lefts.items) (plain (get_or nodes i d)) ≡ None = rw c.node-item.is at (rw c.if-not-passes.true at c.in_ok-passes.ensures) in
     sym (c.loop-node.invariant ∙ few_stop nodes i d c.loop-node.lefts.items within stops)
 
 pub loop-node-preserved : goal.loop-node-preserved
@@ -18,6 +18,11 @@ loop-node-preserved c =
     let nodes = c.args.nodes.now in
     let i = c.loop-node.node-index in
     let d = c.node-item.result in
-    let within : i < length nodes = search rules in
-    let goes : after_node (reverse c.loop-node.lefts.items) (plain (get_or nodes i d)) ≡ Some (reverse c.pass_node.new.lefts.items) = search rules in
+    let within : i < length nodes = c.loop-node-test.true in
+    let goes : after_node (reverse c.loop-node.lefts.items) (plain (get_or nodes i d)) ≡ Some (reverse c.pass_node.new.lefts.items) =
+    rw c.node-item.is at (rw c.if-not-passes.false at c.in_ok-passes.ensures) in
     c.loop-node.invariant ∙ few_go nodes i d c.loop-node.lefts.items c.pass_node.new.lefts.items within goes
+
+pub loop-node-init : goal.loop-node-init
+loop-node-init c =
+    ap (λ (ls : List ℕ). have_few_cuts (reverse ls) (plain_nodes c.args.nodes.now)) (sym (c.in_ok-push.ensures.items ∙ ap (λ (ls : List ℕ). ls ++ c.args.depth ∷ []) c.new-lefts.ensures.items))

@@ -2,7 +2,7 @@ use Rattle.std.proofs.Common.{rules, ◌≡◌, ◌∙◌, ◌++◌, ◌∷◌, 
 use Rattle.std.specs.Int.{w128}
 use Rattle.std.specs.List.{AllByRecursion}
 use Rattle.std.proofs.lemmas.Int.{to_z-of_z}
-use Rattle.std.proofs.lemmas.List.{take_more, map_more}
+use Rattle.std.proofs.lemmas.List.{take_more, map_more, take_all}
 use Rattle.math_facts.specs.Fits.{Fits}
 use Rattle.frac.specs.Fractions.{Fraction, IsFraction}
 use Rattle.fm_elim.proofs.Lists.{all_append, all_map}
@@ -38,3 +38,13 @@ pub returns-clause-fits : goal.returns-clause-fits
 returns-clause-fits c =
     subst (AllByRecursion Fits) (sym c.loop-value.invariant.numbers)
     (all_map IsFraction Fits (λ (f : Fraction). f.num) (take c.loop-value.value-index c.args.values.now) (λ f v. v.num_fits) c.loop-value.invariant.valid)
+
+pub loop-value-init : goal.loop-value-init
+loop-value-init c = record { numbers = c.in_ok-numbers.ensures.items; valid = tt }
+
+pub returns-clause-value : goal.returns-clause-value
+returns-clause-value c =
+    c.loop-value.invariant.numbers ∙ ap (λ (fs : List Fraction). map (λ (f : Fraction). f.num) fs) (take_all c.loop-value.value-index c.args.values.now c.loop-value-test.false)
+
+pub returns-clause-valid : goal.returns-clause-valid
+returns-clause-valid c = subst (AllByRecursion IsFraction) (take_all c.loop-value.value-index c.args.values.now c.loop-value-test.false) c.loop-value.invariant.valid
