@@ -9,3 +9,4 @@ mod StageLaws
 mod OpenedLaws
 mod ImageLaws
 mod OrderLaws
+mod ListedEnds

@@ -1,7 +1,7 @@
 -- The order of nodes by their places gives each node a new number of its own.
 use Rattle.std.proofs.Common.{◌≡◌, ◌≢◌, ◌∙◌, ◌⊎◌, ℕ, zero, suc, ◌+◌, ◌<◌, ◌≤◌, Bool, true, false, eqb, List, [], ◌∷◌, ◌++◌, length, length-append, get_or, set, take, get_or-set_same, get_or-set_other, below_more, append_assoc, refl, sym, ap, subst, inl, inr, arith}
 use Rattle.std.specs.Prelude.{Some, map, slice_get, slice_index}
-use Rattle.std.specs.List.{All, Contains, IsDistinct}
+use Rattle.std.specs.List.{All, IsDistinct}
 use Rattle.std.specs.List.Sorted.{IsPermutation, IsNonDecreasingBy}
 use Rattle.std.proofs.lemmas.Bool.{eqb-true, eqb-false}
 use Rattle.std.proofs.lemmas.List.{length-map, get_or-map, map-append, take_more}

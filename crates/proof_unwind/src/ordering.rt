@@ -134,6 +134,20 @@ fn move_backs(
     Ok(())
 }
 
+/// Adds the steps and backs of an automaton, between the new numbers.
+fn move_steps(to: &mut Nwa, from: &Nwa, ranks: &[u32]) -> Result<(), AllocError>
+    ensures { OnOk result (to.new ≡ record to.old {
+      insides = to.old.insides ++ map (moved (slice_index ranks.now)) from.now.insides;
+      calls = to.old.calls ++ map (moved (slice_index ranks.now)) from.now.calls;
+      backs = to.old.backs ++ map (moved_back (slice_index ranks.now)) from.now.backs;
+    }) }
+{
+    move_insides(to, from.insides(), ranks)?;
+    move_calls(to, from.calls(), ranks)?;
+    move_backs(to, from.backs(), ranks)?;
+    Ok(())
+}
+
 /// The steps and backs between the new numbers.
 fn moved_steps(alloc: Global, steps: &Nwa, ranks: &[u32]) -> Result<Nwa, AllocError>
     ensures { IfOk result (λ t. IsMoved (slice_index ranks.now) steps.now t) }
@@ -141,9 +155,7 @@ fn moved_steps(alloc: Global, steps: &Nwa, ranks: &[u32]) -> Result<Nwa, AllocEr
     let Ok(mut moved) = empty(alloc, steps.states(), steps.start()) else {
         return Err(AllocError);
     };
-    move_insides(&mut moved, steps.insides(), ranks)?;
-    move_calls(&mut moved, steps.calls(), ranks)?;
-    move_backs(&mut moved, steps.backs(), ranks)?;
+    move_steps(&mut moved, steps, ranks)?;
     Ok(moved)
 }
 
