@@ -32,3 +32,12 @@ returns c =
     simp to_z-of_z
     (added_row c.args.self.now c.add_terms.new.self c.args.m c.args.row.now c.self-2.inside.columns.entries c.in-Some.bound c.in_ok-added.added t b.0 b.1
     (ap (λ (s : PartSum). s.kept) c.self-2.view_is))
+
+pub returns-in_default : goal.returns-in_default
+returns-in_default c =
+    let f : FitsSigned w128 c.args.m = c.ranges.m in
+    let g : FitsSigned w128 c.bound.result = search rules in
+    let i : FitsSigned w128 c.self.inside.bound = search rules in
+    let o : c.self.inside.bound ≡ c.args.self.now.bound = ap (λ (s : PartSum). s.bound) c.self.view_is in
+    let none = rw (c.bound.ensures, o) at (simp to_z-of_z at c.in_default.ensures) in
+    λ r. none (r.bound_product, r.bound_sum)
