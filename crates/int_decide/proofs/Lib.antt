@@ -25,3 +25,4 @@ pub mod Numerators
 pub mod PickedValues
 pub mod Alikes
 mod SearchSteps
+mod ShownValues
