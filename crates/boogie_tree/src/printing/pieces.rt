@@ -27,27 +27,34 @@ pub(super) fn truth(out: &mut Vec<u8>, truth: bool) -> Result<(), AllocError>
     append(out, if truth { b"true" } else { b"false" })
 }
 
+/// The operator with a space on each side.
+fn spaced_operator(op: Op) -> &'static [u8]
+    ensures { result.now ≡ operator_text op }
+{
+    match op {
+        Op::Iff => b" <==> ",
+        Op::Implies => b" ==> ",
+        Op::And => b" && ",
+        Op::Or => b" || ",
+        Op::Eq => b" == ",
+        Op::Ne => b" != ",
+        Op::Lt => b" < ",
+        Op::Le => b" <= ",
+        Op::Gt => b" > ",
+        Op::Ge => b" >= ",
+        Op::Add => b" + ",
+        Op::Sub => b" - ",
+        Op::Mul => b" * ",
+        Op::Div => b" div ",
+        Op::Mod => b" mod ",
+    }
+}
+
 /// Puts the operator with a space on each side behind the text.
 pub(super) fn operator(out: &mut Vec<u8>, op: Op) -> Result<(), AllocError>
     ensures { OnOk result (out.new.items ≡ out.old.items ++ operator_text op) }
 {
-    match op {
-        Op::Iff => append(out, b" <==> "),
-        Op::Implies => append(out, b" ==> "),
-        Op::And => append(out, b" && "),
-        Op::Or => append(out, b" || "),
-        Op::Eq => append(out, b" == "),
-        Op::Ne => append(out, b" != "),
-        Op::Lt => append(out, b" < "),
-        Op::Le => append(out, b" <= "),
-        Op::Gt => append(out, b" > "),
-        Op::Ge => append(out, b" >= "),
-        Op::Add => append(out, b" + "),
-        Op::Sub => append(out, b" - "),
-        Op::Mul => append(out, b" * "),
-        Op::Div => append(out, b" div "),
-        Op::Mod => append(out, b" mod "),
-    }
+    append(out, spaced_operator(op))
 }
 
 /// Puts a name with its type behind the text.
