@@ -13,3 +13,4 @@ pub mod Leaving
 pub mod FrameLemmas
 pub mod FitLemmas
 pub mod ToldLemmas
+mod WriteSteps
