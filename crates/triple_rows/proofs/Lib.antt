@@ -22,3 +22,4 @@ pub mod KnownLaws
 pub mod LetterLaws
 pub mod AgreeingLaws
 pub mod ValidLaws
+mod PushSteps

@@ -3,13 +3,25 @@ use Rattle.std.specs.Prelude.{slice_index}
 use Rattle.lin_rows.specs.Rows.{LinearRow}
 use Rattle.letter_acts.specs.Frames.{globals_of, olds_of}
 use Rattle.triple_rows.specs.declared.drafts.Draft.{Draft}
-use Rattle.triple_rows.specs.Predicates.{formula_of}
+use Rattle.triple_rows.specs.Predicates.{IsOver, formula_of}
 use Rattle.triple_rows.specs.Systems.{PlainSystem, PlainFits, said, denied, only_rows}
 use Rattle.triple_rows.specs.Drafts.{Adds, stated}
 use Rattle.triple_rows.proofs.DraftLaws.{adds_all, all_fit}
 use Rattle.triple_rows.proofs.PieceLaws.{stated_by_table, ties_by_tables, within_tables}
 use Rattle.triple_rows.proofs.BuildingLaws.{call_parts}
 use Rattle.triple_rows.proofs.building.add_call.Goals as goal
+
+pub add_pred-requires-clause-over : goal.add_pred-requires-clause-over
+add_pred-requires-clause-over c = subst (λ (n : ℕ). IsOver n (formula_of c.args.from.now)) (sym c.requires.before.count) c.requires.from_over
+
+pub add_pred-requires-clause-differ : goal.add_pred-requires-clause-differ
+add_pred-requires-clause-differ c = c.requires.before.differ
+
+pub add_pred-requires-2-clause-over : goal.add_pred-requires-2-clause-over
+add_pred-requires-2-clause-over c = subst (λ (n : ℕ). IsOver n (formula_of c.args.to.now)) (sym c.requires.after.count) c.requires.to_over
+
+pub add_pred-requires-2-clause-differ : goal.add_pred-requires-2-clause-differ
+add_pred-requires-2-clause-differ c = c.requires.after.differ
 
 pub add_class-requires-clause-within : goal.add_class-requires-clause-within
 add_class-requires-clause-within c =

@@ -2,7 +2,7 @@ use Rattle.std.proofs.Common.{◌≡◌, ◌+◌, ℕ, List, true, false, length
 use Rattle.std.specs.Prelude.{slice_index}
 use Rattle.letter_acts.specs.Invariant.{written_by}
 use Rattle.triple_rows.specs.declared.drafts.Draft.{Draft}
-use Rattle.triple_rows.specs.Predicates.{formula_of}
+use Rattle.triple_rows.specs.Predicates.{IsOver, formula_of}
 use Rattle.triple_rows.specs.Systems.{PlainSystem, PlainFits, said, denied, only_rows, after_column, bounds, types_at}
 use Rattle.triple_rows.specs.Drafts.{Adds, stated, return_ties}
 use Rattle.triple_rows.proofs.ListLaws.{all_joined}
@@ -10,6 +10,24 @@ use Rattle.triple_rows.proofs.DraftLaws.{adds_all, adds_joined, all_fit}
 use Rattle.triple_rows.proofs.PieceLaws.{stated_by_table}
 use Rattle.triple_rows.proofs.BuildingLaws.{return_ends, return_parts}
 use Rattle.triple_rows.proofs.building.add_return.Goals as goal
+
+pub add_pred-requires-clause-over : goal.add_pred-requires-clause-over
+add_pred-requires-clause-over c = subst (λ (n : ℕ). IsOver n (formula_of c.args.exit.now)) (sym c.requires.tables.exit.count) c.requires.exit_over
+
+pub add_pred-requires-clause-differ : goal.add_pred-requires-clause-differ
+add_pred-requires-clause-differ c = c.requires.tables.exit.differ
+
+pub add_pred-requires-2-clause-over : goal.add_pred-requires-2-clause-over
+add_pred-requires-2-clause-over c = subst (λ (n : ℕ). IsOver n (formula_of c.args.before.now)) (sym c.requires.tables.call.count) c.requires.before_over
+
+pub add_pred-requires-2-clause-differ : goal.add_pred-requires-2-clause-differ
+add_pred-requires-2-clause-differ c = c.requires.tables.call.differ
+
+pub add_pred-requires-3-clause-over : goal.add_pred-requires-3-clause-over
+add_pred-requires-3-clause-over c = subst (λ (n : ℕ). IsOver n (formula_of c.args.to.now)) (sym c.requires.tables.end.count) c.requires.to_over
+
+pub add_pred-requires-3-clause-differ : goal.add_pred-requires-3-clause-differ
+add_pred-requires-3-clause-differ c = c.requires.tables.end.differ
 
 pub returns-in_err-add_pred-clause-past : goal.returns-in_err-add_pred-clause-past
 returns-in_err-add_pred-clause-past c = λ e h.

@@ -10,8 +10,37 @@ use Rattle.triple_rows.specs.declared.drafts.Draft.{Draft}
 use Rattle.triple_rows.specs.Systems.{PlainFits, only_rows, is_listed, after_column, call_column}
 use Rattle.triple_rows.specs.Drafts.{Adds}
 use Rattle.triple_rows.proofs.ListLaws.{all_passed}
-use Rattle.triple_rows.proofs.PieceLaws.{ties_by_tables, rows_by_table}
+use Rattle.triple_rows.proofs.PieceLaws.{ties_by_tables, rows_by_table, within_tables}
 use Rattle.triple_rows.proofs.building.add_return_ties.Goals as goal
+
+pub add_class-requires-clause-within : goal.add_class-requires-clause-within
+add_class-requires-clause-within c =
+    let m = length c.args.callee.now in
+    within_tables m (length c.args.caller.now) (λ c. c) (λ c. m + c) c.args.at_exit.now c.args.at_call.now (λ (c : ℕ). c) (λ c. c) (constants_of c.args.callee.now) c.requires.tables.exit
+    c.requires.tables.call c.requires.within.constants
+
+pub add_olds-requires-clause-within : goal.add_olds-requires-clause-within
+add_olds-requires-clause-within c =
+    let m = length c.args.callee.now in
+    within_tables m (length c.args.caller.now) (λ c. c) (λ c. m + c) c.args.at_exit.now c.args.at_call.now (λ (o : ℕ × ℕ). o.0) (λ o. o.1) (olds_of c.args.callee.now) c.requires.tables.exit
+    c.requires.tables.call c.requires.within.olds
+
+pub add_renamed-requires-clause-differ : goal.add_renamed-requires-clause-differ
+add_renamed-requires-clause-differ c = c.requires.tables.rows.differ
+
+pub add_kept-requires-clause-within : goal.add_kept-requires-clause-within
+add_kept-requires-clause-within c =
+    let m = length c.args.callee.now in
+    let n = length c.args.caller.now in
+    within_tables n m (after_column m (m + n) (written_by c.args.caller.now c.args.targets.now)) (λ c. c) c.args.at_end.now c.args.at_exit.now (λ (g : ℕ). g) (λ g. g) (variables_of c.args.caller.now)
+    c.requires.tables.end c.requires.tables.exit c.requires.within.variables
+
+pub add_results-requires-clause-within : goal.add_results-requires-clause-within
+add_results-requires-clause-within c =
+    let m = length c.args.callee.now in
+    let n = length c.args.caller.now in
+    within_tables n m (after_column m (m + n) (written_by c.args.caller.now c.args.targets.now)) (λ c. c) c.args.at_end.now c.args.at_exit.now (λ (p : ℕ × ℕ). p.0) (λ p. p.1)
+    (taken c.args.targets.now (results_of c.args.callee.now)) c.requires.tables.end c.requires.tables.exit c.requires.within.taken
 
 pub returns-clause-adds : goal.returns-clause-adds
 returns-clause-adds c =

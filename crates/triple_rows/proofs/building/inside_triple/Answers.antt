@@ -1,12 +1,32 @@
-use Rattle.std.proofs.Common.{◌≡◌, ◌+◌, List, [], ◌∷◌, true, false, length, refl, sym, subst, rules}
+use Rattle.std.proofs.Common.{◌≡◌, ◌+◌, ℕ, List, [], ◌∷◌, true, false, length, refl, sym, subst, rules}
 use Rattle.std.specs.Prelude.{slice_index}
 use Rattle.triple_rows.specs.declared.drafts.Draft.{Draft}
-use Rattle.triple_rows.specs.Predicates.{formula_of}
+use Rattle.triple_rows.specs.Predicates.{IsOver, formula_of}
 use Rattle.triple_rows.specs.Systems.{PlainSystem, PlainFits, all_systems, said, denied, after_column, only_rows, bounds, types_of, types_at}
 use Rattle.triple_rows.specs.Drafts.{Adds, stated}
 use Rattle.triple_rows.proofs.DraftLaws.{adds_all, draft_is, all_fit}
 use Rattle.triple_rows.proofs.PieceLaws.{sliced, from_first, stated_by_table}
 use Rattle.triple_rows.proofs.building.inside_triple.Goals as goal
+
+pub add_pred-requires-clause-over : goal.add_pred-requires-clause-over
+add_pred-requires-clause-over c =
+    let table = sliced (length c.args.frame.now) (λ c. 0 + c) c.deref.result.now c.in_ok-before.before.items c.deref.ensures.value c.in_ok-before.ensures.table in
+    subst (λ (n : ℕ). IsOver n (formula_of c.args.from.now)) (sym table.count) c.requires.from_over
+
+pub add_pred-requires-clause-differ : goal.add_pred-requires-clause-differ
+add_pred-requires-clause-differ c =
+    (sliced (length c.args.frame.now) (λ c. 0 + c) c.deref.result.now c.in_ok-before.before.items c.deref.ensures.value c.in_ok-before.ensures.table).differ
+
+pub add_pred-requires-2-clause-over : goal.add_pred-requires-2-clause-over
+add_pred-requires-2-clause-over c =
+    let n = length c.args.frame.now in
+    let table = sliced n (after_column 0 n c.args.written.now) c.deref-2.result.now c.in_ok-after.after.items c.deref-2.ensures.value c.in_ok-after.ensures in
+    subst (λ (k : ℕ). IsOver k (formula_of c.args.to.now)) (sym table.count) c.requires.to_over
+
+pub add_pred-requires-2-clause-differ : goal.add_pred-requires-2-clause-differ
+add_pred-requires-2-clause-differ c =
+    let n = length c.args.frame.now in
+    (sliced n (after_column 0 n c.args.written.now) c.deref-2.result.now c.in_ok-after.after.items c.deref-2.ensures.value c.in_ok-after.ensures).differ
 
 pub returns-in_err-add_pred-clause-past : goal.returns-in_err-add_pred-clause-past
 returns-in_err-add_pred-clause-past c = λ e h.

@@ -1,4 +1,4 @@
-use Rattle.std.proofs.Common.{◌≡◌, ◌∙◌, ℕ, ℤ, pos, List, length, map, take, sym, ap, subst, rules}
+use Rattle.std.proofs.Common.{◌≡◌, ◌∙◌, ℕ, ℤ, pos, List, length, get_or, map, take, refl, sym, ap, subst, rules}
 use mir.Val.{SFits}
 use mir.Syntax.{w128}
 use Rattle.std.specs.Prelude.{slice_index}
@@ -8,6 +8,7 @@ use Rattle.math_facts.specs.Terms.{IsBelow}
 use Rattle.lin_rows.specs.Sums.{SumsFit}
 use Rattle.lin_rows.proofs.PointLemmas.{IsBelow_at}
 use Rattle.triple_rows.proofs.RenamingLaws.{renamed_sums_fit}
+use Rattle.triple_rows.proofs.PushSteps.{mapped_next}
 use Rattle.triple_rows.proofs.rows.renamed_row.Goals as goal
 
 pub bounds-columns-column : goal.bounds-columns-column
@@ -28,3 +29,13 @@ fitting_row-requires c =
     (renamed_sums_fit c.args.columns.now c.args.row.now c.requires.differ c.requires.below c.terms-column-items.ensures.valid)) in
     let small : SFits w128 c.bound.result = search rules in
     simp to_z-of_z fit
+
+pub loop-column-preserved : goal.loop-column-preserved
+loop-column-preserved c =
+    let columns = c.args.columns.now in
+    let items = c.terms-column-items.result.now in
+    let i = c.loop-column.column-index in
+    let t : ℕ × ℤ = get_or items i (0, pos 0) in
+    let fits : SFits w128 t.1 = search rules in
+    mapped_next (λ (t : ℕ × ℤ). (slice_index columns t.0, t.1)) items i (0, pos 0) c.loop-column.terms.items c.push.new.self.items (slice_index columns t.0, t.1) c.loop-column-test.true
+    c.loop-column.invariant (simp to_z-of_z at c.in_ok-push.ensures.ok) refl
