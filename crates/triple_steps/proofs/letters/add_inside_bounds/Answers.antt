@@ -1,10 +1,7 @@
-use Rattle.std.proofs.Common.{◌≡◌, ◌∙◌, ◌+◌, ◌++◌, ℕ, suc, List, length, refl, ap, arith}
+use Rattle.std.proofs.Common.{◌≡◌, ◌∙◌, ◌+◌, ℕ, suc, length, refl, ap, arith}
 use Rattle.path_rows.specs.Rows.{bounds, types_at}
-use Rattle.nested_refutations.specs.Refutations.{Role}
 use Rattle.nested_refutations.specs.Numbers.{branch_rows, before_bounds}
-use Rattle.triple_steps.specs.declared.sections.Section.{Section}
 use Rattle.triple_steps.specs.declared.sections.Section.TheVariants.{Rows}
-use Rattle.triple_steps.specs.Sections.{section_roles}
 use Rattle.triple_steps.proofs.RoleLaws.{adds_section}
 use Rattle.triple_steps.proofs.JoinLaws.{adds_both}
 use Rattle.triple_steps.proofs.letters.add_inside_bounds.Goals as goal

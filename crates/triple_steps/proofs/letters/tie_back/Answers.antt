@@ -1,4 +1,4 @@
-use Rattle.std.proofs.Common.{◌++◌, ℕ, List, length, map, refl}
+use Rattle.std.proofs.Common.{◌++◌, ℕ, List, map, refl}
 use Rattle.std.specs.Prelude.{filter, not}
 use Rattle.letter_acts.specs.Frames.{constants_of, variables_of, results_of, olds_of}
 use Rattle.letter_acts.specs.Reading.{taken}
