@@ -1,5 +1,4 @@
-use Rattle.std.proofs.Common.{ℕ, ℤ, pos, get_or}
-use Rattle.std.proofs.Common.{eqb}
+use Rattle.std.proofs.Common.{pos, eqb}
 use Rattle.std.specs.HashMap.{get}
 use Rattle.nwa_base.specs.Groups.{grouped}
 use Rattle.nested_predicates.proofs.TableSteps.{parts_next}
