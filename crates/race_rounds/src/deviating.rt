@@ -7,6 +7,26 @@ use std::alloc::{AllocError, Global};
 /// How often a word is left at most.
 const MOST_FORKS: u32 = 3;
 
+/// Adds the states on the way of a word from which another letter could be read, each with the letter that the word has there.
+fn add_forks(
+    alloc: Global,
+    nwa: &Nwa,
+    word: &Word,
+    forks: &mut Vec<(u32, Letter)>,
+) -> Result<(), AllocError> {
+    let Some(run) = run_of(alloc, nwa, word)? else {
+        return Ok(());
+    };
+    for (&state, &letter) in run.as_slice().iter().zip(word.letters()) {
+        let insides = nwa.insides_leaving(state).len();
+        let ways = insides.saturating_add(nwa.calls_leaving(state).len());
+        if letter.kind != Kind::Back && ways > 1 {
+            forks.push((state, letter))?;
+        }
+    }
+    Ok(())
+}
+
 /// One of the states on the way of a word from which another letter could be read, with the letter that the word has there. `seed` varies
 /// which.
 fn fork(
@@ -15,17 +35,8 @@ fn fork(
     word: &Word,
     seed: u64,
 ) -> Result<Option<(u32, Letter)>, AllocError> {
-    let Some(run) = run_of(alloc, nwa, word)? else {
-        return Ok(None);
-    };
     let mut forks = Vec::new(alloc);
-    for (&state, &letter) in run.as_slice().iter().zip(word.letters()) {
-        let insides = nwa.insides_leaving(state).len();
-        let ways = insides.saturating_add(nwa.calls_leaving(state).len());
-        if letter.kind != Kind::Back && ways > 1 {
-            forks.push((state, letter))?;
-        }
-    }
+    add_forks(alloc, nwa, word, &mut forks)?;
     if forks.is_empty() {
         return Ok(None);
     }
@@ -66,6 +77,14 @@ fn avoiding(alloc: Global, nwa: &Nwa, state: u32, letter: Letter) -> Result<Nwa,
     Ok(left)
 }
 
+/// A word of the automaton, with the automaton; `None` where it accepts none.
+fn with_word(alloc: Global, left: Nwa, worker: u32) -> Result<Option<(Word, Nwa)>, AllocError> {
+    match find(alloc, &left, worker)? {
+        Found::Word(word) => Ok(Some((word, left))),
+        Found::Empty => Ok(None),
+    }
+}
+
 /// A word of the automaton that goes another way than the given one at a fork, and what is left of the automaton without that fork;
 /// `None` where there is none.
 fn other_word(
@@ -78,14 +97,10 @@ fn other_word(
     let Some((state, letter)) = fork(alloc, nwa, word, seed)? else {
         return Ok(None);
     };
-    let left = match avoiding(alloc, nwa, state, letter) {
-        Ok(left) => left,
-        Err(NwaFault::Memory) => return Err(AllocError),
-        Err(NwaFault::BadState | NwaFault::BadLetter) => return Ok(None),
-    };
-    match find(alloc, &left, worker)? {
-        Found::Word(word) => Ok(Some((word, left))),
-        Found::Empty => Ok(None),
+    match avoiding(alloc, nwa, state, letter) {
+        Ok(left) => with_word(alloc, left, worker),
+        Err(NwaFault::Memory) => Err(AllocError),
+        Err(NwaFault::BadState | NwaFault::BadLetter) => Ok(None),
     }
 }
 

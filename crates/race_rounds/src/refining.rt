@@ -57,6 +57,25 @@ fn automaton_under<R: Threads + Sync>(
     }
 }
 
+/// The automaton under the refutation that is chosen.
+fn automaton_chosen<R: Threads + Sync>(
+    rt: &R,
+    alloc: Global,
+    icfg: &Icfg,
+    path: &PathSystem,
+    refutation: &Refutation,
+    depth: u32,
+    choice: Choice,
+) -> Result<Option<Certified>, AllocError>
+    requires path { IsPathOf icfg.now path.now }
+    requires refutation { IsRefutation icfg.now depth path.now.word refutation.now }
+    requires depth { depth ≤ 64 }
+    ensures { IfOk result (λ o. IfSome o (IsEvidence icfg.now path.now.word)) }
+{
+    let first = chosen(alloc, path, refutation, depth, choice)?;
+    automaton_under(rt, alloc, icfg, path, &first)
+}
+
 /// The automaton under the refutation that is chosen, else under the one that was found, else under Decide's own, else why there is
 /// none.
 pub(crate) fn refine<R: Threads + Sync>(
@@ -73,8 +92,7 @@ pub(crate) fn refine<R: Threads + Sync>(
     requires depth { depth ≤ 64 }
     ensures { (t : TypedProgram) (o : Options) → icfg.now ≡ lowered t → o.depth ≡ depth → IfOk result (λ r. (n : ℕ) → IsRefined t o n path.now.word r) }
 {
-    let first = chosen(alloc, path, refutation, depth, choice)?;
-    if let Some(automaton) = automaton_under(rt, alloc, icfg, path, &first)? {
+    if let Some(automaton) = automaton_chosen(rt, alloc, icfg, path, refutation, depth, choice)? {
         return Ok(Refined::Evidence(automaton));
     }
     if let Some(automaton) = automaton_under(rt, alloc, icfg, path, refutation)? {

@@ -1,7 +1,11 @@
 //! What comes of a kept word.
 
-ghost use Rattle.std.specs.Prelude.{◌≡◌, ◌≤◌, IfOk};
+ghost use Rattle.std.specs.Prelude.{◌≡◌, ◌≤◌, ℕ, ℤ, IfOk};
+ghost use Rattle.std.specs.List.{AllByRecursion};
 ghost use Rattle.nwa_base.specs.Acceptance.{Accepts};
+ghost use Rattle.lin_rows.specs.Rows.{Holds};
+ghost use Rattle.letter_acts.specs.Feasible.{IsFeasible};
+ghost use Rattle.letter_acts.specs.Invariant.{alphabet_of};
 ghost use Rattle.typed_tree.specs.TypedTree.{TypedProgram};
 ghost use Rattle.typing_rules.specs.TypedParts.{typed_program};
 ghost use Rattle.lowered_graph.specs.Lowered.{lowered};
@@ -52,7 +56,33 @@ pub fn settle<R: Threads + Sync>(
     ensures { (o : Options) → o.rounds ≡ rounds → o.depth ≡ depth → IfOk result (IsSettled (typed_program program.now) o version word) }
 {
     let path = rows_of(alloc, icfg, &word)?;
-    match decide_path(alloc, &path, depth)? {
+    settle_rows(
+        rt, alloc, program, icfg, rounds, depth, version, worker, word, &path,
+    )
+}
+
+/// What is made of a kept word, by its rows.
+fn settle_rows<R: Threads + Sync>(
+    rt: &R,
+    alloc: Global,
+    program: &Typed,
+    icfg: &Icfg,
+    rounds: u64,
+    depth: u32,
+    version: u64,
+    worker: u32,
+    word: Word,
+    path: &PathSystem,
+) -> Result<Settled, AllocError>
+    requires lowered { icfg.now ≡ lowered (typed_program program.now) }
+    requires accepted { Accepts icfg.now.automaton word }
+    requires path { IsPathOf icfg.now path.now }
+    requires exact { (point : ℕ → ℤ) → AllByRecursion (Holds point) path.now.rows → IsFeasible (alphabet_of icfg.now) word }
+    requires word { path.now.word ≡ word }
+    requires depth { depth ≤ 64 }
+    ensures { (o : Options) → o.rounds ≡ rounds → o.depth ≡ depth → IfOk result (IsSettled (typed_program program.now) o version word) }
+{
+    match decide_path(alloc, path, depth)? {
         Finding::Refuted(refutation) => refuted(
             rt,
             alloc,
@@ -62,7 +92,7 @@ pub fn settle<R: Threads + Sync>(
             version,
             worker,
             word,
-            &path,
+            path,
             &refutation,
         ),
         Finding::Whole(point) => {

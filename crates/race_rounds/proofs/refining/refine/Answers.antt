@@ -9,22 +9,14 @@ use Rattle.race_rounds.specs.Rounds.{IsEvidence}
 use Rattle.race_rounds.proofs.TreeCuts.{few_cuts}
 use Rattle.race_rounds.proofs.NoPoints.{no_point}
 use Rattle.race_rounds.proofs.Says.{predicates_pass}
-use Rattle.race_rounds.proofs.RowsRefuted.{rows_refuted}
 use Rattle.race_rounds.proofs.refining.refine.Goals as goal
 
-pub chosen-requires : goal.chosen-requires
-chosen-requires g c =
-    rows_refuted c.args.icfg.now c.args.depth c.args.path.now.word c.args.path.now.rows c.args.refutation.now c.requires.path.rows c.requires.refutation
-
 pub automaton_under-requires-clause-cuts : goal.automaton_under-requires-clause-cuts
-automaton_under-requires-clause-cuts g c κs within = few_cuts c.args.depth c.in_ok-first.first c.requires.depth c.in_ok-first.ensures.tree
-
-pub automaton_under-requires-2-clause-cuts : goal.automaton_under-requires-2-clause-cuts
-automaton_under-requires-2-clause-cuts g c κs within = few_cuts c.args.depth c.args.refutation.now c.requires.depth c.requires.refutation.tree
+automaton_under-requires-clause-cuts g c κs within = few_cuts c.args.depth c.args.refutation.now c.requires.depth c.requires.refutation.tree
 
 pub returns-in-Some : goal.returns-in-Some
 returns-in-Some g c = λ t o e d n. subst (λ (x : Graph). IsEvidence x c.args.path.now.word c.in-Some.automaton) e
-    (subst (λ (x : Option Certificate). IfSome x (IsEvidence c.args.icfg.now c.args.path.now.word)) c.in-Some.is c.in_ok-automaton.ensures.evidence)
+    (subst (λ (x : Option Certificate). IfSome x (IsEvidence c.args.icfg.now c.args.path.now.word)) c.in-Some.is c.in_ok-automaton.ensures)
 
 pub automaton_under-requires-in-Refuted-clause-cuts :
     goal.automaton_under-requires-in-Refuted-clause-cuts
