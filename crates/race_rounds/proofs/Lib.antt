@@ -3,3 +3,4 @@ pub mod NoPoints
 pub mod Says
 pub mod RowsRefuted
 pub mod DecideCuts
+mod NumbersTaken
