@@ -7,3 +7,4 @@ pub mod ConditionSteps
 pub mod StartSteps
 pub mod Targets
 pub mod WholeSteps
+mod HeadNumbers

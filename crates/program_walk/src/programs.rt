@@ -6,7 +6,7 @@ ghost use Rattle.typed_tree.specs.TypedView as view;
 ghost use Rattle.typing_rules.specs.TypedParts.{typed_program};
 ghost use Rattle.typing_rules.specs.ValidProgram.{is_valid};
 ghost use Rattle.boogie_places.specs.Places.{located, points_with, places_from};
-ghost use Rattle.lowered_parts.specs.Parts.{Adds, IsWalked};
+ghost use Rattle.lowered_parts.specs.Parts.{Adds, IsWalked, nothing_yet};
 ghost use Rattle.program_layout.specs.Layouts.{marks_of};
 ghost use Rattle.place_edges.specs.WalkedParts.{walked};
 ghost use Rattle.program_walk.specs.Bounds.{BodyFits};
@@ -52,11 +52,6 @@ fn body(
         proc,
         place: marks.entry,
     };
-    let shared = Body {
-        proc,
-        exit: marks.exit,
-        labels: labels_of(alloc, layout, proc)?,
-    };
     let first = Next {
         place: marks.body,
         assertion: marks.first,
@@ -65,8 +60,13 @@ fn body(
         place: marks.exit,
         assertion: marks.behind,
     };
-    let mut loops = Vec::new(alloc);
     entry_conditions(lowering, here, &listed.specs)?;
+    let shared = Body {
+        proc,
+        exit: marks.exit,
+        labels: labels_of(alloc, layout, proc)?,
+    };
+    let mut loops = Vec::new(alloc);
     block(lowering, &shared, statements, first, marks.exit, &mut loops)?;
     exit_conditions(lowering, proc, &listed.specs, behind)
 }
@@ -105,15 +105,23 @@ fn procedures(lowering: &mut Lowering<'_>) -> Result<(), AllocError>
     Ok(())
 }
 
+/// The start of the program of this layout, and its procedures.
+fn whole(lowering: &mut Lowering<'_>, layout: &Layout<'_>) -> Result<(), AllocError>
+    requires { lowering.old.parts ≡ layout.now }
+    ensures { OnOk result (walked lowering.old ≡ nothing_yet (typed_program layout.now) → IsWalked (typed_program layout.now) (walked lowering.new)) }
+{
+    kept(layout);
+    let start = start_of(layout);
+    begin(lowering, start)?;
+    start_conditions(lowering, start)?;
+    procedures(lowering)
+}
+
 /// The start of a program and its procedures are lowered, in the order of the text.
 pub fn walk<'a>(alloc: Global, layout: &'a Layout<'a>) -> Result<Lowering<'a>, AllocError>
     ensures { IfOk result (λ w. IsWalked (typed_program layout.now) (walked w)) }
 {
     let mut lowering = Lowering::new(alloc, layout);
-    kept(layout);
-    let start = start_of(layout);
-    begin(&mut lowering, start)?;
-    start_conditions(&mut lowering, start)?;
-    procedures(&mut lowering)?;
+    whole(&mut lowering, layout)?;
     Ok(lowering)
 }
