@@ -1,5 +1,5 @@
 use Rattle.generated_program.proofs.ChainSteps.{link_added, chain_ended}
-use Rattle.generated_program.proofs.generating.generated.Goals as goal
+use Rattle.generated_program.proofs.generating.add_chain.Goals as goal
 
 pub loop-number-preserved : goal.loop-number-preserved
 loop-number-preserved c =
