@@ -26,3 +26,4 @@ pub mod PickedValues
 pub mod Alikes
 mod SearchSteps
 mod ShownValues
+mod CutSteps

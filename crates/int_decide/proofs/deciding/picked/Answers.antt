@@ -1,8 +1,8 @@
-use Rattle.std.proofs.Common.{sym, subst}
+use Rattle.std.proofs.Common.{sym, subst, ◌<◌, ◌+◌, ◌^◌, arith}
 use Rattle.farkas_check.specs.Walks.{goal_at_hand}
-use Rattle.int_decide.specs.Searching.{Standing}
+use Rattle.int_decide.specs.Searching.{Standing, Takes, goal_extent}
 use Rattle.int_decide.specs.Alike.{ComesTo}
-use Rattle.int_decide.proofs.Alikes.{comes_start, taken_is_tight, comes_further, comes_met}
+use Rattle.int_decide.proofs.Alikes.{comes_start, taken_is_tight, comes_further, comes_met, taken_is_ready}
 use Rattle.int_decide.proofs.deciding.picked.Goals as goal
 
 pub loop-goal-init : goal.loop-goal-init
@@ -30,3 +30,20 @@ loop-goal-preserved c =
           (record { left = c.in-Some.left; goal = goal_at_hand c.next.new.self.walk }) c.loop-goal.invariant.comes (rw c.in-Some.is at c.in_ok-left.ensures) g;
       paired = g.paired;
     }
+
+pub meet_picked-requires-clause-paired : goal.meet_picked-requires-clause-paired
+meet_picked-requires-clause-paired c =
+    let t : Takes c.loop-goal.search (record { left = c.in-Some.left; goal = goal_at_hand c.next.new.self.walk }) c.next.new.self = rw c.in-Some.is at c.in_ok-left.ensures in
+    t.paired
+
+pub meet_picked-requires-clause-below : goal.meet_picked-requires-clause-below
+meet_picked-requires-clause-below c =
+    (taken_is_ready c.args.columns c.args.depth c.args.system.now c.loop-goal.search c.next.new.self (record { left = c.in-Some.left; goal = goal_at_hand c.next.new.self.walk })
+    c.loop-goal.invariant.comes (rw c.in-Some.is at c.in_ok-left.ensures)).below
+
+pub meet_picked-requires-clause-numbered : goal.meet_picked-requires-clause-numbered
+meet_picked-requires-clause-numbered c =
+    let l : goal_extent (goal_at_hand c.next.new.self.walk) + c.in-Some.left < 2 ^ 32 =
+    (taken_is_ready c.args.columns c.args.depth c.args.system.now c.loop-goal.search c.next.new.self (record { left = c.in-Some.left; goal = goal_at_hand c.next.new.self.walk })
+    c.loop-goal.invariant.comes (rw c.in-Some.is at c.in_ok-left.ensures)).numbered in
+    omega (arith, l)
