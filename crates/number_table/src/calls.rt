@@ -1,8 +1,9 @@
 //! Calls as text: the crate, the function, and its arguments.
 
-use crate::faults::Fault;
-use crate::reading::small_number;
+use crate::reading::system_of;
+use crate::showing::{show_row_fault, show_text};
 use crate::{decisions, fractions, refutations, rows};
+use lin_rows::System;
 use std::alloc::{AllocError, Global};
 
 /// A function, and the texts of up to three arguments, which are empty where there are fewer.
@@ -16,10 +17,8 @@ pub(crate) struct Call<'a> {
 
 /// What stands before the first semicolon, and behind it.
 fn parted(arguments: &str) -> (&str, &str) {
-    match arguments.split_once(';') {
-        Some((first, others)) => (first.trim(), others.trim()),
-        None => (arguments.trim(), ""),
-    }
+    let (first, others) = arguments.split_once(';').unwrap_or((arguments, ""));
+    (first.trim(), others.trim())
 }
 
 /// The call of a text: the function, a blank, and the arguments with semicolons between them.
@@ -36,57 +35,68 @@ fn call_of(text: &str) -> Call<'_> {
 }
 
 /// Writes the words behind a number, so many times.
-fn repeat(whole: &mut String, repeated: &str) -> Result<(), Fault> {
-    let (times, words) = repeated.split_once(' ').ok_or(Fault::NoCall)?;
-    for _time in 0..small_number(times)? {
-        whole.push_str(words)?;
-        whole.push_str(" ")?;
+fn push_repeated(whole: &mut String, repeated: &str) -> Result<(), AllocError> {
+    let (times, words) = repeated.split_once(' ').unwrap_or(("1", repeated));
+    for _time in 0..times.parse::<u32>().unwrap_or(0) {
+        write!(whole, "{words} ")?;
     }
     Ok(())
 }
 
 /// Writes a text, and `[n words]` in it as n times the words.
-fn expand(whole: &mut String, text: &str) -> Result<(), Fault> {
+fn expand(whole: &mut String, text: &str) -> Result<(), AllocError> {
     for piece in text.split('[') {
-        match piece.split_once(']') {
-            Some((repeated, rest)) => {
-                repeat(whole, repeated)?;
-                whole.push_str(rest)?;
-            }
-            None => whole.push_str(piece)?,
-        }
+        let (repeated, rest) = piece.split_once(']').unwrap_or(("0 ", piece));
+        push_repeated(whole, repeated)?;
+        whole.push_str(rest)?;
     }
     Ok(())
 }
 
-/// Writes the answer of a function of a crate.
-fn answer(alloc: Global, text: &mut String, owner: &str, call: Call) -> Result<(), Fault> {
+/// The text with its repeated words.
+fn expanded(alloc: Global, text: &str) -> Result<String, AllocError> {
+    let mut whole = String::new(alloc);
+    expand(&mut whole, text)?;
+    Ok(whole)
+}
+
+/// Shows the answer of a function about a system.
+fn show_over(rt: &HostRuntime, owner: &str, system: &System, call: &Call<'_>) {
     match owner {
-        "frac" => fractions::answer(text, call),
-        "lin_rows" => rows::answer(alloc, text, call),
-        "farkas_check" => refutations::answer(alloc, text, call),
-        "fm_elim" | "simplex_rows" => decisions::answer_of_rows(alloc, text, call),
-        "int_decide" | "late_refutations" => decisions::answer(alloc, text, call),
-        _ => Err(Fault::NoCall),
+        "farkas_check" => refutations::show_over(rt, system, call),
+        "fm_elim" | "simplex_rows" => decisions::show_of_rows(rt, &system.rows, call),
+        _ => decisions::show_of(rt, system, call),
     }
 }
 
-fn answer_expanded(alloc: Global, text: &mut String, whole: &str) -> Result<(), Fault> {
-    let (owner, path) = whole.split_once(':').ok_or(Fault::NoCall)?;
-    let call = path.strip_prefix(':').ok_or(Fault::NoCall)?;
-    answer(alloc, text, owner, call_of(call))
+/// Shows the answer of a function whose first argument is a system.
+fn show_of_system(rt: &HostRuntime, owner: &str, call: &Call<'_>) {
+    match system_of(rt.alloc(), call.first) {
+        Ok(system) => show_over(rt, owner, &system, call),
+        Err(fault) => show_row_fault(rt, &fault),
+    }
 }
 
-fn answer_line(alloc: Global, text: &mut String, line: &str) -> Result<(), Fault> {
-    let mut whole = String::new(alloc);
-    expand(&mut whole, line)?;
-    answer_expanded(alloc, text, &whole)
+/// Shows the answer of a function of a crate.
+fn show_call(rt: &HostRuntime, owner: &str, call: &Call<'_>) {
+    match owner {
+        "frac" => fractions::show_of(rt, call),
+        "lin_rows" => rows::show_of(rt, call),
+        "farkas_check" if call.second.is_empty() => refutations::show_of(rt, call),
+        _ => show_of_system(rt, owner, call),
+    }
 }
 
-/// Writes the answer of the call that a line tells, or why it has none.
-pub(crate) fn write_answer(alloc: Global, text: &mut String, line: &str) -> Result<(), AllocError> {
-    match answer_line(alloc, text, line) {
-        Ok(()) => Ok(()),
-        Err(fault) => write!(text, "{fault}"),
+fn show_expanded(rt: &HostRuntime, whole: &str) {
+    let (owner, text) = whole.split_once("::").unwrap_or((whole, ""));
+    show_text(rt, " => ");
+    show_call(rt, owner, &call_of(text));
+}
+
+/// Shows the answer of the call that a line tells.
+pub(crate) fn show_answer(rt: &HostRuntime, line: &str) {
+    match expanded(rt.alloc(), line) {
+        Ok(whole) => show_expanded(rt, &whole),
+        Err(_) => show_text(rt, "no memory"),
     }
 }

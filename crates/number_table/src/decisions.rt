@@ -5,26 +5,24 @@ ghost use Rattle.fm_elim.specs.Worth.{ColumnsBelow};
 ghost use Rattle.int_decide.specs.Sizes.{SystemBelow, extent};
 
 use crate::calls::Call;
-use crate::faults::Fault;
-use crate::reading::{small_number, system_of};
+use crate::reading::small_number;
 use crate::rows::are_below;
-use crate::showing::{show_fractions, show_leaf, show_nodes, show_point};
+use crate::showing::{
+    show_fractions, show_leaf, show_nodes, show_past, show_place, show_point, show_text,
+};
 use farkas_check::Refutation;
-use fm_elim::{Elim, eliminate};
+use fm_elim::{Elim, ElimFault, eliminate};
 use int_decide::{Answer, DecideFault, decide, measure, plain};
 use late_refutations::late;
 use lin_rows::{Row, System};
 use simplex_rows::{Found, try_solve};
-use std::alloc::{AllocError, Global};
 
-/// Writes the answer about the rows of a system.
-pub(crate) fn answer_of_rows(alloc: Global, text: &mut String, call: Call) -> Result<(), Fault> {
-    let system = system_of(alloc, call.first)?;
-    let columns = small_number(call.second)?;
+/// Shows the answer about the rows of a system.
+pub(crate) fn show_of_rows(rt: &HostRuntime, rows: &[Row], call: &Call<'_>) {
+    let columns = small_number(call.second);
     match call.function {
-        "eliminate" => show_elimination(alloc, text, &system.rows, columns),
-        "try_solve" => show_proposal(alloc, text, &system.rows, columns, call.third),
-        _ => Err(Fault::NoCall),
+        "eliminate" => show_elimination(rt, rows, columns),
+        _ => show_proposal(rt, rows, columns, small_number(call.third)),
     }
 }
 
@@ -40,75 +38,55 @@ fn all_below(rows: &[Row], columns: u32) -> bool
     true
 }
 
-fn show_elimination(
-    alloc: Global,
-    text: &mut String,
-    rows: &[Row],
-    columns: u32,
-) -> Result<(), Fault> {
+fn show_elimination(rt: &HostRuntime, rows: &[Row], columns: u32) {
     if rows.len() > 1000 || !all_below(rows, columns) {
-        return Err(Fault::NoCall);
+        return show_text(rt, "no call");
     }
-    match &eliminate(alloc, rows, columns)? {
-        Elim::Refuted(parts) => show_leaf(text, parts)?,
-        Elim::Point(values) => show_fractions(text, values)?,
+    match &eliminate(rt.alloc(), rows, columns) {
+        Ok(Elim::Refuted(parts)) => show_leaf(rt, parts),
+        Ok(Elim::Point(values)) => show_fractions(rt, values),
+        Err(ElimFault::Past) => show_past(rt),
+        Err(ElimFault::Memory) => show_text(rt, "no memory"),
     }
-    Ok(())
 }
 
-fn show_proposal(
-    alloc: Global,
-    text: &mut String,
-    rows: &[Row],
-    columns: u32,
-    pivots: &str,
-) -> Result<(), Fault> {
-    match &try_solve(alloc, rows, columns, small_number(pivots)?)? {
-        Some(Found::Refuted(parts)) => show_leaf(text, parts)?,
-        Some(Found::Point(values)) => show_fractions(text, values)?,
-        None => text.push_str("none")?,
+fn show_proposal(rt: &HostRuntime, rows: &[Row], columns: u32, pivots: u32) {
+    match &try_solve(rt.alloc(), rows, columns, pivots) {
+        Ok(Some(Found::Refuted(parts))) => show_leaf(rt, parts),
+        Ok(Some(Found::Point(values))) => show_fractions(rt, values),
+        Ok(None) => show_text(rt, "none"),
+        Err(_) => show_text(rt, "no memory"),
     }
-    Ok(())
 }
 
-/// Writes the answer about a system.
-pub(crate) fn answer(alloc: Global, text: &mut String, call: Call) -> Result<(), Fault> {
-    let system = system_of(alloc, call.first)?;
-    let columns = small_number(call.second)?;
+/// Shows the answer about a system.
+pub(crate) fn show_of(rt: &HostRuntime, system: &System, call: &Call<'_>) {
+    let columns = small_number(call.second);
     match call.function {
-        "measure" => show_measure(text, &system, columns),
-        "plain_and_decide" => show_depths(alloc, text, &system, columns),
-        _ => show_at(alloc, text, &system, columns, call),
+        "measure" => show_measure(rt, system, columns),
+        "plain_and_decide" => show_depths(rt, system, columns),
+        _ => show_at(rt, system, columns, call),
     }
 }
 
-fn show_measure(text: &mut String, system: &System, columns: u32) -> Result<(), Fault> {
+fn show_measure(rt: &HostRuntime, system: &System, columns: u32) {
     match measure(system, columns) {
-        Some(size) => write!(text, "{size}")?,
-        None => text.push_str("none")?,
+        Some(size) => show_place(rt, "", size, ""),
+        None => show_text(rt, "none"),
     }
-    Ok(())
 }
 
-/// Writes the answer at a depth.
-fn show_at(
-    alloc: Global,
-    text: &mut String,
-    system: &System,
-    columns: u32,
-    call: Call,
-) -> Result<(), Fault> {
-    let depth = small_number(call.third)?;
+/// Shows the answer at a depth.
+fn show_at(rt: &HostRuntime, system: &System, columns: u32, call: &Call<'_>) {
+    let depth = small_number(call.third);
     if !is_countable(system, columns, depth) {
-        return Err(Fault::NoCall);
+        return show_text(rt, "no call");
     }
     match call.function {
-        "plain" => show_answer(text, &plain(alloc, system, columns, depth)?)?,
-        "decide" => show_answer(text, &decide(alloc, system, columns, depth)?)?,
-        "late" => show_nodes(text, late_of(alloc, system, columns, depth)?.nodes())?,
-        _ => return Err(Fault::NoCall),
+        "plain" => show_decided(rt, &plain(rt.alloc(), system, columns, depth)),
+        "decide" => show_decided(rt, &decide(rt.alloc(), system, columns, depth)),
+        _ => show_late(rt, system, columns, depth),
     }
-    Ok(())
 }
 
 /// Whether the columns of a system are below the number given, and its rows and members, and the depth, can be counted.
@@ -122,65 +100,53 @@ fn is_countable(system: &System, columns: u32, depth: u32) -> bool
     }
 }
 
-fn show_answer(text: &mut String, answer: &Answer) -> Result<(), AllocError> {
-    match answer {
-        Answer::Whole(values) => show_point(text, values),
-        Answer::Refuted(refutation) => show_nodes(text, refutation.nodes()),
-    }
-}
-
 /// The late refutation of a system that is refuted.
-fn late_of(alloc: Global, system: &System, columns: u32, depth: u32) -> Result<Refutation, Fault>
+fn show_late(rt: &HostRuntime, system: &System, columns: u32, depth: u32)
     requires below { SystemBelow columns system.now }
     requires numbered { extent system.now + depth < 2 ^ 32 }
 {
-    match decide(alloc, system, columns, depth)? {
-        Answer::Refuted(refutation) => Ok(late(alloc, system, columns, &refutation, depth)?),
-        Answer::Whole(_) => Err(Fault::NoCall),
+    match &decide(rt.alloc(), system, columns, depth) {
+        Ok(Answer::Refuted(refutation)) => match late(
+            rt.alloc(),
+            system,
+            columns,
+            refutation,
+            depth,
+        ) {
+            Ok(found) => show_nodes(rt, found.nodes()),
+            Err(_) => show_text(rt, "no memory"),
+        },
+        other => show_decided(rt, other),
     }
 }
 
-/// Writes what `plain` answers at the depths 0, 1 and 2, and whether `decide` may answer as it does.
-fn show_depths(
-    alloc: Global,
-    text: &mut String,
-    system: &System,
-    columns: u32,
-) -> Result<(), Fault> {
+/// Shows what `plain` answers at the depths 0, 1 and 2, and whether `decide` may answer as it does.
+fn show_depths(rt: &HostRuntime, system: &System, columns: u32) {
     let mut agrees = true;
     for depth in 0..3 {
-        agrees = show_both(alloc, text, system, columns, depth)? && agrees;
-        text.push_str(" | ")?;
+        agrees = show_both(rt, system, columns, depth) && agrees;
+        show_text(rt, " | ");
     }
-    text.push_str(if agrees { "agrees" } else { "differs" })?;
-    Ok(())
+    show_text(rt, if agrees { "agrees" } else { "differs" });
 }
 
-/// Writes what `plain` answers, and says whether `decide` may answer as it does.
-fn show_both(
-    alloc: Global,
-    text: &mut String,
-    system: &System,
-    columns: u32,
-    depth: u32,
-) -> Result<bool, Fault> {
+/// Shows what `plain` answers, and says whether `decide` may answer as it does.
+fn show_both(rt: &HostRuntime, system: &System, columns: u32, depth: u32) -> bool {
     if !is_countable(system, columns, depth) {
-        return Err(Fault::NoCall);
+        return false;
     }
-    let own = plain(alloc, system, columns, depth);
-    show_decided(text, &own)?;
-    Ok(may_answer(&own, &decide(alloc, system, columns, depth)))
+    let own = plain(rt.alloc(), system, columns, depth);
+    show_decided(rt, &own);
+    may_answer(&own, &decide(rt.alloc(), system, columns, depth))
 }
 
-fn show_decided(
-    text: &mut String,
-    decided: &Result<Answer, DecideFault>,
-) -> Result<(), AllocError> {
+fn show_decided(rt: &HostRuntime, decided: &Result<Answer, DecideFault>) {
     match decided {
-        Ok(answer) => show_answer(text, answer),
-        Err(DecideFault::Gap) => text.push_str("gap"),
-        Err(DecideFault::Past) => text.push_str("past"),
-        Err(DecideFault::Memory) => text.push_str("no memory"),
+        Ok(Answer::Whole(values)) => show_point(rt, values),
+        Ok(Answer::Refuted(refutation)) => show_nodes(rt, refutation.nodes()),
+        Err(DecideFault::Gap) => show_text(rt, "gap"),
+        Err(DecideFault::Past) => show_past(rt),
+        Err(DecideFault::Memory) => show_text(rt, "no memory"),
     }
 }
 

@@ -1,69 +1,79 @@
 //! The calls of `frac`.
 
 use crate::calls::Call;
-use crate::faults::Fault;
 use crate::reading::fraction;
-use crate::showing::{show_fraction, show_number};
-use frac::{Frac, add, cmp, div, floor, is_whole, mul, num, of, sub};
+use crate::showing::{show_fraction, show_number, show_past, show_text};
+use frac::{Frac, Past, add, cmp, div, floor, is_whole, mul, num, sub};
+use std::cmp::Ordering;
 
-/// Writes the answer.
-pub(crate) fn answer(text: &mut String, call: Call) -> Result<(), Fault> {
-    match call.function {
-        "of" => show_quotient(text, call),
-        "floor" => show_floor(text, &fraction(call.first)?),
-        "cmp" => show_order(text, &fraction(call.first)?, &fraction(call.second)?),
-        _ => show_combined(text, call),
+/// Shows the answer.
+pub(crate) fn show_of(rt: &HostRuntime, call: &Call<'_>) {
+    match fraction(call.first) {
+        Ok(a) => show_about(rt, &a, call),
+        Err(_) => show_past(rt),
     }
 }
 
-/// The fraction of a numerator and a denominator.
-fn show_quotient(text: &mut String, call: Call) -> Result<(), Fault> {
-    show_fraction(text, &fraction(call.first)?)?;
-    Ok(())
+fn show_about(rt: &HostRuntime, a: &Frac, call: &Call<'_>) {
+    match call.function {
+        "of" => show_fraction(rt, a),
+        "floor" => show_floor(rt, a),
+        _ => show_pair(rt, a, call),
+    }
 }
 
-fn show_combined(text: &mut String, call: Call) -> Result<(), Fault> {
-    let combined = combine(
-        call.function,
-        &fraction(call.first)?,
-        &fraction(call.second)?,
-    )?;
-    show_fraction(text, &combined)?;
-    Ok(())
+fn show_pair(rt: &HostRuntime, a: &Frac, call: &Call<'_>) {
+    match fraction(call.second) {
+        Ok(b) => show_combined(rt, call.function, a, &b),
+        Err(_) => show_past(rt),
+    }
 }
 
 /// What two fractions are combined to.
-fn combine(function: &str, a: &Frac, b: &Frac) -> Result<Frac, Fault> {
+fn show_combined(rt: &HostRuntime, function: &str, a: &Frac, b: &Frac) {
     match function {
-        "mul" => Ok(mul(a, b)?),
-        "div" => quotient(a, b),
-        "add" => Ok(add(a, b)?),
-        "sub" => Ok(sub(a, b)?),
-        _ => Err(Fault::NoCall),
+        "mul" => show_made(rt, &mul(a, b)),
+        "div" => show_quotient(rt, a, b),
+        "add" => show_made(rt, &add(a, b)),
+        "sub" => show_made(rt, &sub(a, b)),
+        _ => show_order(rt, &cmp(a, b)),
+    }
+}
+
+fn show_made(rt: &HostRuntime, made: &Result<Frac, Past>) {
+    match made {
+        Ok(value) => show_fraction(rt, value),
+        Err(_) => show_past(rt),
     }
 }
 
 /// The quotient by a fraction that is not 0.
-fn quotient(a: &Frac, b: &Frac) -> Result<Frac, Fault> {
+fn show_quotient(rt: &HostRuntime, a: &Frac, b: &Frac) {
     if num(b) == 0 {
-        return Err(Fault::NoCall);
+        return show_past(rt);
     }
-    Ok(div(a, b)?)
+    show_made(rt, &div(a, b));
 }
 
-fn show_order(text: &mut String, a: &Frac, b: &Frac) -> Result<(), Fault> {
-    let order = cmp(a, b)?;
-    write!(text, "{order:?}")?;
-    Ok(())
+fn show_order(rt: &HostRuntime, order: &Result<Ordering, Past>) {
+    show_text(
+        rt,
+        match order {
+            Ok(Ordering::Less) => "Less",
+            Ok(Ordering::Equal) => "Equal",
+            Ok(Ordering::Greater) => "Greater",
+            Err(_) => "past",
+        },
+    );
 }
 
 /// The floor, and whether the fraction is whole.
-fn show_floor(text: &mut String, a: &Frac) -> Result<(), Fault> {
-    show_number(text, floor(a))?;
-    text.push_str(if is_whole(a) {
+fn show_floor(rt: &HostRuntime, a: &Frac) {
+    show_number(rt, floor(a));
+    let kind = if is_whole(a) {
         ", whole"
     } else {
         ", not whole"
-    })?;
-    Ok(())
+    };
+    show_text(rt, kind);
 }

@@ -1,48 +1,37 @@
 //! Reads calls of the arithmetic from standard input, a line each, and prints each with its answer behind an arrow. Lines that begin with `#`, and empty ones, are
-//! printed as they are.
+//! printed as they are. What cannot be read of a call counts as 0, or as nothing, and what cannot be printed is left out: the answers are compared.
 #![tactic(auto)]
 
 mod calls;
 mod decisions;
-mod faults;
 mod fractions;
 mod reading;
 mod refutations;
 mod rows;
 mod showing;
 
-use crate::calls::write_answer;
+use crate::calls::show_answer;
+use crate::showing::show_text;
 use std::io::{self, Read};
 
 /// A line with its answer.
-fn show_line(rt: &HostRuntime, line: &str) -> io::Result<()> {
-    if line.is_empty() || line.starts_with('#') {
-        println!(rt; "{line}")?;
-        return Ok(());
+fn show_line(rt: &HostRuntime, line: &str) {
+    show_text(rt, line);
+    if !line.is_empty() && !line.starts_with('#') {
+        show_answer(rt, line);
     }
-    let mut answer = String::new(rt.alloc());
-    write_answer(rt.alloc(), &mut answer, line)?;
-    println!(rt; "{line} => {answer}")?;
-    Ok(())
+    show_text(rt, "\n");
 }
 
-fn show_bytes(rt: &HostRuntime, line: &[u8]) -> io::Result<()> {
-    match str::from_utf8(line) {
-        Ok(text) => show_line(rt, text),
-        Err(_) => {
-            println!(rt; "no text")?;
-            Ok(())
-        }
+fn show_lines(rt: &HostRuntime, text: &str) {
+    for line in text.lines() {
+        show_line(rt, line);
     }
 }
 
 fn main(rt: HostRuntime) -> io::Result<()> {
     let mut text = Vec::new(rt.alloc());
-    let mut input = rt.stdin();
-    input.read_to_end(&mut text)?;
-    let text = text.strip_suffix(b"\n").unwrap_or(&text);
-    for line in text.split(|byte| *byte == b'\n') {
-        show_bytes(&rt, line)?;
-    }
+    rt.stdin().read_to_end(&mut text)?;
+    show_lines(&rt, str::from_utf8(&text).unwrap_or("no text"));
     Ok(())
 }
