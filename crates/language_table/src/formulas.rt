@@ -4,11 +4,12 @@ ghost use Rattle.std.specs.Prelude.{◌≡◌, true, false, IfOk};
 ghost use Rattle.typed_tree.specs.TypedView.{expression as seen};
 ghost use Rattle.typed_tree.specs.AffineForm.{is_affine, is_linear};
 
-use crate::texts::needed;
+use crate::texts::{put, put_no_memory};
 use boogie_tree::{Column, Op, Span, Text, Ty, VarInfo};
 use std::alloc::{AllocError, Global};
-use std::io;
-use typed_tree::{Affine, Scope, TExpr, TExprKind, TypeFault, affine, expression_type};
+use typed_tree::{
+    Affine, AffineFault, Scope, TExpr, TExprKind, TypeFault, affine, expression_type,
+};
 
 const HERE: Span = Span { line: 1, col: 1 };
 
@@ -76,116 +77,154 @@ fn operator(word: &str) -> Option<Op> {
     }
 }
 
-fn literal_of(word: &str) -> io::Result<i128> {
+fn literal_of(word: &str) -> i128 {
     match word {
-        "max" => Ok(i128::MAX),
-        "min" => Ok(i128::MIN),
-        _ => needed(word.parse::<i128>().ok()),
+        "max" => i128::MAX,
+        "min" => i128::MIN,
+        _ => word.parse::<i128>().unwrap_or(0),
     }
 }
 
 /// A truth value or a column, or else a number.
-fn leaf(word: &str) -> io::Result<TExprKind> {
+fn leaf(word: &str) -> TExprKind {
     if word == "true" {
-        return Ok(TExprKind::Truth(true));
+        return TExprKind::Truth(true);
     }
     match column_of(word) {
-        Some(column) => Ok(TExprKind::Var(column)),
-        None => Ok(TExprKind::Lit(literal_of(word)?)),
+        Some(column) => TExprKind::Var(column),
+        None => TExprKind::Lit(literal_of(word)),
     }
 }
 
-fn operand(alloc: Global, parts: &mut Vec<TExpr>) -> io::Result<Box<TExpr>> {
-    let part = needed(parts.pop())?;
-    Ok(Box::new(alloc, part)?)
+/// The last of the parts, which is taken away.
+fn last(parts: &mut Vec<TExpr>) -> TExpr {
+    match parts.pop() {
+        Some(part) => part,
+        None => literal(0),
+    }
 }
 
-fn operation(alloc: Global, op: Op, parts: &mut Vec<TExpr>) -> io::Result<TExprKind> {
+fn operand(alloc: Global, parts: &mut Vec<TExpr>) -> Result<Box<TExpr>, AllocError> {
+    Ok(Box::new(alloc, last(parts))?)
+}
+
+fn operation(alloc: Global, op: Op, parts: &mut Vec<TExpr>) -> Result<TExprKind, AllocError> {
     let right = operand(alloc, parts)?;
-    Ok(TExprKind::Bin(op, operand(alloc, parts)?, right))
+    match operand(alloc, parts) {
+        Ok(left) => Ok(TExprKind::Bin(op, left, right)),
+        Err(fault) => Err(fault),
+    }
 }
 
-fn kind(alloc: Global, parts: &mut Vec<TExpr>, word: &str) -> io::Result<TExprKind> {
-    if let Some(op) = operator(word) {
-        return operation(alloc, op, parts);
-    }
+/// What a word that takes one operand makes of it.
+fn applied(word: &str, operand: Box<TExpr>) -> TExprKind {
     match word {
-        "old" => Ok(TExprKind::Old(operand(alloc, parts)?)),
-        "not" => Ok(TExprKind::Not(operand(alloc, parts)?)),
-        "neg" => Ok(TExprKind::Neg(operand(alloc, parts)?)),
-        _ => leaf(word),
+        "old" => TExprKind::Old(operand),
+        "not" => TExprKind::Not(operand),
+        _ => TExprKind::Neg(operand),
     }
 }
 
-fn push_word(alloc: Global, parts: &mut Vec<TExpr>, word: &str, col: u32) -> io::Result<()> {
+fn kind(alloc: Global, parts: &mut Vec<TExpr>, word: &str) -> Result<TExprKind, AllocError> {
+    match operator(word) {
+        Some(op) => operation(alloc, op, parts),
+        None if matches!(word, "old" | "not" | "neg") => {
+            Ok(applied(word, operand(alloc, parts)?))
+        }
+        None => Ok(leaf(word)),
+    }
+}
+
+fn push_word(
+    alloc: Global,
+    parts: &mut Vec<TExpr>,
+    word: &str,
+    col: u32,
+) -> Result<(), AllocError> {
     let kind = kind(alloc, parts, word)?;
     let span = Span { line: 1, col };
     parts.push(TExpr { span, kind })?;
     Ok(())
 }
 
-/// The expression in postfix notation. Each part stands in line 1, at the column that is the number of its word.
-fn expression(alloc: Global, postfix: &str) -> io::Result<TExpr> {
-    let mut parts = Vec::new(alloc);
+fn push_words(alloc: Global, parts: &mut Vec<TExpr>, postfix: &str) -> Result<(), AllocError> {
     let mut col = 0u32;
     for word in postfix.split_whitespace() {
         col = col.wrapping_add(1);
-        push_word(alloc, &mut parts, word, col)?;
+        push_word(alloc, parts, word, col)?;
     }
-    needed(parts.pop())
+    Ok(())
 }
 
-fn show_outcome(rt: &HostRuntime, outcome: &Result<Ty, TypeFault>) -> io::Result<()> {
-    match outcome {
+/// The expression in postfix notation. Each part stands in line 1, at the column that is the number of its word.
+fn expression(alloc: Global, postfix: &str) -> Result<TExpr, AllocError> {
+    let mut parts = Vec::new(alloc);
+    push_words(alloc, &mut parts, postfix)?;
+    Ok(last(&mut parts))
+}
+
+fn show_outcome(rt: &HostRuntime, outcome: &Result<Ty, TypeFault>) {
+    let _ = match outcome {
         Ok(ty) => print!(rt; "{ty:?}"),
         Err(fault) => print!(rt; "{fault:?}"),
+    };
+}
+
+fn show_copied(rt: &HostRuntime, scope: &Scope<'_>, expr: &TExpr) {
+    match expr.copy() {
+        Ok(copied) => show_outcome(rt, &expression_type(rt.alloc(), scope, &copied)),
+        Err(_) => put_no_memory(rt),
     }
 }
 
-fn show_copied(rt: &HostRuntime, scope: &Scope<'_>, expr: &TExpr) -> io::Result<()> {
-    let copied = expr.copy()?;
-    show_outcome(rt, &expression_type(rt.alloc(), scope, &copied))
+fn show_both(rt: &HostRuntime, scope: &Scope<'_>, expr: &TExpr) {
+    show_outcome(rt, &expression_type(rt.alloc(), scope, expr));
+    put(rt, " copied ");
+    show_copied(rt, scope, expr);
+    put(rt, "\n");
 }
 
-fn show_both(rt: &HostRuntime, scope: &Scope<'_>, postfix: &str) -> io::Result<()> {
-    let expr = expression(rt.alloc(), postfix)?;
-    show_outcome(rt, &expression_type(rt.alloc(), scope, &expr))?;
-    print!(rt; " copied ")?;
-    show_copied(rt, scope, &expr)?;
-    println!(rt; "")
+fn show_in(rt: &HostRuntime, scope: &Scope<'_>, postfix: &str) {
+    match expression(rt.alloc(), postfix) {
+        Ok(expr) => show_both(rt, scope, &expr),
+        Err(_) => put_no_memory(rt),
+    }
 }
 
-fn show_in_axiom(rt: &HostRuntime, globals: &[VarInfo], postfix: &str) -> io::Result<()> {
+/// The type in an axiom, or in a body with these local variables.
+fn show_in_place(
+    rt: &HostRuntime,
+    globals: &[VarInfo],
+    locals: &[VarInfo],
+    place: &str,
+    postfix: &str,
+) {
+    let body = place != "axiom";
     let scope = Scope {
         globals,
-        variables: false,
-        locals: &[],
-        old: false,
+        variables: body,
+        locals: if body { locals } else { &[] },
+        old: body,
     };
-    show_both(rt, &scope, postfix)
+    show_in(rt, &scope, postfix);
 }
 
-fn show_in_body(rt: &HostRuntime, globals: &[VarInfo], postfix: &str) -> io::Result<()> {
-    let locals = variables(rt.alloc(), b"ar")?;
-    let scope = Scope {
-        globals,
-        variables: true,
-        locals: &locals,
-        old: true,
-    };
-    show_both(rt, &scope, postfix)
+fn show_among(rt: &HostRuntime, globals: &[VarInfo], place: &str, postfix: &str) {
+    match variables(rt.alloc(), b"ar") {
+        Ok(locals) => show_in_place(rt, globals, &locals, place, postfix),
+        Err(_) => put_no_memory(rt),
+    }
 }
 
 /// The type of an expression in an axiom or in a body, or the fault; and again for its copy.
-pub(crate) fn show_type(rt: &HostRuntime, place: &str, postfix: &str) -> io::Result<()> {
-    let globals = variables(rt.alloc(), b"xpcy")?;
-    match place {
-        "axiom" => show_in_axiom(rt, &globals, postfix),
-        _ => show_in_body(rt, &globals, postfix),
+pub(crate) fn show_type(rt: &HostRuntime, place: &str, postfix: &str) {
+    match variables(rt.alloc(), b"xpcy") {
+        Ok(globals) => show_among(rt, &globals, place, postfix),
+        Err(_) => put_no_memory(rt),
     }
 }
 
-fn literal(n: i128) -> TExpr
+pub(crate) fn literal(n: i128) -> TExpr
     ensures { (is_affine (seen result) ≡ true) × (is_linear false (seen result) ≡ true) }
 {
     TExpr {
@@ -211,15 +250,16 @@ fn product(alloc: Global, n: i128, column: Column) -> Result<TExpr, AllocError>
 }
 
 /// A literal, or one times a column, as `2*x`.
-fn term(alloc: Global, word: &str) -> io::Result<TExpr>
+fn term(alloc: Global, word: &str) -> Result<TExpr, AllocError>
     ensures { IfOk result (λ e. (is_affine (seen e) ≡ true) × (is_linear false (seen e) ≡ true)) }
 {
     match word.split_once('*') {
-        Some((n, letter)) => {
-            let column = needed(column_of(letter))?;
-            Ok(product(alloc, literal_of(n)?, column)?)
-        }
-        None => Ok(literal(literal_of(word)?)),
+        Some((n, letter)) => product(
+            alloc,
+            literal_of(n),
+            column_of(letter).unwrap_or(Column::Global(0)),
+        ),
+        None => Ok(literal(literal_of(word))),
     }
 }
 
@@ -231,28 +271,49 @@ fn difference(alloc: Global, a: TExpr, b: TExpr) -> Result<TExpr, AllocError>
     Ok(TExpr { span: HERE, kind })
 }
 
-fn difference_of(alloc: Global, terms: &str) -> io::Result<TExpr>
+fn difference_of(alloc: Global, terms: &str) -> Result<TExpr, AllocError>
     ensures { IfOk result (λ e. (is_affine (seen e) ≡ true) × (is_linear false (seen e) ≡ true)) }
 {
-    let (first, second) = needed(terms.split_once(" - "))?;
+    let (first, second) = terms.split_once(" - ").unwrap_or((terms, "0"));
     let first = term(alloc, first)?;
-    let second = term(alloc, second)?;
-    Ok(difference(alloc, first, second)?)
+    match term(alloc, second) {
+        Ok(second) => difference(alloc, first, second),
+        Err(fault) => Err(fault),
+    }
 }
 
-fn show_affine(rt: &HostRuntime, form: &Affine) -> io::Result<()> {
+fn show_term(rt: &HostRuntime, column: Column, coefficient: i128) {
+    let _ = print!(rt; "{coefficient} {column:?} ");
+}
+
+fn show_constant(rt: &HostRuntime, constant: i128) {
+    let _ = println!(rt; "{constant}");
+}
+
+fn show_affine(rt: &HostRuntime, form: &Affine) {
     for (column, coefficient) in form.terms.as_slice() {
-        print!(rt; "{coefficient} {column:?} ")?;
+        show_term(rt, *column, *coefficient);
     }
-    let constant = form.constant;
-    println!(rt; "{constant}")
+    show_constant(rt, form.constant);
+}
+
+fn show_fault(rt: &HostRuntime, fault: &AffineFault) {
+    let _ = println!(rt; "{fault:?}");
+}
+
+fn show_form_of(rt: &HostRuntime, expr: &TExpr)
+    requires { (is_affine (seen expr.now) ≡ true) × (is_linear false (seen expr.now) ≡ true) }
+{
+    match affine(rt.alloc(), expr) {
+        Ok(form) => show_affine(rt, &form),
+        Err(fault) => show_fault(rt, &fault),
+    }
 }
 
 /// The affine form of a difference of two terms.
-pub(crate) fn show_form(rt: &HostRuntime, terms: &str) -> io::Result<()> {
-    let expr = difference_of(rt.alloc(), terms)?;
-    match affine(rt.alloc(), &expr) {
-        Ok(form) => show_affine(rt, &form),
-        Err(fault) => println!(rt; "{fault:?}"),
+pub(crate) fn show_form(rt: &HostRuntime, terms: &str) {
+    match difference_of(rt.alloc(), terms) {
+        Ok(expr) => show_form_of(rt, &expr),
+        Err(_) => put_no_memory(rt),
     }
 }

@@ -23,17 +23,16 @@ use crate::printing::{
 use crate::resolving::{show_resolved, show_typed};
 use crate::rules::{show_parts, show_rules};
 use crate::runs::show_run;
-use crate::texts::{first_word, number, repeated, unreadable};
+use crate::texts::{first_word, number, put, put_no_memory, repeated};
 use crate::walks::show_walk;
+use std::alloc::AllocError;
 use std::io::{self, Read};
 
 fn main(rt: HostRuntime) -> io::Result<()> {
     let mut input = Vec::new(rt.alloc());
     rt.stdin().read_to_end(&mut input)?;
-    match str::from_utf8(&input) {
-        Ok(cases) => show_cases(&rt, cases),
-        Err(_) => Err(unreadable()),
-    }
+    show_cases(&rt, str::from_utf8(&input).unwrap_or("?"));
+    Ok(())
 }
 
 /// The text that is asked about.
@@ -44,65 +43,70 @@ struct Case {
     asked: bool,
 }
 
-fn show_cases(rt: &HostRuntime, lines: &str) -> io::Result<()> {
+fn show_cases(rt: &HostRuntime, lines: &str) {
     let mut case = Case {
         text: String::new(rt.alloc()),
         asked: true,
     };
     for line in lines.lines() {
-        take_line(rt, &mut case, line)?;
+        take_line(rt, &mut case, line);
     }
-    Ok(())
+}
+
+fn show_line(rt: &HostRuntime, line: &str) {
+    put(rt, line);
+    put(rt, "\n");
 }
 
 /// Prints what a case shows, answers a question about a text, or puts a line behind the text.
-fn take_line(rt: &HostRuntime, case: &mut Case, line: &str) -> io::Result<()> {
+fn take_line(rt: &HostRuntime, case: &mut Case, line: &str) {
     if line.starts_with('#') {
         case.asked = true;
-        println!(rt; "{line}")
+        show_line(rt, line);
     } else if let Some(question) = line.strip_prefix("? ") {
         case.asked = true;
-        println!(rt; "{line}")?;
-        answer(rt, question, case.text.strip_suffix('\n').unwrap_or(""))
-    } else {
-        put_line(case, line)
+        show_line(rt, line);
+        answer(rt, question, case.text.strip_suffix('\n').unwrap_or(""));
+    } else if put_line(case, line).is_err() {
+        put_no_memory(rt);
     }
 }
 
-fn put_line(case: &mut Case, line: &str) -> io::Result<()> {
+fn put_line(case: &mut Case, line: &str) -> Result<(), AllocError> {
     if case.asked {
         case.text.clear();
         case.asked = false;
     }
     case.text.push_str(line)?;
-    case.text.push('\n')?;
-    Ok(())
+    case.text.push('\n')
 }
 
-fn answer(rt: &HostRuntime, question: &str, text: &str) -> io::Result<()> {
+fn answer(rt: &HostRuntime, question: &str, text: &str) {
     if let Some(each) = question.strip_prefix("each ") {
-        return answer_each(rt, each, text);
-    }
-    match question.split_once(" times ") {
-        Some((times, asked)) => answer_repeated(rt, times, asked, text),
-        None => answer_one(rt, question, text),
+        answer_each(rt, each, text);
+    } else if let Some((times, asked)) = question.split_once(" times ") {
+        answer_repeated(rt, times, asked, text);
+    } else {
+        answer_one(rt, question, text);
     }
 }
 
-fn answer_each(rt: &HostRuntime, question: &str, texts: &str) -> io::Result<()> {
+fn answer_each(rt: &HostRuntime, question: &str, texts: &str) {
     for text in texts.lines() {
-        println!(rt; "> {text}")?;
-        answer_one(rt, question, text)?;
+        put(rt, "> ");
+        show_line(rt, text);
+        answer_one(rt, question, text);
     }
-    Ok(())
 }
 
-fn answer_repeated(rt: &HostRuntime, times: &str, question: &str, parts: &str) -> io::Result<()> {
-    let text = repeated(rt.alloc(), parts, number(times)?)?;
-    answer_one(rt, question, &text)
+fn answer_repeated(rt: &HostRuntime, times: &str, question: &str, parts: &str) {
+    match repeated(rt.alloc(), parts, number(times)) {
+        Ok(text) => answer_one(rt, question, &text),
+        Err(_) => put_no_memory(rt),
+    }
 }
 
-fn answer_one(rt: &HostRuntime, question: &str, text: &str) -> io::Result<()> {
+fn answer_one(rt: &HostRuntime, question: &str, text: &str) {
     let (asked, rest) = first_word(question);
     match asked {
         "tokens" => show_tokens(rt, text),
@@ -118,7 +122,7 @@ fn answer_one(rt: &HostRuntime, question: &str, text: &str) -> io::Result<()> {
 }
 
 /// Answers a question about what the names of a text mean.
-fn answer_typed(rt: &HostRuntime, asked: &str, rest: &str, text: &str) -> io::Result<()> {
+fn answer_typed(rt: &HostRuntime, asked: &str, rest: &str, text: &str) {
     match asked {
         "type" => show_type(rt, rest, text),
         "form" => show_form(rt, text),
@@ -127,7 +131,6 @@ fn answer_typed(rt: &HostRuntime, asked: &str, rest: &str, text: &str) -> io::Re
         "typed" => show_typed(rt, rest, text),
         "resolved" => show_resolved(rt, rest, text),
         "walk" => show_walk(rt, rest, text),
-        "run" => show_run(rt, rest, text),
-        _ => Err(unreadable()),
+        _ => show_run(rt, rest, text),
     }
 }

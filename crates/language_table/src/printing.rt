@@ -1,10 +1,10 @@
 //! What is printed of programs, those that no text spells among them.
 
 use crate::parsing::parsed;
-use crate::texts::{bytes_of, needed, number};
+use crate::texts::{bytes_of, number, put, put_bytes, put_no_memory, put_number};
 use boogie_tree::{Decl, Expr, ExprKind, Guard, Name, Op, Program, Span, Stmt, Text, print};
 use std::alloc::{AllocError, Global};
-use std::{io, mem};
+use std::mem;
 
 const HERE: Span = Span { line: 1, col: 1 };
 
@@ -17,59 +17,67 @@ fn printed(alloc: Global, program: &Program) -> Result<Vec<u8>, AllocError> {
     print(alloc, shared(program))
 }
 
-fn show_bytes(rt: &HostRuntime, bytes: &[u8]) -> io::Result<()> {
-    let text = str::from_utf8(bytes).unwrap_or("?");
-    print!(rt; "{text}")
-}
-
-fn show_once(rt: &HostRuntime, program: &Program) -> io::Result<()> {
-    let bytes = printed(rt.alloc(), program)?;
-    show_bytes(rt, &bytes)
-}
-
-fn show_difference(rt: &HostRuntime, program: &Program, bytes: &[u8]) -> io::Result<()> {
-    let again = printed(rt.alloc(), program)?;
-    if again.as_slice() == bytes {
-        return Ok(());
+fn show_once(rt: &HostRuntime, program: &Program) {
+    match printed(rt.alloc(), program) {
+        Ok(bytes) => put_bytes(rt, &bytes),
+        Err(_) => put_no_memory(rt),
     }
-    println!(rt; "It is printed otherwise again.")
 }
 
-/// Says so where what was printed is printed otherwise again.
-fn show_again(rt: &HostRuntime, bytes: &[u8]) -> io::Result<()> {
-    match parsed(rt, bytes)? {
+fn show_difference(rt: &HostRuntime, program: &Program, bytes: &[u8]) {
+    match printed(rt.alloc(), program) {
+        Ok(again) if again.as_slice() == bytes => {}
+        _ => put(rt, "It is printed otherwise again.\n"),
+    }
+}
+
+/// Shows what was printed, and says so where it is printed otherwise again.
+fn show_again(rt: &HostRuntime, bytes: &[u8]) {
+    put_bytes(rt, bytes);
+    match parsed(rt, bytes) {
         Some(program) => show_difference(rt, &program, bytes),
-        None => println!(rt; "It is not read again."),
+        None => put(rt, "It is not read again.\n"),
     }
 }
 
-fn show_twice(rt: &HostRuntime, program: &Program) -> io::Result<()> {
-    let bytes = printed(rt.alloc(), program)?;
-    show_bytes(rt, &bytes)?;
-    show_again(rt, &bytes)
+fn show_twice(rt: &HostRuntime, program: &Program) {
+    match printed(rt.alloc(), program) {
+        Ok(bytes) => show_again(rt, &bytes),
+        Err(_) => put_no_memory(rt),
+    }
+}
+
+fn show_parsed(rt: &HostRuntime, bytes: &[u8]) {
+    if let Some(program) = &parsed(rt, bytes) {
+        show_twice(rt, program);
+    }
 }
 
 /// What is printed of the program of a text, or its fault.
-pub(crate) fn show_program(rt: &HostRuntime, text: &str) -> io::Result<()> {
-    let bytes = bytes_of(rt.alloc(), text)?;
-    match parsed(rt, &bytes)? {
-        Some(program) => show_twice(rt, &program),
-        None => Ok(()),
+pub(crate) fn show_program(rt: &HostRuntime, text: &str) {
+    match bytes_of(rt.alloc(), text) {
+        Ok(bytes) => show_parsed(rt, &bytes),
+        Err(_) => put_no_memory(rt),
     }
 }
 
-fn show_last(rt: &HostRuntime, program: &Program) -> io::Result<()> {
-    let bytes = printed(rt.alloc(), program)?;
+fn show_last(rt: &HostRuntime, bytes: &[u8]) {
     let from = bytes.len().saturating_sub(20);
-    print!(rt; "..")?;
-    show_bytes(rt, bytes.get(from..).unwrap_or(&[]))
+    put(rt, "..");
+    put_bytes(rt, bytes.get(from..).unwrap_or(&[]));
+}
+
+fn show_end_of(rt: &HostRuntime, program: &Program) {
+    match printed(rt.alloc(), program) {
+        Ok(bytes) => show_last(rt, &bytes),
+        Err(_) => put_no_memory(rt),
+    }
 }
 
 /// The last 20 bytes of what is printed of the program of a text, or its fault.
-pub(crate) fn show_end(rt: &HostRuntime, text: &str) -> io::Result<()> {
-    match parsed(rt, text.as_bytes())? {
-        Some(program) => show_last(rt, &program),
-        None => Ok(()),
+pub(crate) fn show_end(rt: &HostRuntime, text: &str) {
+    if let Some(program) = &parsed(rt, text.as_bytes()) {
+        show_end_of(rt, program);
     }
 }
 
@@ -80,7 +88,7 @@ fn implemented(declaration: Decl) -> Decl {
     }
 }
 
-fn implement(program: &mut Program, place: usize) -> io::Result<()> {
+fn implement(program: &mut Program, place: usize) -> Result<(), AllocError> {
     if place < program.decls.len() {
         let declaration = program.decls.remove(place);
         program.decls.insert(place, implemented(declaration))?;
@@ -89,11 +97,12 @@ fn implement(program: &mut Program, place: usize) -> io::Result<()> {
 }
 
 /// What is printed of the program of a text where the declaration at a place, counted from 0, is an implementation.
-pub(crate) fn show_implementation(rt: &HostRuntime, place: &str, text: &str) -> io::Result<()> {
-    let place = number(place)?;
-    let mut program = needed(parsed(rt, text.as_bytes())?)?;
-    implement(&mut program, place as usize)?;
-    show_once(rt, &program)
+pub(crate) fn show_implementation(rt: &HostRuntime, place: &str, text: &str) {
+    if let Some(mut program) = parsed(rt, text.as_bytes()) {
+        if implement(&mut program, number(place) as usize).is_ok() {
+            show_once(rt, &program);
+        }
+    }
 }
 
 /// Puts statements into a branch.
@@ -103,97 +112,146 @@ fn branch(alloc: Global, stmts: &mut Vec<Stmt>) -> Result<(), AllocError> {
     Ok(())
 }
 
-fn branches(alloc: Global, program: &mut Program, times: u32) -> io::Result<()> {
-    let declaration = needed(program.decls.last_mut())?;
-    if let Decl::Procedure(procedure) = declaration {
-        let body = needed(procedure.body.as_mut())?;
-        for _time in 0..times {
-            branch(alloc, &mut body.stmts)?;
-        }
+fn branch_often(alloc: Global, stmts: &mut Vec<Stmt>, times: u32) -> Result<(), AllocError> {
+    for _time in 0..times {
+        branch(alloc, stmts)?;
     }
     Ok(())
+}
+
+fn branches(alloc: Global, program: &mut Program, times: u32) -> Result<(), AllocError> {
+    match program.decls.last_mut() {
+        Some(Decl::Procedure(procedure)) => match &mut procedure.body {
+            Some(body) => branch_often(alloc, &mut body.stmts, times),
+            None => Ok(()),
+        },
+        _ => Ok(()),
+    }
+}
+
+/// Each line, behind the number of its leading blanks.
+fn show_indented(rt: &HostRuntime, lines: &str) {
+    for line in lines.lines() {
+        let rest = line.trim_start_matches(' ');
+        put_number(rt, "", line.len().saturating_sub(rest.len()) as u64, " ");
+        put(rt, rest);
+        put(rt, "\n");
+    }
 }
 
 /// Each line of what is printed of a program, behind the number of its leading blanks.
-fn show_lines(rt: &HostRuntime, program: &Program) -> io::Result<()> {
-    let bytes = printed(rt.alloc(), program)?;
-    for line in str::from_utf8(&bytes).unwrap_or("?").lines() {
-        let rest = line.trim_start_matches(' ');
-        let blanks = line.len().saturating_sub(rest.len());
-        println!(rt; "{blanks} {rest}")?;
+fn show_lines(rt: &HostRuntime, program: &Program) {
+    match printed(rt.alloc(), program) {
+        Ok(bytes) => show_indented(rt, str::from_utf8(&bytes).unwrap_or("?")),
+        Err(_) => put_no_memory(rt),
     }
-    Ok(())
 }
 
 /// The lines of what is printed of the program of a text where so many branches are around the statements of the last procedure.
-pub(crate) fn show_branches(rt: &HostRuntime, times: &str, text: &str) -> io::Result<()> {
-    let times = number(times)?;
-    let mut program = needed(parsed(rt, text.as_bytes())?)?;
-    branches(rt.alloc(), &mut program, times)?;
-    show_lines(rt, &program)
+pub(crate) fn show_branches(rt: &HostRuntime, times: &str, text: &str) {
+    if let Some(mut program) = parsed(rt, text.as_bytes()) {
+        if branches(rt.alloc(), &mut program, number(times)).is_ok() {
+            show_lines(rt, &program);
+        }
+    }
+}
+
+fn variable(alloc: Global, word: &str) -> Result<ExprKind, AllocError> {
+    let text = Text::new(Vec::from_slice(alloc, word.as_bytes())?);
+    Ok(ExprKind::Var(Name { span: HERE, text }))
 }
 
 /// A literal, or else a variable.
 fn leaf(alloc: Global, word: &str) -> Result<ExprKind, AllocError> {
     match word.parse::<i128>() {
         Ok(n) => Ok(ExprKind::Lit(n)),
-        Err(_) => Ok(ExprKind::Var(Name {
-            span: HERE,
-            text: Text::new(Vec::from_slice(alloc, word.as_bytes())?),
-        })),
+        Err(_) => variable(alloc, word),
     }
 }
 
-fn operand(alloc: Global, parts: &mut Vec<Expr>) -> io::Result<Box<Expr>> {
-    let part = needed(parts.pop())?;
-    Ok(Box::new(alloc, part)?)
+/// The last of the parts, which is taken away.
+fn last(parts: &mut Vec<Expr>) -> Expr {
+    match parts.pop() {
+        Some(part) => part,
+        None => Expr {
+            span: HERE,
+            kind: ExprKind::Lit(0),
+        },
+    }
 }
 
-fn operation(alloc: Global, op: Op, parts: &mut Vec<Expr>) -> io::Result<ExprKind> {
+fn operand(alloc: Global, parts: &mut Vec<Expr>) -> Result<Box<Expr>, AllocError> {
+    Ok(Box::new(alloc, last(parts))?)
+}
+
+fn operation(alloc: Global, op: Op, parts: &mut Vec<Expr>) -> Result<ExprKind, AllocError> {
     let right = operand(alloc, parts)?;
-    Ok(ExprKind::Bin(op, operand(alloc, parts)?, right))
+    match operand(alloc, parts) {
+        Ok(left) => Ok(ExprKind::Bin(op, left, right)),
+        Err(fault) => Err(fault),
+    }
 }
 
-fn push_word(alloc: Global, parts: &mut Vec<Expr>, word: &str) -> io::Result<()> {
-    let kind = match word {
-        "-" => operation(alloc, Op::Sub, parts)?,
-        "*" => operation(alloc, Op::Mul, parts)?,
-        "neg" => ExprKind::Neg(operand(alloc, parts)?),
-        _ => leaf(alloc, word)?,
-    };
-    parts.push(Expr { span: HERE, kind })?;
+fn kind(alloc: Global, parts: &mut Vec<Expr>, word: &str) -> Result<ExprKind, AllocError> {
+    match word {
+        "-" => operation(alloc, Op::Sub, parts),
+        "*" => operation(alloc, Op::Mul, parts),
+        "neg" => Ok(ExprKind::Neg(operand(alloc, parts)?)),
+        _ => leaf(alloc, word),
+    }
+}
+
+fn push_words(alloc: Global, parts: &mut Vec<Expr>, postfix: &str) -> Result<(), AllocError> {
+    for word in postfix.split_whitespace() {
+        let kind = kind(alloc, parts, word)?;
+        parts.push(Expr { span: HERE, kind })?;
+    }
     Ok(())
 }
 
-/// The program whose axiom is the expression of a text in postfix notation: `a b -` is `a - b`, and `a neg` is `-a`.
-fn axiom(alloc: Global, postfix: &str) -> io::Result<Program> {
+/// The expression of a text in postfix notation: `a b -` is `a - b`, and `a neg` is `-a`.
+fn expression(alloc: Global, postfix: &str) -> Result<Expr, AllocError> {
     let mut parts = Vec::new(alloc);
-    for word in postfix.split_whitespace() {
-        push_word(alloc, &mut parts, word)?;
-    }
+    push_words(alloc, &mut parts, postfix)?;
+    Ok(last(&mut parts))
+}
+
+/// The program whose axiom is the expression of a text.
+fn axiom(alloc: Global, postfix: &str) -> Result<Program, AllocError> {
     let mut decls = Vec::new(alloc);
-    decls.push(Decl::Axiom(HERE, needed(parts.pop())?))?;
+    decls.push(Decl::Axiom(HERE, expression(alloc, postfix)?))?;
     Ok(Program { decls })
 }
 
 /// What is printed of an axiom in postfix notation.
-pub(crate) fn show_postfix(rt: &HostRuntime, text: &str) -> io::Result<()> {
-    let program = axiom(rt.alloc(), text)?;
-    show_once(rt, &program)
+pub(crate) fn show_postfix(rt: &HostRuntime, text: &str) {
+    match axiom(rt.alloc(), text) {
+        Ok(program) => show_once(rt, &program),
+        Err(_) => put_no_memory(rt),
+    }
 }
 
-fn show_copy(rt: &HostRuntime, text: &Text) -> io::Result<()> {
-    let copied = text.copy()?;
-    show_bytes(rt, copied.bytes())
+fn show_copy(rt: &HostRuntime, text: &Text) {
+    match text.copy() {
+        Ok(copied) => put_bytes(rt, copied.bytes()),
+        Err(_) => put_no_memory(rt),
+    }
 }
 
 /// The bytes of a text, of its copy, and those that it gives back.
-pub(crate) fn show_text(rt: &HostRuntime, text: &str) -> io::Result<()> {
-    let kept = Text::new(Vec::from_slice(rt.alloc(), text.as_bytes())?);
-    show_bytes(rt, kept.bytes())?;
-    print!(rt; " ")?;
-    show_copy(rt, &kept)?;
-    print!(rt; " ")?;
-    show_bytes(rt, &kept.into_bytes())?;
-    println!(rt; "")
+fn show_kept(rt: &HostRuntime, kept: Text) {
+    put_bytes(rt, kept.bytes());
+    put(rt, " ");
+    show_copy(rt, &kept);
+    put(rt, " ");
+    put_bytes(rt, &kept.into_bytes());
+    put(rt, "\n");
+}
+
+/// The bytes of a text, of its copy, and those that it gives back.
+pub(crate) fn show_text(rt: &HostRuntime, text: &str) {
+    match Vec::from_slice(rt.alloc(), text.as_bytes()) {
+        Ok(bytes) => show_kept(rt, Text::new(bytes)),
+        Err(_) => put_no_memory(rt),
+    }
 }

@@ -1,92 +1,69 @@
 //! The rules of statements and programs, over typed trees that may break them.
 
-use crate::formulas::{column, column_of, push_variables};
-use crate::texts::{first_word, needed, number};
+use crate::formulas::{column, column_of, literal, push_variables};
+use crate::texts::{first_word, number, put, put_no_memory, put_number};
 use boogie_tree::{Column, Span, Text, VarInfo};
-use std::alloc::Global;
-use std::io;
+use std::alloc::{AllocError, Global};
 use typed_tree::{TExpr, TExprKind, TGuard, TProc, TStmt};
 use typing_rules::{Typed, check_typing, typed};
 
 const HERE: Span = Span { line: 1, col: 1 };
 
-/// The targets and the values of a statement.
-#[derive(Drop)]
-struct Written {
-    targets: Vec<Column>,
-    values: Vec<TExpr>,
+fn columns(alloc: Global, letters: &str) -> Result<Vec<Column>, AllocError> {
+    letters.bytes().filter_map(column).collect(alloc)
 }
 
-fn push_columns(columns: &mut Vec<Column>, letters: &str) -> io::Result<()> {
-    for letter in letters.bytes() {
-        columns.push(needed(column(letter))?)?;
+fn push_literals(values: &mut Vec<TExpr>, count: usize) -> Result<(), AllocError> {
+    for _more in 0..count {
+        values.push(literal(1))?;
     }
     Ok(())
-}
-
-fn columns(alloc: Global, letters: &str) -> io::Result<Vec<Column>> {
-    let mut columns = Vec::new(alloc);
-    push_columns(&mut columns, letters)?;
-    Ok(columns)
 }
 
 /// As many times the literal 1.
-fn push_literals(values: &mut Vec<TExpr>, count: usize) -> io::Result<()> {
-    for _more in 0..count {
-        let kind = TExprKind::Lit(1);
-        values.push(TExpr { span: HERE, kind })?;
+fn literals(alloc: Global, count: usize) -> Result<Vec<TExpr>, AllocError> {
+    let mut values = Vec::new(alloc);
+    push_literals(&mut values, count)?;
+    Ok(values)
+}
+
+fn assignment(alloc: Global, letters: &str) -> Result<TStmt, AllocError> {
+    let targets = columns(alloc, letters)?;
+    match literals(alloc, targets.len()) {
+        Ok(values) => Ok(TStmt::Assign(HERE, targets, values)),
+        Err(fault) => Err(fault),
     }
-    Ok(())
-}
-
-fn literals_to(alloc: Global, letters: &str, count: usize) -> io::Result<Written> {
-    let mut made = Written {
-        targets: Vec::new(alloc),
-        values: Vec::new(alloc),
-    };
-    push_columns(&mut made.targets, letters)?;
-    push_literals(&mut made.values, count)?;
-    Ok(made)
-}
-
-fn assignment(alloc: Global, letters: &str) -> io::Result<TStmt> {
-    let Written { targets, values } = literals_to(alloc, letters, letters.len())?;
-    Ok(TStmt::Assign(HERE, targets, values))
 }
 
 /// A call with the argument 1, and no target.
-fn call(alloc: Global, callee: &str) -> io::Result<TStmt> {
-    let callee = number(callee)?;
-    let Written { targets, values } = literals_to(alloc, "", 1)?;
-    Ok(TStmt::Call(HERE, targets, callee, values))
+fn call(alloc: Global, callee: u32) -> Result<TStmt, AllocError> {
+    let values = literals(alloc, 1)?;
+    Ok(TStmt::Call(HERE, Vec::new(alloc), callee, values))
 }
 
-fn assertion(letter: &str) -> io::Result<TStmt> {
-    let kind = TExprKind::Var(needed(column_of(letter))?);
-    Ok(TStmt::Assert(HERE, TExpr { span: HERE, kind }))
+fn assertion(letter: &str) -> TStmt {
+    let kind = TExprKind::Var(column_of(letter).unwrap_or(Column::Global(0)));
+    TStmt::Assert(HERE, TExpr { span: HERE, kind })
 }
 
 /// A goto to a label, or to none.
-fn goto(alloc: Global, label: &str) -> io::Result<TStmt> {
-    let mut labels = Vec::new(alloc);
-    if !label.is_empty() {
-        labels.push(number(label)?)?;
-    }
+fn goto(alloc: Global, label: &str) -> Result<TStmt, AllocError> {
+    let labels = label.split_whitespace().map(number).collect(alloc)?;
     Ok(TStmt::Goto(HERE, labels))
 }
 
 /// The statement of a word: A asserts a column, H chooses columns, S sets columns to 1, C calls a procedure with 1, B leaves loops, G and L are
 /// a goto and a label.
-fn statement(alloc: Global, word: &str) -> io::Result<TStmt> {
-    let (first, rest) = needed(word.split_at_checked(1))?;
+fn statement(alloc: Global, word: &str) -> Result<TStmt, AllocError> {
+    let (first, rest) = word.split_at_checked(1).unwrap_or((word, ""));
     match first {
-        "A" => assertion(rest),
+        "A" => Ok(assertion(rest)),
         "H" => Ok(TStmt::Havoc(HERE, columns(alloc, rest)?)),
         "S" => assignment(alloc, rest),
-        "C" => call(alloc, rest),
-        "B" => Ok(TStmt::Break(HERE, number(rest)?)),
+        "C" => call(alloc, number(rest)),
+        "B" => Ok(TStmt::Break(HERE, number(rest))),
         "G" => goto(alloc, rest),
-        _ => Ok(TStmt::Label(number(rest)?)),
+        _ => Ok(TStmt::Label(number(rest))),
     }
 }
 
@@ -99,33 +76,52 @@ fn closed(alloc: Global, word: &str, inner: Vec<TStmt>) -> TStmt {
     }
 }
 
-fn put(lists: &mut Vec<Vec<TStmt>>, statement: TStmt) -> io::Result<()> {
-    let list = needed(lists.last_mut())?;
-    list.push(statement)?;
+/// Puts a statement behind the innermost list.
+fn push(lists: &mut Vec<Vec<TStmt>>, statement: TStmt) -> Result<(), AllocError> {
+    if let Some(list) = lists.last_mut() {
+        list.push(statement)?;
+    }
+    Ok(())
+}
+
+/// The innermost list, which is taken away.
+fn last(alloc: Global, lists: &mut Vec<Vec<TStmt>>) -> Vec<TStmt> {
+    match lists.pop() {
+        Some(list) => list,
+        None => Vec::new(alloc),
+    }
+}
+
+fn open(alloc: Global, lists: &mut Vec<Vec<TStmt>>) -> Result<(), AllocError> {
+    lists.push(Vec::new(alloc))?;
     Ok(())
 }
 
 /// Takes a word into the lists that are open, the innermost last.
-fn put_word(alloc: Global, lists: &mut Vec<Vec<TStmt>>, word: &str) -> io::Result<()> {
+fn push_word(alloc: Global, lists: &mut Vec<Vec<TStmt>>, word: &str) -> Result<(), AllocError> {
     if word == "(" {
-        lists.push(Vec::new(alloc))?;
-        Ok(())
+        open(alloc, lists)
     } else if word.ends_with(')') {
-        let inner = needed(lists.pop())?;
-        put(lists, closed(alloc, word, inner))
+        let inner = last(alloc, lists);
+        push(lists, closed(alloc, word, inner))
     } else {
-        put(lists, statement(alloc, word)?)
+        push(lists, statement(alloc, word)?)
     }
 }
 
-/// The statements of words.
-fn statements(alloc: Global, words: &str) -> io::Result<Vec<TStmt>> {
-    let mut lists = Vec::new(alloc);
-    lists.push(Vec::new(alloc))?;
+fn push_words(alloc: Global, lists: &mut Vec<Vec<TStmt>>, words: &str) -> Result<(), AllocError> {
+    open(alloc, lists)?;
     for word in words.split_whitespace() {
-        put_word(alloc, &mut lists, word)?;
+        push_word(alloc, lists, word)?;
     }
-    needed(lists.pop())
+    Ok(())
+}
+
+/// The statements of words.
+fn statements(alloc: Global, words: &str) -> Result<Vec<TStmt>, AllocError> {
+    let mut lists = Vec::new(alloc);
+    push_words(alloc, &mut lists, words)?;
+    Ok(last(alloc, &mut lists))
 }
 
 /// The parts of a program.
@@ -155,38 +151,50 @@ fn set_head(
     name: &str,
     locals: &[u8],
     modifies: &[u32],
-) -> io::Result<()> {
+) -> Result<(), AllocError> {
     made.name = Text::new(Vec::from_slice(alloc, name.as_bytes())?);
     push_variables(alloc, &mut made.locals, locals)?;
-    made.modifies.extend_from_slice(modifies)?;
-    Ok(())
+    made.modifies.extend_from_slice(modifies)
 }
 
-/// A procedure without a body, with a parameter, that modifies one global.
-fn declared(alloc: Global, name: &str, modified: u32) -> io::Result<TProc> {
-    let mut made = unnamed(alloc, 0);
-    set_head(alloc, &mut made, name, b"a", &[modified])?;
-    Ok(made)
+/// Adds a procedure without a body, with a parameter, that modifies one global.
+fn declare(
+    alloc: Global,
+    procs: &mut Vec<TProc>,
+    name: &str,
+    modified: u32,
+) -> Result<(), AllocError> {
+    procs.push(unnamed(alloc, 0))?;
+    match procs.last_mut() {
+        Some(made) => set_head(alloc, made, name, b"a", &[modified]),
+        None => Ok(()),
+    }
 }
 
-/// A procedure with that body, a parameter and a result, which modifies x and p.
-fn implemented(alloc: Global, words: &str) -> io::Result<TProc> {
-    let mut made = unnamed(alloc, 1);
-    set_head(alloc, &mut made, "main", b"ar", &[0, 1])?;
+/// Gives a procedure that body, a parameter and a result; it modifies x and p.
+fn set_body(alloc: Global, made: &mut TProc, words: &str) -> Result<(), AllocError> {
     made.body = Some(statements(alloc, words)?);
-    Ok(made)
+    set_head(alloc, made, "main", b"ar", &[0, 1])
 }
 
-fn fill(alloc: Global, draft: &mut Draft, words: &str, name: &str) -> io::Result<()> {
+/// Adds a procedure with that body.
+fn implement(alloc: Global, procs: &mut Vec<TProc>, words: &str) -> Result<(), AllocError> {
+    procs.push(unnamed(alloc, 1))?;
+    match procs.last_mut() {
+        Some(made) => set_body(alloc, made, words),
+        None => Ok(()),
+    }
+}
+
+fn fill(alloc: Global, draft: &mut Draft, words: &str, name: &str) -> Result<(), AllocError> {
     push_variables(alloc, &mut draft.globals, b"xpcy")?;
-    draft.procs.push(implemented(alloc, words)?)?;
-    draft.procs.push(declared(alloc, name, 0)?)?;
-    draft.procs.push(declared(alloc, "other", 3)?)?;
-    Ok(())
+    implement(alloc, &mut draft.procs, words)?;
+    declare(alloc, &mut draft.procs, name, 0)?;
+    declare(alloc, &mut draft.procs, "other", 3)
 }
 
 /// The procedure `main` of that body, one of that name that modifies x, and one that modifies y.
-fn parts_of(alloc: Global, words: &str, name: &str) -> io::Result<Draft> {
+fn parts_of(alloc: Global, words: &str, name: &str) -> Result<Draft, AllocError> {
     let mut draft = Draft {
         globals: Vec::new(alloc),
         procs: Vec::new(alloc),
@@ -195,42 +203,54 @@ fn parts_of(alloc: Global, words: &str, name: &str) -> io::Result<Draft> {
     Ok(draft)
 }
 
-/// Whether a body keeps the rules, or the rule that it breaks.
-pub(crate) fn show_rules(rt: &HostRuntime, words: &str) -> io::Result<()> {
-    let draft = parts_of(rt.alloc(), words, "f")?;
+fn show_checked(rt: &HostRuntime, draft: &Draft) {
     match check_typing(rt.alloc(), &draft.globals, &[], &draft.procs) {
-        Ok(()) => println!(rt; "kept"),
-        Err(fault) => println!(rt; "{fault:?}"),
+        Ok(()) => put(rt, "kept\n"),
+        Err(fault) => {
+            let _ = println!(rt; "{fault:?}");
+        }
+    }
+}
+
+/// Whether a body keeps the rules, or the rule that it breaks.
+pub(crate) fn show_rules(rt: &HostRuntime, words: &str) {
+    match parts_of(rt.alloc(), words, "f") {
+        Ok(draft) => show_checked(rt, &draft),
+        Err(_) => put_no_memory(rt),
     }
 }
 
 /// How many parts a program has.
-pub(crate) fn show_counts(rt: &HostRuntime, program: &Typed) -> io::Result<()> {
-    let globals = program.globals().len();
-    let axioms = program.axioms().len();
-    let procs = program.procs().len();
-    let entry = program.entry();
-    println!(rt; "globals {globals} axioms {axioms} procedures {procs} entry {entry}")
+pub(crate) fn show_counts(rt: &HostRuntime, program: &Typed) {
+    put_number(rt, "globals ", program.globals().len() as u64, "");
+    put_number(rt, " axioms ", program.axioms().len() as u64, "");
+    put_number(rt, " procedures ", program.procs().len() as u64, "");
+    put_number(rt, " entry ", u64::from(program.entry()), "\n");
 }
 
-fn show_copy(rt: &HostRuntime, program: &Typed) -> io::Result<()> {
-    let copied = program.copy()?;
-    show_counts(rt, &copied)
+fn show_copy(rt: &HostRuntime, program: &Typed) {
+    match program.copy() {
+        Ok(copied) => show_counts(rt, &copied),
+        Err(_) => put_no_memory(rt),
+    }
 }
 
-/// The typed program of these parts.
-fn program(alloc: Global, draft: Draft, entry: u32) -> io::Result<Option<Typed>> {
+/// Whether these parts make a typed program, with a copy of it that has all its parts.
+fn show_typed(rt: &HostRuntime, draft: Draft, entry: u32) {
     let Draft { globals, procs } = draft;
-    Ok(typed(alloc, globals, Vec::new(alloc), procs, entry)?)
+    match &typed(rt.alloc(), globals, Vec::new(rt.alloc()), procs, entry) {
+        Ok(Some(program)) => show_copy(rt, program),
+        Ok(None) => put(rt, "none\n"),
+        Err(_) => put_no_memory(rt),
+    }
 }
 
-/// Whether the name of the second procedure, the entry and the body make a typed program, with a copy of it that has all its parts.
-pub(crate) fn show_parts(rt: &HostRuntime, words: &str) -> io::Result<()> {
+/// Whether the name of the second procedure, the entry and the body make a typed program.
+pub(crate) fn show_parts(rt: &HostRuntime, words: &str) {
     let (name, rest) = first_word(words);
     let (entry, words) = first_word(rest);
-    let draft = parts_of(rt.alloc(), words, name)?;
-    match program(rt.alloc(), draft, number(entry)?)? {
-        Some(program) => show_copy(rt, &program),
-        None => println!(rt; "none"),
+    match parts_of(rt.alloc(), words, name) {
+        Ok(draft) => show_typed(rt, draft, number(entry)),
+        Err(_) => put_no_memory(rt),
     }
 }

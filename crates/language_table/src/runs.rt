@@ -3,26 +3,20 @@
 ghost use Rattle.boogie_run.specs.RunView.{FitsProgram};
 
 use crate::resolving::resolved;
-use crate::texts::needed;
+use crate::texts::{put, put_no_memory};
 use boogie_run::{Choice, Config, Moved, Need, RunFault, needs, start, step};
-use std::alloc::Global;
-use std::io;
+use std::alloc::{AllocError, Global};
 use typing_rules::Typed;
 
-fn show_outcome(rt: &HostRuntime, outcome: &Result<Moved, RunFault>) -> io::Result<()> {
-    match outcome {
+fn show_outcome(rt: &HostRuntime, outcome: &Result<Moved, RunFault>) {
+    let _ = match outcome {
         Ok(moved) => println!(rt; " {moved:?}"),
         Err(fault) => println!(rt; " {fault:?}"),
-    }
+    };
 }
 
 /// A point for each step that goes on, and then how the run ends.
-fn show_steps<'a>(
-    rt: &HostRuntime,
-    program: &'a Typed,
-    begun: Config<'a>,
-    choices: &[i128],
-) -> io::Result<()>
+fn show_steps<'a>(rt: &HostRuntime, program: &'a Typed, begun: Config<'a>, choices: &[i128])
     requires { FitsProgram program.now begun }
 {
     let mut config = begun;
@@ -37,29 +31,36 @@ fn show_steps<'a>(
         if !matches!(outcome, Ok(Moved::Went)) {
             return show_outcome(rt, &outcome);
         }
-        print!(rt; ".")?;
+        put(rt, ".");
     }
-    println!(rt; " goes on")
+    put(rt, " goes on\n");
 }
 
-fn choices(alloc: Global, words: &str) -> io::Result<Vec<i128>> {
-    let mut choices = Vec::new(alloc);
-    for word in words.split_whitespace() {
-        choices.push(needed(word.parse::<i128>().ok())?)?;
-    }
-    Ok(choices)
+fn choice(word: &str) -> i128 {
+    word.parse::<i128>().unwrap_or(0)
 }
 
-fn show_run_of(rt: &HostRuntime, program: &Typed, words: &str) -> io::Result<()> {
-    let choices = choices(rt.alloc(), words)?;
-    let begun = start(rt.alloc(), program)?;
-    show_steps(rt, program, begun, &choices)
+fn choices(alloc: Global, words: &str) -> Result<Vec<i128>, AllocError> {
+    words.split_whitespace().map(choice).collect(alloc)
+}
+
+fn show_run_by(rt: &HostRuntime, program: &Typed, choices: &[i128]) {
+    match start(rt.alloc(), program) {
+        Ok(begun) => show_steps(rt, program, begun, choices),
+        Err(_) => put_no_memory(rt),
+    }
+}
+
+fn show_run_of(rt: &HostRuntime, program: &Typed, words: &str) {
+    match choices(rt.alloc(), words) {
+        Ok(choices) => show_run_by(rt, program, &choices),
+        Err(_) => put_no_memory(rt),
+    }
 }
 
 /// The run of the program of a text that these choices make.
-pub(crate) fn show_run(rt: &HostRuntime, words: &str, text: &str) -> io::Result<()> {
-    match resolved(rt, "main", text)? {
-        Some(program) => show_run_of(rt, &program, words),
-        None => Ok(()),
+pub(crate) fn show_run(rt: &HostRuntime, words: &str, text: &str) {
+    if let Some(program) = &resolved(rt, "main", text) {
+        show_run_of(rt, program, words);
     }
 }

@@ -7,43 +7,49 @@ ghost use Rattle.boogie_points.specs.Room.{PointHasRoom};
 ghost use Rattle.boogie_points.specs.View.{point_of};
 
 use crate::resolving::resolved;
-use crate::texts::{first_word, number};
+use crate::texts::{first_word, number, put, put_no_memory, put_number};
 use boogie_points::*;
-use std::io;
+use boogie_tree::Column;
 use typing_rules::Typed;
 
-fn show_finish(rt: &HostRuntime, targets: usize) -> io::Result<()> {
-    println!(rt; "finish {targets}")
+/// A column behind what happens with it.
+fn show_column(rt: &HostRuntime, before: &str, column: Column) {
+    let _ = println!(rt; "{before} {column:?}");
 }
 
 /// What happens at a point.
-fn show_action(rt: &HostRuntime, action: &Action<'_>) -> io::Result<()> {
+fn show_action(rt: &HostRuntime, action: &Action<'_>) {
     match action {
-        Action::Check { number, .. } => println!(rt; "check {number}"),
-        Action::Suppose { .. } => println!(rt; "suppose"),
-        Action::Demand { number, .. } => println!(rt; "demand {number}"),
-        Action::Write { .. } => println!(rt; "write"),
-        Action::Guess { column } => println!(rt; "guess {column:?}"),
-        Action::Test { .. } => println!(rt; "test"),
-        Action::Pick { ways } => println!(rt; "pick {ways}"),
-        Action::Jump => println!(rt; "jump"),
-        Action::Enter { callee, .. } => println!(rt; "enter {callee}"),
-        Action::Keep { column, .. } => println!(rt; "keep {column:?}"),
-        Action::Grant { .. } => println!(rt; "grant"),
-        Action::Finish { targets, .. } => show_finish(rt, targets.len()),
-        Action::Leave => println!(rt; "leave"),
+        Action::Check { number, .. } => put_number(rt, "check ", u64::from(*number), "\n"),
+        Action::Demand { number, .. } => put_number(rt, "demand ", u64::from(*number), "\n"),
+        Action::Guess { column } => show_column(rt, "guess", *column),
+        Action::Pick { ways } => put_number(rt, "pick ", *ways as u64, "\n"),
+        Action::Enter { callee, .. } => put_number(rt, "enter ", u64::from(*callee), "\n"),
+        Action::Keep { column, .. } => show_column(rt, "keep", *column),
+        Action::Finish { targets, .. } => put_number(rt, "finish ", targets.len() as u64, "\n"),
+        other => put(rt, name(other)),
+    }
+}
+
+/// The line of an action of which no more is shown.
+fn name(action: &Action<'_>) -> &'static str {
+    match action {
+        Action::Suppose { .. } => "suppose\n",
+        Action::Write { .. } => "write\n",
+        Action::Test { .. } => "test\n",
+        Action::Jump => "jump\n",
+        Action::Grant { .. } => "grant\n",
+        _ => "leave\n",
     }
 }
 
 /// Passes a call, and says how many targets it has.
-fn pass(rt: &HostRuntime, program: &Typed, point: &mut Point<'_>) -> io::Result<()>
+fn pass(rt: &HostRuntime, program: &Typed, point: &mut Point<'_>)
     requires { PointHasRoom (typed_program program.now).procs (point_of point.old) }
     ensures { PointHasRoom (typed_program program.now).procs (point_of point.new) }
 {
-    let count = targets(point).len();
-    println!(rt; "targets {count}")?;
+    put_number(rt, "targets ", targets(point).len() as u64, "\n");
     pass_call(program, point);
-    Ok(())
 }
 
 /// Says what happens at a point, and goes on by a way, or past a call that enters.
@@ -54,19 +60,20 @@ fn advance<'a>(
     proc: u32,
     point: &mut Point<'a>,
     way: u32,
-) -> io::Result<()>
+)
     requires numbers { numbers.now ≡ numbers_of (typed_program program.now) }
     requires room { PointHasRoom (typed_program program.now).procs (point_of point.old) }
     ensures { PointHasRoom (typed_program program.now).procs (point_of point.new) }
 {
     let action = action_at(program, numbers, proc, point);
-    show_action(rt, &action)?;
+    show_action(rt, &action);
     if (way as usize) < action.ways() {
-        go_on(program, numbers, proc, point, way as usize)?;
+        if go_on(program, numbers, proc, point, way as usize).is_err() {
+            put_no_memory(rt);
+        }
     } else if let Action::Enter { .. } = action {
-        pass(rt, program, point)?;
+        pass(rt, program, point);
     }
-    Ok(())
 }
 
 /// A walk from a point by these ways.
@@ -77,46 +84,58 @@ fn show_steps<'a>(
     proc: u32,
     start: Point<'a>,
     ways: &str,
-) -> io::Result<()>
+)
     requires numbers { numbers.now ≡ numbers_of (typed_program program.now) }
     requires room { PointHasRoom (typed_program program.now).procs (point_of start) }
 {
     let mut point = start;
     for way in ways.split_whitespace() {
-        advance(rt, program, numbers, proc, &mut point, number(way)?)?;
+        advance(rt, program, numbers, proc, &mut point, number(way));
     }
-    Ok(())
 }
 
-fn show_from(
-    rt: &HostRuntime,
-    program: &Typed,
-    numbers: &Numbers,
-    from: &str,
-    ways: &str,
-) -> io::Result<()>
+/// A walk from the start of a run.
+fn show_from_start(rt: &HostRuntime, program: &Typed, numbers: &Numbers, ways: &str)
+    requires { numbers.now ≡ numbers_of (typed_program program.now) }
+{
+    match start_point(rt.alloc(), program, numbers) {
+        Ok(start) => show_steps(rt, program, numbers, program.entry(), start, ways),
+        Err(_) => put_no_memory(rt),
+    }
+}
+
+/// A walk from the entry of a procedure.
+fn show_from_entry(rt: &HostRuntime, program: &Typed, numbers: &Numbers, proc: u32, ways: &str)
+    requires { numbers.now ≡ numbers_of (typed_program program.now) }
+{
+    match entry_point(rt.alloc(), program, numbers, proc) {
+        Ok(entry) => show_steps(rt, program, numbers, proc, entry, ways),
+        Err(_) => put_no_memory(rt),
+    }
+}
+
+fn show_from(rt: &HostRuntime, program: &Typed, numbers: &Numbers, from: &str, ways: &str)
     requires { numbers.now ≡ numbers_of (typed_program program.now) }
 {
     if from == "start" {
-        let start = start_point(rt.alloc(), program, numbers)?;
-        return show_steps(rt, program, numbers, program.entry(), start, ways);
+        show_from_start(rt, program, numbers, ways);
+    } else {
+        show_from_entry(rt, program, numbers, number(from), ways);
     }
-    let proc = number(from)?;
-    let entry = entry_point(rt.alloc(), program, numbers, proc)?;
-    show_steps(rt, program, numbers, proc, entry, ways)
 }
 
-fn show_walk_of(rt: &HostRuntime, program: &Typed, steps: &str) -> io::Result<()> {
+fn show_walk_of(rt: &HostRuntime, program: &Typed, steps: &str) {
     let (from, ways) = first_word(steps);
-    let numbers = Numbers::of(rt.alloc(), program)?;
-    show_from(rt, program, &numbers, from, ways)
+    match Numbers::of(rt.alloc(), program) {
+        Ok(numbers) => show_from(rt, program, &numbers, from, ways),
+        Err(_) => put_no_memory(rt),
+    }
 }
 
 /// What happens on a walk through the program of a text, from the start of a run or the entry of a procedure of that number, with a way
 /// for each step.
-pub(crate) fn show_walk(rt: &HostRuntime, steps: &str, text: &str) -> io::Result<()> {
-    match resolved(rt, "main", text)? {
-        Some(program) => show_walk_of(rt, &program, steps),
-        None => Ok(()),
+pub(crate) fn show_walk(rt: &HostRuntime, steps: &str, text: &str) {
+    if let Some(program) = &resolved(rt, "main", text) {
+        show_walk_of(rt, program, steps);
     }
 }
