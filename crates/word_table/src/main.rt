@@ -10,49 +10,45 @@ mod sets;
 mod texts;
 mod words;
 
-use crate::texts::{first_of, unreadable};
+use crate::answers::{show_no_memory, show_text};
+use crate::texts::first_of;
 use nwa_base::{Nwa, empty};
 use std::io::{self, Read};
 
 /// The answer to a line.
-fn show_line(rt: &HostRuntime, nwa: &mut Nwa, line: &str) -> io::Result<()> {
+fn show_line(rt: &HostRuntime, nwa: &mut Nwa, line: &str) {
     let (call, said) = first_of(line);
     match call {
         "#" => {
-            println!(rt; "{line}")?;
-            Ok(())
-        }
-        "automaton" | "parts" | "state" | "size" | "copy" | "reduce" | "less" => {
-            making::show_call(rt, nwa, call, said)
+            show_text(rt, line);
+            show_text(rt, "\n");
         }
         "ask" => readers::show_all(rt, nwa, said),
         "race" => races::show_race(rt, said),
         "end" => races::show_kind(rt, said),
         "find" => words::show_search(rt, nwa, said),
         "nested" => words::show_nested(rt, nwa, said),
-        _ => words::show_all(rt, nwa, call, said),
+        "words" | "accepts" | "runs" | "steps" | "sets" => words::show_all(rt, nwa, call, said),
+        _ => making::show_call(rt, nwa, call, said),
     }
 }
 
-fn show_lines(rt: &HostRuntime, nwa: &mut Nwa, text: &str) -> io::Result<()> {
+fn show_lines(rt: &HostRuntime, nwa: &mut Nwa, text: &str) {
     for line in text.lines() {
-        show_line(rt, nwa, line)?;
+        show_line(rt, nwa, line);
     }
-    Ok(())
 }
 
-fn show_text(rt: &HostRuntime, text: &str) -> io::Result<()> {
-    let Ok(mut nwa) = empty(rt.alloc(), 1, 0) else {
-        return Err(unreadable());
-    };
-    show_lines(rt, &mut nwa, text)
+fn show_all(rt: &HostRuntime, text: &str) {
+    match empty(rt.alloc(), 1, 0) {
+        Ok(mut nwa) => show_lines(rt, &mut nwa, text),
+        Err(_) => show_no_memory(rt, "automaton"),
+    }
 }
 
 fn main(rt: HostRuntime) -> io::Result<()> {
     let mut text = Vec::new(rt.alloc());
     rt.stdin().read_to_end(&mut text)?;
-    match str::from_utf8(text.as_slice()) {
-        Ok(text) => show_text(&rt, text),
-        Err(_) => Err(unreadable()),
-    }
+    show_all(&rt, str::from_utf8(&text).unwrap_or("#"));
+    Ok(())
 }

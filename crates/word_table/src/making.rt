@@ -1,12 +1,11 @@
 //! The calls that make an automaton, or another of it.
 
-use crate::answers::show;
-use crate::texts::{Part, first_of, number, read_part, unreadable};
+use crate::answers::{show, show_no_memory, show_number};
+use crate::texts::{Part, first_of, number, read_part};
 use nwa_base::{Nwa, NwaFault, empty};
 use nwa_difference::difference;
 use nwa_reduce::reduce;
-use std::alloc::{AllocError, Global};
-use std::io;
+use std::alloc::AllocError;
 
 fn add(nwa: &mut Nwa, part: Part) -> Result<(), NwaFault> {
     match part {
@@ -17,96 +16,85 @@ fn add(nwa: &mut Nwa, part: Part) -> Result<(), NwaFault> {
     }
 }
 
-fn cause(fault: &NwaFault) -> &'static str {
-    match fault {
+fn show_cause(rt: &HostRuntime, text: &str, fault: &NwaFault) {
+    let cause = match fault {
         NwaFault::BadState => "no such state",
         NwaFault::BadLetter => "a letter of another kind",
         NwaFault::Memory => "no memory",
-    }
+    };
+    show(rt, text, cause);
 }
 
-/// Adds a part. Where it is refused, the cause is printed.
-fn show_added(rt: &HostRuntime, nwa: &mut Nwa, text: &str) -> io::Result<()> {
-    match add(nwa, read_part(text)?) {
-        Ok(()) => Ok(()),
-        Err(fault) => show(rt, text, cause(&fault)),
-    }
-}
-
-fn show_parts(rt: &HostRuntime, nwa: &mut Nwa, parts: &str) -> io::Result<()> {
+/// Adds parts. Where one is refused, the cause is printed.
+fn show_parts(rt: &HostRuntime, nwa: &mut Nwa, parts: &str) {
     for text in parts.split_whitespace() {
-        show_added(rt, nwa, text)?;
+        if let Err(fault) = add(nwa, read_part(text)) {
+            show_cause(rt, text, &fault);
+        }
     }
-    Ok(())
 }
 
 /// The automaton of so many states with this start. Where it is refused, the cause is printed.
-fn show_begun(rt: &HostRuntime, nwa: &mut Nwa, states: &str, start: &str) -> io::Result<()> {
-    match empty(rt.alloc(), number(states)?, number(start)?) {
+fn show_begun(rt: &HostRuntime, nwa: &mut Nwa, states: &str, start: &str) {
+    match empty(rt.alloc(), number(states), number(start)) {
         Ok(made) => *nwa = made,
-        Err(fault) => show(rt, start, cause(&fault))?,
+        Err(fault) => show_cause(rt, start, &fault),
     }
-    Ok(())
 }
 
 /// The automaton of so many states, with a start and with parts.
-fn show_made(rt: &HostRuntime, nwa: &mut Nwa, said: &str) -> io::Result<()> {
+fn show_made(rt: &HostRuntime, nwa: &mut Nwa, said: &str) {
     let (states, said) = first_of(said);
     let (start, parts) = first_of(said);
-    show_begun(rt, nwa, states, start)?;
-    show_parts(rt, nwa, parts)
+    show_begun(rt, nwa, states, start);
+    show_parts(rt, nwa, parts);
 }
 
-fn show_state(rt: &HostRuntime, nwa: &mut Nwa) -> io::Result<()> {
-    let state = nwa.add_state()?;
-    println!(rt; "state {state}")?;
-    Ok(())
+fn show_state(rt: &HostRuntime, nwa: &mut Nwa) {
+    match nwa.add_state() {
+        Ok(state) => show_number(rt, "state ", u64::from(state), "\n"),
+        Err(_) => show_no_memory(rt, "state"),
+    }
 }
 
-fn show_size(rt: &HostRuntime, nwa: &Nwa) -> io::Result<()> {
-    let states = nwa.states();
-    println!(rt; "{states} states")?;
-    Ok(())
-}
-
-/// Puts a copy in the automaton's place.
-fn put_copy(nwa: &mut Nwa) -> Result<(), AllocError> {
-    let copy = nwa.copy()?;
-    *nwa = copy;
-    Ok(())
-}
-
-/// Puts the reduced automaton in the automaton's place.
-fn put_reduced(alloc: Global, nwa: &mut Nwa) -> Result<(), AllocError> {
-    let reduced = reduce(alloc, nwa)?;
-    *nwa = reduced;
-    Ok(())
-}
-
-/// Puts the difference in the automaton's place.
-fn put_difference(alloc: Global, nwa: &mut Nwa, second: &Nwa) -> Result<(), AllocError> {
-    let rest = difference(alloc, nwa, second)?;
-    *nwa = rest;
-    Ok(())
+/// Puts what was made in the automaton's place.
+fn put(rt: &HostRuntime, nwa: &mut Nwa, made: Result<Nwa, AllocError>) {
+    match made {
+        Ok(made) => *nwa = made,
+        Err(_) => show_no_memory(rt, "automaton"),
+    }
 }
 
 /// Takes the words of another automaton away.
-fn show_less(rt: &HostRuntime, nwa: &mut Nwa, said: &str) -> io::Result<()> {
-    let mut second = nwa.copy()?;
-    show_made(rt, &mut second, said)?;
-    put_difference(rt.alloc(), nwa, &second)?;
-    Ok(())
+fn show_less(rt: &HostRuntime, nwa: &mut Nwa, said: &str) {
+    match empty(rt.alloc(), 1, 0) {
+        Ok(mut second) => {
+            show_made(rt, &mut second, said);
+            let rest = difference(rt.alloc(), nwa, &second);
+            put(rt, nwa, rest);
+        }
+        Err(_) => show_no_memory(rt, "automaton"),
+    }
 }
 
-pub(crate) fn show_call(rt: &HostRuntime, nwa: &mut Nwa, call: &str, said: &str) -> io::Result<()> {
+fn show_copy(rt: &HostRuntime, nwa: &mut Nwa) {
+    let copy = nwa.copy();
+    put(rt, nwa, copy);
+}
+
+fn show_reduced(rt: &HostRuntime, nwa: &mut Nwa) {
+    let reduced = reduce(rt.alloc(), nwa);
+    put(rt, nwa, reduced);
+}
+
+pub(crate) fn show_call(rt: &HostRuntime, nwa: &mut Nwa, call: &str, said: &str) {
     match call {
         "automaton" => show_made(rt, nwa, said),
         "parts" => show_parts(rt, nwa, said),
         "state" => show_state(rt, nwa),
-        "size" => show_size(rt, nwa),
-        "copy" => Ok(put_copy(nwa)?),
-        "reduce" => Ok(put_reduced(rt.alloc(), nwa)?),
-        "less" => show_less(rt, nwa, said),
-        _ => Err(unreadable()),
+        "size" => show_number(rt, "", u64::from(nwa.states()), " states\n"),
+        "copy" => show_copy(rt, nwa),
+        "reduce" => show_reduced(rt, nwa),
+        _ => show_less(rt, nwa, said),
     }
 }

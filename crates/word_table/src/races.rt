@@ -5,15 +5,14 @@ ghost use Rattle.std.specs.Arc.{arc_value};
 ghost use Rattle.race_core.specs.Samples.{empty_word, no_word};
 ghost use Rattle.race_core.specs.Steps.{IsFairEvent};
 
-use crate::answers::show;
-use crate::texts::{first_of, number, unreadable};
+use crate::answers::{show, show_no_memory, show_number, show_text};
+use crate::texts::{first_of, number};
 use crate::words::shared;
 use nwa_base::{Nwa, NwaFault, Word, empty, word};
 use race_core::{
     Cause, End, EndKind, Entry, Event, Evidence, Outcome, Refused, Shared, Why, shared as open,
 };
 use std::alloc::Global;
-use std::io;
 use std::sync::Arc;
 
 /// An automaton, of which the words that it does not accept are taken for feasible.
@@ -107,27 +106,29 @@ fn is_whole(refused: &Refused<Sample>) -> bool {
         && refused.kept.finals().is_empty()
 }
 
-fn show_refusal(rt: &HostRuntime, event: &str, why: Why, is_whole: bool) -> io::Result<()> {
-    if !is_whole {
-        return show(rt, event, "something else came back");
+fn show_refusal(rt: &HostRuntime, event: &str, why: Why, is_whole: bool) {
+    if is_whole {
+        let _ = println!(rt; "{event}: refused {why:?}");
+    } else {
+        show(rt, event, "something else came back");
     }
-    println!(rt; "{event}: refused {why:?}")?;
-    Ok(())
 }
 
-fn show_outcome(rt: &HostRuntime, event: &str, outcome: &Outcome<Sample>) -> io::Result<()> {
+/// A version behind what was done.
+fn show_version(rt: &HostRuntime, event: &str, done: &str, version: u64) {
+    let _ = println!(rt; "{event}: {done} {version}");
+}
+
+fn show_outcome(rt: &HostRuntime, event: &str, outcome: &Outcome<Sample>) {
     match outcome {
-        Outcome::Seen { version } => println!(rt; "{event}: version {version}")?,
-        Outcome::Published { version } => println!(rt; "{event}: made version {version}")?,
-        Outcome::Finished => println!(rt; "{event}: ended")?,
-        Outcome::NotPublished(refused) => {
-            show_refusal(rt, event, refused.why, is_whole(refused))?
-        }
+        Outcome::Seen { version } => show_version(rt, event, "version", *version),
+        Outcome::Published { version } => show_version(rt, event, "made version", *version),
+        Outcome::Finished => show(rt, event, "ended"),
+        Outcome::NotPublished(refused) => show_refusal(rt, event, refused.why, is_whole(refused)),
         Outcome::NotFinished(refused) => {
-            show_refusal(rt, event, refused.why, refused.end.kind() == EndKind::Safe)?
+            show_refusal(rt, event, refused.why, refused.end.kind() == EndKind::Safe)
         }
     }
-    Ok(())
 }
 
 /// The answer to an event.
@@ -172,51 +173,51 @@ fn finish(state: &mut Shared<Sample>, base: u64) -> Outcome<Sample>
     told(state, event)
 }
 
-fn show_publication(rt: &HostRuntime, state: &mut Shared<Sample>) -> io::Result<()>
+fn show_publication(rt: &HostRuntime, state: &mut Shared<Sample>)
     requires { state.old.program ≡ empty_word }
     ensures { state.new.program ≡ state.old.program }
 {
     match publication(rt.alloc()) {
         Ok(offer) => show_outcome(rt, "publish", &publish(state, offer)),
-        Err(_) => Err(unreadable()),
+        Err(_) => show_no_memory(rt, "publish"),
     }
 }
 
 /// The base stands behind a colon.
-fn show_finish(rt: &HostRuntime, state: &mut Shared<Sample>, event: &str) -> io::Result<()>
+fn show_finish(rt: &HostRuntime, state: &mut Shared<Sample>, event: &str)
     ensures { state.new.program ≡ state.old.program }
 {
-    let Some((_, base)) = event.split_once(':') else {
-        return Err(unreadable());
-    };
-    let base = number(base)?;
-    show_outcome(rt, event, &finish(state, u64::from(base)))
+    let (_, base) = event.split_once(':').unwrap_or((event, "0"));
+    show_outcome(rt, event, &finish(state, u64::from(number(base))));
+}
+
+fn show_kind_of(rt: &HostRuntime, before: &str, end: &End) {
+    let kind = end.kind();
+    let _ = println!(rt; "{before}{kind:?}");
 }
 
 /// The end of a race: that it is open, or which one.
-fn show_end(rt: &HostRuntime, end: Option<&End>) -> io::Result<()> {
+fn show_end(rt: &HostRuntime, end: Option<&End>) {
     match end {
-        Some(end) => {
-            let kind = end.kind();
-            println!(rt; ", ended {kind:?}")?;
-        }
-        None => println!(rt; ", open")?,
+        Some(end) => show_kind_of(rt, ", ended ", end),
+        None => show_text(rt, ", open\n"),
     }
-    Ok(())
 }
 
-fn show_state(rt: &HostRuntime, state: &Shared<Sample>) -> io::Result<()> {
-    let version = state.version();
-    let entries = state.history().len();
-    let room = state.sized();
-    let kept = state.kept().finals().len();
-    print!(rt;
-        "state: version {version}, entries {entries}, room {room}, final states kept {kept}"
-    )?;
-    show_end(rt, state.end())
+fn show_state(rt: &HostRuntime, state: &Shared<Sample>) {
+    show_number(rt, "state: version ", state.version(), "");
+    show_number(rt, ", entries ", state.history().len() as u64, "");
+    show_number(rt, ", room ", state.sized(), "");
+    show_number(
+        rt,
+        ", final states kept ",
+        state.kept().finals().len() as u64,
+        "",
+    );
+    show_end(rt, state.end());
 }
 
-fn show_event(rt: &HostRuntime, state: &mut Shared<Sample>, event: &str) -> io::Result<()>
+fn show_event(rt: &HostRuntime, state: &mut Shared<Sample>, event: &str)
     requires { state.old.program ≡ empty_word }
     ensures { state.new.program ≡ state.old.program }
 {
@@ -228,66 +229,48 @@ fn show_event(rt: &HostRuntime, state: &mut Shared<Sample>, event: &str) -> io::
     }
 }
 
-fn show_events(rt: &HostRuntime, state: &mut Shared<Sample>, events: &str) -> io::Result<()>
+fn show_events(rt: &HostRuntime, state: &mut Shared<Sample>, events: &str)
     requires { state.old.program ≡ empty_word }
 {
     for event in events.split_whitespace() {
-        show_event(rt, state, event)?;
+        show_event(rt, state, event);
     }
-    Ok(())
 }
 
 /// The events of a race of so many entries at most.
-pub(crate) fn show_race(rt: &HostRuntime, said: &str) -> io::Result<()> {
+pub(crate) fn show_race(rt: &HostRuntime, said: &str) {
     let (limit, events) = first_of(said);
-    let limit = u64::from(number(limit)?);
-    if limit < 1 || limit > 100_000 {
-        return Err(unreadable());
-    }
-    match race(rt.alloc(), limit) {
+    match race(rt.alloc(), u64::from(number(limit)).clamp(1, 100_000)) {
         Ok(mut state) => {
             shared(&state);
-            show_events(rt, &mut state, events)
+            show_events(rt, &mut state, events);
         }
-        Err(_) => Err(unreadable()),
+        Err(_) => show_no_memory(rt, said),
     }
 }
 
-/// An end in an error.
-fn error(alloc: Global) -> Result<End, NwaFault> {
+/// An end in an error, or one without an answer.
+fn end_of(alloc: Global, name: &str) -> Result<End, NwaFault> {
     let word = no_letters(alloc)?;
-    Ok(End::Unsafe {
-        word,
-        steps: 1,
-        choices: Vec::new(alloc),
-    })
-}
-
-/// An end without an answer.
-fn unknown(alloc: Global) -> Result<End, NwaFault> {
-    let word = no_letters(alloc)?;
-    Ok(End::Unknown {
-        cause: Cause::Whole,
-        word,
-    })
-}
-
-fn show_made(rt: &HostRuntime, name: &str, end: &Result<End, NwaFault>) -> io::Result<()> {
-    match end {
-        Ok(end) => {
-            let kind = end.kind();
-            println!(rt; "{name}: {kind:?}")?;
-            Ok(())
-        }
-        Err(_) => Err(unreadable()),
+    if name == "error" {
+        Ok(End::Unsafe {
+            word,
+            steps: 1,
+            choices: Vec::new(alloc),
+        })
+    } else {
+        Ok(End::Unknown {
+            cause: Cause::Whole,
+            word,
+        })
     }
 }
 
 /// The kind of an end of this name.
-pub(crate) fn show_kind(rt: &HostRuntime, name: &str) -> io::Result<()> {
-    match name {
-        "error" => show_made(rt, name, &error(rt.alloc())),
-        "no-answer" => show_made(rt, name, &unknown(rt.alloc())),
-        _ => Err(unreadable()),
+pub(crate) fn show_kind(rt: &HostRuntime, name: &str) {
+    show_text(rt, name);
+    match &end_of(rt.alloc(), name) {
+        Ok(end) => show_kind_of(rt, ": ", end),
+        Err(_) => show_no_memory(rt, ""),
     }
 }

@@ -1,49 +1,49 @@
 //! What an automaton has, asked for by a part in which `_` stands for what is sought.
 
 use crate::answers::{show_backs, show_edges, show_states, show_whether};
-use crate::texts::{Part, letter, read_part, state, unreadable};
+use crate::texts::{Part, letter, read_part, state};
 use nwa_base::Nwa;
-use std::io;
 
-/// Whether the automaton has the part.
-fn show_whether_has(rt: &HostRuntime, nwa: &Nwa, text: &str) -> io::Result<()> {
-    match read_part(text)? {
-        Part::Final(q) => show_whether(rt, text, nwa.is_final(q)),
-        Part::Inside(q, a, to) => show_whether(rt, text, nwa.has_inside(q, a, to)),
-        Part::Back(q, p, a, to) => show_whether(rt, text, nwa.has_back(q, p, a, to)),
-        Part::Call(..) => Err(unreadable()),
-    }
+/// Whether the automaton has the part, which is no call.
+fn show_whether_has(rt: &HostRuntime, nwa: &Nwa, text: &str) {
+    let has = match read_part(text) {
+        Part::Final(q) => nwa.is_final(q),
+        Part::Inside(q, a, to) => nwa.has_inside(q, a, to),
+        Part::Back(q, p, a, to) => nwa.has_back(q, p, a, to),
+        Part::Call(..) => false,
+    };
+    show_whether(rt, text, has);
 }
 
-fn show_insides(rt: &HostRuntime, nwa: &Nwa, text: &str) -> io::Result<()> {
+fn show_insides(rt: &HostRuntime, nwa: &Nwa, text: &str) {
     match text.as_bytes() {
-        [_, q, b'_', b'_'] => show_edges(rt, text, 'i', nwa.insides_leaving(state(*q)?)),
-        [_, q, a, b'_'] => show_states(rt, text, nwa.inside_ends(state(*q)?, letter(*a)?)),
+        [_, q, b'_', b'_'] => show_edges(rt, text, " i", nwa.insides_leaving(state(*q))),
+        [_, q, a, b'_'] => show_states(rt, text, nwa.inside_ends(state(*q), letter(*a))),
         _ => show_whether_has(rt, nwa, text),
     }
 }
 
-fn show_calls(rt: &HostRuntime, nwa: &Nwa, text: &str) -> io::Result<()> {
+fn show_calls(rt: &HostRuntime, nwa: &Nwa, text: &str) {
     match text.as_bytes() {
-        [_, b'_', b'_', to] => show_edges(rt, text, 'c', nwa.calls_entering(state(*to)?)),
-        [_, q, b'_', b'_'] => show_edges(rt, text, 'c', nwa.calls_leaving(state(*q)?)),
-        [_, q, a, b'_'] => show_states(rt, text, nwa.call_ends(state(*q)?, letter(*a)?)),
-        _ => Err(unreadable()),
+        [_, b'_', b'_', to] => show_edges(rt, text, " c", nwa.calls_entering(state(*to))),
+        [_, q, b'_', b'_'] => show_edges(rt, text, " c", nwa.calls_leaving(state(*q))),
+        [_, q, a, b'_'] => show_states(rt, text, nwa.call_ends(state(*q), letter(*a))),
+        _ => show_whether_has(rt, nwa, text),
     }
 }
 
-fn show_returns(rt: &HostRuntime, nwa: &Nwa, text: &str) -> io::Result<()> {
+fn show_returns(rt: &HostRuntime, nwa: &Nwa, text: &str) {
     match text.as_bytes() {
-        [_, q, b'_', b'_', b'_'] => show_backs(rt, text, nwa.backs_leaving(state(*q)?)),
-        [_, q, p, b'_', b'_'] => { show_backs(rt, text, nwa.backs_between(state(*q)?, state(*p)?)) }
+        [_, q, b'_', b'_', b'_'] => show_backs(rt, text, nwa.backs_leaving(state(*q))),
+        [_, q, p, b'_', b'_'] => show_backs(rt, text, nwa.backs_between(state(*q), state(*p))),
         [_, q, p, a, b'_'] => {
-            show_states(rt, text, nwa.back_ends(state(*q)?, state(*p)?, letter(*a)?))
+            show_states(rt, text, nwa.back_ends(state(*q), state(*p), letter(*a)))
         }
         _ => show_whether_has(rt, nwa, text),
     }
 }
 
-fn show_one(rt: &HostRuntime, nwa: &Nwa, text: &str) -> io::Result<()> {
+fn show_one(rt: &HostRuntime, nwa: &Nwa, text: &str) {
     match text.as_bytes() {
         b"f_" => show_states(rt, text, nwa.finals()),
         [b'i', ..] => show_insides(rt, nwa, text),
@@ -53,9 +53,8 @@ fn show_one(rt: &HostRuntime, nwa: &Nwa, text: &str) -> io::Result<()> {
     }
 }
 
-pub(crate) fn show_all(rt: &HostRuntime, nwa: &Nwa, said: &str) -> io::Result<()> {
+pub(crate) fn show_all(rt: &HostRuntime, nwa: &Nwa, said: &str) {
     for text in said.split_whitespace() {
-        show_one(rt, nwa, text)?;
+        show_one(rt, nwa, text);
     }
-    Ok(())
 }

@@ -2,11 +2,11 @@
 
 ghost use Rattle.std.specs.Prelude.{◌<◌, length, IfOk};
 
-use crate::answers::{name, show_pairs};
+use crate::answers::{name, show_no_memory, show_pairs};
 use nwa_base::{Kind, Letter, Nwa, Pair, Word, has_final, on_back, on_call, on_inside};
 use nwa_determinise::{Det, det};
 use std::alloc::{AllocError, Global};
-use std::{io, mem};
+use std::mem;
 
 /// The pairs before the last letter, and behind it.
 #[derive(Drop)]
@@ -35,36 +35,29 @@ fn led(
     }
 }
 
-fn read(alloc: Global, nwa: &Nwa, reading: &mut Reading, letter: Letter) -> Result<(), AllocError> {
-    let next = led(alloc, nwa, reading, letter)?;
-    reading.before = mem::replace(&mut reading.here, next);
-    Ok(())
-}
-
-fn show_step(rt: &HostRuntime, nwa: &Nwa, reading: &mut Reading, letter: Letter) -> io::Result<()> {
-    read(rt.alloc(), nwa, reading, letter)?;
-    let name = name(letter);
-    let here = reading.here.as_slice();
-    print!(rt; "{name}:")?;
-    show_pairs(rt, here, has_final(nwa, here))
-}
-
-fn show_each(
-    rt: &HostRuntime,
-    nwa: &Nwa,
-    reading: &mut Reading,
-    letters: &[Letter],
-) -> io::Result<()> {
-    for letter in letters {
-        show_step(rt, nwa, reading, *letter)?;
+fn show_step(rt: &HostRuntime, nwa: &Nwa, reading: &mut Reading, letter: Letter) {
+    match led(rt.alloc(), nwa, reading, letter) {
+        Ok(next) => {
+            reading.before = mem::replace(&mut reading.here, next);
+            let here = reading.here.as_slice();
+            show_pairs(rt, name(letter), here, has_final(nwa, here));
+        }
+        Err(_) => show_no_memory(rt, name(letter)),
     }
-    Ok(())
+}
+
+fn show_each(rt: &HostRuntime, nwa: &Nwa, reading: &mut Reading, letters: &[Letter]) {
+    for letter in letters {
+        show_step(rt, nwa, reading, *letter);
+    }
 }
 
 /// The pairs to which each letter leads.
-pub(crate) fn show_steps(rt: &HostRuntime, nwa: &Nwa, word: &Word) -> io::Result<()> {
-    let mut reading = unread(rt.alloc(), nwa.start())?;
-    show_each(rt, nwa, &mut reading, word.letters())
+pub(crate) fn show_steps(rt: &HostRuntime, nwa: &Nwa, word: &Word) {
+    match unread(rt.alloc(), nwa.start()) {
+        Ok(mut reading) => show_each(rt, nwa, &mut reading, word.letters()),
+        Err(_) => show_no_memory(rt, "steps"),
+    }
 }
 
 /// The set to which a letter leads from `here`, where `before` was the set before the last call.
@@ -106,10 +99,18 @@ fn last_from_start(sets: &mut Det<'_>, letters: &[Letter]) -> Result<u32, AllocE
     last(sets, start, letters)
 }
 
+/// The set to which a word leads, and whether it accepts the word.
+fn show_last(rt: &HostRuntime, sets: &mut Det<'_>, names: &str, word: &Word) {
+    match last_from_start(sets, word.letters()) {
+        Ok(last) => show_pairs(rt, names, sets.pairs(last), sets.accepting(last)),
+        Err(_) => show_no_memory(rt, names),
+    }
+}
+
 /// The set to which a word leads in the deterministic automaton, and whether it accepts the word.
-pub(crate) fn show_set(rt: &HostRuntime, nwa: &Nwa, names: &str, word: &Word) -> io::Result<()> {
-    let mut sets = det(rt.alloc(), nwa)?;
-    let last = last_from_start(&mut sets, word.letters())?;
-    print!(rt; "{names}:")?;
-    show_pairs(rt, sets.pairs(last), sets.accepting(last))
+pub(crate) fn show_set(rt: &HostRuntime, nwa: &Nwa, names: &str, word: &Word) {
+    match det(rt.alloc(), nwa) {
+        Ok(mut sets) => show_last(rt, &mut sets, names, word),
+        Err(_) => show_no_memory(rt, names),
+    }
 }
