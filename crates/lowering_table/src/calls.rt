@@ -9,7 +9,6 @@ use cond_jumps::place;
 use letter_acts::Frame;
 use program_layout::Layout;
 use std::alloc::{AllocError, Global};
-use std::io;
 use typed_tree::{TExpr, TProc, TSpec};
 use typing_rules::Typed;
 
@@ -19,13 +18,7 @@ fn condition(specification: &TSpec) -> &TExpr {
     }
 }
 
-fn show_demand(
-    rt: &HostRuntime,
-    frame: &Frame,
-    values: &[TExpr],
-    condition: &TExpr,
-    want: bool,
-) -> io::Result<()> {
+fn show_demand(rt: &HostRuntime, frame: &Frame, values: &[TExpr], condition: &TExpr, want: bool) {
     let made = demanded(rt.alloc(), frame, values, condition, want);
     show_made(rt, if want { "true" } else { "false" }, &made)
 }
@@ -37,23 +30,29 @@ pub(crate) fn show_demands(
     frame: &Frame,
     callee: u32,
     values: &[TExpr],
-) -> io::Result<()> {
+) {
     let Some(called) = program.procs().get(callee as usize) else {
         return show_nothing(rt);
     };
     for specification in &called.specs {
-        show_demand(rt, frame, values, condition(specification), true)?;
-        show_demand(rt, frame, values, condition(specification), false)?;
+        show_demand(rt, frame, values, condition(specification), true);
+        show_demand(rt, frame, values, condition(specification), false);
     }
-    Ok(())
+}
+
+/// How many columns a frame has.
+fn size(frame: &Frame) -> u32 {
+    u32::try_from(frame.columns.len()).unwrap_or(u32::MAX)
 }
 
 /// The column of the first parameter, and the first column behind the callee's frame.
 fn columns_of(layout: &Layout<'_>, frame: &Frame, callee: u32) -> Option<(u32, u32)> {
-    let width = u32::try_from(frame.columns.len()).ok()?;
-    let called = u32::try_from(layout.frame(callee)?.columns.len()).ok()?;
-    let first = width.checked_add(layout.before_locals())?;
-    Some((first, width.checked_add(called)?))
+    let called = layout.frame(callee)?;
+    let width = size(frame);
+    Some((
+        width.saturating_add(layout.before_locals()),
+        width.saturating_add(size(called)),
+    ))
 }
 
 /// The rows by which the parameters of the called procedure have the values.
@@ -63,7 +62,7 @@ pub(crate) fn show_arguments(
     frame: &Frame,
     callee: u32,
     values: &[TExpr],
-) -> io::Result<()> {
+) {
     let Some((first, base)) = columns_of(layout, frame, callee) else {
         return show_nothing(rt);
     };
@@ -79,22 +78,31 @@ pub(crate) fn show_arguments(
     }
 }
 
-/// The numbers of the columns in the frame.
-fn numbers_of(alloc: Global, frame: &Frame, columns: &[Column]) -> Result<Vec<u32>, AllocError> {
-    let mut numbers = Vec::new(alloc);
+fn push_numbers(
+    numbers: &mut Vec<u32>,
+    frame: &Frame,
+    columns: &[Column],
+) -> Result<(), AllocError> {
     for column in columns {
         if let Some(spot) = place(frame, *column)? {
             numbers.push(spot.number)?;
         }
     }
+    Ok(())
+}
+
+/// The numbers of the columns in the frame.
+fn numbers_of(alloc: Global, frame: &Frame, columns: &[Column]) -> Result<Vec<u32>, AllocError> {
+    let mut numbers = Vec::new(alloc);
+    push_numbers(&mut numbers, frame, columns)?;
     Ok(numbers)
 }
 
 /// What a call may do: the columns that it writes, and its list.
-fn show_imported(rt: &HostRuntime, import: &Import) -> io::Result<()> {
-    show_text(rt, "writes")?;
-    show_numbers(rt, &import.written)?;
-    end_line(rt)?;
+fn show_imported(rt: &HostRuntime, import: &Import) {
+    show_text(rt, "writes");
+    show_numbers(rt, &import.written);
+    end_line(rt);
     show_list(rt, "gives", &import.conjs)
 }
 
@@ -105,7 +113,7 @@ fn show_import_to(
     called: &TProc,
     values: &[TExpr],
     targets: &[u32],
-) -> io::Result<()> {
+) {
     match &imported(
         rt.alloc(),
         program.globals(),
@@ -127,9 +135,11 @@ pub(crate) fn show_import(
     callee: u32,
     targets: &[Column],
     values: &[TExpr],
-) -> io::Result<()> {
-    let targets = numbers_of(rt.alloc(), frame, targets)?;
-    show_import_at(rt, program, frame, callee, &targets, values)
+) {
+    match numbers_of(rt.alloc(), frame, targets) {
+        Ok(targets) => show_import_at(rt, program, frame, callee, &targets, values),
+        Err(_) => show_nothing(rt),
+    }
 }
 
 fn show_import_at(
@@ -139,9 +149,9 @@ fn show_import_at(
     callee: u32,
     targets: &[u32],
     values: &[TExpr],
-) -> io::Result<()> {
-    match enlarged(program, callee)? {
-        Some(called) => show_import_to(rt, program, frame, &called, values, targets),
-        None => show_nothing(rt),
+) {
+    match &enlarged(program, callee) {
+        Ok(Some(called)) => show_import_to(rt, program, frame, called, values, targets),
+        _ => show_nothing(rt),
     }
 }

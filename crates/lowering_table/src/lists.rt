@@ -8,7 +8,6 @@ use boogie_tree::Column;
 use cond_jumps::{Conj, JumpFault, assign, paths};
 use letter_acts::Frame;
 use program_layout::{Layout, lay_out};
-use std::io;
 use typed_tree::{TExpr, TProc, TStmt};
 use typing_rules::Typed;
 
@@ -29,90 +28,73 @@ pub(crate) enum Asked {
     Import,
 }
 
-pub(crate) fn show_fault(rt: &HostRuntime, name: &str, fault: &JumpFault) -> io::Result<()> {
-    println!(rt; "{name}: {fault}")
+pub(crate) fn show_fault(rt: &HostRuntime, name: &str, fault: &JumpFault) {
+    let _ = println!(rt; "{name}: {fault}");
 }
 
 /// How many helpers a conjunction has, and its rows.
-pub(crate) fn show_conjunction(rt: &HostRuntime, name: &str, conjunction: &Conj) -> io::Result<()> {
-    show_text(rt, name)?;
-    show_number(rt, " +", conjunction.helpers)?;
+pub(crate) fn show_conjunction(rt: &HostRuntime, name: &str, conjunction: &Conj) {
+    show_text(rt, name);
+    show_number(rt, " +", conjunction.helpers);
     show_rows(rt, &conjunction.rows)
 }
 
 /// Each conjunction on a line.
-pub(crate) fn show_list(rt: &HostRuntime, name: &str, list: &[Conj]) -> io::Result<()> {
+pub(crate) fn show_list(rt: &HostRuntime, name: &str, list: &[Conj]) {
     if list.is_empty() {
-        show_text(rt, name)?;
+        show_text(rt, name);
         return show_line(rt, ": nothing");
     }
     for conjunction in list {
-        show_conjunction(rt, name, conjunction)?;
+        show_conjunction(rt, name, conjunction);
     }
-    Ok(())
 }
 
 /// The list, or why there is none.
-pub(crate) fn show_made(
-    rt: &HostRuntime,
-    name: &str,
-    made: &Result<Vec<Conj>, JumpFault>,
-) -> io::Result<()> {
+pub(crate) fn show_made(rt: &HostRuntime, name: &str, made: &Result<Vec<Conj>, JumpFault>) {
     match made {
         Ok(list) => show_list(rt, name, list),
         Err(fault) => show_fault(rt, name, fault),
     }
 }
 
+fn show_size(rt: &HostRuntime, name: &str, size: usize) {
+    show_text(rt, name);
+    show_count(rt, ": ", size);
+    end_line(rt);
+}
+
 /// How many members the list has, or why there is none.
-fn show_length(
-    rt: &HostRuntime,
-    name: &str,
-    made: &Result<Vec<Conj>, JumpFault>,
-) -> io::Result<()> {
+fn show_length(rt: &HostRuntime, name: &str, made: &Result<Vec<Conj>, JumpFault>) {
     match made {
-        Ok(list) => {
-            show_text(rt, name)?;
-            show_count(rt, ": ", list.len())?;
-            end_line(rt)
-        }
+        Ok(list) => show_size(rt, name, list.len()),
         Err(fault) => show_fault(rt, name, fault),
     }
 }
 
-fn show_condition(rt: &HostRuntime, frame: &Frame, condition: &TExpr) -> io::Result<()> {
-    show_made(rt, "true", &paths(rt.alloc(), frame, condition, true))?;
+fn show_condition(rt: &HostRuntime, frame: &Frame, condition: &TExpr) {
+    show_made(rt, "true", &paths(rt.alloc(), frame, condition, true));
     show_made(rt, "false", &paths(rt.alloc(), frame, condition, false))
 }
 
-fn show_members(rt: &HostRuntime, frame: &Frame, condition: &TExpr) -> io::Result<()> {
-    show_length(rt, "true", &paths(rt.alloc(), frame, condition, true))?;
+fn show_members(rt: &HostRuntime, frame: &Frame, condition: &TExpr) {
+    show_length(rt, "true", &paths(rt.alloc(), frame, condition, true));
     show_length(rt, "false", &paths(rt.alloc(), frame, condition, false))
 }
 
 /// What is printed where the statement is another.
-pub(crate) fn show_nothing(rt: &HostRuntime) -> io::Result<()> {
+pub(crate) fn show_nothing(rt: &HostRuntime) {
     show_line(rt, "nothing to ask")
 }
 
-fn show_assignment(
-    rt: &HostRuntime,
-    frame: &Frame,
-    targets: &[Column],
-    values: &[TExpr],
-) -> io::Result<()> {
+fn show_assignment(rt: &HostRuntime, frame: &Frame, targets: &[Column], values: &[TExpr]) {
     if targets.len() != values.len() {
         return show_nothing(rt);
     }
     show_made(rt, "gives", &assign(rt.alloc(), frame, targets, values))
 }
 
-fn show_assumed(
-    rt: &HostRuntime,
-    frame: &Frame,
-    condition: &TExpr,
-    asked: Asked,
-) -> io::Result<()> {
+fn show_assumed(rt: &HostRuntime, frame: &Frame, condition: &TExpr, asked: Asked) {
     match asked {
         Asked::Condition => show_condition(rt, frame, condition),
         Asked::Members => show_members(rt, frame, condition),
@@ -130,7 +112,7 @@ fn show_assigned(
     targets: &[Column],
     values: &[TExpr],
     asked: Asked,
-) -> io::Result<()> {
+) {
     match asked {
         Asked::Assignment => show_assignment(rt, frame, targets, values),
         Asked::Arguments => show_arguments(rt, layout, frame, CALLED, values),
@@ -145,13 +127,7 @@ struct Call<'a> {
     values: &'a [TExpr],
 }
 
-fn show_call(
-    rt: &HostRuntime,
-    layout: &Layout<'_>,
-    frame: &Frame,
-    call: Call<'_>,
-    asked: Asked,
-) -> io::Result<()> {
+fn show_call(rt: &HostRuntime, layout: &Layout<'_>, frame: &Frame, call: Call<'_>, asked: Asked) {
     let Call {
         targets,
         callee,
@@ -172,7 +148,7 @@ fn show_statement(
     frame: &Frame,
     statement: Option<&TStmt>,
     asked: Asked,
-) -> io::Result<()> {
+) {
     match statement {
         None => show_assigned(rt, layout, frame, &[], &[], asked),
         Some(TStmt::Assume(_, condition)) => show_assumed(rt, frame, condition, asked),
@@ -199,19 +175,21 @@ fn first(procedure: &TProc) -> Option<&TStmt> {
     }
 }
 
-fn show_entry(rt: &HostRuntime, layout: &Layout<'_>, asked: Asked) -> io::Result<()> {
+fn show_entry(rt: &HostRuntime, layout: &Layout<'_>, asked: Asked) {
     let entry = layout.program().entry();
     let Some(frame) = layout.frame(entry) else {
         return show_nothing(rt);
     };
-    match enlarged(layout.program(), entry)? {
-        Some(procedure) => show_statement(rt, layout, frame, first(&procedure), asked),
-        None => show_nothing(rt),
+    match &enlarged(layout.program(), entry) {
+        Ok(Some(procedure)) => show_statement(rt, layout, frame, first(procedure), asked),
+        _ => show_nothing(rt),
     }
 }
 
 /// What is asked of the first statement of the procedure at which the program begins.
-pub(crate) fn show_asked(rt: &HostRuntime, program: &Typed, asked: Asked) -> io::Result<()> {
-    let layout = lay_out(rt.alloc(), program)?;
-    show_entry(rt, &layout, asked)
+pub(crate) fn show_asked(rt: &HostRuntime, program: &Typed, asked: Asked) {
+    match lay_out(rt.alloc(), program) {
+        Ok(layout) => show_entry(rt, &layout, asked),
+        Err(_) => show_nothing(rt),
+    }
 }

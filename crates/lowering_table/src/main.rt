@@ -18,41 +18,53 @@ mod runs;
 mod stand_ins;
 mod tables;
 
-use crate::printing::show_line;
+use crate::printing::{show_line, show_no_memory};
 use crate::programs::{show_program, show_told};
 use crate::questions::is_answered;
+use std::alloc::AllocError;
 use std::io::{self, Read};
 
-/// Takes one more line of a case, whose text so far is held.
-fn take_line(rt: &HostRuntime, text: &mut Vec<u8>, line: &[u8]) -> io::Result<()> {
-    if line == b"---".as_slice() {
-        show_program(rt, text.as_slice())?;
-        text.clear();
-    } else if line.starts_with(b"run ") {
-        show_told(rt, text.as_slice(), line)?;
-        text.clear();
-    } else if line.starts_with(b"#") {
-        show_line(rt, str::from_utf8(line).unwrap_or("#"))?;
-    } else if line.is_empty() {
-        text.clear();
-    } else if !is_answered(rt, text.as_slice(), line)? {
-        text.extend_from_slice(line)?;
-        text.push(b'\n')?;
-    }
+/// Puts a line behind the text of a case.
+fn push_line(text: &mut Vec<u8>, line: &[u8]) -> Result<(), AllocError> {
+    text.extend_from_slice(line)?;
+    text.push(b'\n')?;
     Ok(())
 }
 
-fn take_lines(rt: &HostRuntime, text: &mut Vec<u8>, input: &[u8]) -> io::Result<()> {
-    for line in input.split(|byte| *byte == b'\n') {
-        take_line(rt, text, line)?;
+/// Answers a question about the text of a case, or puts the line behind it.
+fn take_told(rt: &HostRuntime, text: &mut Vec<u8>, line: &[u8]) {
+    if !is_answered(rt, text.as_slice(), line) && push_line(text, line).is_err() {
+        show_no_memory(rt);
     }
-    Ok(())
+}
+
+/// Takes one more line of a case, whose text so far is held.
+fn take_line(rt: &HostRuntime, text: &mut Vec<u8>, line: &[u8]) {
+    if line == b"---".as_slice() {
+        show_program(rt, text.as_slice());
+        text.clear();
+    } else if line.starts_with(b"run ") {
+        show_told(rt, text.as_slice(), line);
+        text.clear();
+    } else if line.starts_with(b"#") {
+        show_line(rt, str::from_utf8(line).unwrap_or("#"));
+    } else if line.is_empty() {
+        text.clear();
+    } else {
+        take_told(rt, text, line);
+    }
+}
+
+fn take_lines(rt: &HostRuntime, input: &[u8]) {
+    let mut text = Vec::new(rt.alloc());
+    for line in input.split(|byte| *byte == b'\n') {
+        take_line(rt, &mut text, line);
+    }
 }
 
 fn main(rt: HostRuntime) -> io::Result<()> {
     let mut input = Vec::new(rt.alloc());
-    let mut stdin = rt.stdin();
-    stdin.read_to_end(&mut input)?;
-    let mut text = Vec::new(rt.alloc());
-    take_lines(&rt, &mut text, &input)
+    rt.stdin().read_to_end(&mut input)?;
+    take_lines(&rt, &input);
+    Ok(())
 }

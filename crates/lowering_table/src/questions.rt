@@ -4,12 +4,12 @@ use crate::graphs::show_whole;
 use crate::layouts::{show_frames, show_labels, show_layout};
 use crate::lists::{Asked, show_asked};
 use crate::parts::show_parts;
-use crate::printing::show_line;
+use crate::printing::{show_line, show_no_memory};
 use crate::programs::resolved;
+use crate::reading::parted;
 use crate::tables::{show_letter, show_table};
 use icfg_lower::lower;
 use std::alloc::{AllocError, Global};
-use std::io;
 use typing_rules::Typed;
 
 /// What is asked.
@@ -54,9 +54,7 @@ fn asked_by(word: &str) -> Option<Question> {
     }
 }
 
-/// The text, with what is said in place of each `@`.
-fn filled(alloc: Global, text: &[u8], said: &str) -> Result<Vec<u8>, AllocError> {
-    let mut full = Vec::new(alloc);
+fn fill(full: &mut Vec<u8>, text: &[u8], said: &str) -> Result<(), AllocError> {
     for byte in text {
         if *byte == b'@' {
             full.extend_from_slice(said.as_bytes())?;
@@ -64,17 +62,24 @@ fn filled(alloc: Global, text: &[u8], said: &str) -> Result<Vec<u8>, AllocError>
             full.push(*byte)?;
         }
     }
+    Ok(())
+}
+
+/// The text, with what is said in place of each `@`.
+fn filled(alloc: Global, text: &[u8], said: &str) -> Result<Vec<u8>, AllocError> {
+    let mut full = Vec::new(alloc);
+    fill(&mut full, text, said)?;
     Ok(full)
 }
 
-fn show_lowered(rt: &HostRuntime, program: &Typed) -> io::Result<()> {
+fn show_lowered(rt: &HostRuntime, program: &Typed) {
     match lower(rt.alloc(), program) {
         Ok(graph) => show_whole(rt, &graph),
         Err(_) => show_line(rt, "not lowered"),
     }
 }
 
-fn show_of_program(rt: &HostRuntime, program: &Typed, question: Question) -> io::Result<()> {
+fn show_of_program(rt: &HostRuntime, program: &Typed, question: Question) {
     match question {
         Question::Lists(asked) => show_asked(rt, program, asked),
         Question::Labels => show_labels(rt, program),
@@ -84,36 +89,39 @@ fn show_of_program(rt: &HostRuntime, program: &Typed, question: Question) -> io:
     }
 }
 
-fn show_of_text(rt: &HostRuntime, text: &[u8], question: Question) -> io::Result<()> {
-    match resolved(rt, text)? {
-        Some(program) => show_of_program(rt, &program, question),
-        None => Ok(()),
+fn show_of_text(rt: &HostRuntime, text: &[u8], question: Question) {
+    if let Some(program) = &resolved(rt, text) {
+        show_of_program(rt, program, question);
     }
 }
 
-fn answer(rt: &HostRuntime, text: &[u8], question: Question, said: &str) -> io::Result<()> {
+fn show_of_filled(rt: &HostRuntime, text: &[u8], question: Question, said: &str) {
+    match filled(rt.alloc(), text, said) {
+        Ok(text) => show_of_text(rt, &text, question),
+        Err(_) => show_no_memory(rt),
+    }
+}
+
+fn answer(rt: &HostRuntime, text: &[u8], question: Question, said: &str) {
     match question {
         Question::Graph => show_parts(rt, text, said, false),
         Question::Copied => show_parts(rt, text, said, true),
         Question::Letter => show_letter(rt, said),
         Question::Table => show_table(rt, text),
-        _ => {
-            let text = filled(rt.alloc(), text, said)?;
-            show_of_text(rt, &text, question)
-        }
+        _ => show_of_filled(rt, text, question, said),
     }
 }
 
 /// Whether the line asks something. The line is printed, and the answer.
-pub(crate) fn is_answered(rt: &HostRuntime, text: &[u8], line: &[u8]) -> io::Result<bool> {
-    let Ok(line) = str::from_utf8(line) else {
-        return Ok(false);
-    };
-    let (word, said) = line.split_once(' ').unwrap_or((line, ""));
-    let Some(question) = asked_by(word) else {
-        return Ok(false);
-    };
-    show_line(rt, line)?;
-    answer(rt, text, question, said)?;
-    Ok(true)
+pub(crate) fn is_answered(rt: &HostRuntime, text: &[u8], line: &[u8]) -> bool {
+    let line = str::from_utf8(line).unwrap_or("?");
+    let (word, said) = parted(line, " ");
+    match asked_by(word) {
+        Some(question) => {
+            show_line(rt, line);
+            answer(rt, text, question, said);
+            true
+        }
+        None => false,
+    }
 }

@@ -12,43 +12,14 @@ ghost use Rattle.lowered_graph.specs.Lowered.{lowered};
 ghost use Rattle.path_rows.specs.Paths.{path_of};
 
 use crate::printing::{end_line, show_line, show_number, show_value};
-use crate::reading::{numbers, values};
 use icfg_lower::lower;
 use letter_acts::{Act, Icfg};
 use lin_rows::{Col, Row, holds};
 use nwa_base::{Kind, Letter, Word, accepts, word};
 use path_rows::rows_of;
 use std::alloc::{AllocError, Global};
-use std::io;
 use trace_replay::{ReplayFault, Trail, choices_of, replay};
 use typing_rules::Typed;
-
-/// What a line tells: the numbers of letters, and a point.
-#[derive(Drop)]
-pub(crate) struct Told {
-    pub(crate) letters: Vec<u32>,
-    pub(crate) point: Vec<i128>,
-}
-
-/// What a line tells behind its first word: the letters, and behind a colon the point.
-pub(crate) fn read_line(alloc: Global, line: &[u8]) -> Result<Option<Told>, AllocError> {
-    let Ok(text) = str::from_utf8(line) else {
-        return Ok(None);
-    };
-    let Some((_, said)) = text.split_once(' ') else {
-        return Ok(None);
-    };
-    let Some((letters, point)) = said.split_once(':') else {
-        return Ok(None);
-    };
-    let Some(letters) = numbers(alloc, letters)? else {
-        return Ok(None);
-    };
-    let Some(point) = values(alloc, point)? else {
-        return Ok(None);
-    };
-    Ok(Some(Told { letters, point }))
-}
 
 /// The kind of a letter that does this, and the call letter that it names.
 fn kind_of(act: &Act) -> (Kind, u32) {
@@ -59,31 +30,27 @@ fn kind_of(act: &Act) -> (Kind, u32) {
     }
 }
 
-/// The letter of that number.
-fn letter(acts: &[Act], id: u32) -> Option<Letter> {
-    let act = acts.get(id as usize)?;
-    let (kind, call) = kind_of(act);
-    Some(Letter { id, kind, call })
+/// The letter of that number; an inside letter where there is none.
+fn letter(acts: &[Act], id: u32) -> Letter {
+    let (kind, call) = match acts.get(id as usize) {
+        Some(act) => kind_of(act),
+        None => (Kind::Inside, 0),
+    };
+    Letter { id, kind, call }
 }
 
-/// The letters of these numbers.
-fn letters(alloc: Global, acts: &[Act], ids: &[u32]) -> Result<Option<Vec<Letter>>, AllocError> {
-    let mut found = Vec::new(alloc);
+fn push_letters(letters: &mut Vec<Letter>, acts: &[Act], ids: &[u32]) -> Result<(), AllocError> {
     for id in ids {
-        let Some(letter) = letter(acts, *id) else {
-            return Ok(None);
-        };
-        found.push(letter)?;
+        letters.push(letter(acts, *id))?;
     }
-    Ok(Some(found))
+    Ok(())
 }
 
 /// The word of the letters of these numbers.
 fn spelled(alloc: Global, acts: &[Act], ids: &[u32]) -> Result<Option<Word>, AllocError> {
-    match letters(alloc, acts, ids)? {
-        Some(letters) => Ok(word(letters)),
-        None => Ok(None),
-    }
+    let mut letters = Vec::new(alloc);
+    push_letters(&mut letters, acts, ids)?;
+    Ok(word(letters))
 }
 
 /// Whether the terms are over so many columns.
@@ -129,20 +96,27 @@ fn all_fit(point: &[i128]) -> bool
     true
 }
 
+fn show_fails(rt: &HostRuntime, number: u32, line: u32) {
+    show_number(rt, " fails ", number);
+    show_number(rt, " line ", line);
+    end_line(rt);
+}
+
 /// What the run takes, and the assertion that fails at its end, found by replaying it.
-fn show_trail(rt: &HostRuntime, program: &Typed, trail: &Trail) -> io::Result<()> {
-    let steps = trail.steps;
-    print!(rt; "steps {steps} choices")?;
-    for choice in &trail.choices {
-        show_value(rt, " ", choice.0)?;
-    }
+fn show_trail(rt: &HostRuntime, program: &Typed, trail: &Trail) {
+    show_steps(rt, trail);
     match replay(rt.alloc(), program, trail) {
-        Ok(id) => {
-            show_number(rt, " fails ", id.number)?;
-            show_number(rt, " line ", id.line)?;
-            end_line(rt)
-        }
+        Ok(id) => show_fails(rt, id.number, id.line),
         Err(_) => show_line(rt, " does not replay"),
+    }
+}
+
+/// How many steps the run has, and its choices.
+fn show_steps(rt: &HostRuntime, trail: &Trail) {
+    let steps = trail.steps;
+    let _ = print!(rt; "steps {steps} choices");
+    for choice in &trail.choices {
+        show_value(rt, " ", choice.0);
     }
 }
 
@@ -152,24 +126,18 @@ fn is_solved(alloc: Global, graph: &Icfg, word: &Word, point: &[i128]) -> Result
     ensures solves { IfOk result (λ yes. IsTrue yes → AllByRecursion (Holds (point_of point.now)) (path_of graph.now word.now).rows) }
     ensures fits { IfOk result (λ yes. IsTrue yes → AllByRecursion Fits point.now) }
 {
-    let path = rows_of(alloc, graph, word)?;
-    if path.column_at().len() != point.len() {
+    if !all_fit(point) {
         return Ok(false);
     }
-    if !all_fit(point) {
+    let path = rows_of(alloc, graph, word)?;
+    if path.column_at().len() != point.len() {
         return Ok(false);
     }
     Ok(are_met(&path.system().rows, point))
 }
 
 /// The run that the point tells, or the step at which a value of it does not fit.
-fn show_choices(
-    rt: &HostRuntime,
-    program: &Typed,
-    graph: &Icfg,
-    word: &Word,
-    point: &[i128],
-) -> io::Result<()>
+fn show_choices(rt: &HostRuntime, program: &Typed, graph: &Icfg, word: &Word, point: &[i128])
     requires lowered { graph.now ≡ lowered (typed_program program.now) }
     requires accepted { Accepts graph.now.automaton word.now }
     requires solves { AllByRecursion (Holds (point_of point.now)) (path_of graph.now word.now).rows }
@@ -177,44 +145,40 @@ fn show_choices(
 {
     match choices_of(rt.alloc(), program, graph, word, point) {
         Ok(trail) => show_trail(rt, program, &trail),
-        Err(ReplayFault::At { step, cause }) => { println!(rt; "{cause:?} at step {step}") }
+        Err(ReplayFault::At { step, cause }) => {
+            let _ = println!(rt; "{cause:?} at step {step}");
+        }
         Err(ReplayFault::Memory) => show_line(rt, "memory"),
     }
 }
 
 /// The run that a point of the rows of the word tells.
-fn show_word(
-    rt: &HostRuntime,
-    program: &Typed,
-    graph: &Icfg,
-    word: &Word,
-    point: &[i128],
-) -> io::Result<()>
+fn show_word(rt: &HostRuntime, program: &Typed, graph: &Icfg, word: &Word, point: &[i128])
     requires { graph.now ≡ lowered (typed_program program.now) }
 {
-    if !accepts(rt.alloc(), graph.nwa(), word)? {
+    if !accepts(rt.alloc(), graph.nwa(), word).unwrap_or(false) {
         return show_line(rt, "not accepted");
     }
-    if !is_solved(rt.alloc(), graph, word, point)? {
+    if !is_solved(rt.alloc(), graph, word, point).unwrap_or(false) {
         return show_line(rt, "no point of the rows");
     }
-    show_choices(rt, program, graph, word, point)
+    show_choices(rt, program, graph, word, point);
 }
 
 /// The run that a point of the rows of the word with these letters tells.
-fn show_letters(rt: &HostRuntime, program: &Typed, graph: &Icfg, told: &Told) -> io::Result<()>
+fn show_letters(rt: &HostRuntime, program: &Typed, graph: &Icfg, letters: &[u32], point: &[i128])
     requires { graph.now ≡ lowered (typed_program program.now) }
 {
-    match spelled(rt.alloc(), graph.acts(), &told.letters)? {
-        Some(word) => show_word(rt, program, graph, &word, &told.point),
-        None => show_line(rt, "no word"),
+    match spelled(rt.alloc(), graph.acts(), letters) {
+        Ok(Some(word)) => show_word(rt, program, graph, &word, point),
+        _ => show_line(rt, "no word"),
     }
 }
 
-/// The run of a program that a line tells.
-pub(crate) fn show_run(rt: &HostRuntime, program: &Typed, told: &Told) -> io::Result<()> {
+/// The run of a program that letters and a point tell.
+pub(crate) fn show_run(rt: &HostRuntime, program: &Typed, letters: &[u32], point: &[i128]) {
     match lower(rt.alloc(), program) {
-        Ok(graph) => show_letters(rt, program, &graph, told),
+        Ok(graph) => show_letters(rt, program, &graph, letters, point),
         Err(_) => show_line(rt, "not lowered"),
     }
 }

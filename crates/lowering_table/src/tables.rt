@@ -2,41 +2,44 @@
 
 use crate::acts::read_act;
 use crate::graphs::{show_act, show_acts};
-use crate::printing::{end_line, show_line, show_number};
-use crate::reading::{number, numbers, three, two};
+use crate::printing::{end_line, show_line, show_no_memory, show_number};
+use crate::reading::{numbered, numbers, parted, three, two};
 use letter_acts::Act;
 use letter_table::{CallEdges, CallStep, InsideStep, Lettered, Table};
+use lin_rows::RowFault;
 use nwa_base::Letter;
-use std::alloc::{AllocError, Global};
-use std::io;
+use std::alloc::Global;
 
-/// A copy of the act that a text tells.
-pub(crate) fn show_letter(rt: &HostRuntime, text: &str) -> io::Result<()> {
-    match read_act(rt.alloc(), text)? {
-        Some(act) => show_act(rt, &act.copy()?),
-        None => show_line(rt, "no act"),
+fn show_copied(rt: &HostRuntime, act: &Act) {
+    match act.copy() {
+        Ok(copy) => show_act(rt, &copy),
+        Err(_) => show_no_memory(rt),
     }
 }
 
-fn add_inside(table: &mut Table, places: &str, step: InsideStep) -> Result<bool, AllocError> {
-    let Some((from, to)) = two(places) else {
-        return Ok(false);
-    };
-    table.add_inside(from, step, to)?;
-    Ok(true)
+/// A copy of the act that a text tells.
+pub(crate) fn show_letter(rt: &HostRuntime, text: &str) {
+    match read_act(rt.alloc(), text) {
+        Ok(act) => show_copied(rt, &act),
+        Err(_) => show_line(rt, "no act"),
+    }
+}
+
+fn add_inside(table: &mut Table, places: &str, step: InsideStep) -> Result<(), RowFault> {
+    let (from, to) = two(places);
+    Ok(table.add_inside(from, step, to)?)
 }
 
 /// The places of a call, of the callee's entry and exit, and of what follows.
-fn edges(text: &str) -> Option<CallEdges> {
-    let (from, others) = text.split_once(' ')?;
-    let from = number(from)?;
-    let (to, exit, after) = three(others)?;
-    Some(CallEdges {
+fn edges(text: &str) -> CallEdges {
+    let (from, others) = numbered(text);
+    let (to, exit, after) = three(others);
+    CallEdges {
         from,
         to,
         exit,
         after,
-    })
+    }
 }
 
 fn add_call(
@@ -44,24 +47,16 @@ fn add_call(
     table: &mut Table,
     places: &str,
     step: CallStep,
-) -> Result<bool, AllocError> {
-    let Some((places, targets)) = places.split_once(" gives") else {
-        return Ok(false);
-    };
-    let Some(edges) = edges(places) else {
-        return Ok(false);
-    };
-    match numbers(alloc, targets)? {
-        Some(targets) => {
-            table.add_call(step, targets, edges)?;
-            Ok(true)
-        }
-        None => Ok(false),
+) -> Result<(), RowFault> {
+    let (places, targets) = parted(places, " gives");
+    match numbers(alloc, targets) {
+        Ok(targets) => Ok(table.add_call(step, targets, edges(places))?),
+        Err(_) => Err(RowFault::Memory),
     }
 }
 
 /// Adds a step with the places that a text names.
-fn add_step(alloc: Global, table: &mut Table, places: &str, act: Act) -> Result<bool, AllocError> {
+fn add_step(alloc: Global, table: &mut Table, places: &str, act: Act) -> Result<(), RowFault> {
     match act {
         Act::Inside {
             proc,
@@ -91,69 +86,55 @@ fn add_step(alloc: Global, table: &mut Table, places: &str, act: Act) -> Result<
             };
             add_call(alloc, table, places, step)
         }
-        Act::Back { .. } => Ok(false),
+        Act::Back { .. } => Ok(()),
     }
 }
 
-/// Adds the step of a line: its places, and behind a colon what it does.
-fn add_line(alloc: Global, table: &mut Table, line: &str) -> Result<bool, AllocError> {
-    let Some((places, step)) = line.split_once(": ") else {
-        return Ok(false);
-    };
-    match read_act(alloc, step)? {
-        Some(act) => add_step(alloc, table, places, act),
-        None => Ok(false),
-    }
-}
-
-fn add_lines(alloc: Global, table: &mut Table, text: &str) -> Result<bool, AllocError> {
+/// Adds the steps of lines: of each its places, and behind a colon what it does.
+fn add_lines(alloc: Global, table: &mut Table, text: &str) -> Result<(), RowFault> {
     for line in text.lines() {
-        if !add_line(alloc, table, line)? {
-            return Ok(false);
-        }
+        let (places, step) = parted(line, ": ");
+        add_step(alloc, table, places, read_act(alloc, step)?)?;
     }
-    Ok(true)
+    Ok(())
 }
 
-fn show_letter_of(rt: &HostRuntime, letter: &Letter) -> io::Result<()> {
-    print!(rt; " {letter:?}")
+fn show_letter_of(rt: &HostRuntime, letter: &Letter) {
+    let _ = print!(rt; " {letter:?}");
 }
 
-fn show_edges(rt: &HostRuntime, edges: &[(u32, Letter, u32)]) -> io::Result<()> {
+fn show_edges(rt: &HostRuntime, edges: &[(u32, Letter, u32)]) {
     for (from, letter, to) in edges {
-        show_number(rt, "", *from)?;
-        show_letter_of(rt, letter)?;
-        show_number(rt, " ", *to)?;
-        end_line(rt)?;
+        show_number(rt, "", *from);
+        show_letter_of(rt, letter);
+        show_number(rt, " ", *to);
+        end_line(rt);
     }
-    Ok(())
 }
 
-fn show_backs(rt: &HostRuntime, edges: &[(u32, u32, Letter, u32)]) -> io::Result<()> {
+fn show_backs(rt: &HostRuntime, edges: &[(u32, u32, Letter, u32)]) {
     for (from, before, letter, to) in edges {
-        show_number(rt, "", *from)?;
-        show_number(rt, " ", *before)?;
-        show_letter_of(rt, letter)?;
-        show_number(rt, " ", *to)?;
-        end_line(rt)?;
+        show_number(rt, "", *from);
+        show_number(rt, " ", *before);
+        show_letter_of(rt, letter);
+        show_number(rt, " ", *to);
+        end_line(rt);
     }
-    Ok(())
 }
 
 /// What the table holds at its end: the letters, and the edges of each kind.
-fn show_lettered(rt: &HostRuntime, lettered: &Lettered) -> io::Result<()> {
-    show_acts(rt, &lettered.acts)?;
-    show_edges(rt, &lettered.insides)?;
-    show_edges(rt, &lettered.calls)?;
+fn show_lettered(rt: &HostRuntime, lettered: &Lettered) {
+    show_acts(rt, &lettered.acts);
+    show_edges(rt, &lettered.insides);
+    show_edges(rt, &lettered.calls);
     show_backs(rt, &lettered.backs)
 }
 
 /// The letters and edges of steps, a line each.
-pub(crate) fn show_table(rt: &HostRuntime, text: &[u8]) -> io::Result<()> {
+pub(crate) fn show_table(rt: &HostRuntime, text: &[u8]) {
     let mut table = Table::new(rt.alloc());
-    if add_lines(rt.alloc(), &mut table, str::from_utf8(text).unwrap_or("?"))? {
-        show_lettered(rt, &table.finish())
-    } else {
-        show_line(rt, "no table")
+    match add_lines(rt.alloc(), &mut table, str::from_utf8(text).unwrap_or("?")) {
+        Ok(()) => show_lettered(rt, &table.finish()),
+        Err(_) => show_line(rt, "no table"),
     }
 }
