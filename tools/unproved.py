@@ -21,6 +21,9 @@ CRATE = f"{TOP}/crates/automizer"
 # What a program is linked with, as the toolchain's own linker program links it; an archive of its C code and the C library follow the module.
 BEFORE = "-m elf_x86_64 -pie --dynamic-linker /lib64/ld-linux-x86-64.so.2 --as-needed -z relro -z now -z noexecstack --eh-frame-hdr --gc-sections"
 COMPILED = "--lto-O2 -mllvm -no-trap-after-noreturn -mllvm -trap-unreachable"
+# How a file of bitcode begins, and how a module is made one.
+BITCODE = b"BC\xc0\xde"
+AS_BITCODE = "--target=x86_64-unknown-linux-gnu -x ir -c -emit-llvm -Xclang -disable-llvm-passes"
 START = "Scrt1.o crti.o crtbeginS.o"
 LIBRARIES = "libm.so.6 libc.so.6 libc_nonshared.a ld-linux-x86-64.so.2 libgcc.a libgcc_s.so.1 crtendS.o crtn.o"
 # How long the parts may take, in seconds: far more than they do.
@@ -91,7 +94,7 @@ def whole_module(room):
 
 
 def make_module(room, life):
-    """Has the toolchain make the program's module, and keeps it as room/program.bc."""
+    """Has the toolchain make the program's module, and keeps it as room/module."""
     os.mkdir(f"{room}/try")
     with open(f"{room}/said", "w+b") as said:
         run = subprocess.Popen(["rt", "try"], cwd=CRATE, env={**os.environ, "TMPDIR": f"{room}/try"}, stdin=subprocess.DEVNULL, stdout=said,
@@ -100,7 +103,8 @@ def make_module(room, life):
             while run.poll() is None and life.seconds() < MOST:
                 module = whole_module(f"{room}/try")
                 if module:
-                    os.link(module, f"{room}/program.bc")
+                    # (a copy: whoever ends the try may write to the file once more)
+                    shutil.copyfile(module, f"{room}/module")
                     return
                 life.tell("reading the sources")
                 time.sleep(0.2)
@@ -124,12 +128,8 @@ def stop(run):
         run.wait()
 
 
-def link(room, life):
-    """Compiles what is needed of the module and links it, as room/program."""
-    tools = f"{kit()}/toolchain"
-    words = [f"{tools}/bin/ld.lld", *BEFORE.split(), *COMPILED.split(), f"--lto-partitions={os.cpu_count() or 1}", "-o", f"{room}/program"]
-    words += [f"{tools}/lib/{it}" for it in START.split()] + [f"{room}/program.bc"] + sorted(glob.glob(f"{kit()}/c/lib*_c.a"), reverse=True)
-    words += [f"{tools}/lib/{it}" for it in LIBRARIES.split()]
+def run_tool(words, room, life):
+    """Runs a tool of the toolchain to its end."""
     with open(f"{room}/said", "w+b") as said:
         run = subprocess.Popen(words, stdin=subprocess.DEVNULL, stdout=said, stderr=said, preexec_fn=ends_with_us(signal.SIGKILL))
         try:
@@ -140,7 +140,26 @@ def link(room, life):
             stop(run)
         if run.returncode:
             said.seek(0)
-            raise Failed("the linker refused the module: " + said.read().decode(errors="replace").strip()[-300:])
+            raise Failed(f"{os.path.basename(words[0])} refused the module: " + said.read().decode(errors="replace").strip()[-300:])
+
+
+def make_bitcode(room, life):
+    """Has the module as bitcode, room/program.bc: the toolchain may have written it as text."""
+    with open(f"{room}/module", "rb") as module:
+        is_bitcode = module.read(4) == BITCODE
+    if is_bitcode:
+        os.rename(f"{room}/module", f"{room}/program.bc")
+    else:
+        run_tool([f"{kit()}/toolchain/bin/clang", *AS_BITCODE.split(), "-o", f"{room}/program.bc", f"{room}/module"], room, life)
+
+
+def link(room, life):
+    """Compiles what is needed of the module and links it, as room/program."""
+    tools = f"{kit()}/toolchain"
+    words = [f"{tools}/bin/ld.lld", *BEFORE.split(), *COMPILED.split(), f"--lto-partitions={os.cpu_count() or 1}", "-o", f"{room}/program"]
+    words += [f"{tools}/lib/{it}" for it in START.split()] + [f"{room}/program.bc"] + sorted(glob.glob(f"{kit()}/c/lib*_c.a"), reverse=True)
+    words += [f"{tools}/lib/{it}" for it in LIBRARIES.split()]
+    run_tool(words, room, life)
 
 
 def answers(program):
@@ -158,6 +177,7 @@ def build(out, name):
     with tempfile.TemporaryDirectory(prefix="building-", dir=out) as room:
         try:
             make_module(room, life)
+            make_bitcode(room, life)
             link(room, life)
         finally:
             life.end()
