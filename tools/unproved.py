@@ -201,7 +201,7 @@ def main(out, name):
         fcntl.flock(lock, fcntl.LOCK_EX)
     if os.path.exists(f"{out}/{name}"):
         return 0
-    say("building an optimised program without proofs, once for these sources: some three to four minutes on four processors, and 4 GB of memory")
+    say("building an optimised program without proofs, once for these sources: some two to four minutes on four processors, and 4 GB of memory")
     try:
         os.makedirs(out, exist_ok=True)
         # Whoever left these was killed, since this run has the lock.
