@@ -1,6 +1,7 @@
--- Two verdicts on one program do not contradict each other, and where it has no error word the verdict is `safe` after no round.
+-- What a verdict says is so. Two verdicts on one program do not contradict each other, and where it has no error word the verdict is `safe` after no
+-- round.
 use Rattle.std.proofs.Common.{◌≡◌, ℕ, ℤ, List, [], ◌∷◌, length, Option, Some, inl, inr, ap, refl, sym, ◌∙◌, subst, arith}
-use Rattle.std.specs.Prelude.{IfSome}
+use Rattle.std.specs.Prelude.{IfSome, IsTrue}
 use Rattle.std.specs.List.{AllByRecursion}
 use Rattle.std.specs.declared.vec.Vec.{Vec}
 use Rattle.std.specs.declared.alloc.Global.{Global}
@@ -11,7 +12,11 @@ use Rattle.letter_acts.specs.Acts.{Alphabet}
 use Rattle.letter_acts.specs.Feasible.{IsFeasible}
 use Rattle.letter_acts.specs.Invariant.{alphabet_of}
 use Rattle.typed_tree.specs.TypedTree.{TypedProgram}
+use Rattle.typing_rules.specs.ValidProgram.{is_valid}
+use Rattle.boogie_run.specs.Runs.{Fails, IsSafe}
 use Rattle.lowered_graph.specs.Lowered.{lowered}
+use Rattle.lowered_graph.specs.Laws.{LoweringIsFaithful}
+use Rattle.trace_replay.specs.Replays.{Replays}
 use Rattle.proof_form.specs.Annotations.{Content, safe_text}
 use Rattle.race_core.specs.declared.ends.End.{End}
 use Rattle.race_core.specs.declared.ends.End.TheVariants as ends
@@ -25,6 +30,7 @@ use Rattle.race_verdicts.specs.declared.verdicts.Verdict.{Verdict}
 use Rattle.race_verdicts.specs.declared.verdicts.Verdict.TheVariants.{Safe, Unsafe, Unknown}
 use Rattle.race_verdicts.specs.Verdicts.{IsVerdict}
 use Rattle.automizer_top.specs.Report.{Answer, verdict_answer, ReportsVerdict}
+use Rattle.automizer_top.proofs.SafetyLaws.{faithful_is_safe}
 
 -- no word that a certified automaton accepts is feasible
 abbrev pub CertifiedIsInfeasible : Type 0
@@ -73,6 +79,27 @@ never_both law o p t a b v u z s =
     let e = fails_at t p u.race u.verdict b u.closed.race u.of_end u.is s in
     none_kept t o v.race.history safe e.0
     (record { error = e.1.accepted; left = λ r. removed_is_infeasible law t v.race.history e.0 v.closed.race.own e.1.feasible r })
+
+-- ---- what a verdict says is so
+
+pub safe_is_true : CertifiedIsInfeasible → LoweringIsFaithful → (o : Options) (t : TypedProgram) (a : Answer) → IsTrue (is_valid t) → ReportsVerdict o t a → a.status ≡ 0 → IsSafe t
+safe_is_true law faithful o t a valid v z =
+    let safe = met t o v.race ends.Safe v.closed.race (ends_safe t v.race v.verdict a v.of_end v.is z) in
+    faithful_is_safe t (lowered t) refl (faithful t valid)
+    (λ w accepted feasible. none_kept t o v.race.history safe w
+    (record { error = accepted; left = λ r. removed_is_infeasible law t v.race.history w v.closed.race.own feasible r }))
+
+-- what replays is a run that fails
+abbrev pub WhatReplaysFails : Type 0
+WhatReplaysFails = (t : TypedProgram) (n : ℕ) (choices : List ℤ) (i : ℕ) → Replays t n choices i → Fails t i
+
+failing_run : WhatReplaysFails → (t : TypedProgram) (r : Race Certificate) (v : Verdict) (a : Answer) → IsVerdict t r v → a ≡ verdict_answer r v → a.status ≡ 1 → (i : ℕ) × Fails t i
+failing_run law t r (Safe w) a h is z = absurd (let e : 0 ≡ 1 = sym (ap (λ (b : Answer). b.status) is) ∙ z in omega arith)
+failing_run law t r (Unsafe f) a h is z = (f.id.number, law t f.trail.steps h.choices.items f.id.number h.failure.replays.replays)
+failing_run law t r (Unknown cause w) a h is z = absurd (let e : 2 ≡ 1 = sym (ap (λ (b : Answer). b.status) is) ∙ z in omega arith)
+
+pub unsafe_is_true : WhatReplaysFails → (o : Options) (t : TypedProgram) (a : Answer) → ReportsVerdict o t a → a.status ≡ 1 → (i : ℕ) × Fails t i
+unsafe_is_true law o t a v z = failing_run law t v.race v.verdict a v.of_end v.is z
 
 -- ---- no error word
 

@@ -83,14 +83,15 @@ big_is_safe count t g typed h none u other = subst IsSafe (one_program count t u
 
 -- a summary is of a verdict that could be told
 pub summary_is_verdict : (o : Options) (count : ℕ) (a : Answer) → ReportsBig o count a →
-    (t : TypedProgram) × (told : Answer) × (resolved_program (generated count) (codes "main") ≡ Some t) × ReportsVerdict o t told × (told.status ≡ a.status) × (told.races ≡ a.races)
+    (t : TypedProgram) × (r : Race Certificate) × (v : Verdict) × (resolved_program (generated count) (codes "main") ≡ Some t) × ReportsVerdict o t (verdict_answer r v)
+    × (a ≡ record { bytes = summary_text count v; status = verdict_status v; races = r ∷ [] })
 summary_is_verdict o count a big = (
   big.program,
-  verdict_answer big.race big.verdict,
+  big.race,
+  big.verdict,
   big.typed,
   record { race = big.race; verdict = big.verdict; closed = big.closed; of_end = big.of_end; is = refl },
-  sym (ap (λ (x : Answer). x.status) big.is),
-  sym (ap (λ (x : Answer). x.races) big.is),
+  big.is,
 )
 
 -- ---- the report

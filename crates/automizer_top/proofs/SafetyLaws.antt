@@ -8,16 +8,19 @@ use Rattle.letter_acts.specs.Invariant.{Graph, site_places}
 use Rattle.letter_acts.proofs.MachineLemmas.{goes_accepted}
 use Rattle.boogie_run.specs.Runs.{IsSafe}
 use Rattle.lowered_graph.specs.Lowered.{lowered}
-use Rattle.lowered_graph.specs.Laws.{ErrorWord}
+use Rattle.lowered_graph.specs.Laws.{IsFaithful, ErrorWord}
 use Rattle.automizer_top.specs.Answers.{IsGraphOf, HasNoErrorWord}
 
 -- the final states of a program's graph are those where its assertions fail
 finals_are : (t : TypedProgram) (g : Graph) → g ≡ lowered t → g.automaton.finals ≡ site_places g.sites
 finals_are t g e = subst (λ (h : Graph). h.automaton.finals ≡ site_places h.sites) (sym e) refl
 
-pub graph_is_safe : (t : TypedProgram) (g : Graph) → IsGraphOf t g → HasNoErrorWord g → IsSafe t
-graph_is_safe t g h none i fails =
-    let e : ErrorWord g i = (h.faithful i).0 fails in
+pub faithful_is_safe : (t : TypedProgram) (g : Graph) → g ≡ lowered t → IsFaithful t g → HasNoErrorWord g → IsSafe t
+faithful_is_safe t g value faithful none i fails =
+    let e : ErrorWord g i = (faithful i).0 fails in
     let last : Member g.automaton.finals e.site.place =
-    subst (λ (xs : List ℕ). Member xs e.site.place) (sym (finals_are t g h.value)) (member_map (λ (s : Site). s.place) g.sites e.site e.is_site) in
+    subst (λ (xs : List ℕ). Member xs e.site.place) (sym (finals_are t g value)) (member_map (λ (s : Site). s.place) g.sites e.site e.is_site) in
     none e.word (goes_accepted g.automaton e.word [] e.open_calls g.automaton.start e.site.place e.goes last) e.feasible
+
+pub graph_is_safe : (t : TypedProgram) (g : Graph) → IsGraphOf t g → HasNoErrorWord g → IsSafe t
+graph_is_safe t g h none = faithful_is_safe t g h.value h.faithful none

@@ -1,4 +1,4 @@
-ghost use Rattle.std.specs.Prelude.{◌≡◌, ◌≢◌, ◌<◌, ◌≤◌, ◌++◌, ℕ, List, ◌⊎◌, Some, None, length, map, codes, IfSome, OnOk, OnErr};
+ghost use Rattle.std.specs.Prelude.{◌≡◌, ◌≢◌, ◌<◌, ◌≤◌, [], ◌∷◌, ◌++◌, ℕ, List, ◌⊎◌, Some, None, length, map, codes, IsTrue, IfSome, OnOk, OnErr};
 ghost use Rattle.std.specs.Option.{option_to_list};
 ghost use Rattle.std.specs.String.{string_bytes};
 ghost use Rattle.outer_io.specs.Faults.{Rose};
@@ -11,16 +11,24 @@ ghost use Rattle.nwa_base.specs.Acceptance.{Accepts};
 ghost use Rattle.lowered_graph.specs.Lowered.{lowered};
 ghost use Rattle.proof_form.specs.Annotations.{Content, safe_text};
 ghost use Rattle.race_core.specs.declared.ends.Cause.{Cause};
+ghost use Rattle.race_core.specs.Races.{Race};
+ghost use Rattle.itp_automaton.specs.Certified.{Certificate};
+ghost use Rattle.race_verdicts.specs.declared.verdicts.Verdict.{Verdict};
+ghost use Rattle.typing_rules.specs.ValidProgram.{is_valid};
+ghost use Rattle.boogie_run.specs.Runs.{Fails, IsSafe};
+ghost use Rattle.automizer_top.specs.Summary.{summary_text};
+ghost use Rattle.automizer_top.specs.Verdicts.{verdict_status};
 ghost use Rattle.race_rounds.specs.Ends.{Options};
 ghost use Rattle.race_completeness.specs.Words.{HasWordsAmong};
 ghost use Rattle.automizer_top.specs.Completeness.{HasDifferenceRows, SaysUnknown};
 ghost use Rattle.automizer_top.specs.CommandLine as line;
 ghost use Rattle.automizer_top.specs.CommandLine.{Settings, limits_of, requested};
-ghost use Rattle.automizer_top.specs.Report.{Answer, Answers, Ask, Reports, accepted_answer, replayed_answer, ReportsVerdict, IsHandedOver, WhereTold, TookFront, Closes, ClosesAtFront, PrintsProgram, ProgramIsSafe, ProgramFails, IsTypingRefusal, IsVerdictOn, ReportsBig, GeneratedIsSafe};
+ghost use Rattle.automizer_top.specs.Report.{Answer, Answers, Ask, Reports, verdict_answer, accepted_answer, replayed_answer, ReportsVerdict, IsHandedOver, WhereTold, TookFront, Closes, ClosesAtFront, PrintsProgram, ProgramIsSafe, ProgramFails, IsTypingRefusal, IsVerdictOn, ReportsBig, GeneratedIsSafe};
 
 use crate::reporting::{Halt, reported};
 use itp_automaton::Certified;
 use itp_automaton::laws::certified_words_are_infeasible;
+use lowered_graph::laws::lowering_is_faithful;
 use outer_io::{Shelf, Sink, write_all};
 use race_completeness::laws::rounds_are_enough;
 use race_core::Shared;
@@ -28,6 +36,7 @@ use race_workers::Gate;
 use std::alloc::{AllocError, Global};
 use std::sync::Wait;
 use std::thread::Threads;
+use trace_replay::laws::what_replays_fails;
 
 /// The status where a call on the shelf or on the sink failed.
 const DEVICE: u8 = 5;
@@ -135,6 +144,17 @@ pub fn verdicts_are_confirmed()
         IsHandedOver program second r s before after a → Reports again after b → (id : AssertId) × (b ≡ replayed_answer id) }
 {}
 
+/// What a verdict on a typed program says is so, whatever the options: status 0, that no run of it, of any length and any call stack, fails an
+/// assertion; and status 1, that a run fails one.
+pub fn verdicts_are_true()
+    ensures safe { (o : Options) (t : TypedProgram) (a : Answer) → IsTrue (is_valid t) → ReportsVerdict o t a → a.status ≡ 0 → IsSafe t }
+    ensures fails { (o : Options) (t : TypedProgram) (a : Answer) → ReportsVerdict o t a → a.status ≡ 1 → (i : ℕ) × Fails t i }
+{
+    certified_words_are_infeasible();
+    lowering_is_faithful();
+    what_replays_fails();
+}
+
 /// Of two verdicts on one program, whatever the options, not one is `safe` and the other `unsafe`; and where the program has no error
 /// word, the verdict is `safe` after no round.
 pub fn verdicts_agree()
@@ -155,8 +175,10 @@ pub fn verdicts_are_complete()
     rounds_are_enough();
 }
 
-/// A summary is of a verdict on the generated program that `verify` could tell, with the same options: the status and the race are the same.
+/// A summary is of a verdict on the generated program that `verify` could tell, with the same options: it says that verdict's word, and the status
+/// and the race are those of the verdict.
 pub fn summaries_are_verdicts()
     ensures { (o : Options) (count : ℕ) (a : Answer) → ReportsBig o count a →
-        (t : TypedProgram) × (told : Answer) × (resolved_program (generated count) (codes "main") ≡ Some t) × ReportsVerdict o t told × (told.status ≡ a.status) × (told.races ≡ a.races) }
+        (t : TypedProgram) × (r : Race Certificate) × (v : Verdict) × (resolved_program (generated count) (codes "main") ≡ Some t) × ReportsVerdict o t (verdict_answer r v)
+        × (a ≡ record { bytes = summary_text count v; status = verdict_status v; races = r ∷ [] }) }
 {}
