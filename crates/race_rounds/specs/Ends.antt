@@ -1,7 +1,8 @@
 -- What an end of a race has to meet, over the program, the options and the history.
-use Rattle.std.specs.Prelude.{◌≡◌, ℕ, ℤ, List, Option, length}
+use Rattle.std.specs.Prelude.{◌≡◌, ℕ, ℤ, List, length}
 use Rattle.std.specs.List.{AllByRecursion}
 use Rattle.math_facts.specs.Fits.{Fits}
+use Rattle.lin_rows.specs.Rows.{Holds}
 use Rattle.lin_rows.specs.Points.{point_of}
 use Rattle.farkas_check.specs.Nodes.{PlainNode}
 use Rattle.farkas_check.specs.Trees.{Tree, prefix_of}
@@ -19,9 +20,8 @@ use Rattle.nested_predicates.specs.Sums.{root_of}
 use Rattle.nested_predicates.specs.Fitting.{SumsFit}
 use Rattle.nested_refutations.specs.Numbers.{steps_of, StepFits}
 use Rattle.path_decide.specs.Decided.{RefutesPath, path_decision, PathFits, IsGap}
-use Rattle.lowered_choices.specs.Choices.{FailsAtLast}
-use Rattle.trace_replay.specs.Replays.{choices_among, Replays}
-use Rattle.trace_replay.specs.ToldRuns.{ToldPasses}
+use Rattle.path_rows.specs.Paths.{path_of}
+use Rattle.trace_replay.specs.ToldRuns.{ToldFails, ToldPasses}
 use Rattle.race_core.specs.declared.ends.Cause.{Cause}
 use Rattle.race_core.specs.declared.ends.Cause.TheVariants.{Rounds, Whole, Number}
 use Rattle.race_core.specs.declared.ends.End.{End}
@@ -36,15 +36,12 @@ pub record Options : Type 0 where
 
 -- ---- what is known of a word
 
--- The run whose steps take these values and choices, one after another, fails an assertion with the last of them and not before, and the assertion
--- is the one at which the choices replay.
-pub record FailsAfter (t : TypedProgram) (steps : ℕ) (choices : List ℤ) : Type 0 where
-  pub assertion : ℕ
-  pub taken : List (Option ℤ)
-  pub many : length taken ≡ steps
-  pub used : choices_among taken ≡ choices
-  pub fails : FailsAtLast t taken assertion
-  pub replays : Replays t steps choices assertion
+-- A whole point of the rows of the word and an accepting run over it tell a run that takes these choices: it fails, with the last of its steps and not
+-- before, the assertion at whose failing the accepting run ends, and the choices replay and fit.
+pub record FailsAfter (t : TypedProgram) (w : List Letter) (steps : ℕ) (choices : List ℤ) : Type 0 where
+  pub point : List ℤ
+  pub meets : AllByRecursion (Holds (point_of point)) (path_of (lowered t) w).rows
+  pub told : ToldFails t (point_of point) w steps choices
   pub fit : AllByRecursion Fits choices
 
 -- Under each tree with these nodes, all numbers of the prefix predicates of the word, of the systems of their triples and of the refutations of
@@ -70,7 +67,7 @@ CauseMeets t o n Number w = NumberPasses t o.depth w
 -- what an end says of its word: it is feasible, and a run fails; or why nothing is known of it
 abbrev pub SaysOfWord : TypedProgram → Options → ℕ → List Letter → End → Type 0
 SaysOfWord t o n w Safe = ⊥
-SaysOfWord t o n w (Unsafe v steps choices) = (v ≡ w) × IsFeasible (alphabet_of (lowered t)) w × FailsAfter t steps choices.items
+SaysOfWord t o n w (Unsafe v steps choices) = (v ≡ w) × IsFeasible (alphabet_of (lowered t)) w × FailsAfter t w steps choices.items
 SaysOfWord t o n w (Unknown cause v) = (v ≡ w) × CauseMeets t o n cause w
 
 -- ---- over a history
