@@ -22,7 +22,7 @@ def rows():
     text = (TOP / "docs/ARCHITECTURE.md").read_text()
     table = text.split("| Crate | Stands on |")[1].split("\n\n")[0]
     for line in table.splitlines()[2:]:
-        names, below = line.split(" | ")[:2] if " | " in line else (line, "")
+        _, names, below = line.split("|")[:3]
         yield [name for _, name in NAMES.findall(names)], below
 
 
