@@ -8,7 +8,7 @@ use Rattle.boogie_tree.specs.declared.tree.Column.{Column}
 use Rattle.boogie_tree.specs.declared.tree.Column.TheVariants as columns
 use Rattle.boogie_tree.specs.declared.tree.VarInfo.{VarInfo}
 use Rattle.typed_tree.specs.TypedTree.{TypedExpression}
-use Rattle.typed_tree.specs.Scope.{Scope, body_scope, unless_hidden, variable_at}
+use Rattle.typed_tree.specs.Scope.{Scope, body_scope, unless_hidden, variable_at, fixed}
 use Rattle.typed_tree.specs.Typing.{type_of, same_type, is_some_of, has_type}
 use Rattle.typed_tree.specs.KeptRules.{is_arithmetic, is_right}
 use Rattle.typed_tree.specs.Values.{State, member, value}
@@ -179,7 +179,7 @@ some_type wanted None h = absurd (false≢true h)
 some_type wanted (Some found) h = ap Some (sym (same_types wanted found h))
 
 right_truth : (c : Scope) (s : State) (ty : Ty) (e : TypedExpression) → is_right c ty e ≡ true → BooleansHold c s → ty ≡ types.Bool → IsTruth (value s e)
-right_truth c s ty e h w b = truth_value c s e w (some_type ty (type_of c e) (and_parts (has_type c ty e) (is_arithmetic false e) h).0 ∙ ap Some b)
+right_truth c s ty e h w b = truth_value c s e w (some_type ty (type_of c e) (and_parts (has_type c ty e) (is_arithmetic (fixed c) false e) h).0 ∙ ap Some b)
 
 meets_at : (test : VarInfo → Bool) (o : Option VarInfo) (v : VarInfo) → meets test o ≡ true → o ≡ Some v → test v ≡ true
 meets_at test o v h e = subst (λ (p : Option VarInfo). meets test p ≡ true) e h

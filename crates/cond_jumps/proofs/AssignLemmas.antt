@@ -44,6 +44,7 @@ choice_later w m p a v l h =
 pub shows_later : (w m : ℕ) (p : ℕ → ℤ) (v : Environment) (s : State) → w ≤ m → Shows w p v s → Shows m p v s
 shows_later w m p v s l h =
     record {
+      constants = h.constants;
       sums = λ c t. sum_later w m p (v.sum c) (column_value s c) l (h.sums c t);
       choices = λ c t. choice_later w m p (v.plan c) (column_value s c) l (h.choices c t);
     }
@@ -71,7 +72,7 @@ truth_gets m p a x j v l h =
 sum_gets : (m : ℕ) (p : ℕ → ℤ) (a : Bool → Plan) (x : Linears) (j : ℕ) (v : ℤ) → j < m → IsSum m p x v → IsPath m p (listed (gets false a x j)) (p j ≡ v)
 sum_gets m p a x j v l h = equal_path m p (column j) x (p j) v (column_sum m p j l) h
 
-gets_path : (w m : ℕ) (p : ℕ → ℤ) (v : Environment) (s : State) → Shows w p v s → w ≤ m → (e : TypedExpression) (t : Ty) → type_in v false e ≡ Some t → is_linear false e ≡ true →
+gets_path : (w m : ℕ) (p : ℕ → ℤ) (v : Environment) (s : State) → Shows w p v s → w ≤ m → (e : TypedExpression) (t : Ty) → type_in v false e ≡ Some t → is_linear v.fixed false e ≡ true →
     (j : ℕ) → j < m → IsPath m p (listed (gets (is_truth v false e) (paths v false e) (linear v false e) j)) (p j ≡ value s e)
 gets_path w m p v s h l e types.Bool t r j k =
     let P : Bool → Type 0 = λ b. IsPath m p (listed (gets b (paths v false e) (linear v false e) j)) (p j ≡ value s e) in

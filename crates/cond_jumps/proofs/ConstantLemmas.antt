@@ -9,8 +9,8 @@ use Rattle.boogie_tree.specs.declared.tree.Ty.TheVariants as types
 use Rattle.boogie_tree.specs.declared.tree.Column.{Column}
 use Rattle.typed_tree.specs.TypedTree.{TypedExpression, Lit, Truth, Var, Old, Not, Neg, Bin}
 use Rattle.typed_tree.specs.Values.{State, column_value, value, operation_value}
-use Rattle.typed_tree.specs.AffineForm.{Form, is_before, is_zero, led_by, added_at, added_to, number, quotient, scaled, times, plus, product, operation, is_constant, is_empty, read_at, form, is_linear, is_linear_operation}
-use Rattle.typed_tree.specs.Laws.{sum_of, form_value, state_of}
+use Rattle.typed_tree.specs.AffineForm.{Form, is_before, is_zero, led_by, added_at, added_to, number, quotient, scaled, times, plus, product, operation, is_constant, is_empty, read_at, form_column, form, is_linear, is_linear_operation}
+use Rattle.typed_tree.specs.Laws.{sum_of, form_value, state_of, FixedStay}
 use Rattle.typed_tree.proofs.ColumnOrder.{same_place}
 use Rattle.cond_jumps.specs.Environments.{Environment, type_in}
 use Rattle.cond_jumps.specs.Paths.{constant_operation, constant_of}
@@ -170,8 +170,8 @@ form_of-quotient s v =
     let e : pos 1 *ℤ v ≡ v = product_one_left v in
     record { rest = v; spans = (v, pos 0, refl, omega (arith, ints)); is = omega (arith, ints) }
 
-pub factor_of : (old : Bool) (a b : TypedExpression) (op : Op) → is_linear_operation old op a b ≡ true → op ≡ Mul → (is_constant (form old a) || is_constant (form old b)) ≡ true
-factor_of old a b op h e = let P : Op → Type 0 = λ o. is_linear_operation old o a b ≡ true in subst P e h
+pub factor_of : (g : Column → Bool) (old : Bool) (a b : TypedExpression) (op : Op) → is_linear_operation g old op a b ≡ true → op ≡ Mul → (is_constant (form g old a) || is_constant (form g old b)) ≡ true
+factor_of g old a b op h e = let P : Op → Type 0 = λ o. is_linear_operation g old o a b ≡ true in subst P e h
 
 form_of-operation : (s : State) (op : Op) (f g : Form) (u v : ℤ) → is_arithmetic op ≡ true → (op ≡ Mul → (is_constant f || is_constant g) ≡ true) →
     IsFormOf s f u → IsFormOf s g v → IsFormOf s (operation op f g) (operation_value op u v)
@@ -194,35 +194,48 @@ form_of-operation s Gt f g u v e c h k = absurd (false≢true e)
 form_of-operation s Ge f g u v e c h k = absurd (false≢true e)
 
 -- the parts of an operation that keeps the rule of operators
-pub linear_parts : (old : Bool) (op : Op) (a b : TypedExpression) → (is_linear old a && (is_linear old b && is_linear_operation old op a b)) ≡ true →
-    (is_linear old a ≡ true) × (is_linear old b ≡ true) × (is_linear_operation old op a b ≡ true)
-linear_parts old op a b h =
-    let x = and_parts (is_linear old a) (is_linear old b && is_linear_operation old op a b) h in
-    let y = and_parts (is_linear old b) (is_linear_operation old op a b) x.1 in
+pub linear_parts : (g : Column → Bool) (old : Bool) (op : Op) (a b : TypedExpression) → (is_linear g old a && (is_linear g old b && is_linear_operation g old op a b)) ≡ true →
+    (is_linear g old a ≡ true) × (is_linear g old b ≡ true) × (is_linear_operation g old op a b ≡ true)
+linear_parts g old op a b h =
+    let x = and_parts (is_linear g old a) (is_linear g old b && is_linear_operation g old op a b) h in
+    let y = and_parts (is_linear g old b) (is_linear_operation g old op a b) x.1 in
     (x.0, y.0, y.1)
 
+-- a constant has its value at the entry, too
+stays : (g : Column → Bool) (old : Bool) (s : State) (c : Column) → FixedStay g s → g c ≡ true → column_value (state_of old s) c ≡ column_value s c
+stays g true s c h e = h c e
+stays g false s c h e = refl
+
+named_value : (g : Column → Bool) (old : Bool) (s : State) (c : Column) → FixedStay g s → column_value (state_of old s) c ≡ column_value s (form_column g old c)
+named_value g old s c h = by_test (g c) refl
+  where
+    by_test : (z : Bool) → g c ≡ z → column_value (state_of old s) c ≡ column_value s (if z then c else read_at old c)
+    by_test true e = stays g old s c h e
+    by_test false e = read_value old s c
+
 -- the value of a whole-number expression is that of its form, and a sum of multiples of its quotients
-pub form_of_value : (v : Environment) (old : Bool) (s : State) (e : TypedExpression) → type_in v old e ≡ Some types.Int → is_linear old e ≡ true →
-    IsFormOf s (form old e) (value (state_of old s) e)
-form_of_value v old s (Lit at n) t l = record { rest = pos 0; spans = refl; is = omega (arith, ints) }
-form_of_value v old s (Truth at b) t l = absurd (cc)
-form_of_value v old s (Var at c) t l =
-    let x : column_value (state_of old s) c ≡ column_value s (read_at old c) = read_value old s c in
-    let y : pos 1 *ℤ column_value s (read_at old c) ≡ column_value s (read_at old c) = product_one_left (column_value s (read_at old c)) in
+pub form_of_value : (v : Environment) (old : Bool) (s : State) (e : TypedExpression) → FixedStay v.fixed s → type_in v old e ≡ Some types.Int → is_linear v.fixed old e ≡ true →
+    IsFormOf s (form v.fixed old e) (value (state_of old s) e)
+form_of_value v old s (Lit at n) k t l = record { rest = pos 0; spans = refl; is = omega (arith, ints) }
+form_of_value v old s (Truth at b) k t l = absurd (cc)
+form_of_value v old s (Var at c) k t l =
+    let n = form_column v.fixed old c in
+    let x : column_value (state_of old s) c ≡ column_value s n = named_value v.fixed old s c k in
+    let y : pos 1 *ℤ column_value s n ≡ column_value s n = product_one_left (column_value s n) in
     record { rest = pos 0; spans = refl; is = omega (arith, ints, x, y) }
-form_of_value v old s (Old at e) t l =
-    let P : State → Type 0 = λ z. IsFormOf s (form true e) (value z e) in
-    subst P (sym (entry_of old s)) (form_of_value v true s e t l)
-form_of_value v old s (Not at e) t l = absurd (not_both (only_is types.Bool (type_in v old e) types.Int t).1)
-form_of_value v old s (Neg at e) t l =
-    let h = form_of_value v old s e (only_is types.Int (type_in v old e) types.Int t).0 l in
-    subst (IsFormOf s (times (negsuc 0) (form old e))) (minus_one (value (state_of old s) e)) (form_of-times s (negsuc 0) (form old e) (value (state_of old s) e) h)
-form_of_value v old s (Bin at op a b) t l =
+form_of_value v old s (Old at e) k t l =
+    let P : State → Type 0 = λ z. IsFormOf s (form v.fixed true e) (value z e) in
+    subst P (sym (entry_of old s)) (form_of_value v true s e k t l)
+form_of_value v old s (Not at e) k t l = absurd (not_both (only_is types.Bool (type_in v old e) types.Int t).1)
+form_of_value v old s (Neg at e) k t l =
+    let h = form_of_value v old s e k (only_is types.Int (type_in v old e) types.Int t).0 l in
+    subst (IsFormOf s (times (negsuc 0) (form v.fixed old e))) (minus_one (value (state_of old s) e)) (form_of-times s (negsuc 0) (form v.fixed old e) (value (state_of old s) e) h)
+form_of_value v old s (Bin at op a b) k t l =
     let o : AreTyped v old op a b types.Int = operands v old op a b types.Int t in
-    let k = whole_operation op o.first o.second o.operation_is in
-    let p = linear_parts old op a b l in
-    form_of-operation s op (form old a) (form old b) (value (state_of old s) a) (value (state_of old s) b) k.0 (factor_of old a b op p.2)
-    (form_of_value v old s a (o.first_is ∙ ap Some k.1) p.0) (form_of_value v old s b (o.second_is ∙ ap Some k.2) p.1)
+    let w = whole_operation op o.first o.second o.operation_is in
+    let p = linear_parts v.fixed old op a b l in
+    form_of-operation s op (form v.fixed old a) (form v.fixed old b) (value (state_of old s) a) (value (state_of old s) b) w.0 (factor_of v.fixed old a b op p.2)
+    (form_of_value v old s a k (o.first_is ∙ ap Some w.1) p.0) (form_of_value v old s b k (o.second_is ∙ ap Some w.2) p.1)
 
 -- ---- the constant of a form
 
@@ -258,14 +271,14 @@ operation_constant Gt f g = refl
 operation_constant Ge f g = refl
 
 -- the constant of the affine form
-pub form_constant : (old : Bool) (e : TypedExpression) → (form old e).constant ≡ constant_of e
-form_constant old (Lit at n) = refl
-form_constant old (Truth at b) = refl
-form_constant old (Var at c) = refl
-form_constant old (Old at e) = form_constant true e
-form_constant old (Not at e) = refl
-form_constant old (Neg at e) = times_constant (negsuc 0) (form old e) ∙ minus_one (form old e).constant ∙ ap neg_ℤ (form_constant old e)
-form_constant old (Bin at op a b) =
-    let x = form_constant old a in
-    let y = form_constant old b in
-    operation_constant op (form old a) (form old b) ∙ (λ d. constant_operation op (x d) (y d))
+pub form_constant : (g : Column → Bool) (old : Bool) (e : TypedExpression) → (form g old e).constant ≡ constant_of e
+form_constant g old (Lit at n) = refl
+form_constant g old (Truth at b) = refl
+form_constant g old (Var at c) = refl
+form_constant g old (Old at e) = form_constant g true e
+form_constant g old (Not at e) = refl
+form_constant g old (Neg at e) = times_constant (negsuc 0) (form g old e) ∙ minus_one (form g old e).constant ∙ ap neg_ℤ (form_constant g old e)
+form_constant g old (Bin at op a b) =
+    let x = form_constant g old a in
+    let y = form_constant g old b in
+    operation_constant op (form g old a) (form g old b) ∙ (λ d. constant_operation op (x d) (y d))

@@ -8,14 +8,14 @@ use Rattle.boogie_tree.specs.declared.tree.Ty.TheVariants as types
 use Rattle.boogie_tree.specs.declared.tree.Column.{Column}
 use Rattle.boogie_tree.specs.declared.tree.Column.TheVariants as columns
 use Rattle.boogie_tree.specs.declared.tree.VarInfo.{VarInfo}
-use Rattle.typed_tree.specs.Values.{State, column_value, member}
+use Rattle.typed_tree.specs.Values.{State, column_value, at_entry, member}
 use Rattle.typed_tree.specs.Laws.{IsTruth}
 use Rattle.lin_rows.specs.Points.{point_of}
 use Rattle.letter_acts.specs.Frames.{Columns, IsState, IsValue}
 use Rattle.cond_jumps.specs.Conjunctions.{Just}
 use Rattle.cond_jumps.specs.Forms.{column}
 use Rattle.cond_jumps.specs.Comparisons.{named}
-use Rattle.cond_jumps.specs.Frames.{same_column, place_from, or_else, if_constant, place, sum_at, plan_at, frame_environment, IsShown}
+use Rattle.cond_jumps.specs.Frames.{same_column, place_from, or_else, if_constant, is_constant_place, fixed_in, place, sum_at, plan_at, frame_environment, IsShown}
 use Rattle.cond_jumps.specs.Worth.{IsSum, IsChoice, Shows}
 use Rattle.cond_jumps.proofs.FormLemmas.{column_sum}
 use Rattle.cond_jumps.proofs.ComparisonLemmas.{named_path}
@@ -119,8 +119,21 @@ is_truth_value types.Bool v e h = h
 -- Where the values are shown, what stands for the columns of the frame has their values.
 pub frame_shows : (frame : Columns) (s : State) (values : List ℤ) → IsShown frame s values → Shows (length frame) (point_of values) (frame_environment frame) s
 frame_shows frame s values h =
-    record { sums = λ c t. sum_of_place c (place frame c) refl t; choices = λ c t. choice_of_place c (place frame c) refl t }
+    record {
+      constants = λ c e. constant_stays c e;
+      sums = λ c t. sum_of_place c (place frame c) refl t;
+      choices = λ c t. choice_of_place c (place frame c) refl t;
+    }
   where
+    of_place : (n : ℕ) (o : Option (ℕ × VarInfo)) → place_from 0 frame (columns.Global n) ≡ o → is_constant_place o ≡ true → member s.old n ≡ member s.globals n
+    of_place n None e k = absurd (false≢true k)
+    of_place n (Some x) e k = let i = found_from 0 frame (columns.Global n) x e in h.constants i.index n x.1 i.stands k
+
+    constant_stays : (c : Column) → fixed_in frame c ≡ true → column_value (at_entry s) c ≡ column_value s c
+    constant_stays (columns.Global n) e = of_place n (place_from 0 frame (columns.Global n)) refl e
+    constant_stays (columns.Old n) e = absurd (false≢true e)
+    constant_stays (columns.Local n) e = absurd (false≢true e)
+
     sum_of_place : (c : Column) (o : Option (ℕ × VarInfo)) → place frame c ≡ o → option_map (λ x. x.1.ty) o ≡ Some types.Int →
         IsSum (length frame) (point_of values) (sum_at o) (column_value s c)
     sum_of_place c None e t = absurd (cc)

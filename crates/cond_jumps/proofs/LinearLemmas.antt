@@ -3,6 +3,7 @@ use Rattle.std.proofs.Common.{◌≡◌, ℕ, ◌⊎◌, inl, inr, Bool, true, f
 use Rattle.std.proofs.lemmas.Bool.{false≢true}
 use Rattle.boogie_tree.specs.declared.tree.Op.{Op}
 use Rattle.boogie_tree.specs.declared.tree.Op.TheVariants.{Iff, Implies, And, Or, Eq, Ne, Lt, Le, Gt, Ge, Add, Sub, Mul, Div, Mod}
+use Rattle.boogie_tree.specs.declared.tree.Column.{Column}
 use Rattle.boogie_tree.specs.declared.tree.Ty.TheVariants as types
 use Rattle.typed_tree.specs.TypedTree.{TypedExpression, Lit, Truth, Var, Old, Not, Neg, Bin}
 use Rattle.typed_tree.specs.Values.{State, value, is_zero, div_of, mod_of, operation_value}
@@ -49,33 +50,33 @@ remaining_by w p o a u v d h =
     let P : Option ℤ → Type 0 = λ x. IsSum w p (quotient remaining x a) (mod_of u v) in
     subst P (sym d.some) (remaining_sum w p v a u d.nonzero h)
 
-arithmetic_sum : (w : ℕ) (p : ℕ → ℤ) (s t : State) (op : Op) (old : Bool) (e f : TypedExpression) (a b : Linears) (u : ℤ) → is_arithmetic op ≡ true →
-    is_linear_operation old op e f ≡ true → IsFormOf s (form old e) u → IsFormOf s (form old f) (value t f) → IsSum w p a u → IsSum w p b (value t f) →
+arithmetic_sum : (g : Column → Bool) (w : ℕ) (p : ℕ → ℤ) (s t : State) (op : Op) (old : Bool) (e f : TypedExpression) (a b : Linears) (u : ℤ) → is_arithmetic op ≡ true →
+    is_linear_operation g old op e f ≡ true → IsFormOf s (form g old e) u → IsFormOf s (form g old f) (value t f) → IsSum w p a u → IsSum w p b (value t f) →
     IsSum w p (arithmetic op (constant_of e) (constant_of f) (divisor_of f) a b) (operation_value op u (value t f))
-arithmetic_sum w p s t Add old e f a b u r l i j h k = plus_sum w p a b u (value t f) h k
-arithmetic_sum w p s t Sub old e f a b u r l i j h k = minus_sum w p a b u (value t f) h k
-arithmetic_sum w p s t Mul old e f a b u r l i j h k =
-    let x = form_constant old e in
-    let y = form_constant old f in
+arithmetic_sum g w p s t Add old e f a b u r l i j h k = plus_sum w p a b u (value t f) h k
+arithmetic_sum g w p s t Sub old e f a b u r l i j h k = minus_sum w p a b u (value t f) h k
+arithmetic_sum g w p s t Mul old e f a b u r l i j h k =
+    let x = form_constant g old e in
+    let y = form_constant g old f in
     let P : ℤ → ℤ → Type 0 = λ m n. IsSum w p (times m n a b) (u *ℤ value t f) in
-    let d : P (form old e).constant (form old f).constant = product_sum w p s (form old e) (form old f) a b u (value t f) l i j h k in
-    subst (λ (m : ℤ). P m (constant_of f)) x (subst (λ (n : ℤ). P (form old e).constant n) y d)
-arithmetic_sum w p s t Div old e f a b u r l i j h k = divided_by w p (divisor_of f) a u (value t f) (divisor_is t f l) h
-arithmetic_sum w p s t Mod old e f a b u r l i j h k = remaining_by w p (divisor_of f) a u (value t f) (divisor_is t f l) h
-arithmetic_sum w p s t Iff old e f a b u r l i j h k = absurd (false≢true r)
-arithmetic_sum w p s t Implies old e f a b u r l i j h k = absurd (false≢true r)
-arithmetic_sum w p s t And old e f a b u r l i j h k = absurd (false≢true r)
-arithmetic_sum w p s t Or old e f a b u r l i j h k = absurd (false≢true r)
-arithmetic_sum w p s t Eq old e f a b u r l i j h k = absurd (false≢true r)
-arithmetic_sum w p s t Ne old e f a b u r l i j h k = absurd (false≢true r)
-arithmetic_sum w p s t Lt old e f a b u r l i j h k = absurd (false≢true r)
-arithmetic_sum w p s t Le old e f a b u r l i j h k = absurd (false≢true r)
-arithmetic_sum w p s t Gt old e f a b u r l i j h k = absurd (false≢true r)
-arithmetic_sum w p s t Ge old e f a b u r l i j h k = absurd (false≢true r)
+    let d : P (form g old e).constant (form g old f).constant = product_sum w p s (form g old e) (form g old f) a b u (value t f) l i j h k in
+    subst (λ (m : ℤ). P m (constant_of f)) x (subst (λ (n : ℤ). P (form g old e).constant n) y d)
+arithmetic_sum g w p s t Div old e f a b u r l i j h k = divided_by w p (divisor_of f) a u (value t f) (divisor_is t f l) h
+arithmetic_sum g w p s t Mod old e f a b u r l i j h k = remaining_by w p (divisor_of f) a u (value t f) (divisor_is t f l) h
+arithmetic_sum g w p s t Iff old e f a b u r l i j h k = absurd (false≢true r)
+arithmetic_sum g w p s t Implies old e f a b u r l i j h k = absurd (false≢true r)
+arithmetic_sum g w p s t And old e f a b u r l i j h k = absurd (false≢true r)
+arithmetic_sum g w p s t Or old e f a b u r l i j h k = absurd (false≢true r)
+arithmetic_sum g w p s t Eq old e f a b u r l i j h k = absurd (false≢true r)
+arithmetic_sum g w p s t Ne old e f a b u r l i j h k = absurd (false≢true r)
+arithmetic_sum g w p s t Lt old e f a b u r l i j h k = absurd (false≢true r)
+arithmetic_sum g w p s t Le old e f a b u r l i j h k = absurd (false≢true r)
+arithmetic_sum g w p s t Gt old e f a b u r l i j h k = absurd (false≢true r)
+arithmetic_sum g w p s t Ge old e f a b u r l i j h k = absurd (false≢true r)
 
 -- Where what stands for the columns has their values, the sum of a whole-number expression has its value.
 pub linear_form : (w : ℕ) (p : ℕ → ℤ) (v : Environment) (s : State) → Shows w p v s → (old : Bool) (e : TypedExpression) →
-    type_in v old e ≡ Some types.Int → is_linear old e ≡ true → IsSum w p (linear v old e) (value (state_of old s) e)
+    type_in v old e ≡ Some types.Int → is_linear v.fixed old e ≡ true → IsSum w p (linear v old e) (value (state_of old s) e)
 linear_form w p v s h old (Lit at n) t l = number_sum w p n
 linear_form w p v s h old (Truth at b) t l = absurd (cc)
 linear_form w p v s h old (Var at c) t l = subst (IsSum w p (v.sum (read_at old c))) (sym (read_value old s c)) (h.sums (read_at old c) t)
@@ -88,9 +89,9 @@ linear_form w p v s h old (Neg at e) t l =
 linear_form w p v s h old (Bin at op a b) t l =
     let o : AreTyped v old op a b types.Int = operands v old op a b types.Int t in
     let k = whole_operation op o.first o.second o.operation_is in
-    let d = linear_parts old op a b l in
+    let d = linear_parts v.fixed old op a b l in
     let x : type_in v old a ≡ Some types.Int = o.first_is ∙ ap Some k.1 in
     let y : type_in v old b ≡ Some types.Int = o.second_is ∙ ap Some k.2 in
-    arithmetic_sum w p s (state_of old s) op old a b (linear v old a) (linear v old b) (value (state_of old s) a) k.0 d.2
-    (form_of_value v old s a x d.0) (form_of_value v old s b y d.1)
+    arithmetic_sum v.fixed w p s (state_of old s) op old a b (linear v old a) (linear v old b) (value (state_of old s) a) k.0 d.2
+    (form_of_value v old s a h.constants x d.0) (form_of_value v old s b h.constants y d.1)
     (linear_form w p v s h old a x d.0) (linear_form w p v s h old b y d.1)

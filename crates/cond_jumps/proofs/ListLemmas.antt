@@ -120,6 +120,7 @@ path_agrees w p q a P s h =
 pub shows_agrees : (w : ℕ) (p q : ℕ → ℤ) (v : Environment) (s : State) → Agrees w p q → Shows w p v s → Shows w q v s
 shows_agrees w p q v s a h =
     record {
+      constants = h.constants;
       sums = λ c t. sum_agrees w p q (v.sum c) (column_value s c) a (h.sums c t);
       choices = λ c t.
           let k = h.choices c t in

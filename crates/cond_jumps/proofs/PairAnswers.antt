@@ -1,5 +1,5 @@
 -- What the code answers for both lists of a condition.
-use Rattle.std.proofs.Common.{◌≡◌, ℕ, Bool, true, false, not, ◌&&◌, [], Result, Ok, Err, refl, sym, ◌∙◌, ap, subst}
+use Rattle.std.proofs.Common.{◌≡◌, inl, inr, ℕ, Bool, true, false, not, ◌&&◌, [], Result, Ok, Err, refl, sym, ◌∙◌, ap, subst}
 use Rattle.std.specs.Prelude.{Vec}
 use Rattle.std.specs.Global.{Global}
 use Rattle.std.specs.Result.{IsErrAnd}
@@ -17,7 +17,7 @@ use Rattle.cond_jumps.specs.declared.shapes.Shape.{Shape}
 use Rattle.cond_jumps.specs.declared.widths.Counts.{Counts}
 use Rattle.cond_jumps.specs.Comparisons.{never, named, operation}
 use Rattle.cond_jumps.specs.Conjs.{conjunctions}
-use Rattle.cond_jumps.specs.Conjunctions.{Plan, Just, With, listed, list_fits, is_long, is_wide, all_fit}
+use Rattle.cond_jumps.specs.Conjunctions.{Plan, Just, Then, With, listed, list_fits, is_long, is_wide, all_fit}
 use Rattle.cond_jumps.specs.Environments.{Environment}
 use Rattle.cond_jumps.specs.Forms.{Linears}
 use Rattle.cond_jumps.specs.ListView.{IsPlanList, IsPlanAnswer, sums_plan, shape_of, plan_of, other_plan_of, asked}
@@ -86,6 +86,11 @@ wide n =
       with_first = λ p q h. first_wide (is_long (listed (With p q) n)) (is_wide p n) (is_wide q n) h;
       with_second = λ p q h. second_wide (is_long (listed (With p q) n)) (is_wide p n) (is_wide q n) h;
     }
+
+-- one of two lists that are followed is too wide
+pub either_wide : (p q a b : Plan) (n : ℕ) → IsEitherWide p q n → is_wide (Then (With p a) (With q b)) n ≡ true
+either_wide p q a b n (inl h) = first_wide (is_long (listed (Then (With p a) (With q b)) n)) (is_wide (With p a) n) (is_wide (With q b) n) ((wide n).with_first p a h)
+either_wide p q a b n (inr h) = second_wide (is_long (listed (Then (With p a) (With q b)) n)) (is_wide (With p a) n) (is_wide (With q b) n) ((wide n).with_first q b h)
 
 -- faults that are handed on
 pub list_handed_on : (p : Plan) (n : ℕ) (r : Result (Vec Conj Global) Refusal) (f : Refusal) → IsErrAnd r (λ g. g ≡ f) → (f ≡ TooBig → all_fit p n ≡ false) → IsPlanAnswer p n r

@@ -8,9 +8,9 @@ use Rattle.boogie_tree.specs.declared.tree.Ty.TheVariants as types
 use Rattle.boogie_tree.specs.declared.tree.Column.{Column}
 use Rattle.boogie_tree.specs.declared.tree.Column.TheVariants as columns
 use Rattle.typed_tree.specs.TypedTree.{TypedExpression}
-use Rattle.typed_tree.specs.Values.{State, column_value, member, value}
+use Rattle.typed_tree.specs.Values.{State, column_value, at_entry, member, value}
 use Rattle.typed_tree.specs.AffineForm.{is_linear}
-use Rattle.typed_tree.specs.Laws.{IsTruth}
+use Rattle.typed_tree.specs.Laws.{IsTruth, FixedStay}
 use Rattle.letter_acts.specs.Frames.{IsValue}
 use Rattle.cond_jumps.specs.Forms.{column}
 use Rattle.cond_jumps.specs.Environments.{Environment}
@@ -27,7 +27,7 @@ abbrev pub IsStanding : ℕ → (ℕ → ℤ) → Environment → State → Opti
 IsStanding m p v s None z = Unit {0}
 IsStanding m p v s (Some (Same c)) z = column_value s c ≡ z
 IsStanding m p v s (Some (Numbered c t)) z = (c < m) × (p c ≡ z) × IsValue t z
-IsStanding m p v s (Some (Passed e)) z = (is_linear false e ≡ true) × (value s e ≡ z)
+IsStanding m p v s (Some (Passed e)) z = (is_linear v.fixed false e ≡ true) × (value s e ≡ z)
 
 standing_sum_is : (w m : ℕ) (p : ℕ → ℤ) (v : Environment) (s : State) → Shows w p v s → w ≤ m → (o : Option Standing) (z : ℤ) → IsStanding m p v s o z →
     standing_type v o ≡ Some types.Int → IsSum m p (standing_sum v o) z
@@ -51,16 +51,17 @@ standing_choice_is w m p v s h l (Some (Passed e)) z k t =
 
 -- what stands for the columns has the values of another state
 pub standing_shows : (w m : ℕ) (p : ℕ → ℤ) (v : Environment) (s u : State) → Shows w p v s → w ≤ m → (stands : Column → Option Standing) →
-    ((c : Column) → IsStanding m p v s (stands c) (column_value u c)) → Shows m p (standing_environment v stands) u
-standing_shows w m p v s u h l stands k =
+    ((c : Column) → IsStanding m p v s (stands c) (column_value u c)) → FixedStay v.fixed u → Shows m p (standing_environment v stands) u
+standing_shows w m p v s u h l stands k f =
     record {
+      constants = f;
       sums = λ c t. standing_sum_is w m p v s h l (stands c) (column_value u c) (k c) t;
       choices = λ c t. standing_choice_is w m p v s h l (stands c) (column_value u c) (k c) t;
     }
 
 -- ---- arguments in place of parameters
 
-argument_stands : (m : ℕ) (p : ℕ → ℤ) (v : Environment) (s : State) (args : List TypedExpression) → AllByRecursion (λ e. is_linear false e ≡ true) args → (n : ℕ) →
+argument_stands : (m : ℕ) (p : ℕ → ℤ) (v : Environment) (s : State) (args : List TypedExpression) → AllByRecursion (λ e. is_linear v.fixed false e ≡ true) args → (n : ℕ) →
     IsStanding m p v s (option_map Passed (slice_get args n)) (member (map (value s) args) n)
 argument_stands m p v s [] h n = tt
 argument_stands m p v s (e ∷ es) h zero = (h.0, refl)
@@ -68,9 +69,14 @@ argument_stands m p v s (e ∷ es) h (suc n) = argument_stands m p v s es h.1 n
 
 -- A condition of a called procedure may be read at the caller with the arguments in place of the parameters.
 pub passed_show : (w : ℕ) (p : ℕ → ℤ) (v : Environment) (s : State) → Shows w p v s → (args : List TypedExpression) →
-    AllByRecursion (λ e. is_linear false e ≡ true) args → Shows w p (standing_environment v (passed args)) (passed_state s args)
-passed_show w p v s h args k = standing_shows w w p v s (passed_state s args) h (omega arith) (passed args) (λ c. stands c)
+    AllByRecursion (λ e. is_linear v.fixed false e ≡ true) args → Shows w p (standing_environment v (passed args)) (passed_state s args)
+passed_show w p v s h args k = standing_shows w w p v s (passed_state s args) h (omega arith) (passed args) (λ c. stands c) (λ c. stay c)
   where
+    stay : (c : Column) → v.fixed c ≡ true → column_value (at_entry (passed_state s args)) c ≡ column_value (passed_state s args) c
+    stay (columns.Global n) e = h.constants (columns.Global n) e
+    stay (columns.Old n) e = refl
+    stay (columns.Local n) e = refl
+
     stands : (c : Column) → IsStanding w p v s (passed args c) (column_value (passed_state s args) c)
     stands (columns.Global n) = refl
     stands (columns.Old n) = refl
@@ -95,7 +101,7 @@ global_stands m p v s globals n None h = h
 global_stands m p v s globals n (Some x) h = h
 
 local_stands : (m : ℕ) (p : ℕ → ℤ) (v : Environment) (s : State) (args : List TypedExpression) (results : List (ℕ × Ty)) (zs : List ℤ) →
-    AllByRecursion (λ e. is_linear false e ≡ true) args → AreResults m p results zs → (n : ℕ) →
+    AllByRecursion (λ e. is_linear v.fixed false e ≡ true) args → AreResults m p results zs → (n : ℕ) →
     IsStanding m p v s (slice_get (locals_of args results) n) (member (map (value s) args ++ zs) n)
 local_stands m p v s (e ∷ es) results zs h k zero = (h.0, refl)
 local_stands m p v s (e ∷ es) results zs h k (suc n) = local_stands m p v s es results zs h.1 k n
@@ -106,11 +112,17 @@ local_stands m p v s [] (r ∷ rs) (z ∷ zs) h k (suc n) = local_stands m p v s
 
 -- An ensures of a called procedure without body may be read at the caller.
 pub import_show : (w m : ℕ) (p : ℕ → ℤ) (v : Environment) (s : State) → Shows w p v s → w ≤ m → (written : ℕ → Option (ℕ × Ty)) (args : List TypedExpression)
-    (results : List (ℕ × Ty)) (globals zs : List ℤ) → AllByRecursion (λ e. is_linear false e ≡ true) args → ((n : ℕ) → IsLeft m p s globals n (written n)) →
-    AreResults m p results zs → Shows m p (standing_environment v (imported written args results)) (imported_state s globals args zs)
-import_show w m p v s h l written args results globals zs k g r =
-    standing_shows w m p v s (imported_state s globals args zs) h l (imported written args results) (λ c. stands c)
+    (results : List (ℕ × Ty)) (globals zs : List ℤ) → AllByRecursion (λ e. is_linear v.fixed false e ≡ true) args → ((n : ℕ) → IsLeft m p s globals n (written n)) →
+    AreResults m p results zs → ((n : ℕ) → v.fixed (columns.Global n) ≡ true → member s.globals n ≡ member globals n) →
+    Shows m p (standing_environment v (imported written args results)) (imported_state s globals args zs)
+import_show w m p v s h l written args results globals zs k g r f =
+    standing_shows w m p v s (imported_state s globals args zs) h l (imported written args results) (λ c. stands c) (λ c. stay c)
   where
+    stay : (c : Column) → v.fixed c ≡ true → column_value (at_entry (imported_state s globals args zs)) c ≡ column_value (imported_state s globals args zs) c
+    stay (columns.Global n) e = f n e
+    stay (columns.Old n) e = refl
+    stay (columns.Local n) e = refl
+
     stands : (c : Column) → IsStanding m p v s (imported written args results c) (column_value (imported_state s globals args zs) c)
     stands (columns.Global n) = global_stands m p v s globals n (written n) (g n)
     stands (columns.Old n) = refl

@@ -38,7 +38,7 @@ operation_test w p op types.Int kind a b xs ys u v e k h i f g =
 
 -- the plans of a condition follow its value
 pub paths_test : (w : ℕ) (p : ℕ → ℤ) (v : Environment) (s : State) → Shows w p v s → (old : Bool) (e : TypedExpression) →
-    type_in v old e ≡ Some types.Bool → is_linear old e ≡ true → IsTestOf w p (paths v old e) (value (state_of old s) e)
+    type_in v old e ≡ Some types.Bool → is_linear v.fixed old e ≡ true → IsTestOf w p (paths v old e) (value (state_of old s) e)
 paths_test w p v s h old (Lit at n) t l = absurd (not_both (let f : types.Int ≡ types.Bool = cc in f))
 paths_test w p v s h old (Truth at b) t l = record { truth_value = b; is = refl; test = literal_test w p b }
 paths_test w p v s h old (Var at c) t l =
@@ -57,7 +57,7 @@ paths_test w p v s h old (Not at e) t l =
 paths_test w p v s h old (Neg at e) t l = absurd (not_both (sym (only_is types.Int (type_in v old e) types.Bool t).1))
 paths_test w p v s h old (Bin at op a b) t l =
     let o : AreTyped v old op a b types.Bool = operands v old op a b types.Bool t in
-    let d = linear_parts old op a b l in
+    let d = linear_parts v.fixed old op a b l in
     let one : o.second ≡ o.first = one_type op o.first o.second types.Bool o.operation_is in
     let e : operation_type op o.first o.first ≡ Some types.Bool =
     (let P : Ty → Type 0 = λ z. operation_type op o.first z ≡ Some types.Bool in subst P one o.operation_is) in
@@ -72,7 +72,7 @@ paths_test w p v s h old (Bin at op a b) t l =
 -- Where what stands for the columns has their values, a condition is 0 or 1, a member of the list for the wanted truth
 -- value is met exactly where it has that value, and at most one member is met, with unique helpers.
 pub paths_mean : (w : ℕ) (p : ℕ → ℤ) (v : Environment) (s : State) → Shows w p v s → (old : Bool) (e : TypedExpression) →
-    type_in v old e ≡ Some types.Bool → is_linear old e ≡ true → IsChoice w p (paths v old e) (value (state_of old s) e)
+    type_in v old e ≡ Some types.Bool → is_linear v.fixed old e ≡ true → IsChoice w p (paths v old e) (value (state_of old s) e)
 paths_mean w p v s h old e t l =
     let r = paths_test w p v s h old e t l in
     choice_of_test w p (paths v old e) r.truth_value (value (state_of old s) e) r.is r.test

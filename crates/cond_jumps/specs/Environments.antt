@@ -9,9 +9,11 @@ use Rattle.typed_tree.specs.AffineForm.{read_at}
 use Rattle.cond_jumps.specs.Conjunctions.{Plan}
 use Rattle.cond_jumps.specs.Forms.{Linears}
 
--- of each column its type, None where nothing stands for it; the sum that stands for a whole number; and when a truth value is as wanted
+-- of each column its type, None where nothing stands for it, and whether it is that of a constant; the sum that stands for a whole number; and
+-- when a truth value is as wanted
 pub record Environment : Type 0 where
   pub type : Column → Option Ty
+  pub fixed : Column → Bool
   pub sum : Column → Linears
   pub plan : Column → Bool → Plan
 

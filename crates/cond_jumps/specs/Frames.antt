@@ -40,6 +40,15 @@ place frame (columns.Global n) = place_from 0 frame (columns.Global n)
 place frame (columns.Old n) = or_else (place_from 0 frame (columns.Old n)) (if_constant (place_from 0 frame (columns.Global n)))
 place frame (columns.Local n) = place_from 0 frame (columns.Local n)
 
+abbrev pub is_constant_place : Option (ℕ × VarInfo) → Bool
+is_constant_place None = false
+is_constant_place (Some x) = x.1.constant
+
+-- the columns of constants
+abbrev pub fixed_in : Columns → Column → Bool
+fixed_in frame (columns.Global n) = is_constant_place (place_from 0 frame (columns.Global n))
+fixed_in frame c = false
+
 -- what stands for a column with that place; 0 and nothing where it has none
 abbrev pub sum_at : Option (ℕ × VarInfo) → Linears
 sum_at None = number (pos 0)
@@ -53,6 +62,7 @@ abbrev pub frame_environment : Columns → Environment
 frame_environment frame =
     record {
       type = λ c. option_map (λ x. x.1.ty) (place frame c);
+      fixed = fixed_in frame;
       sum = λ c. sum_at (place frame c);
       plan = λ c. plan_at (place frame c);
     }

@@ -14,7 +14,7 @@ use Rattle.cond_jumps.specs.Conjunctions.{Conjunction, Plan, listed}
 use Rattle.cond_jumps.specs.Environments.{type_in}
 use Rattle.cond_jumps.specs.Paths.{paths, assigns}
 use Rattle.cond_jumps.specs.Worth.{IsSound}
-use Rattle.cond_jumps.specs.Frames.{frame_environment, IsShown}
+use Rattle.cond_jumps.specs.Frames.{frame_environment, fixed_in, IsShown}
 
 -- how the list of a condition with the wanted value is put together
 abbrev pub path_plan : Columns → TypedExpression → Bool → Plan
@@ -38,7 +38,7 @@ assign_list frame count es = listed (assign_plan frame es) (assign_width frame c
 -- a condition over the frame: typed, and its operators keep their rules
 pub record IsCondition (frame : Columns) (e : TypedExpression) : Type 0 where
   pub typed : type_in (frame_environment frame) false e ≡ Some types.Bool
-  pub linear : is_linear false e ≡ true
+  pub linear : is_linear (fixed_in frame) false e ≡ true
 
 -- values over the frame, each typed
 abbrev pub AreValues : Columns → List TypedExpression → Type 0

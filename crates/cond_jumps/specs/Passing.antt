@@ -39,7 +39,7 @@ standing_plan v (Some (Passed e)) want = paths v false e want
 -- the environment in which these stand for the columns
 abbrev pub standing_environment : Environment → (Column → Option Standing) → Environment
 standing_environment v stands =
-    record { type = λ c. standing_type v (stands c); sum = λ c. standing_sum v (stands c); plan = λ c. standing_plan v (stands c) }
+    record { type = λ c. standing_type v (stands c); fixed = v.fixed; sum = λ c. standing_sum v (stands c); plan = λ c. standing_plan v (stands c) }
 
 -- a requires of a called procedure: its parameters are the arguments
 abbrev pub passed : List TypedExpression → Column → Option Standing

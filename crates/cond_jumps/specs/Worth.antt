@@ -7,7 +7,7 @@ use Rattle.boogie_tree.specs.declared.tree.Column.{Column}
 use Rattle.typed_tree.specs.TypedTree.{TypedExpression}
 use Rattle.typed_tree.specs.Values.{State, column_value, truth}
 use Rattle.typed_tree.specs.AffineForm.{is_linear}
-use Rattle.typed_tree.specs.Laws.{IsTruth}
+use Rattle.typed_tree.specs.Laws.{IsTruth, FixedStay}
 use Rattle.cond_jumps.specs.Conjunctions.{Plan, listed}
 use Rattle.cond_jumps.specs.Forms.{Linear, Linears, amount}
 use Rattle.cond_jumps.specs.Meaning.{Agrees, AllHold, Sole, AllBelow, IsPath}
@@ -35,8 +35,9 @@ pub record IsChoice (w : ℕ) (p : ℕ → ℤ) (a : Bool → Plan) (v : ℤ) : 
   pub truth_value : IsTruth v
   pub path : (want : Bool) → IsPath w p (listed (a want)) (v ≡ truth want)
 
--- what stands for the columns has their values in the state
+-- what stands for the columns has their values in the state, in which the constants have the values that they had at the procedure's entry
 pub record Shows (w : ℕ) (p : ℕ → ℤ) (v : Environment) (s : State) : Type 0 where
+  pub constants : FixedStay v.fixed s
   pub sums : (c : Column) → v.type c ≡ Some types.Int → IsSum w p (v.sum c) (column_value s c)
   pub choices : (c : Column) → v.type c ≡ Some types.Bool → IsChoice w p (v.plan c) (column_value s c)
 
@@ -44,7 +45,7 @@ pub record Shows (w : ℕ) (p : ℕ → ℤ) (v : Environment) (s : State) : Typ
 pub record IsSound (v : Environment) (e : TypedExpression) : Type 0 where
   pub type : Ty
   pub typed : type_in v false e ≡ Some type
-  pub linear : is_linear false e ≡ true
+  pub linear : is_linear v.fixed false e ≡ true
 
 -- the columns from j on have these values
 abbrev pub Read : (ℕ → ℤ) → ℕ → List ℤ → Type 0

@@ -1,8 +1,9 @@
 //! The types of typed expressions, and affine forms. An expression in postfix notation may break the typing rules.
 
-ghost use Rattle.std.specs.Prelude.{◌≡◌, true, false, IfOk};
+ghost use Rattle.std.specs.Prelude.{◌≡◌, true, false, [], IfOk};
 ghost use Rattle.typed_tree.specs.TypedView.{expression as seen};
 ghost use Rattle.typed_tree.specs.AffineForm.{is_affine, is_linear};
+ghost use Rattle.typed_tree.specs.Scope.{is_constant_column};
 
 use crate::texts::{put, put_no_memory};
 use boogie_tree::{Column, Op, Span, Text, Ty, VarInfo};
@@ -225,7 +226,7 @@ pub(crate) fn show_type(rt: &HostRuntime, place: &str, postfix: &str) {
 }
 
 pub(crate) fn literal(n: i128) -> TExpr
-    ensures { (is_affine (seen result) ≡ true) × (is_linear false (seen result) ≡ true) }
+    ensures { (is_affine (seen result) ≡ true) × (is_linear (is_constant_column []) false (seen result) ≡ true) }
 {
     TExpr {
         span: HERE,
@@ -235,7 +236,7 @@ pub(crate) fn literal(n: i128) -> TExpr
 
 /// The literal times the column.
 fn product(alloc: Global, n: i128, column: Column) -> Result<TExpr, AllocError>
-    ensures { IfOk result (λ e. (is_affine (seen e) ≡ true) × (is_linear false (seen e) ≡ true)) }
+    ensures { IfOk result (λ e. (is_affine (seen e) ≡ true) × (is_linear (is_constant_column []) false (seen e) ≡ true)) }
 {
     let factor = TExpr {
         span: HERE,
@@ -251,7 +252,7 @@ fn product(alloc: Global, n: i128, column: Column) -> Result<TExpr, AllocError>
 
 /// A literal, or one times a column, as `2*x`.
 fn term(alloc: Global, word: &str) -> Result<TExpr, AllocError>
-    ensures { IfOk result (λ e. (is_affine (seen e) ≡ true) × (is_linear false (seen e) ≡ true)) }
+    ensures { IfOk result (λ e. (is_affine (seen e) ≡ true) × (is_linear (is_constant_column []) false (seen e) ≡ true)) }
 {
     match word.split_once('*') {
         Some((n, letter)) => product(
@@ -264,15 +265,15 @@ fn term(alloc: Global, word: &str) -> Result<TExpr, AllocError>
 }
 
 fn difference(alloc: Global, a: TExpr, b: TExpr) -> Result<TExpr, AllocError>
-    requires { (is_affine (seen a) ≡ true) × (is_linear false (seen a) ≡ true) × (is_affine (seen b) ≡ true) × (is_linear false (seen b) ≡ true) }
-    ensures { IfOk result (λ e. (is_affine (seen e) ≡ true) × (is_linear false (seen e) ≡ true)) }
+    requires { (is_affine (seen a) ≡ true) × (is_linear (is_constant_column []) false (seen a) ≡ true) × (is_affine (seen b) ≡ true) × (is_linear (is_constant_column []) false (seen b) ≡ true) }
+    ensures { IfOk result (λ e. (is_affine (seen e) ≡ true) × (is_linear (is_constant_column []) false (seen e) ≡ true)) }
 {
     let kind = TExprKind::Bin(Op::Sub, Box::new(alloc, a)?, Box::new(alloc, b)?);
     Ok(TExpr { span: HERE, kind })
 }
 
 fn difference_of(alloc: Global, terms: &str) -> Result<TExpr, AllocError>
-    ensures { IfOk result (λ e. (is_affine (seen e) ≡ true) × (is_linear false (seen e) ≡ true)) }
+    ensures { IfOk result (λ e. (is_affine (seen e) ≡ true) × (is_linear (is_constant_column []) false (seen e) ≡ true)) }
 {
     let (first, second) = terms.split_once(" - ").unwrap_or((terms, "0"));
     let first = term(alloc, first)?;
@@ -302,7 +303,7 @@ fn show_fault(rt: &HostRuntime, fault: &AffineFault) {
 }
 
 fn show_form_of(rt: &HostRuntime, expr: &TExpr)
-    requires { (is_affine (seen expr.now) ≡ true) × (is_linear false (seen expr.now) ≡ true) }
+    requires { (is_affine (seen expr.now) ≡ true) × (is_linear (is_constant_column []) false (seen expr.now) ≡ true) }
 {
     match affine(rt.alloc(), expr) {
         Ok(form) => show_affine(rt, &form),

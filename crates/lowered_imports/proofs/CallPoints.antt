@@ -3,6 +3,7 @@
 use Rattle.std.proofs.Common.{◌≡◌, inl, inr, ℕ, zero, suc, ◌+◌, ◌<◌, ◌≤◌, true, false, ℤ, List, [], ◌∷◌, ◌++◌, map, length, take, drop, Option, None, Some, slice_get, refl, sym, ap, subst, ◌∙◌, arith}
 use Rattle.std.specs.List.{AllByRecursion}
 use Rattle.std.proofs.lemmas.List.{length-append, length-map}
+use Rattle.std.proofs.lemmas.Bool.{false≢true}
 use Rattle.std.proofs.lemmas.Option.{slice_get_within}
 use Rattle.boogie_tree.specs.declared.tree.Ty.{Ty}
 use Rattle.boogie_tree.specs.declared.tree.Column.{Column}
@@ -17,7 +18,7 @@ use Rattle.letter_acts.specs.Frames.{Columns, IsValue, IsState, globals_from, ol
 use Rattle.letter_acts.specs.Values.{picked, put_all}
 use Rattle.letter_acts.proofs.PointLemmas.{point_of-left, state_length, length-put_all, put_all_other, picked_put}
 use Rattle.cond_jumps.specs.Environments.{Environment}
-use Rattle.cond_jumps.specs.Frames.{frame_environment}
+use Rattle.cond_jumps.specs.Frames.{place_from, is_constant_place, fixed_in, frame_environment}
 use Rattle.cond_jumps.specs.Meaning.{Agrees}
 use Rattle.cond_jumps.specs.Passing.{imported_state}
 use Rattle.cond_jumps.specs.Worth.{Shows}
@@ -33,7 +34,7 @@ use Rattle.lowered_steps.specs.ProgramFrames.{frame_at, variable_values, shown, 
 use Rattle.lowered_steps.specs.Edges.{found_from, those_in, import_written, left_at, found_or_0, results_at, numbers_in, import_environment}
 use Rattle.lowered_steps.specs.Moves.{HasTypes, FrameKeeps, IsTarget, AreTargets, results_of_procedure}
 use Rattle.lowered_steps.proofs.FrameColumns.{types_length, shown_state, shown_is_shown}
-use Rattle.lowered_steps.proofs.Places.{before_locals, local_place, put_is_set, IsThere}
+use Rattle.lowered_steps.proofs.Places.{before_locals, global_place, local_place, put_is_set, IsThere}
 use Rattle.lowered_imports.specs.Imports.{IsModified, IsEnsured, IsKnownImport, AreGlobalValues, keeping}
 use Rattle.lowered_imports.proofs.ValidParts.{all_get}
 use Rattle.lowered_imports.proofs.KnownActions.{linear_arguments}
@@ -43,6 +44,11 @@ use Rattle.lowered_imports.proofs.ImportShown.{FoundIs, found_is, IsNear, near_o
 use Rattle.lowered_imports.proofs.ImportStates.{changed, changed_keeps, changed_shown, global_values_length, put_kept, drop_kept}
 
 -- ---- lists
+
+all_of_member : {X : Type 0} (P : X → Type 0) (xs : List X) (x : X) → AllByRecursion P xs → Member xs x → P x
+all_of_member P [] x h m = absurd m
+all_of_member P (y ∷ ys) x h (inl e) = subst P e h.0
+all_of_member P (y ∷ ys) x h (inr m) = all_of_member P ys x h.1 m
 
 pub member_point : (zs : List ℤ) (n : ℕ) → member zs n ≡ point_of zs n
 member_point [] n = refl
@@ -263,6 +269,13 @@ module _ (t : TypedProgram) (c : Config) (f : ℕ) (args : List TypedExpression)
     outside g apart =
         member_point c.globals g ∙ sym (put_all_other c.globals modified held g apart) ∙ ap (λ (zs : List ℤ). point_of zs g) (sym (all_put_is c.globals modified held)) ∙ sym (member_point globals_behind g)
 
+    -- a constant is not modified
+    constants_left : (g : ℕ) → fixed_in call_frame (columns.Global g) ≡ true → member c.globals g ≡ member globals_behind g
+    constants_left g e = outside g (λ m. varying (all_of_member (IsModified t) modified g k.modified m) e)
+      where
+        varying : IsModified t g → is_constant_place (place_from 0 call_frame (columns.Global g)) ≡ true → ⊥
+        varying m h = false≢true (sym m.varies ∙ sym (ap is_constant_place (global_place t c.top.proc g m.info m.is)) ∙ h)
+
     pub global_after : (j g : ℕ) (v : VarInfo) → slice_get modified j ≡ Some g → (Member both g → ⊥) → slice_get t.globals g ≡ Some v → point_of after g ≡ member globals_behind g
     global_after j g v e apart h =
         put_all_other middle targets results g (λ m. apart (both_member targets modified g m (member_of_slice modified j g e))) ∙ global_in_middle g v h
@@ -297,7 +310,7 @@ module _ (t : TypedProgram) (c : Config) (f : ℕ) (args : List TypedExpression)
       results_there =
           results_stand whole base p after written targets (results_of_procedure k.procedure) results (omega arith) at_written (λ x i. target_written modified targets x i) results_typed results_read
 
-      arguments_linear : AllByRecursion (λ e. is_linear false e ≡ true) args
+      arguments_linear : AllByRecursion (λ e. is_linear (fixed_in call_frame) false e ≡ true) args
       arguments_linear = linear_arguments t c.top.proc (take k.procedure.params k.procedure.locals) args k.arguments
 
       -- with the values of the modified globals that are targets in the helpers
@@ -309,7 +322,7 @@ module _ (t : TypedProgram) (c : Config) (f : ℕ) (args : List TypedExpression)
           (left_by t.globals base helpers_from g modified both (λ x ty. (x < whole) × (p x ≡ member globals_behind g) × IsValue ty (member globals_behind g)) (member c.globals g ≡ member globals_behind g) (outside g)
           (λ j e. let m = modified_at j g e in (m.info, m.is))
           (λ j v e apart h. let r = in_written j g e in (r.0, r.1 ∙ global_after j g v e apart h, typed_behind g v h))
-          (λ i v first e h. let inside : i < length both = slice_get_within both i g e in (omega arith, helper i g e ∙ global_in_middle g v h, typed_behind g v h)))) results_there
+          (λ i v first e h. let inside : i < length both = slice_get_within both i g e in (omega arith, helper i g e ∙ global_in_middle g v h, typed_behind g v h)))) results_there constants_left
 
       -- with numbers near them in the helpers
       pub call_follows : ((i g : ℕ) (v : VarInfo) → found_from 0 both g ≡ Some i → slice_get both i ≡ Some g → slice_get t.globals g ≡ Some v → IsNear v.ty (p (helpers_from + i)) (member globals_behind g)) →
@@ -321,7 +334,7 @@ module _ (t : TypedProgram) (c : Config) (f : ℕ) (args : List TypedExpression)
           (left_by t.globals base helpers_from g modified both (λ x ty. (x < whole) × IsNear ty (p x) (member globals_behind g)) (member c.globals g ≡ member globals_behind g) (outside g)
           (λ j e. let m = modified_at j g e in (m.info, m.is))
           (λ j v e apart h. let r = in_written j g e in (r.0, near_of v.ty (p (base + j)) (member globals_behind g) (r.1 ∙ global_after j g v e apart h) (typed_behind g v h)))
-          (λ i v first e h. let inside : i < length both = slice_get_within both i g e in (omega arith, helper i g v first e h)))) results_there
+          (λ i v first e h. let inside : i < length both = slice_get_within both i g e in (omega arith, helper i g v first e h)))) results_there constants_left
 
     -- the state of the run in which each ensures is read
     pub granted_is : granted_state t (keeping c (held ++ results)) f args ≡ ensured_state

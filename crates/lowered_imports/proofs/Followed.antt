@@ -12,7 +12,7 @@ use Rattle.typed_tree.specs.TypedTree.{TypedExpression, Lit, Truth, Var, Old, No
 use Rattle.typed_tree.specs.Typing.{same_type, only, operation_type}
 use Rattle.typed_tree.specs.Values.{State, column_value, value, truth, is_zero, same, operation_value}
 use Rattle.typed_tree.specs.AffineForm.{read_at, divisor_of, is_linear}
-use Rattle.typed_tree.specs.Laws.{state_of}
+use Rattle.typed_tree.specs.Laws.{state_of, FixedStay}
 use Rattle.cond_jumps.specs.Conjunctions.{Conjunction, Jumps, Plan, Then, With, joined, each_with, listed}
 use Rattle.cond_jumps.specs.Forms.{Linears, negated}
 use Rattle.cond_jumps.specs.Comparisons.{literal, alike, operation}
@@ -186,12 +186,13 @@ operation_followed w p op types.Int kind a b xs ys u v e k h i f g =
 
 -- what stands for the columns has their values, but that the plans of truth values may meet nothing
 pub record Follows (w : ℕ) (p : ℕ → ℤ) (v : Environment) (s : State) : Type 0 where
+  pub constants : FixedStay v.fixed s
   pub sums : (c : Column) → v.type c ≡ Some types.Int → IsSum w p (v.sum c) (column_value s c)
   pub choices : (c : Column) → v.type c ≡ Some types.Bool → IsFollowed w p (v.plan c) (column_value s c)
 
 -- the same with literals for truth values
 abbrev with_literals : Environment → State → Environment
-with_literals v s = record { type = v.type; sum = v.sum; plan = λ c. literal (not (is_zero (column_value s c))) }
+with_literals v s = record { type = v.type; fixed = v.fixed; sum = v.sum; plan = λ c. literal (not (is_zero (column_value s c))) }
 
 truth_again : (b : Bool) → truth b ≡ truth (not (is_zero (truth b)))
 truth_again true = refl
@@ -199,6 +200,7 @@ truth_again false = refl
 
 literals_show : (w : ℕ) (p : ℕ → ℤ) (v : Environment) (s : State) → Follows w p v s → Shows w p (with_literals v s) s
 literals_show w p v s h = record {
+  constants = h.constants;
   sums = h.sums;
   choices = λ c t.
       let f : IsFollowed w p (v.plan c) (column_value s c) = h.choices c t in
@@ -224,7 +226,7 @@ type_same v s old (Not at e) = ap (option_and_then (only types.Bool)) (type_same
 type_same v s old (Neg at e) = ap (option_and_then (only types.Int)) (type_same v s old e)
 type_same v s old (Bin at op a b) = λ i. option_and_then (λ t. option_and_then (operation_type op t) (type_same v s old b i)) (type_same v s old a i)
 
-linear_followed : (w : ℕ) (p : ℕ → ℤ) (v : Environment) (s : State) → Follows w p v s → (old : Bool) (e : TypedExpression) → type_in v old e ≡ Some types.Int → is_linear old e ≡ true →
+linear_followed : (w : ℕ) (p : ℕ → ℤ) (v : Environment) (s : State) → Follows w p v s → (old : Bool) (e : TypedExpression) → type_in v old e ≡ Some types.Int → is_linear v.fixed old e ≡ true →
     IsSum w p (linear v old e) (value (state_of old s) e)
 linear_followed w p v s h old e t l =
     subst (λ (x : Linears). IsSum w p x (value (state_of old s) e)) (linear_same v s old e)
@@ -241,7 +243,7 @@ not_refused w p a true h = h
 not_refused w p a false h = h
 
 pub paths_followed : (w : ℕ) (p : ℕ → ℤ) (v : Environment) (s : State) → Follows w p v s → (old : Bool) (e : TypedExpression) →
-    type_in v old e ≡ Some types.Bool → is_linear old e ≡ true → IsFollowed w p (paths v old e) (value (state_of old s) e)
+    type_in v old e ≡ Some types.Bool → is_linear v.fixed old e ≡ true → IsFollowed w p (paths v old e) (value (state_of old s) e)
 paths_followed w p v s h old (Lit at n) t l = absurd (not_both (let f : types.Int ≡ types.Bool = cc in f))
 paths_followed w p v s h old (Truth at b) t l = followed_of_test w p (literal b) (truth b) (record { truth_value = b; is = refl; test = literal_test w p b })
 paths_followed w p v s h old (Var at c) t l =
@@ -259,7 +261,7 @@ paths_followed w p v s h old (Not at e) t l =
 paths_followed w p v s h old (Neg at e) t l = absurd (not_both (sym (only_is types.Int (type_in v old e) types.Bool t).1))
 paths_followed w p v s h old (Bin at op a b) t l =
     let o : AreTyped v old op a b types.Bool = operands v old op a b types.Bool t in
-    let d = linear_parts old op a b l in
+    let d = linear_parts v.fixed old op a b l in
     let one : o.second ≡ o.first = one_type op o.first o.second types.Bool o.operation_is in
     let e : operation_type op o.first o.first ≡ Some types.Bool =
     (let P : Ty → Type 0 = λ z. operation_type op o.first z ≡ Some types.Bool in subst P one o.operation_is) in
@@ -276,7 +278,7 @@ paths_followed w p v s h old (Bin at op a b) t l =
 -- a condition that is typed
 pub record IsTypedIn (v : Environment) (i : TypedInvariant) : Type 0 where
   pub typed : type_in v false i.cond ≡ Some types.Bool
-  pub linear : is_linear false i.cond ≡ true
+  pub linear : is_linear v.fixed false i.cond ≡ true
 
 abbrev pub AreTrue : State → List TypedInvariant → Type 0
 AreTrue s is = AllByRecursion (λ i. value s i.cond ≡ pos 1) is

@@ -10,7 +10,7 @@ use Rattle.boogie_tree.specs.declared.tree.Column.{Column}
 use Rattle.boogie_tree.specs.declared.tree.Column.TheVariants as columns
 use Rattle.boogie_tree.specs.declared.tree.VarInfo.{VarInfo}
 use Rattle.typed_tree.specs.TypedTree.{TypedExpression}
-use Rattle.typed_tree.specs.Values.{State, column_value, member, value, truth}
+use Rattle.typed_tree.specs.Values.{State, column_value, at_entry, member, value, truth}
 use Rattle.typed_tree.specs.AffineForm.{is_linear}
 use Rattle.typed_tree.specs.Laws.{IsTruth}
 use Rattle.nwa_base.specs.Members.{Member}
@@ -92,7 +92,7 @@ abbrev pub IsStandingNear : ℕ → (ℕ → ℤ) → Environment → State → 
 IsStandingNear m p v s None z = Unit {0}
 IsStandingNear m p v s (Some (Same c)) z = column_value s c ≡ z
 IsStandingNear m p v s (Some (Numbered c t)) z = (c < m) × IsNear t (p c) z
-IsStandingNear m p v s (Some (Passed e)) z = (is_linear false e ≡ true) × (value s e ≡ z)
+IsStandingNear m p v s (Some (Passed e)) z = (is_linear v.fixed false e ≡ true) × (value s e ≡ z)
 
 near_whole : (t : Ty) (a z : ℤ) → t ≡ types.Int → IsNear t a z → a ≡ z
 near_whole types.Int a z e h = h
@@ -164,7 +164,7 @@ global_near m p v s globals n None h = h
 global_near m p v s globals n (Some x) h = h
 
 local_near : (m : ℕ) (p : ℕ → ℤ) (v : Environment) (s : State) (args : List TypedExpression) (results : List (ℕ × Ty)) (zs : List ℤ) →
-    AllByRecursion (λ e. is_linear false e ≡ true) args → AreResults m p results zs → (n : ℕ) →
+    AllByRecursion (λ e. is_linear v.fixed false e ≡ true) args → AreResults m p results zs → (n : ℕ) →
     IsStandingNear m p v s (slice_get (locals_of args results) n) (member (map (value s) args ++ zs) n)
 local_near m p v s (e ∷ es) results zs h k zero = (h.0, refl)
 local_near m p v s (e ∷ es) results zs h k (suc n) = local_near m p v s es results zs h.1 k n
@@ -175,13 +175,20 @@ local_near m p v s [] (r ∷ rs) (z ∷ zs) h k (suc n) = local_near m p v s [] 
 
 -- An ensures of a called procedure without body may be read at the caller, where helpers are near.
 pub import_follows : (w m : ℕ) (p : ℕ → ℤ) (v : Environment) (s : State) → Shows w p v s → w ≤ m → (written : ℕ → Option (ℕ × Ty)) (args : List TypedExpression)
-    (results : List (ℕ × Ty)) (globals zs : List ℤ) → AllByRecursion (λ e. is_linear false e ≡ true) args → ((n : ℕ) → IsLeftNear m p s globals n (written n)) →
-    AreResults m p results zs → Follows m p (standing_environment v (imported written args results)) (imported_state s globals args zs)
-import_follows w m p v s h l written args results globals zs k g r = record {
+    (results : List (ℕ × Ty)) (globals zs : List ℤ) → AllByRecursion (λ e. is_linear v.fixed false e ≡ true) args → ((n : ℕ) → IsLeftNear m p s globals n (written n)) →
+    AreResults m p results zs → ((n : ℕ) → v.fixed (columns.Global n) ≡ true → member s.globals n ≡ member globals n) →
+    Follows m p (standing_environment v (imported written args results)) (imported_state s globals args zs)
+import_follows w m p v s h l written args results globals zs k g r f = record {
+  constants = λ c e. stay c e;
   sums = λ c t. standing_sum_near w m p v s h l (imported written args results c) (column_value (imported_state s globals args zs) c) (stands c) t;
   choices = λ c t. standing_choice_near w m p v s h l (imported written args results c) (column_value (imported_state s globals args zs) c) (stands c) t;
 }
   where
+    stay : (c : Column) → v.fixed c ≡ true → column_value (at_entry (imported_state s globals args zs)) c ≡ column_value (imported_state s globals args zs) c
+    stay (columns.Global n) e = f n e
+    stay (columns.Old n) e = refl
+    stay (columns.Local n) e = refl
+
     stands : (c : Column) → IsStandingNear m p v s (imported written args results c) (column_value (imported_state s globals args zs) c)
     stands (columns.Global n) = global_near m p v s globals n (written n) (g n)
     stands (columns.Old n) = refl

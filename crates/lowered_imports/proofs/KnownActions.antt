@@ -19,7 +19,7 @@ use Rattle.typing_rules.specs.Shape.{is_simple, is_argument, are_arguments, para
 use Rattle.typing_rules.specs.ValidProgram.{is_valid}
 use Rattle.letter_acts.specs.Invariant.{AreDistinct}
 use Rattle.cond_jumps.specs.Lists.{IsCondition}
-use Rattle.cond_jumps.specs.Frames.{frame_environment}
+use Rattle.cond_jumps.specs.Frames.{fixed_in, frame_environment}
 use Rattle.cond_jumps.specs.Passing.{passed, standing_environment}
 use Rattle.boogie_points.specs.Points.{Todo, Stage, Start, Entry, Body, Exit, Point, settled, past}
 use Rattle.boogie_points.specs.Actions as actions
@@ -31,7 +31,7 @@ use Rattle.lowered_steps.specs.ProgramFrames.{frame_at}
 use Rattle.lowered_steps.specs.Edges.{numbers_in, import_environment}
 use Rattle.lowered_steps.specs.Moves.{IsTarget, AreAssigned, IsPassed, IsSimple, AreArguments, AreTargets, IsTypedAction, IsKnownCall, results_of_procedure}
 use Rattle.lowered_imports.specs.Imports.{IsEnsured, later, IsKnownImport}
-use Rattle.lowered_imports.proofs.SeenTypes.{IsScope, same_types, right_typed, right_linear, unhidden, frame_sees, passed_sees, import_sees}
+use Rattle.lowered_imports.proofs.SeenTypes.{IsScope, same_types, same_constants, right_typed, right_linear, unhidden, frame_sees, passed_sees, import_sees}
 use Rattle.lowered_imports.proofs.ValidParts.{all_at, all_get, meets_some, not_of, distinct_of, column_itself, plain_right, free_right, ensured_right, IsRequired, IsEnsuring, axioms_right, specifications_right, enough_locals, has_parameters, modified_right}
 use Rattle.lowered_imports.proofs.RightPoints.{IsRight, PartRight, FirstRight, StageRight, PointRight}
 
@@ -93,7 +93,7 @@ if_boolean : (ty : Ty) (e : TypedExpression) → is_argument ty e ≡ true → t
 if_boolean types.Int e h b = absurd (cc)
 if_boolean types.Bool e h b = simple_of e h
 
-pub linear_arguments : (t : TypedProgram) (n : ℕ) (vs : List VarInfo) (es : List TypedExpression) → AreArguments (frame_at t n) vs es → AllByRecursion (λ e. is_linear false e ≡ true) es
+pub linear_arguments : (t : TypedProgram) (n : ℕ) (vs : List VarInfo) (es : List TypedExpression) → AreArguments (frame_at t n) vs es → AllByRecursion (λ e. is_linear (fixed_in (frame_at t n)) false e ≡ true) es
 linear_arguments t n [] [] h = tt
 linear_arguments t n [] (e ∷ es) h = absurd h
 linear_arguments t n (v ∷ vs) [] h = absurd h
@@ -131,7 +131,7 @@ module _ (t : TypedProgram) (valid : IsTrue (is_valid t)) (n : ℕ) (q : TypedPr
   condition_in : (s : Scope) (e : TypedExpression) → IsScope t (locals_at t n) s → is_condition s e ≡ true → IsCondition (frame_at t n) e
   condition_in s e i h = record {
     typed = right_typed s (frame_environment (frame_at t n)) types.Bool e (frame_sees t n s i) h;
-    linear = right_linear s types.Bool e h;
+    linear = right_linear s (frame_at t n) types.Bool e (same_constants t n (locals_at t n) s i) h;
   }
 
   -- ---- statements of the body
@@ -180,7 +180,7 @@ module _ (t : TypedProgram) (valid : IsTrue (is_valid t)) (n : ℕ) (q : TypedPr
             type = v.0.ty;
             target = target_as c v.0 to.0 to.1 v.1;
             typed = right_typed k.scope (frame_environment (frame_at t n)) v.0.ty e (frame_sees t n k.scope scope_is) v.2;
-            linear = right_linear k.scope v.0.ty e v.2;
+            linear = right_linear k.scope (frame_at t n) v.0.ty e (same_constants t n (locals_at t n) k.scope scope_is) v.2;
           },
           assigned cs es writable.1 parts.1,
         )
@@ -194,7 +194,7 @@ module _ (t : TypedProgram) (valid : IsTrue (is_valid t)) (n : ℕ) (q : TypedPr
         let simple = and_parts (is_argument v.ty e) (are_arguments vs es) a in (
           record {
             typed = right_typed k.scope (frame_environment (frame_at t n)) v.ty e (frame_sees t n k.scope scope_is) parts.0;
-            linear = right_linear k.scope v.ty e parts.0;
+            linear = right_linear k.scope (frame_at t n) v.ty e (same_constants t n (locals_at t n) k.scope scope_is) parts.0;
             simple = if_boolean v.ty e simple.0;
           },
           arguments vs es parts.1 simple.1,
@@ -249,7 +249,7 @@ module _ (t : TypedProgram) (valid : IsTrue (is_valid t)) (n : ℕ) (q : TypedPr
         record {
           typed = right_typed s (import_environment (frame_at t n) t.globals p es (numbers_in (frame_at t n) cs)) types.Bool i.cond
               (import_sees t n s p es cs (record { globals = refl; locals = λ l x g. g }) a b) h.0;
-          linear = right_linear s types.Bool i.cond h.0;
+          linear = right_linear s (frame_at t n) types.Bool i.cond (same_constants t n (take (p.params + p.results) p.locals) s (record { globals = refl; locals = λ l x g. g })) h.0;
         },
         ensured_all p cs es a b is h.1,
       )
@@ -275,7 +275,7 @@ module _ (t : TypedProgram) (valid : IsTrue (is_valid t)) (n : ℕ) (q : TypedPr
           record {
             typed = right_typed s (standing_environment (frame_environment (frame_at t n)) (passed es)) types.Bool i.cond
                 (passed_sees t n s (params_of p) es (record { globals = refl; locals = λ j x g. g }) args) h;
-            linear = right_linear s types.Bool i.cond h;
+            linear = right_linear s (frame_at t n) types.Bool i.cond (same_constants t n (params_of p) s (record { globals = refl; locals = λ j x g. g })) h;
             arguments = linear_arguments t n (take p.params p.locals) es args;
           }
 

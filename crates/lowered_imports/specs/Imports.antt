@@ -11,6 +11,7 @@ use Rattle.lin_rows.specs.Points.{point_of}
 use Rattle.letter_acts.specs.Frames.{Columns, IsValue}
 use Rattle.letter_acts.specs.Invariant.{AreDistinct}
 use Rattle.cond_jumps.specs.Environments.{type_in}
+use Rattle.cond_jumps.specs.Frames.{fixed_in}
 use Rattle.boogie_points.specs.Points.{Point, settled, past_first}
 use Rattle.boogie_points.specs.Actions.{plain_conditions, ensured_conditions, called_action, action_at}
 use Rattle.boogie_points.specs.Starts.{targets_at}
@@ -31,7 +32,7 @@ pub record IsModified (t : TypedProgram) (g : ℕ) : Type 0 where
 -- An ensures of procedure q, called with these arguments and targets from a frame: typed where what stands for the columns is that of the call.
 pub record IsEnsured (frame : Columns) (globals : List VarInfo) (q : TypedProcedure) (args : List TypedExpression) (targets : List ℕ) (e : TypedExpression) : Type 0 where
   pub typed : type_in (import_environment frame globals q args targets) false e ≡ Some types.Bool
-  pub linear : is_linear false e ≡ true
+  pub linear : is_linear (fixed_in frame) false e ≡ true
 
 -- the point with so many further parts done
 abbrev pub later : Point → ℕ → Point

@@ -18,7 +18,7 @@ use Rattle.cond_jumps.specs.Conjunctions.{listed}
 use Rattle.cond_jumps.specs.Forms.{Linears, column, number, minus}
 use Rattle.cond_jumps.specs.Comparisons.{compared, equal}
 use Rattle.cond_jumps.specs.Environments.{Environment, type_in}
-use Rattle.cond_jumps.specs.Frames.{place, sum_at, frame_environment, IsShown}
+use Rattle.cond_jumps.specs.Frames.{fixed_in, place, sum_at, frame_environment, IsShown}
 use Rattle.cond_jumps.specs.Meaning.{Agrees, IsPath}
 use Rattle.cond_jumps.specs.Worth.{IsSum, IsChoice, Read}
 use Rattle.cond_jumps.specs.Lists.{Decide}
@@ -62,12 +62,12 @@ is_boolean (Some types.Int) ty e = absurd (cc)
 is_boolean (Some types.Bool) ty e = (refl, cc)
 
 -- an expression that is no simple one is a whole number
-whole_sum : (frame : Columns) (s : State) (values : List ℤ) (e : TypedExpression) (ty : Ty) → IsShown frame s values → type_in (frame_environment frame) false e ≡ Some ty → is_linear false e ≡ true →
+whole_sum : (frame : Columns) (s : State) (values : List ℤ) (e : TypedExpression) (ty : Ty) → IsShown frame s values → type_in (frame_environment frame) false e ≡ Some ty → is_linear (fixed_in frame) false e ≡ true →
     (ty ≡ types.Bool → ⊥) → IsSum (length frame) (point_of values) (linear (frame_environment frame) false e) (value s e)
 whole_sum frame s values e types.Int h t l k = linear_form (length frame) (point_of values) (frame_environment frame) s (frame_shows frame s values h) false e t l
 whole_sum frame s values e types.Bool h t l k = absurd (k refl)
 
-pub sum_of_argument : (frame : Columns) (s : State) (values : List ℤ) (e : TypedExpression) (ty : Ty) → IsShown frame s values → type_in (frame_environment frame) false e ≡ Some ty → is_linear false e ≡ true →
+pub sum_of_argument : (frame : Columns) (s : State) (values : List ℤ) (e : TypedExpression) (ty : Ty) → IsShown frame s values → type_in (frame_environment frame) false e ≡ Some ty → is_linear (fixed_in frame) false e ≡ true →
     (ty ≡ types.Bool → IsSimple e) → IsSum (length frame) (point_of values) (argument_sum (frame_environment frame) e) (value s e)
 sum_of_argument frame s values (Lit at n) ty h t l k = number_sum (length frame) (point_of values) n
 sum_of_argument frame s values (Truth at b) ty h t l k = number_sum (length frame) (point_of values) (truth b)

@@ -1,5 +1,5 @@
 -- Where the columns of a program stand in its frames, and what writing them does to the state of a frame that is shown.
-use Rattle.std.proofs.Common.{◌≡◌, ℕ, zero, suc, ◌+◌, ◌<◌, Bool, true, false, not, nat_eq, ℤ, List, [], ◌∷◌, ◌++◌, length, Some, refl, ap, ◌∙◌, arith, eq-eqb}
+use Rattle.std.proofs.Common.{◌≡◌, ℕ, zero, suc, ◌+◌, ◌<◌, Bool, true, false, not, nat_eq, ℤ, List, [], ◌∷◌, ◌++◌, length, None, Some, refl, ap, ◌∙◌, arith, eq-eqb}
 use Rattle.std.specs.Prelude.{slice_get, slice_set}
 use Rattle.std.proofs.lemmas.Bool.Decides.{nat_tests}
 use Rattle.boogie_tree.specs.declared.tree.Column.{Column}
@@ -79,6 +79,37 @@ pub global_place : (t : TypedProgram) (p n : ℕ) (v : VarInfo) → slice_get t.
 global_place t p n v e =
     let z : 0 + n ≡ n = omega arith in
     rw z at (place_of_global 0 0 t.globals (old_columns 0 t.globals ++ locals_from 0 (locals_at t p)) n v e)
+
+-- a frame has no global beside those of the program
+past_globals : (k j : ℕ) (vs : List VarInfo) (rest : Columns) (n : ℕ) → slice_get vs n ≡ None →
+    place_from k (globals_from j vs ++ rest) (columns.Global (j + n)) ≡ place_from (k + length vs) rest (columns.Global (j + n))
+past_globals k j [] rest n e = let a : k + 0 ≡ k = omega arith in rw a refl
+past_globals k j (w ∷ ws) rest zero e = absurd (cc)
+past_globals k j (w ∷ ws) rest (suc n) e =
+    let a : j + suc n ≡ suc j + n = omega arith in
+    let b : k + suc (length ws) ≡ suc k + length ws = omega arith in
+    let c : nat_eq j (suc j + n) ≡ false = other_number j (suc j + n) (omega arith) in
+    rw (a, b) (found_later k (columns.Global j, w) (globals_from (suc j) ws ++ rest) (columns.Global (suc j + n)) c ∙ past_globals (suc k) (suc j) ws rest n e)
+
+none_among_locals : (k j : ℕ) (vs : List VarInfo) (n : ℕ) → place_from k (locals_from j vs) (columns.Global n) ≡ None
+none_among_locals k j [] n = refl
+none_among_locals k j (v ∷ vs) n = none_among_locals (suc k) (suc j) vs n
+
+none_among_olds : (k j : ℕ) (vs : List VarInfo) (rest : Columns) (n : ℕ) → ((i : ℕ) → place_from i rest (columns.Global n) ≡ None) →
+    place_from k (old_columns j vs ++ rest) (columns.Global n) ≡ None
+none_among_olds k j [] rest n h = h k
+none_among_olds k j (v ∷ vs) rest n h = none_added (not v.constant) k (old_columns (suc j) vs) (λ i. none_among_olds i (suc j) vs rest n h)
+  where
+    none_added : (b : Bool) (k : ℕ) (cs : Columns) → ((i : ℕ) → place_from i (cs ++ rest) (columns.Global n) ≡ None) →
+        place_from k (added b (columns.Old j, v) cs ++ rest) (columns.Global n) ≡ None
+    none_added true k cs g = g (suc k)
+    none_added false k cs g = g k
+
+pub no_global_place : (t : TypedProgram) (p n : ℕ) → slice_get t.globals n ≡ None → place_from 0 (frame_at t p) (columns.Global n) ≡ None
+no_global_place t p n e =
+    let z : 0 + n ≡ n = omega arith in
+    rw z at (past_globals 0 0 t.globals (old_columns 0 t.globals ++ locals_from 0 (locals_at t p)) n e)
+    ∙ none_among_olds (0 + length t.globals) 0 t.globals (locals_from 0 (locals_at t p)) n (λ i. none_among_locals i 0 (locals_at t p) n)
 
 -- how many columns stand before the locals
 abbrev pub before_locals : TypedProgram → ℕ

@@ -17,7 +17,7 @@ use Rattle.letter_acts.specs.Meaning.{InsideLeads}
 use Rattle.cond_jumps.specs.Environments.{type_in}
 use Rattle.typed_tree.specs.AffineForm.{is_linear}
 use Rattle.cond_jumps.specs.Conjunctions.{Conjunction}
-use Rattle.cond_jumps.specs.Frames.{frame_environment}
+use Rattle.cond_jumps.specs.Frames.{fixed_in, frame_environment}
 use Rattle.cond_jumps.specs.Lists.{assign_list, Decide, AreValues}
 use Rattle.cond_jumps.proofs.ListLemmas as lists
 use Rattle.boogie_points.specs.Points.{Point}
@@ -108,7 +108,7 @@ taken_length t n (c ∷ cs) (z ∷ zs) h = ap suc (taken_length t n cs zs h.1)
 pub is_long : (t : TypedProgram) (n : ℕ) (s : State) → FrameKeeps t n s → IsLong t s
 is_long t n s k = record { globals = types_length t.globals s.globals k.globals; old = types_length t.globals s.old k.old }
 
-pub value_of_type : (t : TypedProgram) (n : ℕ) (s : State) (e : TypedExpression) (ty : Ty) → FrameKeeps t n s → type_in (frame_environment (frame_at t n)) false e ≡ Some ty → is_linear false e ≡ true → IsValue ty (value s e)
+pub value_of_type : (t : TypedProgram) (n : ℕ) (s : State) (e : TypedExpression) (ty : Ty) → FrameKeeps t n s → type_in (frame_environment (frame_at t n)) false e ≡ Some ty → is_linear (fixed_in (frame_at t n)) false e ≡ true → IsValue ty (value s e)
 value_of_type t n s e types.Int k typed linear = tt
 value_of_type t n s e types.Bool k typed linear =
     lists.conditions_are_truths (frame_at t n) s (shown t s) e (shown_is_shown t n s k) (record { typed = typed; linear = linear })

@@ -12,7 +12,7 @@ use Rattle.typed_tree.specs.AffineForm.{is_linear}
 use Rattle.letter_acts.specs.Frames.{Columns, IsValue, ConstantsFirst}
 use Rattle.boogie_places.specs.Places.{onward}
 use Rattle.cond_jumps.specs.Environments.{type_in}
-use Rattle.cond_jumps.specs.Frames.{frame_environment}
+use Rattle.cond_jumps.specs.Frames.{fixed_in, frame_environment}
 use Rattle.cond_jumps.specs.Passing.{passed, standing_environment}
 use Rattle.cond_jumps.specs.Lists.{IsCondition}
 use Rattle.boogie_points.specs.Points.{Point}
@@ -60,7 +60,7 @@ pub record IsAssigned (t : TypedProgram) (n : ℕ) (c : Column) (e : TypedExpres
   pub type : Ty
   pub target : IsTarget t n type c
   pub typed : type_in (frame_environment (frame_at t n)) false e ≡ Some type
-  pub linear : is_linear false e ≡ true
+  pub linear : is_linear (fixed_in (frame_at t n)) false e ≡ true
 
 abbrev pub AreAssigned : TypedProgram → ℕ → List Column → List TypedExpression → Type 0
 AreAssigned t n [] [] = Unit {0}
@@ -71,8 +71,8 @@ AreAssigned t n (c ∷ cs) (e ∷ es) = IsAssigned t n c e × AreAssigned t n cs
 -- a condition of a called procedure over the arguments
 pub record IsPassed (frame : Columns) (args : List TypedExpression) (e : TypedExpression) : Type 0 where
   pub typed : type_in (standing_environment (frame_environment frame) (passed args)) false e ≡ Some types.Bool
-  pub linear : is_linear false e ≡ true
-  pub arguments : AllByRecursion (λ a. is_linear false a ≡ true) args
+  pub linear : is_linear (fixed_in frame) false e ≡ true
+  pub arguments : AllByRecursion (λ a. is_linear (fixed_in frame) false a ≡ true) args
 
 -- a literal, a name, or `!` before a name
 abbrev pub IsSimple : TypedExpression → Type 0
@@ -93,7 +93,7 @@ IsSimple (Bin at op a b) = ⊥
 -- an argument of a parameter: of its type, its operators keep their rules, and a boolean one is simple
 pub record IsArgument (frame : Columns) (v : VarInfo) (e : TypedExpression) : Type 0 where
   pub typed : type_in (frame_environment frame) false e ≡ Some v.ty
-  pub linear : is_linear false e ≡ true
+  pub linear : is_linear (fixed_in frame) false e ≡ true
   pub simple : v.ty ≡ types.Bool → IsSimple e
 
 abbrev pub AreArguments : Columns → List VarInfo → List TypedExpression → Type 0

@@ -5,13 +5,14 @@ use Rattle.std.proofs.lemmas.Bool.{and_parts, cases_Bool, both_ways, true≢fals
 use Rattle.boogie_tree.specs.declared.span.Span.{Span}
 use Rattle.boogie_tree.specs.declared.tree.Op.{Op}
 use Rattle.boogie_tree.specs.declared.tree.Op.TheVariants.{Iff, Implies, And, Or, Eq, Ne, Lt, Le, Gt, Ge, Add, Sub, Mul, Div, Mod}
+use Rattle.boogie_tree.specs.declared.tree.Column.{Column}
 use Rattle.boogie_tree.specs.declared.tree.Ty.{Ty}
 use Rattle.boogie_tree.specs.declared.tree.Ty.TheVariants as types
 use Rattle.boogie_tree.specs.declared.tree.VarInfo.{VarInfo}
 use Rattle.typed_tree.specs.declared.fault.TypeFault.{TypeFault}
 use Rattle.typed_tree.specs.declared.fault.TypeFault.TheVariants as fault
 use Rattle.typed_tree.specs.TypedTree.{TypedExpression, Lit, Var, Old, Not, Neg, Bin}
-use Rattle.typed_tree.specs.Scope.{Scope, variable_at}
+use Rattle.typed_tree.specs.Scope.{Scope, variable_at, fixed}
 use Rattle.typed_tree.specs.Typing.{type_of, operation_type, only}
 use Rattle.typed_tree.specs.AffineForm.{form, is_linear, is_linear_operation, forms_fit, form_fits, fits, is_constant, is_zero, divisor_of, is_divisor}
 use Rattle.typed_tree.specs.KeptRules.{keeps_rules}
@@ -39,38 +40,38 @@ right_typed op (Some t) (Some u) e = refl
 
 -- ---- divisors
 
-division_kept : (old : Bool) (op : Op) (a b : TypedExpression) → is_division op ≡ true → is_linear_operation old op a b ≡ true → is_divisor (divisor_of b) ≡ true
-division_kept old Div a b d h = h
-division_kept old Mod a b d h = h
-division_kept old Iff a b d h = absurd (false≢true d)
-division_kept old Implies a b d h = absurd (false≢true d)
-division_kept old And a b d h = absurd (false≢true d)
-division_kept old Or a b d h = absurd (false≢true d)
-division_kept old Eq a b d h = absurd (false≢true d)
-division_kept old Ne a b d h = absurd (false≢true d)
-division_kept old Lt a b d h = absurd (false≢true d)
-division_kept old Le a b d h = absurd (false≢true d)
-division_kept old Gt a b d h = absurd (false≢true d)
-division_kept old Ge a b d h = absurd (false≢true d)
-division_kept old Add a b d h = absurd (false≢true d)
-division_kept old Sub a b d h = absurd (false≢true d)
-division_kept old Mul a b d h = absurd (false≢true d)
+division_kept : (g : Column → Bool) (old : Bool) (op : Op) (a b : TypedExpression) → is_division op ≡ true → is_linear_operation g old op a b ≡ true → is_divisor (divisor_of b) ≡ true
+division_kept g old Div a b d h = h
+division_kept g old Mod a b d h = h
+division_kept g old Iff a b d h = absurd (false≢true d)
+division_kept g old Implies a b d h = absurd (false≢true d)
+division_kept g old And a b d h = absurd (false≢true d)
+division_kept g old Or a b d h = absurd (false≢true d)
+division_kept g old Eq a b d h = absurd (false≢true d)
+division_kept g old Ne a b d h = absurd (false≢true d)
+division_kept g old Lt a b d h = absurd (false≢true d)
+division_kept g old Le a b d h = absurd (false≢true d)
+division_kept g old Gt a b d h = absurd (false≢true d)
+division_kept g old Ge a b d h = absurd (false≢true d)
+division_kept g old Add a b d h = absurd (false≢true d)
+division_kept g old Sub a b d h = absurd (false≢true d)
+division_kept g old Mul a b d h = absurd (false≢true d)
 
 -- ---- no rule is broken where all are kept
 
 none_broken : (s : Scope) (old : Bool) (e : TypedExpression) (f : TypeFault) → IsBroken s old e f →
-    is_some (type_of s e) ≡ true → is_linear old e ≡ true → forms_fit old e ≡ true → ⊥
+    is_some (type_of s e) ≡ true → is_linear (fixed s) old e ≡ true → forms_fit (fixed s) old e ≡ true → ⊥
 none_broken s _ _ _ (in_old old at e f b) t l n = none_broken s true e f b (old_typed s.old (type_of s e) t) l n
 none_broken s _ _ _ (in_not old at e f b) t l n = none_broken s old e f b (inner_typed types.Bool (type_of s e) t) l n
 none_broken s _ _ _ (in_neg old at e f b) t l n =
-    none_broken s old e f b (inner_typed types.Int (type_of s e) t) l (and_parts (forms_fit old e) (form_fits (form old (Neg at e))) n).0
+    none_broken s old e f b (inner_typed types.Int (type_of s e) t) l (and_parts (forms_fit (fixed s) old e) (form_fits (form (fixed s) old (Neg at e))) n).0
 none_broken s _ _ _ (in_left old at op a b f h) t l n =
-    none_broken s old a f h (left_typed op (type_of s a) (type_of s b) t) (and_parts (is_linear old a) (is_linear old b && is_linear_operation old op a b) l).0
-    (and_parts (forms_fit old a) (forms_fit old b && form_fits (form old (Bin at op a b))) n).0
+    none_broken s old a f h (left_typed op (type_of s a) (type_of s b) t) (and_parts (is_linear (fixed s) old a) (is_linear (fixed s) old b && is_linear_operation (fixed s) old op a b) l).0
+    (and_parts (forms_fit (fixed s) old a) (forms_fit (fixed s) old b && form_fits (form (fixed s) old (Bin at op a b))) n).0
 none_broken s _ _ _ (in_right old at op a b f h) t l n =
     none_broken s old b f h (right_typed op (type_of s a) (type_of s b) t)
-    (and_parts (is_linear old b) (is_linear_operation old op a b) (and_parts (is_linear old a) (is_linear old b && is_linear_operation old op a b) l).1).0
-    (and_parts (forms_fit old b) (form_fits (form old (Bin at op a b))) (and_parts (forms_fit old a) (forms_fit old b && form_fits (form old (Bin at op a b))) n).1).0
+    (and_parts (is_linear (fixed s) old b) (is_linear_operation (fixed s) old op a b) (and_parts (is_linear (fixed s) old a) (is_linear (fixed s) old b && is_linear_operation (fixed s) old op a b) l).1).0
+    (and_parts (forms_fit (fixed s) old b) (form_fits (form (fixed s) old (Bin at op a b))) (and_parts (forms_fit (fixed s) old a) (forms_fit (fixed s) old b && form_fits (form (fixed s) old (Bin at op a b))) n).1).0
 none_broken s _ _ _ (unseen old at c h) t l n = false≢true (ap (λ (o : Option VarInfo). is_some (option_map (λ v. v.ty) o)) (sym h) ∙ t)
 none_broken s _ _ _ (misplaced old at e h) t l n = false≢true (ap (λ (b : Bool). is_some (if b then type_of s e else None)) (sym h) ∙ t)
 none_broken s _ _ _ (no_truth old at e h) t l n = false≢true (ap (λ (o : Option Ty). is_some (option_and_then (only types.Bool) o)) (sym h) ∙ t)
@@ -79,19 +80,19 @@ none_broken s _ _ _ (ill_typed old at op a b u v h k w) t l n =
     let g : type_of s (Bin at op a b) ≡ None = rw (h, k) w in
     false≢true (sym (ap is_some g) ∙ t)
 none_broken s _ _ _ (zero_divisor old at op a b k d h z) t l n =
-    let p = division_kept old op a b d (and_parts (is_linear old b) (is_linear_operation old op a b) (and_parts (is_linear old a) (is_linear old b && is_linear_operation old op a b) l).1).1 in
+    let p = division_kept (fixed s) old op a b d (and_parts (is_linear (fixed s) old b) (is_linear_operation (fixed s) old op a b) (and_parts (is_linear (fixed s) old a) (is_linear (fixed s) old b && is_linear_operation (fixed s) old op a b) l).1).1 in
     false≢true (sym (ap is_divisor h ∙ ap not z) ∙ p)
 none_broken s _ _ _ (no_literal old at op a b d h) t l n =
-    let p = division_kept old op a b d (and_parts (is_linear old b) (is_linear_operation old op a b) (and_parts (is_linear old a) (is_linear old b && is_linear_operation old op a b) l).1).1 in
+    let p = division_kept (fixed s) old op a b d (and_parts (is_linear (fixed s) old b) (is_linear_operation (fixed s) old op a b) (and_parts (is_linear (fixed s) old a) (is_linear (fixed s) old b && is_linear_operation (fixed s) old op a b) l).1).1 in
     false≢true (sym (ap is_divisor h) ∙ p)
 none_broken s _ _ _ (no_factor old at a b h k) t l n =
-    let p = (and_parts (is_linear old b) (is_linear_operation old Mul a b) (and_parts (is_linear old a) (is_linear old b && is_linear_operation old Mul a b) l).1).1 in
-    false≢true (sym (ap (λ (x : Bool). x || is_constant (form old b)) h ∙ k) ∙ p)
+    let p = (and_parts (is_linear (fixed s) old b) (is_linear_operation (fixed s) old Mul a b) (and_parts (is_linear (fixed s) old a) (is_linear (fixed s) old b && is_linear_operation (fixed s) old Mul a b) l).1).1 in
+    false≢true (sym (ap (λ (x : Bool). x || is_constant (form (fixed s) old b)) h ∙ k) ∙ p)
 none_broken s _ _ _ (big_literal old at m h) t l n = both_ways (fits m) h n
-none_broken s _ _ _ (big_opposite old at e h) t l n = both_ways (form_fits (form old (Neg at e))) h (and_parts (forms_fit old e) (form_fits (form old (Neg at e))) n).1
+none_broken s _ _ _ (big_opposite old at e h) t l n = both_ways (form_fits (form (fixed s) old (Neg at e))) h (and_parts (forms_fit (fixed s) old e) (form_fits (form (fixed s) old (Neg at e))) n).1
 none_broken s _ _ _ (big_operation old at op a b h) t l n =
-    both_ways (form_fits (form old (Bin at op a b))) h
-    (and_parts (forms_fit old b) (form_fits (form old (Bin at op a b))) (and_parts (forms_fit old a) (forms_fit old b && form_fits (form old (Bin at op a b))) n).1).1
+    both_ways (form_fits (form (fixed s) old (Bin at op a b))) h
+    (and_parts (forms_fit (fixed s) old b) (form_fits (form (fixed s) old (Bin at op a b))) (and_parts (forms_fit (fixed s) old a) (forms_fit (fixed s) old b && form_fits (form (fixed s) old (Bin at op a b))) n).1).1
 
 pub not_kept : (s : Scope) (old : Bool) (e : TypedExpression) (f : TypeFault) → IsBroken s old e f → keeps_rules s old e ≡ false
 not_kept s old e f b = by_test (keeps_rules s old e) refl
@@ -99,8 +100,8 @@ not_kept s old e f b = by_test (keeps_rules s old e) refl
     by_test : (z : Bool) → keeps_rules s old e ≡ z → z ≡ false
     by_test false h = refl
     by_test true h =
-        let p = and_parts (is_some (type_of s e)) (is_linear old e && forms_fit old e) h in
-        let q = and_parts (is_linear old e) (forms_fit old e) p.1 in
+        let p = and_parts (is_some (type_of s e)) (is_linear (fixed s) old e && forms_fit (fixed s) old e) h in
+        let q = and_parts (is_linear (fixed s) old e) (forms_fit (fixed s) old e) p.1 in
         absurd (none_broken s old e f b p.0 q.0 q.1)
 
 pub whole_only : {T : Type 0} (s : Scope) (e : TypedExpression) (f : TypeFault) → IsPartFault s false e f → (◌≡◌ {A = Result T TypeFault} (Err f) (Err fault.Memory)) ⊎ (keeps_rules s false e ≡ false)

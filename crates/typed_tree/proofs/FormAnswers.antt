@@ -4,6 +4,7 @@ use Rattle.std.specs.List.{list_all}
 use Rattle.std.proofs.lemmas.Bool.{and_from}
 use Rattle.boogie_tree.specs.declared.span.Span.{Span}
 use Rattle.boogie_tree.specs.declared.tree.Op.{Op}
+use Rattle.boogie_tree.specs.declared.tree.Column.{Column}
 use Rattle.typed_tree.specs.declared.form.Form as code
 use Rattle.typed_tree.specs.declared.fault.AffineFault.{AffineFault}
 use Rattle.typed_tree.specs.declared.fault.AffineFault.TheVariants as affine
@@ -30,41 +31,41 @@ fits_as f a e = ap form_fits (sym e) ∙ made_fits f
 
 -- ---- faults of operands
 
-pub neg_refused : (old : Bool) (at : Span) (e : TypedExpression) (f : AffineFault) → (f ≡ affine.TooBig → forms_fit old e ≡ false) → f ≡ affine.TooBig → forms_fit old (Neg at e) ≡ false
-neg_refused old at e f h b = left_fails (forms_fit old e) (form_fits (form old (Neg at e))) (h b)
+pub neg_refused : (fixed : Column → Bool) (old : Bool) (at : Span) (e : TypedExpression) (f : AffineFault) → (f ≡ affine.TooBig → forms_fit fixed old e ≡ false) → f ≡ affine.TooBig → forms_fit fixed old (Neg at e) ≡ false
+neg_refused fixed old at e f h b = left_fails (forms_fit fixed old e) (form_fits (form fixed old (Neg at e))) (h b)
 
-pub left_refused : (old : Bool) (at : Span) (op : Op) (a b : TypedExpression) (f : AffineFault) → (f ≡ affine.TooBig → forms_fit old a ≡ false) → f ≡ affine.TooBig →
-    forms_fit old (Bin at op a b) ≡ false
-left_refused old at op a b f h t = left_fails (forms_fit old a) (forms_fit old b && form_fits (form old (Bin at op a b))) (h t)
+pub left_refused : (fixed : Column → Bool) (old : Bool) (at : Span) (op : Op) (a b : TypedExpression) (f : AffineFault) → (f ≡ affine.TooBig → forms_fit fixed old a ≡ false) → f ≡ affine.TooBig →
+    forms_fit fixed old (Bin at op a b) ≡ false
+left_refused fixed old at op a b f h t = left_fails (forms_fit fixed old a) (forms_fit fixed old b && form_fits (form fixed old (Bin at op a b))) (h t)
 
-pub right_refused : (old : Bool) (at : Span) (op : Op) (a b : TypedExpression) (f : AffineFault) → (f ≡ affine.TooBig → forms_fit old b ≡ false) → f ≡ affine.TooBig →
-    forms_fit old (Bin at op a b) ≡ false
-right_refused old at op a b f h t =
-    right_fails (forms_fit old a) (forms_fit old b && form_fits (form old (Bin at op a b)))
-    (left_fails (forms_fit old b) (form_fits (form old (Bin at op a b))) (h t))
+pub right_refused : (fixed : Column → Bool) (old : Bool) (at : Span) (op : Op) (a b : TypedExpression) (f : AffineFault) → (f ≡ affine.TooBig → forms_fit fixed old b ≡ false) → f ≡ affine.TooBig →
+    forms_fit fixed old (Bin at op a b) ≡ false
+right_refused fixed old at op a b f h t =
+    right_fails (forms_fit fixed old a) (forms_fit fixed old b && form_fits (form fixed old (Bin at op a b)))
+    (left_fails (forms_fit fixed old b) (form_fits (form fixed old (Bin at op a b))) (h t))
 
 -- ---- operations
 
-pub neg_formed : (old : Bool) (at : Span) (e : TypedExpression) (f : code.Form) (r : Result code.Form AffineFault) → IsForm old e f →
-    IfOk r (λ g. form_of g ≡ times (negsuc 0) (form_of f)) → (r ≡ Err affine.TooBig → form_fits (times (negsuc 0) (form_of f)) ≡ false) → IsFormAnswer old (Neg at e) r
-neg_formed old at e f (Ok g) h v b =
-    let seen : form_of g ≡ times (negsuc 0) (form old e) = v ∙ ap (times (negsuc 0)) h.seen in
-    record { seen = seen; fit = and_from (forms_fit old e) (form_fits (times (negsuc 0) (form old e))) h.fit (fits_as g (times (negsuc 0) (form old e)) seen) }
-neg_formed old at e f (Err x) h v b = λ t.
-    right_fails (forms_fit old e) (form_fits (times (negsuc 0) (form old e)))
+pub neg_formed : (fixed : Column → Bool) (old : Bool) (at : Span) (e : TypedExpression) (f : code.Form) (r : Result code.Form AffineFault) → IsForm fixed old e f →
+    IfOk r (λ g. form_of g ≡ times (negsuc 0) (form_of f)) → (r ≡ Err affine.TooBig → form_fits (times (negsuc 0) (form_of f)) ≡ false) → IsFormAnswer fixed old (Neg at e) r
+neg_formed fixed old at e f (Ok g) h v b =
+    let seen : form_of g ≡ times (negsuc 0) (form fixed old e) = v ∙ ap (times (negsuc 0)) h.seen in
+    record { seen = seen; fit = and_from (forms_fit fixed old e) (form_fits (times (negsuc 0) (form fixed old e))) h.fit (fits_as g (times (negsuc 0) (form fixed old e)) seen) }
+neg_formed fixed old at e f (Err x) h v b = λ t.
+    right_fails (forms_fit fixed old e) (form_fits (times (negsuc 0) (form fixed old e)))
     (ap (λ (a : Form). form_fits (times (negsuc 0) a)) (sym h.seen) ∙ b (ap Err t))
 
-pub combined_formed : (old : Bool) (at : Span) (op : Op) (a b : TypedExpression) (f g : code.Form) (r : Result code.Form AffineFault) → IsForm old a f → IsForm old b g →
+pub combined_formed : (fixed : Column → Bool) (old : Bool) (at : Span) (op : Op) (a b : TypedExpression) (f g : code.Form) (r : Result code.Form AffineFault) → IsForm fixed old a f → IsForm fixed old b g →
     IfOk r (λ s. form_of s ≡ operation op (form_of f) (form_of g)) → (r ≡ Err affine.TooBig → form_fits (operation op (form_of f) (form_of g)) ≡ false) →
-    IsFormAnswer old (Bin at op a b) r
-combined_formed old at op a b f g (Ok s) h k v t =
-    let seen : form_of s ≡ operation op (form old a) (form old b) = v ∙ (λ i. operation op (h.seen i) (k.seen i)) in
+    IsFormAnswer fixed old (Bin at op a b) r
+combined_formed fixed old at op a b f g (Ok s) h k v t =
+    let seen : form_of s ≡ operation op (form fixed old a) (form fixed old b) = v ∙ (λ i. operation op (h.seen i) (k.seen i)) in
     record {
       seen = seen;
-      fit = and_from (forms_fit old a) (forms_fit old b && form_fits (operation op (form old a) (form old b))) h.fit
-          (and_from (forms_fit old b) (form_fits (operation op (form old a) (form old b))) k.fit (fits_as s (operation op (form old a) (form old b)) seen));
+      fit = and_from (forms_fit fixed old a) (forms_fit fixed old b && form_fits (operation op (form fixed old a) (form fixed old b))) h.fit
+          (and_from (forms_fit fixed old b) (form_fits (operation op (form fixed old a) (form fixed old b))) k.fit (fits_as s (operation op (form fixed old a) (form fixed old b)) seen));
     }
-combined_formed old at op a b f g (Err x) h k v t = λ big.
-    right_fails (forms_fit old a) (forms_fit old b && form_fits (operation op (form old a) (form old b)))
-    (right_fails (forms_fit old b) (form_fits (operation op (form old a) (form old b)))
+combined_formed fixed old at op a b f g (Err x) h k v t = λ big.
+    right_fails (forms_fit fixed old a) (forms_fit fixed old b && form_fits (operation op (form fixed old a) (form fixed old b)))
+    (right_fails (forms_fit fixed old b) (form_fits (operation op (form fixed old a) (form fixed old b)))
     ((λ i. form_fits (operation op (sym h.seen i) (sym k.seen i))) ∙ t (ap Err big)))

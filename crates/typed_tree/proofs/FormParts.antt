@@ -5,12 +5,14 @@ use Rattle.std.proofs.lemmas.Bool.{and_parts, and_from, and_left, and_right, fal
 use Rattle.boogie_tree.specs.declared.span.Span.{Span}
 use Rattle.boogie_tree.specs.declared.tree.Op.{Op}
 use Rattle.boogie_tree.specs.declared.tree.Op.TheVariants.{Iff, Implies, And, Or, Eq, Ne, Lt, Le, Gt, Ge, Add, Sub, Mul, Div, Mod}
+use Rattle.boogie_tree.specs.declared.tree.Column.{Column}
 use Rattle.typed_tree.specs.declared.form.Form as code
 use Rattle.typed_tree.specs.declared.fault.AffineFault.{AffineFault}
 use Rattle.typed_tree.specs.declared.fault.AffineFault.TheVariants as affine
 use Rattle.typed_tree.specs.TypedTree.{TypedExpression, Lit, Truth, Var, Old, Not, Neg, Bin}
 use Rattle.typed_tree.specs.AffineForm.{Form, form, forms_fit, form_fits, fits, times, scaled, number, plus, product, operation, is_zero, is_constant, is_affine, is_affine_operator}
 use Rattle.typed_tree.specs.FormOrder.{terms_fit}
+use Rattle.typed_tree.specs.Scope.{is_constant_column}
 use Rattle.typed_tree.specs.FormView.{form_of, IsForm, IsFormAnswer}
 
 -- ---- no quotient stands in an affine form
@@ -46,20 +48,20 @@ operation_plain Le a b e h k = refl
 operation_plain Gt a b e h k = refl
 operation_plain Ge a b e h k = refl
 
-pub affine_plain : (old : Bool) (e : TypedExpression) → is_affine e ≡ true → (form old e).quotients ≡ []
-affine_plain old (Lit at n) h = refl
-affine_plain old (Truth at b) h = refl
-affine_plain old (Var at c) h = refl
-affine_plain old (Old at e) h = affine_plain true e h
-affine_plain old (Not at e) h = refl
-affine_plain old (Neg at e) h = times_plain (negsuc 0) (form old e) (affine_plain old e h)
-affine_plain old (Bin at op a b) h =
+pub affine_plain : (g : Column → Bool) (old : Bool) (e : TypedExpression) → is_affine e ≡ true → (form g old e).quotients ≡ []
+affine_plain g old (Lit at n) h = refl
+affine_plain g old (Truth at b) h = refl
+affine_plain g old (Var at c) h = refl
+affine_plain g old (Old at e) h = affine_plain g true e h
+affine_plain g old (Not at e) h = refl
+affine_plain g old (Neg at e) h = times_plain (negsuc 0) (form g old e) (affine_plain g old e h)
+affine_plain g old (Bin at op a b) h =
     let p = and_parts (is_affine_operator op) (is_affine a && is_affine b) h in
     let q = and_parts (is_affine a) (is_affine b) p.1 in
-    operation_plain op (form old a) (form old b) p.0 (affine_plain old a q.0) (affine_plain old b q.1)
+    operation_plain op (form g old a) (form g old b) p.0 (affine_plain g old a q.0) (affine_plain g old b q.1)
 
-pub affine_form : (e : TypedExpression) (f : code.Form) → is_affine e ≡ true → IsForm false e f →
-    ◌≡◌ {A = Form} (form false e) (record { terms = f.terms.items; quotients = []; constant = f.constant })
+pub affine_form : (e : TypedExpression) (f : code.Form) → is_affine e ≡ true → IsForm (is_constant_column []) false e f →
+    ◌≡◌ {A = Form} (form (is_constant_column []) false e) (record { terms = f.terms.items; quotients = []; constant = f.constant })
 affine_form e f h k =
-    let q : f.quotients.items ≡ [] = ap (λ (a : Form). a.quotients) k.seen ∙ affine_plain false e h in
+    let q : f.quotients.items ≡ [] = ap (λ (a : Form). a.quotients) k.seen ∙ affine_plain (is_constant_column []) false e h in
     sym k.seen ∙ (λ i. record { terms = f.terms.items; quotients = q i; constant = f.constant })

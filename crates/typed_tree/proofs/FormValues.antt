@@ -9,8 +9,8 @@ use Rattle.boogie_tree.specs.declared.tree.Column.{Column}
 use Rattle.boogie_tree.specs.declared.tree.Column.TheVariants as columns
 use Rattle.typed_tree.specs.TypedTree.{TypedExpression, Lit, Truth, Var, Old, Not, Neg, Bin}
 use Rattle.typed_tree.specs.Values.{State, column_value, at_entry, value, operation_value}
-use Rattle.typed_tree.specs.AffineForm.{Form, is_before, is_zero, led_by, added_at, added_to, number, scaled, times, plus, product, operation, is_constant, is_empty, read_at, form, is_linear, is_linear_operation, is_affine, is_affine_operator}
-use Rattle.typed_tree.specs.Laws.{sum_of, form_value, state_of}
+use Rattle.typed_tree.specs.AffineForm.{Form, is_before, is_zero, led_by, added_at, added_to, number, scaled, times, plus, product, operation, is_constant, is_empty, read_at, form_column, form, is_linear, is_linear_operation, is_affine, is_affine_operator}
+use Rattle.typed_tree.specs.Laws.{sum_of, form_value, state_of, FixedStay}
 use Rattle.typed_tree.proofs.ColumnOrder.{same_place}
 
 zero_is : (a : ℤ) → is_zero a ≡ true → a ≡ pos 0
@@ -100,6 +100,18 @@ read_value true s (columns.Old n) = refl
 read_value true s (columns.Local n) = refl
 read_value false s c = refl
 
+-- a constant has its value at the entry, too
+stays : (g : Column → Bool) (old : Bool) (s : State) (c : Column) → FixedStay g s → g c ≡ true → column_value (state_of old s) c ≡ column_value s c
+stays g true s c h e = h c e
+stays g false s c h e = refl
+
+named_value : (g : Column → Bool) (old : Bool) (s : State) (c : Column) → FixedStay g s → column_value (state_of old s) c ≡ column_value s (form_column g old c)
+named_value g old s c h = by_test (g c) refl
+  where
+    by_test : (z : Bool) → g c ≡ z → column_value (state_of old s) c ≡ column_value s (if z then c else read_at old c)
+    by_test true e = stays g old s c h e
+    by_test false e = read_value old s c
+
 entry_of : (old : Bool) (s : State) → at_entry (state_of old s) ≡ state_of true s
 entry_of true s = refl
 entry_of false s = refl
@@ -125,42 +137,42 @@ operation_has_value s Le a b e h = absurd (false≢true e)
 operation_has_value s Gt a b e h = absurd (false≢true e)
 operation_has_value s Ge a b e h = absurd (false≢true e)
 
-factor_of : (old : Bool) (op : Op) (a b : TypedExpression) → is_linear_operation old op a b ≡ true → op ≡ Mul → (is_constant (form old a) || is_constant (form old b)) ≡ true
-factor_of old Mul a b h e = h
-factor_of old Add a b h e = absurd (cc)
-factor_of old Sub a b h e = absurd (cc)
-factor_of old Div a b h e = absurd (cc)
-factor_of old Mod a b h e = absurd (cc)
-factor_of old Iff a b h e = absurd (cc)
-factor_of old Implies a b h e = absurd (cc)
-factor_of old And a b h e = absurd (cc)
-factor_of old Or a b h e = absurd (cc)
-factor_of old Eq a b h e = absurd (cc)
-factor_of old Ne a b h e = absurd (cc)
-factor_of old Lt a b h e = absurd (cc)
-factor_of old Le a b h e = absurd (cc)
-factor_of old Gt a b h e = absurd (cc)
-factor_of old Ge a b h e = absurd (cc)
+factor_of : (g : Column → Bool) (old : Bool) (op : Op) (a b : TypedExpression) → is_linear_operation g old op a b ≡ true → op ≡ Mul → (is_constant (form g old a) || is_constant (form g old b)) ≡ true
+factor_of g old Mul a b h e = h
+factor_of g old Add a b h e = absurd (cc)
+factor_of g old Sub a b h e = absurd (cc)
+factor_of g old Div a b h e = absurd (cc)
+factor_of g old Mod a b h e = absurd (cc)
+factor_of g old Iff a b h e = absurd (cc)
+factor_of g old Implies a b h e = absurd (cc)
+factor_of g old And a b h e = absurd (cc)
+factor_of g old Or a b h e = absurd (cc)
+factor_of g old Eq a b h e = absurd (cc)
+factor_of g old Ne a b h e = absurd (cc)
+factor_of g old Lt a b h e = absurd (cc)
+factor_of g old Le a b h e = absurd (cc)
+factor_of g old Gt a b h e = absurd (cc)
+factor_of g old Ge a b h e = absurd (cc)
 
-pub form_has_value : (old : Bool) (s : State) (e : TypedExpression) → is_affine e ≡ true → is_linear old e ≡ true → value (state_of old s) e ≡ form_value s (form old e)
-form_has_value old s (Lit at n) h l = omega (arith, ints)
-form_has_value old s (Truth at b) h l = absurd (false≢true h)
-form_has_value old s (Var at c) h l =
-    let v : column_value (state_of old s) c ≡ column_value s (read_at old c) = read_value old s c in
-    let w : pos 1 *ℤ column_value s (read_at old c) ≡ column_value s (read_at old c) = product_one_left (column_value s (read_at old c)) in
-    v ∙ sym w ∙ plain (pos 1 *ℤ column_value s (read_at old c))
+pub form_has_value : (g : Column → Bool) (old : Bool) (s : State) (e : TypedExpression) → FixedStay g s → is_affine e ≡ true → is_linear g old e ≡ true → value (state_of old s) e ≡ form_value s (form g old e)
+form_has_value g old s (Lit at n) k h l = omega (arith, ints)
+form_has_value g old s (Truth at b) k h l = absurd (false≢true h)
+form_has_value g old s (Var at c) k h l =
+    let v : column_value (state_of old s) c ≡ column_value s (form_column g old c) = named_value g old s c k in
+    let w : pos 1 *ℤ column_value s (form_column g old c) ≡ column_value s (form_column g old c) = product_one_left (column_value s (form_column g old c)) in
+    v ∙ sym w ∙ plain (pos 1 *ℤ column_value s (form_column g old c))
   where
     plain : (z : ℤ) → z ≡ (z +ℤ pos 0) +ℤ pos 0
     plain z = omega (arith, ints)
-form_has_value old s (Old at e) h l = ap (λ (u : State). value u e) (entry_of old s) ∙ form_has_value true s e h l
-form_has_value old s (Not at e) h l = absurd (false≢true h)
-form_has_value old s (Neg at e) h l =
-    ap neg_ℤ (form_has_value old s e h l) ∙ sym (minus_one (form_value s (form old e))) ∙ sym (form_value-times s (negsuc 0) (form old e))
-form_has_value old s (Bin at op a b) h l =
+form_has_value g old s (Old at e) k h l = ap (λ (u : State). value u e) (entry_of old s) ∙ form_has_value g true s e k h l
+form_has_value g old s (Not at e) k h l = absurd (false≢true h)
+form_has_value g old s (Neg at e) k h l =
+    ap neg_ℤ (form_has_value g old s e k h l) ∙ sym (minus_one (form_value s (form g old e))) ∙ sym (form_value-times s (negsuc 0) (form g old e))
+form_has_value g old s (Bin at op a b) k h l =
     let p = and_parts (is_affine_operator op) (is_affine a && is_affine b) h in
     let q = and_parts (is_affine a) (is_affine b) p.1 in
-    let m = and_parts (is_linear old a) (is_linear old b && is_linear_operation old op a b) l in
-    let n = and_parts (is_linear old b) (is_linear_operation old op a b) m.1 in
-    ap (λ (z : ℤ). operation_value op z (value (state_of old s) b)) (form_has_value old s a q.0 m.0) ∙
-    ap (λ (z : ℤ). operation_value op (form_value s (form old a)) z) (form_has_value old s b q.1 n.0) ∙
-    operation_has_value s op (form old a) (form old b) p.0 (factor_of old op a b n.1)
+    let m = and_parts (is_linear g old a) (is_linear g old b && is_linear_operation g old op a b) l in
+    let n = and_parts (is_linear g old b) (is_linear_operation g old op a b) m.1 in
+    ap (λ (z : ℤ). operation_value op z (value (state_of old s) b)) (form_has_value g old s a k q.0 m.0) ∙
+    ap (λ (z : ℤ). operation_value op (form_value s (form g old a)) z) (form_has_value g old s b k q.1 n.0) ∙
+    operation_has_value s op (form g old a) (form g old b) p.0 (factor_of g old op a b n.1)

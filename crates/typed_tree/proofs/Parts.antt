@@ -13,7 +13,7 @@ use Rattle.typed_tree.specs.declared.fault.TypeFault.{TypeFault}
 use Rattle.typed_tree.specs.declared.fault.TypeFault.TheVariants as fault
 use Rattle.typed_tree.specs.declared.typing.Part.{Part}
 use Rattle.typed_tree.specs.TypedTree.{TypedExpression, Lit, Truth, Var, Old, Not, Neg, Bin}
-use Rattle.typed_tree.specs.Scope.{Scope, variable_at}
+use Rattle.typed_tree.specs.Scope.{Scope, variable_at, fixed}
 use Rattle.typed_tree.specs.Typing.{type_of, operation_type, only}
 use Rattle.typed_tree.specs.AffineForm.{Form, form, is_linear, is_linear_operation, forms_fit, form_fits, fits, is_constant, is_zero, divisor_of, is_divisor, times, operation}
 use Rattle.typed_tree.specs.BrokenRules.{IsBroken, in_old, in_not, in_neg, in_left, in_right, unseen, misplaced, no_truth, no_number, ill_typed, zero_divisor, no_literal, no_factor, big_literal, big_opposite, big_operation, IsFault, is_division}
@@ -51,30 +51,30 @@ old_answer s old at e (Err f) h a = old_fault s old at e f a
 
 -- ---- operations
 
-same_rule : (old : Bool) (op : Op) (a b : TypedExpression) → is_linear_operation old op a b ≡ keeps_operator op (form old a) (form old b) b
-same_rule old Iff a b = refl
-same_rule old Implies a b = refl
-same_rule old And a b = refl
-same_rule old Or a b = refl
-same_rule old Eq a b = refl
-same_rule old Ne a b = refl
-same_rule old Lt a b = refl
-same_rule old Le a b = refl
-same_rule old Gt a b = refl
-same_rule old Ge a b = refl
-same_rule old Add a b = refl
-same_rule old Sub a b = refl
-same_rule old Mul a b = refl
-same_rule old Div a b = refl
-same_rule old Mod a b = refl
+same_rule : (s : Scope) (old : Bool) (op : Op) (a b : TypedExpression) → is_linear_operation (fixed s) old op a b ≡ keeps_operator op (form (fixed s) old a) (form (fixed s) old b) b
+same_rule s old Iff a b = refl
+same_rule s old Implies a b = refl
+same_rule s old And a b = refl
+same_rule s old Or a b = refl
+same_rule s old Eq a b = refl
+same_rule s old Ne a b = refl
+same_rule s old Lt a b = refl
+same_rule s old Le a b = refl
+same_rule s old Gt a b = refl
+same_rule s old Ge a b = refl
+same_rule s old Add a b = refl
+same_rule s old Sub a b = refl
+same_rule s old Mul a b = refl
+same_rule s old Div a b = refl
+same_rule s old Mod a b = refl
 
 -- the forms of the operands in place of what the code has
 rule_of_parts : (s : Scope) (old : Bool) (op : Op) (a b : TypedExpression) (p q : Part) (z : Bool) → IsPart s old a p → IsPart s old b q →
-    keeps_operator op (form_of p.form) (form_of q.form) b ≡ z → keeps_operator op (form old a) (form old b) b ≡ z
+    keeps_operator op (form_of p.form) (form_of q.form) b ≡ z → keeps_operator op (form (fixed s) old a) (form (fixed s) old b) b ≡ z
 rule_of_parts s old op a b p q z h k e = rw (← h.seen, ← k.seen) e
 
 form_of_parts : (s : Scope) (old : Bool) (op : Op) (a b : TypedExpression) (p q : Part) → IsPart s old a p → IsPart s old b q →
-    operation op (form_of p.form) (form_of q.form) ≡ operation op (form old a) (form old b)
+    operation op (form_of p.form) (form_of q.form) ≡ operation op (form (fixed s) old a) (form (fixed s) old b)
 form_of_parts s old op a b p q h k = rw (h.seen, k.seen) refl
 
 part_fits : (p : Part) → form_fits (form_of p.form) ≡ true
@@ -84,13 +84,13 @@ pub operation_part : (s : Scope) (old : Bool) (at : Span) (op : Op) (a b : Typed
     operation_type op p.ty q.ty ≡ Some r.ty → keeps_operator op (form_of p.form) (form_of q.form) b ≡ true → form_of r.form ≡ operation op (form_of p.form) (form_of q.form) →
     IsPart s old (Bin at op a b) r
 operation_part s old at op a b p q r h k t l e =
-    let g : form_of r.form ≡ operation op (form old a) (form old b) = e ∙ form_of_parts s old op a b p q h k in
+    let g : form_of r.form ≡ operation op (form (fixed s) old a) (form (fixed s) old b) = e ∙ form_of_parts s old op a b p q h k in
     record {
       typed = rw (h.typed, k.typed) t;
-      linear = and_from (is_linear old a) (is_linear old b && is_linear_operation old op a b) h.linear
-          (and_from (is_linear old b) (is_linear_operation old op a b) k.linear (same_rule old op a b ∙ rule_of_parts s old op a b p q true h k l));
-      fit = and_from (forms_fit old a) (forms_fit old b && form_fits (operation op (form old a) (form old b))) h.fit
-          (and_from (forms_fit old b) (form_fits (operation op (form old a) (form old b))) k.fit (ap form_fits (sym g) ∙ part_fits r));
+      linear = and_from (is_linear (fixed s) old a) (is_linear (fixed s) old b && is_linear_operation (fixed s) old op a b) h.linear
+          (and_from (is_linear (fixed s) old b) (is_linear_operation (fixed s) old op a b) k.linear (same_rule s old op a b ∙ rule_of_parts s old op a b p q true h k l));
+      fit = and_from (forms_fit (fixed s) old a) (forms_fit (fixed s) old b && form_fits (operation op (form (fixed s) old a) (form (fixed s) old b))) h.fit
+          (and_from (forms_fit (fixed s) old b) (form_fits (operation op (form (fixed s) old a) (form (fixed s) old b))) k.fit (ap form_fits (sym g) ∙ part_fits r));
       seen = g;
     }
 
@@ -111,9 +111,9 @@ division_broken : (s : Scope) (old : Bool) (at : Span) (op : Op) (a b : TypedExp
 division_broken s old at op a b None d e h = no_literal old at op a b d e
 division_broken s old at op a b (Some k) d e h = zero_divisor old at op a b k d e (not-false (is_zero k) h)
 
-operator_broken : (s : Scope) (old : Bool) (at : Span) (op : Op) (a b : TypedExpression) → keeps_operator op (form old a) (form old b) b ≡ false →
+operator_broken : (s : Scope) (old : Bool) (at : Span) (op : Op) (a b : TypedExpression) → keeps_operator op (form (fixed s) old a) (form (fixed s) old b) b ≡ false →
     IsBroken s old (Bin at op a b) (operator_fault op at b)
-operator_broken s old at Mul a b h = let p = or_parts (is_constant (form old a)) (is_constant (form old b)) h in no_factor old at a b p.0 p.1
+operator_broken s old at Mul a b h = let p = or_parts (is_constant (form (fixed s) old a)) (is_constant (form (fixed s) old b)) h in no_factor old at a b p.0 p.1
 operator_broken s old at Div a b h = division_broken s old at Div a b (divisor_of b) refl refl h
 operator_broken s old at Mod a b h = division_broken s old at Mod a b (divisor_of b) refl refl h
 operator_broken s old at Iff a b h = absurd (true≢false h)
@@ -143,17 +143,17 @@ pub no_number_part : (s : Scope) (old : Bool) (at : Span) (e : TypedExpression) 
 no_number_part s old at e p h t = inr (no_number old at e (h.typed ∙ ap Some t))
 
 pub negation_part : (s : Scope) (old : Bool) (at : Span) (e : TypedExpression) (p r : Part) → IsPart s old e p → p.ty ≡ types.Bool → r.ty ≡ types.Bool →
-    form_of r.form ≡ form old (Not at e) → IsPart s old (Not at e) r
+    form_of r.form ≡ form (fixed s) old (Not at e) → IsPart s old (Not at e) r
 negation_part s old at e p r h t u f = record { typed = rw (h.typed, t, u) refl; linear = h.linear; fit = h.fit; seen = f }
 
 pub opposite_part : (s : Scope) (old : Bool) (at : Span) (e : TypedExpression) (p r : Part) → IsPart s old e p → p.ty ≡ types.Int → r.ty ≡ types.Int →
     form_of r.form ≡ times (negsuc 0) (form_of p.form) → IsPart s old (Neg at e) r
 opposite_part s old at e p r h t u f =
-    let g : form_of r.form ≡ times (negsuc 0) (form old e) = f ∙ ap (times (negsuc 0)) h.seen in
+    let g : form_of r.form ≡ times (negsuc 0) (form (fixed s) old e) = f ∙ ap (times (negsuc 0)) h.seen in
     record {
       typed = rw (h.typed, t, u) refl;
       linear = h.linear;
-      fit = and_from (forms_fit old e) (form_fits (times (negsuc 0) (form old e))) h.fit (ap form_fits (sym g) ∙ part_fits r);
+      fit = and_from (forms_fit (fixed s) old e) (form_fits (times (negsuc 0) (form (fixed s) old e))) h.fit (ap form_fits (sym g) ∙ part_fits r);
       seen = g;
     }
 

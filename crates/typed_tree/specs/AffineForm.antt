@@ -100,15 +100,19 @@ read_at true (columns.Global n) = columns.Old n
 read_at true c = c
 read_at false c = c
 
+-- the column by which a form names one that is read at the procedure's entry or now: `old` changes nothing of the fixed ones, the constants
+abbrev pub form_column : (Column → Bool) → Bool → Column → Column
+form_column fixed old c = if fixed c then c else read_at old c
+
 -- the form of an expression that is read at the procedure's entry or now; 0 of what is no whole number
-abbrev pub form : Bool → TypedExpression → Form
-form old (Lit at n) = number n
-form old (Truth at b) = number (pos 0)
-form old (Var at c) = once (read_at old c)
-form old (Old at e) = form true e
-form old (Not at e) = number (pos 0)
-form old (Neg at e) = times (negsuc 0) (form old e)
-form old (Bin at op a b) = operation op (form old a) (form old b)
+abbrev pub form : (Column → Bool) → Bool → TypedExpression → Form
+form fixed old (Lit at n) = number n
+form fixed old (Truth at b) = number (pos 0)
+form fixed old (Var at c) = once (form_column fixed old c)
+form fixed old (Old at e) = form fixed true e
+form fixed old (Not at e) = number (pos 0)
+form fixed old (Neg at e) = times (negsuc 0) (form fixed old e)
+form fixed old (Bin at op a b) = operation op (form fixed old a) (form fixed old b)
 
 -- a literal, or a literal after one `-`
 abbrev pub divisor_of : TypedExpression → Option ℤ
@@ -121,19 +125,19 @@ is_divisor None = false
 is_divisor (Some k) = not (is_zero k)
 
 -- the rule of an operator: a divisor is a literal other than 0, and one factor of a product is constant
-abbrev pub is_linear_operation : Bool → Op → TypedExpression → TypedExpression → Bool
-is_linear_operation old Mul a b = is_constant (form old a) || is_constant (form old b)
-is_linear_operation old Div a b = is_divisor (divisor_of b)
-is_linear_operation old Mod a b = is_divisor (divisor_of b)
-is_linear_operation old op a b = true
+abbrev pub is_linear_operation : (Column → Bool) → Bool → Op → TypedExpression → TypedExpression → Bool
+is_linear_operation fixed old Mul a b = is_constant (form fixed old a) || is_constant (form fixed old b)
+is_linear_operation fixed old Div a b = is_divisor (divisor_of b)
+is_linear_operation fixed old Mod a b = is_divisor (divisor_of b)
+is_linear_operation fixed old op a b = true
 
 -- the rule of operators holds in each part
-abbrev pub is_linear : Bool → TypedExpression → Bool
-is_linear old (Old at e) = is_linear true e
-is_linear old (Not at e) = is_linear old e
-is_linear old (Neg at e) = is_linear old e
-is_linear old (Bin at op a b) = is_linear old a && (is_linear old b && is_linear_operation old op a b)
-is_linear old e = true
+abbrev pub is_linear : (Column → Bool) → Bool → TypedExpression → Bool
+is_linear fixed old (Old at e) = is_linear fixed true e
+is_linear fixed old (Not at e) = is_linear fixed old e
+is_linear fixed old (Neg at e) = is_linear fixed old e
+is_linear fixed old (Bin at op a b) = is_linear fixed old a && (is_linear fixed old b && is_linear_operation fixed old op a b)
+is_linear fixed old e = true
 
 -- its magnitude is at most 2^127 - 1
 abbrev pub fits : ℤ → Bool
@@ -144,14 +148,14 @@ abbrev pub form_fits : Form → Bool
 form_fits a = list_all (λ t. fits t.1) a.terms && (list_all fits a.quotients && fits a.constant)
 
 -- the form of each part fits
-abbrev pub forms_fit : Bool → TypedExpression → Bool
-forms_fit old (Lit at n) = fits n
-forms_fit old (Truth at b) = true
-forms_fit old (Var at c) = true
-forms_fit old (Old at e) = forms_fit true e
-forms_fit old (Not at e) = forms_fit old e
-forms_fit old (Neg at e) = forms_fit old e && form_fits (form old (Neg at e))
-forms_fit old (Bin at op a b) = forms_fit old a && (forms_fit old b && form_fits (form old (Bin at op a b)))
+abbrev pub forms_fit : (Column → Bool) → Bool → TypedExpression → Bool
+forms_fit fixed old (Lit at n) = fits n
+forms_fit fixed old (Truth at b) = true
+forms_fit fixed old (Var at c) = true
+forms_fit fixed old (Old at e) = forms_fit fixed true e
+forms_fit fixed old (Not at e) = forms_fit fixed old e
+forms_fit fixed old (Neg at e) = forms_fit fixed old e && form_fits (form fixed old (Neg at e))
+forms_fit fixed old (Bin at op a b) = forms_fit fixed old a && (forms_fit fixed old b && form_fits (form fixed old (Bin at op a b)))
 
 abbrev pub is_affine_operator : Op → Bool
 is_affine_operator Add = true

@@ -10,7 +10,7 @@ use Rattle.boogie_tree.specs.declared.tree.Column.{Column}
 use Rattle.typed_tree.specs.declared.fault.TypeFault.{TypeFault}
 use Rattle.typed_tree.specs.declared.fault.TypeFault.TheVariants as fault
 use Rattle.typed_tree.specs.TypedTree.{TypedExpression, Lit, Truth, Var, Old, Not, Neg, Bin}
-use Rattle.typed_tree.specs.Scope.{Scope, variable_at}
+use Rattle.typed_tree.specs.Scope.{Scope, variable_at, fixed}
 use Rattle.typed_tree.specs.Typing.{type_of, same_type, operation_type}
 use Rattle.typed_tree.specs.AffineForm.{form, form_fits, is_constant, divisor_of, is_zero, fits}
 
@@ -49,11 +49,11 @@ pub data IsBroken (s : Scope) : Bool → TypedExpression → TypeFault → Type 
   zero_divisor : (old : Bool) (at : Span) (op : Op) (a b : TypedExpression) (k : ℤ) → is_division op ≡ true → divisor_of b ≡ Some k → is_zero k ≡ true → IsBroken s old (Bin at op a b) (fault.ZeroDivisor (place_of b))
   no_literal : (old : Bool) (at : Span) (op : Op) (a b : TypedExpression) → is_division op ≡ true → divisor_of b ≡ None → IsBroken s old (Bin at op a b) (fault.NonLinear (place_of b))
   -- a product without a constant factor
-  no_factor : (old : Bool) (at : Span) (a b : TypedExpression) → is_constant (form old a) ≡ false → is_constant (form old b) ≡ false → IsBroken s old (Bin at Mul a b) (fault.NonLinear at)
+  no_factor : (old : Bool) (at : Span) (a b : TypedExpression) → is_constant (form (fixed s) old a) ≡ false → is_constant (form (fixed s) old b) ≡ false → IsBroken s old (Bin at Mul a b) (fault.NonLinear at)
   -- a form with a number that does not fit
   big_literal : (old : Bool) (at : Span) (n : ℤ) → fits n ≡ false → IsBroken s old (Lit at n) (fault.TooBig at)
-  big_opposite : (old : Bool) (at : Span) (e : TypedExpression) → form_fits (form old (Neg at e)) ≡ false → IsBroken s old (Neg at e) (fault.TooBig at)
-  big_operation : (old : Bool) (at : Span) (op : Op) (a b : TypedExpression) → form_fits (form old (Bin at op a b)) ≡ false → IsBroken s old (Bin at op a b) (fault.TooBig at)
+  big_opposite : (old : Bool) (at : Span) (e : TypedExpression) → form_fits (form (fixed s) old (Neg at e)) ≡ false → IsBroken s old (Neg at e) (fault.TooBig at)
+  big_operation : (old : Bool) (at : Span) (op : Op) (a b : TypedExpression) → form_fits (form (fixed s) old (Bin at op a b)) ≡ false → IsBroken s old (Bin at op a b) (fault.TooBig at)
 
 -- The fault of an expression that is read now: a broken rule, or want of memory.
 abbrev pub IsFault : Scope → TypedExpression → TypeFault → Type 0

@@ -1,6 +1,7 @@
 -- The forms of the code, and the typed parts of expressions, as contracts see them.
 use Rattle.std.specs.Prelude.{◌≡◌, Bool, true, false, Some, ◌⊎◌, Result, MatchResult}
 use Rattle.boogie_tree.specs.declared.tree.Ty.{Ty}
+use Rattle.boogie_tree.specs.declared.tree.Column.{Column}
 use Rattle.typed_tree.specs.declared.form.Form as code
 use Rattle.typed_tree.specs.declared.fault.AffineFault.{AffineFault}
 use Rattle.typed_tree.specs.declared.fault.AffineFault.TheVariants as affine
@@ -10,7 +11,7 @@ use Rattle.typed_tree.specs.declared.typing.Part.{Part}
 use Rattle.boogie_tree.specs.declared.span.Span.{Span}
 use Rattle.boogie_tree.specs.declared.tree.Op.{Op}
 use Rattle.typed_tree.specs.TypedTree.{TypedExpression, Not, Neg, Bin}
-use Rattle.typed_tree.specs.Scope.{Scope}
+use Rattle.typed_tree.specs.Scope.{Scope, fixed}
 use Rattle.typed_tree.specs.Typing.{type_of}
 use Rattle.typed_tree.specs.AffineForm.{Form, form, is_linear, forms_fit}
 use Rattle.typed_tree.specs.BrokenRules.{IsBroken}
@@ -21,9 +22,9 @@ form_of a = record { terms = a.terms.items; quotients = a.quotients.items; const
 -- the type and the form of an expression that keeps the rules
 pub record IsPart (s : Scope) (old : Bool) (e : TypedExpression) (p : Part) : Type 0 where
   pub typed : type_of s e ≡ Some p.ty
-  pub linear : is_linear old e ≡ true
-  pub fit : forms_fit old e ≡ true
-  pub seen : form_of p.form ≡ form old e
+  pub linear : is_linear (fixed s) old e ≡ true
+  pub fit : forms_fit (fixed s) old e ≡ true
+  pub seen : form_of p.form ≡ form (fixed s) old e
 
 -- a broken rule of the expression, read at the procedure's entry or now, or want of memory
 abbrev pub IsPartFault : Scope → Bool → TypedExpression → TypeFault → Type 0
@@ -45,10 +46,10 @@ IsOperationAnswer at op b p q r =
     (s : Scope) (old : Bool) (a : TypedExpression) → IsPart s old a p → IsPart s old b q → IsAnswer s old (Bin at op a b) r
 
 -- the form of an expression each part of which fits
-pub record IsForm (old : Bool) (e : TypedExpression) (f : code.Form) : Type 0 where
-  pub seen : form_of f ≡ form old e
-  pub fit : forms_fit old e ≡ true
+pub record IsForm (fixed : Column → Bool) (old : Bool) (e : TypedExpression) (f : code.Form) : Type 0 where
+  pub seen : form_of f ≡ form fixed old e
+  pub fit : forms_fit fixed old e ≡ true
 
 -- the form, or the fault that a part does not fit
-abbrev pub IsFormAnswer : Bool → TypedExpression → Result code.Form AffineFault → Type 0
-IsFormAnswer old e r = MatchResult r (IsForm old e) (λ f. f ≡ affine.TooBig → forms_fit old e ≡ false)
+abbrev pub IsFormAnswer : (Column → Bool) → Bool → TypedExpression → Result code.Form AffineFault → Type 0
+IsFormAnswer fixed old e r = MatchResult r (IsForm fixed old e) (λ f. f ≡ affine.TooBig → forms_fit fixed old e ≡ false)

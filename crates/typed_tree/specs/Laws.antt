@@ -30,9 +30,15 @@ abbrev pub state_of : Bool → State → State
 state_of true s = at_entry s
 state_of false s = s
 
--- The form of a whole-number expression without `div` and `mod` has its value.
+-- each fixed column has the value that it had at the procedure's entry
+abbrev pub FixedStay : (Column → Bool) → State → Type 0
+FixedStay fixed s = (c : Column) → fixed c ≡ true → column_value (at_entry s) c ≡ column_value s c
+
+-- The form of a whole-number expression without `div` and `mod` has its value, wherever the constants have the values that they had at the procedure's entry.
 abbrev pub FormIsValue : Type 0
-FormIsValue = (old : Bool) (s : State) (e : TypedExpression) → is_affine e ≡ true → is_linear old e ≡ true → value (state_of old s) e ≡ form_value s (form old e)
+FormIsValue =
+    (fixed : Column → Bool) (old : Bool) (s : State) (e : TypedExpression) → FixedStay fixed s → is_affine e ≡ true → is_linear fixed old e ≡ true →
+    value (state_of old s) e ≡ form_value s (form fixed old e)
 
 abbrev pub IsTruth : ℤ → Type 0
 IsTruth z = (z ≡ pos 0) ⊎ (z ≡ pos 1)

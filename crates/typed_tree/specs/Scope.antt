@@ -34,6 +34,19 @@ variable_at s (columns.Global n) = option_and_then (unless_hidden s.variables) (
 variable_at s (columns.Old n) = None
 variable_at s (columns.Local n) = slice_get s.locals n
 
+abbrev pub is_constant_variable : Option VarInfo → Bool
+is_constant_variable None = false
+is_constant_variable (Some v) = v.constant
+
+-- whether the column is that of a constant
+abbrev pub is_constant_column : List VarInfo → Column → Bool
+is_constant_column globals (columns.Global n) = is_constant_variable (slice_get globals n)
+is_constant_column globals c = false
+
+-- the columns of constants
+abbrev pub fixed : Scope → Column → Bool
+fixed s = is_constant_column s.globals
+
 -- the scope of the code
 abbrev pub seen : code.Scope → Scope
 seen s = record { globals = s.globals.now; variables = s.variables; locals = s.locals.now; old = s.old }

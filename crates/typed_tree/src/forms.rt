@@ -5,35 +5,36 @@ ghost use Rattle.typed_tree.specs.TypedView.{expression};
 ghost use Rattle.typed_tree.specs.AffineForm.{form, is_affine, is_linear, forms_fit, form_fits, number, times, operation};
 ghost use Rattle.typed_tree.specs.FormView.{IsFormAnswer};
 ghost use Rattle.typed_tree.specs.FormView.{form_of as form_view};
+ghost use Rattle.typed_tree.specs.Scope.{is_constant_column};
 
-use crate::columns::read_at;
+use crate::columns::form_column;
 use crate::fault::AffineFault;
 use crate::form::Form;
 use crate::operations::{operation, times};
 use crate::types::{Affine, TExpr, TExprKind};
-use boogie_tree::Op;
+use boogie_tree::{Op, VarInfo};
 use std::alloc::Global;
 
-/// The affine form of a whole-number expression without `div` and `mod`: exact, its columns ascending, no coefficient 0.
-/// `TooBig` comes exactly where a coefficient or constant of the form of a part does not fit.
+/// The affine form of a whole-number expression without `div` and `mod`, each global taken for a variable: exact, its columns
+/// ascending, no coefficient 0. `TooBig` comes exactly where a coefficient or constant of the form of a part does not fit.
 pub fn affine(alloc: Global, expr: &TExpr) -> Result<Affine, AffineFault>
     requires kind { is_affine (expression expr.now) ≡ true }
-    requires products { is_linear false (expression expr.now) ≡ true }
-    ensures form { IfOk result (λ a. form false (expression expr.now) ≡ record { terms = a.terms.items; quotients = []; constant = a.constant }) }
-    ensures fits { IsOk result → forms_fit false (expression expr.now) ≡ true }
-    ensures too_big { result ≡ Err AffineFault.TooBig → forms_fit false (expression expr.now) ≡ false }
+    requires products { is_linear (is_constant_column []) false (expression expr.now) ≡ true }
+    ensures form { IfOk result (λ a. form (is_constant_column []) false (expression expr.now) ≡ record { terms = a.terms.items; quotients = []; constant = a.constant }) }
+    ensures fits { IsOk result → forms_fit (is_constant_column []) false (expression expr.now) ≡ true }
+    ensures too_big { result ≡ Err AffineFault.TooBig → forms_fit (is_constant_column []) false (expression expr.now) ≡ false }
 {
     let Form {
         terms,
         quotients: _,
         constant,
-    } = form_of(alloc, false, expr)?;
+    } = form_of(alloc, &[], false, expr)?;
     Ok(Affine { terms, constant })
 }
 
 /// The form of an expression that is read at the procedure's entry or now; 0 of what is no whole number.
-fn form_of(alloc: Global, old: bool, expr: &TExpr) -> Result<Form, AffineFault>
-    ensures { IsFormAnswer old (expression expr.now) result }
+fn form_of(alloc: Global, globals: &[VarInfo], old: bool, expr: &TExpr) -> Result<Form, AffineFault>
+    ensures { IsFormAnswer (is_constant_column globals.now) old (expression expr.now) result }
 {
     match &expr.kind {
         TExprKind::Lit(n) => {
@@ -43,13 +44,13 @@ fn form_of(alloc: Global, old: bool, expr: &TExpr) -> Result<Form, AffineFault>
             Ok(Form::number(alloc, *n))
         }
         TExprKind::Truth(_) => Ok(Form::number(alloc, 0)),
-        TExprKind::Var(column) => Ok(Form::once(alloc, read_at(old, *column))?),
-        TExprKind::Old(inner) => form_of(alloc, true, inner),
-        TExprKind::Not(inner) => Ok(no_number(alloc, form_of(alloc, old, inner)?)),
-        TExprKind::Neg(inner) => opposite(alloc, form_of(alloc, old, inner)?),
+        TExprKind::Var(column) => Ok(Form::once(alloc, form_column(globals, old, *column))?),
+        TExprKind::Old(inner) => form_of(alloc, globals, true, inner),
+        TExprKind::Not(inner) => Ok(no_number(alloc, form_of(alloc, globals, old, inner)?)),
+        TExprKind::Neg(inner) => opposite(alloc, form_of(alloc, globals, old, inner)?),
         TExprKind::Bin(op, left, right) => {
-            let first = form_of(alloc, old, left)?;
-            combined(alloc, *op, first, form_of(alloc, old, right)?)
+            let first = form_of(alloc, globals, old, left)?;
+            combined(alloc, *op, first, form_of(alloc, globals, old, right)?)
         }
     }
 }

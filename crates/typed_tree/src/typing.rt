@@ -4,7 +4,7 @@ ghost use Rattle.std.specs.Prelude.{◌≡◌, ◌⊎◌, Bool, true, false, Som
 ghost use Rattle.std.specs.Option.{option_copied, option_map};
 ghost use Rattle.typed_tree.specs.TypedTree.{Lit, Var};
 ghost use Rattle.typed_tree.specs.TypedView.{expression};
-ghost use Rattle.typed_tree.specs.Scope.{seen, variable_at};
+ghost use Rattle.typed_tree.specs.Scope.{seen, variable_at, fixed};
 ghost use Rattle.typed_tree.specs.Typing.{type_of, operand_type, result_type, operation_type};
 ghost use Rattle.typed_tree.specs.KeptRules.{is_arithmetic, keeps_rules};
 ghost use Rattle.typed_tree.specs.BrokenRules.{IsFault};
@@ -12,7 +12,7 @@ ghost use Rattle.typed_tree.specs.FormView.{form_of, IsAnswer, IsNotAnswer, IsNe
 ghost use Rattle.typed_tree.specs.AffineForm.{divisor_of, is_divisor};
 ghost use Rattle.typed_tree.specs.BrokenOperation.{zero_literal, keeps_operator, divisor_fault, operator_fault};
 
-use crate::columns::read_at;
+use crate::columns::form_column;
 use crate::fault::{AffineFault, TypeFault};
 use crate::form::Form;
 use crate::operations::{operation, times};
@@ -32,7 +32,7 @@ struct Part {
 /// factors, and the numbers of its form.
 pub fn expression_type(alloc: Global, scope: &Scope<'_>, expr: &TExpr) -> Result<Ty, TypeFault>
     ensures found { IfOk result (λ t. type_of (seen scope.now) (expression expr.now) ≡ Some t) }
-    ensures kept { IsOk result → is_arithmetic false (expression expr.now) ≡ true }
+    ensures kept { IsOk result → is_arithmetic (fixed (seen scope.now)) false (expression expr.now) ≡ true }
     ensures fault { IfErr result (λ f. IsFault (seen scope.now) (expression expr.now) f) }
     ensures only { IsErr result → (result ≡ Err TypeFault.Memory) ⊎ (keeps_rules (seen scope.now) false (expression expr.now) ≡ false) }
 {
@@ -133,7 +133,7 @@ fn variable(
         return Err(TypeFault::Unknown(at));
     };
     let ty = variable.ty;
-    let form = Form::once(alloc, read_at(old, column))?;
+    let form = Form::once(alloc, form_column(scope.globals, old, column))?;
     Ok(Part { ty, form })
 }
 

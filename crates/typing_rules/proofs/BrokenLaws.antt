@@ -12,7 +12,7 @@ use Rattle.boogie_tree.specs.declared.tree.Column.TheVariants as columns
 use Rattle.boogie_tree.specs.declared.tree.VarInfo.{VarInfo}
 use Rattle.typed_tree.specs.declared.fault.TypeFault.{TypeFault}
 use Rattle.typed_tree.specs.TypedTree.{TypedExpression, TypedGuard, TypedInvariant, TypedStatement, Havoc, Assign, Goto, TypedBlock, TypedSpecification, TypedProcedure, TypedProgram}
-use Rattle.typed_tree.specs.Scope.{Scope, axiom_scope, variable_at, unless_hidden}
+use Rattle.typed_tree.specs.Scope.{Scope, axiom_scope, variable_at, unless_hidden, fixed}
 use Rattle.typed_tree.specs.Typing.{type_of, same_type, has_type, is_some_of}
 use Rattle.typed_tree.specs.KeptRules.{is_right, is_arithmetic}
 use Rattle.typed_tree.proofs.Broken.{not_kept}
@@ -34,8 +34,8 @@ typed_first None t q h = refl
 typed_first (Some u) t q h = and_right (same_type t u) q h
 
 pub value_refuted : (s : Scope) (t : Ty) (e : TypedExpression) (f : TypeFault) → b.IsValueBroken s t e f → is_right s t e ≡ false
-value_refuted s t _ _ (b.inside e f h) = typed_first (type_of s e) t (is_arithmetic false e) (not_kept s false e f h)
-value_refuted s t _ _ (b.of_other_type e u h n) = and_left (has_type s t e) (is_arithmetic false e) (ap (is_some_of t) h ∙ n)
+value_refuted s t _ _ (b.inside e f h) = typed_first (type_of s e) t (is_arithmetic (fixed s) false e) (not_kept s false e f h)
+value_refuted s t _ _ (b.of_other_type e u h n) = and_left (has_type s t e) (is_arithmetic (fixed s) false e) (ap (is_some_of t) h ∙ n)
 
 pub condition_refuted : (s : Scope) (e : TypedExpression) (f : TypeFault) → b.IsConditionBroken s e f → is_condition s e ≡ false
 condition_refuted s e f h = value_refuted s types.Bool e f h

@@ -13,7 +13,7 @@ use Rattle.typed_tree.specs.Typing.{type_of, same_type}
 use Rattle.typed_tree.specs.BrokenRules.{place_of}
 use Rattle.typed_tree.specs.KeptRules.{is_right, is_arithmetic}
 use Rattle.typed_tree.specs.TypedTree.{TypedExpression, Cond, TypedProcedure, Call}
-use Rattle.typed_tree.specs.Scope.{Scope, variable_at}
+use Rattle.typed_tree.specs.Scope.{Scope, variable_at, fixed}
 use Rattle.typed_tree.specs.BrokenRules.{IsFault, IsBroken}
 use Rattle.boogie_tree.specs.declared.tree.Column.{Column}
 use Rattle.boogie_tree.specs.declared.tree.Column.TheVariants as columns
@@ -115,6 +115,6 @@ call_judged (Ok x) k at cs n es p t s h = rw (t, s) h
 call_judged (Err f) k at cs n es p t s (inl m) = inl m
 call_judged (Err f) k at cs n es p t s (inr b) = inr (called k at cs n es p f s b)
 
-pub right_of : (s : Scope) (t u : Ty) (e : TypedExpression) → type_of s e ≡ Some u → same_type t u ≡ true → is_arithmetic false e ≡ true →
+pub right_of : (s : Scope) (t u : Ty) (e : TypedExpression) → type_of s e ≡ Some u → same_type t u ≡ true → is_arithmetic (fixed s) false e ≡ true →
     is_right s t e ≡ true
 right_of s t u e h n a = rw (h, n, a) refl

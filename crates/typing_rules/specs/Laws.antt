@@ -7,7 +7,7 @@ use Rattle.boogie_tree.specs.declared.tree.Column.{Column}
 use Rattle.boogie_tree.specs.declared.tree.Column.TheVariants as columns
 use Rattle.boogie_tree.specs.declared.tree.VarInfo.{VarInfo}
 use Rattle.typed_tree.specs.TypedTree.{TypedExpression, Lit, Truth, Var, Old, Not, Neg, Bin, TypedGuard, TypedInvariant, TypedStatement, Havoc, Call, If, While, Goto, TypedBlock, Then, TypedSpecification, TypedProcedure, TypedProgram}
-use Rattle.typed_tree.specs.Scope.{Scope, axiom_scope, body_scope, variable_at}
+use Rattle.typed_tree.specs.Scope.{Scope, axiom_scope, body_scope, variable_at, fixed}
 use Rattle.typed_tree.specs.Typing.{type_of}
 use Rattle.typed_tree.specs.KeptRules.{is_right, is_arithmetic}
 use Rattle.typing_rules.specs.Counts.{places}
@@ -58,7 +58,7 @@ SpecificationsAreTyped = (t : TypedProgram) (p : TypedProcedure) (s : TypedSpeci
 
 -- An expression that is right has its type and keeps the rules of arithmetic.
 abbrev pub RightOnesHaveTypes : Type 0
-RightOnesHaveTypes = (s : Scope) (ty : Ty) (e : TypedExpression) → is_right s ty e ≡ true → (type_of s e ≡ Some ty) × (is_arithmetic false e ≡ true)
+RightOnesHaveTypes = (s : Scope) (ty : Ty) (e : TypedExpression) → is_right s ty e ≡ true → (type_of s e ≡ Some ty) × (is_arithmetic (fixed s) false e ≡ true)
 
 -- Each column that an expression with a type reads is one that is seen.
 abbrev pub ColumnsAreSeen : Type 0

@@ -7,7 +7,7 @@ use Rattle.cond_jumps.specs.Environments.{Environment}
 use Rattle.cond_jumps.specs.Frames.{frame_environment}
 use Rattle.cond_jumps.specs.Paths.{paths}
 use Rattle.cond_jumps.proofs.EvenLemmas.{named_even}
-use Rattle.cond_jumps.proofs.PairAnswers.{one_width, width_handed_on}
+use Rattle.cond_jumps.proofs.PairAnswers.{one_width, either_wide, width_handed_on}
 use Rattle.cond_jumps.proofs.WidthAnswers.{first_wide, second_wide}
 use Rattle.cond_jumps.proofs.assignments.truth_width.Goals as goal
 
@@ -19,6 +19,16 @@ returns c = λ n target l m.
     c.width_then.ensures (With (paths v false e true) (Just (named target true))) (With (paths v false e false) (Just (named target false))) n
     (c.in_ok-hit.ensures (paths v false e true) (Just (named target true)) n (named_even n target true m) w.wanted (one_width target true n))
     (c.in_ok-miss.ensures (paths v false e false) (Just (named target false)) n (named_even n target false m) w.other (one_width target false n))
+
+pub returns-in_err-members : goal.returns-in_err-members
+returns-in_err-members c = λ n target l m.
+    let v : Environment = frame_environment c.args.frame.now.columns.items in
+    let e : TypedExpression = expression c.args.value.now in
+    let p : Plan = With (paths v false e true) (Just (named target true)) in
+    let q : Plan = With (paths v false e false) (Just (named target false)) in
+    let f = c.in_err-members.ensures n l in
+    width_handed_on (Then p q) n c.from_residual.result c.in_err-members.field-0.0 c.from_residual.ensures.1
+    ((λ t. either_wide (paths v false e true) (paths v false e false) (Just (named target true)) (Just (named target false)) n (f.0 t)), f.1)
 
 pub returns-in_err-hit : goal.returns-in_err-hit
 returns-in_err-hit c = λ n target l m.
