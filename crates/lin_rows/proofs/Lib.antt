@@ -10,4 +10,3 @@ mod MakingLemmas
 pub mod PointLemmas
 pub mod NegatingLemmas
 pub mod SystemLaws
-pub mod DivisorLaws

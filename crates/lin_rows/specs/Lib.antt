@@ -7,4 +7,3 @@ pub mod Combinations
 pub mod Negating
 pub mod Points
 pub mod Systems
-pub mod Divisors

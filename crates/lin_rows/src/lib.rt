@@ -17,7 +17,6 @@ ghost use Rattle.std.specs.Prelude.{ℕ, ℤ, List};
 ghost use Rattle.std.specs.List.{AllByRecursion};
 ghost use Rattle.lin_rows.specs.Rows.{LinearRow, Holds};
 ghost use Rattle.lin_rows.specs.Combinations.{Contradicts};
-ghost use Rattle.lin_rows.specs.Divisors.{MagnitudesHaveOneDivisor, RenamedTermsHaveOneDivisor};
 
 pub use make::{row, system};
 pub use negating::negate;
@@ -32,14 +31,4 @@ pub use types::{Col, Past, Row, RowFault, RowKind};
 pub fn contradiction_is_sound()
     ensures { (rows : List LinearRow) (parts : List (ℕ × ℤ)) (point : ℕ → ℤ) →
         Contradicts rows parts → AllByRecursion (Holds point) rows → ⊥ }
-{}
-
-/// The greatest common divisor by which a row is tightened depends on the magnitudes of its coefficients alone.
-pub fn magnitudes_have_one_divisor()
-    ensures { MagnitudesHaveOneDivisor }
-{}
-
-/// It is the same whatever numbers the columns have, and in whatever order they stand then.
-pub fn renamed_terms_have_one_divisor()
-    ensures { RenamedTermsHaveOneDivisor }
 {}
