@@ -1,0 +1,5 @@
+pub mod Reading
+pub mod Standing
+pub mod Acting
+pub mod Defaults
+pub mod Laws
