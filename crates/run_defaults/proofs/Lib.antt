@@ -1,0 +1,11 @@
+pub mod Parts
+pub mod Searches
+pub mod Nesting
+pub mod Columns
+pub mod Valid
+pub mod Points
+pub mod Actions
+pub mod Lengths
+pub mod Runs
+pub mod NoDefaults
+pub mod Refusals

@@ -1,5 +1,5 @@
 -- When a frame stands at a point where something is to be done: a break finds its loop, a goto its labels, and a call its procedure.
-use Rattle.std.specs.Prelude.{◌≡◌, ℕ, zero, suc, ◌+◌, ◌<◌, ◌≤◌, false, List, [], ◌∷◌, length, Option, None, Some, IsSomeAnd, MatchBool, slice_get}
+use Rattle.std.specs.Prelude.{◌≡◌, ℕ, zero, suc, ◌+◌, ◌<◌, ◌≤◌, false, List, [], ◌∷◌, length, IsSomeAnd, MatchBool, slice_get}
 use Rattle.std.specs.List.{AllByRecursion}
 use Rattle.boogie_tree.specs.declared.span.Span.{Span}
 use Rattle.typed_tree.specs.TypedTree.{TypedGuard, TypedInvariant, TypedStatement, Havoc, Call, If, While, Break, Goto, Label, TypedBlock, Empty, Then, TypedProcedure, TypedProgram}
@@ -27,8 +27,8 @@ FindsLoop (suc n) (t ∷ ts) = MatchBool t.of_loop (AtLoop ts × FindsLoop n ts)
 
 -- what follows label k in the block, or in a block inside it
 pub data FollowsLabel (k : ℕ) : TypedBlock → TypedBlock → Type 0 where
-  first : (b : TypedBlock) → FollowsLabel k (Then (Label k) b) b
-  later : (s : TypedStatement) (b r : TypedBlock) → FollowsLabel k b r → FollowsLabel k (Then s b) r
+  at_label : (b : TypedBlock) → FollowsLabel k (Then (Label k) b) b
+  further : (s : TypedStatement) (b r : TypedBlock) → FollowsLabel k b r → FollowsLabel k (Then s b) r
   in_then : (at : Span) (g : TypedGuard) (x y b r : TypedBlock) → FollowsLabel k x r → FollowsLabel k (Then (If at g x y) b) r
   in_else : (at : Span) (g : TypedGuard) (x y b r : TypedBlock) → FollowsLabel k y r → FollowsLabel k (Then (If at g x y) b) r
   in_loop : (at : Span) (g : TypedGuard) (is : List TypedInvariant) (x b r : TypedBlock) → FollowsLabel k x r → FollowsLabel k (Then (While at g is x) b) r
