@@ -17,3 +17,5 @@ pub mod SiteLemmas
 pub mod NamingLemmas
 pub mod LayoutLemmas
 pub mod FramesLemmas
+pub mod DistinctLemmas
+pub mod SharedNames

@@ -1,7 +1,8 @@
 -- Names of columns of one kind.
-use Rattle.std.proofs.Common.{◌≡◌, ◌↔◌, ℕ, ◌+◌, ◌-◌, ◌<◌, Bool, true, false, cond, List, ◌∷◌, map, length, take, drop, get_or, refl, sym, subst, inl, inr}
+use Rattle.std.proofs.Common.{◌≡◌, ◌↔◌, ◌∙◌, ℕ, ◌+◌, ◌-◌, ◌<◌, ◌≤◌, Bool, true, false, cond, List, [], ◌∷◌, map, length, take, drop, get_or, refl, sym, ap, subst, inl, inr}
 use Rattle.std.specs.Prelude.{filter}
 use Rattle.std.proofs.lemmas.Bool.{false≢true}
+use Rattle.std.proofs.lemmas.List.{drop_all}
 use Rattle.boogie_tree.specs.declared.tree.Column.{Column}
 use Rattle.boogie_tree.specs.declared.tree.VarInfo.{VarInfo}
 use Rattle.nwa_base.specs.Members.{Member}
@@ -54,3 +55,24 @@ differ_stop test Q frame i x d e l t h =
     let k = subst (λ (xs : Columns). AreDistinct (names_where test xs) ↔ Q) (drop_at frame i x d e l) h in
     let m = subst (λ (xs : Columns). (test x ≡ true) × Member (names_where test xs) x.1.name) (slice_rest frame i) t in
     not_so Q (λ q. repeated (test x) x (filter test (drop (i + 1) frame)) m.0 m.1 (k.1 q))
+
+-- what a list of names begins with, at a column that passes the test, or not
+pub name_in_front : (test : Column × VarInfo → Bool) (frame : Columns) (i : ℕ) (x d : Column × VarInfo) → x ≡ get_or frame i d → i < length frame → test x ≡ true →
+    names_where test (drop i frame) ≡ x.1.name ∷ names_where test (drop (i + 1) frame)
+name_in_front test frame i x d e l t = ap (names_where test) (drop_at frame i x d e l) ∙ front (test x) x (filter test (drop (i + 1) frame)) t
+  where
+    front : (b : Bool) (x : Column × VarInfo) (xs : Columns) → b ≡ true → map (λ c. c.1.name) (cond b (x ∷ xs) xs) ≡ x.1.name ∷ map (λ c. c.1.name) xs
+    front true x xs e = refl
+    front false x xs e = absurd (false≢true e)
+
+pub no_name_in_front : (test : Column × VarInfo → Bool) (frame : Columns) (i : ℕ) (x d : Column × VarInfo) → x ≡ get_or frame i d → i < length frame → test x ≡ false →
+    names_where test (drop i frame) ≡ names_where test (drop (i + 1) frame)
+no_name_in_front test frame i x d e l t = ap (names_where test) (drop_at frame i x d e l) ∙ front (test x) x (filter test (drop (i + 1) frame)) t
+  where
+    front : (b : Bool) (x : Column × VarInfo) (xs : Columns) → b ≡ false → map (λ c. c.1.name) (cond b (x ∷ xs) xs) ≡ map (λ c. c.1.name) xs
+    front true x xs e = absurd (false≢true (sym e))
+    front false x xs e = refl
+
+-- no column is left
+pub no_names_left : (test : Column × VarInfo → Bool) (frame : Columns) (i : ℕ) → length frame ≤ i → names_where test (drop i frame) ≡ []
+no_names_left test frame i l = ap (names_where test) (drop_all i frame l)

@@ -1,5 +1,5 @@
 -- Words for the functions that test the parts of a graph.
-use Rattle.std.specs.Prelude.{◌≡◌, ℕ, Bool, true, false, not, List, [], ◌∷◌, map, filter}
+use Rattle.std.specs.Prelude.{◌≡◌, ℕ, Bool, true, false, not, List, [], ◌∷◌, map, filter, IsTrue}
 use Rattle.std.specs.List.{AllByRecursion}
 use Rattle.boogie_tree.specs.declared.tree.Column.{Column}
 use Rattle.boogie_tree.specs.declared.tree.VarInfo.{VarInfo}
@@ -7,12 +7,19 @@ use Rattle.nwa_base.specs.declared.letters.Letter.{Letter}
 use Rattle.nwa_base.specs.Edges.{leaving}
 use Rattle.nwa_base.specs.Automata.{Automaton}
 use Rattle.letter_acts.specs.Frames.{Columns, ConstantsFirst, is_global, is_local}
-use Rattle.letter_acts.specs.Invariant.{is_global_at}
+use Rattle.letter_acts.specs.Names.{is_spelled}
+use Rattle.letter_acts.specs.Invariant.{AreDistinct, names_where, is_global_at}
 
 -- the columns of one of two kinds: the constants and globals, or the locals
 abbrev pub is_named_by : Bool → (Column × VarInfo) → Bool
 is_named_by true = is_global
 is_named_by false = is_local
+
+-- what the names of a frame keep apart from its constants and globals, which all frames share: those of its locals differ,
+-- and each is spelled as a name
+pub record HasOwnNames (frame : Columns) : Type 0 where
+  pub locals : AreDistinct (names_where is_local frame)
+  pub spelled : AllByRecursion (λ c. IsTrue (is_spelled c.1.name)) frame
 
 -- the targets that are no globals
 abbrev pub local_targets : Columns → List ℕ → List ℕ

@@ -1,4 +1,5 @@
-//! Whether parts make a graph: a test for each condition of the invariant. None of them takes memory.
+//! Whether parts make a graph: a test for each condition of the invariant. None of them wants for memory: what takes some has a
+//! slower way without.
 
 ghost use Rattle.std.specs.Prelude.{◌↔◌, IsTrue};
 ghost use Rattle.letter_acts.specs.Invariant.{IsGraph};

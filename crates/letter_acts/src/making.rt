@@ -11,8 +11,9 @@ use crate::sites::Site;
 use boogie_tree::Text;
 use nwa_base::Nwa;
 
-/// The graph of these parts, `None` exactly where they break its invariant. It takes no memory. It reads the parts about
-/// once, but compares names, and written columns, targets and places of sites that do not ascend, pair by pair.
+/// The graph of these parts, `None` exactly where they break its invariant. It reads the parts about once, and puts names into
+/// maps; it compares them pair by pair where there is no memory for these, and written columns, targets and places of sites where
+/// they do not ascend.
 pub fn icfg(
     nwa: Nwa,
     acts: Vec<Act>,

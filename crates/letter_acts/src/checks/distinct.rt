@@ -1,10 +1,13 @@
-//! Whether the members of a list differ. Numbers that ascend are read once, other members are compared pair by pair.
+//! Whether the members of a list differ. Numbers that ascend are read once, other numbers are compared pair by pair. Texts
+//! are put into a map, and compared pair by pair only where there is no memory for it.
 
-ghost use Rattle.std.specs.Prelude.{◌≡◌, ◌↔◌, IsTrue, map};
+ghost use Rattle.std.specs.Prelude.{◌≡◌, ◌↔◌, IsTrue, IfOk, map};
 ghost use Rattle.nwa_base.specs.Members.{Member};
 ghost use Rattle.letter_acts.specs.Invariant.{AreDistinct};
 
 use boogie_tree::Text;
+use std::alloc::{AllocError, Global};
+use std::collections::BTreeMap;
 
 /// Whether the number is one of the list.
 fn has_number(numbers: &[u32], number: u32) -> bool
@@ -51,8 +54,8 @@ fn has_text(texts: &[Text], text: &Text) -> bool
     texts.iter().any(|member| member.bytes() == text.bytes())
 }
 
-/// Whether the texts differ.
-pub(super) fn texts_differ(texts: &[Text]) -> bool
+/// Whether the texts differ, compared pair by pair.
+fn text_pairs_differ(texts: &[Text]) -> bool
     ensures { IsTrue result ↔ AreDistinct texts.now }
 {
     for i in 0..texts.len() {
@@ -61,4 +64,38 @@ pub(super) fn texts_differ(texts: &[Text]) -> bool
         }
     }
     true
+}
+
+/// Whether the slices differ, as a map of them finds.
+pub(super) fn slices_differ(alloc: Global, slices: &[&[u8]]) -> Result<bool, AllocError>
+    ensures { IfOk result (λ differ. IsTrue differ ↔ AreDistinct (map (λ b. b.now) slices.now)) }
+{
+    let mut found = BTreeMap::new(alloc);
+    for slice in slices {
+        if found.insert(*slice, true)?.is_some() {
+            return Ok(false);
+        }
+    }
+    Ok(true)
+}
+
+/// Whether the texts differ, as a map of them finds.
+fn mapped_texts_differ(alloc: Global, texts: &[Text]) -> Result<bool, AllocError>
+    ensures { IfOk result (λ differ. IsTrue differ ↔ AreDistinct texts.now) }
+{
+    let mut slices = Vec::with_capacity(alloc, texts.len())?;
+    for text in texts {
+        slices.push(text.bytes())?;
+    }
+    slices_differ(alloc, &slices)
+}
+
+/// Whether the texts differ.
+pub(super) fn texts_differ(alloc: Global, texts: &[Text]) -> bool
+    ensures { IsTrue result ↔ AreDistinct texts.now }
+{
+    match mapped_texts_differ(alloc, texts) {
+        Ok(differ) => differ,
+        Err(AllocError) => text_pairs_differ(texts),
+    }
 }

@@ -1,10 +1,19 @@
-use Rattle.std.proofs.Common.{rules}
-use Rattle.std.proofs.lemmas.Iterator.{YieldsList-from_slice}
-use borrow.Author.Tests.{tests}
-use Rattle.letter_acts.specs.Invariant.{HasNames}
-use Rattle.letter_acts.proofs.CheckLemmas.{all_said, all_map}
-use Rattle.letter_acts.proofs.LoopLemmas.{both_ways}
+use Rattle.std.proofs.Common.{◌∙◌, sym, subst}
+use Rattle.std.proofs.lemmas.Bool.{false≢true}
+use Rattle.letter_acts.specs.Frames.{Columns, is_global}
+use Rattle.letter_acts.specs.Invariant.{AreDistinct, names_where}
+use Rattle.letter_acts.proofs.SharedNames.{names_by_first}
 use Rattle.letter_acts.proofs.checks.naming.have_names.Goals as goal
 
-pub returns : goal.returns
-returns c = both_ways _ _ _ (all_said (λ f. HasNames f.columns.items) _ _ _ c.all.ensures.ran (YieldsList-from_slice c.args.frames.now cc) (λ x q k. search (rules, tests)) (λ x q k p. search (rules, tests))) (all_map (λ f. f.columns.items) _ _)
+pub returns-then-names_differ : goal.returns-then-names_differ
+returns-then-names_differ c =
+    let k = names_by_first c.args.frames.now c.in-Some.first.now c.in-Some.ensures.value c.requires in
+    let d = subst (λ (xs : Columns). AreDistinct (names_where is_global xs)) c.as_slice.ensures.value (c.names_differ.ensures.0 c.if-names_differ.true) in
+    (λ e. k.0 (d, c.have_own_names.ensures.0 e), λ h. c.have_own_names.ensures.1 (k.1 h).1)
+
+pub returns-else-names_differ : goal.returns-else-names_differ
+returns-else-names_differ c =
+    let k = names_by_first c.args.frames.now c.in-Some.first.now c.in-Some.ensures.value c.requires in (
+      λ e. absurd (false≢true (sym c.if-names_differ.false ∙ e)),
+      λ h. c.names_differ.ensures.1 (subst (λ (xs : Columns). AreDistinct (names_where is_global xs)) (sym c.as_slice.ensures.value) (k.1 h).0),
+    )

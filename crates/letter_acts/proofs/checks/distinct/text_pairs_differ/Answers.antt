@@ -1,6 +1,6 @@
 use Rattle.letter_acts.specs.Invariant.{AreDistinct}
 use Rattle.letter_acts.proofs.LoopLemmas.{refuted, plain_step, ended}
-use Rattle.letter_acts.proofs.checks.distinct.texts_differ.Goals as goal
+use Rattle.letter_acts.proofs.checks.distinct.text_pairs_differ.Goals as goal
 
 pub loop-i-preserved : goal.loop-i-preserved
 loop-i-preserved c =

@@ -2,7 +2,7 @@ use Rattle.letter_acts.specs.Invariant.{AreDistinct, names_where}
 use Rattle.letter_acts.specs.Checks.{is_named_by}
 use Rattle.letter_acts.proofs.LoopLemmas.{refuted, ended}
 use Rattle.letter_acts.proofs.NamingLemmas.{differ_step, differ_stop}
-use Rattle.letter_acts.proofs.checks.naming.names_differ.Goals as goal
+use Rattle.letter_acts.proofs.checks.naming.name_pairs_differ.Goals as goal
 
 pub returns-then-is_repeated : goal.returns-then-is_repeated
 returns-then-is_repeated c =
