@@ -7,6 +7,7 @@ pub mod StepLemmas
 pub mod TrimLemmas
 pub mod CollectLemmas
 pub mod MadeLemmas
+mod BoundLemmas
 pub mod MarkLemmas
 pub mod OrderLemmas
 pub mod TestLemmas

@@ -6,7 +6,7 @@ use Rattle.nwa_base.specs.Members.{Member}
 use Rattle.nwa_base.proofs.MemberLemmas.{member_front, member_rest, member_split}
 use Rattle.nwa_reduce.specs.Ways.{IsWay}
 use Rattle.nwa_reduce.specs.Searching.{IsSearched, Inserts}
-use Rattle.nwa_reduce.proofs.ListLemmas.{get_member, get_within, member_get, same_some, only_member, past_end}
+use Rattle.nwa_reduce.proofs.ListLemmas.{get_member, get_within, member_get, same_some, only_member}
 use Rattle.nwa_reduce.proofs.WayLemmas.{way_last}
 
 pub inserts_none : (old : List ℕ) → Inserts old [] old
@@ -101,6 +101,3 @@ searched_whole next roots found i l s = record {
       s.closed g.0 q e (omega arith) g.1 n;
   reached = s.reached;
 }
-
-pub searched_past : (next : ℕ → List ℕ) (roots found : List ℕ) (i : ℕ) → slice_get found i ≡ None → IsSearchedTo i next roots found → IsSearched next roots found
-searched_past next roots found i e s = searched_whole next roots found i (past_end found i e) s

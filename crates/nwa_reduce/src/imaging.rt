@@ -1,7 +1,10 @@
 //! Automata under names: states with one name become one, and states without a name are left out.
 
-ghost use Rattle.std.specs.Prelude.{◌≡◌, ◌++◌, ◌↔◌, ℕ, List, [], Some, Ok, IfOk, OnOk};
+ghost use Rattle.std.specs.Prelude.{◌≡◌, ◌≢◌, ◌<◌, ◌++◌, ◌↔◌, ℕ, List, [], Some, Ok, Err, IfOk, OnOk};
+ghost use Rattle.std.specs.List.{AllByRecursion};
+ghost use Rattle.nwa_base.specs.declared.letters.Kind.TheVariants.{Inside, Call};
 ghost use Rattle.nwa_base.specs.declared.letters.Letter.{Letter};
+ghost use Rattle.nwa_base.specs.Automata.{IsAutomaton, IsEdge, IsBackEdge};
 ghost use Rattle.nwa_base.specs.Members.{Member};
 ghost use Rattle.nwa_reduce.specs.Naming.{named, IsNaming};
 ghost use Rattle.nwa_reduce.specs.Images.{Among, IsNamedEdge, IsNamedBack, IsImage};
@@ -28,8 +31,10 @@ pub fn image(alloc: Global, nwa: &Nwa, names: &Names) -> Result<Nwa, AllocError>
 fn fill(alloc: Global, nwa: &Nwa, names: &Names, image: &mut Nwa) -> Result<(), AllocError>
     requires start { named names.now.of.items nwa.now.start ≡ Some image.old.start }
     requires bare { image.old ≡ record { states = image.old.states; start = image.old.start; finals = []; insides = []; calls = []; backs = [] } }
+    requires within { (q x : ℕ) → named names.now.of.items q ≡ Some x → x < image.old.states }
     ensures { OnOk result (IsImage nwa.now (named names.now.of.items) image.new × (image.new.states ≡ image.old.states)) }
 {
+    let _states = nwa.states();
     name_finals(alloc, nwa, names, image)?;
     name_insides(alloc, nwa, names, image)?;
     name_calls(alloc, nwa, names, image)?;
@@ -38,6 +43,7 @@ fn fill(alloc: Global, nwa: &Nwa, names: &Names, image: &mut Nwa) -> Result<(), 
 
 /// Adds the names of the final states.
 fn name_finals(alloc: Global, nwa: &Nwa, names: &Names, image: &mut Nwa) -> Result<(), AllocError>
+    requires { (q x : ℕ) → named names.now.of.items q ≡ Some x → x < image.old.states }
     ensures { OnOk result ((s : List ℕ) × (image.new ≡ record image.old { finals = image.old.finals ++ s }) × ((x : ℕ) → Member s x ↔ Among (λ q y. named names.now.of.items q ≡ Some y) nwa.now.finals x)) }
 {
     let states = named_states(alloc, nwa.finals(), names)?;
@@ -46,6 +52,8 @@ fn name_finals(alloc: Global, nwa: &Nwa, names: &Names, image: &mut Nwa) -> Resu
 
 /// Adds the inside edges between names.
 fn name_insides(alloc: Global, nwa: &Nwa, names: &Names, image: &mut Nwa) -> Result<(), AllocError>
+    requires automaton { IsAutomaton nwa.now }
+    requires within { (q x : ℕ) → named names.now.of.items q ≡ Some x → x < image.old.states }
     ensures { OnOk result ((s : List (ℕ × Letter × ℕ)) × (image.new ≡ record image.old { insides = image.old.insides ++ s }) × ((x : ℕ × Letter × ℕ) → Member s x ↔ Among (IsNamedEdge (named names.now.of.items)) nwa.now.insides x)) }
 {
     let edges = named_edges(alloc, nwa.insides(), names)?;
@@ -54,6 +62,8 @@ fn name_insides(alloc: Global, nwa: &Nwa, names: &Names, image: &mut Nwa) -> Res
 
 /// Adds the edges by calls between names.
 fn name_calls(alloc: Global, nwa: &Nwa, names: &Names, image: &mut Nwa) -> Result<(), AllocError>
+    requires automaton { IsAutomaton nwa.now }
+    requires within { (q x : ℕ) → named names.now.of.items q ≡ Some x → x < image.old.states }
     ensures { OnOk result ((s : List (ℕ × Letter × ℕ)) × (image.new ≡ record image.old { calls = image.old.calls ++ s }) × ((x : ℕ × Letter × ℕ) → Member s x ↔ Among (IsNamedEdge (named names.now.of.items)) nwa.now.calls x)) }
 {
     let edges = named_edges(alloc, nwa.calls(), names)?;
@@ -62,6 +72,8 @@ fn name_calls(alloc: Global, nwa: &Nwa, names: &Names, image: &mut Nwa) -> Resul
 
 /// Adds the edges by returns between names.
 fn name_backs(alloc: Global, nwa: &Nwa, names: &Names, image: &mut Nwa) -> Result<(), AllocError>
+    requires automaton { IsAutomaton nwa.now }
+    requires within { (q x : ℕ) → named names.now.of.items q ≡ Some x → x < image.old.states }
     ensures { OnOk result ((s : List (ℕ × ℕ × Letter × ℕ)) × (image.new ≡ record image.old { backs = image.old.backs ++ s }) × ((x : ℕ × ℕ × Letter × ℕ) → Member s x ↔ Among (IsNamedBack (named names.now.of.items)) nwa.now.backs x)) }
 {
     let edges = named_backs(alloc, nwa.backs(), names)?;
@@ -115,7 +127,9 @@ fn named_backs(
     Ok(set)
 }
 
+/// Makes states of the image final.
 fn add_finals(image: &mut Nwa, states: &[u32]) -> Result<(), AllocError>
+    requires { AllByRecursion (λ q. q < image.old.states) states.now }
     ensures { OnOk result (image.new ≡ record image.old { finals = image.old.finals ++ states.now }) }
 {
     for &state in states {
@@ -124,7 +138,9 @@ fn add_finals(image: &mut Nwa, states: &[u32]) -> Result<(), AllocError>
     Ok(())
 }
 
+/// Adds edges between states of the image by inside letters.
 fn add_insides(image: &mut Nwa, edges: &[(u32, Letter, u32)]) -> Result<(), AllocError>
+    requires { AllByRecursion (IsEdge image.old.states Inside) edges.now }
     ensures { OnOk result (image.new ≡ record image.old { insides = image.old.insides ++ edges.now }) }
 {
     for &(state, letter, end) in edges {
@@ -133,7 +149,9 @@ fn add_insides(image: &mut Nwa, edges: &[(u32, Letter, u32)]) -> Result<(), Allo
     Ok(())
 }
 
+/// The same by call letters.
 fn add_calls(image: &mut Nwa, edges: &[(u32, Letter, u32)]) -> Result<(), AllocError>
+    requires { AllByRecursion (IsEdge image.old.states Call) edges.now }
     ensures { OnOk result (image.new ≡ record image.old { calls = image.old.calls ++ edges.now }) }
 {
     for &(state, letter, end) in edges {
@@ -142,7 +160,9 @@ fn add_calls(image: &mut Nwa, edges: &[(u32, Letter, u32)]) -> Result<(), AllocE
     Ok(())
 }
 
+/// The same by returns.
 fn add_backs(image: &mut Nwa, edges: &[(u32, u32, Letter, u32)]) -> Result<(), AllocError>
+    requires { AllByRecursion (IsBackEdge image.old.states) edges.now }
     ensures { OnOk result (image.new ≡ record image.old { backs = image.old.backs ++ edges.now }) }
 {
     for &(state, before, letter, end) in edges {
@@ -151,12 +171,15 @@ fn add_backs(image: &mut Nwa, edges: &[(u32, u32, Letter, u32)]) -> Result<(), A
     Ok(())
 }
 
-/// What was made, or want of memory: the states and the letters' kinds are right by construction.
+/// What was made of states and letters that fit, or want of memory.
 fn in_memory<T: Drop>(outcome: Result<T, NwaFault>) -> Result<T, AllocError>
+    requires state { outcome ≢ Err NwaFault.BadState }
+    requires letter { outcome ≢ Err NwaFault.BadLetter }
     ensures { IfOk result (λ value. outcome ≡ Ok value) }
 {
     match outcome {
         Ok(value) => Ok(value),
-        Err(_) => Err(AllocError),
+        Err(NwaFault::Memory) => Err(AllocError),
+        Err(NwaFault::BadState | NwaFault::BadLetter) => unreachable!(),
     }
 }

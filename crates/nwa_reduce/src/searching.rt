@@ -19,13 +19,13 @@ pub fn search(
 {
     let mut found = IndexSet::new(alloc);
     insert_all(&mut found, roots)?;
-    for place in 0..usize::MAX {
-        let Some(&state) = found.get_index(place) else {
-            return Ok(found);
-        };
+    let mut place = 0;
+    while place < found.len() {
+        let state = *found.get_index(place).unwrap();
         insert_all(&mut found, steps.of(&state))?;
+        place += 1;
     }
-    Err(AllocError)
+    Ok(found)
 }
 
 /// Inserts each of the states at the end, unless it stands there already.

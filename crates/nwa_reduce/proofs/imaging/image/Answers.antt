@@ -1,4 +1,4 @@
-use Rattle.std.proofs.Common.{◌∙◌, Some, sym, ap}
+use Rattle.std.proofs.Common.{◌≡◌, ◌∙◌, ◌<◌, ℕ, Some, sym, ap, subst}
 use Rattle.nwa_base.specs.Automata.{Automaton}
 use Rattle.nwa_reduce.specs.Naming.{named}
 use Rattle.nwa_reduce.proofs.MadeLemmas.{made_ok, bare_is}
@@ -12,6 +12,12 @@ fill-requires-clause-start c =
 pub fill-requires-clause-bare : goal.fill-requires-clause-bare
 fill-requires-clause-bare c =
     bare_is c.in_ok-image.image c.args.names.now.count c.in-Some.start (made_ok _ _ _ c.in_ok-image.ensures c.empty.ensures.value)
+
+pub fill-requires-clause-within : goal.fill-requires-clause-within
+fill-requires-clause-within c q x e =
+    let states : c.in_ok-image.image.states ≡ c.args.names.now.count =
+    ap (λ (z : Automaton). z.states) (made_ok _ _ _ c.in_ok-image.ensures c.empty.ensures.value) in
+    subst (λ (n : ℕ). x < n) (sym states) (c.requires.within q x e)
 
 pub returns : goal.returns
 returns c = (
