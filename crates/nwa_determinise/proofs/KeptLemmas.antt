@@ -63,7 +63,8 @@ back_stays d e a b s t g k i j h =
     (subst (λ (x : List (ℕ × ℕ)). IsBackOf d.nwa a (set_at d b) x (set_at e t)) (sym (set_stays d e s g i))
     (subst (λ (x : List (ℕ × ℕ)). IsBackOf d.nwa a (set_at d b) (set_at d s) x) (sym (set_stays d e t g j)) h)))
 
-leads_stays : (d e : Kept) (kind : Kind) (a : Letter) (before after : List ℕ) (s t : ℕ) → Grows d e →
+-- what a letter leads to stays so
+pub leads_stays : (d e : Kept) (kind : Kind) (a : Letter) (before after : List ℕ) (s t : ℕ) → Grows d e →
     LeadsTo d kind a before s after t → LeadsTo e kind a before s after t
 leads_stays d e Inside a before after s t g h =
     (number_stays d e s g h.0, number_stays d e t g h.1, inside_stays d e a s t g h.0 h.1 h.2, h.3)

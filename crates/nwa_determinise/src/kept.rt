@@ -2,26 +2,42 @@
 
 ghost use Rattle.std.specs.Prelude.{◌≡◌, ◌<◌, ◌↔◌, ◌∷◌, [], List, IsTrue, IfOk, OnErr, length};
 
+use crate::notes::note;
 use indexmap::IndexSet;
 use nwa_base::{Letter, Nwa, Pair, has_final};
 use std::alloc::{AllocError, Global};
+use std::collections::HashMap;
 use std::marker::Model;
 
 /// Sets of pairs of states, each a state before the innermost open call and a present state, to which words lead in an
-/// automaton. Each set is kept once, and named by a number.
+/// automaton. Each set is kept once, and named by a number. Where a letter leads from a set is computed once, as long as there is
+/// memory to note it.
 #[derive(Drop)]
 pub struct Det<'a> {
     alloc: Global,
     nwa: &'a Nwa,
     sets: IndexSet<Vec<Pair>>,
+    /// Where inside letters lead from sets.
+    insides: HashMap<(u32, Letter), u32>,
+    /// Where calls lead from sets.
+    calls: HashMap<(u32, Letter), u32>,
+    /// Where returns lead from sets, each with the set before the call.
+    backs: HashMap<(u32, u32, Letter), u32>,
 }
 
 impl<'a> Model for Det<'a> {
+    ghost use Rattle.std.specs.HashMap.{get};
     ghost use Rattle.nwa_determinise.specs.Kept.{Kept, lists_of};
+    ghost use Rattle.nwa_determinise.specs.Noted.{AreNoted};
 
     ghost Value = { Kept };
 
     ghost view = { λ d. record { nwa = d.nwa.now; sets = lists_of d.sets.keys } };
+
+    ghost invariant = { λ d. AreNoted (record { nwa = d.nwa.now; sets = lists_of d.sets.keys })
+        (get ⟦<(u32, Letter) as PartialEq>⟧.eq d.insides)
+        (get ⟦<(u32, Letter) as PartialEq>⟧.eq d.calls)
+        (get ⟦<(u32, u32, Letter) as PartialEq>⟧.eq d.backs) };
 }
 
 impl<'a> Det<'a> {
@@ -39,6 +55,9 @@ impl<'a> Det<'a> {
             alloc,
             nwa,
             sets: IndexSet::new(alloc),
+            insides: HashMap::new(alloc),
+            calls: HashMap::new(alloc),
+            backs: HashMap::new(alloc),
         }
     }
 
@@ -64,8 +83,13 @@ impl<'a> Det<'a> {
         ensures once { IfOk result (HasOneNumber self.old self.new) }
         ensures set { IfOk result (λ t. IsInsideOf self.old.nwa a (set_at self.old s) (set_at self.new t)) }
     {
+        if let Some(&known) = self.insides.get(&(s, a)) {
+            return Ok(known);
+        }
         let set = nwa_base::on_inside(self.alloc, self.nwa, self.pairs(s), a)?;
-        self.intern(set)
+        let next = self.intern(set)?;
+        note(&mut self.insides, (s, a), next);
+        Ok(next)
     }
 
     /// The set to which the call letter `c` leads from `s`.
@@ -77,8 +101,13 @@ impl<'a> Det<'a> {
         ensures once { IfOk result (HasOneNumber self.old self.new) }
         ensures set { IfOk result (λ t. IsCallOf self.old.nwa c (set_at self.old s) (set_at self.new t)) }
     {
+        if let Some(&known) = self.calls.get(&(s, c)) {
+            return Ok(known);
+        }
         let set = nwa_base::on_call(self.alloc, self.nwa, self.pairs(s), c)?;
-        self.intern(set)
+        let next = self.intern(set)?;
+        note(&mut self.calls, (s, c), next);
+        Ok(next)
     }
 
     /// The set to which the return `r` leads from `s`, where `before` was the set before the matching call.
@@ -91,8 +120,13 @@ impl<'a> Det<'a> {
         ensures once { IfOk result (HasOneNumber self.old self.new) }
         ensures set { IfOk result (λ t. IsBackOf self.old.nwa r (set_at self.old before) (set_at self.old s) (set_at self.new t)) }
     {
+        if let Some(&known) = self.backs.get(&(s, before, r)) {
+            return Ok(known);
+        }
         let set = nwa_base::on_back(self.alloc, self.nwa, self.pairs(before), self.pairs(s), r)?;
-        self.intern(set)
+        let next = self.intern(set)?;
+        note(&mut self.backs, (s, before, r), next);
+        Ok(next)
     }
 
     /// Whether a pair of the set ends in a final state. After any word that was read from the start by the calls above, this

@@ -5,6 +5,7 @@
 mod kept;
 pub mod laws;
 mod making;
+mod notes;
 
 pub use kept::Det;
 pub use making::det;
