@@ -18,7 +18,7 @@ use Rattle.lowered_parts.specs.Lists.{entered_arcs, list_arcs}
 use Rattle.cond_jumps.specs.declared.fault.JumpFault.{JumpFault}
 use Rattle.cond_jumps.specs.declared.fault.JumpFault.TheVariants.{TooWide, TooBig, Memory}
 use Rattle.place_edges.specs.declared.faults.Trouble.{Trouble}
-use Rattle.place_edges.specs.Answered.{IsAnswer, IsImported, IsMade, IsRefused, IsTold, ensures_needed}
+use Rattle.place_edges.specs.Answered.{IsAnswer, IsImported, IsMade, IsPassed, IsRefused, IsTold, ensures_needed}
 use Rattle.call_jumps.specs.CallLists.{import_base, import_plan}
 use Rattle.call_jumps.specs.declared.imports.Import.{Import}
 use Rattle.lowered_steps.specs.Edges.{import_list, import_written}
@@ -96,6 +96,14 @@ answered cs k (Ok v) l n f w b = (l, (n refl, f refl))
 answered cs k (Err TooWide) l n f w b = w refl
 answered cs k (Err TooBig) l n f w b = b refl
 answered cs k (Err Memory) l n f w b = tt
+
+-- the rows of a call, which are one member
+pub passed : (cs : List Conjunction) (k : Needed) (r : Result Conj JumpFault) → IfOk r (λ c. conjunction c ∷ [] ≡ cs) → (IsOk r → is_wide k.plan k.base ≡ false) →
+    (IsOk r → all_fit k.plan k.base ≡ true) → (r ≡ Err TooWide → ⊥) → (r ≡ Err TooBig → (is_wide k.plan k.base ≡ false) × (all_fit k.plan k.base ≡ false)) → IsPassed cs k r
+passed cs k (Ok c) l n f w b = (l, (n refl, f refl))
+passed cs k (Err TooWide) l n f w b = absurd (w refl)
+passed cs k (Err TooBig) l n f w b = b refl
+passed cs k (Err Memory) l n f w b = tt
 
 -- edges by a list with which nothing is wrong
 pub led : (xs : List Arc) (k : Needed) (old new : Walked) → IsMade k → new ≡ record old { lettered = with_arcs old.lettered xs } → Leads xs (k ∷ []) false false old new
