@@ -17,6 +17,7 @@ pub mod NamedColumns
 pub mod FrameTargets
 pub mod EdgeActs
 pub mod CallActs
+mod GraphStates
 pub mod GraphActs
 pub mod GraphNames
 pub mod TargetsDiffer

@@ -113,7 +113,7 @@ actions_typed known imports t v = record {
 
 -- ---- the graph
 
-no_olds : (t : TypedProgram) → ActionsAreTyped t → WriteNoOlds t
+pub no_olds : (t : TypedProgram) → ActionsAreTyped t → WriteNoOlds t
 no_olds t w n p k e m = (edge_acted t n p (action_at t n p) e (w.writes n p k) m).new
 
 pub is_graph : (l : PlaceLaws) (known : PointsAreKnown) (imports : ImportsAreKnown) (t : TypedProgram) → IsTrue (is_valid t) → ActsFit (letters_of t) → IsGraph (lowered t)

@@ -3,6 +3,7 @@ use Rattle.std.specs.Prelude.{◌≡◌, ◌↔◌, ℕ, IsTrue, List, []}
 use Rattle.typed_tree.specs.TypedTree.{TypedProgram}
 use Rattle.typing_rules.specs.ValidProgram.{is_valid}
 use Rattle.nwa_base.specs.declared.letters.Letter.{Letter}
+use Rattle.nwa_base.specs.Automata.{IsAutomaton}
 use Rattle.nwa_base.specs.Members.{Member}
 use Rattle.letter_acts.specs.declared.sites.Site.{Site}
 use Rattle.letter_acts.specs.Feasible.{IsFeasible, edges}
@@ -37,3 +38,7 @@ MachineIsJoined = (t : TypedProgram) → IsTrue (is_valid t) → (i : ℕ) → M
 -- The graph of a typed program is as the invariant of graphs asks, wherever the numbers of the columns of its acts fit.
 abbrev pub LoweredIsGraph : Type 0
 LoweredIsGraph = (t : TypedProgram) → IsTrue (is_valid t) → ActsFit (alphabet_of (lowered t)) → IsGraph (lowered t)
+
+-- The edges of the graph of a typed program lead between its states, by letters of their kind, whatever the numbers of its columns.
+abbrev pub LoweredIsAutomaton : Type 0
+LoweredIsAutomaton = (t : TypedProgram) → IsTrue (is_valid t) → IsAutomaton (lowered t).automaton

@@ -42,3 +42,11 @@ pub fn lowered_programs_are_graphs()
     places_of_typed_programs();
     points_of_typed_programs();
 }
+
+/// The edges of the graph of a typed program lead between its states, by letters of their kind, whatever the numbers of its columns.
+pub fn lowered_programs_have_automata()
+    ensures { law.LoweredIsAutomaton }
+{
+    places_of_typed_programs();
+    points_of_typed_programs();
+}
