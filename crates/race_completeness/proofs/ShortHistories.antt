@@ -1,5 +1,6 @@
 -- The words of a legal history and a kept word differ, so that a list of all words is longer than the history.
-use Rattle.std.proofs.Common.{◌≡◌, ℕ, suc, ◌<◌, ◌≤◌, ◌⊎◌, inl, inr, List, [], ◌∷◌, ◌++◌, length, sym, subst, refl, append_assoc, append-nil, arith}
+use Rattle.std.proofs.Common.{◌≡◌, ℕ, suc, ◌<◌, ◌≤◌, ◌⊎◌, inl, inr, List, [], ◌∷◌, ◌++◌, length, Option, Some, sym, subst, refl, append_assoc, append-nil, arith}
+use Rattle.std.specs.Prelude.{IfSome}
 use Rattle.nwa_base.specs.declared.letters.Letter.{Letter}
 use Rattle.nwa_base.specs.Members.{Member}
 use Rattle.nwa_base.specs.Automata.{Automaton}
@@ -7,10 +8,14 @@ use Rattle.nwa_base.specs.Acceptance.{Accepts}
 use Rattle.typed_tree.specs.TypedTree.{TypedProgram}
 use Rattle.lowered_graph.specs.Lowered.{lowered}
 use Rattle.race_core.specs.declared.ends.Cause.TheVariants.{Rounds}
+use Rattle.race_core.specs.declared.ends.End.{End}
 use Rattle.race_core.specs.declared.ends.End.TheVariants.{Unknown}
 use Rattle.race_core.specs.declared.events.Entry.{Entry}
 use Rattle.race_core.specs.Histories.{Removed, IsLegalAfter, IsLegal}
+use Rattle.race_core.specs.Races.{Race}
+use Rattle.itp_automaton.specs.Certified.{Certificate}
 use Rattle.race_rounds.specs.Ends.{Options, IsKept, EndMeets, no_word, one_word}
+use Rattle.race_rounds.specs.Rounds.{automaton_in, IsRaceOf}
 use Rattle.race_completeness.specs.Words.{HasWordsAmong}
 
 -- ---- one member less
@@ -80,5 +85,17 @@ module _ {E : Type 0} (automaton : E → Automaton) where
     never_over t o h w ws f le l (no_word e n) = absurd (let no : ⊥ = cc in no)
     never_over t o h w ws f le l (one_word v k s) =
         let lt = shorter (lowered t).automaton h v ws l k f in
-        let same : length h ≡ o.rounds = s.1.0 in
+        let over : o.rounds ≤ length h = s.1.0 in
         let no : ⊥ = omega arith in no
+
+-- ---- the rounds that are over
+
+over : (t : TypedProgram) (o : Options) (h : List (Entry Certificate)) (w : List Letter) → EndMeets automaton_in t o h (Unknown Rounds w) → o.rounds ≤ length h
+over t o h w (no_word e n) = absurd (let no : ⊥ = cc in no)
+over t o h w (one_word v k s) = s.1.0
+
+pub all_used : (t : TypedProgram) (o : Options) (r : Race Certificate) (w : List Letter) → IsRaceOf t o r → r.end ≡ Some (Unknown Rounds w) → length r.history ≡ o.rounds
+all_used t o r w race e =
+    let least = over t o r.history w (subst (λ (x : Option End). IfSome x (EndMeets automaton_in t o r.history)) e race.end) in
+    let most = race.within in
+    omega (arith, least, most)

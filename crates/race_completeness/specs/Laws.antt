@@ -1,5 +1,5 @@
 -- What holds of the ends of races.
-use Rattle.std.specs.Prelude.{◌≤◌, ◌<◌, List, length}
+use Rattle.std.specs.Prelude.{◌≡◌, ◌≤◌, ◌<◌, List, length, Some}
 use Rattle.nwa_base.specs.declared.letters.Letter.{Letter}
 use Rattle.nwa_base.specs.Automata.{Automaton}
 use Rattle.typed_tree.specs.TypedTree.{TypedProgram}
@@ -9,8 +9,9 @@ use Rattle.race_core.specs.declared.ends.Cause.TheVariants.{Rounds}
 use Rattle.race_core.specs.declared.ends.End.TheVariants.{Unknown}
 use Rattle.race_core.specs.declared.events.Entry.{Entry}
 use Rattle.race_core.specs.Histories.{IsLegal}
+use Rattle.race_core.specs.Races.{Race}
 use Rattle.race_rounds.specs.Ends.{Options, IsKept, EndMeets}
-use Rattle.race_rounds.specs.Rounds.{automaton_in}
+use Rattle.race_rounds.specs.Rounds.{automaton_in, IsRaceOf}
 use Rattle.race_completeness.specs.Words.{HasWordsAmong}
 
 -- A legal history is shorter than each list of all words of the program, where a word is kept.
@@ -23,3 +24,8 @@ abbrev pub RoundsAreEnough : Type 0
 RoundsAreEnough = (t : TypedProgram) (o : Options) (h : List (Entry Certificate)) (w : List Letter) (ws : List (List Letter)) →
     HasWordsAmong (lowered t).automaton ws → length ws ≤ o.rounds → IsLegal automaton_in IsFeasibleFor (lowered t).automaton h →
     EndMeets automaton_in t o h (Unknown Rounds w) → ⊥
+
+-- A race that has ended because its rounds are over has as many entries as rounds.
+abbrev pub AllRoundsAreUsed : Type 0
+AllRoundsAreUsed = (t : TypedProgram) (o : Options) (r : Race Certificate) (w : List Letter) → IsRaceOf t o r → r.end ≡ Some (Unknown Rounds w) →
+    length r.history ≡ o.rounds

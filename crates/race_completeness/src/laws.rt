@@ -11,3 +11,8 @@ pub fn histories_are_short()
 pub fn rounds_are_enough()
     ensures { law.RoundsAreEnough }
 {}
+
+/// A race that ends because its rounds are over has as many entries as rounds.
+pub fn all_rounds_are_used()
+    ensures { law.AllRoundsAreUsed }
+{}

@@ -1,5 +1,5 @@
 -- What is found of a word by way of its graph, said of the program.
-use Rattle.std.proofs.Common.{◌≡◌, ℕ, ℤ, List, refl, sym, subst}
+use Rattle.std.proofs.Common.{◌≡◌, ◌≤◌, ℕ, ℤ, List, refl, sym, subst}
 use Rattle.lin_rows.specs.Points.{point_of}
 use Rattle.farkas_check.specs.Nodes.{PlainNode}
 use Rattle.int_decide.specs.Decisions.{refuted, whole}
@@ -12,7 +12,7 @@ use Rattle.trace_replay.specs.ToldRuns.{ToldPasses, IsToldFault}
 use Rattle.trace_replay.specs.declared.causes.ReplayCause.{ReplayCause}
 use Rattle.trace_replay.specs.declared.causes.ReplayCause.TheVariants as causes
 use Rattle.trace_replay.specs.declared.causes.ReplayFault.TheVariants.{At}
-use Rattle.race_core.specs.declared.ends.Cause.TheVariants.{Rounds, Number}
+use Rattle.race_core.specs.declared.ends.Cause.TheVariants.{Rounds}
 use Rattle.race_core.specs.declared.ends.End.TheVariants.{Unknown}
 use Rattle.nested_refutations.specs.Numbers.{NumbersFit}
 use Rattle.race_rounds.specs.Ends.{Options, PredicatesFit, NumberPasses, of_decide, of_predicates, of_run, SaysOfWord}
@@ -46,7 +46,7 @@ pub run_passes : (t : TypedProgram) (g : Graph) (d depth : ℕ) (w : List Letter
 run_passes t g d depth w values step e s p h =
     of_run values step (subst (λ (x : ℕ). path_decision (lowered t) x w ≡ whole values) (sym s) (subst (λ (x : Graph). path_decision x depth w ≡ whole values) e p)) h
 
-pub rounds_say : (t : TypedProgram) (g : Graph) (o : Options) (n : ℕ) (v w : List Letter) (nodes : List PlainNode) → g ≡ lowered t → v ≡ w → n ≡ o.rounds →
+pub rounds_say : (t : TypedProgram) (g : Graph) (o : Options) (n : ℕ) (v w : List Letter) (nodes : List PlainNode) → g ≡ lowered t → v ≡ w → o.rounds ≤ n →
     RefutesPath g v nodes → SaysOfWord t o n w (Unknown Rounds w)
 rounds_say t g o n v w nodes e s r h =
     (refl, (r, (nodes, subst (λ (x : List Letter). RefutesPath (lowered t) x nodes) s (subst (λ (x : Graph). RefutesPath x v nodes) e h))))

@@ -1,5 +1,5 @@
 -- What an end of a race has to meet, over the program, the options and the history.
-use Rattle.std.specs.Prelude.{◌≡◌, ℕ, ℤ, List, length}
+use Rattle.std.specs.Prelude.{◌≡◌, ◌≤◌, ℕ, ℤ, List, length}
 use Rattle.std.specs.List.{AllByRecursion}
 use Rattle.math_facts.specs.Fits.{Fits}
 use Rattle.lin_rows.specs.Rows.{Holds}
@@ -60,7 +60,7 @@ pub data NumberPasses (t : TypedProgram) (depth : ℕ) (w : List Letter) : Type 
 
 -- why nothing is known of a word, where the history has n entries
 abbrev pub CauseMeets : TypedProgram → Options → ℕ → Cause → List Letter → Type 0
-CauseMeets t o n Rounds w = (n ≡ o.rounds) × ((nodes : List PlainNode) × RefutesPath (lowered t) w nodes)
+CauseMeets t o n Rounds w = (o.rounds ≤ n) × ((nodes : List PlainNode) × RefutesPath (lowered t) w nodes)
 CauseMeets t o n Whole w = IsGap (lowered t) o.depth w
 CauseMeets t o n Number w = NumberPasses t o.depth w
 

@@ -1,5 +1,5 @@
 -- What a round makes of a kept word, and what a race keeps.
-use Rattle.std.specs.Prelude.{◌≡◌, ◌≢◌, ℕ, List, IfSome}
+use Rattle.std.specs.Prelude.{◌≡◌, ◌<◌, ◌≤◌, ℕ, List, length, IfSome}
 use Rattle.std.specs.List.{AllByRecursion}
 use Rattle.nwa_base.specs.declared.letters.Letter.{Letter}
 use Rattle.nwa_base.specs.Automata.{Automaton}
@@ -7,8 +7,6 @@ use Rattle.nwa_base.specs.Acceptance.{Accepts}
 use Rattle.letter_acts.specs.Invariant.{Graph, alphabet_of}
 use Rattle.typed_tree.specs.TypedTree.{TypedProgram}
 use Rattle.lowered_graph.specs.Lowered.{lowered}
-use Rattle.race_core.specs.declared.ends.Cause.{Cause}
-use Rattle.race_core.specs.declared.ends.End.{End}
 use Rattle.race_core.specs.declared.events.Entry.{Entry}
 use Rattle.race_core.specs.Races.{Race}
 use Rattle.itp_automaton.specs.Certified.{Certificate, IsCertified}
@@ -35,7 +33,7 @@ IsRefined t o n w (refined.Unknown cause) = CauseMeets t o n cause w
 
 -- what is made of a kept word, where the history has n entries: an entry that may be added, or an end
 abbrev pub IsSettled : TypedProgram → Options → ℕ → List Letter → Settled → Type 0
-IsSettled t o n w (settled.Removed entry) = (n ≢ o.rounds) × (entry.word ≡ w) × IsEvidence (lowered t) w entry.evidence
+IsSettled t o n w (settled.Removed entry) = (n < o.rounds) × (entry.word ≡ w) × IsEvidence (lowered t) w entry.evidence
 IsSettled t o n w (settled.Ended end) = SaysOfWord t o n w end
 
 -- the entry's automaton is one of the program, certified, saturated, and accepts its word
@@ -46,5 +44,6 @@ IsOwn t e = IsEvidence (lowered t) e.word e.evidence
 pub record IsRaceOf (t : TypedProgram) (o : Options) (r : Race Certificate) : Type 0 where
   pub program : r.program ≡ (lowered t).automaton
   pub limit : r.limit ≡ o.rounds
+  pub within : length r.history ≤ o.rounds
   pub own : AllByRecursion (IsOwn t) r.history
   pub end : IfSome r.end (EndMeets automaton_in t o r.history)

@@ -104,7 +104,7 @@ fn settle_rows<R: Threads + Sync>(
     }
 }
 
-/// What is made of a kept word whose rows are refuted.
+/// What is made of a kept word whose rows are refuted: an entry only where there are fewer than `rounds`.
 fn refuted<R: Threads + Sync>(
     rt: &R,
     alloc: Global,
@@ -123,7 +123,7 @@ fn refuted<R: Threads + Sync>(
     requires depth { depth ≤ 64 }
     ensures { (t : TypedProgram) (o : Options) → icfg.now ≡ lowered t → o.rounds ≡ rounds → o.depth ≡ depth → IfOk result (IsSettled t o version word) }
 {
-    if version == rounds {
+    if version >= rounds {
         return Ok(unknown(Cause::Rounds, word));
     }
     let Plan { choice, .. } = plan_of(worker, version);

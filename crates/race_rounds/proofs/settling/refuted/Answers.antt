@@ -1,4 +1,4 @@
-use Rattle.std.proofs.Common.{◌∙◌, List, refl, sym, subst, arith}
+use Rattle.std.proofs.Common.{List, refl, sym, subst, arith}
 use Rattle.nwa_base.specs.declared.letters.Letter.{Letter}
 use Rattle.lowered_graph.specs.Lowered.{lowered}
 use Rattle.race_rounds.specs.declared.refining.Refined.{Refined}
@@ -18,7 +18,8 @@ returns-then-version-rounds g c = λ t o l r d.
 pub returns-in-Evidence : goal.returns-in-Evidence
 returns-in-Evidence g c = λ t o l r d.
     let x = subst (λ (f : Refined). IsRefined t o c.args.version c.args.path.now.word f) c.in-Evidence.is (c.in_ok-evidence.ensures t o l d c.args.version) in
-    (λ e. c.if-version-rounds.false (e ∙ r), refl, subst (λ (w : List Letter). IsEvidence (lowered t) w c.in-Evidence.evidence) c.requires.word x)
+    let v = c.if-version-rounds.false in
+    (omega (arith, v, r), refl, subst (λ (w : List Letter). IsEvidence (lowered t) w c.in-Evidence.evidence) c.requires.word x)
 
 pub returns-in-Unknown : goal.returns-in-Unknown
 returns-in-Unknown g c = λ t o l r d.
