@@ -1,9 +1,10 @@
 -- What the code answers for plans.
-use Rattle.std.proofs.Common.{◌≡◌, ℕ, ◌+◌, Bool, true, false, ◌&&◌, ℤ, List, [], ◌∷◌, ◌++◌, map, refl, sym, ◌∙◌, ap, arith}
+use Rattle.std.proofs.Common.{◌≡◌, ℕ, ◌+◌, ◌≤◌, Bool, true, false, ◌&&◌, ℤ, List, [], ◌∷◌, ◌++◌, map, refl, sym, ◌∙◌, ap, subst, arith}
 use Rattle.std.specs.Prelude.{Vec}
 use Rattle.std.specs.Global.{Global}
 use Rattle.std.specs.List.{list_all}
 use Rattle.std.proofs.lemmas.Bool.{and_parts}
+use Rattle.std.proofs.lemmas.List.{append-nil}
 use Rattle.std.proofs.lemmas.List.Folds.{list_all-append}
 use Rattle.lin_rows.specs.Rows.{LinearRow}
 use Rattle.typed_tree.specs.AffineForm.{fits}
@@ -14,7 +15,7 @@ use Rattle.cond_jumps.specs.Conjunctions.{Conjunction, Jumps, joined, each_with,
 use Rattle.cond_jumps.specs.Comparisons.{operation}
 use Rattle.cond_jumps.specs.Conjs.{conjunction, conjunctions}
 use Rattle.cond_jumps.specs.Forms.{Linears}
-use Rattle.cond_jumps.specs.JoinView.{each_moved}
+use Rattle.cond_jumps.specs.JoinView.{each_moved, helpers_before, each_behind}
 use Rattle.cond_jumps.specs.Moving.{moved_terms, moved_row, moved, IsEven, IsEvenPlan}
 use Rattle.cond_jumps.specs.ListView.{IsPlanList, sums_plan, shape_of, plan_of}
 use Rattle.cond_jumps.specs.PairView.{crossed}
@@ -98,6 +99,48 @@ with_fit p q n i h k =
 pub with_built : (p q : Plan) (n : ℕ) (x y v : Vec Conj Global) (a b : List Conj) → IsEvenPlan n q → IsPlanList p n x → IsPlanList q n y → a ≡ x.items → b ≡ y.items →
     conjunctions v.items ≡ each_moved n (conjunctions a) (conjunctions b) → IsPlanList (With p q) n v
 with_built p q n x y v a b i h k f g e = record { seen = e ∙ with_seen p q n x y a b i h k f g; fit = with_fit p q n i h.fit k.fit }
+
+moved_list_fits : (w k : ℕ) (cs : List Conjunction) → list_fits (map (moved w k) cs) ≡ list_fits cs
+moved_list_fits w k [] = refl
+moved_list_fits w k (c ∷ cs) =
+    let e = moved_rows_fit w k c.rows in
+    let f = moved_list_fits w k cs in
+    λ j. e j && f j
+
+-- whether all numbers of a plan fit does not rest on where its helpers are numbered from
+pub fit_even : (w : ℕ) (p : Plan) → IsEvenPlan w p → (n k : ℕ) → w ≤ n → all_fit p (n + k) ≡ all_fit p n
+fit_even w (Just a) h n k l = ap list_fits (h n k l) ∙ moved_list_fits w k (a n)
+fit_even w (Then a b) h n k l =
+    let e : list_fits (listed (Then a b) (n + k)) ≡ list_fits (listed (Then a b) n) = ap list_fits (listed_even w (Then a b) h n k l) ∙ moved_list_fits w k (listed (Then a b) n) in
+    let f = fit_even w a h.0 n k l in
+    let g = fit_even w b h.1 n k l in
+    λ j. e j && (f j && g j)
+fit_even w (With a b) h n k l =
+    let e : list_fits (listed (With a b) (n + k)) ≡ list_fits (listed (With a b) n) = ap list_fits (listed_even w (With a b) h n k l) ∙ moved_list_fits w k (listed (With a b) n) in
+    let f = fit_even w a h.0 n k l in
+    let g = fit_even w b h.1 n k l in
+    λ j. e j && (f j && g j)
+
+-- one list with another, which is numbered behind the only member of the first
+pub behind_built : (p q : Plan) (n : ℕ) (x y v : Vec Conj Global) (a : List Conj) → IsEvenPlan n q → IsPlanList p n x → a ≡ x.items → IsPlanList q (n + helpers_before a) y →
+    conjunctions v.items ≡ each_behind n a (conjunctions y.items) → IsPlanList (With p q) n v
+behind_built p q n x y v [] i h f k e =
+    let z : n + 0 ≡ n = omega arith in
+    with_built p q n x y v [] y.items i h (subst (λ (m : ℕ). IsPlanList q m y) z k) f refl e
+behind_built p q n x y v (c ∷ []) i h f k e =
+    let u : conjunction c ∷ [] ≡ listed p n = ap conjunctions f ∙ h.seen in
+    let w : map (joined (conjunction c)) (conjunctions y.items) ≡ each_with (conjunction c ∷ []) (listed q) n =
+    ap (λ (ds : List Conjunction). map (joined (conjunction c)) ds) k.seen ∙ sym (append-nil (map (joined (conjunction c)) (listed q (n + c.helpers)))) in
+    record {
+      seen = e ∙ w ∙ ap (λ (cs : List Conjunction). each_with cs (listed q) n) u;
+      fit = with_fit p q n i h.fit (sym (fit_even n q i n c.helpers (omega arith)) ∙ k.fit);
+    }
+behind_built p q n x y v (c ∷ (d ∷ cs)) i h f k e =
+    let z : n + 0 ≡ n = omega arith in
+    with_built p q n x y v (c ∷ (d ∷ cs)) y.items i h (subst (λ (m : ℕ). IsPlanList q m y) z k) f refl e
+
+pub numbered_behind : (q : Plan) (n : ℕ) (y : Vec Conj Global) (a b : List Conj) → a ≡ b → IsPlanList q (n + helpers_before b) y → IsPlanList q (n + helpers_before a) y
+numbered_behind q n y a b e h = subst (λ (cs : List Conj). IsPlanList q (n + helpers_before cs) y) (sym e) h
 
 pub crossed_built : (p s q r : Plan) (n : ℕ) (x y z w v : Vec Conj Global) (a b : List Conj) → IsEvenPlan n q → IsEvenPlan n r → IsPlanList p n x → IsPlanList s n y → IsPlanList q n z → IsPlanList r n w →
     a ≡ z.items → b ≡ w.items →

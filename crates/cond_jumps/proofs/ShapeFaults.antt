@@ -1,5 +1,5 @@
 -- A fault of the lists of a part of a condition is one of those of the whole.
-use Rattle.std.proofs.Common.{◌≡◌, ◌⊎◌, inl, inr, ℕ, Bool, true, false, not, ◌&&◌, Result, Ok, Err, refl, sym, subst, ◌∙◌}
+use Rattle.std.proofs.Common.{◌≡◌, ◌⊎◌, inl, inr, ℕ, ◌+◌, Bool, true, false, not, ◌&&◌, Result, Ok, Err, refl, sym, subst, ◌∙◌, arith}
 use Rattle.std.specs.Result.{IsErrAnd}
 use Rattle.std.proofs.lemmas.Bool.{false≢true}
 use Rattle.cond_jumps.specs.declared.pairs.Lists.{Lists}
@@ -18,10 +18,12 @@ use Rattle.cond_jumps.specs.Comparisons.{never}
 use Rattle.cond_jumps.specs.Environments.{Environment}
 use Rattle.cond_jumps.specs.Conjunctions.{Plan, Just, Then, With, listed, list_fits, is_long, is_wide, all_fit}
 use Rattle.cond_jumps.specs.ListView.{asked, sums_plan, shape_of, plan_of, other_plan_of}
+use Rattle.cond_jumps.specs.Moving.{IsEvenPlan}
 use Rattle.cond_jumps.specs.PairView.{ArePlanAnswers, AreWidthAnswers, IsUnfit, IsEitherWide, crossed}
 use Rattle.cond_jumps.specs.Paths.{linear, is_truth, paths}
 use Rattle.cond_jumps.proofs.AnswerLemmas.{and_first, and_second}
 use Rattle.cond_jumps.proofs.PairAnswers.{lists_shape_answer, widths_shape_answer, widths_handed_on}
+use Rattle.cond_jumps.proofs.PlanAnswers.{fit_even}
 use Rattle.cond_jumps.proofs.WidthAnswers.{first_wide, second_wide}
 
 -- a fault of a plan is one of each plan that it is a part of, and the empty list has none
@@ -173,3 +175,15 @@ pub wide_at : (v : Environment) (old want both : Bool) (n : ℕ) (d e : TypedExp
     IsEitherWide (paths v old d want) (asked both (paths v old d (not want))) n → IsEitherWide (paths v old e want) (asked both (paths v old e (not want))) n
 wide_at v old want both n d e i h =
     let P : TypedExpression → Type 0 = λ z. IsEitherWide (paths v old z want) (asked both (paths v old z (not want))) n in subst P i h
+
+asked_even : (w : ℕ) (both : Bool) (p : Plan) → IsEvenPlan w p → IsEvenPlan w (asked both p)
+asked_even w true p h = h
+asked_even w false p h = λ n k l. refl
+
+-- of an operand whose helpers are numbered later
+pub unfit_before : (w k m : ℕ) (both : Bool) (p q : Plan) → IsEvenPlan w p → IsEvenPlan w q → m ≡ w + k → IsUnfit p (asked both q) m → IsUnfit p (asked both q) w
+unfit_before w k m both p q i j e h = numbered (subst (λ (n : ℕ). IsUnfit p (asked both q) n) e h)
+  where
+    numbered : IsUnfit p (asked both q) (w + k) → IsUnfit p (asked both q) w
+    numbered (inl x) = inl (sym (fit_even w p i w k (omega arith)) ∙ x)
+    numbered (inr x) = inr (sym (fit_even w (asked both q) (asked_even w both q j) w k (omega arith)) ∙ x)

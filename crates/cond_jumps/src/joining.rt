@@ -4,10 +4,11 @@ ghost use Rattle.std.specs.Prelude.{◌≡◌, IfOk, ◌∷◌, ◌++◌, map};
 ghost use Rattle.lin_rows.specs.Rows.{LinearRow};
 ghost use Rattle.cond_jumps.specs.Conjunctions.{joined};
 ghost use Rattle.cond_jumps.specs.Conjs.{conjunction, conjunctions};
-ghost use Rattle.cond_jumps.specs.JoinView.{each_moved};
+ghost use Rattle.cond_jumps.specs.JoinView.{each_moved, helpers_before, each_behind};
 ghost use Rattle.cond_jumps.specs.Moving.{moved_column, moved_terms, moved_row, moved};
 
 use crate::conj::Conj;
+use crate::sums;
 use crate::sums::later;
 use lin_rows::{Row, RowFault, row};
 use std::alloc::{AllocError, Global};
@@ -107,4 +108,54 @@ pub fn with(
         list = with_each(alloc, base, list, conj, second)?;
     }
     Ok(list)
+}
+
+/// How many helpers are numbered before those of a list that is joined to this one: those of its only member; none where it has
+/// not exactly one.
+pub fn helpers_before(first: &[Conj]) -> u32
+    ensures { result ≡ helpers_before first.now }
+{
+    match first {
+        [only] => only.helpers,
+        _ => 0,
+    }
+}
+
+/// The rows of the first, and behind them those of the second, whose helpers are numbered behind those of the first.
+fn joined_behind(alloc: Global, first: &Conj, second: Conj) -> Result<Conj, AllocError>
+    ensures { IfOk result (λ c. conjunction c ≡ joined (conjunction first.now) (conjunction second)) }
+{
+    let helpers = later(first.helpers, second.helpers)?;
+    let rows = copied(alloc, first.rows.as_slice())?;
+    Ok(Conj {
+        rows: sums::joined(rows, second.rows)?,
+        helpers,
+    })
+}
+
+/// The conjunction joined to each of the list, whose helpers are numbered behind its own.
+fn before_each(alloc: Global, first: &Conj, second: Vec<Conj>) -> Result<Vec<Conj>, AllocError>
+    ensures { IfOk result (λ cs. conjunctions cs.items ≡ map (joined (conjunction first.now)) (conjunctions second.items)) }
+{
+    let mut list = Vec::with_capacity(alloc, second.len())?;
+    for conj in second {
+        list.push(joined_behind(alloc, first, conj)?)?;
+    }
+    Ok(list)
+}
+
+/// Each of the first list joined to each of the second, the first outermost. The second's helpers are numbered behind those of the
+/// first's only member, or from `base` on where it has not exactly one: so no row of the second is copied or moved for one member.
+pub fn behind(
+    alloc: Global,
+    base: u32,
+    first: &[Conj],
+    second: Vec<Conj>,
+) -> Result<Vec<Conj>, AllocError>
+    ensures { IfOk result (λ cs. conjunctions cs.items ≡ each_behind base first.now (conjunctions second.items)) }
+{
+    match first {
+        [only] => before_each(alloc, only, second),
+        _ => with(alloc, base, first, second.as_slice()),
+    }
 }

@@ -15,7 +15,7 @@ use crate::columns::place;
 use crate::comparisons::{always, compared, compared_above, named};
 use crate::conj::Conj;
 use crate::linear::{linear, read_at};
-use crate::pairs::{Lists, together};
+use crate::pairs::{Lists, helpers_before, together};
 use crate::refusal::Refusal;
 use crate::shapes::Shape;
 use crate::sums::{joined, later};
@@ -258,6 +258,7 @@ pub fn lists(
                         needs.first_other,
                         base,
                     )?;
+                    let next = later(base, helpers_before(shape, &a))?;
                     let b = lists(
                         alloc,
                         frame,
@@ -265,7 +266,7 @@ pub fn lists(
                         right,
                         needs.second,
                         needs.second_other,
-                        base,
+                        next,
                     )?;
                     Ok(together(alloc, base, both, shape, a, b)?)
                 }
