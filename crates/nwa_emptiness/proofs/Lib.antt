@@ -6,3 +6,4 @@ pub mod StepLemmas
 pub mod WalkLemmas
 pub mod TaskLemmas
 pub mod FoundLemmas
+mod LoadLemmas

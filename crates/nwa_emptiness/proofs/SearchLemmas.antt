@@ -6,9 +6,38 @@ use Rattle.nwa_base.proofs.LetterLemmas.{and_left, and_right}
 use Rattle.nwa_base.specs.Members.{Member}
 use Rattle.nwa_base.specs.Automata.{Automaton, IsAutomaton}
 use Rattle.nwa_base.proofs.MemberLemmas.{member_front, member_rest}
+use Rattle.nwa_base.specs.declared.letters.Letter.{Letter}
+use Rattle.nwa_emptiness.specs.declared.search.Link.{Link}
+use Rattle.nwa_emptiness.specs.declared.search.Link.TheVariants as links
 use Rattle.nwa_emptiness.specs.declared.search.Way.{Way}
-use Rattle.nwa_emptiness.specs.Search.{Searched, IsWay, AreWays, IsSearch, Keeps}
+use Rattle.nwa_emptiness.specs.Search.{Searched, IsLink, IsCaller, IsWay, LinkLeadsBack, CallerLeadsBack, LeadsBack, AreWays, IsSearch, Keeps}
 use Rattle.nwa_emptiness.proofs.PlaceLemmas.{get_front, get_last, get_push, ways_push, GrowsAt, group_front, group_last, group_split}
+
+pub get_within : {X : Type 0} (xs : List X) (i : ℕ) (x : X) → slice_get xs i ≡ Some x → i < length xs
+get_within [] i x e = let f : None ≡ Some x = e in cc
+get_within (y ∷ xs) zero x e = omega arith
+get_within (y ∷ xs) (suc i) x e = let r = get_within xs i x e in omega arith
+
+-- a pair stands behind those from which it was found
+link_back : (m : Automaton) (pairs : List (Option ℕ × ℕ)) (k : Option ℕ) (q : ℕ) (l : Link) → IsLink m pairs k q l → LinkLeadsBack (length pairs) l
+link_back m pairs k q links.Begin h = tt
+link_back m pairs k q (links.Inside i a) h = get_within pairs i (k, h.0) h.1
+link_back m pairs k q links.Call h = tt
+link_back m pairs k q (links.Back i c j r) h = (get_within pairs i (k, h.0) h.3, get_within pairs j (Some h.1, h.2) h.5)
+
+caller_back : (m : Automaton) (pairs : List (Option ℕ × ℕ)) (k : Option ℕ) (c : Option (ℕ × Letter)) → IsCaller m pairs k c → CallerLeadsBack (length pairs) c
+caller_back m pairs None c h = subst (CallerLeadsBack (length pairs)) (sym h) tt
+caller_back m pairs (Some n) None h = absurd h
+caller_back m pairs (Some n) (Some (j, c)) h = get_within pairs j (h.0, h.1) h.2
+
+as_many : (m : Automaton) (all xs : List (Option ℕ × ℕ)) (ways : List Way) → AreWays m all xs ways → length ways ≡ length xs
+as_many m all [] [] h = refl
+as_many m all [] (w ∷ ways) h = absurd h
+as_many m all (x ∷ xs) [] h = absurd h
+as_many m all (x ∷ xs) (w ∷ ways) h = ap suc (as_many m all xs ways h.1)
+
+no_way : (ways : List Way) (i : ℕ) (w : Way) → ways ≡ [] → slice_get ways i ≡ Some w → ⊥
+no_way ways i w e h = let f : None ≡ Some w = subst (λ (l : List Way). slice_get l i ≡ Some w) e h in cc
 
 no_pair : (i : ℕ) (x : Option ℕ × ℕ) → slice_get [] i ≡ Some x → ⊥
 no_pair i x e = let f : None ≡ Some x = e in cc
@@ -28,6 +57,7 @@ pub search_none : (s : Searched) → IsAutomaton s.nwa → s.pairs ≡ [] → s.
 search_none s v p w f g = record {
   automaton = v;
   ways = no_ways s.nwa s.pairs s.ways p w;
+  back = λ i v h. absurd (no_way s.ways i v w h);
   state = λ i k q h. absurd (no_pair_of s.pairs i (k, q) p h);
   is_state = λ i q h. absurd (none_of (s.by_state q) i (f q) h);
   entry = λ i n q h. absurd (no_pair_of s.pairs i (Some n, q) p h);
@@ -84,6 +114,14 @@ pub search_push : (old new : Searched) (k : Option ℕ) (q : ℕ) (w : Way) → 
 search_push old new k q w s g a p u f e = record {
   automaton = subst IsAutomaton (sym a) s.automaton;
   ways = grown_ways old.nwa new.nwa old.pairs new.pairs (k, q) old.ways new.ways w s.ways g a p u;
+  back = λ i v h.
+      elim (get_push old.ways w i v (subst (λ (l : List Way). slice_get l i ≡ Some v) u h)) [
+        | inl o ↦ s.back i v o
+        | inr n ↦
+            let here : length old.pairs ≡ i = sym (n.0 ∙ as_many old.nwa old.pairs old.pairs old.ways s.ways) in
+            let last : LeadsBack (length old.pairs) w = record { link = link_back old.nwa old.pairs k q w.link g.link; caller = caller_back old.nwa old.pairs k w.caller g.caller } in
+            subst (λ (z : ℕ). LeadsBack z v) here (subst (LeadsBack (length old.pairs)) n.1 last)
+      ];
   state = λ i j r h.
       elim (get_more old.pairs new.pairs (k, q) (j, r) i p h) [
         | inl o ↦ group_front q (length old.pairs) old.by_state new.by_state f r i (s.state i j r o)
@@ -197,11 +235,6 @@ pub get_member : {X : Type 0} (xs : List X) (x : X) → Member xs x → (i : ℕ
 get_member [] x h = absurd h
 get_member (y ∷ xs) x (inl e) = (0, ap (λ z. Some z) e)
 get_member (y ∷ xs) x (inr h) = let r = get_member xs x h in (suc r.0, r.1)
-
-pub get_within : {X : Type 0} (xs : List X) (i : ℕ) (x : X) → slice_get xs i ≡ Some x → i < length xs
-get_within [] i x e = let f : None ≡ Some x = e in cc
-get_within (y ∷ xs) zero x e = omega arith
-get_within (y ∷ xs) (suc i) x e = let r = get_within xs i x e in omega arith
 
 pub past : {X : Type 0} (xs : List X) (i : ℕ) (x : X) → length xs ≤ i → slice_get xs i ≡ Some x → ⊥
 past xs i x l e = let r = get_within xs i x e in omega arith

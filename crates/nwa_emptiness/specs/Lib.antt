@@ -4,4 +4,5 @@ pub mod Search
 pub mod Seen
 pub mod Steps
 pub mod Tasks
+pub mod Loads
 pub mod Found

@@ -1,5 +1,5 @@
 -- What a search keeps: the pairs that it found, in order, and how it found each.
-use Rattle.std.specs.Prelude.{◌≡◌, ℕ, List, [], ◌∷◌, ◌++◌, Option, None, Some, slice_get}
+use Rattle.std.specs.Prelude.{◌≡◌, ◌<◌, ℕ, List, [], ◌∷◌, ◌++◌, Option, None, Some, slice_get}
 use Rattle.nwa_base.specs.declared.letters.Letter.{Letter}
 use Rattle.nwa_base.specs.Members.{Member}
 use Rattle.nwa_base.specs.Automata.{Automaton, IsAutomaton}
@@ -36,6 +36,23 @@ pub record IsWay (m : Automaton) (pairs : List (Option ℕ × ℕ)) (k : Option 
   pub link : IsLink m pairs k q way.link
   pub caller : IsCaller m pairs k way.caller
 
+-- the pairs from which the link leads stand before the place i
+abbrev pub LinkLeadsBack : ℕ → Link → Type 0
+LinkLeadsBack i links.Begin = Unit {0}
+LinkLeadsBack i (links.Inside j a) = j < i
+LinkLeadsBack i links.Call = Unit {0}
+LinkLeadsBack i (links.Back j c x r) = (j < i) × (x < i)
+
+-- so does the pair from which the call is made, if there is one
+abbrev pub CallerLeadsBack : ℕ → Option (ℕ × Letter) → Type 0
+CallerLeadsBack i None = Unit {0}
+CallerLeadsBack i (Some (j, c)) = j < i
+
+-- a pair at the place i is found from pairs before it
+pub record LeadsBack (i : ℕ) (way : Way) : Type 0 where
+  pub link : LinkLeadsBack i way.link
+  pub caller : CallerLeadsBack i way.caller
+
 -- each of these pairs was found in the way at its place
 abbrev pub AreWays : Automaton → List (Option ℕ × ℕ) → List (Option ℕ × ℕ) → List Way → Type 0
 AreWays m pairs [] [] = Unit {0}
@@ -43,10 +60,11 @@ AreWays m pairs [] (w ∷ ways) = ⊥
 AreWays m pairs (x ∷ xs) [] = ⊥
 AreWays m pairs (x ∷ xs) (w ∷ ways) = IsWay m pairs x.0 x.1 w × AreWays m pairs xs ways
 
--- each pair was found in the way at its place, and the places are found by state and by entry
+-- each pair was found in the way at its place, from pairs before it, and the places are found by state and by entry
 pub record IsSearch (s : Searched) : Type 0 where
   pub automaton : IsAutomaton s.nwa
   pub ways : AreWays s.nwa s.pairs s.pairs s.ways
+  pub back : (i : ℕ) (w : Way) → slice_get s.ways i ≡ Some w → LeadsBack i w
   pub state : (i : ℕ) (k : Option ℕ) (q : ℕ) → slice_get s.pairs i ≡ Some (k, q) → Member (s.by_state q) i
   pub is_state : (i q : ℕ) → Member (s.by_state q) i → (k : Option ℕ) × (slice_get s.pairs i ≡ Some (k, q))
   pub entry : (i n q : ℕ) → slice_get s.pairs i ≡ Some (Some n, q) → Member (s.by_entry n) i

@@ -26,11 +26,9 @@ pub enum Found {
 pub fn find(alloc: Global, nwa: &Nwa, order: u32) -> Result<Found, AllocError>
     ensures { IfOk result (IsFound nwa.now) }
 {
-    // each is a pair of an entry, or none, and a state
-    let states = nwa.states() as usize;
-    let pairs = (states + 1) * states;
+    let _states = nwa.states();
     let mut search = Search::new(alloc, nwa);
-    seek(alloc, &mut search, pairs, order % 2 == 1)
+    seek(alloc, &mut search, order % 2 == 1)
 }
 
 /// The start is found.
@@ -46,30 +44,22 @@ fn begin(search: &mut Search) -> Result<(), AllocError>
     search.add(None, start, way)
 }
 
-/// Goes through the pairs of a search from the start on, along calls first or along inside letters first. There are so many pairs at
-/// most.
-fn seek(
-    alloc: Global,
-    search: &mut Search,
-    pairs: usize,
-    calls_first: bool,
-) -> Result<Found, AllocError>
+/// Goes through the pairs of a search from the start on, along calls first or along inside letters first.
+fn seek(alloc: Global, search: &mut Search, calls_first: bool) -> Result<Found, AllocError>
     requires { IsSearch (seen search.old) }
     ensures { IfOk result (IsFound (seen search.old).nwa) }
 {
     let nwa = search.nwa();
     begin(search)?;
-    // one pass for each pair, and one that finds no more
-    for place in 0..=pairs {
-        let Some(point) = search.point(place) else {
-            return Ok(Found::Empty);
-        };
+    let mut place = 0;
+    while let Some(point) = search.point(place) {
         if nwa.is_final(point.state) {
             return spelled(alloc, search, point);
         }
         expand(search, point, calls_first)?;
+        place += 1;
     }
-    Err(AllocError)
+    Ok(Found::Empty)
 }
 
 /// The word that leads to a pair with a final state.

@@ -1,7 +1,7 @@
 //! The pairs that a search has found, and how.
 #![tactic(auto, unfolding(crate::specs::Seen::seen))]
 
-ghost use Rattle.std.specs.Prelude.{◌≡◌, ◌≤◌, length, slice_get, IfOk, OnOk, MatchOption};
+ghost use Rattle.std.specs.Prelude.{◌≡◌, ◌≤◌, ◌<◌, ◌^◌, length, slice_get, IfOk, OnOk, MatchOption};
 
 use indexmap::IndexSet;
 use nwa_base::{Groups, Letter, Nwa};
@@ -82,8 +82,10 @@ impl<'a> Search<'a> {
     /// The pair at a place, or none past the end.
     pub fn point(&self, place: usize) -> Option<Point>
         requires { IsSearch (seen self.now) }
-        ensures { MatchOption result (length (seen self.now).pairs ≤ place) (λ p. IsPoint (seen self.now) p × (p.place ≡ place)) }
+        ensures point { MatchOption result (length (seen self.now).pairs ≤ place) (λ p. IsPoint (seen self.now) p × (p.place ≡ place)) }
+        ensures small { length (seen self.now).pairs < 2 ^ 63 }
     {
+        let _pairs = self.pairs.len();
         let Some(&(entry, state)) = self.pairs.get_index(place) else {
             return None;
         };

@@ -1,10 +1,11 @@
 //! A word that leads to a pair that was found.
 
-ghost use Rattle.std.specs.Prelude.{◌≡◌, ◌++◌, ◌∷◌, [], List, IfOk, OnOk};
+ghost use Rattle.std.specs.Prelude.{◌≡◌, ◌<◌, ◌++◌, ◌∷◌, [], List, IfOk, OnOk};
 ghost use Rattle.nwa_base.specs.declared.letters.Letter.{Letter};
 ghost use Rattle.nwa_emptiness.specs.Search.{IsSearch};
 ghost use Rattle.nwa_emptiness.specs.Seen.{seen};
 ghost use Rattle.nwa_emptiness.specs.Tasks.{IsFilling, AreFillings, IsRest};
+ghost use Rattle.nwa_emptiness.specs.Loads.{load};
 
 use crate::search::{Link, Search};
 use nwa_base::Letter;
@@ -28,14 +29,11 @@ pub fn letters_to(alloc: Global, search: &Search, place: usize) -> Result<Vec<Le
 {
     let mut letters = Vec::new(alloc);
     let mut tasks = vec![in alloc; Task::Whole(place)]?;
-    for _ in 0..u64::MAX {
-        let Some(task) = tasks.pop() else {
-            letters.reverse();
-            return Ok(letters);
-        };
+    while let Some(task) = tasks.pop() {
         perform(search, &mut tasks, &mut letters, task)?;
     }
-    Err(AllocError)
+    letters.reverse();
+    Ok(letters)
 }
 
 /// Writes a letter, or puts in the place of a task those that make it.
@@ -46,8 +44,9 @@ fn perform(
     task: Task,
 ) -> Result<(), AllocError>
     requires { IsSearch (seen search.now) }
-    ensures { OnOk result ((w : List Letter) → IsRest (seen search.now) tasks.new.items letters.new.items w →
+    ensures rest { OnOk result ((w : List Letter) → IsRest (seen search.now) tasks.new.items letters.new.items w →
         IsRest (seen search.now) (tasks.old.items ++ task ∷ []) letters.old.items w) }
+    ensures less { OnOk result (load tasks.new.items < load (tasks.old.items ++ task ∷ [])) }
 {
     match task {
         Task::Letter(letter) => {
@@ -62,8 +61,9 @@ fn perform(
 /// What is to be written for the word from the entry of a pair to the pair.
 fn split(search: &Search, tasks: &mut Vec<Task>, place: usize) -> Result<(), AllocError>
     requires { IsSearch (seen search.now) }
-    ensures { OnOk result ((w : List Letter) → AreFillings (seen search.now) tasks.new.items w →
+    ensures fillings { OnOk result ((w : List Letter) → AreFillings (seen search.now) tasks.new.items w →
         AreFillings (seen search.now) (tasks.old.items ++ Task.Segment place ∷ []) w) }
+    ensures less { OnOk result (load tasks.new.items < load (tasks.old.items ++ Task.Segment place ∷ [])) }
 {
     let Some(way) = search.way(place) else {
         return Ok(());
@@ -91,8 +91,9 @@ fn split(search: &Search, tasks: &mut Vec<Task>, place: usize) -> Result<(), All
 /// and the word inside the call.
 fn enter(search: &Search, tasks: &mut Vec<Task>, place: usize) -> Result<(), AllocError>
     requires { IsSearch (seen search.now) }
-    ensures { OnOk result ((w : List Letter) → AreFillings (seen search.now) tasks.new.items w →
+    ensures fillings { OnOk result ((w : List Letter) → AreFillings (seen search.now) tasks.new.items w →
         AreFillings (seen search.now) (tasks.old.items ++ Task.Whole place ∷ []) w) }
+    ensures less { OnOk result (load tasks.new.items < load (tasks.old.items ++ Task.Whole place ∷ [])) }
 {
     let Some(way) = search.way(place) else {
         return Ok(());
