@@ -3,6 +3,7 @@ pub mod MakingLemmas
 pub mod GrowingLemmas
 pub mod EdgeLemmas
 pub mod EndLemmas
+mod FitLemmas
 pub mod AddLemmas
 pub mod BeginLemmas
 pub mod FollowLemmas

@@ -39,14 +39,12 @@ fn expand_all(alloc: Global, product: &mut Product, pairs: &mut Pairs) -> Result
     requires start { Member (found pairs.old).pairs (None, (seen product.old).product.start) }
     ensures { OnOk result ((w : List Letter) → Accepts (seen product.new).product w ↔ (Accepts (seen product.old).first w × (Accepts (seen product.old).sets.nwa w → ⊥))) }
 {
-    // there are fewer pairs than 2 to the 64, since a state is a number of 32 bits
-    for place in 0..usize::MAX {
-        let Some((entry, state)) = pairs.at(place) else {
-            return Ok(());
-        };
+    let mut place = 0;
+    while let Some((entry, state)) = pairs.at(place) {
         expand(alloc, product, pairs, entry, state)?;
+        place += 1;
     }
-    Err(AllocError)
+    Ok(())
 }
 
 /// The start alone is found, with no call open.

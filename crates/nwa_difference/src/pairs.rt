@@ -1,7 +1,7 @@
 //! The pairs of an entry and a state of the product to which words lead.
 #![tactic(auto, unfolding(crate::specs::Seen::found))]
 
-ghost use Rattle.std.specs.Prelude.{◌≡◌, [], List, ℕ, IfOk, OnOk, slice_get};
+ghost use Rattle.std.specs.Prelude.{◌≡◌, ◌<◌, ◌^◌, [], List, ℕ, IfOk, OnOk, length, slice_get};
 
 use indexmap::IndexSet;
 use nwa_base::Groups;
@@ -47,8 +47,10 @@ impl Pairs {
 
     /// The pair at a place, or none past the end.
     pub fn at(&self, place: usize) -> Option<(Option<u32>, u32)>
-        ensures { result ≡ slice_get (found self.now).pairs place }
+        ensures value { result ≡ slice_get (found self.now).pairs place }
+        ensures small { length (found self.now).pairs < 2 ^ 63 }
     {
+        let _pairs = self.found.len();
         self.found.get_index(place).copied()
     }
 

@@ -1,7 +1,7 @@
 //! The product of an automaton and the sets of pairs of another. It grows while it is searched.
 #![tactic(auto, unfolding(crate::specs::Seen::seen))]
 
-ghost use Rattle.std.specs.Prelude.{◌≡◌, ◌<◌, ◌↔◌, ◌∷◌, [], false, IsTrue, IfOk, OnOk, length, slice_index_or, if◌then◌else◌};
+ghost use Rattle.std.specs.Prelude.{◌≡◌, ◌≢◌, ◌<◌, ◌↔◌, ◌∷◌, [], false, IsTrue, Err, IfOk, OnOk, length, slice_index_or, if◌then◌else◌};
 ghost use Rattle.nwa_difference.specs.Making.{Ends};
 
 use indexmap::IndexSet;
@@ -140,6 +140,7 @@ impl<'a> Product<'a> {
         requires edge { Member (seen self.old).first.insides (first_at (seen self.old) state, letter, end) }
         ensures { OnOk result (Extends (seen self.old) (seen self.new) (Only state) NoReturn × HasInside (seen self.new) state letter end) }
     {
+        let _states = self.first.states();
         let to = self.inside_end(state, letter, end)?;
         in_memory(self.nwa.add_inside(state, letter, to))?;
         Ok(())
@@ -152,6 +153,7 @@ impl<'a> Product<'a> {
         requires edge { Member (seen self.old).first.calls (first_at (seen self.old) state, letter, end) }
         ensures { OnOk result (Extends (seen self.old) (seen self.new) (Only state) NoReturn × HasCall (seen self.new) state letter end) }
     {
+        let _states = self.first.states();
         let to = self.call_end(state, letter, end)?;
         in_memory(self.nwa.add_call(state, letter, to))?;
         Ok(())
@@ -171,6 +173,7 @@ impl<'a> Product<'a> {
         requires edge { Member (seen self.old).first.backs (first_at (seen self.old) state, first_at (seen self.old) before, letter, end) }
         ensures { OnOk result (Extends (seen self.old) (seen self.new) Nowhere (OnlyReturn state before) × HasBack (seen self.new) state before letter end) }
     {
+        let _states = self.first.states();
         let to = self.back_end(state, before, letter, end)?;
         in_memory(self.nwa.add_back(state, before, letter, to))?;
         Ok(())
@@ -216,12 +219,15 @@ fn one_state(alloc: Global, is_final: bool) -> Result<Nwa, AllocError>
     Ok(nwa)
 }
 
-/// What was made, or want of memory: the states and the letters' kinds are right by construction.
+/// What was made of states and letters that fit, or want of memory.
 fn in_memory<T: Drop>(outcome: Result<T, NwaFault>) -> Result<T, AllocError>
+    requires state { outcome ≢ Err NwaFault.BadState }
+    requires letter { outcome ≢ Err NwaFault.BadLetter }
     ensures { IfOk result (λ value. outcome ≡ Ok value) }
 {
     match outcome {
         Ok(value) => Ok(value),
-        Err(_) => Err(AllocError),
+        Err(NwaFault::Memory) => Err(AllocError),
+        Err(NwaFault::BadState | NwaFault::BadLetter) => unreachable!(),
     }
 }

@@ -3,8 +3,8 @@ use Rattle.nwa_difference.specs.Seen.{seen, found, stage}
 use Rattle.nwa_difference.proofs.DoneLemmas.{done_none, done_more, product_is, member_get, past}
 use Rattle.nwa_difference.proofs.making.expand_all.Goals as goal
 
-pub loop-place-init : goal.loop-place-init
-loop-place-init c = record {
+pub loop-entry-init : goal.loop-entry-init
+loop-entry-init c = record {
   valid = c.requires.stage;
   first = refl;
   second = refl;
@@ -13,24 +13,24 @@ loop-place-init c = record {
 
 pub expand-requires-clause-pair : goal.expand-requires-clause-pair
 expand-requires-clause-pair c =
-    member_get (found c.loop-place.pairs).pairs c.loop-place.place (c.in-Some.entry, c.in-Some.state) (sym c.at.ensures ∙ c.in-Some.is)
+    member_get (found c.loop-entry.pairs).pairs c.loop-entry.place (c.in-Some.entry, c.in-Some.state) (sym c.at.ensures.value ∙ c.in-Some.is)
 
-pub loop-place-preserved : goal.loop-place-preserved
-loop-place-preserved c =
-    let i = c.loop-place.invariant in
+pub loop-entry-preserved : goal.loop-entry-preserved
+loop-entry-preserved c =
+    let i = c.loop-entry.invariant in
     let s = c.in_ok-expand.ensures in
     record {
       valid = s.goes.stage;
       first = s.goes.product.first ∙ i.first;
       second = s.goes.product.sets.nwa ∙ i.second;
       done =
-          done_more (stage c.loop-place.product c.loop-place.pairs) (stage c.expand.new.product c.expand.new.pairs) c.loop-place.place c.in-Some.entry
-          c.in-Some.state (sym c.at.ensures ∙ c.in-Some.is) i.valid i.done s;
+          done_more (stage c.loop-entry.product c.loop-entry.pairs) (stage c.expand.new.product c.expand.new.pairs) c.loop-entry.place c.in-Some.entry
+          c.in-Some.state (sym c.at.ensures.value ∙ c.in-Some.is) i.valid i.done s;
     }
 
-pub returns-in_default : goal.returns-in_default
-returns-in_default c w =
-    let i = c.loop-place.invariant in
-    let none : slice_get (found c.loop-place.pairs).pairs c.loop-place.place ≡ None = sym c.at.ensures ∙ c.in_default.is in
-    product_is (stage c.loop-place.product c.loop-place.pairs) (seen c.args.product.now).first (seen c.args.product.now).sets.nwa c.loop-place.place i.valid
-    i.first i.second i.done (past (found c.loop-place.pairs).pairs c.loop-place.place none) w
+pub returns : goal.returns
+returns c w =
+    let i = c.loop-entry.invariant in
+    let none : slice_get (found c.loop-entry.pairs).pairs c.loop-entry.place ≡ None = sym c.at.ensures.value ∙ c.in_default.is in
+    product_is (stage c.loop-entry.product c.loop-entry.pairs) (seen c.args.product.now).first (seen c.args.product.now).sets.nwa c.loop-entry.place i.valid
+    i.first i.second i.done (past (found c.loop-entry.pairs).pairs c.loop-entry.place none) w
