@@ -59,7 +59,7 @@ fn copied_proofs(alloc: Global, icfg: &Icfg, proofs: &[Proof]) -> Result<Vec<Pro
 
 /// The saturated automaton over the predicates along a word of the graph, true and false, which accepts the word. `proofs` are
 /// those of the triples between the predicates.
-pub fn build_along<R: Threads + Sync>(
+fn build_along<R: Threads + Sync>(
     rt: &R,
     alloc: Global,
     icfg: &Icfg,

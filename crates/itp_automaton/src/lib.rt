@@ -17,7 +17,7 @@ mod sources;
 mod states;
 
 pub use automata::Certified;
-pub use building::{build, build_along};
+pub use building::build;
 pub use faults::BuildFault;
 pub use making::certified;
 pub use saturating::saturate;
