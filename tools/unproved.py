@@ -21,9 +21,8 @@ CRATE = f"{TOP}/crates/automizer"
 # What a program is linked with, as the toolchain's own linker program links it; an archive of its C code and the C library follow the module.
 BEFORE = "-m elf_x86_64 -pie --dynamic-linker /lib64/ld-linux-x86-64.so.2 --as-needed -z relro -z now -z noexecstack --eh-frame-hdr --gc-sections"
 COMPILED = "--lto-O2 -mllvm -no-trap-after-noreturn -mllvm -trap-unreachable"
-# How a file of bitcode begins, and how a module is made one.
+# How a file of bitcode begins. The toolchain first compiles a few lines of text, to try its compiler; the program comes as bitcode.
 BITCODE = b"BC\xc0\xde"
-AS_BITCODE = "--target=x86_64-unknown-linux-gnu -x ir -c -emit-llvm -Xclang -disable-llvm-passes"
 START = "Scrt1.o crti.o crtbeginS.o"
 LIBRARIES = "libm.so.6 libc.so.6 libc_nonshared.a ld-linux-x86-64.so.2 libgcc.a libgcc_s.so.1 crtendS.o crtn.o"
 # How long the parts may take, in seconds: far more than they do.
@@ -85,16 +84,26 @@ def is_compiling(folder):
     return False
 
 
+def is_bitcode(module):
+    """Whether this file holds bitcode."""
+    try:
+        with open(module, "rb") as it:
+            return it.read(len(BITCODE)) == BITCODE
+    except OSError:
+        # (gone meanwhile)
+        return False
+
+
 def whole_module(room):
-    """The module that a try below this folder has written to its end, if there is one."""
+    """The program's module, where a try below this folder has written it to its end."""
     for module in glob.glob(f"{glob.escape(room)}/**/module.bc", recursive=True):
-        if is_compiling(os.path.dirname(os.path.realpath(module))):
+        if is_bitcode(module) and is_compiling(os.path.dirname(os.path.realpath(module))):
             return module
     return None
 
 
 def make_module(room, life):
-    """Has the toolchain make the program's module, and keeps it as room/module."""
+    """Has the toolchain make the program's module, and keeps it as room/program.bc."""
     os.mkdir(f"{room}/try")
     with open(f"{room}/said", "w+b") as said:
         run = subprocess.Popen(["rt", "try"], cwd=CRATE, env={**os.environ, "TMPDIR": f"{room}/try"}, stdin=subprocess.DEVNULL, stdout=said,
@@ -104,7 +113,7 @@ def make_module(room, life):
                 module = whole_module(f"{room}/try")
                 if module:
                     # (a copy: whoever ends the try may write to the file once more)
-                    shutil.copyfile(module, f"{room}/module")
+                    shutil.copyfile(module, f"{room}/program.bc")
                     return
                 life.tell("reading the sources")
                 time.sleep(0.2)
@@ -143,16 +152,6 @@ def run_tool(words, room, life):
             raise Failed(f"{os.path.basename(words[0])} refused the module: " + said.read().decode(errors="replace").strip()[-300:])
 
 
-def make_bitcode(room, life):
-    """Has the module as bitcode, room/program.bc: the toolchain may have written it as text."""
-    with open(f"{room}/module", "rb") as module:
-        is_bitcode = module.read(4) == BITCODE
-    if is_bitcode:
-        os.rename(f"{room}/module", f"{room}/program.bc")
-    else:
-        run_tool([f"{kit()}/toolchain/bin/clang", *AS_BITCODE.split(), "-o", f"{room}/program.bc", f"{room}/module"], room, life)
-
-
 def link(room, life):
     """Compiles what is needed of the module and links it, as room/program."""
     tools = f"{kit()}/toolchain"
@@ -177,7 +176,6 @@ def build(out, name):
     with tempfile.TemporaryDirectory(prefix="building-", dir=out) as room:
         try:
             make_module(room, life)
-            make_bitcode(room, life)
             link(room, life)
         finally:
             life.end()
