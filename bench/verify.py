@@ -5,8 +5,9 @@ Each program PROGRAM.bpl is verified with a limit of so many seconds; a `safe` t
 program. A first line `// expected: safe` or `// expected: unsafe` says what is right. For each program the verdict, the rounds, the time of
 `verify` on the clock and that of the processors, and the time of the second call are printed, and at the end how many were solved. With
 several numbers of workers each program is verified with all of them, one after another, and the times are compared with those of the first
-number: the sums over the slowest third, and which programs lose more than a tenth. The status is 1 where a verdict is wrong or is not
-confirmed."""
+number: the sums over the slowest third, and which programs lose more than a tenth. With another program, an earlier build as a rule, each
+program is verified by that too, with the same options, and the bytes of the safe texts of both are printed, and their sums. The status is 1
+where a verdict is wrong or is not confirmed."""
 import argparse
 import pathlib
 import re
@@ -63,6 +64,12 @@ class Verified:
         return f"{self.verdict}{wrong}, rounds {' '.join(self.rounds)}, {times}, confirmed in {self.confirm * 1000:.0f} ms, {len(self.best.text)} bytes"
 
 
+def before(program: str, path: pathlib.Path, options: list[str], limit: float) -> int:
+    """How many bytes the safe text of another program has, 0 where it finds no such verdict."""
+    took = Took([program, "verify", str(path), *options], limit)
+    return len(took.text) if took.status == 0 else 0
+
+
 def expected(path: pathlib.Path) -> str:
     found = re.match(r"// expected: (\w+)", path.read_text())
     return found[1] if found else ""
@@ -87,11 +94,12 @@ def main() -> None:
     parser.add_argument("--workers", default="", help="numbers of workers, as 1,2,4; none is given to the program where there is no list")
     parser.add_argument("--repeat", type=int, default=1, help="how often each call is made; the quickest counts")
     parser.add_argument("--program", default=str(PROGRAM), help="the program, where it is not the proved one")
+    parser.add_argument("--before", default="", help="another program, with which the bytes of the safe texts are compared")
     given = parser.parse_args()
     if not pathlib.Path(given.program).exists():
         sys.exit("the proved program is not built: cd crates/automizer && rt run")
     workers = given.workers.split(",") if given.workers else [""]
-    paths, table = sorted(given.folder.glob("*.bpl")), {}
+    paths, table, bytes_before, bytes_now = sorted(given.folder.glob("*.bpl")), {}, 0, 0
     with tempfile.TemporaryDirectory() as folder:
         kept = pathlib.Path(folder) / "verdict"
         for path in paths:
@@ -100,11 +108,19 @@ def main() -> None:
                 options = ["--workers", number] if number else []
                 found = Verified(given.program, path, options, given.seconds, given.repeat, kept)
                 table[path.stem].append(found)
-                print(f"{path.stem}: {'workers ' + number + ': ' if number else ''}{found.line()}", flush=True)
+                compared = ""
+                if given.before and found.best.status == 0:
+                    earlier = before(given.before, path, options, given.seconds)
+                    compared = f", {earlier} before"
+                    if earlier:
+                        bytes_before, bytes_now = bytes_before + earlier, bytes_now + len(found.best.text)
+                print(f"{path.stem}: {'workers ' + number + ': ' if number else ''}{found.line()}{compared}", flush=True)
     for place, number in enumerate(workers):
         solved = sum(found[place].solved() for found in table.values())
         print(f"{'workers ' + number + ': ' if number else ''}{solved} of {len(paths)} solved within {given.seconds:g} s each")
     compare(workers, table)
+    if given.before:
+        print(f"the safe texts that both wrote have {bytes_now} bytes, and had {bytes_before} before")
     wrong = sum(found.wrong for all_found in table.values() for found in all_found)
     print(f"{wrong} wrong")
     sys.exit(1 if wrong else 0)
