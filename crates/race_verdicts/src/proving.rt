@@ -13,6 +13,7 @@ use itp_automaton::Certified;
 use letter_acts::Icfg;
 use proof_build::build;
 use proof_form::Annotation;
+use proof_lean::lean;
 use race_core::{Entry, Shared};
 use std::alloc::{AllocError, Global};
 use typing_rules::Typed;
@@ -48,6 +49,5 @@ pub(crate) fn annotation_of(
     let _globals = program.globals();
     let automata = automata_in(alloc, race.history())?;
     let annotation = build(alloc, icfg, &automata)?;
-    let _preds = annotation.preds();
-    Ok(annotation)
+    lean(alloc, icfg, annotation)
 }
