@@ -1,8 +1,9 @@
 #!/usr/bin/env python3
-"""Refuses the program one allocation after another, each in a run of its own: refused_memory.py [PROGRAM]
+"""Refuses the program one allocation after another, each in a run of its own: refused_memory.py [PROGRAM [STEP]]
 
 `verify` runs on a recursion and on two error words by two workers, `check` on an annotation of a call, and `replay` on a failure at an early return. In the
-n-th run of each the n-th allocation fails, until a run makes fewer. Each run has to end with its usual output, or with status 6 and nothing written, or
+n-th run of each the n-th allocation fails, until a run makes fewer; with a STEP only every so many numbers are tried. There are some 230,000 of them, of
+which `check` and `replay` have a thousand. Each run has to end with its usual output, or with status 6 and nothing written, or
 with status 5 and a front of it, where what writes found no memory. Stops at the first that ends otherwise, with status 1. What the program takes from the
 system beside allocations, as the room of its threads, is tried by devices.py.
 
@@ -123,10 +124,10 @@ def run(program, words, work, preload, number):
         return ran.returncode, ran.stdout.decode(), ran.stderr.decode(), told.read() == b"r"
 
 
-def tried(program, words, work, preload, begins, usual):
+def tried(program, words, work, preload, begins, usual, step):
     """How many allocations were refused in turn, and how the runs ended; the first that ended otherwise is told instead."""
     counts = {}
-    numbers, last = iter(range(1, 1 << 40)), None
+    numbers, last = iter(range(1, 1 << 40, step)), None
     with concurrent.futures.ThreadPoolExecutor(os.cpu_count() or 1) as pool:
         while last is None:
             batch = [next(numbers) for _ in range(BATCH)]
@@ -143,6 +144,7 @@ def tried(program, words, work, preload, begins, usual):
 
 def main() -> int:
     program = os.path.abspath(sys.argv[1]) if len(sys.argv) > 1 else str(TOP / "crates" / "automizer" / "out" / "automizer")
+    step = int(sys.argv[2]) if len(sys.argv) > 2 else 1
     with tempfile.TemporaryDirectory() as folder:
         work = pathlib.Path(folder)
         preload = library(work)
@@ -153,7 +155,7 @@ def main() -> int:
             if status != 0 or error or not usual.startswith(begins):
                 print(f"{name}: nothing refused: status {status}, {usual!r}, {error!r}")
                 return 1
-            last, told = tried(program, words, work, preload, begins, usual)
+            last, told = tried(program, words, work, preload, begins, usual, step)
             print(f"{name}: {told}", flush=True)
             if last is None:
                 return 1
