@@ -51,7 +51,12 @@ def members(count: int) -> str:
     ) + "\n}"
 
 
-KINDS = {procedures: 125, statements: 6250, blocks: 12, labels: 1250, members: 4}
+def implications(count: int) -> str:
+    """Conditions of implications nested to the right: the list of each has a member for each operand, of up to that many rows."""
+    return "procedure main() { var x: int;\n" + ("assume " + " ==> ".join(f"x < {each}" for each in range(count)) + ";\n") * 10 + "}"
+
+
+KINDS = {procedures: 125, statements: 6250, blocks: 12, labels: 1250, members: 4, implications: 24}
 
 
 def timed(program: str, path: str) -> tuple[float, int]:
