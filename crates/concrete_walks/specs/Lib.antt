@@ -1,3 +1,1 @@
-pub mod Moves
-pub mod Paths
 pub mod Walkers

@@ -58,7 +58,7 @@ fn add_begins(
     found: &mut Vec<u32>,
 ) -> Result<(), AllocError> {
     let first = steps.partition_point(|step| step.0 < place);
-    for &(end, begin) in steps.iter().skip(first) {
+    for &(end, begin) in &steps[first..] {
         if end != place {
             break;
         }

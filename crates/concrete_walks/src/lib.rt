@@ -3,13 +3,13 @@
 #![tactic(auto)]
 
 mod choices;
+mod drafting;
+mod edges;
 mod leading;
-mod moves;
-mod paths;
+mod letters;
+mod numbers;
+mod programs;
 mod random;
-mod situations;
-mod solving;
-mod stepping;
 mod walkers;
 mod walks;
 

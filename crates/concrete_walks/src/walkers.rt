@@ -2,8 +2,8 @@ ghost use Rattle.std.specs.Prelude.{◌≡◌, ◌||◌, IfOk, IfSome, Ok, None,
 ghost use Rattle.nwa_base.specs.Acceptance.{Accepts};
 
 use crate::choices::Choices;
-use crate::leading::Leading;
-use crate::walks::{Lengths, walk};
+use crate::programs::Program;
+use crate::walks::{Lengths, Walk};
 use letter_acts::Icfg;
 use nwa_base::Word;
 use std::alloc::{AllocError, Global};
@@ -12,8 +12,9 @@ use std::marker::Model;
 /// What walks over a program. Contracts see whether it has found a word.
 #[derive(Drop)]
 pub struct Walker {
-    leading: Leading,
+    program: Program,
     choices: Choices,
+    walk: Walk,
     lengths: Lengths,
     found: bool,
 }
@@ -32,8 +33,9 @@ impl Walker {
         ensures { IfOk result (λ w. w.found ≡ false) }
     {
         Ok(Walker {
-            leading: Leading::new(alloc, icfg.nwa())?,
+            program: Program::new(alloc, icfg)?,
             choices: Choices::new(alloc, icfg, worker)?,
+            walk: Walk::new(alloc),
             lengths: Lengths::new(),
             found: false,
         })
@@ -61,10 +63,13 @@ impl Walker {
             }
             let length = self.lengths.length();
             let before = tries;
-            let (leading, choices) = (&self.leading, &mut self.choices);
-            if let Some(word) = walk(alloc, icfg, leading, choices, length, &mut tries)? {
-                self.found = true;
-                return Ok(Some(word));
+            let (program, choices) = (&self.program, &mut self.choices);
+            if self.walk.go(program, choices, length, &mut tries)? {
+                // the walk is one over the program from which the walker was made, so its word is tested in this one
+                if let Some(word) = self.walk.word(alloc, icfg.nwa())? {
+                    self.found = true;
+                    return Ok(Some(word));
+                }
             }
             self.lengths
                 .count_walk(tries.saturating_sub(before) >= u64::from(length));

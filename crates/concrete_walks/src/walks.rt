@@ -1,16 +1,13 @@
-//! One walk, and how long walks may be.
+//! Walks along the edges of a program, and how long they may be.
 
-ghost use Rattle.std.specs.Prelude.{IfOk, IfSome, OnOk};
+ghost use Rattle.std.specs.Prelude.{IfOk, IfSome};
 ghost use Rattle.nwa_base.specs.Acceptance.{Accepts};
-ghost use Rattle.concrete_walks.specs.Paths.{IsPath};
 
 use crate::choices::Choices;
-use crate::leading::Leading;
-use crate::paths::Path;
-use crate::situations::Situation;
-use crate::stepping::step;
-use letter_acts::Icfg;
-use nwa_base::Word;
+use crate::edges::Edge;
+use crate::numbers::Numbers;
+use crate::programs::Program;
+use nwa_base::{Kind, Letter, Nwa, Word, accepts, word};
 use std::alloc::{AllocError, Global};
 
 /// How many letters the first walks may have.
@@ -61,51 +58,130 @@ impl Lengths {
     }
 }
 
-/// Walks from the start for at most so many letters; the word of the walk, where it reaches a final state. `tries` counts the letters
-/// that were tried.
-pub(crate) fn walk(
-    alloc: Global,
-    icfg: &Icfg,
-    leading: &Leading,
-    choices: &mut Choices,
-    length: u32,
-    tries: &mut u64,
-) -> Result<Option<Word>, AllocError>
-    ensures { IfOk result (λ o. IfSome o (Accepts icfg.now.automaton)) }
-{
-    let nwa = icfg.nwa();
-    let mut path = Path::new(alloc, nwa);
-    if walk_along(alloc, icfg, leading, choices, length, tries, &mut path)? {
-        Ok(path.word(nwa))
-    } else {
+/// A walk: its letters, where it ends, the places before the calls that are open there, the last one at the end, and its numbers.
+#[derive(Drop)]
+pub(crate) struct Walk {
+    letters: Vec<Letter>,
+    place: u32,
+    callers: Vec<u32>,
+    numbers: Numbers,
+}
+
+impl Walk {
+    /// A walk that has not begun.
+    pub fn new(alloc: Global) -> Self {
+        Walk {
+            letters: Vec::new(alloc),
+            place: 0,
+            callers: Vec::new(alloc),
+            numbers: Numbers::new(alloc),
+        }
+    }
+
+    /// Walks anew from the start for at most so many letters. Whether the walk reaches a failure. `tries` counts the letters that were
+    /// tried.
+    pub fn go(
+        &mut self,
+        program: &Program,
+        choices: &mut Choices,
+        length: u32,
+        tries: &mut u64,
+    ) -> Result<bool, AllocError> {
+        self.letters.clear();
+        self.callers.clear();
+        self.place = program.start;
+        self.numbers.start(&program.letters, choices)?;
+        for _ in 0..length {
+            let Some(edge) = self.next(program, choices, tries)? else {
+                return Ok(false);
+            };
+            self.follow(edge)?;
+            if edge.ends {
+                return Ok(true);
+            }
+        }
+        Ok(false)
+    }
+
+    /// Takes a letter that leads on, if one can be taken, and answers its edge: one to a failure first, else those from which one can
+    /// be reached in order from a random one on.
+    fn next(
+        &mut self,
+        program: &Program,
+        choices: &mut Choices,
+        tries: &mut u64,
+    ) -> Result<Option<Edge>, AllocError> {
+        for edge in program.edges.inside(self.place) {
+            if edge.ends && self.attempt(program, choices, tries, edge)? {
+                return Ok(Some(*edge));
+            }
+        }
+        let forward = program.edges.forward(self.place);
+        let before = self.callers.last().copied();
+        let backs = program.edges.backs(self.place, before);
+        let count = forward.len().saturating_add(backs.len());
+        let first = choices.below(count);
+        for turn in 0..count {
+            let number = first.wrapping_add(turn) % count;
+            if let Some(edge) = edge_at(forward, backs, number) {
+                if edge.leads && self.attempt(program, choices, tries, edge)? {
+                    return Ok(Some(*edge));
+                }
+            }
+        }
         Ok(None)
+    }
+
+    /// Tries the letter of an edge.
+    fn attempt(
+        &mut self,
+        program: &Program,
+        choices: &mut Choices,
+        tries: &mut u64,
+        edge: &Edge,
+    ) -> Result<bool, AllocError> {
+        *tries = tries.saturating_add(1);
+        self.numbers.take(&program.letters, choices, edge.letter.id)
+    }
+
+    /// Goes on along an edge whose letter was taken.
+    fn follow(&mut self, edge: Edge) -> Result<(), AllocError> {
+        match edge.letter.kind {
+            Kind::Inside => {}
+            Kind::Call => self.callers.push(self.place)?,
+            Kind::Back => {
+                let _before = self.callers.pop();
+            }
+        }
+        self.letters.push(edge.letter)?;
+        self.place = edge.to;
+        Ok(())
+    }
+
+    /// Its word, where the automaton accepts it.
+    pub fn word(&self, alloc: Global, nwa: &Nwa) -> Result<Option<Word>, AllocError>
+        ensures { IfOk result (λ o. IfSome o (Accepts nwa.now)) }
+    {
+        match word(Vec::from_slice(alloc, &self.letters)?) {
+            Some(word) => {
+                if accepts(alloc, nwa, &word)? {
+                    Ok(Some(word))
+                } else {
+                    Ok(None)
+                }
+            }
+            None => Ok(None),
+        }
     }
 }
 
-/// Walks on along a path, which has no letters. Whether the walk reaches a final state.
-fn walk_along(
-    alloc: Global,
-    icfg: &Icfg,
-    leading: &Leading,
-    choices: &mut Choices,
-    length: u32,
-    tries: &mut u64,
-    path: &mut Path,
-) -> Result<bool, AllocError>
-    requires { IsPath icfg.now.automaton path.old }
-    ensures { OnOk result (IsPath icfg.now.automaton path.new) }
-{
-    let nwa = icfg.nwa();
-    let mut situation = Situation::start(alloc, icfg, choices)?;
-    for _ in 0..length {
-        let (place, before) = (path.place(), path.before());
-        let Some(next) = step(icfg, leading, place, before, &mut situation, choices, tries)? else {
-            return Ok(false);
-        };
-        path.go(nwa, next)?;
-        if nwa.is_final(path.place()) {
-            return Ok(true);
-        }
+/// The edge with a number: first those forward, then the returns.
+fn edge_at<'a>(forward: &'a [Edge], backs: &'a [(u32, Edge)], number: usize) -> Option<&'a Edge> {
+    match forward.get(number) {
+        Some(edge) => Some(edge),
+        None => match backs.get(number.saturating_sub(forward.len())) {
+            Some(back) => Some(&back.1),
+            None => None,
+        },
     }
-    Ok(false)
 }
