@@ -23,7 +23,7 @@ use triple_rows::{Proof, Triple, proof, systems_of};
 const PIECES: usize = 8;
 
 /// How many triples a piece has, at least: those of a piece are tried one after another, each at the points found before.
-const LEAST: usize = 64;
+const LEAST: usize = 512;
 
 /// The proof of a triple whose kind and scopes agree with its letter, by Decide without cuts. `None` only where Decide does not
 /// refute the triple's system so within the numbers that fit.
