@@ -4,3 +4,4 @@ pub mod Openings
 pub mod Closings
 pub mod Crossing
 pub mod Published
+pub mod Turns

@@ -1,5 +1,5 @@
 -- What a worker's pass carries, as the calls of its cell change it.
-use Rattle.std.proofs.Common.{◌≡◌, ◌⊎◌, inl, inr, ⊎_elim, ℕ, ◌+◌, ◌<◌, List, [], ◌∷◌, ◌++◌, length, Option, None, Some, Result, Ok, Err, refl, sym, subst, ap, ◌∙◌, arith}
+use Rattle.std.proofs.Common.{◌≡◌, ◌⊎◌, inl, inr, ⊎_elim, ℕ, ◌+◌, ◌<◌, ◌≤◌, List, [], ◌∷◌, ◌++◌, length, Option, None, Some, Result, Ok, Err, refl, sym, subst, ap, ◌∙◌, arith}
 use Rattle.std.specs.Prelude.{IfSome, IsSome, MatchResult}
 use Rattle.nwa_base.specs.declared.letters.Letter.{Letter}
 use Rattle.nwa_base.specs.Automata.{Automaton}
@@ -147,10 +147,11 @@ below i n b = grind arith
 
 -- the closed state is a race of the program
 pub closes : (c : Cell) (t : TypedProgram) (o : Options) (n : ℕ) (p : Known Certificate) (s : Race Certificate) → IsPassAt c t o n p →
-    IsClosed p s → c.program ≡ (lowered t).automaton → c.limit ≡ o.rounds → IsRaceOf t o s
-closes c t o n p s a x program limit = record {
+    IsClosed p s → c.program ≡ (lowered t).automaton → c.limit ≡ o.rounds → length s.history ≤ s.limit → IsRaceOf t o s
+closes c t o n p s a x program limit room = record {
   program = x.program ∙ a.of_cell.program ∙ program;
   limit = x.limit ∙ a.of_cell.limit ∙ limit;
+  within = let l = x.limit ∙ a.of_cell.limit ∙ limit in omega (arith, room, l);
   own = all_by_get (IsOwn t) s.history (λ i b.
       let once : times i p.own ≡ 1 = x.own i ∙ below i (length s.history) b in
       let z = a.entries i (omega (arith, once)) in (z.0, get_begins p.seen s.history i z.0 x.seen z.1, z.2));
@@ -164,7 +165,7 @@ closes_ended p s x h = let k = some_of p.ended h in some_kind s.end k.0 (x.ended
 
 -- ---- what a snapshot tells
 
-program_of : (t : TypedProgram) (g : Graph) (l : Limits) (c : Cell) (p : Known Certificate) → IsJob t g l c → IsPassOf c p →
+pub program_of : (t : TypedProgram) (g : Graph) (l : Limits) (c : Cell) (p : Known Certificate) → IsJob t g l c → IsPassOf c p →
     p.program ≡ (lowered t).automaton
 program_of t g l c p j at = at.program ∙ j.program ∙ ap (λ (x : Graph). x.automaton) j.lowered
 

@@ -1,15 +1,18 @@
--- What a worker's pass carries of a race.
-use Rattle.std.specs.Prelude.{◌≡◌, ℕ, ◌<◌, ◌≤◌, [], length, None, Some, IfSome, IsSome, slice_get}
+-- What a worker's pass carries of a race, and what a round makes of it.
+use Rattle.std.specs.Prelude.{◌≡◌, ℕ, ◌<◌, ◌≤◌, ◌⊎◌, List, [], ◌∷◌, ◌++◌, length, Option, None, Some, IfSome, IsSome, slice_get}
 use Rattle.nwa_base.specs.Automata.{Automaton}
+use Rattle.nwa_base.specs.Acceptance.{Accepts}
 use Rattle.letter_acts.specs.Invariant.{Graph}
 use Rattle.typed_tree.specs.TypedTree.{TypedProgram}
 use Rattle.lowered_graph.specs.Lowered.{lowered}
 use Rattle.race_core.specs.declared.ends.End.{End}
 use Rattle.race_core.specs.declared.events.Entry.{Entry}
+use Rattle.race_core.specs.declared.events.Why.{Why}
+use Rattle.race_core.specs.declared.events.Why.TheVariants.{Ended, Full, Stale}
 use Rattle.race_core.specs.Ends.{kind_of}
 use Rattle.race_core.specs.Histories.{Keeps}
 use Rattle.itp_automaton.specs.Certified.{Certificate}
-use Rattle.race_rounds.specs.Ends.{Options, EndMeets}
+use Rattle.race_rounds.specs.Ends.{Options, IsKept, EndMeets}
 use Rattle.race_rounds.specs.Rounds.{automaton_in, IsOwn}
 use Rattle.version_cell.specs.Counts.{times}
 use Rattle.version_cell.specs.Passes.{Cell, Known, IsPassOf}
@@ -52,7 +55,39 @@ pub record IsFresh (c : Cell) (n : ℕ) (p : Known Certificate) : Type 0 where
 abbrev pub IsAsSeen : Known Certificate → ℕ → Automaton → Type 0
 IsAsSeen p version kept = (version ≡ length p.seen) × Keeps automaton_in p.program p.seen kept
 
--- what a round leaves: an entry of the program to offer again, or none; or that the pass has seen an end
-abbrev pub Leaves : TypedProgram → Known Certificate → Turn → Type 0
-Leaves t p (turns.Again carried) = IfSome carried (IsOwn t)
-Leaves t p turns.Over = IsSome p.ended
+-- ---- rounds
+
+-- what a worker does after a refusal: it stops where the race has ended, lets the entry go where the history is full, and carries a stale one on
+abbrev pub turn_after : Why → Entry Certificate → Turn
+turn_after (Ended kind) e = turns.Over
+turn_after (Full limit) e = turns.Again None
+turn_after (Stale version) e = turns.Again (Some e)
+
+-- what is offered of what a worker carries: that very entry, where the automaton accepts its word
+abbrev pub IsStillKept : Automaton → Option (Entry Certificate) → Option (Entry Certificate) → Type 0
+IsStillKept kept carried (Some e) = (carried ≡ Some e) × Accepts kept e.word
+IsStillKept kept carried None = IfSome carried (λ e. Accepts kept e.word → ⊥)
+
+-- the pass has added the entry, behind all others
+abbrev pub Adds : Known Certificate → Known Certificate → Entry Certificate → Type 0
+Adds p q e = (h : List (Entry Certificate)) × (q.seen ≡ h ++ e ∷ []) × (q.own ≡ p.own ++ length h ∷ [])
+
+-- What comes of an entry that is offered: it is added, or the history is full; or the history has grown in the meantime, and the very entry is
+-- carried on; or the pass has seen an end.
+abbrev pub Offers : Known Certificate → Known Certificate → Entry Certificate → Turn → Type 0
+Offers p q e (turns.Again None) = Adds p q e ⊎ (length q.seen ≡ q.limit)
+Offers p q e (turns.Again (Some f)) = (f ≡ e) × (length p.seen < length q.seen)
+Offers p q e turns.Over = IsSome q.ended
+
+-- What comes of taking a kept word: an entry of the program for one, to be carried on; or the history has grown in the meantime; or the pass has
+-- seen an end.
+abbrev pub Seeks : TypedProgram → Known Certificate → Known Certificate → Turn → Type 0
+Seeks t p q (turns.Again None) = length p.seen < length q.seen
+Seeks t p q (turns.Again (Some e)) = IsOwn t e × IsKept automaton_in (lowered t).automaton q.seen e.word
+Seeks t p q turns.Over = IsSome q.ended
+
+-- What comes of a round: the entry that is carried is offered, or its word is no longer kept; where there is none, or its word is not kept, a kept
+-- word is taken.
+abbrev pub Pursues : TypedProgram → Known Certificate → Known Certificate → Option (Entry Certificate) → Turn → Type 0
+Pursues t p q None turn = Seeks t p q turn
+Pursues t p q (Some e) turn = Offers p q e turn ⊎ ((IsKept automaton_in (lowered t).automaton q.seen e.word → ⊥) × Seeks t p q turn)

@@ -4,7 +4,8 @@ ghost use Rattle.std.specs.Prelude.{◌≡◌, length};
 ghost use Rattle.typing_rules.specs.TypedParts.{typed_program};
 ghost use Rattle.race_rounds.specs.Ends.{EndMeets};
 ghost use Rattle.race_rounds.specs.Rounds.{automaton_in};
-ghost use Rattle.race_workers.specs.Parts.{options, IsJob, IsPassAt, Leaves};
+ghost use Rattle.version_cell.specs.Counts.{Begins};
+ghost use Rattle.race_workers.specs.Parts.{options, IsJob, IsPassAt, Seeks};
 
 use crate::gates::{Gate, Moment};
 use crate::jobs::Job;
@@ -28,7 +29,8 @@ pub(crate) fn finish<G: Gate + Sync, R: Wait>(
     requires version { version ≡ length pass.old.seen }
     requires end { EndMeets automaton_in (typed_program job.now.program.now) (options job.now.limits) pass.old.seen end }
     ensures pass { IsPassAt job.now.cell.now (typed_program job.now.program.now) (options job.now.limits) pass.old.shares pass.new }
-    ensures turn { Leaves (typed_program job.now.program.now) pass.new result }
+    ensures grows { Begins pass.old.seen pass.new.seen }
+    ensures turn { Seeks (typed_program job.now.program.now) pass.old pass.new result }
 {
     job.gate.at(number, Moment::Finishing);
     match job.cell.finish(rt, pass, version, end) {

@@ -1,16 +1,14 @@
 //! Entries that workers offer.
 
-ghost use Rattle.std.specs.Prelude.{◌≤◌, length, IfOk};
+ghost use Rattle.std.specs.Prelude.{◌≡◌, length, IfOk};
 ghost use Rattle.std.specs.Arc.{arc_value};
 ghost use Rattle.nwa_base.specs.Acceptance.{Accepts};
-ghost use Rattle.typed_tree.specs.TypedTree.{TypedProgram};
+ghost use Rattle.nwa_reduce.specs.Lean.{IsLean};
 ghost use Rattle.typing_rules.specs.TypedParts.{typed_program};
 ghost use Rattle.race_core.specs.Histories.{IsFair};
 ghost use Rattle.kept_words.specs.Without.{IsWithout};
-ghost use Rattle.itp_automaton.specs.Certified.{Certificate};
 ghost use Rattle.race_rounds.specs.Rounds.{automaton_in, IsOwn};
-ghost use Rattle.version_cell.specs.Passes.{Known, Names};
-ghost use Rattle.race_workers.specs.Parts.{options, IsJob, IsPassAt, IsAsSeen, Leaves};
+ghost use Rattle.race_workers.specs.Parts.{options, IsJob, IsPassAt, IsAsSeen, turn_after, Offers};
 
 use crate::gates::{Gate, Moment};
 use crate::jobs::Job;
@@ -23,9 +21,10 @@ use std::alloc::{AllocError, Global};
 use std::sync::{Arc, Wait};
 use version_cell::{Pass, Snapshot};
 
-/// What is kept behind an entry.
+/// What is kept behind an entry, by an automaton from which no state can be taken away.
 fn kept_behind(alloc: Global, kept: &Nwa, entry: &Entry<Certified>) -> Result<Arc<Nwa>, AllocError>
-    ensures { IfOk result (λ left. IsWithout kept.now (automaton_in entry.now.evidence) (arc_value left)) }
+    ensures words { IfOk result (λ left. IsWithout kept.now (automaton_in entry.now.evidence) (arc_value left)) }
+    ensures lean { IfOk result (λ left. IsLean (arc_value left)) }
 {
     let left = without(alloc, kept, entry.evidence.nwa())?;
     Ok(Arc::new(alloc, left)?)
@@ -34,7 +33,7 @@ fn kept_behind(alloc: Global, kept: &Nwa, entry: &Entry<Certified>) -> Result<Ar
 /// What a worker does after a refusal: it offers an entry that is stale again, reads again where the history is full, and stops
 /// where the race has ended.
 fn after_refusal<G: Gate>(gate: &G, number: u32, refused: Refused<Certified>) -> Turn
-    ensures { (t : TypedProgram) (p : Known Certificate) → IsOwn t refused.entry → Names p refused.why → Leaves t p result }
+    ensures { result ≡ turn_after refused.why refused.entry }
 {
     let Refused { why, entry, .. } = refused;
     match why {
@@ -59,11 +58,12 @@ fn publish<G: Gate + Sync, R: Wait>(
 ) -> Turn
     requires job { IsJob (typed_program job.now.program.now) job.now.icfg.now job.now.limits job.now.cell.now }
     requires pass { IsPassAt job.now.cell.now (typed_program job.now.program.now) (options job.now.limits) pass.old.shares pass.old }
-    requires base { base ≤ length pass.old.seen }
+    requires base { base ≡ length pass.old.seen }
     requires fair { IsFair automaton_in pass.old.program pass.old.seen base entry (arc_value kept) }
+    requires lean { IsLean (arc_value kept) }
     requires own { IsOwn (typed_program job.now.program.now) entry }
     ensures pass { IsPassAt job.now.cell.now (typed_program job.now.program.now) (options job.now.limits) pass.old.shares pass.new }
-    ensures turn { Leaves (typed_program job.now.program.now) pass.new result }
+    ensures turn { Offers pass.old pass.new entry result }
 {
     job.gate.at(number, Moment::Publishing);
     match job.cell.publish(rt, pass, base, entry, kept) {
@@ -91,7 +91,7 @@ pub(crate) fn offer<G: Gate + Sync, R: Wait>(
     requires kept { Accepts (arc_value snapshot.now.kept) entry.word }
     requires own { IsOwn (typed_program job.now.program.now) entry }
     ensures pass { IsPassAt job.now.cell.now (typed_program job.now.program.now) (options job.now.limits) pass.old.shares pass.new }
-    ensures turn { IfOk result (Leaves (typed_program job.now.program.now) pass.new) }
+    ensures turn { IfOk result (Offers pass.old pass.new entry) }
 {
     let kept = kept_behind(alloc, &snapshot.kept, &entry)?;
     job.gate.at(number, Moment::Built);

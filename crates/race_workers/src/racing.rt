@@ -71,5 +71,8 @@ pub fn race<G: Gate + Sync, R: Threads + Wait + Sync>(
         gate,
     };
     let pass = run(rt, alloc, &job, pass)?;
-    Ok(cell.close(pass))
+    let closed = cell.close(pass);
+    // That the history is within the limit is told by the room that is left.
+    let _room = closed.sized();
+    Ok(closed)
 }

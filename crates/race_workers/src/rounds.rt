@@ -2,11 +2,10 @@
 
 ghost use Rattle.std.specs.Prelude.{IfOk, IfSome};
 ghost use Rattle.std.specs.Arc.{arc_value};
-ghost use Rattle.nwa_base.specs.Acceptance.{Accepts};
-ghost use Rattle.typed_tree.specs.TypedTree.{TypedProgram};
 ghost use Rattle.typing_rules.specs.TypedParts.{typed_program};
 ghost use Rattle.race_rounds.specs.Rounds.{IsOwn};
-ghost use Rattle.race_workers.specs.Parts.{options, IsJob, IsPassAt, IsAsSeen, Leaves};
+ghost use Rattle.version_cell.specs.Counts.{Begins};
+ghost use Rattle.race_workers.specs.Parts.{options, IsJob, IsPassAt, IsAsSeen, IsStillKept, Seeks, Pursues};
 
 use crate::finishing::finish;
 use crate::gates::{Gate, Moment};
@@ -38,8 +37,7 @@ fn still_kept(
     kept: &Nwa,
     carried: Option<Entry<Certified>>,
 ) -> Result<Option<Entry<Certified>>, AllocError>
-    ensures kept { IfOk result (λ o. IfSome o (λ e. Accepts kept.now e.word)) }
-    ensures own { (t : TypedProgram) → IfSome carried (IsOwn t) → IfOk result (λ o. IfSome o (IsOwn t)) }
+    ensures { IfOk result (IsStillKept kept.now carried) }
 {
     let Some(entry) = carried else {
         return Ok(None);
@@ -66,7 +64,8 @@ fn seek<G: Gate + Sync, R: Threads + Wait + Sync>(
     requires pass { IsPassAt job.now.cell.now (typed_program job.now.program.now) (options job.now.limits) pass.old.shares pass.old }
     requires seen { IsAsSeen pass.old snapshot.now.version (arc_value snapshot.now.kept) }
     ensures pass { IsPassAt job.now.cell.now (typed_program job.now.program.now) (options job.now.limits) pass.old.shares pass.new }
-    ensures turn { IfOk result (Leaves (typed_program job.now.program.now) pass.new) }
+    ensures grows { IfOk result (λ turn. Begins pass.old.seen pass.new.seen) }
+    ensures turn { IfOk result (Seeks (typed_program job.now.program.now) pass.old pass.new) }
 {
     let version = snapshot.version;
     let word = match kept_word(alloc, job.icfg, &snapshot.kept, version, number, seeker)? {
@@ -90,6 +89,30 @@ fn seek<G: Gate + Sync, R: Threads + Wait + Sync>(
     }
 }
 
+/// Offers what is carried, where the word of that is still kept, or takes a kept word.
+fn pursue<G: Gate + Sync, R: Threads + Wait + Sync>(
+    rt: &R,
+    alloc: Global,
+    job: &Job<'_, G>,
+    number: u32,
+    pass: &mut Pass<Certified>,
+    seeker: &mut Seeker,
+    snapshot: &Snapshot,
+    carried: Option<Entry<Certified>>,
+) -> Result<Turn, AllocError>
+    requires job { IsJob (typed_program job.now.program.now) job.now.icfg.now job.now.limits job.now.cell.now }
+    requires pass { IsPassAt job.now.cell.now (typed_program job.now.program.now) (options job.now.limits) pass.old.shares pass.old }
+    requires seen { IsAsSeen pass.old snapshot.now.version (arc_value snapshot.now.kept) }
+    requires carried { IfSome carried (IsOwn (typed_program job.now.program.now)) }
+    ensures pass { IsPassAt job.now.cell.now (typed_program job.now.program.now) (options job.now.limits) pass.old.shares pass.new }
+    ensures turn { IfOk result (Pursues (typed_program job.now.program.now) pass.old pass.new carried) }
+{
+    match still_kept(alloc, &snapshot.kept, carried)? {
+        Some(entry) => offer(rt, alloc, job, number, pass, snapshot, entry),
+        None => seek(rt, alloc, job, number, pass, seeker, snapshot),
+    }
+}
+
 /// One round: the worker reads, and where the race has not ended it offers what it carries, where the word of that is still kept,
 /// or takes a kept word.
 pub(crate) fn round<G: Gate + Sync, R: Threads + Wait + Sync>(
@@ -105,15 +128,12 @@ pub(crate) fn round<G: Gate + Sync, R: Threads + Wait + Sync>(
     requires pass { IsPassAt job.now.cell.now (typed_program job.now.program.now) (options job.now.limits) pass.old.shares pass.old }
     requires carried { IfSome carried (IsOwn (typed_program job.now.program.now)) }
     ensures pass { IsPassAt job.now.cell.now (typed_program job.now.program.now) (options job.now.limits) pass.old.shares pass.new }
-    ensures turn { IfOk result (Leaves (typed_program job.now.program.now) pass.new) }
+    ensures turn { IfOk result (Pursues (typed_program job.now.program.now) pass.old pass.new carried) }
 {
     job.gate.at(number, Moment::Reading);
     let snapshot = job.cell.read(rt, pass)?;
     if snapshot.ended.is_some() {
         return Ok(Turn::Over);
     }
-    match still_kept(alloc, &snapshot.kept, carried)? {
-        Some(entry) => offer(rt, alloc, job, number, pass, &snapshot, entry),
-        None => seek(rt, alloc, job, number, pass, seeker, &snapshot),
-    }
+    pursue(rt, alloc, job, number, pass, seeker, &snapshot, carried)
 }

@@ -7,8 +7,10 @@ use Rattle.nwa_emptiness.specs.Found.{IsFound}
 use Rattle.typing_rules.specs.TypedParts.{typed_program}
 use Rattle.race_rounds.specs.declared.settling.Settled.{Settled}
 use Rattle.race_rounds.specs.Rounds.{IsSettled}
+use Rattle.version_cell.proofs.Beginnings.{begins_same}
 use Rattle.race_workers.specs.Parts.{options}
-use Rattle.race_workers.proofs.Parts.{safe, says, error_word, settled_own}
+use Rattle.race_workers.proofs.Parts.{safe, says, error_word, kept, settled_own}
+use Rattle.race_workers.proofs.Turns.{made}
 use Rattle.race_workers.proofs.rounds.seek.Goals as goal
 
 pub returns-in_err-word-clause-pass : goal.returns-in_err-word-clause-pass
@@ -77,9 +79,21 @@ returns-in-Ended-clause-turn g c = c.finish-in-Ended.ensures.turn
 pub returns-in-Removed-clause-pass : goal.returns-in-Removed-clause-pass
 returns-in-Removed-clause-pass g c = c.requires.pass
 
+pub returns-in-Empty-clause-grows : goal.returns-in-Empty-clause-grows
+returns-in-Empty-clause-grows g c = c.finish.ensures.grows
+
+pub returns-in-Ended-clause-grows : goal.returns-in-Ended-clause-grows
+returns-in-Ended-clause-grows g c = c.finish-in-Ended.ensures.grows
+
+pub returns-in-Removed-clause-grows : goal.returns-in-Removed-clause-grows
+returns-in-Removed-clause-grows g c = begins_same c.args.pass.now.seen c.args.pass.now.seen refl
+
 pub returns-in-Removed-clause-turn : goal.returns-in-Removed-clause-turn
 returns-in-Removed-clause-turn g c =
     let t = typed_program c.args.job.now.program.now in
     let o = options c.args.job.now.limits in
     let s = subst (λ (s : Settled). IsSettled t o c.args.snapshot.now.version c.in-Word.word s) c.in-Removed.is (c.in_ok-end.ensures o refl refl) in
-    settled_own t o c.args.snapshot.now.version c.in-Word.word c.in-Removed.entry s
+    let k = kept t c.args.job.now.icfg.now c.args.job.now.limits c.args.job.now.cell.now c.args.pass.now c.args.snapshot.now.version (arc_value c.args.snapshot.now.kept) c.in-Word.word
+    c.requires.job c.requires.pass.of_cell c.requires.seen (subst (λ (m : Automaton). Accepts m c.in-Word.word) c.deref.ensures
+    (subst (λ (x : Found). IsFound c.deref.result.now x) c.in-Word.is c.in_ok-word.ensures)) in
+    made t c.args.pass.now c.in-Word.word c.in-Removed.entry k (settled_own t o c.args.snapshot.now.version c.in-Word.word c.in-Removed.entry s) s.1

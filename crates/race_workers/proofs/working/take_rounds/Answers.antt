@@ -1,8 +1,9 @@
 use Rattle.std.proofs.Common.{rules, subst}
 use Rattle.typing_rules.specs.TypedParts.{typed_program}
 use Rattle.race_workers.specs.declared.rounds.Turn.{Turn}
-use Rattle.race_workers.specs.Parts.{options, Leaves}
+use Rattle.race_workers.specs.Parts.{options, Pursues}
 use Rattle.race_workers.proofs.Parts.{own_shares, with_shares}
+use Rattle.race_workers.proofs.Turns.{carried_on, ended}
 use Rattle.race_workers.proofs.working.take_rounds.Goals as goal
 
 pub round-requires-clause-job : goal.round-requires-clause-job
@@ -27,7 +28,9 @@ returns-in-Over-clause-pass g c =
 
 pub returns-in-Over-clause-ended : goal.returns-in-Over-clause-ended
 returns-in-Over-clause-ended g c =
-    subst (λ (x : Turn). Leaves (typed_program c.args.job.now.program.now) c.round.new.pass x) c.in-Over.is c.in_ok-entry.ensures.turn
+    let t = typed_program c.args.job.now.program.now in
+    ended t c.loop.pass c.round.new.pass c.loop.carried
+    (subst (λ (x : Turn). Pursues t c.loop.pass c.round.new.pass c.loop.carried x) c.in-Over.is c.in_ok-entry.ensures.turn)
 
 pub loop-preserved : goal.loop-preserved
 loop-preserved g c = (
@@ -35,7 +38,9 @@ loop-preserved g c = (
   search rules,
   with_shares c.args.job.now.cell.now (typed_program c.args.job.now.program.now) (options c.args.job.now.limits) c.loop.pass.shares c.args.pass.now.shares c.round.new.pass
       c.round.ensures.pass c.loop.invariant.2.shares,
-  subst (λ (x : Turn). Leaves (typed_program c.args.job.now.program.now) c.round.new.pass x) c.in-Again.is c.in_ok-entry.ensures.turn,
+  let t = typed_program c.args.job.now.program.now in
+      carried_on t c.loop.pass c.round.new.pass c.loop.carried c.in-Again.entry c.loop.invariant.3
+      (subst (λ (x : Turn). Pursues t c.loop.pass c.round.new.pass c.loop.carried x) c.in-Again.is c.in_ok-entry.ensures.turn),
 )
 
 pub loop-init : goal.loop-init
