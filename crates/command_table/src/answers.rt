@@ -10,6 +10,8 @@ pub(crate) struct Outcome {
     pub(crate) races: usize,
     /// How many entries the history of the last of them has.
     pub(crate) entries: usize,
+    /// How many states what it keeps has.
+    pub(crate) kept: u32,
 }
 
 /// What the last run answered.
@@ -104,6 +106,7 @@ impl Answer {
                 status: 0,
                 races: 0,
                 entries: 0,
+                kept: 0,
             },
             output: Vec::new(alloc),
             shown: String::new(alloc),

@@ -5,6 +5,31 @@ use crate::gates::Schedule;
 use crate::texts::{Name, Texts};
 use std::alloc::{AllocError, Global};
 
+/// What a run is repeated with.
+#[derive(Clone, Copy)]
+pub(crate) enum Varied {
+    /// The length at which this text is cut off.
+    Length(Name),
+    /// The call on the shelf that fails.
+    Shelf,
+    /// The call on the sink that fails.
+    Sink,
+}
+
+impl Varied {
+    /// What a word names.
+    pub(crate) fn of(word: &str) -> Option<Varied> {
+        match word {
+            "shelf" => Some(Varied::Shelf),
+            "sink" => Some(Varied::Sink),
+            _ => match Name::of(word) {
+                Some(name) => Some(Varied::Length(name)),
+                None => None,
+            },
+        }
+    }
+}
+
 /// Numbers that hold for the next run.
 #[derive(Clone, Copy)]
 pub(crate) struct Settings {
@@ -145,8 +170,8 @@ impl Case {
             return Ok(false);
         };
         match command {
-            "shelf" => self.settings.shelf_fails = number as u64,
-            "sink" => self.settings.sink_fails = number as u64,
+            "shelf" => self.vary(Varied::Shelf, number),
+            "sink" => self.vary(Varied::Sink, number),
             "first" => self.settings.lines = number,
             "only" => return self.show_only(number, rest),
             _ => return Ok(false),
@@ -162,11 +187,13 @@ impl Case {
         Ok(true)
     }
 
-    /// Beyond so many bytes a text is cut off in the next run.
-    pub(crate) fn cut(&mut self, name: Name, length: usize) {
-        match name {
-            Name::P => self.settings.first_length = length,
-            Name::Q => self.settings.second_length = length,
+    /// The next run has this number.
+    pub(crate) fn vary(&mut self, varied: Varied, number: usize) {
+        match varied {
+            Varied::Length(Name::P) => self.settings.first_length = number,
+            Varied::Length(Name::Q) => self.settings.second_length = number,
+            Varied::Shelf => self.settings.shelf_fails = number as u64,
+            Varied::Sink => self.settings.sink_fails = number as u64,
         }
     }
 
@@ -183,11 +210,11 @@ fn push_line(text: &mut String, line: &str) -> Result<(), AllocError> {
     text.push('\n')
 }
 
+fn byte(number: &str) -> u8 {
+    number.parse::<u8>().unwrap_or(0)
+}
+
 /// The bytes of these numbers.
 fn bytes_of(alloc: Global, numbers: &str) -> Result<Vec<u8>, AllocError> {
-    let mut bytes = Vec::new(alloc);
-    for number in numbers.split_whitespace() {
-        bytes.push(number.parse::<u8>().unwrap_or(0))?;
-    }
-    Ok(bytes)
+    numbers.split_whitespace().map(byte).collect(alloc)
 }

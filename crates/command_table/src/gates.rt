@@ -1,5 +1,6 @@
 //! Schedules of several workers, forced by gates. That workers run at the same time is shown here and nowhere else.
 
+use crate::answers::Outcome;
 use race_workers::{Gate, Moment};
 use std::alloc::AllocError;
 use std::sync::atomic::{AtomicU64, Ordering};
@@ -29,23 +30,27 @@ impl Arrivals {
     /// Waits until so many have come.
     fn wait_for(&self, number: u64) {
         for _ in 0..TURNS {
-            if self.count.load(Ordering::SeqCst) >= number {
+            if self.so_far() >= number {
                 return;
             }
         }
         self.gave_up.fetch_add(1, Ordering::SeqCst);
     }
 
+    fn so_far(&self) -> u64 {
+        self.count.load(Ordering::SeqCst)
+    }
+
     /// How many have come, unless a worker gave up waiting for more.
     fn all(&self) -> Option<u64> {
         match self.gave_up.load(Ordering::SeqCst) {
-            0 => Some(self.count.load(Ordering::SeqCst)),
+            0 => Some(self.so_far()),
             _ => None,
         }
     }
 }
 
-/// The moments of one worker, a digit for each, as far as nine of them.
+/// The moments of one worker, a digit for each, as far as eighteen of them.
 #[derive(Drop)]
 pub(crate) struct Record {
     digits: AtomicU64,
@@ -68,7 +73,7 @@ impl Record {
             Moment::Finishing => 6,
         };
         let digits = self.digits.load(Ordering::SeqCst);
-        if digits < 100_000_000 {
+        if digits < 100_000_000_000_000_000 {
             let more = digits.wrapping_mul(10).wrapping_add(digit);
             self.digits.store(more, Ordering::SeqCst);
         }
@@ -140,7 +145,8 @@ impl FirstIsStale {
 
 impl Gate for FirstIsStale {
     fn at(&self, worker: u32, moment: Moment) {
-        if worker == 0 {
+        // (what follows its publication goes by the schedule)
+        if worker == 0 && self.first_published.so_far() == 0 {
             self.first_moments.add(moment);
         }
         match (worker, moment) {
@@ -189,6 +195,50 @@ impl Gate for OtherIsFull {
     }
 }
 
+/// Two workers take turns: a worker that has come to a moment goes on when the other has come to its next one. So only one of them is at
+/// work at any time, and their moments come in one order. At their ends both go on when both are there.
+#[derive(Drop)]
+pub(crate) struct InTurns {
+    come: Arrivals,
+    ending: Arrivals,
+    first_moments: Record,
+    second_moments: Record,
+}
+
+impl InTurns {
+    fn new() -> Self {
+        InTurns {
+            come: Arrivals::new(),
+            ending: Arrivals::new(),
+            first_moments: Record::new(),
+            second_moments: Record::new(),
+        }
+    }
+
+    fn add(&self, worker: u32, moment: Moment) {
+        match worker {
+            0 => self.first_moments.add(moment),
+            _ => self.second_moments.add(moment),
+        }
+        self.come.add();
+    }
+}
+
+impl Gate for InTurns {
+    fn at(&self, worker: u32, moment: Moment) {
+        // Worker 1 begins when worker 0 has come to its first moment. From then on nobody else comes until this worker waits.
+        self.come.wait_for(u64::from(worker));
+        let before = self.come.so_far();
+        self.add(worker, moment);
+        if moment == Moment::Finishing {
+            self.ending.add();
+            self.ending.wait_for(2);
+        } else {
+            self.come.wait_for(before.saturating_add(2));
+        }
+    }
+}
+
 /// What forces a schedule, and tells of it.
 #[derive(Drop)]
 pub(crate) enum Schedule {
@@ -197,6 +247,7 @@ pub(crate) enum Schedule {
     Together(AllAt),
     Stale(FirstIsStale),
     Full(OtherIsFull),
+    Turns(InTurns),
 }
 
 impl Schedule {
@@ -208,12 +259,13 @@ impl Schedule {
             "two finish" => Some(Schedule::Together(AllAt::new(Moment::Finishing, 2))),
             "first is stale" => Some(Schedule::Stale(FirstIsStale::new())),
             "other is full" => Some(Schedule::Full(OtherIsFull::new())),
+            "in turns" => Some(Schedule::Turns(InTurns::new())),
             _ => None,
         }
     }
 
-    /// Puts what the gate saw behind a text, and how many entries the closed history has.
-    pub(crate) fn push_seen(&self, shown: &mut String, entries: usize) -> Result<(), AllocError> {
+    /// Puts what the gate saw behind a text, and how many entries the closed history has, and how many states what it keeps.
+    pub(crate) fn push_seen(&self, shown: &mut String, outcome: Outcome) -> Result<(), AllocError> {
         match self {
             Schedule::Free => return Ok(()),
             Schedule::Moments(record) => push_moments(shown, record.digits())?,
@@ -226,8 +278,16 @@ impl Schedule {
                 push_arrivals(shown, full.publishing.all(), true)?;
                 push_arrivals(shown, full.finishing.all(), false)?;
             }
+            Schedule::Turns(turns) => {
+                push_moments(shown, turns.first_moments.digits())?;
+                push_moments(shown, turns.second_moments.digits())?;
+                push_arrivals(shown, turns.come.all(), true)?;
+                push_arrivals(shown, turns.ending.all(), true)?;
+            }
         }
-        writeln!(shown, "entries {entries}")
+        let entries = outcome.entries;
+        let kept = outcome.kept;
+        writeln!(shown, "entries {entries}, kept states {kept}")
     }
 }
 
@@ -239,6 +299,7 @@ impl Gate for Schedule {
             Schedule::Together(all) => all.at(worker, moment),
             Schedule::Stale(stale) => stale.at(worker, moment),
             Schedule::Full(full) => full.at(worker, moment),
+            Schedule::Turns(turns) => turns.at(worker, moment),
         }
     }
 }

@@ -14,7 +14,8 @@
 //! - `+ LINE`: in their place stands this one;
 //! - `shelf N`, `sink N`: the call of that number on the shelf or on the sink fails;
 //! - `gate NAME`: a schedule of several workers is forced, and what is seen of it is shown behind the output: the moments of a worker, a digit each
-//!   (1 reading, 2 built, 3 publishing, 4 published, 5 stale, 6 finishing), how many came to a moment, and how many entries the history has;
+//!   (1 reading, 2 built, 3 publishing, 4 published, 5 stale, 6 finishing), how many came to a moment, how many entries the history has, and how
+//!   many states the automaton of what is kept;
 //! - `first N`: only the first lines of the output are shown;
 //! - `only L W`: of line L only the first W words are shown, and `*` in place of the others.
 //!
@@ -23,7 +24,8 @@
 //! - `run WORDS`: the status, how many races were closed, the words, and the output, in which a line without an end has a backslash there;
 //! - `then WORDS`: the same, where `q` is what the last run wrote;
 //! - `status WORDS`: the output is not shown;
-//! - `cut p FROM TO WORDS`: once for each of these lengths of `p`, beyond which it is cut off; an answer is shown where it is not that of the length before.
+//! - `each p FROM TO WORDS`: once for each of these lengths of `p`, beyond which it is cut off; with `shelf` or `sink` in place of a text, once for each
+//!   of these numbers of the call that fails. An answer is shown where it is not that of the number before.
 //!
 //! Any other line is printed behind a question mark.
 #![tactic(auto)]
@@ -40,5 +42,6 @@ use std::io::{self, Read};
 fn main(rt: HostRuntime) -> io::Result<()> {
     let mut text = Vec::new(rt.alloc());
     rt.stdin().read_to_end(&mut text)?;
-    answer_all(&rt, &rt, &text)
+    answer_all(&rt, &rt, str::from_utf8(&text).unwrap_or("? no text"));
+    Ok(())
 }
