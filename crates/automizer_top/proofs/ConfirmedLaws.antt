@@ -36,6 +36,7 @@ record IsVerdictOf (s : Settings) (program : List ℕ) (texts : Texts) (a : Answ
   pub typed : IsTypedText s.entry text meant
   pub lowers : first_fault meant ≡ None
   pub verdict : ReportsVerdict (limits_of s) meant a
+  pub short : length a.bytes ≤ second_limit
 
 not_three : (n : ℕ) → n ≡ 3 → n < 3 → ⊥
 not_three n e l = omega arith
@@ -47,7 +48,7 @@ of_text : (s : Settings) (program text : List ℕ) (texts : Texts) (a : Answer) 
     IsVerdictOf s program texts a
 of_text s program text texts a found (refused_verify r) l = absurd (not_three a.status (typed_is_three s.entry text a r) l)
 of_text s program text texts a found (unlowered t w r) l = absurd (not_three a.status (lowering_is_three t a r) l)
-of_text s program text texts a found (decided t w none v) l = record { text = text; meant = t; found = found; typed = w; lowers = none; verdict = v }
+of_text s program text texts a found (decided t w none v few) l = record { text = text; meant = t; found = found; typed = w; lowers = none; verdict = v; short = few }
 
 verdict_of : (words : List (List ℕ)) (s : Settings) (program : List ℕ) (texts : Texts) (a : Answer) → Ask words s (Verify program) → Reports words texts a → a.status < 3 →
     IsVerdictOf s program texts a
@@ -90,7 +91,7 @@ check_answer : (again : List (List ℕ)) (r s : Settings) (program second : List
 check_answer again r s program second before after a ask few d z h =
     checked s program second d.text ask (h.same ∙ d.found)
     (of_lowered d.meant (subst (λ (e : List ℕ). IsTypedText e d.text d.meant) (sym h.entry) d.typed) d.lowers
-    (subst (λ o. ReportsProof (lowered d.meant) o accepted_answer) (sym h.given) (proof_of r d.meant a few d.verdict z h.short)))
+    (subst (λ o. ReportsProof (lowered d.meant) o accepted_answer) (sym h.given) (proof_of r d.meant a few d.verdict z d.short)))
 
 -- words that ask for a check have no two verdicts, and an answer of status 0 is no typing refusal
 one_of_check : (words : List (List ℕ)) (s : Settings) (program second : List ℕ) (texts : Texts) (a b : Answer) → Ask words s (Check program second) → a.status ≡ 0 →
@@ -136,7 +137,7 @@ replay_answer : (again : List (List ℕ)) (r s : Settings) (program second : Lis
 replay_answer again r s program second before after a ask d u h =
     replaying s program second d.text ask (h.same ∙ d.found)
     (of_typed d.meant (subst (λ (e : List ℕ). IsTypedText e d.text d.meant) (sym h.entry) d.typed)
-    (subst (λ o. ReportsFailure d.meant o (replayed_answer u.id)) (sym h.given) (replayed a.bytes u.failure u.id refl h.short u.read u.replays refl)))
+    (subst (λ o. ReportsFailure d.meant o (replayed_answer u.id)) (sym h.given) (replayed a.bytes u.failure u.id refl d.short u.read u.replays refl)))
 
 one_of_replay : (words : List (List ℕ)) (s : Settings) (program second : List ℕ) (texts : Texts) (a b : Answer) → Ask words s (Replay program second) → a.status ≡ 0 →
     AreOne words texts a b → b ≡ a

@@ -286,7 +286,7 @@ verified_is_safe : (words : List (List ℕ)) (texts : Texts) (s : Settings) (pro
     ReportsVerify s.entry (limits_of s) text a → a.status ≡ 0 → VerifiedIsSafe words texts → ProgramIsSafe words texts
 verified_is_safe words texts s program text a asked found (refused_verify r) z safe = absurd (typed_is_not_zero s.entry text a r z)
 verified_is_safe words texts s program text a asked found (unlowered t w r) z safe = absurd (lowering_is_not_zero t a r z)
-verified_is_safe words texts s program text a asked found (decided t w none v) z safe =
+verified_is_safe words texts s program text a asked found (decided t w none v few) z safe =
     let asks : AsksForVerdict words texts t = record { settings = s; program = program; asked = asked; text = text; found = found; typed = w } in
     (t, inr asks, safe t asks)
 
@@ -374,7 +374,7 @@ replay_begins entry text second a (of_typed t h of) begin = failure_begins t sec
 verify_begins : (entry : List ℕ) (o : race.Options) (text : List ℕ) (a : Answer) → ReportsVerify entry o text a → second_of a ≡ 99 → ⊥
 verify_begins entry o text a (refused_verify r) begin = typed_begins entry text a r begin
 verify_begins entry o text a (unlowered t w r) begin = lowering_begins t a r begin
-verify_begins entry o text a (decided t w none v) begin = verdict_begins (length v.race.history) v.verdict (sym (ap second_of v.is) ∙ begin)
+verify_begins entry o text a (decided t w none v few) begin = verdict_begins (length v.race.history) v.verdict (sym (ap second_of v.is) ∙ begin)
 
 -- an answer that begins as `accepted` does is safe
 reports_begin : (words : List (List ℕ)) (texts : Texts) (a : Answer) → Reports words texts a → (a ≡ accepted_answer → CheckedIsSafe words texts) → second_of a ≡ 99 → ProgramIsSafe words texts

@@ -119,13 +119,13 @@ verify_once entry o text a b (refused_verify r) (refused_verify s) = wider (type
     wider (inl e) = inl e
     wider (inr h) = inr (inl h)
 verify_once entry o text a b (refused_verify r) (unlowered t w s) = absurd (typed_not_refused entry text t a w r)
-verify_once entry o text a b (refused_verify r) (decided t w none v) = absurd (typed_not_refused entry text t a w r)
+verify_once entry o text a b (refused_verify r) (decided t w none v few) = absurd (typed_not_refused entry text t a w r)
 verify_once entry o text a b (unlowered t w r) (refused_verify s) = absurd (typed_not_refused entry text t b w s)
 verify_once entry o text a b (unlowered t w r) (unlowered u v s) = inl (lowering_once t u a b (one_typed entry text t u w v) r s)
-verify_once entry o text a b (unlowered t w r) (decided u v none s) = absurd (lowered_not_refused u t a (one_typed entry text u t v w) none r)
-verify_once entry o text a b (decided t w none r) (refused_verify s) = absurd (typed_not_refused entry text t b w s)
-verify_once entry o text a b (decided t w none r) (unlowered u v s) = absurd (lowered_not_refused t u b (one_typed entry text t u w v) none s)
-verify_once entry o text a b (decided t w none r) (decided u v none' s) =
+verify_once entry o text a b (unlowered t w r) (decided u v none s few) = absurd (lowered_not_refused u t a (one_typed entry text u t v w) none r)
+verify_once entry o text a b (decided t w none r few) (refused_verify s) = absurd (typed_not_refused entry text t b w s)
+verify_once entry o text a b (decided t w none r few) (unlowered u v s) = absurd (lowered_not_refused t u b (one_typed entry text t u w v) none s)
+verify_once entry o text a b (decided t w none r few) (decided u v none' s few') =
     inr (inr (t, w, r, subst (λ (x : TypedProgram). ReportsVerdict o x b) (one_typed entry text t u w v) s))
 
 -- ---- the report

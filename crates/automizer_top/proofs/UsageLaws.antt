@@ -67,7 +67,7 @@ verdict_not_four (Unknown cause w) = λ e. omega (arith, e)
 pub verify_not_four : (entry : List ℕ) (o : Options) (text : List ℕ) (a : Answer) → ReportsVerify entry o text a → a.status ≢ 4
 verify_not_four entry o text a (refused_verify r) = typed_not_four entry text a r
 verify_not_four entry o text a (unlowered t w r) = lowering_not_four t a r
-verify_not_four entry o text a (decided t w none v) = λ e. verdict_not_four v.verdict (sym (ap status_of v.is) ∙ e)
+verify_not_four entry o text a (decided t w none v few) = λ e. verdict_not_four v.verdict (sym (ap status_of v.is) ∙ e)
 
 -- what was read of the words is what they ask for
 pub asks_by : (words : List (List ℕ)) (o : Option read.Request) (q : read.Request) → o ≡ Some q → option_map asked o ≡ requested words → requested words ≡ Some (asked q)

@@ -23,7 +23,7 @@ use Rattle.race_verdicts.specs.declared.verdicts.Verdict.TheVariants.{Safe, Unsa
 use Rattle.race_verdicts.specs.Verdicts.{IsVerdict}
 use Rattle.race_verdicts.specs.Texts.{verdict_text, ChoicesFit}
 use Rattle.automizer_top.specs.Verdicts.{IsClosedRace, verdict_status}
-use Rattle.automizer_top.specs.Report.{Answer, verdict_answer, IsTypedText, ReportsVerdict, ReportsVerify, decided}
+use Rattle.automizer_top.specs.Report.{Answer, second_limit, verdict_answer, IsTypedText, ReportsVerdict, ReportsVerify, decided}
 use Rattle.automizer_top.specs.Answers.{answered, IsGraphOf, HasNoErrorWord, TextIsSafe}
 use Rattle.automizer_top.specs.declared.answer.Answer as code
 use Rattle.automizer_top.proofs.ReportLaws.{text_is_safe}
@@ -58,9 +58,9 @@ safe_is_infeasible t g r (Unknown cause w) h k s z = absurd (omega arith)
 -- ---- what was decided, of a text
 
 pub decided_reported : (entry : List ℕ) (o : Options) (text : List ℕ) (t : TypedProgram) (g : Graph) (r : Result code.Answer AllocError) → IsTypedText entry text t → IsGraphOf t g →
-    IfOk r (λ a. ReportsVerdict o t (answered a)) → IfOk r (λ a. ReportsVerify entry o text (answered a))
-decided_reported entry o text t g (Ok a) w h v = decided t w h.fits v
-decided_reported entry o text t g (Err e) w h v = tt
+    IfOk r (λ a. ReportsVerdict o t (answered a)) → IfOk r (λ a. length (answered a).bytes ≤ second_limit) → IfOk r (λ a. ReportsVerify entry o text (answered a))
+decided_reported entry o text t g (Ok a) w h v few = decided t w h.fits v few
+decided_reported entry o text t g (Err e) w h v few = tt
 
 pub decided_is_safe : (entry text : List ℕ) (t : TypedProgram) (g : Graph) (r : Result code.Answer AllocError) → IsTypedText entry text t → IsGraphOf t g →
     IfOk r (λ a. (answered a).status ≡ 0 → HasNoErrorWord g) → IfOk r (λ a. (answered a).status ≡ 0 → TextIsSafe entry text)

@@ -200,11 +200,12 @@ pub record ReportsVerdict (o : Options) (t : TypedProgram) (a : Answer) : Type 0
   pub of_end : IsVerdict t race verdict
   pub is : a ≡ verdict_answer race verdict
 
--- What is answered to a program text whose verdict is asked for. The cases exclude each other; of several verdicts any may be told.
+-- What is answered to a program text whose verdict is asked for. The cases exclude each other; of several verdicts any may be told. A verdict
+-- has no more bytes than a second text may have, so that its text can be handed over.
 pub data ReportsVerify (entry : List ℕ) (o : Options) (program : List ℕ) (a : Answer) : Type 0 where
   refused_verify : RefusesTyped entry program a → ReportsVerify entry o program a
   unlowered : (t : TypedProgram) → IsTypedText entry program t → RefusesLowering t a → ReportsVerify entry o program a
-  decided : (t : TypedProgram) → IsTypedText entry program t → first_fault t ≡ None → ReportsVerdict o t a → ReportsVerify entry o program a
+  decided : (t : TypedProgram) → IsTypedText entry program t → first_fault t ≡ None → ReportsVerdict o t a → length a.bytes ≤ second_limit → ReportsVerify entry o program a
 
 -- What is answered where the generated program of so many procedures is asked for: the summary of the verdict for which a race over it has ended.
 -- This program is never refused.
@@ -260,13 +261,11 @@ pub record AsksForCheck (words : List (List ℕ)) (texts : List (List ℕ × Lis
   pub found : text_named program texts ≡ Some text
   pub typed : IsTypedText settings.entry text t
 
--- The program has the same text and the same entry in both, and the second name stands for the bytes of an answer, which are within their
--- limit.
+-- The program has the same text and the same entry in both, and the second name stands for the bytes of an answer.
 pub record IsHandedOver (program second : List ℕ) (r s : Settings) (before after : List (List ℕ × List ℕ)) (a : Answer) : Type 0 where
   pub entry : s.entry ≡ r.entry
   pub same : text_named program after ≡ text_named program before
   pub given : text_named second after ≡ Some a.bytes
-  pub short : length a.bytes ≤ second_limit
 
 -- The words ask for the verdict on this program, which stands in the texts and keeps the typing rules.
 pub record AsksForVerdict (words : List (List ℕ)) (texts : List (List ℕ × List ℕ)) (t : TypedProgram) : Type 0 where

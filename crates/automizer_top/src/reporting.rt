@@ -236,6 +236,7 @@ fn decided<R: Threads + Wait + Sync, G: Gate + Sync>(
     requires workers { (1 ≤ options.now.workers) × (options.now.workers ≤ 64) }
     requires depth { options.now.depth ≤ 64 }
     ensures reported { IfOk result (λ a. (o : RaceOptions) → o.rounds ≡ options.now.rounds → o.depth ≡ options.now.depth → ReportsVerdict o (typed_program program.now) (answered a)) }
+    ensures short { IfOk result (λ a. length (answered a).bytes ≤ SECOND_LIMIT) }
     ensures safe { IfOk result (λ a. (answered a).status ≡ 0 → HasNoErrorWord icfg.now) }
 {
     let limits = Limits {

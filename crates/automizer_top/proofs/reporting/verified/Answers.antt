@@ -39,6 +39,7 @@ returns-clause-reported g c =
     let graph : IsGraphOf t c.in-Ok-2.icfg = rw c.in-Ok-2.is at c.in_ok-icfg.ensures in
     decided_reported c.args.options.now.entry.now (limits_of (settings c.args.options.now)) c.args.text.now t c.in-Ok-2.icfg c.decided.result typed graph
     (IfOk-weaker c.decided.result _ _ (λ a h. h (limits_of (settings c.args.options.now)) refl refl) c.decided.ensures.reported)
+    c.decided.ensures.short
 
 pub returns-clause-safe : goal.returns-clause-safe
 returns-clause-safe g c =
