@@ -6,7 +6,7 @@ use Rattle.farkas_check.specs.declared.refutations.Node.{Node}
 use Rattle.farkas_check.specs.Nodes.{PlainNode, plain, plain_nodes}
 use Rattle.farkas_check.specs.Trees.{Tree, Trees, leaf_tree, cut_tree, cases_tree, no_tree, one_more, prefix_of, prefixes_of}
 use Rattle.int_decide.specs.Worth.{cuts_of, most_cuts, IsTreeOf}
-use Rattle.hoare_check.specs.Decided.{IsCutWithin}
+use Rattle.triple_rows.specs.Cuts.{IsCutWithin}
 
 -- ---- lists of nodes
 

@@ -8,7 +8,8 @@ use Rattle.int_decide.specs.Worth.{IsTreeOf}
 use Rattle.triple_rows.specs.declared.triples.Triple.{Triple}
 use Rattle.triple_rows.specs.Triples.{Agrees, IsRefuted}
 use Rattle.triple_rows.specs.Proofs.{PlainProof}
-use Rattle.hoare_check.specs.Decided.{IsProofFor, MayProve, columns_of}
+use Rattle.hoare_check.specs.Decided.{IsProofFor, MayProve}
+use Rattle.triple_rows.specs.Cuts.{columns_of}
 use Rattle.hoare_check.proofs.CutLaws.{uncut_within}
 
 module _ (al : Alphabet) (triple : Triple) (nodes : List PlainNode) (a : Agrees al triple) (r : IsRefuted al triple nodes) (t : IsTreeOf 0 nodes) where

@@ -13,7 +13,8 @@ use Rattle.int_decide.proofs.Worths.{refuted_has_no_point}
 use Rattle.triple_rows.specs.declared.triples.Triple.{Triple}
 use Rattle.triple_rows.specs.Systems.{PlainSystem, Groups, Members, plain_system, no_group, one_group, no_member, one_member, PlainFits, GroupsFit, MembersFit, IsSystem, AreGroups, AreMembers}
 use Rattle.triple_rows.specs.Triples.{system_of}
-use Rattle.hoare_check.specs.Decided.{RefutesUncut, columns_of}
+use Rattle.hoare_check.specs.Decided.{RefutesUncut}
+use Rattle.triple_rows.specs.Cuts.{columns_of}
 
 -- ---- the rows of a system whose numbers fit are rows
 

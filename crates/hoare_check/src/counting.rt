@@ -5,7 +5,8 @@ ghost use Rattle.letter_acts.specs.Acts.{frame_of, back_act, plain_act};
 ghost use Rattle.letter_acts.specs.Frames.{is_variable, variables_of};
 ghost use Rattle.letter_acts.specs.Invariant.{alphabet_of, is_global_at, written_by};
 ghost use Rattle.hoare_check.specs.Counts.{IsCount};
-ghost use Rattle.hoare_check.specs.Decided.{inside_columns, call_columns, back_columns, return_columns, columns_of};
+ghost use Rattle.triple_rows.specs.Cuts.{inside_columns, call_columns, back_columns, columns_of};
+ghost use Rattle.letter_acts.specs.Widths.{back_width};
 
 use boogie_tree::{Column, VarInfo};
 use letter_acts::{Act, Icfg};
@@ -115,8 +116,8 @@ fn written(frame: &[(Column, VarInfo)], targets: &[u32]) -> Option<u32>
 }
 
 /// Of a return with these targets from a call with this act.
-fn return_columns(icfg: &Icfg, targets: &[u32], act: &Act) -> Option<u32>
-    ensures { IsCount (return_columns (alphabet_of icfg.now) targets.now (Some (plain_act act.now))) result }
+fn back_width(icfg: &Icfg, targets: &[u32], act: &Act) -> Option<u32>
+    ensures { IsCount (back_width (alphabet_of icfg.now) targets.now (Some (plain_act act.now))) result }
 {
     match act {
         Act::Call {
@@ -140,7 +141,7 @@ fn back_columns(icfg: &Icfg, act: &Act) -> Option<u32>
 {
     match act {
         Act::Back { call, targets } => match icfg.acts().get(*call as usize) {
-            Some(called) => return_columns(icfg, targets, called),
+            Some(called) => back_width(icfg, targets, called),
             None => Some(0),
         },
         Act::Inside { .. } | Act::Call { .. } => Some(0),

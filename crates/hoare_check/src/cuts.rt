@@ -5,7 +5,8 @@ ghost use Rattle.std.specs.List.{AllByRecursion};
 ghost use Rattle.farkas_check.specs.Nodes.{plain, plain_nodes};
 ghost use Rattle.letter_acts.specs.Invariant.{alphabet_of};
 ghost use Rattle.hoare_check.specs.Counts.{IsCount};
-ghost use Rattle.hoare_check.specs.Decided.{IsCutWithin, AreCutsWithin};
+ghost use Rattle.hoare_check.specs.Decided.{AreCutsWithin};
+ghost use Rattle.triple_rows.specs.Cuts.{IsCutWithin};
 
 use crate::counting::columns_of;
 use farkas_check::{Node, Refutation};

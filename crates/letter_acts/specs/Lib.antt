@@ -11,3 +11,4 @@ pub mod Known
 pub mod Kept
 pub mod Parts
 pub mod Checks
+pub mod Widths

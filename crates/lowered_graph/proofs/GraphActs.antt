@@ -26,7 +26,7 @@ use Rattle.lowered_steps.specs.Edges.{Edge, numbers_in}
 use Rattle.lowered_graph.specs.Arcs.{place_number, spot_number, return_place, entering_rows, entering, program_arcs}
 use Rattle.letter_table.specs.Letters.{Arc, inside_arc, call_arc, place_from, act_number, unless_there, with_act, Lettered, with_arc, with_arcs, no_letters, lettered}
 use Rattle.lowered_graph.specs.Lowered.{lowered}
-use Rattle.lowered_graph.specs.Widths.{back_width, act_width, ActsFit}
+use Rattle.letter_acts.specs.Widths.{back_width, act_width, ActsFit}
 use Rattle.lowered_graph.proofs.ActNumbers.{act_numbered, longer_get, longer_than, with_longer}
 use Rattle.lowered_graph.proofs.LetterEdges.{arcs_longer}
 use Rattle.lowered_graph.proofs.KnownPlaces.{IsKnown}

@@ -14,7 +14,7 @@ use Rattle.lowered_steps.specs.Moves.{AreAssigned, results_of_procedure, IsTyped
 use Rattle.lowered_imports.specs.Imports.{IsModified, IsKnownImport, later}
 use Rattle.lowered_imports.specs.KnownPoints.{IsPointOf, StandsAtImport, PointsAreKnown, ImportsAreKnown}
 use Rattle.lowered_graph.specs.Lowered.{lowered}
-use Rattle.lowered_graph.specs.Widths.{ActsFit}
+use Rattle.letter_acts.specs.Widths.{ActsFit}
 use Rattle.lowered_graph.proofs.KnownPlaces.{PlaceLaws, IsKnown}
 use Rattle.lowered_graph.proofs.Alphabet.{letters_of}
 use Rattle.lowered_graph.proofs.FrameTargets.{AreStanding, AreVarying, target_stands, targets_stand}

@@ -12,7 +12,7 @@ use Rattle.letter_acts.specs.Invariant.{Graph, IsGraph, alphabet_of}
 use Rattle.boogie_run.specs.Runs.{Fails}
 use Rattle.lowered_steps.specs.Stacks.{MachineFails}
 use Rattle.lowered_graph.specs.Lowered.{lowered}
-use Rattle.lowered_graph.specs.Widths.{ActsFit}
+use Rattle.letter_acts.specs.Widths.{ActsFit}
 
 -- Some feasible word has a run of the automaton that ends where assertion i fails.
 pub record ErrorWord (g : Graph) (i : ℕ) : Type 0 where

@@ -13,7 +13,8 @@ use Rattle.letter_acts.specs.Acts.{PlainAct, inside_act, call_act, Alphabet, fra
 use Rattle.letter_acts.specs.Invariant.{Graph, IsGraph, alphabet_of, IsPlaceOf}
 use Rattle.letter_acts.specs.Kept.{Keeps}
 use Rattle.letter_acts.proofs.KnownLemmas.{frames_laid_out}
-use Rattle.path_rows.specs.Versions.{Stage, Part, part_of, act_part, return_part, back_part, no_rows, returned, locals_of, columns_from}
+use Rattle.path_rows.specs.Versions.{Stage, Part, part_of, act_part, return_part, back_part, no_rows, returned, locals_of}
+use Rattle.frame_rows.specs.Rows.{columns_from}
 use Rattle.path_rows.specs.Paths.{start_frame, first_stage}
 use Rattle.path_rows.proofs.ListLemmas.{length-columns_from}
 use Rattle.path_rows.proofs.LayoutLemmas.{laid_out}

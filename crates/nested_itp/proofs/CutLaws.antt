@@ -12,7 +12,7 @@ use Rattle.path_rows.specs.Paths.{path_of}
 use Rattle.nested_predicates.specs.Stamps.{stamps_of}
 use Rattle.nested_predicates.specs.Interpolants.{RefutesRows}
 use Rattle.nested_refutations.specs.Numbers.{AreCutsAt}
-use Rattle.nested_refutations.specs.Cuts.{IsCutWithin}
+use Rattle.triple_rows.specs.Cuts.{IsCutWithin}
 use Rattle.triple_steps.specs.declared.columns.Columns.{Columns}
 use Rattle.triple_steps.specs.Steps.{FitColumns}
 use Rattle.triple_walks.specs.Spots.{HasNoCases}

@@ -15,7 +15,7 @@ use Rattle.nwa_base.specs.Acceptance.{Accepts}
 use Rattle.letter_acts.specs.Frames.{Columns}
 use Rattle.letter_acts.specs.Acts.{Alphabet}
 use Rattle.letter_acts.specs.Invariant.{Graph, IsGraph, alphabet_of}
-use Rattle.path_rows.specs.Rows.{bounds, types_of}
+use Rattle.frame_rows.specs.Rows.{bounds, types_of}
 use Rattle.path_rows.specs.Versions.{Stage, rows_in, part_of}
 use Rattle.path_rows.specs.Paths.{Path, repeated, start_frame, first_stage, path_along, path_of}
 use Rattle.triple_rows.specs.declared.triples.Triple.{Triple}
@@ -27,7 +27,8 @@ use Rattle.nested_predicates.specs.Sums.{root_of}
 use Rattle.nested_predicates.specs.Interpolants.{RefutesRows}
 use Rattle.nested_refutations.specs.Numbers.{Step, StepFits, steps_of, AreCutsAt}
 use Rattle.nested_refutations.specs.Walked.{WalkedRefutes}
-use Rattle.nested_refutations.specs.Cuts.{IsCutWithin, WalkedCuts}
+use Rattle.nested_refutations.specs.Cuts.{WalkedCuts}
+use Rattle.triple_rows.specs.Cuts.{IsCutWithin}
 use Rattle.nested_refutations.specs.Waiting.{StepWaits}
 use Rattle.nested_refutations.proofs.InsideColumnLaws.{length-repeated}
 use Rattle.nested_refutations.proofs.StepLaws.{steps_wait}

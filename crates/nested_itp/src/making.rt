@@ -11,7 +11,7 @@ ghost use Rattle.nested_predicates.specs.Positions.{positions_of};
 ghost use Rattle.nested_predicates.specs.Sums.{root_of};
 ghost use Rattle.nested_predicates.specs.Interpolants.{AreInterpolants, RefutesRows, HasCutsUpTo, BeginsTrue, EndsFalse};
 ghost use Rattle.nested_refutations.specs.Numbers.{NumbersFit, StepFits, steps_of};
-ghost use Rattle.nested_refutations.specs.Cuts.{IsCutWithin};
+ghost use Rattle.triple_rows.specs.Cuts.{IsCutWithin};
 ghost use Rattle.triple_rows.specs.Triples.{Agrees};
 ghost use Rattle.triple_steps.specs.Steps.{FitColumns, AreSteps};
 ghost use Rattle.triple_walks.specs.Spots.{IsTree};

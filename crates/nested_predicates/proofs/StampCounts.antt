@@ -12,7 +12,7 @@ use Rattle.lin_rows.specs.Rows.{LinearRow}
 use Rattle.letter_acts.specs.Frames.{Columns, added, places, is_variable, variables_of}
 use Rattle.letter_acts.specs.Acts.{PlainAct, inside_act, call_act, back_act, Alphabet, frame_of, act_of}
 use Rattle.letter_acts.specs.Invariant.{Graph, alphabet_of, type_at}
-use Rattle.path_rows.specs.Rows.{bounds, types_of, types_at}
+use Rattle.frame_rows.specs.Rows.{bounds, types_of, types_at}
 use Rattle.path_rows.specs.Versions.{Stage, Part, rows_in, entry_rows, locals_of, old_part, inside_part, call_part, return_part, back_part, part_of, act_part}
 use Rattle.path_rows.specs.Paths.{repeated, start_frame, first_stage}
 use Rattle.nested_predicates.specs.declared.stamps.Stamps.{Stamps}

@@ -5,7 +5,7 @@ use Rattle.nwa_base.specs.declared.letters.Letter.{Letter}
 use Rattle.letter_acts.specs.Frames.{Columns}
 use Rattle.letter_acts.specs.Acts.{PlainAct, inside_act, call_act, back_act, Alphabet, frame_of, act_of}
 use Rattle.letter_acts.specs.Invariant.{Graph, alphabet_of}
-use Rattle.path_rows.specs.Rows.{bounds, types_of}
+use Rattle.frame_rows.specs.Rows.{bounds, types_of}
 use Rattle.path_rows.specs.Versions.{Stage, Part, rows_in, locals_of, old_part, part_of}
 use Rattle.path_rows.specs.Paths.{repeated, start_frame, first_stage}
 

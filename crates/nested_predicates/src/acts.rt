@@ -4,7 +4,8 @@ ghost use Rattle.std.specs.Prelude.{◌≡◌, Some, IsSome, filter, length};
 ghost use Rattle.letter_acts.specs.Acts.{plain_act, act_of, frame_of};
 ghost use Rattle.letter_acts.specs.Frames.{is_local, is_variable};
 ghost use Rattle.letter_acts.specs.Invariant.{alphabet_of};
-ghost use Rattle.path_rows.specs.Versions.{is_old, locals_of, old_part};
+ghost use Rattle.path_rows.specs.Versions.{locals_of, old_part};
+ghost use Rattle.frame_rows.specs.Frames.{is_old};
 ghost use Rattle.nested_predicates.specs.Positions.{start_proc};
 ghost use Rattle.nested_predicates.specs.Walking.{is_bool, is_bool_at};
 

@@ -44,7 +44,7 @@ fn add_bounds(stamps: &mut Vec<u64>, stamp: u64, booleans: usize) -> Result<(), 
 
 impl Stamps {
     ghost use Rattle.std.specs.Prelude.{suc};
-    ghost use Rattle.path_rows.specs.Rows.{bounds, types_of};
+    ghost use Rattle.frame_rows.specs.Rows.{bounds, types_of};
     ghost use Rattle.letter_acts.specs.Frames.{is_variable};
     ghost use Rattle.nested_predicates.specs.Stamps.{stamp_of, stamps_of};
     ghost use Rattle.nested_predicates.specs.Walking.{is_bool_at, AreLetters, ReadsLetter};

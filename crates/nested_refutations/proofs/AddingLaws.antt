@@ -5,8 +5,7 @@ use Rattle.std.proofs.lemmas.Int.{ints}
 use Rattle.math_facts.specs.Terms.{coefficient}
 use Rattle.lin_rows.specs.Rows.{LinearRow}
 use Rattle.lin_rows.specs.Negating.{below_opposite}
-use Rattle.path_rows.specs.Versions.{columns_from}
-use Rattle.triple_rows.specs.Systems.{renamed}
+use Rattle.frame_rows.specs.Rows.{columns_from, renamed}
 use Rattle.nested_predicates.specs.Positions.{Scope}
 use Rattle.nested_predicates.specs.Sums.{Branch, column_upto, bound_upto, known_sum, bound_at}
 use Rattle.nested_refutations.specs.Refutations.{Claim, Spot, Role, spare, branch_row, View, Goes, multiplier, is_used}

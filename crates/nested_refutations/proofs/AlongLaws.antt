@@ -12,7 +12,8 @@ use Rattle.nwa_base.specs.Acceptance.{Accepts, AcceptsFrom, Follows}
 use Rattle.letter_acts.specs.Frames.{Columns, is_old_column}
 use Rattle.letter_acts.specs.Acts.{PlainAct, Alphabet, frame_of, act_of}
 use Rattle.letter_acts.specs.Invariant.{Graph, IsGraph, alphabet_of, IsPlaceOf, MayTarget}
-use Rattle.path_rows.specs.Versions.{columns_from, Part, rows_in, part_of}
+use Rattle.path_rows.specs.Versions.{Part, rows_in, part_of}
+use Rattle.frame_rows.specs.Rows.{columns_from}
 use Rattle.path_rows.specs.Paths.{start_frame, first_stage}
 use Rattle.path_rows.specs.Drafts.{CanGoOn}
 use Rattle.path_rows.proofs.DifferLemmas.{columns_distinct}

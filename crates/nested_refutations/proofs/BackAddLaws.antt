@@ -9,7 +9,7 @@ use Rattle.math_facts.specs.Terms.{coefficient, IsBelow}
 use Rattle.lin_rows.specs.Rows.{LinearRow}
 use Rattle.lin_rows.specs.Tightening.{tightened}
 use Rattle.path_rows.specs.Paths.{repeated, start_frame}
-use Rattle.triple_rows.specs.Systems.{bounds, types_of}
+use Rattle.frame_rows.specs.Rows.{bounds, types_of}
 use Rattle.nested_predicates.specs.Sums.{Branch, root_of, sum_upto, column_upto, bound_upto}
 use Rattle.nested_refutations.specs.Refutations.{Role, branch_row, multiplier}
 use Rattle.nested_refutations.specs.Numbers.{branch_rows, spares, before_bounds, bounds_in, Reading}

@@ -17,7 +17,8 @@ use Rattle.path_rows.specs.Stages.{AreVersions, VersionsAt}
 use Rattle.path_rows.specs.Drafts.{CanGoOn}
 use Rattle.path_rows.proofs.EdgeLemmas.{BackEdge, back_acts}
 use Rattle.triple_rows.specs.Predicates.{Formula}
-use Rattle.triple_rows.specs.Systems.{PlainSystem, only_rows, all_systems, said, denied, equal_row, renamed, is_listed, after_column, call_column, types_of, types_at, bounds, back_system}
+use Rattle.triple_rows.specs.Systems.{PlainSystem, only_rows, all_systems, said, denied, is_listed, after_column, call_column, back_system}
+use Rattle.frame_rows.specs.Rows.{equal_row, renamed, types_of, types_at, bounds}
 use Rattle.nested_predicates.specs.Stamps.{stamp_of}
 use Rattle.nested_predicates.specs.Positions.{Scope, has_return, returned_by, left, scopes_after, Position, innermost}
 use Rattle.nested_refutations.specs.Refutations.{rows_in}

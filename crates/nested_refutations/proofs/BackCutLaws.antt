@@ -7,7 +7,9 @@ use Rattle.std.proofs.lemmas.List.{length-map}
 use Rattle.letter_acts.specs.Frames.{is_local, places}
 use Rattle.letter_acts.specs.Acts.{PlainAct, act_of}
 use Rattle.letter_acts.specs.Invariant.{alphabet_of}
-use Rattle.path_rows.specs.Versions.{columns_from, Part, is_old, rows_in, part_of}
+use Rattle.path_rows.specs.Versions.{Part, rows_in, part_of}
+use Rattle.frame_rows.specs.Rows.{columns_from}
+use Rattle.frame_rows.specs.Frames.{is_old}
 use Rattle.path_rows.specs.Paths.{repeated, start_frame}
 use Rattle.nested_predicates.specs.Stamps.{row_stamps, column_stamps, stamps_along, stamps_of, column_stamp}
 use Rattle.nested_predicates.specs.Positions.{innermost}

@@ -13,7 +13,7 @@ use Rattle.letter_acts.specs.Acts.{act_of}
 use Rattle.letter_acts.specs.Reading.{taken}
 use Rattle.letter_acts.specs.Invariant.{alphabet_of, MayTarget}
 use Rattle.letter_acts.proofs.ListLemmas.{member_or_not, some_within}
-use Rattle.path_rows.specs.Rows.{bounds, types_of}
+use Rattle.frame_rows.specs.Rows.{bounds, types_of}
 use Rattle.path_rows.specs.Versions.{Stage, Part, rows_in, locals_of, old_part, part_of}
 use Rattle.path_rows.specs.Paths.{path_along, path_of}
 use Rattle.path_rows.proofs.DifferLemmas.{place_of, length_written}

@@ -13,9 +13,8 @@ use Rattle.lin_rows.specs.Sums.{row_of}
 use Rattle.lin_rows.specs.Tightening.{tightened}
 use Rattle.letter_acts.specs.Frames.{Columns}
 use Rattle.letter_acts.specs.Invariant.{MayName}
-use Rattle.path_rows.specs.Rows as paths
 use Rattle.path_rows.specs.Paths.{start_frame}
-use Rattle.triple_rows.specs.Systems.{renamed, types_of, bounds}
+use Rattle.frame_rows.specs.Rows.{renamed, types_of, bounds}
 use Rattle.nested_refutations.proofs.RowsLaws.{AllPairs, pairs_weaker}
 use Rattle.nested_refutations.proofs.ContentLaws.{IsMoved, tightened_moved, tightened_off, renamed_at, renamed_off, AreMoved, both_moved}
 use Rattle.nested_refutations.proofs.AlongLaws.{first_reading}
@@ -77,7 +76,7 @@ back_own_past c x off = each c.call.rows (own_rows_below c.call)
 bounds_related : (P : LinearRow → LinearRow → Type 0) (n k : ℕ) (ts : List (Option Ty)) →
     ((i : ℕ) → i < length ts → P (tightened (row_of ((n + i, negsuc 0) ∷ []) Le (pos 0))) (tightened (row_of ((k + i, negsuc 0) ∷ []) Le (pos 0))) ×
     P (tightened (row_of ((n + i, pos 1) ∷ []) Le (pos 1))) (tightened (row_of ((k + i, pos 1) ∷ []) Le (pos 1)))) →
-    AllPairs P (map tightened (bounds n ts)) (map tightened (paths.bounds k ts))
+    AllPairs P (map tightened (bounds n ts)) (map tightened (bounds k ts))
 bounds_related P n k [] h = tt
 bounds_related P n k (t ∷ ts) h = by_type t (bounds_related P (n + 1) (suc k) ts (λ i l. next i (h (suc i) (omega (arith, l)))))
   where
@@ -101,7 +100,7 @@ bounds_related P n k (t ∷ ts) h = by_type t (bounds_related P (n + 1) (suc k) 
         (subst (λ (y : ℕ). P (tightened (row_of ((n + 0, negsuc 0) ∷ []) Le (pos 0))) (tightened (row_of ((y, negsuc 0) ∷ []) Le (pos 0))) ×
         P (tightened (row_of ((n + 0, pos 1) ∷ []) Le (pos 1))) (tightened (row_of ((y, pos 1) ∷ []) Le (pos 1)))) (let e : k + 0 ≡ k = omega arith in e) p)
 
-    by_type : (t : Option Ty) → AllPairs P (map tightened (bounds (n + 1) ts)) (map tightened (paths.bounds (suc k) ts)) → AllPairs P (map tightened (bounds n (t ∷ ts))) (map tightened (paths.bounds k (t ∷ ts)))
+    by_type : (t : Option Ty) → AllPairs P (map tightened (bounds (n + 1) ts)) (map tightened (bounds (suc k) ts)) → AllPairs P (map tightened (bounds n (t ∷ ts))) (map tightened (bounds k (t ∷ ts)))
     by_type None r = r
     by_type (Some types.Int) r = r
     by_type (Some types.Bool) r = let p = first (h 0 (omega arith)) in (p.0, (p.1, r))
@@ -128,17 +127,17 @@ more : pos 1 ≡ pos 0 → ⊥
 more e = omega (arith, ints, e)
 
 bounds_same : (n k x y : ℕ) (ts : List (Option Ty)) → ((i : ℕ) → i < length ts → (n + i ≡ x → k + i ≡ y) × (k + i ≡ y → n + i ≡ x)) →
-    AllPairs (λ r s. coefficient x r.terms ≡ coefficient y s.terms) (map tightened (bounds n ts)) (map tightened (paths.bounds k ts))
+    AllPairs (λ r s. coefficient x r.terms ≡ coefficient y s.terms) (map tightened (bounds n ts)) (map tightened (bounds k ts))
 bounds_same n k x y ts h =
     bounds_related (λ r s. coefficient x r.terms ≡ coefficient y s.terms) n k ts
     (λ i l. (bound_same (negsuc 0) (pos 0) less (n + i) (k + i) x y (h i l).0 (h i l).1, bound_same (pos 1) (pos 1) more (n + i) (k + i) x y (h i l).0 (h i l).1))
 
-bounds_bound : (n k : ℕ) (ts : List (Option Ty)) → AllPairs (λ r s. r.bound ≡ s.bound) (map tightened (bounds n ts)) (map tightened (paths.bounds k ts))
+bounds_bound : (n k : ℕ) (ts : List (Option Ty)) → AllPairs (λ r s. r.bound ≡ s.bound) (map tightened (bounds n ts)) (map tightened (bounds k ts))
 bounds_bound n k ts =
     bounds_related (λ r s. r.bound ≡ s.bound) n k ts
     (λ i l. ((bound_is (negsuc 0) (pos 0) less (n + i)).bound ∙ sym (bound_is (negsuc 0) (pos 0) less (k + i)).bound, (bound_is (pos 1) (pos 1) more (n + i)).bound ∙ sym (bound_is (pos 1) (pos 1) more (k + i)).bound))
 
-bounds_kind : (n k : ℕ) (ts : List (Option Ty)) → AllPairs (λ r s. r.kind ≡ s.kind) (map tightened (bounds n ts)) (map tightened (paths.bounds k ts))
+bounds_kind : (n k : ℕ) (ts : List (Option Ty)) → AllPairs (λ r s. r.kind ≡ s.kind) (map tightened (bounds n ts)) (map tightened (bounds k ts))
 bounds_kind n k ts =
     bounds_related (λ r s. r.kind ≡ s.kind) n k ts
     (λ i l. ((bound_is (negsuc 0) (pos 0) less (n + i)).kind ∙ sym (bound_is (negsuc 0) (pos 0) less (k + i)).kind, (bound_is (pos 1) (pos 1) more (n + i)).kind ∙ sym (bound_is (pos 1) (pos 1) more (k + i)).kind))
@@ -151,9 +150,9 @@ pub record BackRows (c : BackLetter) (P : LinearRow → LinearRow → Type 0) : 
 
 -- before the first letter the rows are the bounds of the start
 front_is : (c : BackLetter) (P : LinearRow → LinearRow → Type 0) → c.call.r ≡ first_reading c.call.g → caller_in c.call ≡ start_frame c.call.g →
-    AllPairs P (back_frame c) (map tightened (paths.bounds 0 (types_of (caller_in c.call)))) → AllPairs P (back_frame c) (front_of c.call)
+    AllPairs P (back_frame c) (map tightened (bounds 0 (types_of (caller_in c.call)))) → AllPairs P (back_frame c) (front_of c.call)
 front_is c P q s h =
-    subst (AllPairs P (back_frame c)) (ap (λ (x : Columns). map tightened (paths.bounds 0 (types_of x))) s ∙ ap (map tightened) (sym (front_first c.call q))) h
+    subst (AllPairs P (back_frame c)) (ap (λ (x : Columns). map tightened (bounds 0 (types_of x))) s ∙ ap (map tightened) (sym (front_first c.call q))) h
 
 pub rows_of_caller : (c : BackLetter) (j : ℕ) → j < width c.call → BackRows c (λ r s. coefficient (m_of c + j) r.terms ≡ coefficient (slice_index (call_names c.call) j) s.terms)
 rows_of_caller c j l =

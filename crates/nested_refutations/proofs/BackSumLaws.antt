@@ -9,10 +9,10 @@ use Rattle.letter_acts.specs.Frames.{Columns, constants_of, olds_of, variables_o
 use Rattle.letter_acts.specs.Acts.{PlainAct, Alphabet}
 use Rattle.letter_acts.specs.Reading.{taken}
 use Rattle.letter_acts.specs.Invariant.{alphabet_of}
-use Rattle.path_rows.specs.Rows as paths
-use Rattle.path_rows.specs.Versions.{columns_from}
+use Rattle.frame_rows.specs.Rows.{bounds, types_at}
+use Rattle.frame_rows.specs.Rows.{columns_from, renamed, bounds, types_of, types_at, equal_row}
 use Rattle.triple_rows.specs.Predicates.{Formula, prefix_of, formula_of}
-use Rattle.triple_rows.specs.Systems.{PlainSystem, renamed, said, denied, bounds, types_of, types_at, equal_row, is_listed, back_system}
+use Rattle.triple_rows.specs.Systems.{PlainSystem, said, denied, is_listed, back_system}
 use Rattle.triple_rows.specs.Triples.{return_system_of, back_system_of, system_of}
 use Rattle.triple_rows.proofs.FormulaLaws.{prefix_read}
 use Rattle.nested_predicates.specs.Sums.{root_of}
@@ -188,7 +188,7 @@ abbrev pub exit_spares : BackLetter → List Role
 exit_spares c = spares (bounds_in (callee_in c.call))
 
 abbrev pub written_spares : BackLetter → List Role
-written_spares c = spares (length (paths.bounds 0 (paths.types_at (caller_in c.call) (back_written c))))
+written_spares c = spares (length (bounds 0 (types_at (caller_in c.call) (back_written c))))
 
 pub back_first_roles : (c : BackLetter) → (back_first c).roles ≡
     claim_roles c 0 (exit_claim c) ++ (claim_roles c 1 (before_claim c) ++ (constant_roles c ++ (old_roles c ++ (own_roles c ++ (global_roles c ++ (result_roles c ++ (claim_roles c 2 (after_claim c) ++
@@ -218,7 +218,7 @@ frame_counted c = length-map (bounds (m_of c) (types_of (caller_in c.call))) tig
 pub exit_counted : (c : BackLetter) → length (exit_bounds c) ≡ bounds_in (callee_in c.call)
 exit_counted c = length-map (bounds 0 (types_of (callee_in c.call))) tightened ∙ bounds_counted 0 0 (types_of (callee_in c.call))
 
-pub written_counted : (c : BackLetter) → length (written_bounds c) ≡ length (paths.bounds 0 (paths.types_at (caller_in c.call) (back_written c)))
+pub written_counted : (c : BackLetter) → length (written_bounds c) ≡ length (bounds 0 (types_at (caller_in c.call) (back_written c)))
 written_counted c =
     length-map (bounds (m_of c + n_of c) (types_at (caller_in c.call) (back_written c))) tightened ∙ bounds_counted (m_of c + n_of c) 0 (types_at (caller_in c.call) (back_written c))
 
@@ -250,7 +250,7 @@ back_parts_add c o val number =
     let z2 = others_atoms val number (is_used (back_view c) 1) 1 (leaves_of c (before_claim c)) (before_rows c) in
     let z8 = others_atoms val number (is_used (back_view c) 2) 2 (leaves_of c (after_claim c)) (after_rows c) in
     let z9 = spares_add val number 0 (bounds_in (callee_in c.call)) (exit_bounds c) in
-    let z11 = spares_add val number 0 (length (paths.bounds 0 (paths.types_at (caller_in c.call) (back_written c)))) (written_bounds c) in
+    let z11 = spares_add val number 0 (length (bounds 0 (types_at (caller_in c.call) (back_written c)))) (written_bounds c) in
     whole ∙ parts ∙ sums_left (others val number (claim_roles c 0 (exit_claim c)) (exit_rows c)) (others val number (claim_roles c 1 (before_claim c)) (before_rows c)) (others val number (constant_roles c) (constant_ties c))
     (others val number (old_roles c) (old_ties c)) (others val number (own_roles c) (back_own_rows c)) (others val number (global_roles c) (global_ties c)) (others val number (result_roles c) (result_ties c))
     (others val number (claim_roles c 2 (after_claim c)) (after_rows c)) (others val number (exit_spares c) (exit_bounds c)) (others val number (frame_roles c) (back_frame c)) (others val number (written_spares c) (written_bounds c))

@@ -10,10 +10,10 @@ use Rattle.lin_rows.specs.Rows.{LinearRow, IsRow}
 use Rattle.lin_rows.specs.Tightening.{tightened}
 use Rattle.letter_acts.specs.Frames.{Columns, globals_from, globals_of, olds_of}
 use Rattle.letter_acts.specs.Invariant.{alphabet_of}
-use Rattle.path_rows.specs.Rows as paths
-use Rattle.path_rows.specs.Versions.{columns_from, locals_of, old_part}
+use Rattle.path_rows.specs.Versions.{locals_of, old_part}
+use Rattle.frame_rows.specs.Rows.{columns_from, renamed, bounds, types_of, equal_row}
 use Rattle.path_rows.specs.Paths.{repeated, start_frame, first_stage, path_along}
-use Rattle.triple_rows.specs.Systems.{PlainFits, renamed, said, denied, bounds, types_of, equal_row}
+use Rattle.triple_rows.specs.Systems.{PlainFits, said, denied}
 use Rattle.triple_rows.specs.Triples.{system_of}
 use Rattle.nested_predicates.specs.Positions.{has_return}
 use Rattle.nested_predicates.specs.Joins.{predicate_at}
@@ -79,9 +79,9 @@ front_same [] ys (u ∷ us) vs e l = absurd (omega (arith, l))
 front_same (x ∷ xs) ys [] vs e l = absurd (omega (arith, l))
 front_same (x ∷ xs) ys (u ∷ us) vs e l = let q : x ≡ u = cc in let h : xs ++ ys ≡ us ++ vs = cc in let r : xs ≡ us = front_same xs ys us vs h (omega (arith, l)) in cc
 
-pub front_first : (c : CallLetter) → c.r ≡ first_reading c.g → c.at.along.read.front ≡ paths.bounds 0 (types_of (start_frame c.g))
+pub front_first : (c : CallLetter) → c.r ≡ first_reading c.g → c.at.along.read.front ≡ bounds 0 (types_of (start_frame c.g))
 front_first c e =
-    sym (front_same (paths.bounds 0 (types_of (start_frame c.g))) (path_along (alphabet_of c.g) 1 (first_stage (start_frame c.g)) c.w).rows c.at.along.read.front
+    sym (front_same (bounds 0 (types_of (start_frame c.g))) (path_along (alphabet_of c.g) 1 (first_stage (start_frame c.g)) c.w).rows c.at.along.read.front
     (path_along (alphabet_of c.g) (suc c.r.letters) c.r.stage (c.a ∷ c.rest)).rows c.at.along.read.rows
     (sym (c.at.along.read.row_count ∙ ap (λ (x : Reading). x.rows) e)))
 
@@ -122,7 +122,7 @@ call_rows c P fits f e = record {
     front_is q s =
         bounds_renamed (slice_index (call_names c)) 0 0 (types_of (caller_in c))
         (λ i l. caller_first c q (0 + i) (let long = caller_long c in let m = length_types (caller_in c) in omega (arith, l, long, m))) ∙
-        ap (λ (x : Columns). paths.bounds 0 (types_of x)) s ∙ sym (front_first c q)
+        ap (λ (x : Columns). bounds 0 (types_of x)) s ∙ sym (front_first c q)
 
 -- ---- what they add
 

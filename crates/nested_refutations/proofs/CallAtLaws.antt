@@ -19,7 +19,8 @@ use Rattle.path_rows.specs.Stages.{AreVersions, VersionsAt}
 use Rattle.path_rows.specs.Drafts.{CanGoOn}
 use Rattle.path_rows.proofs.EdgeLemmas.{CallEdge, call_acts}
 use Rattle.triple_rows.specs.Predicates.{Formula, prefix_of, formula_of}
-use Rattle.triple_rows.specs.Systems.{PlainSystem, only_rows, all_systems, said, denied, equal_row, types_of, bounds, call_system}
+use Rattle.triple_rows.specs.Systems.{PlainSystem, only_rows, all_systems, said, denied, call_system}
+use Rattle.frame_rows.specs.Rows.{equal_row, types_of, bounds}
 use Rattle.triple_rows.specs.Triples.{call_system_of, system_of}
 use Rattle.triple_rows.proofs.FormulaLaws.{prefix_read}
 use Rattle.nested_predicates.specs.Stamps.{stamp_of}

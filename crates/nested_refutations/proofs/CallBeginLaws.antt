@@ -13,7 +13,8 @@ use Rattle.letter_acts.specs.Frames.{globals_from, globals_of, olds_of}
 use Rattle.letter_acts.specs.Invariant.{alphabet_of}
 use Rattle.path_rows.specs.Versions.{locals_of, old_part}
 use Rattle.path_rows.specs.Paths.{start_frame}
-use Rattle.triple_rows.specs.Systems.{PlainFits, renamed, equal_row, bounds, types_of}
+use Rattle.triple_rows.specs.Systems.{PlainFits}
+use Rattle.frame_rows.specs.Rows.{renamed, equal_row, bounds, types_of}
 use Rattle.triple_rows.specs.Triples.{system_of}
 use Rattle.nested_predicates.specs.Positions.{has_return}
 use Rattle.nested_predicates.specs.Sums.{Branch, root_of}

@@ -8,7 +8,8 @@ use Rattle.nwa_base.specs.Members.{Member}
 use Rattle.letter_acts.specs.Frames.{Columns, globals_of}
 use Rattle.letter_acts.specs.Acts.{frame_of}
 use Rattle.letter_acts.specs.Invariant.{Graph, alphabet_of, AreDistinct}
-use Rattle.path_rows.specs.Versions.{columns_from, locals_of, old_part}
+use Rattle.path_rows.specs.Versions.{locals_of, old_part}
+use Rattle.frame_rows.specs.Rows.{columns_from}
 use Rattle.path_rows.proofs.DifferLemmas.{distinct_joined, columns_distinct}
 use Rattle.nested_predicates.specs.Sums.{root_of}
 use Rattle.nested_refutations.specs.Refutations.{Spot, View, Goes}

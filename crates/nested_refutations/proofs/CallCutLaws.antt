@@ -8,7 +8,9 @@ use Rattle.nwa_base.specs.declared.letters.Kind.TheVariants as kinds
 use Rattle.letter_acts.specs.Frames.{places}
 use Rattle.letter_acts.specs.Acts.{PlainAct}
 use Rattle.letter_acts.specs.Invariant.{alphabet_of}
-use Rattle.path_rows.specs.Versions.{columns_from, Part, is_old, part_of}
+use Rattle.path_rows.specs.Versions.{Part, part_of}
+use Rattle.frame_rows.specs.Rows.{columns_from}
+use Rattle.frame_rows.specs.Frames.{is_old}
 use Rattle.path_rows.specs.Paths.{repeated}
 use Rattle.nested_predicates.specs.Stamps.{column_stamps, stamps_along, column_stamp}
 use Rattle.nested_predicates.specs.Positions.{returned_by, has_return, innermost}

@@ -14,10 +14,10 @@ use Rattle.lin_rows.specs.Combinations.{combined}
 use Rattle.letter_acts.specs.Frames.{globals_of}
 use Rattle.letter_acts.specs.Invariant.{alphabet_of, AreDistinct}
 use Rattle.letter_acts.proofs.ListLemmas.{counted_up_member}
-use Rattle.path_rows.specs.Versions.{columns_from, Part, part_of}
+use Rattle.path_rows.specs.Versions.{Part, part_of}
+use Rattle.frame_rows.specs.Rows.{columns_from, renamed}
 use Rattle.path_rows.specs.Paths.{repeated}
 use Rattle.path_rows.proofs.DifferLemmas.{taken_at, columns_distinct}
-use Rattle.triple_rows.specs.Systems.{renamed}
 use Rattle.nested_predicates.specs.Stamps.{column_stamp}
 use Rattle.nested_predicates.specs.Positions.{returned_by, has_return, Position}
 use Rattle.nested_predicates.specs.Sums.{Branch, root_of, sum_upto, column_upto, known_sum, coefficients_at}

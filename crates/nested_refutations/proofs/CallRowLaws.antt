@@ -19,11 +19,11 @@ use Rattle.lin_rows.specs.Tightening.{tightened}
 use Rattle.letter_acts.specs.Frames.{Columns, globals_from, is_local, variables_of, olds_of}
 use Rattle.letter_acts.specs.Invariant.{MayName}
 use Rattle.letter_acts.proofs.FrameLemmas.{IsConsecutive, olds_consecutive, olds_of_variables, variable_below}
-use Rattle.path_rows.specs.Rows as paths
-use Rattle.path_rows.specs.Versions.{columns_from, is_old, locals_of, old_part, entry_rows}
+use Rattle.path_rows.specs.Versions.{locals_of, old_part, entry_rows}
+use Rattle.frame_rows.specs.Rows.{columns_from, renamed, equal_row, types_of, bounds}
+use Rattle.frame_rows.specs.Frames.{is_old}
 use Rattle.path_rows.proofs.CallLaws.{call_below}
 use Rattle.path_rows.proofs.LayoutLemmas.{LaidOut, laid_out, length-globals_from}
-use Rattle.triple_rows.specs.Systems.{renamed, equal_row, types_of, bounds}
 use Rattle.nested_predicates.specs.Walking.{is_boolean, is_bool}
 use Rattle.nested_refutations.specs.Refutations.{Role, spare, branch_row}
 use Rattle.nested_refutations.specs.Numbers.{spares, branch_rows, bounds_in, callee_bounds}
@@ -246,12 +246,12 @@ callee_bounds_rows c =
     (ap (bounds (n + heads c)) (map-append type_of o l) ∙ bounds_joined (n + heads c) (types_of o) (types_of l) ∙
     ap (λ (m : ℕ). bounds (n + heads c) (types_of o) ++ bounds m (types_of l)) (let q = length_types o in let e : n + heads c + length (types_of o) ≡ n + (heads c + olds c) = omega (arith, q) in e))
 
-pub old_bounds_are : (c : CallLetter) → map (renamed (slice_index (call_names c))) (old_bounds c) ≡ paths.bounds (made c + locals c + c.helpers) (types_of (old_part (callee_in c)))
+pub old_bounds_are : (c : CallLetter) → map (renamed (slice_index (call_names c))) (old_bounds c) ≡ bounds (made c + locals c + c.helpers) (types_of (old_part (callee_in c)))
 old_bounds_are c =
     bounds_renamed (slice_index (call_names c)) (length (caller_in c) + heads c) (made c + locals c + c.helpers) (types_of (old_part (callee_in c)))
     (λ i l. (let a = caller_long c in let m = length_types (old_part (callee_in c)) in name_old c (length (caller_in c) + heads c + i) i (omega (arith, a)) (omega (arith, l, m))))
 
-pub local_bounds_are : (c : CallLetter) → map (renamed (slice_index (call_names c))) (local_bounds c) ≡ paths.bounds (made c) (types_of (locals_of (callee_in c)))
+pub local_bounds_are : (c : CallLetter) → map (renamed (slice_index (call_names c))) (local_bounds c) ≡ bounds (made c) (types_of (locals_of (callee_in c)))
 local_bounds_are c =
     bounds_renamed (slice_index (call_names c)) (length (caller_in c) + (heads c + olds c)) (made c) (types_of (locals_of (callee_in c)))
     (λ i l. (let a = caller_long c in let m = length_types (locals_of (callee_in c)) in name_local c (length (caller_in c) + (heads c + olds c) + i) i (omega (arith, a)) (omega (arith, l, m))))
@@ -288,13 +288,13 @@ local_bounds_off c i l = let a = caller_long c in bounds_above (length (caller_i
 
 -- ---- their roles
 
-counted_same : (n m : ℕ) (ts : List (Option Ty)) → length (paths.bounds n ts) ≡ length (paths.bounds m ts)
+counted_same : (n m : ℕ) (ts : List (Option Ty)) → length (bounds n ts) ≡ length (bounds m ts)
 counted_same n m [] = refl
 counted_same n m (None ∷ ts) = counted_same (suc n) (suc m) ts
 counted_same n m (Some types.Int ∷ ts) = counted_same (suc n) (suc m) ts
 counted_same n m (Some types.Bool ∷ ts) = ap (λ (k : ℕ). suc (suc k)) (counted_same (suc n) (suc m) ts)
 
-bounds_next : (t : Ty) (ts : List (Option Ty)) → length (paths.bounds 0 (Some t ∷ ts)) ≡ (if is_boolean (Some t) then suc (suc (length (paths.bounds 0 ts))) else length (paths.bounds 0 ts))
+bounds_next : (t : Ty) (ts : List (Option Ty)) → length (bounds 0 (Some t ∷ ts)) ≡ (if is_boolean (Some t) then suc (suc (length (bounds 0 ts))) else length (bounds 0 ts))
 bounds_next types.Int ts = counted_same 1 0 ts
 bounds_next types.Bool ts = ap (λ (k : ℕ). suc (suc k)) (counted_same 1 0 ts)
 

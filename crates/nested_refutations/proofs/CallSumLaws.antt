@@ -9,11 +9,11 @@ use Rattle.lin_rows.specs.Tightening.{tightened}
 use Rattle.letter_acts.specs.Frames.{globals_of, variables_of, olds_of}
 use Rattle.letter_acts.specs.Acts.{PlainAct, act_of}
 use Rattle.letter_acts.specs.Invariant.{alphabet_of}
-use Rattle.path_rows.specs.Rows as paths
-use Rattle.path_rows.specs.Versions.{columns_from, Stage, Part, locals_of, old_part, entry_rows, part_of}
+use Rattle.path_rows.specs.Versions.{Part, locals_of, old_part, entry_rows, part_of}
+use Rattle.frame_rows.specs.Rows.{columns_from, renamed, bounds, types_of, equal_row}
 use Rattle.path_rows.specs.Versions as versions
 use Rattle.path_rows.specs.Paths.{repeated, path_along}
-use Rattle.triple_rows.specs.Systems.{PlainSystem, renamed, said, denied, bounds, types_of, equal_row}
+use Rattle.triple_rows.specs.Systems.{PlainSystem, said, denied}
 use Rattle.nested_predicates.specs.Stamps.{row_stamps, stamps_along}
 use Rattle.nested_predicates.specs.Positions.{has_return}
 use Rattle.nested_predicates.specs.Sums.{Branch, root_of}
@@ -70,8 +70,8 @@ block_is : (c : CallLetter) → map tightened (versions.rows_in (part_of (alphab
 block_is c =
     let own : List LinearRow = map (renamed (slice_index (spec_names c))) c.rows in
     let entries : List LinearRow = entry_rows (made c + locals c + c.helpers) (map (slice_index c.r.stage.here) (variables_of (callee_in c))) in
-    let bl : List LinearRow = paths.bounds (made c) (types_of (locals_of (callee_in c))) in
-    let bo : List LinearRow = paths.bounds (made c + locals c + c.helpers) (types_of (old_part (callee_in c))) in
+    let bl : List LinearRow = bounds (made c) (types_of (locals_of (callee_in c))) in
+    let bo : List LinearRow = bounds (made c + locals c + c.helpers) (types_of (old_part (callee_in c))) in
     ap (λ (x : Part). map tightened (versions.rows_in x)) (call_part_is c.g c.globals c.w c.r c.a c.rest c.caller c.callee c.helpers c.rows c.at) ∙
     map-append tightened own (entries ++ (bl ++ bo)) ∙
     ap (λ (l : List LinearRow). map tightened l ++ map tightened (entries ++ (bl ++ bo))) (own_rows_are c) ∙
@@ -89,8 +89,8 @@ now_is c =
     let k : ℕ = suc c.r.letters in
     let part : Part = part_of (alphabet_of c.g) c.a c.r.stage in
     let entries : List LinearRow = entry_rows (made c + locals c + c.helpers) (map (slice_index c.r.stage.here) (variables_of (callee_in c))) in
-    let bl : List LinearRow = paths.bounds (made c) (types_of (locals_of (callee_in c))) in
-    let bo : List LinearRow = paths.bounds (made c + locals c + c.helpers) (types_of (old_part (callee_in c))) in
+    let bl : List LinearRow = bounds (made c) (types_of (locals_of (callee_in c))) in
+    let bo : List LinearRow = bounds (made c + locals c + c.helpers) (types_of (old_part (callee_in c))) in
     let own : length (map (renamed (slice_index (spec_names c))) c.rows) ≡ length (own_block c) =
     ap (λ (l : List LinearRow). length l) (own_rows_are c) ∙ sym (length-map (map (renamed (slice_index (call_names c))) c.rows) tightened) in
     let a : length entries ≡ length (entry_block c) = ap (λ (l : List LinearRow). length l) (entries_are c) ∙ sym (length-map (map (named_tie c) (olds_of (callee_in c))) tightened) in

@@ -14,7 +14,7 @@ use Rattle.lin_rows.specs.Combinations.{Contradicts}
 use Rattle.lin_rows.proofs.Ascending.{AscendsFrom_less, HasNoZero}
 use Rattle.lin_rows.proofs.SummedLaws.{AscendsFrom-summed, HasNoZero-summed}
 use Rattle.lin_rows.proofs.TighteningLaw.{content_at_least, all_divisible_one}
-use Rattle.triple_rows.specs.Systems.{renamed}
+use Rattle.frame_rows.specs.Rows.{renamed}
 use Rattle.nested_predicates.specs.Sums.{Branch, terms_from, is_not_negative, inequality, coefficients_at, bound_at}
 use Rattle.nested_predicates.specs.Joins.{simplified}
 use Rattle.nested_predicates.proofs.SpellingLaws.{column_sums_length}

@@ -6,7 +6,7 @@ use Rattle.std.proofs.lemmas.Bool.{eq-eqb, ne_eqb, eqb-true}
 use Rattle.math_facts.specs.Terms.{coefficient}
 use Rattle.lin_rows.specs.Sums.{is_zero}
 use Rattle.lin_rows.proofs.Ascending.{coefficient_below}
-use Rattle.triple_rows.specs.Systems.{renamed}
+use Rattle.frame_rows.specs.Rows.{renamed}
 use Rattle.nested_predicates.specs.Sums.{Branch, column_upto, known_sum, column_sums, terms_from, coefficients_at}
 use Rattle.nested_refutations.specs.Refutations.{Claim}
 use Rattle.nested_refutations.proofs.ContentLaws.{renamed_at, renamed_off}

@@ -16,7 +16,7 @@ use Rattle.lin_rows.specs.Tightening.{all_divisible, content, divided, never, di
 use Rattle.lin_rows.proofs.Ascending.{coefficient_below, coefficient_first, coefficient_rest, HasNoZero}
 use Rattle.lin_rows.proofs.SummedLaws.{coefficient-summed, AscendsFrom-summed, HasNoZero-summed}
 use Rattle.lin_rows.proofs.TighteningLaw.{all_divisible-cons, all_divisible_one, content_divides, content_at_least, content_divides_all, scaled-divided, tightened_as}
-use Rattle.triple_rows.specs.Systems.{renamed}
+use Rattle.frame_rows.specs.Rows.{renamed}
 
 -- ---- divisors of coefficients
 

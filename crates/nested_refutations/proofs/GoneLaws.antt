@@ -8,7 +8,8 @@ use Rattle.lin_rows.specs.Rows.{LinearRow}
 use Rattle.letter_acts.specs.Frames.{Columns, added, is_global, places, globals_of}
 use Rattle.letter_acts.specs.Acts.{frame_of}
 use Rattle.letter_acts.specs.Invariant.{Graph, alphabet_of, AreDistinct}
-use Rattle.path_rows.specs.Versions.{columns_from, Stage, written_over, inside_part}
+use Rattle.path_rows.specs.Versions.{Stage, written_over, inside_part}
+use Rattle.frame_rows.specs.Rows.{columns_from}
 use Rattle.path_rows.specs.Stages.{AreVersions, AreSaved}
 use Rattle.path_rows.proofs.DifferLemmas.{length_written, place_of, dropped_at}
 use Rattle.triple_rows.specs.Systems.{after_column}

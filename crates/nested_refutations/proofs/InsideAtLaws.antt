@@ -15,13 +15,14 @@ use Rattle.letter_acts.specs.Frames.{Columns, is_old_column}
 use Rattle.letter_acts.specs.Acts.{PlainAct, inside_act, Alphabet, frame_of, act_of}
 use Rattle.letter_acts.specs.Invariant.{Graph, IsGraph, alphabet_of, IsPlaceOf, MayWrite, IsOld, MayTarget, InsideIsActed}
 use Rattle.letter_acts.proofs.KnownLemmas.{act_found}
-use Rattle.path_rows.specs.Versions.{columns_from, Part, written_over, inside_part, part_of, act_part}
+use Rattle.path_rows.specs.Versions.{Part, written_over, inside_part, part_of, act_part}
+use Rattle.frame_rows.specs.Rows.{columns_from, types_of, types_at, bounds}
 use Rattle.path_rows.specs.Paths.{start_frame}
 use Rattle.path_rows.specs.Stages.{AreVersions, VersionsAt}
 use Rattle.path_rows.specs.Drafts.{CanGoOn}
 use Rattle.path_rows.proofs.EdgeLemmas.{InsideEdge, inside_acts}
 use Rattle.triple_rows.specs.Predicates.{Formula, prefix_of, formula_of}
-use Rattle.triple_rows.specs.Systems.{PlainSystem, only_rows, all_systems, said, denied, types_of, types_at, after_column, bounds, inside_system}
+use Rattle.triple_rows.specs.Systems.{PlainSystem, only_rows, all_systems, said, denied, after_column, inside_system}
 use Rattle.triple_rows.specs.Triples.{inside_system_of, system_of}
 use Rattle.triple_rows.proofs.FormulaLaws.{prefix_read}
 use Rattle.nested_predicates.specs.Stamps.{stamp_of}

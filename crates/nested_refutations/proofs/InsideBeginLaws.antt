@@ -10,7 +10,8 @@ use Rattle.lin_rows.specs.Combinations.{Contradicts}
 use Rattle.farkas_check.specs.Trees.{TreeRefutes}
 use Rattle.letter_acts.specs.Invariant.{alphabet_of}
 use Rattle.path_rows.specs.Paths.{start_frame}
-use Rattle.triple_rows.specs.Systems.{PlainFits, bounds, types_of, after_column}
+use Rattle.triple_rows.specs.Systems.{PlainFits, after_column}
+use Rattle.frame_rows.specs.Rows.{bounds, types_of}
 use Rattle.triple_rows.specs.Triples.{system_of}
 use Rattle.nested_predicates.specs.Sums.{root_of}
 use Rattle.nested_predicates.proofs.EndLaws.{rows_goal}

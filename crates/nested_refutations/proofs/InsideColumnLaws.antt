@@ -9,7 +9,8 @@ use Rattle.nwa_base.specs.declared.letters.Letter.{Letter}
 use Rattle.letter_acts.specs.Frames.{Columns}
 use Rattle.letter_acts.specs.Acts.{PlainAct, frame_of, act_of}
 use Rattle.letter_acts.specs.Invariant.{Graph, alphabet_of}
-use Rattle.path_rows.specs.Versions.{columns_from, Stage, Part, part_of}
+use Rattle.path_rows.specs.Versions.{Stage, Part, part_of}
+use Rattle.frame_rows.specs.Rows.{columns_from}
 use Rattle.path_rows.specs.Paths.{repeated, start_frame, first_stage}
 use Rattle.triple_rows.specs.Systems.{after_column}
 use Rattle.nested_predicates.specs.Stamps.{column_stamps, stamps_along, stamps_of, column_stamp}

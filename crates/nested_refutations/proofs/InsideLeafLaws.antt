@@ -11,7 +11,8 @@ use Rattle.lin_rows.specs.Tightening.{tightened}
 use Rattle.lin_rows.specs.Combinations.{IsPart, combined}
 use Rattle.farkas_check.specs.Refutes.{at_most, above}
 use Rattle.letter_acts.specs.Invariant.{alphabet_of}
-use Rattle.path_rows.specs.Versions.{columns_from, Part, part_of}
+use Rattle.path_rows.specs.Versions.{Part, part_of}
+use Rattle.frame_rows.specs.Rows.{columns_from}
 use Rattle.path_rows.specs.Paths.{repeated}
 use Rattle.path_rows.proofs.DifferLemmas.{length_written}
 use Rattle.triple_rows.specs.Systems.{after_column}

@@ -11,11 +11,11 @@ use Rattle.lin_rows.specs.Tightening.{tightened}
 use Rattle.letter_acts.specs.Frames.{Columns}
 use Rattle.letter_acts.specs.Acts.{PlainAct, act_of}
 use Rattle.letter_acts.specs.Invariant.{inside_width, alphabet_of}
-use Rattle.path_rows.specs.Rows as paths
-use Rattle.path_rows.specs.Versions.{columns_from, Stage, Part, part_of}
+use Rattle.path_rows.specs.Versions.{Part, part_of}
+use Rattle.frame_rows.specs.Rows.{columns_from, renamed, bounds, types_of, types_at}
 use Rattle.path_rows.specs.Versions as versions
 use Rattle.path_rows.specs.Paths.{repeated, start_frame, first_stage, path_along}
-use Rattle.triple_rows.specs.Systems.{PlainSystem, PlainFits, renamed, said, denied, bounds, types_of, types_at, after_column}
+use Rattle.triple_rows.specs.Systems.{PlainSystem, PlainFits, said, denied, after_column}
 use Rattle.triple_rows.specs.Triples.{system_of}
 use Rattle.nested_predicates.specs.Stamps.{row_stamps, stamps_along}
 use Rattle.nested_predicates.specs.Sums.{Branch, root_of, sum_upto}
@@ -65,7 +65,7 @@ length_at : (c : InsideLetter) (ws : List ℕ) → length (types_at (frame_in c)
 length_at c [] = refl
 length_at c (d ∷ ws) = ap suc (length_at c ws)
 
-bounds_are : (c : InsideLetter) → map (renamed (slice_index (names_in c))) (bounds_on c) ≡ paths.bounds c.r.stage.made (types_at (frame_in c) c.written)
+bounds_are : (c : InsideLetter) → map (renamed (slice_index (names_in c))) (bounds_on c) ≡ bounds c.r.stage.made (types_at (frame_in c) c.written)
 bounds_are c = bounds_renamed (slice_index (names_in c)) (length (frame_in c)) c.r.stage.made (types_at (frame_in c) c.written)
     (λ i l. (let long = long_in c in let m = length_at c c.written in name_new c (length (frame_in c) + i) i (omega (arith, long)) (omega (arith, l, m))))
 
@@ -74,7 +74,7 @@ block_is : (c : InsideLetter) → map tightened (versions.rows_in (part_of (alph
 block_is c =
     let own : List LinearRow = map (renamed (slice_index (names_in c))) c.rows in
     ap (λ (x : Part). map tightened (versions.rows_in x)) (inside_part_is c.g c.globals c.w c.r c.a c.rest c.q c.written c.helpers c.rows c.at) ∙
-    map-append tightened own (paths.bounds c.r.stage.made (types_at (frame_in c) c.written)) ∙
+    map-append tightened own (bounds c.r.stage.made (types_at (frame_in c) c.written)) ∙
     ap (λ (l : List LinearRow). own_block c ++ map tightened l) (sym (bounds_are c))
 
 repeated_parts : (x m n : ℕ) → repeated x (m + n) ≡ repeated x m ++ repeated x n
@@ -201,11 +201,11 @@ first_roles c =
     let e : List Role = before_bounds (suc c.r.letters) (frame_in c) in
     let rows : c.r.rows ≡ length (front_in c) = sym c.at.along.read.row_count ∙ sym (length-map c.at.along.read.front tightened) in
     let own : length c.rows ≡ length (map tightened c.rows) = sym (length-map c.rows tightened) in
-    let new : length (paths.bounds 0 (types_at (frame_in c) c.written)) ≡ length (map tightened (bounds_on c)) =
+    let new : length (bounds 0 (types_at (frame_in c) c.written)) ≡ length (map tightened (bounds_on c)) =
     sym (bounds_counted (length (frame_in c)) 0 (types_at (frame_in c) c.written)) ∙ sym (length-map (bounds_on c) tightened) in
-    five_joined a (branch_rows c.r.rows (length c.rows)) d e (branch_rows (c.r.rows + length c.rows) (length (paths.bounds 0 (types_at (frame_in c) c.written)))) ∙
-    ap (λ (k : ℕ). a ++ (branch_rows k (length c.rows) ++ (d ++ (e ++ branch_rows (k + length c.rows) (length (paths.bounds 0 (types_at (frame_in c) c.written))))))) rows ∙
-    ap (λ (k : ℕ). a ++ (branch_rows (length (front_in c)) k ++ (d ++ (e ++ branch_rows (length (front_in c) + k) (length (paths.bounds 0 (types_at (frame_in c) c.written))))))) own ∙
+    five_joined a (branch_rows c.r.rows (length c.rows)) d e (branch_rows (c.r.rows + length c.rows) (length (bounds 0 (types_at (frame_in c) c.written)))) ∙
+    ap (λ (k : ℕ). a ++ (branch_rows k (length c.rows) ++ (d ++ (e ++ branch_rows (k + length c.rows) (length (bounds 0 (types_at (frame_in c) c.written))))))) rows ∙
+    ap (λ (k : ℕ). a ++ (branch_rows (length (front_in c)) k ++ (d ++ (e ++ branch_rows (length (front_in c) + k) (length (bounds 0 (types_at (frame_in c) c.written))))))) own ∙
     ap (λ (k : ℕ). a ++ (branch_rows (length (front_in c)) (length (map tightened c.rows)) ++ (d ++ (e ++ branch_rows (length (front_in c) + length (map tightened c.rows)) k)))) new
 
 -- the numbers of the system's rows fit
@@ -270,9 +270,9 @@ front_same (x ∷ xs) ys [] vs e l = absurd (omega (arith, l))
 front_same (x ∷ xs) ys (u ∷ us) vs e l = let q : x ≡ u = cc in let h : xs ++ ys ≡ us ++ vs = cc in let r : xs ≡ us = front_same xs ys us vs h (omega (arith, l)) in cc
 
 -- before the first letter there are the bounds of the start
-front_first : (c : InsideLetter) → c.r ≡ first_reading c.g → c.at.along.read.front ≡ paths.bounds 0 (types_of (start_frame c.g))
+front_first : (c : InsideLetter) → c.r ≡ first_reading c.g → c.at.along.read.front ≡ bounds 0 (types_of (start_frame c.g))
 front_first c e =
-    sym (front_same (paths.bounds 0 (types_of (start_frame c.g))) (path_along (alphabet_of c.g) 1 (first_stage (start_frame c.g)) c.w).rows c.at.along.read.front
+    sym (front_same (bounds 0 (types_of (start_frame c.g))) (path_along (alphabet_of c.g) 1 (first_stage (start_frame c.g)) c.w).rows c.at.along.read.front
     (path_along (alphabet_of c.g) (suc c.r.letters) c.r.stage (c.a ∷ c.rest)).rows c.at.along.read.rows
     (sym (c.at.along.read.row_count ∙ ap (λ (x : Reading). x.rows) e)))
 
@@ -301,7 +301,7 @@ same_rows c P fits f = record {
     front_is e q =
         bounds_renamed (slice_index (names_in c)) 0 0 (types_of (frame_in c))
         (λ i l. (name_first c e (0 + i) (let n = names_count c in let long = long_in c in let m = length_types (frame_in c) in omega (arith, l, n, long, m))).0) ∙
-        ap (λ (x : Columns). paths.bounds 0 (types_of x)) q ∙ sym (front_first c e)
+        ap (λ (x : Columns). bounds 0 (types_of x)) q ∙ sym (front_first c e)
 
 branch_counted : (k n : ℕ) → length (branch_rows k n) ≡ n
 branch_counted k zero = refl

@@ -8,7 +8,9 @@ use Rattle.boogie_tree.specs.declared.tree.VarInfo.{VarInfo}
 use Rattle.letter_acts.specs.Frames.{Columns, IsFrame, globals_from, is_old_column, is_local_column, is_local, is_parameter, added, places, globals_of}
 use Rattle.letter_acts.proofs.ListLemmas.{places-append, places_none, counted_up}
 use Rattle.letter_acts.proofs.FrameLemmas.{globals_are}
-use Rattle.path_rows.specs.Versions.{columns_from, is_old, locals_of, old_part}
+use Rattle.path_rows.specs.Versions.{locals_of, old_part}
+use Rattle.frame_rows.specs.Rows.{columns_from}
+use Rattle.frame_rows.specs.Frames.{is_old}
 use Rattle.path_rows.proofs.LayoutLemmas.{LaidOut, laid_out, length-globals_from}
 use Rattle.nested_refutations.proofs.VersionLaws.{split_at}
 use Rattle.nested_refutations.proofs.MovingLaws.{below_or}

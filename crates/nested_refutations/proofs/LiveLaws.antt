@@ -10,8 +10,8 @@ use Rattle.nwa_base.specs.Members.{Member}
 use Rattle.lin_rows.specs.Rows.{LinearRow}
 use Rattle.letter_acts.specs.Frames.{Columns, globals_of, variables_of, results_of}
 use Rattle.letter_acts.specs.Acts.{PlainAct, inside_act, call_act, back_act, Alphabet, frame_of, act_of}
-use Rattle.path_rows.specs.Rows.{bounds, types_of, types_at}
-use Rattle.path_rows.specs.Versions.{columns_from, Stage, Part, rows_in, inside_part, locals_of, old_part, entered, call_part, returned, back_part, return_part, act_part, part_of}
+use Rattle.frame_rows.specs.Rows.{bounds, types_of, types_at, columns_from}
+use Rattle.path_rows.specs.Versions.{Stage, Part, rows_in, inside_part, locals_of, old_part, entered, call_part, returned, back_part, return_part, act_part, part_of}
 use Rattle.path_rows.specs.Paths.{path_along}
 use Rattle.nested_predicates.specs.Walking.{unmatched_before, unmatched}
 use Rattle.nested_refutations.proofs.NamesLaws.{NamesOnly, names_weaker, all_joined, index_member, renamed_named, bounds_named, entries_named, columns_bounds, member_joined, member_taken, member_dropped, member_written}

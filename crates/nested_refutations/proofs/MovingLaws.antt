@@ -13,8 +13,8 @@ use Rattle.lin_rows.specs.Rows.{LinearRow, IsCoefficient, IsRow}
 use Rattle.lin_rows.specs.Sums.{row_of}
 use Rattle.lin_rows.specs.Tightening.{tightened}
 use Rattle.lin_rows.proofs.Ascending.{HasNoZero}
-use Rattle.path_rows.specs.Rows as paths
-use Rattle.triple_rows.specs.Systems.{PlainSystem, plain_system, PlainFits, both_systems, renamed, bounds_of, bounds}
+use Rattle.triple_rows.specs.Systems.{PlainSystem, plain_system, PlainFits, both_systems}
+use Rattle.frame_rows.specs.Rows.{renamed, bounds_of, bounds}
 use Rattle.nested_refutations.specs.Refutations.{rows_in}
 use Rattle.nested_refutations.proofs.RowsLaws.{AllPairs}
 use Rattle.nested_refutations.proofs.ContentLaws.{DiffersBelow, IsMoved, tightened_moved, tightened_off}
@@ -90,19 +90,19 @@ kinds_moved names differ (r ∷ rows) h k = (sym (moved_row names differ r h.0 k
 -- ---- bounds
 
 -- the bounds of columns that stand in a row are those of their versions, which stand in a row
-pub bounds_renamed : (f : ℕ → ℕ) (n made : ℕ) (ts : List (Option Ty)) → ((i : ℕ) → i < length ts → f (n + i) ≡ made + i) → map (renamed f) (bounds n ts) ≡ paths.bounds made ts
+pub bounds_renamed : (f : ℕ → ℕ) (n made : ℕ) (ts : List (Option Ty)) → ((i : ℕ) → i < length ts → f (n + i) ≡ made + i) → map (renamed f) (bounds n ts) ≡ bounds made ts
 bounds_renamed f n made [] h = refl
 bounds_renamed f n made (t ∷ ts) h =
     map-append (renamed f) (bounds_of n t) (bounds (n + 1) ts) ∙
     ap (λ (l : List LinearRow). l ++ map (renamed f) (bounds (n + 1) ts)) (one t) ∙
-    ap (λ (l : List LinearRow). paths.bounds_of made t ++ l)
+    ap (λ (l : List LinearRow). bounds_of made t ++ l)
     (bounds_renamed f (n + 1) (suc made) ts
     (λ i l. ap f (let e : n + 1 + i ≡ n + suc i = omega arith in e) ∙ h (suc i) (omega (arith, l)) ∙ (let e : made + suc i ≡ suc made + i = omega arith in e)))
   where
     first : f n ≡ made
     first = ap f (let e : n ≡ n + 0 = omega arith in e) ∙ h 0 (omega arith) ∙ (let e : made + 0 ≡ made = omega arith in e)
 
-    one : (t : Option Ty) → map (renamed f) (bounds_of n t) ≡ paths.bounds_of made t
+    one : (t : Option Ty) → map (renamed f) (bounds_of n t) ≡ bounds_of made t
     one None = refl
     one (Some types.Int) = refl
     one (Some types.Bool) = ap (λ (c : ℕ). row_of ((c, negsuc 0) ∷ []) Le (pos 0) ∷ row_of ((c, pos 1) ∷ []) Le (pos 1) ∷ []) first
@@ -113,7 +113,7 @@ bounds_below m n (None ∷ ts) l = bounds_below m (n + 1) ts (omega (arith, l))
 bounds_below m n (Some types.Int ∷ ts) l = bounds_below m (n + 1) ts (omega (arith, l))
 bounds_below m n (Some types.Bool ∷ ts) l = ((omega (arith, l), tt), ((omega (arith, l), tt), bounds_below m (n + 1) ts (omega (arith, l))))
 
-pub bounds_counted : (n made : ℕ) (ts : List (Option Ty)) → length (bounds n ts) ≡ length (paths.bounds made ts)
+pub bounds_counted : (n made : ℕ) (ts : List (Option Ty)) → length (bounds n ts) ≡ length (bounds made ts)
 bounds_counted n made [] = refl
 bounds_counted n made (None ∷ ts) = bounds_counted (n + 1) (suc made) ts
 bounds_counted n made (Some types.Int ∷ ts) = bounds_counted (n + 1) (suc made) ts

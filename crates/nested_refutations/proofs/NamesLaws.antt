@@ -10,8 +10,8 @@ use Rattle.boogie_tree.specs.declared.tree.Ty.TheVariants as types
 use Rattle.lin_rows.specs.Rows.{LinearRow}
 use Rattle.lin_rows.proofs.SummedLaws.{coefficient-summed}
 use Rattle.nwa_base.specs.Members.{Member}
-use Rattle.path_rows.specs.Rows.{renamed, equal_row, bounds_of, bounds}
-use Rattle.path_rows.specs.Versions.{columns_from, written_over, entry_rows}
+use Rattle.frame_rows.specs.Rows.{renamed, equal_row, bounds_of, bounds, columns_from}
+use Rattle.path_rows.specs.Versions.{written_over, entry_rows}
 use Rattle.nested_refutations.proofs.ContentLaws.{renamed_off}
 
 -- columns without the property have the coefficient 0

@@ -14,7 +14,8 @@ use Rattle.farkas_check.specs.Trees.{leaf_tree}
 use Rattle.letter_acts.specs.Frames.{Columns, IsFrame, globals_from, is_old_column, is_global, globals_of, results_of}
 use Rattle.letter_acts.specs.Acts.{PlainAct, inside_act, call_act, back_act, frame_of, act_of}
 use Rattle.letter_acts.specs.Invariant.{Graph, IsGraph, alphabet_of, MayWrite, IsOld, MayTarget}
-use Rattle.path_rows.specs.Versions.{columns_from, Part, written_over, locals_of, old_part, returned, back_part, return_part, act_part}
+use Rattle.path_rows.specs.Versions.{Part, written_over, locals_of, old_part, returned, back_part, return_part, act_part}
+use Rattle.frame_rows.specs.Rows.{columns_from}
 use Rattle.path_rows.proofs.DifferLemmas.{index_taken, index_dropped}
 use Rattle.path_rows.proofs.LayoutLemmas.{length-globals_from}
 use Rattle.path_rows.proofs.EdgeLemmas.{InsideEdge, CallEdge, BackEdge, inside_acts, call_acts, back_acts}

@@ -2,7 +2,7 @@
 use Rattle.std.proofs.Common.{◌≡◌, ◌∙◌, ℕ, suc, ◌+◌, List, [], ◌∷◌, ◌++◌, length, map, refl, sym, ap, subst, arith, append_assoc, length-append}
 use Rattle.lin_rows.specs.Rows.{LinearRow}
 use Rattle.lin_rows.specs.Combinations.{row_at}
-use Rattle.path_rows.specs.Versions.{columns_from}
+use Rattle.frame_rows.specs.Rows.{columns_from}
 use Rattle.nested_refutations.specs.Refutations.{Spot, spare, View}
 use Rattle.nested_refutations.specs.Numbers.{branch_rows}
 use Rattle.nested_refutations.proofs.RowsLaws.{AllPairs}

@@ -10,7 +10,7 @@ use Rattle.lin_rows.specs.Negating.{below_opposite}
 use Rattle.lin_rows.specs.Tightening.{tightened}
 use Rattle.letter_acts.specs.Frames.{globals_of, olds_of}
 use Rattle.path_rows.specs.Paths.{start_frame}
-use Rattle.triple_rows.specs.Systems.{renamed, equal_row, types_of, bounds}
+use Rattle.frame_rows.specs.Rows.{renamed, equal_row, types_of, bounds}
 use Rattle.nested_predicates.specs.Stamps.{column_stamp}
 use Rattle.nested_predicates.specs.Positions.{returned_by, has_return, innermost}
 use Rattle.nested_predicates.specs.Sums.{Branch, root_of, sum_upto, column_upto, bound_upto, known_sum, bound_at}

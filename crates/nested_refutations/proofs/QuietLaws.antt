@@ -15,7 +15,7 @@ use Rattle.letter_acts.specs.Frames.{Columns, variables_of}
 use Rattle.letter_acts.specs.Acts.{PlainAct, call_act, back_act, frame_of, act_of}
 use Rattle.letter_acts.specs.Invariant.{Graph, IsGraph, alphabet_of}
 use Rattle.letter_acts.proofs.FrameLemmas.{variable_below}
-use Rattle.path_rows.specs.Rows.{bounds, types_of}
+use Rattle.frame_rows.specs.Rows.{bounds, types_of}
 use Rattle.path_rows.specs.Versions.{Stage, Part, rows_in, locals_of, old_part, call_part, part_of, act_part}
 use Rattle.path_rows.specs.Paths.{repeated, path_along, path_of}
 use Rattle.path_rows.proofs.DifferLemmas.{place_of, dropped_at, indexed_member}

@@ -7,7 +7,7 @@ use Rattle.lin_rows.specs.Rows.{LinearRow}
 use Rattle.letter_acts.specs.Frames.{Columns}
 use Rattle.letter_acts.specs.Acts.{PlainAct, inside_act, call_act, back_act, Alphabet, frame_of, act_of}
 use Rattle.letter_acts.specs.Invariant.{Graph, alphabet_of}
-use Rattle.path_rows.specs.Rows.{bounds, types_of}
+use Rattle.frame_rows.specs.Rows.{bounds, types_of}
 use Rattle.path_rows.specs.Versions.{Stage, Part, rows_in, locals_of, old_part, back_part, return_part, act_part, part_of}
 use Rattle.path_rows.specs.Paths.{repeated, start_frame, first_stage, path_along, path_of}
 use Rattle.nested_predicates.specs.Stamps.{stamp_of, callee_stamp, row_stamps, column_stamps, stamps_along, stamps_of}

@@ -18,7 +18,7 @@ use Rattle.path_rows.specs.Versions.{locals_of, old_part}
 use Rattle.path_rows.specs.Paths.{repeated}
 use Rattle.path_rows.proofs.OpenLemmas.{at_place}
 use Rattle.path_rows.proofs.DifferLemmas.{places_distinct}
-use Rattle.triple_rows.specs.Systems.{renamed, bounds, types_of}
+use Rattle.frame_rows.specs.Rows.{renamed, bounds, types_of}
 use Rattle.nested_predicates.specs.Stamps.{column_stamp}
 use Rattle.nested_predicates.specs.Positions.{has_return, known_at, known_columns, if_constant}
 use Rattle.nested_predicates.specs.Sums.{Branch, root_of, sum_upto, column_upto, bound_upto, known_sum, bound_at}

@@ -9,7 +9,8 @@ use Rattle.lin_rows.specs.Negating.{negated}
 use Rattle.farkas_check.specs.Refutes.{at_most, above}
 use Rattle.farkas_check.specs.Trees.{Tree, leaf_tree, cut_tree, cases_tree}
 use Rattle.triple_rows.specs.Predicates.{Formula, truth, atom, and_of, or_of}
-use Rattle.triple_rows.specs.Systems.{PlainSystem, plain_system, both_systems, only_rows, renamed, said, denied}
+use Rattle.triple_rows.specs.Systems.{PlainSystem, plain_system, both_systems, only_rows, said, denied}
+use Rattle.frame_rows.specs.Rows.{renamed}
 use Rattle.nested_predicates.specs.Stamps.{column_stamp}
 use Rattle.nested_predicates.specs.Positions.{is_counted}
 use Rattle.nested_predicates.specs.Sums.{Branch, with_cut, terms_from, inequality, coefficients_at, bound_at}

@@ -12,7 +12,7 @@ use Rattle.lin_rows.specs.Tightening.{all_divisible, greatest, content, divided,
 use Rattle.lin_rows.proofs.SummedLaws.{coefficient-summed}
 use Rattle.lin_rows.proofs.TighteningLaw.{all_divisible_one, tightened_as}
 use Rattle.letter_acts.specs.Invariant.{AreDistinct}
-use Rattle.triple_rows.specs.Systems.{equal_row}
+use Rattle.frame_rows.specs.Rows.{equal_row}
 use Rattle.nested_refutations.specs.Refutations.{Spot, Role, View}
 use Rattle.nested_refutations.proofs.RowsLaws.{AllPairs}
 use Rattle.nested_refutations.proofs.WayLaws.{other_of, others, RoleFits}

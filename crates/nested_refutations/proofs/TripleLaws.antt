@@ -22,7 +22,8 @@ use Rattle.letter_acts.proofs.KnownLemmas.{act_found}
 use Rattle.path_rows.specs.Paths.{path_of}
 use Rattle.triple_rows.specs.Predicates as predicates
 use Rattle.triple_rows.specs.Predicates.{Formula, formula_of}
-use Rattle.triple_rows.specs.Systems.{PlainSystem, Groups, no_group, groups_joined, only_rows, all_systems, said, denied, equal_row, renamed, is_listed, bounds, types_of, types_at, after_column, call_column, IsSystem, AreGroups, inside_system, call_system, back_system}
+use Rattle.triple_rows.specs.Systems.{PlainSystem, Groups, no_group, groups_joined, only_rows, all_systems, said, denied, is_listed, after_column, call_column, IsSystem, AreGroups, inside_system, call_system, back_system}
+use Rattle.frame_rows.specs.Rows.{equal_row, renamed, bounds, types_of, types_at}
 use Rattle.triple_rows.specs.Triples.{inside_system_of, call_system_of, return_system_of, back_system_of, system_of}
 use Rattle.triple_rows.proofs.FormulaLaws.{prefix_read}
 use Rattle.nested_predicates.specs.Stamps.{stamps_of}

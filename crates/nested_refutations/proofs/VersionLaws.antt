@@ -5,7 +5,8 @@ use Rattle.std.specs.List.{AllByRecursion}
 use Rattle.std.proofs.lemmas.Bool.{eq-eqb, ne_eqb, cases_eq}
 use Rattle.nwa_base.specs.Members.{Member}
 use Rattle.letter_acts.specs.Invariant.{AreDistinct}
-use Rattle.path_rows.specs.Versions.{columns_from, written_over}
+use Rattle.path_rows.specs.Versions.{written_over}
+use Rattle.frame_rows.specs.Rows.{columns_from}
 use Rattle.triple_rows.specs.Systems.{after_column}
 use Rattle.nested_refutations.proofs.ContentLaws.{DiffersBelow}
 use Rattle.nested_refutations.proofs.NamesLaws.{index_member}

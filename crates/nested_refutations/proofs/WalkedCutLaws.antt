@@ -16,7 +16,9 @@ use Rattle.nested_predicates.specs.Sums.{Branch, root_of}
 use Rattle.nested_refutations.specs.Refutations.{side_of, Spot, low_side, high_side, truth_in, left_at, Claim, Asked, one_part, both_parts, some_part, asked_at, View, Goes, taken_at, Meeting, own_cut, told_by, meets, Stop, at_leaf, at_cut, at_group, nowhere, followed, stop_at, stops, stops_at, with_own, opened}
 use Rattle.nested_refutations.specs.Numbers.{Step, inside_step, call_step, back_step, Reading, here, read_on, OpenCall, steps_back, step_by, steps_along, steps_of, begins, AreCutsAt}
 use Rattle.nested_refutations.specs.Walked.{AfterMembers, gaps_of, false_row, IsWalked, AreWalked, TakesOr}
-use Rattle.nested_refutations.specs.Cuts.{inside_columns, call_columns, return_columns, back_columns, columns_of, IsCutWithin, WalkedCuts}
+use Rattle.nested_refutations.specs.Cuts.{WalkedCuts}
+use Rattle.triple_rows.specs.Cuts.{inside_columns, call_columns, back_columns, columns_of, IsCutWithin}
+use Rattle.letter_acts.specs.Widths.{back_width}
 use Rattle.nested_refutations.proofs.WayLaws.{is_own_meeting, is_own}
 use Rattle.nested_refutations.proofs.VersionLaws.{columns_count}
 use Rattle.nested_refutations.proofs.ReadLaws.{IsEarly}
@@ -217,7 +219,7 @@ back_has : (c : BackLetter) → HasOwn c.call.g c.call.w c.call.t (back_step_in 
 back_has c = record {
   columns = refl;
   own = subst (OwnWithin (back_view c))
-      (sym (ap (back_columns (alphabet_of c.call.g)) c.there ∙ ap (return_columns (alphabet_of c.call.g) c.targets) c.call_there)) (back_own_within c);
+      (sym (ap (back_columns (alphabet_of c.call.g)) c.there ∙ ap (back_width (alphabet_of c.call.g) c.targets) c.call_there)) (back_own_within c);
 }
 
 -- the step of a return, at its open call

@@ -1,6 +1,6 @@
 -- The numbers that interpolants are made of: those of the prefix predicates, of the systems of their triples, and of the
 -- refutations of these systems.
-use Rattle.std.specs.Prelude.{◌≡◌, ℕ, suc, ◌+◌, ◌-◌, ◌<◌, ℤ, pos, Bool, true, false, not, List, [], ◌∷◌, ◌++◌, map, filter, length, nat_eq, nat_lt, Option, None, Some, unwrap_or, IfSome, slice_get, if◌then◌else◌}
+use Rattle.std.specs.Prelude.{◌≡◌, ℕ, suc, ◌+◌, ◌-◌, ◌<◌, pos, Bool, true, false, not, List, [], ◌∷◌, ◌++◌, map, filter, length, nat_eq, nat_lt, Option, None, Some, unwrap_or, IfSome, slice_get, if◌then◌else◌}
 use Rattle.std.specs.List.{AllByRecursion}
 use Rattle.math_facts.specs.Fits.{Fits}
 use Rattle.math_facts.specs.Terms.{coefficient}
@@ -14,8 +14,9 @@ use Rattle.letter_acts.specs.Frames.{Columns, globals_of, constants_of, variable
 use Rattle.letter_acts.specs.Acts.{PlainAct, inside_act, call_act, back_act, Alphabet, frame_of, act_of}
 use Rattle.letter_acts.specs.Reading.{taken}
 use Rattle.letter_acts.specs.Invariant.{Graph, alphabet_of, written_by}
-use Rattle.path_rows.specs.Rows.{bounds, types_of, types_at}
-use Rattle.path_rows.specs.Versions.{columns_from, Stage, rows_in, is_old, locals_of, old_part, part_of}
+use Rattle.frame_rows.specs.Rows.{bounds, types_of, types_at, columns_from}
+use Rattle.frame_rows.specs.Frames.{is_old}
+use Rattle.path_rows.specs.Versions.{Stage, rows_in, locals_of, old_part, part_of}
 use Rattle.path_rows.specs.Paths.{start_frame, first_stage}
 use Rattle.triple_rows.specs.declared.triples.Triple.{Triple}
 use Rattle.triple_rows.specs.declared.triples.Triple.TheVariants.{Inside, Call, Back}

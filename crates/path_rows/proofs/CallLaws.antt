@@ -14,8 +14,8 @@ use Rattle.letter_acts.specs.Invariant.{CallIsActed, call_width, MayName}
 use Rattle.letter_acts.proofs.ListLemmas.{all_from_members}
 use Rattle.letter_acts.proofs.PointLemmas.{state_length}
 use Rattle.letter_acts.proofs.FrameLemmas.{variable_below}
-use Rattle.path_rows.specs.Rows.{bounds, types_of}
-use Rattle.path_rows.specs.Versions.{columns_from, Stage, rows_in, call_part, entered, locals_of, old_part}
+use Rattle.frame_rows.specs.Rows.{bounds, types_of, columns_from}
+use Rattle.path_rows.specs.Versions.{Stage, rows_in, call_part, entered, locals_of, old_part}
 use Rattle.path_rows.specs.Solutions.{read, CallObeyed}
 use Rattle.path_rows.proofs.ListLemmas.{all_joined, length-columns_from, length-read, length-read_from, read_picked, split_same}
 use Rattle.path_rows.proofs.RowLemmas.{rows_read, entries_read, bounds_read, states_joined, states_split}

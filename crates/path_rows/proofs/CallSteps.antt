@@ -8,9 +8,8 @@ use Rattle.boogie_tree.specs.declared.tree.Ty.{Ty}
 use Rattle.lin_rows.specs.Rows.{LinearRow}
 use Rattle.letter_acts.specs.Frames.{Columns, variables_of}
 use Rattle.path_rows.specs.declared.parts.Made.{Made}
-use Rattle.path_rows.specs.Rows.{renamed, bounds, types_of}
-use Rattle.path_rows.specs.Versions.{columns_from, entered, entry_rows, call_part, locals_of, old_part}
-use Rattle.path_rows.specs.Stages.{RowsAreNamed}
+use Rattle.frame_rows.specs.Rows.{renamed, bounds, types_of, columns_from, RowsAreNamed}
+use Rattle.path_rows.specs.Versions.{entered, entry_rows, call_part, locals_of, old_part}
 use Rattle.path_rows.specs.Drafts.{IsMade}
 
 pub types_counted : (n : ℕ) (ts : List (Option Ty)) (columns : Columns) → n ≡ length ts → ts ≡ types_of columns → n ≡ length columns

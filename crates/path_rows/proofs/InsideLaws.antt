@@ -12,8 +12,8 @@ use Rattle.letter_acts.specs.Values.{picked}
 use Rattle.letter_acts.specs.Invariant.{MayWrite, InsideIsActed, inside_width}
 use Rattle.letter_acts.proofs.ListLemmas.{all_weaker, some_within}
 use Rattle.letter_acts.proofs.PointLemmas.{state_length, picked_put}
-use Rattle.path_rows.specs.Rows.{bounds, types_at}
-use Rattle.path_rows.specs.Versions.{columns_from, Stage, rows_in, inside_part}
+use Rattle.frame_rows.specs.Rows.{bounds, types_at, columns_from}
+use Rattle.path_rows.specs.Versions.{Stage, rows_in, inside_part}
 use Rattle.path_rows.specs.Solutions.{read, InsideObeyed}
 use Rattle.path_rows.proofs.ListLemmas.{all_joined, columns_split, length-columns_from, length-read, length-read_from, read_written}
 use Rattle.path_rows.proofs.RowLemmas.{rows_read, AreTyped, written_read, put_typed, picked_typed}

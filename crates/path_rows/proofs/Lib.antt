@@ -10,7 +10,6 @@ pub mod HeardLaws
 pub mod SaidLaws
 pub mod SolvedLaws
 pub mod WholeLaws
-pub mod RenamingLemmas
 pub mod LoopLemmas
 pub mod DifferLemmas
 pub mod StageLemmas
@@ -18,5 +17,4 @@ pub mod GoingLemmas
 pub mod DraftLemmas
 pub mod MakingLemmas
 mod BackSteps
-mod PushSteps
 mod CallSteps

@@ -1,34 +1,23 @@
 -- Where the rows of a word hold: rows with renamed columns, columns that are equal, and bounds.
-use Rattle.std.proofs.Common.{◌≡◌, ◌↔◌, ◌⊎◌, ℕ, zero, suc, ℤ, pos, negsuc, ◌+ℤ◌, ◌*ℤ◌, ◌≤ℤ◌, List, [], ◌∷◌, ◌++◌, length, Option, None, Some, refl, sym, ap, subst, inl, inr, arith}
+use Rattle.std.proofs.Common.{◌≡◌, ◌↔◌, ◌⊎◌, ℕ, zero, suc, ℤ, ◌+ℤ◌, ◌*ℤ◌, ◌≤ℤ◌, List, [], ◌∷◌, ◌++◌, length, Option, Some, refl, sym, subst, arith}
 use Rattle.std.specs.Prelude.{map, slice_index, slice_set}
 use Rattle.std.specs.List.{AllByRecursion}
-use Rattle.std.proofs.lemmas.Int.{ints}
 use Rattle.boogie_tree.specs.declared.tree.Ty.{Ty}
 use Rattle.boogie_tree.specs.declared.tree.Ty.TheVariants as types
-use Rattle.math_facts.specs.Terms.{dot, IsBelow}
+use Rattle.math_facts.specs.Terms.{IsBelow}
 use Rattle.math_facts.proofs.TermLaws.{dot_same_points}
-use Rattle.lin_rows.specs.declared.types.RowKind.TheVariants.{Le, Eq}
 use Rattle.lin_rows.specs.Rows.{LinearRow, Stands, Holds}
 use Rattle.lin_rows.specs.Points.{point_of}
-use Rattle.lin_rows.proofs.HoldsLaws.{holds-row_of}
-use Rattle.letter_acts.specs.Frames.{Columns, IsState, IsValue}
+use Rattle.letter_acts.specs.Frames.{Columns, IsState}
 use Rattle.letter_acts.specs.Values.{picked, put_all}
 use Rattle.letter_acts.specs.Invariant.{type_at, Take}
-use Rattle.path_rows.specs.Rows.{renamed, equal_row, bounds_of, bounds, types_of, types_at}
-use Rattle.path_rows.specs.Versions.{columns_from, entry_rows}
+use Rattle.frame_rows.specs.Rows.{renamed, bounds_of, bounds, types_of, types_at, columns_from}
+use Rattle.frame_rows.proofs.RowLaws.{renamed_holds, equal_holds, IsValueOf, bound_holds}
+use Rattle.path_rows.specs.Versions.{entry_rows}
 use Rattle.path_rows.specs.Solutions.{read}
 use Rattle.path_rows.proofs.ListLemmas.{all_joined, read_at}
 
 -- ---- renamed columns
-
-dot-renamed : (point : ℕ → ℤ) (to : ℕ → ℕ) (ts : List (ℕ × ℤ)) → dot point (map (λ t. (to t.0, t.1)) ts) ≡ dot (λ c. point (to c)) ts
-dot-renamed point to [] = refl
-dot-renamed point to (t ∷ ts) = ap (λ z. (t.1 *ℤ point (to t.0)) +ℤ z) (dot-renamed point to ts)
-
-renamed_holds : (point : ℕ → ℤ) (to : ℕ → ℕ) (r : LinearRow) → Holds point (renamed to r) ↔ Holds (λ c. point (to c)) r
-renamed_holds point to r =
-    subst (λ (z : ℤ). Holds point (renamed to r) ↔ Stands r.kind z r.bound) (dot-renamed point to r.terms)
-    (holds-row_of point (map (λ t. (to t.0, t.1)) r.terms) r.kind r.bound)
 
 -- a row whose columns get these names holds at a point where it holds over the values that the point has at the names
 renamed_read : (point : ℕ → ℤ) (names : List ℕ) (r : LinearRow) → IsBelow (length names) r.terms →
@@ -46,16 +35,7 @@ rows_read point names (r ∷ rows) b =
     let k = rows_read point names rows b.1 in
     (λ h. (e.0 h.0, k.0 h.1), λ h. (e.1 h.0, k.1 h.1))
 
--- ---- equal columns
-
-equal_sum : (x y : ℤ) → ((pos 1 *ℤ x) +ℤ ((negsuc 0 *ℤ y) +ℤ pos 0) ≡ pos 0) ↔ (x ≡ y)
-equal_sum x y = (λ h. omega (arith, ints), λ h. omega (arith, ints))
-
-equal_holds : (point : ℕ → ℤ) (a b : ℕ) → Holds point (equal_row a b) ↔ (point a ≡ point b)
-equal_holds point a b =
-    let r = holds-row_of point ((a, pos 1) ∷ (b, negsuc 0) ∷ []) Eq (pos 0) in
-    let e = equal_sum (point a) (point b) in
-    (λ h. e.0 (r.0 h), λ h. r.1 (e.1 h))
+-- ---- entries
 
 -- entry rows hold where the new columns have the values of the others
 pub entries_read : (point : ℕ → ℤ) (n : ℕ) (globals : List ℕ) →
@@ -72,33 +52,6 @@ entries_read point n (g ∷ gs) =
     )
 
 -- ---- bounds
-
--- a value of a type, if there is one
-abbrev pub IsValueOf : Option Ty → ℤ → Type 0
-IsValueOf None v = Unit {0}
-IsValueOf (Some t) v = IsValue t v
-
-zero_or_one : (z : ℤ) → ((negsuc 0 *ℤ z) +ℤ pos 0) ≤ℤ pos 0 → ((pos 1 *ℤ z) +ℤ pos 0) ≤ℤ pos 1 → (z ≡ pos 0) ⊎ (z ≡ pos 1)
-zero_or_one (pos zero) l h = inl refl
-zero_or_one (pos (suc zero)) l h = inr refl
-zero_or_one (pos (suc (suc n))) l h = absurd (omega (arith, ints))
-zero_or_one (negsuc n) l h = absurd (omega (arith, ints))
-
-not_negative : (z : ℤ) → (z ≡ pos 0) ⊎ (z ≡ pos 1) → ((negsuc 0 *ℤ z) +ℤ pos 0) ≤ℤ pos 0
-not_negative z (inl e) = omega (arith, ints)
-not_negative z (inr e) = omega (arith, ints)
-
-one_at_most : (z : ℤ) → (z ≡ pos 0) ⊎ (z ≡ pos 1) → ((pos 1 *ℤ z) +ℤ pos 0) ≤ℤ pos 1
-one_at_most z (inl e) = omega (arith, ints)
-one_at_most z (inr e) = omega (arith, ints)
-
-bound_holds : (point : ℕ → ℤ) (c : ℕ) (t : Option Ty) → AllByRecursion (Holds point) (bounds_of c t) ↔ IsValueOf t (point c)
-bound_holds point c None = (λ h. tt, λ h. tt)
-bound_holds point c (Some types.Int) = (λ h. tt, λ h. tt)
-bound_holds point c (Some types.Bool) =
-    let l = holds-row_of point ((c, negsuc 0) ∷ []) Le (pos 0) in
-    let u = holds-row_of point ((c, pos 1) ∷ []) Le (pos 1) in
-    (λ h. zero_or_one (point c) (l.0 h.0) (u.0 h.1.0), λ h. (l.1 (not_negative (point c) h), (u.1 (one_at_most (point c) h), tt)))
 
 -- the bounds of new columns hold where the point has a state of these columns there
 pub bounds_read : (point : ℕ → ℤ) (n : ℕ) (columns : Columns) →

@@ -1,6 +1,4 @@
-pub mod Rows
 pub mod Versions
-pub mod Frames
 pub mod Paths
 pub mod Stages
 pub mod Drafts

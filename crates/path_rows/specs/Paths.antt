@@ -7,8 +7,8 @@ use Rattle.nwa_base.specs.Acceptance.{Accepts}
 use Rattle.letter_acts.specs.Frames.{Columns}
 use Rattle.letter_acts.specs.Acts.{Alphabet, frame_of}
 use Rattle.letter_acts.specs.Invariant.{Graph, alphabet_of}
-use Rattle.path_rows.specs.Rows.{bounds, types_of}
-use Rattle.path_rows.specs.Versions.{columns_from, Stage, rows_in, part_of}
+use Rattle.frame_rows.specs.Rows.{bounds, types_of, columns_from}
+use Rattle.path_rows.specs.Versions.{Stage, rows_in, part_of}
 
 -- the rows of a word; the letter that made each row and each column, from 1 and 0 for the start; and the versions of the
 -- frame's columns at each position

@@ -8,7 +8,8 @@ use Rattle.letter_acts.specs.Acts.{PlainAct, inside_act, call_act, back_act, Alp
 use Rattle.letter_acts.specs.Meaning.{Situation, InsideLeads, CallLeads, BackLeads}
 use Rattle.letter_acts.specs.Feasible.{Obeys}
 use Rattle.letter_acts.specs.Invariant.{Graph, alphabet_of}
-use Rattle.path_rows.specs.Versions.{columns_from, Stage, locals_of, inside_part, call_part, back_part, part_of}
+use Rattle.path_rows.specs.Versions.{Stage, locals_of, inside_part, call_part, back_part, part_of}
+use Rattle.frame_rows.specs.Rows.{columns_from}
 use Rattle.path_rows.specs.Paths.{start_frame, first_stage, path_of}
 
 -- the values that the point has at these columns

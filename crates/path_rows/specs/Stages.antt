@@ -1,15 +1,14 @@
 -- What is known where a path has come to: the versions of frames are made, and differ.
-use Rattle.std.specs.Prelude.{◌≡◌, ◌⊎◌, ℕ, ◌+◌, ◌<◌, ◌≤◌, ◌^◌, List, [], ◌∷◌, ◌++◌, map, length, slice_index, Option, None, Some}
+use Rattle.std.specs.Prelude.{◌≡◌, ◌⊎◌, ℕ, ◌+◌, ◌<◌, ◌≤◌, ◌^◌, List, [], ◌∷◌, ◌++◌, length, slice_index, Option, None, Some}
 use Rattle.std.specs.List.{AllByRecursion}
-use Rattle.math_facts.specs.Terms.{IsBelow}
 use Rattle.lin_rows.specs.Rows.{LinearRow}
 use Rattle.nwa_base.specs.declared.letters.Letter.{Letter}
-use Rattle.nwa_base.specs.Members.{Member}
 use Rattle.nwa_base.specs.Acceptance.{Follows}
 use Rattle.letter_acts.specs.Frames.{Columns, globals_of, variables_of, results_of}
 use Rattle.letter_acts.specs.Acts.{PlainAct, inside_act, call_act, back_act, Alphabet, frame_of}
 use Rattle.letter_acts.specs.Invariant.{Graph, alphabet_of, IsPlaceOf, AreDistinct}
-use Rattle.path_rows.specs.Versions.{columns_from, Stage, entered, returned, locals_of, old_part}
+use Rattle.path_rows.specs.Versions.{Stage, entered, returned, locals_of, old_part}
+use Rattle.frame_rows.specs.Rows.{columns_from, RowsAreNamed}
 
 -- a version for each column of the frame: they are made, and no two are equal
 pub record AreVersions (made : ℕ) (frame : Columns) (here : List ℕ) : Type 0 where
@@ -51,16 +50,6 @@ pub record GoesOnBy (g : Graph) (a : Letter) (p : Stage) : Type 0 where
   pub follows : Follows g.automaton a.kind a places from to (λ rest. Unit {0})
 
 -- ---- what the functions of letters ask
-
--- no two columns of a row get the same name
-abbrev pub NamesDiffer : List ℕ → LinearRow → Type 0
-NamesDiffer names r =
-    (a b : ℕ) → Member (map (λ t. t.0) r.terms) a → Member (map (λ t. t.0) r.terms) b → slice_index names a ≡ slice_index names b → a ≡ b
-
--- the rows name columns that have names, which differ in each row
-pub record RowsAreNamed (names : List ℕ) (rows : List LinearRow) : Type 0 where
-  pub within : AllByRecursion (λ r. IsBelow (length names) r.terms) rows
-  pub differ : AllByRecursion (NamesDiffer names) rows
 
 -- an inside letter may be read where the path has made so many columns and the frame has these versions
 pub record InsideFits (written : List ℕ) (helpers : ℕ) (rows : List LinearRow) (made : ℕ) (here : List ℕ) : Type 0 where

@@ -1,17 +1,11 @@
 -- Versions: the columns of a word's rows, which stand for the columns of frames at its positions. Each letter makes some.
-use Rattle.std.specs.Prelude.{ℕ, zero, suc, ◌+◌, Bool, List, [], ◌∷◌, ◌++◌, map, filter, length, take, drop, slice_index, slice_set, Option, None, Some, slice_get}
-use Rattle.boogie_tree.specs.declared.tree.Column.{Column}
-use Rattle.boogie_tree.specs.declared.tree.VarInfo.{VarInfo}
+use Rattle.std.specs.Prelude.{ℕ, suc, ◌+◌, List, [], ◌∷◌, ◌++◌, map, filter, length, take, drop, slice_index, slice_set, Option, None, Some, slice_get}
 use Rattle.nwa_base.specs.declared.letters.Letter.{Letter}
 use Rattle.lin_rows.specs.Rows.{LinearRow}
-use Rattle.letter_acts.specs.Frames.{Columns, is_old_column, is_local, globals_of, variables_of, results_of}
+use Rattle.letter_acts.specs.Frames.{Columns, is_local, globals_of, variables_of, results_of}
 use Rattle.letter_acts.specs.Acts.{PlainAct, inside_act, call_act, back_act, Alphabet, frame_of, act_of}
-use Rattle.path_rows.specs.Rows.{renamed, equal_row, bounds, types_of, types_at}
-
--- so many columns from n on
-abbrev pub columns_from : ℕ → ℕ → List ℕ
-columns_from n zero = []
-columns_from n (suc k) = n ∷ columns_from (suc n) k
+use Rattle.frame_rows.specs.Rows.{columns_from, renamed, equal_row, bounds, types_of, types_at}
+use Rattle.frame_rows.specs.Frames.{is_old}
 
 -- Where the path of a word has come to: how many columns are made, the versions of the present frame's columns, and those
 -- of the frames before the open calls, innermost first.
@@ -62,9 +56,6 @@ inside_part frame written helpers rows p =
 -- the parameters, results and locals of a frame
 abbrev pub locals_of : Columns → Columns
 locals_of frame = filter is_local frame
-
-abbrev pub is_old : (Column × VarInfo) → Bool
-is_old c = is_old_column c.0
 
 -- its old columns
 abbrev pub old_part : Columns → Columns

@@ -6,14 +6,12 @@ ghost use Rattle.letter_acts.specs.Invariant.{alphabet_of};
 ghost use Rattle.letter_acts.specs.Kept.{Keeps};
 ghost use Rattle.path_rows.specs.Paths.{repeated};
 ghost use Rattle.path_rows.specs.Stages.{BackFitsFrom, returned_from};
-ghost use Rattle.path_rows.specs.Rows.{bounds, types_of};
-ghost use Rattle.path_rows.specs.Versions.{columns_from};
+ghost use Rattle.frame_rows.specs.Rows.{bounds, types_of, columns_from};
 
-use crate::frames::types_of;
 use crate::parts::{MOST_COLUMNS, Made, call_part, inside_part};
-use crate::rows::bound_rows;
-use crate::versions::{add_columns, returned};
+use crate::versions::returned;
 use boogie_tree::{Column, VarInfo};
+use frame_rows::{add_columns, bound_rows, types_of};
 use letter_acts::{Act, Icfg};
 use lin_rows::{Col, Row};
 use nwa_base::Letter;

@@ -3,7 +3,6 @@
 #![tactic(auto)]
 
 mod drafts;
-mod frames;
 pub mod laws;
 mod making;
 mod parts;

@@ -3,15 +3,15 @@
 ghost use Rattle.std.specs.Prelude.{◌≡◌, ◌+◌, ◌<◌, ◌≤◌, ◌^◌, [], ◌++◌, IfOk, OnOk, length, map, slice_index};
 ghost use Rattle.std.specs.List.{AllByRecursion};
 ghost use Rattle.letter_acts.specs.Frames.{variables_of};
-ghost use Rattle.path_rows.specs.Rows.{renamed, bounds, types_at, types_of};
-ghost use Rattle.path_rows.specs.Versions.{inside_part, call_part, columns_from, written_over, entered, entry_rows, locals_of, old_part};
-ghost use Rattle.path_rows.specs.Stages.{InsideFits, CallFits, RowsAreNamed};
+ghost use Rattle.frame_rows.specs.Rows.{renamed, bounds, types_at, types_of, columns_from, RowsAreNamed};
+ghost use Rattle.path_rows.specs.Versions.{inside_part, call_part, written_over, entered, entry_rows, locals_of, old_part};
+ghost use Rattle.path_rows.specs.Stages.{InsideFits, CallFits};
 ghost use Rattle.path_rows.specs.Drafts.{IsMade};
 
-use crate::frames::{Class, numbers_of, types_at, types_in};
-use crate::rows::{bound_rows, entry_rows, renamed_rows};
-use crate::versions::{add_columns, entered, picked, write_over};
+use crate::rows::entry_rows;
+use crate::versions::{entered, picked, write_over};
 use boogie_tree::{Column, Ty, VarInfo};
+use frame_rows::{Class, add_columns, bound_rows, numbers_of, renamed_rows, types_at, types_in};
 use lin_rows::{Col, Row};
 use std::alloc::{AllocError, Global};
 

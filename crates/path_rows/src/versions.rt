@@ -3,27 +3,12 @@
 ghost use Rattle.std.specs.Prelude.{◌≡◌, ◌+◌, ◌<◌, ◌≤◌, ◌^◌, ◌++◌, IfOk, OnOk, map, length, take, drop, slice_index};
 ghost use Rattle.std.specs.List.{AllByRecursion};
 ghost use Rattle.letter_acts.specs.Frames.{globals_of, results_of};
-ghost use Rattle.path_rows.specs.Versions.{columns_from, written_over, entered, returned, locals_of, old_part};
+ghost use Rattle.path_rows.specs.Versions.{written_over, entered, returned, locals_of, old_part};
 
-use crate::frames::{Class, numbers_of};
 use boogie_tree::{Column, VarInfo};
+use frame_rows::{Class, add_columns, numbers_of};
 use lin_rows::Col;
 use std::alloc::{AllocError, Global};
-
-/// Adds so many columns from a number on.
-pub(crate) fn add_columns(
-    columns: &mut Vec<Col>,
-    from: usize,
-    count: usize,
-) -> Result<(), AllocError>
-    requires { from + count ≤ 2 ^ 32 }
-    ensures { OnOk result (columns.new.items ≡ columns.old.items ++ columns_from from count) }
-{
-    for i in 0..count {
-        columns.push((from + i) as u32)?;
-    }
-    Ok(())
-}
 
 /// Writes new versions over some columns, one after the other, as long as both lists last.
 pub(crate) fn write_over(here: &mut [Col], columns: &[u32], news: &[Col])

@@ -18,13 +18,15 @@ use Rattle.triple_rows.specs.declared.triples.Triple.{Triple}
 use Rattle.triple_rows.specs.declared.triples.Triple.TheVariants as triples
 use Rattle.triple_rows.specs.Triples.{Agrees, InsideAgrees, CallAgrees, ReturnAgrees, BackAgrees, IsRefuted}
 use Rattle.triple_rows.specs.Proofs.{PlainProof}
-use Rattle.hoare_check.specs.Decided.{inside_columns, call_columns, return_columns, back_columns, columns_of, IsCutWithin, IsProofFor}
+use Rattle.hoare_check.specs.Decided.{IsProofFor}
+use Rattle.triple_rows.specs.Cuts.{inside_columns, call_columns, back_columns, columns_of, IsCutWithin}
+use Rattle.letter_acts.specs.Widths.{back_width}
 use Rattle.itp_automaton.specs.Certified.{Certificate}
 use Rattle.itp_automaton.proofs.StateLaws.{distinct_more}
 use Rattle.proof_names.specs.declared.outlines.Listed.{Listed}
 use Rattle.proof_names.specs.declared.outlines.Listed.TheVariants.{Inside, Call, Back}
 use Rattle.proof_names.specs.Options.{both}
-use Rattle.proof_names.specs.Naming.{scoped_at, inside_at, call_at, return_at, back_at, triple_at, letter_in, return_width, width}
+use Rattle.proof_names.specs.Naming.{scoped_at, inside_at, call_at, return_at, back_at, triple_at, letter_in, width}
 use Rattle.proof_spell.specs.Drafts.{PlainShown, IsWithin, MayBeShown}
 use Rattle.proof_build.specs.Unwindings.{HasTriple}
 use Rattle.proof_build.specs.Numbering.{IsNumberOf, AreListed}
@@ -75,17 +77,11 @@ call_width_is al (Some (inside_act p written helpers rows)) before after h = abs
 call_width_is al (Some (call_act caller callee helpers rows)) before after h = refl
 call_width_is al (Some (back_act c targets)) before after h = absurd h
 
-return_width_is : (al : Alphabet) (targets : List ℕ) (o : Option PlainAct) → return_columns al targets o ≡ return_width al targets o
-return_width_is al targets None = refl
-return_width_is al targets (Some (inside_act p written helpers rows)) = refl
-return_width_is al targets (Some (call_act caller callee helpers rows)) = refl
-return_width_is al targets (Some (back_act c more)) = refl
-
 back_width_is : (al : Alphabet) (o : Option PlainAct) (exit before after : Scoped) → BackAgrees al o exit before after → back_columns al o ≡ width al o
 back_width_is al None exit before after h = absurd h
 back_width_is al (Some (inside_act p written helpers rows)) exit before after h = absurd h
 back_width_is al (Some (call_act caller callee helpers rows)) exit before after h = absurd h
-back_width_is al (Some (back_act c targets)) exit before after h = return_width_is al targets (slice_get al.acts c)
+back_width_is al (Some (back_act c targets)) exit before after h = refl
 
 columns_are : (al : Alphabet) (preds : List Scoped) (t : Triple) (n : Listed) → Agrees al t → IsListedAs preds t n → columns_of al t ≡ width al (slice_get al.acts (letter_in n))
 columns_are al preds (triples.Inside before l after) (Inside q k r) a h = inside_width_is al (slice_get al.acts l) before after a ∙ ap (λ (x : ℕ). width al (slice_get al.acts x)) (sym h.1)

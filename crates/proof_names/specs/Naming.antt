@@ -1,9 +1,10 @@
 -- What each line of an annotation names.
-use Rattle.std.specs.Prelude.{◌≡◌, ◌⊎◌, ℕ, zero, suc, ◌+◌, Bool, true, false, IsTrue, List, [], ◌∷◌, map, length, Option, None, Some, IsSomeAnd, slice_get}
+use Rattle.std.specs.Prelude.{◌≡◌, ◌⊎◌, ℕ, zero, suc, ◌+◌, Bool, true, false, IsTrue, List, [], ◌∷◌, map, Option, None, Some, IsSomeAnd, slice_get}
 use Rattle.std.specs.Option.{option_map}
 use Rattle.std.specs.List.{AllByRecursion}
 use Rattle.letter_acts.specs.Acts.{PlainAct, inside_act, call_act, back_act, Alphabet, frame_of}
-use Rattle.letter_acts.specs.Invariant.{Graph, alphabet_of, IsPlaceOf, inside_width, call_width, written_by}
+use Rattle.letter_acts.specs.Invariant.{Graph, alphabet_of, IsPlaceOf, inside_width, call_width}
+use Rattle.letter_acts.specs.Widths.{back_width}
 use Rattle.triple_rows.specs.declared.predicates.PredNode.TheVariants.{Truth}
 use Rattle.triple_rows.specs.declared.triples.Scoped.{Scoped}
 use Rattle.triple_rows.specs.declared.triples.Triple.{Triple}
@@ -96,20 +97,12 @@ letter_in (Inside q l r) = l
 letter_in (Call q l r) = l
 letter_in (Back x b l r) = l
 
--- how many columns the system of a return has, by the call's act: the callee's and the caller's frames, the written ones, the helpers
-abbrev pub return_width : Alphabet → List ℕ → Option PlainAct → ℕ
-return_width al targets None = 0
-return_width al targets (Some (inside_act p written helpers rows)) = 0
-return_width al targets (Some (call_act caller callee helpers rows)) =
-    length (frame_of al callee) + length (frame_of al caller) + length (written_by (frame_of al caller) targets) + helpers
-return_width al targets (Some (back_act c more)) = 0
-
 -- how many columns the system of a triple has, by its letter's act
 abbrev pub width : Alphabet → Option PlainAct → ℕ
 width al None = 0
 width al (Some (inside_act p written helpers rows)) = inside_width (frame_of al p) written helpers
 width al (Some (call_act caller callee helpers rows)) = call_width (frame_of al caller) (frame_of al callee) helpers
-width al (Some (back_act c targets)) = return_width al targets (slice_get al.acts c)
+width al (Some (back_act c targets)) = back_width al targets (slice_get al.acts c)
 
 -- A line names a triple: its numbers are those of predicates and of a letter of its kind, whose scopes agree, the numbers of
 -- its refutation fit, and each cut is at a column of the triple's system.

@@ -9,6 +9,7 @@ ghost use Rattle.letter_acts.specs.Invariant.{alphabet_of, is_global_at, written
 ghost use Rattle.proof_form.specs.Lines as lines;
 ghost use Rattle.proof_form.specs.Refutations as form;
 ghost use Rattle.proof_names.specs.declared.outlines.NamedTriple.{NamedTriple};
+ghost use Rattle.letter_acts.specs.Widths.{back_width};
 ghost use Rattle.proof_names.specs.Naming as spec;
 ghost use Rattle.proof_names.specs.Naming.{NamesTriple};
 ghost use Rattle.proof_names.specs.Refutations.{refutation_of};
@@ -280,7 +281,7 @@ fn is_global_at(frame: &[(Column, VarInfo)], column: u32) -> bool
 /// How many columns the system of a return has, by its call letter and its targets.
 fn return_width(icfg: &Icfg, call: u32, targets: &[u32]) -> usize
     requires { BackIsActedFrom (alphabet_of icfg.now) targets.now (slice_get icfg.now.acts call) }
-    ensures { result ≡ spec.return_width (alphabet_of icfg.now) targets.now (slice_get icfg.now.acts call) }
+    ensures { result ≡ back_width (alphabet_of icfg.now) targets.now (slice_get icfg.now.acts call) }
 {
     match act_of(icfg, call) {
         Some(

@@ -21,7 +21,7 @@ use Rattle.path_rows.specs.Paths.{path_of}
 use Rattle.path_decide.specs.Decided.{tight_rows, path_decision}
 use Rattle.nested_predicates.specs.Stamps.{stamps_of}
 use Rattle.nested_refutations.specs.Numbers.{AreCutsAt}
-use Rattle.nested_refutations.specs.Cuts.{IsCutWithin}
+use Rattle.triple_rows.specs.Cuts.{IsCutWithin}
 use Rattle.triple_steps.proofs.StepLaws.{total_is}
 use Rattle.nested_itp.proofs.CutLaws.{tree_cuts}
 

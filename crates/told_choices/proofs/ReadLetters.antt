@@ -8,7 +8,8 @@ use Rattle.nwa_base.specs.Runs.{StepsOn}
 use Rattle.letter_acts.specs.Frames.{Columns}
 use Rattle.letter_acts.specs.Acts.{PlainAct, inside_act, call_act, back_act, Alphabet, frame_of, act_of}
 use Rattle.letter_acts.specs.Invariant.{Graph, alphabet_of}
-use Rattle.path_rows.specs.Versions.{columns_from, Stage, act_part, part_of, return_part, back_part}
+use Rattle.path_rows.specs.Versions.{Stage, act_part, part_of, return_part, back_part}
+use Rattle.frame_rows.specs.Rows.{columns_from}
 use Rattle.path_rows.specs.Paths.{repeated, path_along, start_frame, first_stage, path_of}
 use Rattle.path_rows.specs.Solutions.{read}
 use Rattle.lowered_choices.specs.Traces.{Position}

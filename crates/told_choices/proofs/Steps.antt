@@ -10,7 +10,7 @@ use Rattle.lowered_steps.specs.ProgramFrames.{frame_at}
 use Rattle.lowered_imports.specs.Imports.{none_for, import_choices}
 use Rattle.lowered_graph.specs.Lowered.{lowered}
 use Rattle.lowered_graph.proofs.Alphabet.{counted_get}
-use Rattle.path_rows.specs.Versions.{columns_from}
+use Rattle.frame_rows.specs.Rows.{columns_from}
 use Rattle.told_choices.specs.Kinds as spec
 use Rattle.told_choices.specs.Walks.{body_kinds, kinds_from, program_kinds}
 use Rattle.told_choices.specs.Views.{plain_kind, plain_kinds}

@@ -2,7 +2,7 @@
 use Rattle.std.specs.Prelude.{ℕ, ◌+◌, length, Option, None, Some, filter}
 use Rattle.letter_acts.specs.Frames.{is_local}
 use Rattle.letter_acts.specs.Acts.{PlainAct, inside_act, call_act, back_act, Alphabet, frame_of}
-use Rattle.path_rows.specs.Versions.{is_old}
+use Rattle.frame_rows.specs.Frames.{is_old}
 
 -- a letter with this act: the written columns and the helpers; or an entry's locals, its helpers, and its old columns
 abbrev pub columns_made : Alphabet → Option PlainAct → ℕ

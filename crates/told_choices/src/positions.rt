@@ -12,7 +12,7 @@ ghost use Rattle.letter_acts.specs.Frames.{is_local};
 ghost use Rattle.letter_acts.specs.Invariant.{alphabet_of};
 ghost use Rattle.path_rows.specs.Paths.{path_of};
 ghost use Rattle.path_rows.specs.Solutions.{read};
-ghost use Rattle.path_rows.specs.Versions.{is_old};
+ghost use Rattle.frame_rows.specs.Frames.{is_old};
 ghost use Rattle.path_traces.specs.Solved.{helper_columns, next_positions};
 ghost use Rattle.told_choices.specs.Telling.{PositionFits};
 ghost use Rattle.told_choices.specs.Made.{columns_made, helpers_end};

@@ -5,7 +5,7 @@ ghost use Rattle.std.specs.List.{AllByRecursion};
 ghost use Rattle.math_facts.specs.Fits.{Fits};
 ghost use Rattle.lin_rows.specs.Points.{point_of};
 ghost use Rattle.path_rows.specs.Solutions.{read};
-ghost use Rattle.path_rows.specs.Versions.{columns_from};
+ghost use Rattle.frame_rows.specs.Rows.{columns_from};
 
 use lin_rows::Col;
 use std::alloc::{AllocError, Global};

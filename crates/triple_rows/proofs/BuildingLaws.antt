@@ -5,7 +5,8 @@ use Rattle.lin_rows.specs.Rows.{LinearRow}
 use Rattle.letter_acts.specs.Frames.{Columns, globals_of, olds_of}
 use Rattle.letter_acts.specs.Invariant.{written_by}
 use Rattle.triple_rows.specs.Predicates.{Formula}
-use Rattle.triple_rows.specs.Systems.{PlainSystem, said, denied, only_rows, equal_row, after_column, bounds, types_of, types_at}
+use Rattle.triple_rows.specs.Systems.{PlainSystem, said, denied, only_rows, after_column}
+use Rattle.frame_rows.specs.Rows.{equal_row, bounds, types_of, types_at}
 use Rattle.triple_rows.specs.Drafts.{return_ties}
 
 abbrev pub call_parts : Columns → Columns → List LinearRow → Formula → Formula → List PlainSystem

@@ -1,35 +1,12 @@
 -- Lists over frames, read from the front: what one member more adds.
-use Rattle.std.proofs.Common.{◌≡◌, ◌∙◌, ℕ, zero, suc, ◌+◌, ◌<◌, ◌≤◌, Bool, true, false, List, [], ◌∷◌, ◌++◌, length, take, get_or, append_assoc, Option, None, Some, refl, sym, ap, arith}
+use Rattle.std.proofs.Common.{◌≡◌, ◌∙◌, ℕ, zero, suc, ◌+◌, ◌<◌, ◌≤◌, List, [], ◌∷◌, ◌++◌, length, take, get_or, None, Some, refl, sym, ap, arith}
 use Rattle.std.proofs.lemmas.List.{append-nil, take_more, length-take-le}
 use Rattle.boogie_tree.specs.declared.tree.Column.{Column}
 use Rattle.boogie_tree.specs.declared.tree.Column.TheVariants.{Global, Old, Local}
 use Rattle.boogie_tree.specs.declared.tree.VarInfo.{VarInfo}
-use Rattle.boogie_tree.specs.declared.tree.Ty.{Ty}
-use Rattle.lin_rows.specs.Rows.{LinearRow}
-use Rattle.letter_acts.specs.Frames.{Columns, added, places, old_at, olds_from, olds_of}
+use Rattle.letter_acts.specs.Frames.{Columns, old_at, olds_from, olds_of}
 use Rattle.letter_acts.specs.Reading.{taken}
-use Rattle.letter_acts.proofs.ListLemmas.{places-append}
-use Rattle.triple_rows.specs.Systems.{bounds_of, bounds}
 use Rattle.triple_rows.specs.Tables.{old_global}
-
--- ---- places
-
-places_next : {X : Type 0} (test : X → Bool) (xs : List X) (i : ℕ) (x d : X) → x ≡ get_or xs i d → i < length xs →
-    places test 0 (take (i + 1) xs) ≡ places test 0 (take i xs) ++ added (test x) i []
-places_next {X} test xs i x d e l =
-    ap (λ (ys : List X). places test 0 ys) (take_more xs i d l) ∙
-    places-append test (take i xs) (get_or xs i d ∷ []) 0 i (let k = length-take-le i xs (omega (arith, l)) in omega (arith, k)) ∙
-    ap (λ (y : X). places test 0 (take i xs) ++ added (test y) i []) (sym e)
-
-pub places_pass : {X : Type 0} (test : X → Bool) (xs : List X) (i : ℕ) (x d : X) (now new : List ℕ) → x ≡ get_or xs i d → i < length xs → test x ≡ true →
-    now ≡ places test 0 (take i xs) → new ≡ now ++ i ∷ [] → new ≡ places test 0 (take (i + 1) xs)
-places_pass test xs i x d now new e l t h k =
-    k ∙ ap (λ (ns : List ℕ). ns ++ i ∷ []) h ∙ sym (places_next test xs i x d e l ∙ ap (λ (b : Bool). places test 0 (take i xs) ++ added b i []) t)
-
-pub places_miss : {X : Type 0} (test : X → Bool) (xs : List X) (i : ℕ) (x d : X) (now : List ℕ) → x ≡ get_or xs i d → i < length xs → test x ≡ false →
-    now ≡ places test 0 (take i xs) → now ≡ places test 0 (take (i + 1) xs)
-places_miss test xs i x d now e l t h =
-    h ∙ sym (places_next test xs i x d e l ∙ ap (λ (b : Bool). places test 0 (take i xs) ++ added b i []) t ∙ append-nil (places test 0 (take i xs)))
 
 -- ---- old columns
 
@@ -97,19 +74,3 @@ taken_long [] rs (suc i) l = refl
 taken_long (t ∷ ts) rs zero l = absurd (omega arith)
 taken_long (t ∷ ts) [] (suc i) l = refl
 taken_long (t ∷ ts) (r ∷ rs) (suc i) l = ap (λ (ps : List (ℕ × ℕ)). (t, r) ∷ ps) (taken_long ts rs i (omega arith))
-
--- ---- bounds
-
-bounds_joined : (n m : ℕ) (ts us : List (Option Ty)) → m ≡ n + length ts → bounds n (ts ++ us) ≡ bounds n ts ++ bounds m us
-bounds_joined n m [] us e = ap (λ (k : ℕ). bounds k us) (let i : n ≡ m = omega (arith, e) in i)
-bounds_joined n m (t ∷ ts) us e =
-    ap (λ (rs : List LinearRow). bounds_of n t ++ rs) (bounds_joined (n + 1) m ts us (omega (arith, e))) ∙
-    sym (append_assoc (bounds_of n t) (bounds (n + 1) ts) (bounds m us))
-
-pub bounds_next : (n i : ℕ) (ts : List (Option Ty)) (d : Option Ty) (now new : List LinearRow) → i < length ts → now ≡ bounds n (take i ts) →
-    new ≡ now ++ bounds_of (n + i) (get_or ts i d) → new ≡ bounds n (take (i + 1) ts)
-bounds_next n i ts d now new l h e =
-    e ∙ ap (λ (rs : List LinearRow). rs ++ bounds_of (n + i) (get_or ts i d)) h ∙
-    sym (ap (bounds n) (take_more ts i d l) ∙
-    bounds_joined n (n + i) (take i ts) (get_or ts i d ∷ []) (let k = length-take-le i ts (omega (arith, l)) in omega (arith, k)) ∙
-    ap (λ (rs : List LinearRow). bounds n (take i ts) ++ rs) (append-nil (bounds_of (n + i) (get_or ts i d))))

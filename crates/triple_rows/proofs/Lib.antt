@@ -2,7 +2,6 @@ pub mod ListLaws
 pub mod FormulaLaws
 pub mod ReadingLaws
 pub mod HoldingLaws
-pub mod RenamingLaws
 pub mod DraftLaws
 pub mod AddingLaws
 pub mod TableLaws
@@ -22,4 +21,3 @@ pub mod KnownLaws
 pub mod LetterLaws
 pub mod AgreeingLaws
 pub mod ValidLaws
-mod PushSteps

@@ -8,7 +8,8 @@ use Rattle.lin_rows.specs.Sums.{row_of}
 use Rattle.lin_rows.specs.Negating.{negated}
 use Rattle.letter_acts.proofs.ListLemmas.{map_map}
 use Rattle.triple_rows.specs.Predicates.{Formula, Formulas, truth, atom, and_of, or_of, no_formula, one_more, IsOver, AreOver}
-use Rattle.triple_rows.specs.Systems.{PlainSystem, both_systems, only_rows, one_of, one_member, renamed, said, all_said, members_said, denied, all_denied, members_denied, equal_row}
+use Rattle.triple_rows.specs.Systems.{PlainSystem, both_systems, only_rows, one_of, one_member, said, all_said, members_said, denied, all_denied, members_denied}
+use Rattle.frame_rows.specs.Rows.{renamed, equal_row}
 use Rattle.triple_rows.specs.Drafts.{stated}
 use Rattle.triple_rows.specs.Tables.{IsTable}
 

@@ -1,30 +1,19 @@
 -- The other rows of a triple's system: columns that are equal, and the bounds of booleans.
-use Rattle.std.proofs.Common.{◌≡◌, ◌↔◌, ◌⊎◌, ℕ, zero, suc, ◌+◌, ℤ, pos, negsuc, ◌+ℤ◌, ◌*ℤ◌, ◌≤ℤ◌, List, [], ◌∷◌, Option, None, Some, refl, sym, subst, inl, inr, arith}
+use Rattle.std.proofs.Common.{◌≡◌, ◌↔◌, ◌⊎◌, ℕ, zero, suc, ◌+◌, ℤ, ◌+ℤ◌, ◌*ℤ◌, ◌≤ℤ◌, List, [], ◌∷◌, Option, Some, refl, sym, subst, arith}
 use Rattle.std.specs.Prelude.{map, slice_get}
 use Rattle.std.specs.List.{AllByRecursion}
-use Rattle.std.proofs.lemmas.Int.{ints}
 use Rattle.boogie_tree.specs.declared.tree.Column.{Column}
 use Rattle.boogie_tree.specs.declared.tree.VarInfo.{VarInfo}
 use Rattle.boogie_tree.specs.declared.tree.Ty.{Ty}
 use Rattle.boogie_tree.specs.declared.tree.Ty.TheVariants as types
-use Rattle.lin_rows.specs.declared.types.RowKind.TheVariants.{Le, Eq}
 use Rattle.lin_rows.specs.Rows.{Holds}
-use Rattle.lin_rows.proofs.HoldsLaws.{holds-row_of}
 use Rattle.letter_acts.specs.Frames.{Columns, IsValue}
 use Rattle.letter_acts.specs.Invariant.{type_at}
-use Rattle.triple_rows.specs.Systems.{equal_row, bounds_of, bounds, types_of, types_at}
+use Rattle.frame_rows.specs.Rows.{equal_row, bounds_of, bounds, types_of, types_at}
+use Rattle.frame_rows.proofs.RowLaws.{equal_holds, IsValueOf, bound_holds}
 use Rattle.triple_rows.proofs.ListLaws.{all_joined, all_mapped, all_same, got_map, Image, map_got}
 
 -- ---- equal columns
-
-equal_sum : (x y : ℤ) → ((pos 1 *ℤ x) +ℤ ((negsuc 0 *ℤ y) +ℤ pos 0) ≡ pos 0) ↔ (x ≡ y)
-equal_sum x y = (λ h. omega (arith, ints), λ h. omega (arith, ints))
-
-equal_holds : (point : ℕ → ℤ) (a b : ℕ) → Holds point (equal_row a b) ↔ (point a ≡ point b)
-equal_holds point a b =
-    let r = holds-row_of point ((a, pos 1) ∷ (b, negsuc 0) ∷ []) Eq (pos 0) in
-    let e = equal_sum (point a) (point b) in
-    (λ h. e.0 (r.0 h), λ h. r.1 (e.1 h))
 
 -- the rows that say so of some columns hold where these are equal in pairs
 pub equal_rows : {X : Type 0} (point : ℕ → ℤ) (a b : X → ℕ) (xs : List X) →
@@ -36,33 +25,6 @@ equal_rows point a b xs =
 
 -- ---- bounds
 
--- a value of a type, if there is one
-abbrev pub IsValueOf : Option Ty → ℤ → Type 0
-IsValueOf None v = Unit {0}
-IsValueOf (Some t) v = IsValue t v
-
-zero_or_one : (z : ℤ) → ((negsuc 0 *ℤ z) +ℤ pos 0) ≤ℤ pos 0 → ((pos 1 *ℤ z) +ℤ pos 0) ≤ℤ pos 1 → (z ≡ pos 0) ⊎ (z ≡ pos 1)
-zero_or_one (pos zero) l h = inl refl
-zero_or_one (pos (suc zero)) l h = inr refl
-zero_or_one (pos (suc (suc n))) l h = absurd (omega (arith, ints))
-zero_or_one (negsuc n) l h = absurd (omega (arith, ints))
-
-not_negative : (z : ℤ) → (z ≡ pos 0) ⊎ (z ≡ pos 1) → ((negsuc 0 *ℤ z) +ℤ pos 0) ≤ℤ pos 0
-not_negative z (inl e) = omega (arith, ints)
-not_negative z (inr e) = omega (arith, ints)
-
-one_at_most : (z : ℤ) → (z ≡ pos 0) ⊎ (z ≡ pos 1) → ((pos 1 *ℤ z) +ℤ pos 0) ≤ℤ pos 1
-one_at_most z (inl e) = omega (arith, ints)
-one_at_most z (inr e) = omega (arith, ints)
-
-bound_holds : (point : ℕ → ℤ) (c : ℕ) (t : Option Ty) → AllByRecursion (Holds point) (bounds_of c t) ↔ IsValueOf t (point c)
-bound_holds point c None = (λ h. tt, λ h. tt)
-bound_holds point c (Some types.Int) = (λ h. tt, λ h. tt)
-bound_holds point c (Some types.Bool) =
-    let l = holds-row_of point ((c, negsuc 0) ∷ []) Le (pos 0) in
-    let u = holds-row_of point ((c, pos 1) ∷ []) Le (pos 1) in
-    (λ h. zero_or_one (point c) (l.0 h.0) (u.0 h.1.0), λ h. (l.1 (not_negative (point c) h), (u.1 (one_at_most (point c) h), tt)))
-
 -- the bounds of the columns from n on hold where these have values of their types
 pub record HasTypes (point : ℕ → ℤ) (n : ℕ) (ts : List (Option Ty)) : Type 0 where
   pub each : (i j : ℕ) (t : Option Ty) → j ≡ n + i → slice_get ts i ≡ Some t → IsValueOf t (point j)
@@ -70,10 +32,10 @@ pub record HasTypes (point : ℕ → ℤ) (n : ℕ) (ts : List (Option Ty)) : Ty
 pub bounds_heard : (point : ℕ → ℤ) (n : ℕ) (ts : List (Option Ty)) → AllByRecursion (Holds point) (bounds n ts) → HasTypes point n ts
 bounds_heard point n [] h = record { each = λ i j t e g. absurd (cc) }
 bounds_heard point n (u ∷ ts) h =
-    let b = (all_joined (Holds point) (bounds_of n u) (bounds (n + 1) ts)).0 h in
-    record { each = at ((bound_holds point n u).0 b.0) (bounds_heard point (n + 1) ts b.1) }
+    let b = (all_joined (Holds point) (bounds_of n u) (bounds (suc n) ts)).0 h in
+    record { each = at ((bound_holds point n u).0 b.0) (bounds_heard point (suc n) ts b.1) }
   where
-    at : IsValueOf u (point n) → HasTypes point (n + 1) ts → (i j : ℕ) (t : Option Ty) → j ≡ n + i → slice_get (u ∷ ts) i ≡ Some t → IsValueOf t (point j)
+    at : IsValueOf u (point n) → HasTypes point (suc n) ts → (i j : ℕ) (t : Option Ty) → j ≡ n + i → slice_get (u ∷ ts) i ≡ Some t → IsValueOf t (point j)
     at v r zero j t e g =
         let k : n ≡ j = omega (arith, e) in
         let q : u ≡ t = cc in
@@ -83,9 +45,9 @@ bounds_heard point n (u ∷ ts) h =
 pub bounds_said : (point : ℕ → ℤ) (n : ℕ) (ts : List (Option Ty)) → HasTypes point n ts → AllByRecursion (Holds point) (bounds n ts)
 bounds_said point n [] h = tt
 bounds_said point n (u ∷ ts) h =
-    (all_joined (Holds point) (bounds_of n u) (bounds (n + 1) ts)).1 (
+    (all_joined (Holds point) (bounds_of n u) (bounds (suc n) ts)).1 (
       (bound_holds point n u).1 (h.each 0 n u (omega arith) refl),
-      bounds_said point (n + 1) ts (record { each = λ i j t e g. h.each (suc i) j t (omega (arith, e)) g }),
+      bounds_said point (suc n) ts (record { each = λ i j t e g. h.each (suc i) j t (omega (arith, e)) g }),
     )
 
 -- the point has a state of the frame at these columns

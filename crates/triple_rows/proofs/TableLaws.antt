@@ -9,7 +9,8 @@ use Rattle.nwa_base.specs.Members.{Member}
 use Rattle.letter_acts.specs.Invariant.{AreDistinct}
 use Rattle.letter_acts.proofs.ListLemmas.{below_or_from, same_or_not}
 use Rattle.triple_rows.specs.Systems.{after_column, call_column}
-use Rattle.triple_rows.specs.Tables.{columns_from, IsTable}
+use Rattle.triple_rows.specs.Tables.{IsTable}
+use Rattle.frame_rows.specs.Rows.{columns_from}
 use Rattle.triple_rows.proofs.ListLaws.{within, place_of_member}
 use Rattle.triple_rows.proofs.BackLaws.{call_first, call_second, call_helper}
 use Rattle.triple_rows.proofs.StateLaws.{after_written, after_other, written_or_not}
@@ -20,16 +21,6 @@ pub record HasColumns (n : ℕ) (to : ℕ → ℕ) (columns : List ℕ) : Type 0
   pub value : (c : ℕ) → c < n → slice_index columns c ≡ to c
 
 -- ---- so many numbers from one on
-
-columns_more : (n k : ℕ) → columns_from n (suc k) ≡ columns_from n k ++ (n + k) ∷ []
-columns_more n zero = ap (λ (m : ℕ). m ∷ []) (let e : n ≡ n + 0 = omega arith in e)
-columns_more n (suc k) =
-    ap (λ (cs : List ℕ). n ∷ cs) (columns_more (suc n) k ∙ ap (λ (m : ℕ). columns_from (suc n) k ++ m ∷ []) (let e : suc n + k ≡ n + suc k = omega arith in e))
-
-pub counted_next : (n i : ℕ) (old now new : List ℕ) → now ≡ old ++ columns_from n i → new ≡ now ++ (n + i) ∷ [] → new ≡ old ++ columns_from n (i + 1)
-counted_next n i old now new e h =
-    h ∙ ap (λ (xs : List ℕ). xs ++ (n + i) ∷ []) e ∙ append_assoc old (columns_from n i) ((n + i) ∷ []) ∙
-    ap (λ (xs : List ℕ). old ++ xs) (sym (ap (columns_from n) (let k : i + 1 ≡ suc i = omega arith in k) ∙ columns_more n i))
 
 length-columns_from : (n k : ℕ) → length (columns_from n k) ≡ k
 length-columns_from n zero = refl

@@ -9,7 +9,8 @@ use Rattle.letter_acts.specs.Reading.{taken}
 use Rattle.letter_acts.specs.Invariant.{written_by}
 use Rattle.triple_rows.specs.declared.drafts.Draft.{Draft}
 use Rattle.triple_rows.specs.Predicates.{Formula, Formulas}
-use Rattle.triple_rows.specs.Systems.{PlainSystem, Groups, Members, plain_system, AreGroups, only_rows, renamed, equal_row, is_listed, after_column, call_column, said, all_said, members_said, denied, all_denied, members_denied}
+use Rattle.triple_rows.specs.Systems.{PlainSystem, Groups, Members, plain_system, AreGroups, only_rows, is_listed, after_column, call_column, said, all_said, members_said, denied, all_denied, members_denied}
+use Rattle.frame_rows.specs.Rows.{renamed, equal_row}
 
 abbrev pub rows_in : PlainSystem → List LinearRow
 rows_in (plain_system rows groups) = rows

@@ -6,3 +6,4 @@ pub mod Tables
 pub mod Known
 pub mod Triples
 pub mod Proofs
+pub mod Cuts

@@ -1,18 +1,16 @@
 -- Systems as plain trees, and the systems of triples, row by row.
-use Rattle.std.specs.Prelude.{◌≡◌, ◌⊎◌, ℕ, suc, ◌+◌, ◌-◌, ℤ, pos, negsuc, Bool, true, false, List, [], ◌∷◌, ◌++◌, map, filter, length, nat_eq, nat_lt, not, ◌||◌, if◌then◌else◌, Option, None, Some}
+use Rattle.std.specs.Prelude.{◌≡◌, ◌⊎◌, ℕ, suc, ◌+◌, ◌-◌, ℤ, Bool, true, false, List, [], ◌∷◌, ◌++◌, map, filter, length, nat_eq, nat_lt, not, ◌||◌, if◌then◌else◌}
 use Rattle.std.specs.List.{AllByRecursion}
-use Rattle.boogie_tree.specs.declared.tree.Ty.{Ty}
 use Rattle.boogie_tree.specs.declared.tree.Ty.TheVariants as types
 use Rattle.lin_rows.specs.declared.systems.System.{System}
-use Rattle.lin_rows.specs.declared.types.RowKind.TheVariants.{Le, Eq}
 use Rattle.lin_rows.specs.Rows.{LinearRow, IsRow, Holds}
-use Rattle.lin_rows.specs.Sums.{row_of}
 use Rattle.lin_rows.specs.Negating.{negated}
 use Rattle.lin_rows.specs.Tightening.{never}
 use Rattle.lin_rows.specs.Systems.{rows_of, groups_of}
 use Rattle.letter_acts.specs.Frames.{Columns, globals_of, constants_of, variables_of, results_of, olds_of}
 use Rattle.letter_acts.specs.Reading.{taken}
-use Rattle.letter_acts.specs.Invariant.{type_at, written_by}
+use Rattle.letter_acts.specs.Invariant.{written_by}
+use Rattle.frame_rows.specs.Rows.{renamed, equal_row, bounds, types_of, types_at}
 use Rattle.triple_rows.specs.Predicates.{Formula, Formulas, truth, atom, and_of, or_of, no_formula, one_more}
 
 -- ---- systems
@@ -97,10 +95,6 @@ one_of members = plain_system [] (one_group members no_group)
 
 -- ---- what a predicate says
 
--- the row with its columns renamed
-abbrev pub renamed : (ℕ → ℕ) → LinearRow → LinearRow
-renamed to r = row_of (map (λ t. (to t.0, t.1)) r.terms) r.kind r.bound
-
 -- that a predicate holds, over columns renamed: an atom gives its row, `and` its parts, `or` a group, false the row `0 <= -1`
 abbrev mutual
   pub said : (ℕ → ℕ) → Formula → PlainSystem
@@ -136,29 +130,6 @@ abbrev mutual
   members_denied to (one_more f fs) = one_member (denied to f) (members_denied to fs)
 
 -- ---- the other rows
-
--- column a equals column b
-abbrev pub equal_row : ℕ → ℕ → LinearRow
-equal_row a b = row_of ((a, pos 1) ∷ (b, negsuc 0) ∷ []) Eq (pos 0)
-
--- a boolean column is 0 or 1: `-c <= 0` and `c <= 1`
-abbrev pub bounds_of : ℕ → Option Ty → List LinearRow
-bounds_of c None = []
-bounds_of c (Some types.Int) = []
-bounds_of c (Some types.Bool) = row_of ((c, negsuc 0) ∷ []) Le (pos 0) ∷ row_of ((c, pos 1) ∷ []) Le (pos 1) ∷ []
-
--- the same for each boolean one of the columns from n on, which have these types
-abbrev pub bounds : ℕ → List (Option Ty) → List LinearRow
-bounds n [] = []
-bounds n (t ∷ ts) = bounds_of n t ++ bounds (n + 1) ts
-
--- the types of the columns of a frame
-abbrev pub types_of : Columns → List (Option Ty)
-types_of frame = map (λ v. Some v.1.ty) frame
-
--- the types of these columns of a frame
-abbrev pub types_at : Columns → List ℕ → List (Option Ty)
-types_at frame columns = map (type_at frame) columns
 
 -- the number stands in the list
 abbrev pub is_listed : List ℕ → ℕ → Bool

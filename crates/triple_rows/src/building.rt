@@ -13,7 +13,7 @@ ghost use Rattle.triple_rows.specs.Tables.{IsTable};
 
 use crate::adding::add_pred;
 use crate::drafts::Draft;
-use crate::frames::{Class, local_targets, numbers_of};
+use crate::frames::local_targets;
 use crate::predicates::Pred;
 use crate::tables::{after_columns, call_columns, shifted_columns};
 use crate::ties::{
@@ -21,6 +21,7 @@ use crate::ties::{
     add_written_bounds,
 };
 use boogie_tree::{Column, VarInfo};
+use frame_rows::{Class, numbers_of};
 use lin_rows::{Row, RowFault, System};
 use std::alloc::{AllocError, Global};
 

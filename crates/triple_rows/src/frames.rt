@@ -1,59 +1,14 @@
-//! Columns of frames by what they are: their numbers and their types.
+//! Numbers of columns that the rows of calls and returns name.
 
 ghost use Rattle.std.specs.Prelude.{◌≡◌, ℕ, ◌≤◌, ◌^◌, IfOk, map, filter, length, not};
-ghost use Rattle.letter_acts.specs.Frames.{places, olds_of};
+ghost use Rattle.letter_acts.specs.Frames.{olds_of};
 ghost use Rattle.letter_acts.specs.Reading.{taken};
-ghost use Rattle.letter_acts.specs.Invariant.{is_global_at, type_at};
-ghost use Rattle.triple_rows.specs.Systems.{types_of, types_at, is_listed};
-ghost use Rattle.triple_rows.specs.Tables.{is_of, old_global};
+ghost use Rattle.letter_acts.specs.Invariant.{is_global_at};
+ghost use Rattle.triple_rows.specs.Systems.{is_listed};
+ghost use Rattle.triple_rows.specs.Tables.{old_global};
 
-use boogie_tree::{Column, Ty, VarInfo};
+use boogie_tree::{Column, VarInfo};
 use std::alloc::{AllocError, Global};
-
-/// What a column of a frame may be.
-#[derive(Clone, Copy)]
-pub(crate) enum Class {
-    /// A constant or a global.
-    Global,
-    /// A constant.
-    Constant,
-    /// A global that may change.
-    Variable,
-    /// A local that is no parameter, of which the results come first.
-    Outcome,
-}
-
-/// Whether the column is of the class.
-fn is_of(class: Class, column: &(Column, VarInfo)) -> bool
-    ensures { result ≡ is_of class column.now }
-{
-    let global = matches!(column.0, Column::Global(_));
-    let local = matches!(column.0, Column::Local(_));
-    match class {
-        Class::Global => global,
-        Class::Constant => global && column.1.constant,
-        Class::Variable => global && !column.1.constant,
-        Class::Outcome => local && !column.1.constant,
-    }
-}
-
-/// The numbers of the columns of a class.
-pub(crate) fn numbers_of(
-    alloc: Global,
-    frame: &[(Column, VarInfo)],
-    class: Class,
-) -> Result<Vec<u32>, AllocError>
-    requires { length frame.now ≤ 2 ^ 32 }
-    ensures { IfOk result (λ v. v.items ≡ places (is_of class) 0 frame.now) }
-{
-    let mut numbers = Vec::new(alloc);
-    for i in 0..frame.len() {
-        if is_of(class, &frame[i]) {
-            numbers.push(i as u32)?;
-        }
-    }
-    Ok(numbers)
-}
 
 /// The global whose value at the entry an old column has.
 fn old_global(column: &(Column, VarInfo)) -> Option<u32>
@@ -80,41 +35,6 @@ pub(crate) fn olds(
         }
     }
     Ok(numbers)
-}
-
-/// The types of the columns.
-pub(crate) fn types_of(
-    alloc: Global,
-    frame: &[(Column, VarInfo)],
-) -> Result<Vec<Option<Ty>>, AllocError>
-    ensures { IfOk result (λ v. v.items ≡ types_of frame.now) }
-{
-    frame.iter().map(|column| Some(column.1.ty)).collect(alloc)
-}
-
-/// The type of a column, if it exists.
-fn type_at(frame: &[(Column, VarInfo)], column: u32) -> Option<Ty>
-    ensures { result ≡ type_at frame.now column }
-{
-    match frame.get(column as usize) {
-        Some(found) => Some(found.1.ty),
-        None => None,
-    }
-}
-
-/// The types of these columns.
-pub(crate) fn types_at(
-    alloc: Global,
-    frame: &[(Column, VarInfo)],
-    columns: &[u32],
-) -> Result<Vec<Option<Ty>>, AllocError>
-    ensures { IfOk result (λ v. v.items ≡ types_at frame.now columns.now) }
-{
-    let mut types = Vec::with_capacity(alloc, columns.len())?;
-    for column in columns {
-        types.push(type_at(frame, *column))?;
-    }
-    Ok(types)
 }
 
 /// Whether the column is a constant or global.

@@ -4,20 +4,10 @@ ghost use Rattle.std.specs.Prelude.{◌≡◌, ℕ, ◌+◌, ◌<◌, ◌≤◌,
 ghost use Rattle.std.specs.List.{AllByRecursion};
 ghost use Rattle.letter_acts.specs.Invariant.{AreDistinct};
 ghost use Rattle.triple_rows.specs.Systems.{after_column, call_column};
-ghost use Rattle.triple_rows.specs.Tables.{columns_from, IsTable};
+ghost use Rattle.triple_rows.specs.Tables.{IsTable};
 
+use frame_rows::add_columns;
 use std::alloc::{AllocError, Global};
-
-/// Adds so many numbers from one on.
-fn add_counted(columns: &mut Vec<u32>, from: usize, count: usize) -> Result<(), AllocError>
-    requires { from + count ≤ 2 ^ 32 }
-    ensures { OnOk result (columns.new.items ≡ columns.old.items ++ columns_from from count) }
-{
-    for i in 0..count {
-        columns.push((from + i) as u32)?;
-    }
-    Ok(())
-}
 
 /// The table of so many columns that stand from a number on.
 pub(crate) fn shifted_columns(
@@ -29,7 +19,7 @@ pub(crate) fn shifted_columns(
     ensures table { IfOk result (λ v. IsTable count (λ c. from + c) v.items) }
 {
     let mut columns = Vec::new(alloc);
-    add_counted(&mut columns, from, count)?;
+    add_columns(&mut columns, from, count)?;
     Ok(columns)
 }
 
@@ -66,8 +56,8 @@ pub(crate) fn call_columns(
     ensures { IfOk result (λ v. IsTable (caller + callee + helpers) (call_column callee caller written) v.items) }
 {
     let mut columns = Vec::new(alloc);
-    add_counted(&mut columns, callee, caller)?;
-    add_counted(&mut columns, 0, callee)?;
-    add_counted(&mut columns, callee + caller + written, helpers)?;
+    add_columns(&mut columns, callee, caller)?;
+    add_columns(&mut columns, 0, callee)?;
+    add_columns(&mut columns, callee + caller + written, helpers)?;
     Ok(columns)
 }

@@ -6,14 +6,16 @@ ghost use Rattle.math_facts.specs.Terms.{IsBelow};
 ghost use Rattle.letter_acts.specs.Frames.{places, olds_of, variables_of, results_of};
 ghost use Rattle.letter_acts.specs.Reading.{taken};
 ghost use Rattle.letter_acts.specs.Invariant.{AreDistinct};
-ghost use Rattle.triple_rows.specs.Systems.{PlainFits, only_rows, renamed, equal_row, bounds, types_of, types_at, is_listed};
+ghost use Rattle.triple_rows.specs.Systems.{PlainFits, only_rows, is_listed};
+ghost use Rattle.frame_rows.specs.Rows.{renamed, equal_row, bounds, types_of, types_at};
+ghost use Rattle.frame_rows.specs.Frames.{is_of};
 ghost use Rattle.triple_rows.specs.Drafts.{Adds};
-ghost use Rattle.triple_rows.specs.Tables.{is_of};
 
 use crate::drafts::Draft;
-use crate::frames::{Class, doubled, numbers_of, olds, taken, types_at, types_of, unlisted};
-use crate::pieces::{bound_rows, copied_rows, equal_rows, renamed_rows};
+use crate::frames::{doubled, olds, taken, unlisted};
+use crate::pieces::{copied_rows, equal_rows};
 use boogie_tree::{Column, VarInfo};
+use frame_rows::{Class, bound_rows, numbers_of, renamed_rows, types_at, types_of};
 use lin_rows::Row;
 use std::alloc::{AllocError, Global};
 

@@ -9,8 +9,8 @@ use Rattle.boogie_tree.specs.declared.tree.Column.TheVariants.{Global, Old, Loca
 use Rattle.nwa_base.specs.declared.letters.Letter.{Letter}
 use Rattle.letter_acts.specs.Frames.{Columns, is_local}
 use Rattle.letter_acts.specs.Invariant.{Graph}
-use Rattle.path_rows.specs.Rows.{bounds, types_at}
-use Rattle.path_rows.specs.Versions.{is_old}
+use Rattle.frame_rows.specs.Rows.{bounds, types_at}
+use Rattle.frame_rows.specs.Frames.{is_old}
 use Rattle.farkas_check.specs.Trees.{Tree}
 use Rattle.nested_predicates.specs.Walking.{is_bool, is_bool_at}
 use Rattle.nested_predicates.proofs.StampCounts.{types_counted, types_counted_at}

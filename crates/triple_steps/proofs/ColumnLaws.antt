@@ -7,7 +7,8 @@ use Rattle.boogie_tree.specs.declared.tree.VarInfo.{VarInfo}
 use Rattle.boogie_tree.specs.declared.tree.Column.{Column}
 use Rattle.boogie_tree.specs.declared.tree.Column.TheVariants.{Global, Old, Local}
 use Rattle.letter_acts.specs.Frames.{Columns, added, places, old_at, olds_from, olds_of}
-use Rattle.path_rows.specs.Versions.{columns_from, is_old}
+use Rattle.frame_rows.specs.Rows.{columns_from}
+use Rattle.frame_rows.specs.Frames.{is_old}
 use Rattle.triple_rows.specs.Systems.{is_listed}
 
 -- ---- columns in order

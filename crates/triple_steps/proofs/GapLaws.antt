@@ -3,7 +3,7 @@ use Rattle.std.proofs.Common.{◌≡◌, ◌∙◌, ℕ, zero, suc, ◌+◌, Boo
 use Rattle.std.specs.Prelude.{if◌then◌else◌}
 use Rattle.std.proofs.lemmas.List.{append-nil, length-map}
 use Rattle.letter_acts.specs.Invariant.{Graph}
-use Rattle.path_rows.specs.Versions.{columns_from}
+use Rattle.frame_rows.specs.Rows.{columns_from}
 use Rattle.farkas_check.specs.Trees.{leaf_tree}
 use Rattle.nested_refutations.specs.Refutations.{Role, spare, branch_row, View}
 use Rattle.nested_refutations.specs.Numbers.{spares, branch_rows}

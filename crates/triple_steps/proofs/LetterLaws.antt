@@ -2,7 +2,8 @@
 use Rattle.std.proofs.Common.{◌≡◌, ◌∙◌, ℕ, ◌+◌, Bool, List, [], ◌++◌, length, map, append_assoc, ap, subst}
 use Rattle.std.specs.Prelude.{if◌then◌else◌}
 use Rattle.letter_acts.specs.Frames.{Columns, is_local, places as frame_places, olds_of}
-use Rattle.path_rows.specs.Versions.{columns_from, is_old}
+use Rattle.frame_rows.specs.Rows.{columns_from}
+use Rattle.frame_rows.specs.Frames.{is_old}
 use Rattle.nested_refutations.specs.Refutations.{opposite_tie}
 use Rattle.nested_refutations.specs.Numbers.{branch_rows, callee_bounds, made_by_call}
 use Rattle.triple_steps.specs.declared.sections.Section.{Section}

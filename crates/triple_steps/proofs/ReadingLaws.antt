@@ -11,7 +11,7 @@ use Rattle.letter_acts.specs.Frames.{Columns, is_variable, variables_of}
 use Rattle.letter_acts.specs.Acts.{PlainAct, inside_act, call_act, back_act, kind_of, Alphabet, frame_of, act_of}
 use Rattle.letter_acts.specs.Invariant.{Graph, alphabet_of}
 use Rattle.letter_acts.proofs.KnownLemmas.{act_found}
-use Rattle.path_rows.specs.Rows.{bounds, types_of, types_at}
+use Rattle.frame_rows.specs.Rows.{bounds, types_of, types_at}
 use Rattle.path_rows.specs.Versions.{Stage, Part, rows_in, locals_of, old_part, inside_part, call_part, back_part, return_part, act_part, part_of}
 use Rattle.path_rows.specs.Paths.{start_frame}
 use Rattle.nested_predicates.proofs.StampCounts.{types_counted, types_counted_at, places_counted, entries_counted, return_rows}

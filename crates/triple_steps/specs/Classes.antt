@@ -3,7 +3,7 @@ use Rattle.std.specs.Prelude.{Bool}
 use Rattle.boogie_tree.specs.declared.tree.Column.{Column}
 use Rattle.boogie_tree.specs.declared.tree.VarInfo.{VarInfo}
 use Rattle.letter_acts.specs.Frames.{is_global, is_constant, is_variable, is_local, is_result}
-use Rattle.path_rows.specs.Versions.{is_old}
+use Rattle.frame_rows.specs.Frames.{is_old}
 use Rattle.triple_steps.specs.declared.classes.Class.{Class}
 use Rattle.triple_steps.specs.declared.classes.Class.TheVariants.{Global, Constant, Variable, Old, Local, Outcome}
 

@@ -7,7 +7,7 @@ use Rattle.lin_rows.specs.Rows.{LinearRow}
 use Rattle.letter_acts.specs.Frames.{Columns, is_variable}
 use Rattle.letter_acts.specs.Acts.{back_act, Alphabet, act_of}
 use Rattle.letter_acts.specs.Invariant.{Graph, alphabet_of, BackIsActedFrom}
-use Rattle.path_rows.specs.Rows.{bounds, types_at}
+use Rattle.frame_rows.specs.Rows.{bounds, types_at}
 use Rattle.path_rows.specs.Versions.{locals_of, old_part}
 use Rattle.path_rows.specs.Paths.{start_frame, first_stage}
 use Rattle.farkas_check.specs.Trees.{Tree}

@@ -3,7 +3,7 @@
 use Rattle.std.specs.Prelude.{◌≡◌, ℕ, ◌^◌, ◌<◌, true, false, List, [], ◌∷◌, ◌++◌, map, length, Some, slice_get}
 use Rattle.nwa_base.specs.declared.letters.Letter.{Letter}
 use Rattle.letter_acts.specs.Invariant.{Graph, alphabet_of}
-use Rattle.path_rows.specs.Versions.{columns_from}
+use Rattle.frame_rows.specs.Rows.{columns_from}
 use Rattle.farkas_check.specs.Trees.{Tree}
 use Rattle.nested_predicates.specs.Stamps.{stamps_of}
 use Rattle.nested_predicates.specs.Positions.{positions_of}

@@ -4,7 +4,7 @@ ghost use Rattle.std.specs.Prelude.{◌≡◌, ◌++◌, ◌∷◌, [], IfOk, On
 ghost use Rattle.nwa_base.specs.declared.letters.Letter.{Letter};
 ghost use Rattle.letter_acts.specs.Frames.{Columns};
 ghost use Rattle.letter_acts.specs.Invariant.{Graph};
-ghost use Rattle.path_rows.specs.Rows.{bounds, types_at};
+ghost use Rattle.frame_rows.specs.Rows.{bounds, types_at};
 ghost use Rattle.path_rows.specs.Versions.{locals_of, old_part};
 ghost use Rattle.farkas_check.specs.Trees.{Tree};
 ghost use Rattle.nested_refutations.specs.Refutations.{View};

@@ -1,7 +1,7 @@
 //! Where the columns of a word stand in the system of a letter's triple.
 
 ghost use Rattle.std.specs.Prelude.{◌≡◌, ◌++◌, ◌+◌, ◌<◌, ◌^◌, IfOk, OnOk, map};
-ghost use Rattle.path_rows.specs.Versions.{columns_from};
+ghost use Rattle.frame_rows.specs.Rows.{columns_from};
 
 use lin_rows::Col;
 use std::alloc::AllocError;

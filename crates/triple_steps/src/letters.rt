@@ -5,7 +5,7 @@ ghost use Rattle.nwa_base.specs.declared.letters.Letter.{Letter};
 ghost use Rattle.letter_acts.specs.Frames.{globals_of, constants_of, variables_of, results_of, olds_of};
 ghost use Rattle.letter_acts.specs.Invariant.{Graph, Take};
 ghost use Rattle.letter_acts.specs.Reading.{taken};
-ghost use Rattle.path_rows.specs.Rows.{bounds, types_at};
+ghost use Rattle.frame_rows.specs.Rows.{bounds, types_at};
 ghost use Rattle.path_rows.specs.Versions.{locals_of, old_part};
 ghost use Rattle.farkas_check.specs.Trees.{Tree};
 ghost use Rattle.triple_rows.specs.Systems.{is_listed};

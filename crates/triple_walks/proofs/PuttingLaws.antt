@@ -7,7 +7,7 @@ use Rattle.farkas_check.specs.Nodes.{PlainNode, leaf}
 use Rattle.farkas_check.specs.Trees.{Tree, leaf_tree}
 use Rattle.nwa_base.specs.declared.letters.Letter.{Letter}
 use Rattle.letter_acts.specs.Invariant.{Graph, alphabet_of}
-use Rattle.path_rows.specs.Versions.{columns_from}
+use Rattle.frame_rows.specs.Rows.{columns_from}
 use Rattle.nested_predicates.specs.Stamps.{stamps_of}
 use Rattle.nested_predicates.specs.Positions.{Position, positions_of}
 use Rattle.nested_predicates.specs.Sums.{Branch, root_of}

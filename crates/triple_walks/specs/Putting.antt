@@ -4,7 +4,7 @@ use Rattle.farkas_check.specs.Nodes.{PlainNode, leaf, cut, cases}
 use Rattle.farkas_check.specs.Trees.{Tree, prefix_of}
 use Rattle.nwa_base.specs.declared.letters.Letter.{Letter}
 use Rattle.letter_acts.specs.Invariant.{Graph, alphabet_of}
-use Rattle.path_rows.specs.Versions.{columns_from}
+use Rattle.frame_rows.specs.Rows.{columns_from}
 use Rattle.nested_predicates.specs.Sums.{root_of}
 use Rattle.nested_refutations.specs.Refutations.{Claim, Spot, truth_in, left_at, exposed, View, of_claim}
 use Rattle.nested_refutations.specs.Numbers.{Step}

@@ -1,7 +1,8 @@
 use Rattle.std.proofs.Common.{List, subst, IsTrue, ◌↔◌}
 use Rattle.farkas_check.specs.Nodes.{PlainNode}
 use Rattle.letter_acts.specs.Invariant.{alphabet_of}
-use Rattle.hoare_check.specs.Decided.{columns_of, AreCutsWithin}
+use Rattle.hoare_check.specs.Decided.{AreCutsWithin}
+use Rattle.triple_rows.specs.Cuts.{columns_of}
 use Rattle.hoare_check.proofs.cuts.are_cuts_within.Goals as goal
 
 pub returns : goal.returns

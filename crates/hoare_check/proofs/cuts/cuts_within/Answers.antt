@@ -1,6 +1,6 @@
 use Rattle.std.proofs.Common.{refl, sym, ◌∙◌}
 use Rattle.std.proofs.lemmas.Bool.{false≢true}
-use Rattle.hoare_check.specs.Decided.{IsCutWithin}
+use Rattle.triple_rows.specs.Cuts.{IsCutWithin}
 use Rattle.hoare_check.proofs.CutLaws.{node_more, node_all, node_at}
 use Rattle.hoare_check.proofs.cuts.cuts_within.Goals as goal
 

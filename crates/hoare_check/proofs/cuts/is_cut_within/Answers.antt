@@ -1,7 +1,7 @@
 use Rattle.std.proofs.Common.{sym, subst, IsTrue, ◌↔◌}
 use Rattle.farkas_check.specs.declared.refutations.Node.{Node}
 use Rattle.farkas_check.specs.Nodes.{plain}
-use Rattle.hoare_check.specs.Decided.{IsCutWithin}
+use Rattle.triple_rows.specs.Cuts.{IsCutWithin}
 use Rattle.hoare_check.proofs.cuts.is_cut_within.Goals as goal
 
 pub returns-in-Cut : goal.returns-in-Cut

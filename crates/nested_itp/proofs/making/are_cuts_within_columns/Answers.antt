@@ -1,6 +1,6 @@
 use Rattle.std.proofs.Common.{◌∙◌, refl, sym}
 use Rattle.std.proofs.lemmas.Bool.{false≢true}
-use Rattle.nested_refutations.specs.Cuts.{IsCutWithin}
+use Rattle.triple_rows.specs.Cuts.{IsCutWithin}
 use Rattle.nested_itp.proofs.CutLaws.{node_more, node_all, node_at}
 use Rattle.nested_itp.proofs.making.are_cuts_within_columns.Goals as goal
 

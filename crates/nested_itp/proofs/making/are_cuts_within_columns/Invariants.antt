@@ -1,7 +1,7 @@
 use Rattle.std.proofs.Common.{take}
 use Rattle.std.specs.List.{AllByRecursion}
 use Rattle.farkas_check.specs.Nodes.{plain_nodes}
-use Rattle.nested_refutations.specs.Cuts.{IsCutWithin}
+use Rattle.triple_rows.specs.Cuts.{IsCutWithin}
 use Rattle.nested_itp.proofs.making.are_cuts_within_columns.Given as goal
 
 abbrev pub invariant-loop-node : goal.invariant-loop-node

@@ -1,7 +1,7 @@
 use Rattle.std.proofs.Common.{◌≡◌, ◌+◌, ◌≤◌, length, drop}
 use Rattle.std.specs.Prelude.{filter}
 use Rattle.letter_acts.specs.Frames.{is_local}
-use Rattle.path_rows.specs.Versions.{is_old}
+use Rattle.frame_rows.specs.Frames.{is_old}
 use Rattle.told_choices.proofs.positions.entry_columns.Given as goal
 
 abbrev pub invariant-loop-column : goal.invariant-loop-column

@@ -7,7 +7,7 @@ use Rattle.std.proofs.lemmas.Int.{to_z-of_z}
 use Rattle.math_facts.specs.Fits.{Fits}
 use Rattle.lin_rows.specs.Points.{point_of}
 use Rattle.path_rows.specs.Solutions.{read}
-use Rattle.path_rows.specs.Versions.{columns_from}
+use Rattle.frame_rows.specs.Rows.{columns_from}
 use Rattle.std.specs.List.{AllByRecursion}
 use Rattle.std.proofs.Common.{subst}
 use Rattle.told_choices.proofs.Steps.{columns_more, all_snoc}

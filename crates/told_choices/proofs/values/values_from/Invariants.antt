@@ -3,7 +3,7 @@ use Rattle.std.specs.List.{AllByRecursion}
 use Rattle.math_facts.specs.Fits.{Fits}
 use Rattle.lin_rows.specs.Points.{point_of}
 use Rattle.path_rows.specs.Solutions.{read}
-use Rattle.path_rows.specs.Versions.{columns_from}
+use Rattle.frame_rows.specs.Rows.{columns_from}
 use Rattle.told_choices.proofs.values.values_from.Given as goal
 
 abbrev pub invariant-loop-i : goal.invariant-loop-i

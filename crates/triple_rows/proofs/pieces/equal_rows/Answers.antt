@@ -2,7 +2,7 @@ use Rattle.std.proofs.Common.{◌∙◌, ◌++◌, ◌∷◌, [], ℕ, List, map
 use Rattle.std.specs.Prelude.{slice_index}
 use Rattle.std.proofs.lemmas.List.{map_more}
 use Rattle.lin_rows.specs.Rows.{LinearRow}
-use Rattle.triple_rows.specs.Systems.{equal_row}
+use Rattle.frame_rows.specs.Rows.{equal_row}
 use Rattle.triple_rows.proofs.RowLists.{rows_pushed}
 use Rattle.triple_rows.proofs.pieces.equal_rows.Goals as goal
 

@@ -2,7 +2,8 @@ use Rattle.std.proofs.Common.{◌∙◌, ◌<◌, ℕ, List, length, sym, ap, su
 use Rattle.std.specs.Prelude.{map, slice_index, OnOk}
 use Rattle.std.specs.List.{AllByRecursion}
 use Rattle.lin_rows.specs.Rows.{LinearRow}
-use Rattle.triple_rows.specs.Systems.{PlainFits, only_rows, equal_row}
+use Rattle.triple_rows.specs.Systems.{PlainFits, only_rows}
+use Rattle.frame_rows.specs.Rows.{equal_row}
 use Rattle.triple_rows.specs.Drafts.{Adds}
 use Rattle.triple_rows.proofs.ListLaws.{all_mapped}
 use Rattle.triple_rows.proofs.PieceLaws.{doubled_ties}

@@ -1,5 +1,5 @@
 use Rattle.std.proofs.Common.{◌≡◌, ℕ, ◌+◌, length}
-use Rattle.path_rows.specs.Rows.{bounds, types_at}
+use Rattle.frame_rows.specs.Rows.{bounds, types_at}
 use Rattle.nested_predicates.proofs.BaseLaws.{if_ok}
 use Rattle.triple_steps.proofs.BoundLaws.{bounds_twice_at}
 use Rattle.triple_steps.proofs.bounds.bounds_at.Goals as goal

@@ -1,5 +1,5 @@
 use Rattle.std.proofs.Common.{◌≡◌, ◌++◌}
-use Rattle.path_rows.specs.Versions.{columns_from}
+use Rattle.frame_rows.specs.Rows.{columns_from}
 use Rattle.triple_steps.proofs.columns.add_columns.Given as goal
 
 abbrev pub invariant-loop-i : goal.invariant-loop-i

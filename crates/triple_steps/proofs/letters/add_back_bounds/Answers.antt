@@ -1,5 +1,5 @@
 use Rattle.std.proofs.Common.{◌≡◌, ◌∙◌, ◌++◌, ℕ, suc, List, length, refl, ap, arith}
-use Rattle.path_rows.specs.Rows.{bounds, types_at}
+use Rattle.frame_rows.specs.Rows.{bounds, types_at}
 use Rattle.nested_refutations.specs.Refutations.{Role}
 use Rattle.nested_refutations.specs.Numbers.{spares, bounds_in, before_bounds}
 use Rattle.triple_steps.specs.declared.sections.Section.{Section}

@@ -1,5 +1,5 @@
 use Rattle.std.proofs.Common.{◌≡◌, ◌∙◌, ◌+◌, ℕ, suc, length, refl, ap, arith}
-use Rattle.path_rows.specs.Rows.{bounds, types_at}
+use Rattle.frame_rows.specs.Rows.{bounds, types_at}
 use Rattle.nested_refutations.specs.Numbers.{branch_rows, before_bounds}
 use Rattle.triple_steps.specs.declared.sections.Section.TheVariants.{Rows}
 use Rattle.triple_steps.proofs.RoleLaws.{adds_section}

@@ -1,0 +1,3 @@
+pub mod RenamingLaws
+pub mod RowLaws
+pub mod LoopLaws

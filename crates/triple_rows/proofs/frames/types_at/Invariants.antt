@@ -1,6 +1,0 @@
-use Rattle.std.proofs.Common.{◌≡◌, take}
-use Rattle.triple_rows.specs.Systems.{types_at}
-use Rattle.triple_rows.proofs.frames.types_at.Given as goal
-
-abbrev pub invariant-loop-column : goal.invariant-loop-column
-invariant-loop-column l = l.types.items ≡ types_at l.frame (take l.column-index l.columns)

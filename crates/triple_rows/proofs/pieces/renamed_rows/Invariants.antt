@@ -1,9 +1,0 @@
-use Rattle.std.proofs.Common.{◌≡◌, map, take}
-use Rattle.std.specs.Prelude.{slice_index}
-use Rattle.std.specs.List.{AllByRecursion}
-use Rattle.lin_rows.specs.Rows.{IsRow}
-use Rattle.triple_rows.specs.Systems.{renamed}
-use Rattle.triple_rows.proofs.pieces.renamed_rows.Given as goal
-
-abbrev pub invariant-loop-row : goal.invariant-loop-row
-invariant-loop-row l = (l.made.items ≡ map (renamed (slice_index l.columns)) (take l.row-index l.rows)) × AllByRecursion IsRow l.made.items

@@ -1,0 +1,5 @@
+use Rattle.frame_rows.proofs.RenamingLaws.{no_sums_fit}
+use Rattle.triple_rows.proofs.rows.never.Goals as goal
+
+pub fitting_row-requires : goal.fitting_row-requires
+fitting_row-requires c = no_sums_fit
