@@ -16,7 +16,8 @@ use Rattle.cond_jumps.specs.Environments.{Environment}
 use Rattle.cond_jumps.specs.Frames.{frame_environment}
 use Rattle.cond_jumps.specs.Passing.{Numbered, standing_type, standing_sum, standing_plan, standing_environment, left_in, locals_of, imported}
 use Rattle.boogie_points.specs.Actions.{ensured_conditions}
-use Rattle.lowered_steps.specs.Edges.{is_in, those_in, those_not_in, found_from, import_written, typed_column, left_if, left_at, found_or_0, results_at, all_hold, import_environment, import_list}
+use Rattle.lowered_steps.specs.Edges.{those_in, those_not_in, found_from, import_written, typed_column, left_if, left_at, found_or_0, results_at, all_hold, import_environment, import_list}
+use Rattle.letter_acts.specs.Reading.{is_listed}
 use Rattle.call_jumps.specs.Reading.{Stand, read_by}
 use Rattle.call_jumps.specs.Readings.{IsNumbered, StandsFor, AllStand}
 use Rattle.call_jumps.specs.Stands.{or_nothing, argument_stand, left_stand, ensures_stand, result_stand}
@@ -30,29 +31,29 @@ use Rattle.call_jumps.proofs.StandLemmas.{nothing_stands, numbered_stands, place
 
 -- ---- written columns
 
-in_others : (ms ts : List ℕ) (t : ℕ) → is_in ms t ≡ false → is_in ts t ≡ true → is_in (those_not_in ms ts) t ≡ true
+in_others : (ms ts : List ℕ) (t : ℕ) → is_listed ms t ≡ false → is_listed ts t ≡ true → is_listed (those_not_in ms ts) t ≡ true
 in_others ms [] t h k = k
 in_others ms (s ∷ ts) t h k = by_test (nat_eq s t) refl (λ e. in_others ms ts t h e) k
   where
-    kept : (b : Bool) → is_in (those_not_in ms ts) t ≡ true → is_in (cond b (s ∷ those_not_in ms ts) (those_not_in ms ts)) t ≡ true
+    kept : (b : Bool) → is_listed (those_not_in ms ts) t ≡ true → is_listed (cond b (s ∷ those_not_in ms ts) (those_not_in ms ts)) t ≡ true
     kept true e = by_name (nat_eq s t) e
       where
-        by_name : (b : Bool) → is_in (those_not_in ms ts) t ≡ true → (b || is_in (those_not_in ms ts) t) ≡ true
+        by_name : (b : Bool) → is_listed (those_not_in ms ts) t ≡ true → (b || is_listed (those_not_in ms ts) t) ≡ true
         by_name true e = refl
         by_name false e = e
     kept false e = e
 
-    by_test : (b : Bool) → nat_eq s t ≡ b → (is_in ts t ≡ true → is_in (those_not_in ms ts) t ≡ true) → (b || is_in ts t) ≡ true → is_in (cond (not (is_in ms s)) (s ∷ those_not_in ms ts) (those_not_in ms ts)) t ≡ true
+    by_test : (b : Bool) → nat_eq s t ≡ b → (is_listed ts t ≡ true → is_listed (those_not_in ms ts) t ≡ true) → (b || is_listed ts t) ≡ true → is_listed (cond (not (is_listed ms s)) (s ∷ those_not_in ms ts) (those_not_in ms ts)) t ≡ true
     by_test true e r i =
-        let f : is_in ms s ≡ false = (λ j. is_in ms (eqb-true s t e j)) ∙ h in
-        (λ j. is_in (cond (not (f j)) (s ∷ those_not_in ms ts) (those_not_in ms ts)) t) ∙ (λ j. e j || is_in (those_not_in ms ts) t)
-    by_test false e r i = kept (not (is_in ms s)) (r i)
+        let f : is_listed ms s ≡ false = (λ j. is_listed ms (eqb-true s t e j)) ∙ h in
+        (λ j. is_listed (cond (not (f j)) (s ∷ those_not_in ms ts) (those_not_in ms ts)) t) ∙ (λ j. e j || is_listed (those_not_in ms ts) t)
+    by_test false e r i = kept (not (is_listed ms s)) (r i)
 
 -- each target is written
-target_written : (ms ts : List ℕ) (t : ℕ) → is_in ts t ≡ true → is_in (import_written ms ts) t ≡ true
-target_written ms ts t h = by_test (is_in ms t) refl
+target_written : (ms ts : List ℕ) (t : ℕ) → is_listed ts t ≡ true → is_listed (import_written ms ts) t ≡ true
+target_written ms ts t h = by_test (is_listed ms t) refl
   where
-    by_test : (b : Bool) → is_in ms t ≡ b → is_in (import_written ms ts) t ≡ true
+    by_test : (b : Bool) → is_listed ms t ≡ b → is_listed (import_written ms ts) t ≡ true
     by_test true e = in_append ms (those_not_in ms ts) t (inl e)
     by_test false e = in_append ms (those_not_in ms ts) t (inr (in_others ms ts t e h))
 
@@ -60,24 +61,24 @@ target_written ms ts t h = by_test (is_in ms t) refl
 abbrev pub AreBelow : ℕ → List (ℕ × Ty) → Type 0
 AreBelow w rs = AllByRecursion (λ r. r.0 < w) rs
 
-result_below : (w base : ℕ) (written : List ℕ) (t : ℕ) → base + length written ≤ w → is_in written t ≡ true → base + found_or_0 (found_from 0 written t) < w
+result_below : (w base : ℕ) (written : List ℕ) (t : ℕ) → base + length written ≤ w → is_listed written t ≡ true → base + found_or_0 (found_from 0 written t) < w
 result_below w base written t l h =
     let f = found_where_in 0 written t h in
     let g = found_inside 0 written t f.0 f.1 in
     let e : base + found_or_0 (found_from 0 written t) ≡ base + f.0 = (λ j. base + found_or_0 (f.1 j)) in
     omega (arith, e, g)
 
-results_below : (w base : ℕ) (written targets : List ℕ) (vs : List VarInfo) → base + length written ≤ w → ((t : ℕ) → is_in targets t ≡ true → is_in written t ≡ true) →
+results_below : (w base : ℕ) (written targets : List ℕ) (vs : List VarInfo) → base + length written ≤ w → ((t : ℕ) → is_listed targets t ≡ true → is_listed written t ≡ true) →
     AreBelow w (results_at base written targets vs)
 results_below w base written [] vs l h = tt
 results_below w base written (t ∷ ts) [] l h = tt
 results_below w base written (t ∷ ts) (v ∷ vs) l h =
-    (result_below w base written t l (h t (first (nat_eq t t) (same_number t))), results_below w base written ts vs l (λ s k. h s (later (nat_eq t s) (is_in ts s) k)))
+    (result_below w base written t l (h t (first (nat_eq t t) (same_number t))), results_below w base written ts vs l (λ s k. h s (later (nat_eq t s) (is_listed ts s) k)))
   where
     same_number : (n : ℕ) → nat_eq n n ≡ true
     same_number n = grind (arith, nat_tests)
 
-    first : (b : Bool) → b ≡ true → (b || is_in ts t) ≡ true
+    first : (b : Bool) → b ≡ true → (b || is_listed ts t) ≡ true
     first true e = refl
     first false e = absurd (cc)
 

@@ -5,7 +5,8 @@ use Rattle.std.proofs.Math.Seq.{drop-cons}
 use Rattle.std.specs.Option.{option_map}
 use Rattle.boogie_tree.specs.declared.tree.Ty.{Ty}
 use Rattle.boogie_tree.specs.declared.tree.VarInfo.{VarInfo}
-use Rattle.lowered_steps.specs.Edges.{is_in, found_from, typed_column, left_if, result_at, results_at}
+use Rattle.lowered_steps.specs.Edges.{found_from, typed_column, left_if, result_at, results_at}
+use Rattle.letter_acts.specs.Reading.{is_listed}
 use Rattle.call_jumps.specs.Stands.{left_column}
 
 -- a place counted from k on
@@ -33,30 +34,30 @@ found_inside k (m ∷ ms) n i h = by_test (nat_eq m n) (λ e. found_inside (suc 
     by_test false r e = let g = r e in (omega arith, omega arith)
 
 -- a number that stands in a list has a place there
-pub found_where_in : (k : ℕ) (ms : List ℕ) (n : ℕ) → is_in ms n ≡ true → (i : ℕ) × (found_from k ms n ≡ Some i)
+pub found_where_in : (k : ℕ) (ms : List ℕ) (n : ℕ) → is_listed ms n ≡ true → (i : ℕ) × (found_from k ms n ≡ Some i)
 found_where_in k [] n h = absurd (cc)
 found_where_in k (m ∷ ms) n h = by_test (nat_eq m n) (λ e. found_where_in (suc k) ms n e) h
   where
-    by_test : (b : Bool) → (is_in ms n ≡ true → (i : ℕ) × (found_from (suc k) ms n ≡ Some i)) → (b || is_in ms n) ≡ true →
+    by_test : (b : Bool) → (is_listed ms n ≡ true → (i : ℕ) × (found_from (suc k) ms n ≡ Some i)) → (b || is_listed ms n) ≡ true →
         (i : ℕ) × ((if b then Some k else found_from (suc k) ms n) ≡ Some i)
     by_test true r e = (k, refl)
     by_test false r e = r e
 
-pub in_append : (ms ns : List ℕ) (n : ℕ) → (is_in ms n ≡ true) ⊎ (is_in ns n ≡ true) → is_in (ms ++ ns) n ≡ true
+pub in_append : (ms ns : List ℕ) (n : ℕ) → (is_listed ms n ≡ true) ⊎ (is_listed ns n ≡ true) → is_listed (ms ++ ns) n ≡ true
 in_append [] ns n (inl h) = absurd (cc)
 in_append [] ns n (inr h) = h
 in_append (m ∷ ms) ns n h = by_test (nat_eq m n) (λ e. in_append ms ns n e) h
   where
-    by_test : (b : Bool) → ((is_in ms n ≡ true) ⊎ (is_in ns n ≡ true) → is_in (ms ++ ns) n ≡ true) → ((b || is_in ms n) ≡ true) ⊎ (is_in ns n ≡ true) → (b || is_in (ms ++ ns) n) ≡ true
+    by_test : (b : Bool) → ((is_listed ms n ≡ true) ⊎ (is_listed ns n ≡ true) → is_listed (ms ++ ns) n ≡ true) → ((b || is_listed ms n) ≡ true) ⊎ (is_listed ns n ≡ true) → (b || is_listed (ms ++ ns) n) ≡ true
     by_test true r e = refl
     by_test false r e = r e
 
 -- a number stands in a list where it has a place there
-pub in_where_found : (k : ℕ) (ms : List ℕ) (n : ℕ) → is_in ms n ≡ is_some (found_from k ms n)
+pub in_where_found : (k : ℕ) (ms : List ℕ) (n : ℕ) → is_listed ms n ≡ is_some (found_from k ms n)
 in_where_found k [] n = refl
 in_where_found k (m ∷ ms) n = by_test (nat_eq m n) (in_where_found (suc k) ms n)
   where
-    by_test : (b : Bool) → is_in ms n ≡ is_some (found_from (suc k) ms n) → (b || is_in ms n) ≡ is_some (if b then Some k else found_from (suc k) ms n)
+    by_test : (b : Bool) → is_listed ms n ≡ is_some (found_from (suc k) ms n) → (b || is_listed ms n) ≡ is_some (if b then Some k else found_from (suc k) ms n)
     by_test true r = refl
     by_test false r = r
 

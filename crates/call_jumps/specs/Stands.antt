@@ -1,6 +1,5 @@
 -- What stands for the columns of conditions: those of a frame, and those of a procedure that is called from it.
 use Rattle.std.specs.Prelude.{ℕ, ◌+◌, pos, false, List, map, Option, None, Some, slice_get}
-use Rattle.boogie_tree.specs.declared.span.Span.{Span}
 use Rattle.boogie_tree.specs.declared.tree.Ty.{Ty}
 use Rattle.boogie_tree.specs.declared.tree.Column.{Column}
 use Rattle.boogie_tree.specs.declared.tree.Column.TheVariants as columns
@@ -11,6 +10,7 @@ use Rattle.letter_acts.specs.Frames.{Columns}
 use Rattle.cond_jumps.specs.Environments.{type_in}
 use Rattle.cond_jumps.specs.Frames.{place, frame_environment}
 use Rattle.lowered_steps.specs.Edges.{left_if, found_from}
+use Rattle.boogie_tree.specs.Apart.{nowhere}
 use Rattle.call_jumps.specs.declared.standing.Standing.{Standing}
 use Rattle.call_jumps.specs.declared.reader.Reader.{Reader}
 use Rattle.call_jumps.specs.declared.reader.Reader.TheVariants as readers
@@ -20,14 +20,11 @@ use Rattle.call_jumps.specs.Reading.{Stand, read_by}
 abbrev pub stand_of : Standing → Stand
 stand_of s = record { expression = expression s.expr; type = s.ty }
 
-abbrev pub no_span : Span
-no_span = record { line = 0; col = 0 }
-
 abbrev pub nothing : Stand
-nothing = record { expression = Lit no_span (pos 0); type = None }
+nothing = record { expression = Lit nowhere (pos 0); type = None }
 
 abbrev pub numbered : ℕ → Ty → Stand
-numbered n t = record { expression = Var no_span (columns.Local n); type = Some t }
+numbered n t = record { expression = Var nowhere (columns.Local n); type = Some t }
 
 -- the column at a place, or nothing
 abbrev pub place_stand : Option (ℕ × VarInfo) → Stand

@@ -1,7 +1,8 @@
 //! Where a call without body leaves the globals that it modifies.
 
 ghost use Rattle.std.specs.Prelude.{◌≡◌, ◌+◌, IfOk};
-ghost use Rattle.lowered_steps.specs.Edges.{is_in, those_in, those_not_in, found_from, import_written};
+ghost use Rattle.lowered_steps.specs.Edges.{those_in, those_not_in, found_from, import_written};
+ghost use Rattle.letter_acts.specs.Reading.{is_listed};
 ghost use Rattle.call_jumps.specs.Stands.{left_by, left_column};
 
 use boogie_tree::{Ty, VarInfo};
@@ -73,7 +74,7 @@ impl Written<'_> {
 
 /// Whether a number stands in a list.
 fn is_in(list: &[u32], number: u32) -> bool
-    ensures { result ≡ is_in list.now number }
+    ensures { result ≡ is_listed list.now number }
 {
     found(list, number).is_some()
 }

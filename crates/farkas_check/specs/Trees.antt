@@ -1,5 +1,5 @@
 -- Refutations as trees: the prefix list of one, and when one refutes a goal, by cases on the tree.
-use Rattle.std.specs.Prelude.{◌≡◌, ℕ, suc, ℤ, List, [], ◌∷◌, ◌++◌}
+use Rattle.std.specs.Prelude.{◌≡◌, ℕ, suc, max, ℤ, List, [], ◌∷◌, ◌++◌}
 use Rattle.math_facts.specs.Fits.{Fits}
 use Rattle.lin_rows.specs.Negating.{below_opposite}
 use Rattle.lin_rows.specs.Combinations.{Contradicts}
@@ -21,6 +21,17 @@ mutual
 abbrev pub tree_count : Trees → ℕ
 tree_count no_tree = 0
 tree_count (one_more t ts) = suc (tree_count ts)
+
+-- how many cuts lie on the branch of a tree that has most
+abbrev mutual
+  pub cuts_on_branch : Tree → ℕ
+  cuts_on_branch (leaf_tree parts) = 0
+  cuts_on_branch (cut_tree c k t u) = suc (max (cuts_on_branch t) (cuts_on_branch u))
+  cuts_on_branch (cases_tree ts) = most_cuts ts
+
+  pub most_cuts : Trees → ℕ
+  most_cuts no_tree = 0
+  most_cuts (one_more t ts) = max (cuts_on_branch t) (most_cuts ts)
 
 -- each node before the trees below it, in order
 abbrev mutual

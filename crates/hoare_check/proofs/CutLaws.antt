@@ -4,8 +4,8 @@ use Rattle.std.specs.List.{AllByRecursion}
 use Rattle.std.proofs.lemmas.List.{take_more, take_all}
 use Rattle.farkas_check.specs.declared.refutations.Node.{Node}
 use Rattle.farkas_check.specs.Nodes.{PlainNode, plain, plain_nodes}
-use Rattle.farkas_check.specs.Trees.{Tree, Trees, leaf_tree, cut_tree, cases_tree, no_tree, one_more, prefix_of, prefixes_of}
-use Rattle.int_decide.specs.Worth.{cuts_of, most_cuts, IsTreeOf}
+use Rattle.farkas_check.specs.Trees.{Tree, Trees, leaf_tree, cut_tree, cases_tree, no_tree, one_more, prefix_of, prefixes_of, cuts_on_branch, most_cuts}
+use Rattle.int_decide.specs.Worth.{IsTreeOf}
 use Rattle.triple_rows.specs.Cuts.{IsCutWithin}
 
 -- ---- lists of nodes
@@ -40,7 +40,7 @@ all_append P [] ys h k = k
 all_append P (x ∷ xs) ys h k = (h.0, all_append P xs ys h.1 k)
 
 mutual
-  tree_uncut : (n : ℕ) (t : Tree) → cuts_of t ≤ 0 → AllByRecursion (IsCutWithin n) (prefix_of t)
+  tree_uncut : (n : ℕ) (t : Tree) → cuts_on_branch t ≤ 0 → AllByRecursion (IsCutWithin n) (prefix_of t)
   tree_uncut n (leaf_tree parts) h = (tt, tt)
   tree_uncut n (cut_tree c k t u) h = absurd (omega arith)
   tree_uncut n (cases_tree ts) h = (tt, trees_uncut n ts h)
@@ -48,7 +48,7 @@ mutual
   trees_uncut : (n : ℕ) (ts : Trees) → most_cuts ts ≤ 0 → AllByRecursion (IsCutWithin n) (prefixes_of ts)
   trees_uncut n no_tree h = tt
   trees_uncut n (one_more t ts) h =
-      let first : cuts_of t ≤ 0 = omega arith in
+      let first : cuts_on_branch t ≤ 0 = omega arith in
       let others : most_cuts ts ≤ 0 = omega arith in
       all_append (IsCutWithin n) (prefix_of t) (prefixes_of ts) (tree_uncut n t first) (trees_uncut n ts others)
 

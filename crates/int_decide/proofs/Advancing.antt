@@ -16,7 +16,8 @@ use Rattle.fm_elim.specs.Worth.{Combines, IsWorth, ColumnsBelow}
 use Rattle.fm_elim.proofs.Lists.{all_append, all_parts, all_map}
 use Rattle.fm_elim.proofs.Inputs.{IsBelow-tightened}
 use Rattle.int_decide.specs.Decisions.{Decision, refuted, whole, gap, beside, all_beside, under, UnlessWhole}
-use Rattle.int_decide.specs.Decide.{first_broken, floor_of, decide_rows, decide_groups}
+use Rattle.int_decide.specs.Decide.{first_broken, decide_rows, decide_groups}
+use Rattle.fm_elim.specs.Quotients.{floor}
 use Rattle.int_decide.specs.Numbers.{EachUntilWhole, RowsFit, GroupsFit, LeavesFit}
 use Rattle.int_decide.specs.Sizes.{total, over_groups, group_count, extent, AllMembers, SystemBelow}
 use Rattle.int_decide.specs.Searching.{Task, Standing, opened, sides, after_broken, after_values, after_outcome, after_cases, after_groups, values_if, whole_outcome, whole_groups, StaysTight, IsReady, found_by, decide_task, TaskFits, goals_of, SomeMet, IsSound, steps_left}
@@ -125,7 +126,7 @@ advance_leaf n left rows s parts e f c =
 -- ---- a gap
 
 advance_gap : (n : ℕ) (rows : List LinearRow) (s : Standing) (values : List Fraction) (x : ℕ × Fraction) → outcome.elimination n rows ≡ outcome.point values → first_broken 0 values ≡ Some x →
-    outcome.EliminationFits n rows → Advances n (task zero rows []) s (after_broken zero (record { rows = rows; groups = [] }) s x.0 (floor_of x.1))
+    outcome.EliminationFits n rows → Advances n (task zero rows []) s (after_broken zero (record { rows = rows; groups = [] }) s x.0 (floor x.1))
 advance_gap n rows s values x e b f =
     let q : decide_rows n zero rows ≡ gap = rows_at n zero rows values (Some x) e b in
     let rest : Decision = all_decided n s.tasks in
@@ -156,10 +157,10 @@ side_ready n left rows r h b t =
 
 advance_cut : (n left : ℕ) (rows : List LinearRow) (s : Standing) (values : List Fraction) (x : ℕ × Fraction) → outcome.elimination n rows ≡ outcome.point values → first_broken 0 values ≡ Some x →
     outcome.EliminationFits n rows → x.0 < n → IsReady n (task (suc left) rows []) →
-    Advances n (task (suc left) rows []) s (after_broken (suc left) (record { rows = rows; groups = [] }) s x.0 (floor_of x.1))
+    Advances n (task (suc left) rows []) s (after_broken (suc left) (record { rows = rows; groups = [] }) s x.0 (floor x.1))
 advance_cut n left rows s values x e b f l r =
     let c : ℕ = x.0 in
-    let k : ℤ = floor_of x.1 in
+    let k : ℤ = floor x.1 in
     let first : Decision = decide_rows n left (rows ++ at_most c k ∷ []) in
     let second : Decision = decide_rows n left (rows ++ above c k ∷ []) in
     let q : decide_rows n (suc left) rows ≡ under (cut c k) (beside first second) = rows_at n (suc left) rows values (Some x) e b in
@@ -191,9 +192,9 @@ advance_cut n left rows s values x e b f l r =
       fewer = omega arith;
     }
   where
-    cut_met : (point : ℕ → ℤ) → SomeMet point (sides left (record { rows = rows; groups = [] }) x.0 (floor_of x.1) ++ s.tasks) → SomeMet point (task (suc left) rows [] ∷ s.tasks)
-    cut_met point (inl h) = inl ((all_parts (Holds point) rows (at_most x.0 (floor_of x.1) ∷ []) h.0).0, h.1)
-    cut_met point (inr (inl h)) = inl ((all_parts (Holds point) rows (above x.0 (floor_of x.1) ∷ []) h.0).0, h.1)
+    cut_met : (point : ℕ → ℤ) → SomeMet point (sides left (record { rows = rows; groups = [] }) x.0 (floor x.1) ++ s.tasks) → SomeMet point (task (suc left) rows [] ∷ s.tasks)
+    cut_met point (inl h) = inl ((all_parts (Holds point) rows (at_most x.0 (floor x.1) ∷ []) h.0).0, h.1)
+    cut_met point (inr (inl h)) = inl ((all_parts (Holds point) rows (above x.0 (floor x.1) ∷ []) h.0).0, h.1)
     cut_met point (inr (inr h)) = inr h
 
 -- ---- cases

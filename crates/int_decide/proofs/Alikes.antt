@@ -15,7 +15,8 @@ use Rattle.fm_elim.specs.Worth.{MeetsAll}
 use Rattle.fm_elim.proofs.Lists.{all_append, all_parts}
 use Rattle.int_decide.specs.declared.search.Search.{Search}
 use Rattle.int_decide.specs.Decisions.{Decision, refuted, whole, gap, beside, under}
-use Rattle.int_decide.specs.Decide.{first_broken, floor_of, by_values, by_outcome, decide_rows, decide}
+use Rattle.int_decide.specs.Decide.{first_broken, by_values, by_outcome, decide_rows, decide}
+use Rattle.fm_elim.specs.Quotients.{floor}
 use Rattle.int_decide.specs.Sizes.{extent, SystemBelow}
 use Rattle.int_decide.specs.Worth.{point_of}
 use Rattle.int_decide.specs.Searching.{Task, Standing, standing_of, cut_at, sides, after_broken, after_values, after_outcome, values_if, whole_outcome, StaysTight, IsReady, found_by, decide_task, SomeMet, Takes, TakesNone, IsPoint}
@@ -88,7 +89,7 @@ by_values_alike broken own values None None e f = let s : map (λ (g : Fraction)
 by_values_alike broken own values None (Some y) e f = absurd (let z : ⊥ = cc in z)
 by_values_alike broken own values (Some x) None e f = absurd (let z : ⊥ = cc in z)
 by_values_alike broken own values (Some x) (Some y) e f =
-    let s : (x.0, floor_of x.1) ≡ (y.0, floor_of y.1) = cc in ap (λ (p : ℕ × ℤ). broken p.0 p.1) s
+    let s : (x.0, floor x.1) ≡ (y.0, floor y.1) = cc in ap (λ (p : ℕ × ℤ). broken p.0 p.1) s
 
 by_outcome_alike : (broken : ℕ → ℤ → Decision) (o p : outcome.Outcome) → AreAlike o p → bare (by_outcome broken o) ≡ bare (by_outcome broken p)
 by_outcome_alike broken (outcome.refuted own) (outcome.refuted parts) h = refl
@@ -124,7 +125,7 @@ carries_leaf n left rows s parts h =
     }
 
 carries_gap : (n : ℕ) (rows : List LinearRow) (s : Standing) (x : ℕ × Fraction) → bare (decide_rows n zero rows) ≡ gap →
-    CarriesOn n (task zero rows []) s (after_broken zero (record { rows = rows; groups = [] }) s x.0 (floor_of x.1))
+    CarriesOn n (task zero rows []) s (after_broken zero (record { rows = rows; groups = [] }) s x.0 (floor x.1))
 carries_gap n rows s x h =
     let f : Decision = found_by s.gap s.nodes in
     let rest : Decision = all_decided n s.tasks in
@@ -146,11 +147,11 @@ side_is_ready n left rows r h b t =
     }
 
 carries_cut : (n left : ℕ) (rows : List LinearRow) (s : Standing) (x : ℕ × Fraction) →
-    bare (decide_rows n (suc left) rows) ≡ bare (broken_of n (suc left) rows x.0 (floor_of x.1)) → x.0 < n → IsReady n (task (suc left) rows []) →
-    CarriesOn n (task (suc left) rows []) s (after_broken (suc left) (record { rows = rows; groups = [] }) s x.0 (floor_of x.1))
+    bare (decide_rows n (suc left) rows) ≡ bare (broken_of n (suc left) rows x.0 (floor x.1)) → x.0 < n → IsReady n (task (suc left) rows []) →
+    CarriesOn n (task (suc left) rows []) s (after_broken (suc left) (record { rows = rows; groups = [] }) s x.0 (floor x.1))
 carries_cut n left rows s x h l r =
     let c : ℕ = x.0 in
-    let k : ℤ = floor_of x.1 in
+    let k : ℤ = floor x.1 in
     let f : Decision = found_by s.gap s.nodes in
     let first : Decision = decide_rows n left (rows ++ at_most c k ∷ []) in
     let second : Decision = decide_rows n left (rows ++ above c k ∷ []) in
@@ -164,9 +165,9 @@ carries_cut n left rows s x h l r =
       met = λ point. cut_met point;
     }
   where
-    cut_met : (point : ℕ → ℤ) → SomeMet point (sides left (record { rows = rows; groups = [] }) x.0 (floor_of x.1) ++ s.tasks) → SomeMet point (task (suc left) rows [] ∷ s.tasks)
-    cut_met point (inl h) = inl ((all_parts (Holds point) rows (at_most x.0 (floor_of x.1) ∷ []) h.0).0, h.1)
-    cut_met point (inr (inl h)) = inl ((all_parts (Holds point) rows (above x.0 (floor_of x.1) ∷ []) h.0).0, h.1)
+    cut_met : (point : ℕ → ℤ) → SomeMet point (sides left (record { rows = rows; groups = [] }) x.0 (floor x.1) ++ s.tasks) → SomeMet point (task (suc left) rows [] ∷ s.tasks)
+    cut_met point (inl h) = inl ((all_parts (Holds point) rows (at_most x.0 (floor x.1) ∷ []) h.0).0, h.1)
+    cut_met point (inr (inl h)) = inl ((all_parts (Holds point) rows (above x.0 (floor x.1) ∷ []) h.0).0, h.1)
     cut_met point (inr (inr h)) = inr h
 
 values_carry : (n left : ℕ) (rows : List LinearRow) (s : Standing) (values : List Fraction) (x : Option (ℕ × Fraction)) → first_broken 0 values ≡ x →

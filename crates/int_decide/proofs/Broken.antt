@@ -8,7 +8,8 @@ use Rattle.std.proofs.lemmas.List.{drop_more}
 use Rattle.math_facts.proofs.Division.{floor_below, floor_above}
 use Rattle.math_facts.proofs.Whole.{product_comm, product_one_right, distrib_left, cancel_strict}
 use Rattle.frac.specs.Fractions.{Fraction, IsFraction}
-use Rattle.int_decide.specs.Decide.{first_broken, floor_of}
+use Rattle.int_decide.specs.Decide.{first_broken}
+use Rattle.fm_elim.specs.Quotients.{floor}
 use Rattle.int_decide.specs.Searching.{cut_at}
 
 -- the greatest whole number that is not above z/d
@@ -40,5 +41,5 @@ broken_here values i column f k l e c b n v m h =
     let a : drop i values ≡ get_or values i f ∷ drop (i + 1) values = drop_more values i f l in
     let g : drop i values ≡ f ∷ drop (i + 1) values = a ∙ ap (λ (x : Fraction). x ∷ drop (i + 1) values) (sym e) in
     let o : first_broken 0 values ≡ Some (i, f) = sym b ∙ ap (first_broken i) g ∙ broken_front i f (drop (i + 1) values) (not_one f v n) in
-    let z : k ≡ floor_of f = floor_is f.num f.den k v.lowest.positive m h in
+    let z : k ≡ floor f = floor_is f.num f.den k v.lowest.positive m h in
     (λ j. Some (c j, z j)) ∙ sym (ap cut_at o)

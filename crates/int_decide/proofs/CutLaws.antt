@@ -7,22 +7,21 @@ use Rattle.farkas_check.specs.declared.refutations.Node.{Node}
 use Rattle.farkas_check.specs.Nodes.{PlainNode, cases, plain, plain_nodes}
 use Rattle.farkas_check.proofs.NodeLaws.{plain_from, plain_none}
 use Rattle.farkas_check.specs.Refutes.{Refutes}
-use Rattle.farkas_check.specs.Trees.{Tree, leaf_tree, cut_tree, cases_tree, Trees, no_tree, one_more, tree_count, prefix_of, prefixes_of, IsPrefixList}
+use Rattle.farkas_check.specs.Trees.{Tree, leaf_tree, cut_tree, cases_tree, Trees, no_tree, one_more, tree_count, prefix_of, prefixes_of, IsPrefixList, cuts_on_branch, most_cuts}
 use Rattle.int_decide.specs.Answers.{RefutesWithin}
 use Rattle.int_decide.specs.CutCounts.{after_node, is_no_tree, goes_on, have_few_cuts}
-use Rattle.int_decide.specs.Worth.{cuts_of, most_cuts}
 
 mutual
   tree_cuts : (t : Tree) (l : ℕ) (ls : List ℕ) (ns : List PlainNode) → have_few_cuts (l ∷ ls) (prefix_of t ++ ns) ≡ true →
-      (cuts_of t ≤ l) × (have_few_cuts ls ns ≡ true)
+      (cuts_on_branch t ≤ l) × (have_few_cuts ls ns ≡ true)
   tree_cuts (leaf_tree parts) l ls ns h = (omega arith, h)
   tree_cuts (cut_tree c k t u) zero ls ns h = absurd (false≢true h)
   tree_cuts (cut_tree c k t u) (suc l) ls ns h =
       let a : (prefix_of t ++ prefix_of u) ++ ns ≡ prefix_of t ++ (prefix_of u ++ ns) = append_assoc (prefix_of t) (prefix_of u) ns in
       let first = tree_cuts t l (l ∷ ls) (prefix_of u ++ ns) (subst (λ (x : List PlainNode). have_few_cuts (l ∷ l ∷ ls) x ≡ true) a h) in
       let second = tree_cuts u l ls ns first.1 in
-      let p : cuts_of t ≤ l = first.0 in
-      let q : cuts_of u ≤ l = second.0 in
+      let p : cuts_on_branch t ≤ l = first.0 in
+      let q : cuts_on_branch u ≤ l = second.0 in
       (omega (arith, p, q), second.1)
   tree_cuts (cases_tree ts) l ls ns h = trees_cuts ts l ls ns h
 
@@ -34,7 +33,7 @@ mutual
       let first = tree_cuts t l (replicate (tree_count ts) l ++ ls) (prefixes_of ts ++ ns)
       (subst (λ (x : List PlainNode). have_few_cuts (l ∷ replicate (tree_count ts) l ++ ls) x ≡ true) a h) in
       let others = trees_cuts ts l ls ns first.1 in
-      let p : cuts_of t ≤ l = first.0 in
+      let p : cuts_on_branch t ≤ l = first.0 in
       let q : most_cuts ts ≤ l = others.0 in
       (omega (arith, p, q), others.1)
 

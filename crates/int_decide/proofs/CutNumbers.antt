@@ -7,7 +7,7 @@ use Rattle.std.proofs.lemmas.Int.{ints}
 use Rattle.math_facts.specs.Fits.{Fits}
 use Rattle.frac.specs.Fractions.{Fraction, IsFraction}
 use Rattle.lin_rows.specs.Negating.{below_opposite}
-use Rattle.int_decide.specs.Decide.{floor_of}
+use Rattle.fm_elim.specs.Quotients.{floor}
 
 cut_numbers : (z d : ℤ) → Fits z → pos 0 <ℤ d → (unsigned_abs d ≡ 1 → ⊥) → Fits (int_div_euclid z d) × Fits (below_opposite (int_div_euclid z d))
 cut_numbers z (negsuc d) f p n = absurd (omega (arith, ints))
@@ -33,5 +33,5 @@ cut_numbers (negsuc a) (pos (suc (suc d))) f p n =
     (g, i)
 
 -- the greatest whole number below the value, and one less than its opposite
-pub cut_numbers_fit : (f : Fraction) → IsFraction f → (unsigned_abs f.den ≡ 1 → ⊥) → Fits (floor_of f) × Fits (below_opposite (floor_of f))
+pub cut_numbers_fit : (f : Fraction) → IsFraction f → (unsigned_abs f.den ≡ 1 → ⊥) → Fits (floor f) × Fits (below_opposite (floor f))
 cut_numbers_fit f v n = cut_numbers f.num f.den v.num_fits v.lowest.positive n

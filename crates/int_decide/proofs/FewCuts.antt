@@ -9,7 +9,8 @@ use Rattle.farkas_check.specs.Nodes.{PlainNode, cut, cases}
 use Rattle.farkas_check.specs.Refutes.{at_most, above}
 use Rattle.fm_elim.specs.Elimination as outcome
 use Rattle.int_decide.specs.Decisions.{Decision, refuted, whole, gap, beside, all_beside, under}
-use Rattle.int_decide.specs.Decide.{first_broken, floor_of, by_values, by_outcome, decide_rows, decide_groups, decide}
+use Rattle.int_decide.specs.Decide.{first_broken, by_values, by_outcome, decide_rows, decide_groups, decide}
+use Rattle.fm_elim.specs.Quotients.{floor}
 use Rattle.int_decide.specs.Sizes.{group_count}
 use Rattle.int_decide.specs.Worth.{IsTreeOf}
 use Rattle.int_decide.proofs.Refuting.{AreTreesOf, leaf_is_tree, cut_is_tree, no_trees, one_more_tree, cases_are_tree}
@@ -38,7 +39,7 @@ cut_tree_if d c k (refuted ns) (refuted ms) h i = cut_is_tree d c k ns ms h i
 tree_by_values : (d : ℕ) (broken : ℕ → ℤ → Decision) (values : List Fraction) (x : Option (ℕ × Fraction)) → ((c : ℕ) (k : ℤ) → IsTreeIf d (broken c k)) →
     IsTreeIf d (by_values broken values x)
 tree_by_values d broken values None f = tt
-tree_by_values d broken values (Some x) f = f x.0 (floor_of x.1)
+tree_by_values d broken values (Some x) f = f x.0 (floor x.1)
 
 tree_by_outcome : (d : ℕ) (broken : ℕ → ℤ → Decision) (o : outcome.Outcome) → ((c : ℕ) (k : ℤ) → IsTreeIf d (broken c k)) → IsTreeIf d (by_outcome broken o)
 tree_by_outcome d broken (outcome.refuted parts) f = leaf_is_tree d parts

@@ -10,7 +10,7 @@ use Rattle.frac.specs.Fractions.{Fraction, IsLowest, IsRatio}
 use Rattle.lin_rows.specs.Rows.{LinearRow, IsRow}
 use Rattle.lin_rows.specs.Tightening.{tightened}
 use Rattle.farkas_check.specs.Refutes.{at_most, above}
-use Rattle.fm_elim.specs.Quotients.{whole}
+use Rattle.fm_elim.specs.Quotients.{whole, floor}
 use Rattle.fm_elim.specs.Values.{value_at}
 use Rattle.fm_elim.specs.Elimination as outcome
 use Rattle.fm_elim.specs.Worth.{HoldsAt, IsSolvable, MeetsAll, ColumnsBelow}
@@ -19,7 +19,7 @@ use Rattle.fm_elim.proofs.Lists.{all_append, all_middle}
 use Rattle.fm_elim.proofs.Multipliers.{less_is, not_less_is}
 use Rattle.fm_elim.proofs.Picks.{zero_on_way}
 use Rattle.fm_elim.proofs.PickedPoints.{point_is_picked}
-use Rattle.int_decide.specs.Decide.{first_broken, floor_of}
+use Rattle.int_decide.specs.Decide.{first_broken}
 use Rattle.int_decide.specs.Searching.{cut_at, values_if}
 use Rattle.int_decide.specs.Picking.{fixed, IsNearest, IsApart, IfWhole, ArePicked}
 use Rattle.int_decide.specs.Alike.{AreAlike, StandsIn}
@@ -204,7 +204,7 @@ whole_is f low t =
     let e : f.den ≡ pos 1 = omega (arith, ints) in
     (λ i. record { num = f.num; den = e i })
 
-between_is_broken : (k : ℤ) (x : Fraction) → IsLowest x → LiesBetween k x → (nat_eq (unsigned_abs x.den) 1 ≡ false) × (floor_of x ≡ k)
+between_is_broken : (k : ℤ) (x : Fraction) → IsLowest x → LiesBetween k x → (nat_eq (unsigned_abs x.den) 1 ≡ false) × (floor x ≡ k)
 between_is_broken k x low b = (by_test (nat_eq (unsigned_abs x.den) 1) refl, sym (floor_is x.num x.den k low.positive (let l = b.over in omega (arith, ints)) b.under))
   where
     by_test : (t : Bool) → nat_eq (unsigned_abs x.den) 1 ≡ t → nat_eq (unsigned_abs x.den) 1 ≡ false
@@ -233,7 +233,7 @@ alike_front c x y xs ys s t h =
       same = λ e. ap (λ (zs : List Fraction). y ∷ zs) (h.same (sym (front_whole c y ys t) ∙ e));
     })
 
-broken_alike : (c : ℕ) (x y : Fraction) (xs ys : List Fraction) → nat_eq (unsigned_abs x.den) 1 ≡ false → nat_eq (unsigned_abs y.den) 1 ≡ false → floor_of x ≡ floor_of y →
+broken_alike : (c : ℕ) (x y : Fraction) (xs ys : List Fraction) → nat_eq (unsigned_abs x.den) 1 ≡ false → nat_eq (unsigned_abs y.den) 1 ≡ false → floor x ≡ floor y →
     AreCutAlike c (x ∷ xs) (y ∷ ys)
 broken_alike c x y xs ys t u e = record {
   cuts = ap cut_at (front_broken c x xs t) ∙ (λ i. Some (c, e i)) ∙ ap cut_at (sym (front_broken c y ys u));
@@ -299,11 +299,11 @@ alike_from n rows held own values ks c (x ∷ xs) (y ∷ ys) h v k i e f l a =
         (subst (λ (j : ℕ). Keeps rows (held ++ fixed j y.num ∷ []) (ks ++ y.num ∷ [])) (sym i) (keeps_more rows held ks y.num k)) m
         (fx ∙ wholes_more ks y.num xs) (fy ∙ wholes_more ks y.num ys) (let q : suc (length xs) ≡ suc (length ys) = l in omega arith) rest)
 
-    at_broken : nat_eq (unsigned_abs y.den) 1 ≡ false → IsApart held c (floor_of y) → AreCutAlike c (x ∷ xs) (y ∷ ys)
+    at_broken : nat_eq (unsigned_abs y.den) 1 ≡ false → IsApart held c (floor y) → AreCutAlike c (x ∷ xs) (y ∷ ys)
     at_broken t apart =
-        let b : LiesBetween (floor_of y) x =
-        apart_is n rows held ks (floor_of y) x k (subst (λ (j : ℕ). IsApart held j (floor_of y)) i apart) (h.picks (wholes ks) x xs e) lowest_x in
-        let s = between_is_broken (floor_of y) x lowest_x b in
+        let b : LiesBetween (floor y) x =
+        apart_is n rows held ks (floor y) x k (subst (λ (j : ℕ). IsApart held j (floor y)) i apart) (h.picks (wholes ks) x xs e) lowest_x in
+        let s = between_is_broken (floor y) x lowest_x b in
         broken_alike c x y xs ys s.0 t s.1
 
     by_test : (t : Bool) → nat_eq (unsigned_abs y.den) 1 ≡ t →
@@ -311,11 +311,11 @@ alike_from n rows held own values ks c (x ∷ xs) (y ∷ ys) h v k i e f l a =
         values ≡ wholes (ks ++ y.num ∷ []) ++ ys → length xs ≡ length ys → ArePicked (held ++ fixed c y.num ∷ []) (suc c) ys → AreCutAlike (suc c) xs ys) →
         AreCutAlike c (x ∷ xs) (y ∷ ys)
     by_test true t more =
-        let u : IfWhole true (IsNearest held c y.num × ArePicked (held ++ fixed c y.num ∷ []) (suc c) ys) (IsApart held c (floor_of y)) =
-        subst (λ (z : Bool). IfWhole z (IsNearest held c y.num × ArePicked (held ++ fixed c y.num ∷ []) (suc c) ys) (IsApart held c (floor_of y))) t a in
+        let u : IfWhole true (IsNearest held c y.num × ArePicked (held ++ fixed c y.num ∷ []) (suc c) ys) (IsApart held c (floor y)) =
+        subst (λ (z : Bool). IfWhole z (IsNearest held c y.num × ArePicked (held ++ fixed c y.num ∷ []) (suc c) ys) (IsApart held c (floor y))) t a in
         at_whole t u.0 u.1 more
     by_test false t more =
-        at_broken t (subst (λ (z : Bool). IfWhole z (IsNearest held c y.num × ArePicked (held ++ fixed c y.num ∷ []) (suc c) ys) (IsApart held c (floor_of y))) t a)
+        at_broken t (subst (λ (z : Bool). IfWhole z (IsNearest held c y.num × ArePicked (held ++ fixed c y.num ∷ []) (suc c) ys) (IsApart held c (floor y))) t a)
 
 numbers_alike : (own values : List Fraction) (a b : Option (ℕ × Fraction)) → cut_at a ≡ cut_at b → (b ≡ None → own ≡ values) → values_if own a ≡ values_if values b
 numbers_alike own values None None e f = ap (λ (xs : List Fraction). Some (map (λ (g : Fraction). g.num) xs)) (f refl)
@@ -356,9 +356,9 @@ point_stands n rows values v b t p a = record {
 pub apart_picked : (rows : List LinearRow) (c : ℕ) (f : Fraction) (fs : List Fraction) (k : ℤ) → IsLowest f → (f.den ≡ pos 1 → ⊥) → (k *ℤ f.den) ≤ℤ f.num →
     f.num <ℤ ((k +ℤ pos 1) *ℤ f.den) → IsApart rows c k → ArePicked rows c (f ∷ fs)
 apart_picked rows c f fs k low n m h a =
-    let e : k ≡ floor_of f = floor_is f.num f.den k low.positive m h in
+    let e : k ≡ floor f = floor_is f.num f.den k low.positive m h in
     let t : nat_eq (unsigned_abs f.den) 1 ≡ false = ne_eqb (unsigned_abs f.den) 1 (λ z. let p : pos 0 <ℤ f.den = low.positive in n (omega (arith, ints))) in
-    subst (λ (b : Bool). IfWhole b (IsNearest rows c f.num × ArePicked (rows ++ fixed c f.num ∷ []) (suc c) fs) (IsApart rows c (floor_of f))) (sym t)
+    subst (λ (b : Bool). IfWhole b (IsNearest rows c f.num × ArePicked (rows ++ fixed c f.num ∷ []) (suc c) fs) (IsApart rows c (floor f))) (sym t)
     (subst (λ (z : ℤ). IsApart rows c z) e a)
 
 -- a whole value is nearest, and so are those after it
@@ -367,7 +367,7 @@ pub nearest_picked : (rows : List LinearRow) (c : ℕ) (f : Fraction) (fs : List
 nearest_picked rows c f fs e n rest =
     let u : unsigned_abs f.den ≡ 1 = ap unsigned_abs e in
     let t : nat_eq (unsigned_abs f.den) 1 ≡ true = ap (λ (m : ℕ). nat_eq m 1) u in
-    subst (λ (b : Bool). IfWhole b (IsNearest rows c f.num × ArePicked (rows ++ fixed c f.num ∷ []) (suc c) fs) (IsApart rows c (floor_of f))) (sym t) (n, rest)
+    subst (λ (b : Bool). IfWhole b (IsNearest rows c f.num × ArePicked (rows ++ fixed c f.num ∷ []) (suc c) fs) (IsApart rows c (floor f))) (sym t) (n, rest)
 
 front_of : (left : List Fraction) (f : Fraction) → 1 ≤ length left → f ≡ get_or left 0 f → left ≡ f ∷ drop 1 left
 front_of [] f l e = absurd (let z : ⊥ = omega arith in z)

@@ -15,7 +15,7 @@ use Rattle.lin_rows.specs.Rows.{LinearRow, AscendsFrom, Stands, Holds}
 use Rattle.lin_rows.specs.Tightening.{tightened}
 use Rattle.lin_rows.specs.Negating.{below_opposite}
 use Rattle.lin_rows.proofs.Ascending.{HasNoZero}
-use Rattle.fm_elim.specs.Quotients.{whole}
+use Rattle.fm_elim.specs.Quotients.{whole, floor}
 use Rattle.fm_elim.specs.Derivations.{inputs}
 use Rattle.fm_elim.specs.Values.{value_at}
 use Rattle.fm_elim.specs.Elimination as outcome
@@ -25,7 +25,7 @@ use Rattle.fm_elim.proofs.Multipliers.{IfRefuted, solve_refutes}
 use Rattle.fm_elim.proofs.Inputs.{IsOrdered, inputs_are_made, inputs_are_clear}
 use Rattle.fm_elim.proofs.Ends.{AreValues}
 use Rattle.fm_elim.proofs.Points.{RowHolds, MeetsRows, IfPoint, solve_meets}
-use Rattle.int_decide.specs.Decide.{first_broken, floor_of}
+use Rattle.int_decide.specs.Decide.{first_broken}
 use Rattle.int_decide.specs.Worth.{point_of}
 use Rattle.int_decide.proofs.CutNumbers.{cut_numbers_fit}
 use Rattle.int_decide.proofs.Tight.{IsTight, tight_rows_stay}
@@ -189,5 +189,5 @@ broken_has P c (f ∷ fs) x e h = by_test (nat_eq (unsigned_abs f.den) 1) refl e
 
 -- where the values are fractions, its floor and one less than the opposite fit
 pub broken_cut_fits : (c : ℕ) (fs : List Fraction) (x : ℕ × Fraction) → first_broken c fs ≡ Some x → AllByRecursion IsFraction fs →
-    Fits (floor_of x.1) × Fits (below_opposite (floor_of x.1))
+    Fits (floor x.1) × Fits (below_opposite (floor x.1))
 broken_cut_fits c fs x e v = let h = broken_has IsFraction c fs x e v in cut_numbers_fit x.1 h.0 h.1

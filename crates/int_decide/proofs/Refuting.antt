@@ -5,11 +5,11 @@ use Rattle.lin_rows.specs.declared.systems.System.{System}
 use Rattle.lin_rows.specs.Rows.{LinearRow}
 use Rattle.farkas_check.specs.Nodes.{PlainNode, leaf, cut, cases, is_tree}
 use Rattle.farkas_check.specs.Refutes.{Goal, at_most, above, with_row, with_member, goal_of, CasesRefute, Refute, Refutes}
-use Rattle.farkas_check.specs.Trees.{Trees, leaf_tree, cut_tree, cases_tree, no_tree, one_more, tree_count, prefixes_of}
+use Rattle.farkas_check.specs.Trees.{Trees, leaf_tree, cut_tree, cases_tree, no_tree, one_more, tree_count, prefixes_of, cuts_on_branch, most_cuts}
 use Rattle.farkas_check.proofs.TreeLaws.{is_tree_is}
 use Rattle.fm_elim.specs.Worth.{Combines}
 use Rattle.int_decide.specs.Numbers.{CasesFit, LeavesFit}
-use Rattle.int_decide.specs.Worth.{cuts_of, most_cuts, IsTreeOf}
+use Rattle.int_decide.specs.Worth.{IsTreeOf}
 
 -- The list refutes the goals, in order, in front of any other nodes and goals, if its own numbers fit.
 pub record RefuteFirst (ns : List PlainNode) (goals : List Goal) : Type 0 where
@@ -86,7 +86,7 @@ pub cut_is_tree : (d c : ℕ) (k : ℤ) (ns ms : List PlainNode) → IsTreeOf d 
 cut_is_tree d c k ns ms a b = record {
   tree = cut_tree c k a.tree b.tree;
   prefix = λ i. cut c k ∷ (a.prefix i ++ b.prefix i);
-  few_cuts = let p : cuts_of a.tree ≤ d = a.few_cuts in let q : cuts_of b.tree ≤ d = b.few_cuts in omega arith;
+  few_cuts = let p : cuts_on_branch a.tree ≤ d = a.few_cuts in let q : cuts_on_branch b.tree ≤ d = b.few_cuts in omega arith;
 }
 
 pub no_trees : (d : ℕ) → AreTreesOf d 0 []
@@ -97,7 +97,7 @@ one_more_tree d count ns ms a b = record {
   trees = one_more a.tree b.trees;
   counted = ap (λ (n : ℕ). suc n) b.counted;
   prefixes = λ i. a.prefix i ++ b.prefixes i;
-  few_cuts = let p : cuts_of a.tree ≤ d = a.few_cuts in let q : most_cuts b.trees ≤ d = b.few_cuts in omega arith;
+  few_cuts = let p : cuts_on_branch a.tree ≤ d = a.few_cuts in let q : most_cuts b.trees ≤ d = b.few_cuts in omega arith;
 }
 
 pub cases_are_tree : (d count : ℕ) (ns : List PlainNode) → AreTreesOf d count ns → IsTreeOf d (cases count ∷ ns)

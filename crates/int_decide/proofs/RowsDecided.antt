@@ -6,7 +6,8 @@ use Rattle.farkas_check.specs.Nodes.{leaf, cut}
 use Rattle.farkas_check.specs.Refutes.{at_most, above}
 use Rattle.fm_elim.specs.Elimination as outcome
 use Rattle.int_decide.specs.Decisions.{Decision, refuted, gap, beside, under, UnlessWhole}
-use Rattle.int_decide.specs.Decide.{first_broken, floor_of, by_values, by_outcome, decide_rows}
+use Rattle.int_decide.specs.Decide.{first_broken, by_values, by_outcome, decide_rows}
+use Rattle.fm_elim.specs.Quotients.{floor}
 use Rattle.int_decide.specs.Numbers.{WhereBroken, WhereCut, RowsFit}
 
 -- ---- the decision
@@ -45,7 +46,7 @@ rows_fit_elimination n zero rows h = h
 rows_fit_elimination n (suc d) rows h = h.0
 
 pub rows_fit_cut : (n d : ℕ) (rows : List LinearRow) (values : List Fraction) (x : ℕ × Fraction) → outcome.elimination n rows ≡ outcome.point values → first_broken 0 values ≡ Some x →
-    RowsFit n (suc d) rows → BrokenFits n (suc d) rows x.0 (floor_of x.1)
+    RowsFit n (suc d) rows → BrokenFits n (suc d) rows x.0 (floor x.1)
 rows_fit_cut n d rows values x e b h =
     subst (WhereBroken (BrokenFits n (suc d) rows)) b (subst (WhereCut (BrokenFits n (suc d) rows)) e h.1)
 

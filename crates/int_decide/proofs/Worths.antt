@@ -21,7 +21,8 @@ use Rattle.fm_elim.proofs.Lists.{all_append, all_parts, all_map, all_weaker, all
 use Rattle.fm_elim.proofs.Refuting.{no_point}
 use Rattle.fm_elim.proofs.Inputs.{IsBelow-tightened}
 use Rattle.int_decide.specs.Decisions.{Decision, refuted, whole, gap, beside, all_beside, under}
-use Rattle.int_decide.specs.Decide.{first_broken, floor_of, by_values, by_outcome, decide_rows, decide_groups, decide}
+use Rattle.int_decide.specs.Decide.{first_broken, by_values, by_outcome, decide_rows, decide_groups, decide}
+use Rattle.fm_elim.specs.Quotients.{floor}
 use Rattle.int_decide.specs.Sizes.{group_count, AllMembers, AllRows, SystemBelow}
 use Rattle.int_decide.specs.Numbers.{LeavesFit}
 use Rattle.int_decide.specs.Worth.{point_of, IsTreeOf, IsWorth, IsRefuted}
@@ -90,7 +91,7 @@ values_worth n d rows broken values None e m f = (
 values_worth n d rows broken values (Some x) e m f =
     let l : x.0 < 0 + length values = broken_below 0 values x e in
     let c : length values ≡ n = m.columns in
-    f x.0 (floor_of x.1) (omega arith)
+    f x.0 (floor x.1) (omega arith)
 
 outcome_worth : (n d : ℕ) (rows : List LinearRow) (broken : ℕ → ℤ → Decision) (o : outcome.Outcome) → OutcomeWorth n rows o →
     ((c : ℕ) (k : ℤ) → c < n → GoalWorth n d (record { rows = rows; groups = [] }) (broken c k)) →

@@ -1,6 +1,5 @@
 -- Decide: whether a system has a whole point, by the elimination, cuts at its points (Gomory, 1958) and cases.
 use Rattle.std.specs.Prelude.{ℕ, zero, suc, ℤ, List, [], ◌∷◌, ◌++◌, Option, None, Some, length, map, nat_eq, unsigned_abs, if◌then◌else◌}
-use Rattle.std.specs.Int.{int_div_euclid}
 use Rattle.frac.specs.Fractions.{Fraction}
 use Rattle.lin_rows.specs.declared.systems.System.{System}
 use Rattle.lin_rows.specs.Rows.{LinearRow}
@@ -9,6 +8,7 @@ use Rattle.lin_rows.specs.Systems.{rows_of, groups_of}
 use Rattle.farkas_check.specs.Nodes.{leaf, cut, cases}
 use Rattle.farkas_check.specs.Refutes.{at_most, above}
 use Rattle.fm_elim.specs.Elimination as outcome
+use Rattle.fm_elim.specs.Quotients.{floor}
 use Rattle.int_decide.specs.Decisions.{Decision, refuted, whole, gap, beside, all_beside, under}
 use Rattle.int_decide.specs.Sizes.{group_count}
 
@@ -19,14 +19,10 @@ abbrev pub first_broken : ℕ → List Fraction → Option (ℕ × Fraction)
 first_broken c [] = None
 first_broken c (f ∷ fs) = if nat_eq (unsigned_abs f.den) 1 then first_broken (suc c) fs else Some (c, f)
 
--- the greatest whole number that is not above the fraction, whose denominator is positive
-abbrev pub floor_of : Fraction → ℤ
-floor_of f = int_div_euclid f.num f.den
-
 -- values that are all whole are the answer; else it is that of the first that is not
 abbrev pub by_values : (ℕ → ℤ → Decision) → List Fraction → Option (ℕ × Fraction) → Decision
 by_values broken values None = whole (map (λ f. f.num) values)
-by_values broken values (Some x) = broken x.0 (floor_of x.1)
+by_values broken values (Some x) = broken x.0 (floor x.1)
 
 -- multipliers that refute are a leaf
 abbrev pub by_outcome : (ℕ → ℤ → Decision) → outcome.Outcome → Decision

@@ -15,14 +15,15 @@ use Rattle.farkas_check.specs.Refutes.{Goal, at_most, above, with_row, with_memb
 use Rattle.fm_elim.specs.Elimination as outcome
 use Rattle.int_decide.specs.Decisions.{Decision, UnlessWhole, WhereRefuted}
 use Rattle.int_decide.specs.Sizes.{group_count}
-use Rattle.int_decide.specs.Decide.{first_broken, floor_of, decide_rows, decide_groups, decide}
+use Rattle.int_decide.specs.Decide.{first_broken, decide_rows, decide_groups, decide}
+use Rattle.fm_elim.specs.Quotients.{floor}
 
 -- ---- rows alone: the numbers of each elimination
 
 -- what holds where the first value that is not whole is cut
 abbrev pub WhereBroken : (ℕ → ℤ → Type 0) → Option (ℕ × Fraction) → Type 0
 WhereBroken P None = Unit {0}
-WhereBroken P (Some x) = P x.0 (floor_of x.1)
+WhereBroken P (Some x) = P x.0 (floor x.1)
 
 abbrev pub WhereCut : (ℕ → ℤ → Type 0) → outcome.Outcome → Type 0
 WhereCut P (outcome.refuted parts) = Unit {0}

@@ -6,7 +6,7 @@ use Rattle.lin_rows.specs.declared.types.RowKind.TheVariants.{Eq}
 use Rattle.lin_rows.specs.Rows.{LinearRow}
 use Rattle.farkas_check.specs.Refutes.{at_most, above}
 use Rattle.fm_elim.specs.Worth.{HoldsAt, IsSolvable}
-use Rattle.int_decide.specs.Decide.{floor_of}
+use Rattle.fm_elim.specs.Quotients.{floor}
 
 -- each rational point that meets the rows meets the row
 abbrev pub Implies : List LinearRow → LinearRow → Type 0
@@ -37,7 +37,7 @@ ArePicked rows c [] = Unit {0}
 ArePicked rows c (f ∷ fs) =
     IfWhole (nat_eq (unsigned_abs f.den) 1)
     (IsNearest rows c f.num × ArePicked (rows ++ fixed c f.num ∷ []) (suc c) fs)
-    (IsApart rows c (floor_of f))
+    (IsApart rows c (floor f))
 
 -- p is the numerator of the fraction over d
 pub record IsOver (d : ℤ) (f : Fraction) (p : ℤ) : Type 0 where

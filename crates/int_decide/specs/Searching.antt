@@ -16,7 +16,8 @@ use Rattle.int_decide.specs.declared.search.Search.{Search}
 use Rattle.int_decide.specs.declared.deciding.Ending.{Ending}
 use Rattle.int_decide.specs.declared.deciding.Ending.TheVariants.{Closed, Met, Open}
 use Rattle.int_decide.specs.Decisions.{Decision, refuted, whole, gap, beside, all_beside}
-use Rattle.int_decide.specs.Decide.{first_broken, floor_of, decide_groups, decide}
+use Rattle.int_decide.specs.Decide.{first_broken, decide_groups, decide}
+use Rattle.fm_elim.specs.Quotients.{floor}
 use Rattle.int_decide.specs.Numbers.{EachUntilWhole, GroupsFit, LeavesFit}
 use Rattle.int_decide.specs.Sizes.{total, over_groups, group_count, extent, AllMembers, SystemBelow}
 use Rattle.int_decide.specs.Worth.{point_of, IsPointOf}
@@ -64,7 +65,7 @@ after_broken (suc left) g s c k = record { gap = s.gap; nodes = s.nodes ++ cut c
 
 abbrev pub after_values : Task → Standing → Option (ℕ × Fraction) → Standing
 after_values t s None = s
-after_values t s (Some x) = after_broken t.left t.goal s x.0 (floor_of x.1)
+after_values t s (Some x) = after_broken t.left t.goal s x.0 (floor x.1)
 
 abbrev pub after_outcome : Task → Standing → outcome.Outcome → Standing
 after_outcome t s (outcome.refuted parts) = record { gap = s.gap; nodes = s.nodes ++ leaf parts ∷ []; tasks = s.tasks }
@@ -100,7 +101,7 @@ whole_at n g = whole_groups n g.rows g.groups
 -- where a value is not whole: its column, and the number at which it is cut
 abbrev pub cut_at : Option (ℕ × Fraction) → Option (ℕ × ℤ)
 cut_at None = None
-cut_at (Some x) = Some (x.0, floor_of x.1)
+cut_at (Some x) = Some (x.0, floor x.1)
 
 -- ---- what the calls of a step answer
 

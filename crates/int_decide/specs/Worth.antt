@@ -1,10 +1,10 @@
 -- What decisions are worth: a refutation refutes but for its own numbers, and a whole point meets the system.
-use Rattle.std.specs.Prelude.{◌≡◌, ◌≤◌, ℕ, suc, max, ℤ, pos, List, [], ◌∷◌, length, slice_index_or}
+use Rattle.std.specs.Prelude.{◌≡◌, ◌≤◌, ℕ, ℤ, pos, List, [], ◌∷◌, length, slice_index_or}
 use Rattle.lin_rows.specs.declared.systems.System.{System}
 use Rattle.lin_rows.specs.Systems.{Meets}
 use Rattle.farkas_check.specs.Nodes.{PlainNode}
 use Rattle.farkas_check.specs.Refutes.{Refutes, goal_of}
-use Rattle.farkas_check.specs.Trees.{Tree, Trees, leaf_tree, cut_tree, cases_tree, no_tree, one_more, prefix_of}
+use Rattle.farkas_check.specs.Trees.{Tree, prefix_of, cuts_on_branch}
 use Rattle.int_decide.specs.Decisions.{Decision, refuted, whole, gap}
 use Rattle.int_decide.specs.Numbers.{LeavesFit}
 
@@ -12,22 +12,11 @@ use Rattle.int_decide.specs.Numbers.{LeavesFit}
 abbrev pub point_of : List ℤ → ℕ → ℤ
 point_of values c = slice_index_or values c (pos 0)
 
--- the most cuts on a branch
-abbrev mutual
-  pub cuts_of : Tree → ℕ
-  cuts_of (leaf_tree parts) = 0
-  cuts_of (cut_tree c k t u) = suc (max (cuts_of t) (cuts_of u))
-  cuts_of (cases_tree ts) = most_cuts ts
-
-  pub most_cuts : Trees → ℕ
-  most_cuts no_tree = 0
-  most_cuts (one_more t ts) = max (cuts_of t) (most_cuts ts)
-
 -- the list is the prefix list of one tree, with d cuts on a branch at most
 pub record IsTreeOf (d : ℕ) (ns : List PlainNode) : Type 0 where
   pub tree : Tree
   pub prefix : prefix_of tree ≡ ns
-  pub few_cuts : cuts_of tree ≤ d
+  pub few_cuts : cuts_on_branch tree ≤ d
 
 -- A refutation is a tree with d cuts on a branch at most, and refutes the system if its own numbers fit.
 pub record RefutesBut (d : ℕ) (s : System) (ns : List PlainNode) : Type 0 where

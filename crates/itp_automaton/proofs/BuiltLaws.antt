@@ -16,11 +16,11 @@ use Rattle.triple_rows.specs.declared.triples.Scoped.{Scoped}
 use Rattle.triple_rows.specs.declared.triples.Triple.{Triple}
 use Rattle.triple_rows.specs.declared.triples.Triple.TheVariants as triples
 use Rattle.triple_rows.specs.Predicates.{formula_of}
-use Rattle.triple_rows.specs.Triples.{Agrees, HasTarget, IsValid}
+use Rattle.triple_rows.specs.Triples.{Agrees, HasTarget, IsValid, truth_of}
 use Rattle.triple_rows.specs.Proofs.{PlainProof}
 use Rattle.triple_rows.proofs.ValidLaws.{refuted_valid}
 use Rattle.itp_automaton.specs.Certified.{IsTruthAt, IsProved, IsCertified}
-use Rattle.itp_automaton.specs.Making.{truth_of, HasEdge}
+use Rattle.itp_automaton.specs.Making.{HasEdge}
 use Rattle.itp_automaton.specs.Edges.{IsFalseAt, MarksFalse, IsMarkedBelow, IsBegun, IsInsideOf, IsCallOf, IsBackOf, IsBuilt, AddsInside, AddsCall, AddsBack, AddsEdge}
 
 -- ---- what stays where a proof is added

@@ -11,11 +11,11 @@ use Rattle.letter_acts.specs.Invariant.{Graph, alphabet_of}
 use Rattle.triple_rows.specs.declared.triples.Scoped.{Scoped}
 use Rattle.triple_rows.specs.declared.triples.Triple.{Triple}
 use Rattle.triple_rows.specs.declared.triples.Triple.TheVariants as triples
-use Rattle.triple_rows.specs.Triples.{InsideAgrees, CallAgrees, BackAgrees, ReturnAgrees, Agrees}
+use Rattle.triple_rows.specs.Triples.{InsideAgrees, CallAgrees, BackAgrees, ReturnAgrees, Agrees, truth_of}
 use Rattle.triple_rows.specs.Proofs.{PlainProof}
 use Rattle.hoare_check.specs.Decided.{IsProofFor}
 use Rattle.itp_automaton.specs.Certified.{Certificate}
-use Rattle.itp_automaton.specs.Making.{truth_of, named_in, IsStateFor, NameStatesFor, AreStates, HasStates}
+use Rattle.itp_automaton.specs.Making.{named_in, IsStateFor, NameStatesFor, AreStates, HasStates}
 use Rattle.itp_automaton.specs.Settling.{NamesStates}
 use Rattle.itp_automaton.specs.Edges.{IsBuilt}
 

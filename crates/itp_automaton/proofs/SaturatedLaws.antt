@@ -10,13 +10,13 @@ use Rattle.letter_acts.specs.Invariant.{Graph, AreDistinct, alphabet_of}
 use Rattle.triple_rows.specs.declared.triples.Scoped.{Scoped}
 use Rattle.triple_rows.specs.declared.triples.Triple.{Triple}
 use Rattle.triple_rows.specs.declared.triples.Triple.TheVariants as triples
-use Rattle.triple_rows.specs.Triples.{Agrees}
+use Rattle.triple_rows.specs.Triples.{Agrees, truth_of}
 use Rattle.triple_rows.specs.Proofs.{PlainProof}
 use Rattle.hoare_check.specs.Decided.{RefutesUncut}
 use Rattle.hoare_check.specs.Decided.{IsProofFor}
 use Rattle.itp_automaton.specs.Certified.{Certificate}
 use Rattle.itp_automaton.specs.Saturated.{IsSaturated, HasTruth}
-use Rattle.itp_automaton.specs.Making.{truth_of, NameStatesFor, AreStates, HasInside, HasCall, HasBack, HasEdge, HasEdges}
+use Rattle.itp_automaton.specs.Making.{NameStatesFor, AreStates, HasInside, HasCall, HasBack, HasEdge, HasEdges}
 use Rattle.itp_automaton.specs.Settling.{NamesStates, IsGrounded, SettledBelow, letter_in}
 use Rattle.itp_automaton.specs.Edges.{IsBuilt}
 use Rattle.itp_automaton.proofs.StateLaws.{member_at, place_of, one_place}

@@ -6,7 +6,8 @@ use Rattle.nwa_base.specs.Members.{Member}
 use Rattle.nwa_base.proofs.MemberLemmas.{member_front, member_rest, member_split}
 use Rattle.letter_acts.specs.Invariant.{AreDistinct}
 use Rattle.triple_rows.specs.declared.triples.Scoped.{Scoped}
-use Rattle.itp_automaton.specs.Making.{truth_of, AreStates}
+use Rattle.itp_automaton.specs.Making.{AreStates}
+use Rattle.triple_rows.specs.Triples.{truth_of}
 use Rattle.itp_automaton.specs.States.{AddsState}
 
 -- ---- members by their places

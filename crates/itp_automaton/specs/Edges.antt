@@ -10,10 +10,10 @@ use Rattle.triple_rows.specs.declared.triples.Scoped.{Scoped}
 use Rattle.triple_rows.specs.declared.triples.Triple.{Triple}
 use Rattle.triple_rows.specs.declared.triples.Triple.TheVariants as triples
 use Rattle.triple_rows.specs.Predicates.{SpellsPredicate}
-use Rattle.triple_rows.specs.Triples.{HasTarget}
+use Rattle.triple_rows.specs.Triples.{HasTarget, truth_of}
 use Rattle.triple_rows.specs.Proofs.{PlainProof}
 use Rattle.itp_automaton.specs.Certified.{IsTruthAt}
-use Rattle.itp_automaton.specs.Making.{truth_of, HasEdge}
+use Rattle.itp_automaton.specs.Making.{HasEdge}
 
 -- the state is the predicate false
 abbrev pub IsFalseAt : List Scoped → ℕ → Type 0

@@ -5,11 +5,11 @@ use Rattle.nwa_base.specs.Members.{Member}
 use Rattle.nwa_base.specs.Automata.{Automaton}
 use Rattle.letter_acts.specs.Acts.{PlainAct, Alphabet, letter_of}
 use Rattle.letter_acts.specs.Invariant.{Graph, AreDistinct, IsPlaceOf}
-use Rattle.triple_rows.specs.declared.predicates.PredNode.TheVariants.{Truth}
 use Rattle.triple_rows.specs.declared.triples.Scoped.{Scoped}
 use Rattle.triple_rows.specs.declared.triples.Triple.{Triple}
 use Rattle.triple_rows.specs.declared.triples.Triple.TheVariants.{Inside, Call, Back}
 use Rattle.triple_rows.specs.Proofs.{PlainProof}
+use Rattle.triple_rows.specs.Triples.{truth_of}
 use Rattle.itp_automaton.specs.Certified.{Certificate, IsCertified}
 
 -- what a certified automaton keeps: it is certified for some alphabet, that which it was made for
@@ -21,10 +21,6 @@ abbrev pub named_in : Triple → List Scoped
 named_in (Inside before letter after) = before ∷ after ∷ []
 named_in (Call before letter after) = before ∷ after ∷ []
 named_in (Back exit before letter after) = exit ∷ before ∷ after ∷ []
-
--- the predicate true, or false, of a procedure
-abbrev pub truth_of : ℕ → Bool → Scoped
-truth_of p b = record { proc = p; pred = Truth b ∷ [] }
 
 -- the predicate is true, false or in the list
 abbrev pub IsStateFor : List Scoped → Scoped → Type 0

@@ -6,13 +6,13 @@ use Rattle.letter_acts.specs.Acts.{PlainAct, inside_act, call_act, back_act, Alp
 use Rattle.triple_rows.specs.declared.triples.Scoped.{Scoped}
 use Rattle.triple_rows.specs.declared.triples.Triple.{Triple}
 use Rattle.triple_rows.specs.declared.triples.Triple.TheVariants as triples
-use Rattle.triple_rows.specs.Triples.{Agrees, IsScoped}
+use Rattle.triple_rows.specs.Triples.{Agrees, IsScoped, truth_of}
 use Rattle.triple_rows.specs.Proofs.{PlainProof}
 use Rattle.hoare_check.specs.Decided.{RefutesUncut, IsProofFor}
 use Rattle.itp_automaton.specs.declared.settling.Work.{Work}
 use Rattle.itp_automaton.specs.declared.sources.Source.{Source}
 use Rattle.itp_automaton.specs.declared.sources.Source.TheVariants.{Inside, Call, Back}
-use Rattle.itp_automaton.specs.Making.{truth_of, named_in}
+use Rattle.itp_automaton.specs.Making.{named_in}
 
 -- one of the proofs is of the triple
 abbrev pub IsListed : List PlainProof → Triple → Type 0

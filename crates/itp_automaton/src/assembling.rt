@@ -7,7 +7,7 @@ ghost use Rattle.letter_acts.specs.Invariant.{IsPlaceOf, alphabet_of};
 ghost use Rattle.letter_acts.specs.Kept.{Keeps};
 ghost use Rattle.triple_rows.specs.declared.predicates.PredNode.TheVariants.{Truth};
 ghost use Rattle.hoare_check.specs.Decided.{IsProofFor};
-ghost use Rattle.itp_automaton.specs.Making.{truth_of};
+ghost use Rattle.triple_rows.specs.Triples.{truth_of};
 ghost use Rattle.itp_automaton.specs.Settling.{NamesStates};
 ghost use Rattle.itp_automaton.specs.Certified.{IsCertified};
 ghost use Rattle.itp_automaton.specs.Edges.{MarksFalse, IsBuilt};

@@ -3,7 +3,8 @@
 ghost use Rattle.std.specs.Prelude.{◌≡◌, Some, [], IfOk, OnOk, MatchOption, slice_get};
 ghost use Rattle.nwa_base.specs.Members.{Member};
 ghost use Rattle.triple_rows.specs.Predicates.{SpellsPredicate};
-ghost use Rattle.itp_automaton.specs.Making.{truth_of, AreStates};
+ghost use Rattle.itp_automaton.specs.Making.{AreStates};
+ghost use Rattle.triple_rows.specs.Triples.{truth_of};
 ghost use Rattle.itp_automaton.specs.States.{AddsState};
 
 use crate::equality::is_same;

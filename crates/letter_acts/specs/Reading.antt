@@ -1,5 +1,5 @@
 -- What letters allow, read column by column.
-use Rattle.std.specs.Prelude.{◌≡◌, ℕ, ℤ, List, [], ◌∷◌, ◌++◌}
+use Rattle.std.specs.Prelude.{◌≡◌, ℕ, ℤ, Bool, false, nat_eq, ◌||◌, List, [], ◌∷◌, ◌++◌}
 use Rattle.std.specs.List.{AllByRecursion}
 use Rattle.lin_rows.specs.Rows.{LinearRow}
 use Rattle.lin_rows.specs.Points.{point_of}
@@ -22,6 +22,11 @@ pub record CallReads (caller callee : Columns) (helpers : ℕ) (rows : List Line
   pub globals : AllByRecursion (λ c. point_of t c ≡ point_of s c) (globals_of callee)
   pub olds : AllByRecursion (λ o. point_of t o.0 ≡ point_of s o.1) (olds_of callee)
   pub rows_hold : RowsHold (s ++ t) helpers rows
+
+-- the number stands in the list
+abbrev pub is_listed : List ℕ → ℕ → Bool
+is_listed [] c = false
+is_listed (d ∷ ds) c = nat_eq d c || is_listed ds c
 
 -- each target with the callee's column that it takes
 abbrev pub taken : List ℕ → List ℕ → List (ℕ × ℕ)

@@ -16,9 +16,10 @@ use Rattle.cond_jumps.specs.Comparisons.{equal, compared}
 use Rattle.cond_jumps.specs.Environments.{Environment}
 use Rattle.cond_jumps.specs.Frames.{frame_environment}
 use Rattle.boogie_run.specs.Needs.{locals_at, locals_if_any}
+use Rattle.typing_rules.specs.Rules.{results_of as results_of_procedure}
 use Rattle.lowered_steps.specs.ProgramFrames.{frame_at, width_at, number_in}
 use Rattle.lowered_steps.specs.Edges.{argument_sum, parameters_get, call_list, columns_before_locals, numbers_in}
-use Rattle.lowered_steps.specs.Moves.{AreArguments, AreTargets, results_of_procedure, HasParameters}
+use Rattle.lowered_steps.specs.Moves.{AreArguments, AreTargets, HasParameters}
 use Rattle.lowered_steps.specs.Stacks.{IsAmong}
 use Rattle.lowered_graph.proofs.NamedColumns.{RowsName, AreNamed, IsNamed, SumNames, ListNames, EachNames, column_names, equal_names, minus_names, PlanNames, with_names, always_names, linear_names}
 use Rattle.lowered_graph.proofs.FrameTargets.{local_place, AreStanding, target_stands, targets_stand, stands_type, standing_targets, standing_distinct}

@@ -27,7 +27,7 @@ use Rattle.boogie_points.specs.Actions.{Action, ensured_conditions}
 use Rattle.boogie_points.specs.Starts.{targets_at}
 use Rattle.lowered_steps.specs.ProgramFrames.{frame_at, number_in}
 use Rattle.lowered_steps.specs.Edges as edges
-use Rattle.lowered_steps.specs.Edges.{Spot, At, Wrong, Edge, leads, no_rows, is_in, those_in, those_not_in, import_written, typed_column, left_if, left_at, found_or_0, result_at, results_at, all_hold, only_helpers, import_environment, import_list, import_edges, passed_list, skips, numbers_in, inside_edges}
+use Rattle.lowered_steps.specs.Edges.{Spot, At, Wrong, Edge, leads, no_rows, those_in, those_not_in, import_written, typed_column, left_if, left_at, found_or_0, results_at, all_hold, import_environment, import_list, import_edges, passed_list, skips, numbers_in, inside_edges}
 use Rattle.lowered_steps.specs.Stacks.{IsAmong}
 use Rattle.lowered_graph.proofs.NamedColumns.{RowsName, AreNamed, IsNamed, SumNames, ListNames, EachNames, terms_so, rows_so, column_names, named_names, PlanNames, with_names, always_names, linear_names, paths_names, assigns_names}
 use Rattle.lowered_graph.proofs.FrameTargets.{StandsAt, AreStanding, AreVarying, stands_written, stands_new, standing_written, standing_new, standing_distinct, import_may_write, import_new, import_distinct}

@@ -17,7 +17,8 @@ use Rattle.cond_jumps.specs.Frames.{same_column, place_from, place}
 use Rattle.cond_jumps.proofs.FrameLemmas.{IsFound, found_from}
 use Rattle.boogie_run.specs.Needs.{locals_at}
 use Rattle.lowered_steps.specs.ProgramFrames.{frame_at, number_in, number_if_any}
-use Rattle.lowered_steps.specs.Edges.{is_in, those_not_in, import_written, numbers_in}
+use Rattle.lowered_steps.specs.Edges.{those_not_in, import_written, numbers_in}
+use Rattle.letter_acts.specs.Reading.{is_listed}
 use Rattle.lowered_steps.specs.Moves.{IsTarget, AreTargets}
 use Rattle.lowered_graph.proofs.Lists.{all_get, from_zero, get_behind, not_both}
 use Rattle.letter_acts.proofs.ListLemmas.{all_append}
@@ -251,10 +252,10 @@ filtered_distinct test (x ∷ xs) d = by_test (test x) (filtered_distinct test x
     by_test true k = (λ m. d.0 (filtered_member test xs x m).0, k)
     by_test false k = k
 
-member_in : (xs : List ℕ) (y : ℕ) → Member xs y → is_in xs y ≡ true
+member_in : (xs : List ℕ) (y : ℕ) → Member xs y → is_listed xs y ≡ true
 member_in [] y m = absurd m
-member_in (x ∷ xs) y (inl e) = ap (λ (b : Bool). b || is_in xs y) (ap (λ (z : ℕ). nat_eq x z) (sym e) ∙ eqb-refl x)
-member_in (x ∷ xs) y (inr m) = or_true (nat_eq x y) (is_in xs y) (member_in xs y m)
+member_in (x ∷ xs) y (inl e) = ap (λ (b : Bool). b || is_listed xs y) (ap (λ (z : ℕ). nat_eq x z) (sym e) ∙ eqb-refl x)
+member_in (x ∷ xs) y (inr m) = or_true (nat_eq x y) (is_listed xs y) (member_in xs y m)
   where
     or_true : (a b : Bool) → b ≡ true → (a || b) ≡ true
     or_true true b e = refl
@@ -273,17 +274,17 @@ pub import_may_write : (t : TypedProgram) (n : ℕ) (modified : List ℕ) (cs : 
     AllByRecursion (MayWrite (frame_at t n)) (import_written modified (numbers_in (frame_at t n) cs))
 import_may_write t n modified cs h k =
     all_append (MayWrite (frame_at t n)) modified (those_not_in modified (numbers_in (frame_at t n) cs)) (modified_written t n modified h)
-    (all_filtered (MayWrite (frame_at t n)) (λ c. not (is_in modified c)) (numbers_in (frame_at t n) cs) (standing_written t n cs k))
+    (all_filtered (MayWrite (frame_at t n)) (λ c. not (is_listed modified c)) (numbers_in (frame_at t n) cs) (standing_written t n cs k))
 
 pub import_new : (t : TypedProgram) (n : ℕ) (modified : List ℕ) (cs : List Column) → AreVarying t modified → AreStanding t n cs →
     AllByRecursion (λ c. IsOld (frame_at t n) c → ⊥) (import_written modified (numbers_in (frame_at t n) cs))
 import_new t n modified cs h k =
     all_append (λ c. IsOld (frame_at t n) c → ⊥) modified (those_not_in modified (numbers_in (frame_at t n) cs)) (modified_new t n modified h)
-    (all_filtered (λ c. IsOld (frame_at t n) c → ⊥) (λ c. not (is_in modified c)) (numbers_in (frame_at t n) cs) (standing_new t n cs k))
+    (all_filtered (λ c. IsOld (frame_at t n) c → ⊥) (λ c. not (is_listed modified c)) (numbers_in (frame_at t n) cs) (standing_new t n cs k))
 
 pub import_distinct : (t : TypedProgram) (n : ℕ) (modified : List ℕ) (cs : List Column) → AreDistinct modified → AreStanding t n cs → AreDistinct cs →
     AreDistinct (import_written modified (numbers_in (frame_at t n) cs))
 import_distinct t n modified cs m k d =
-    let test : ℕ → Bool = λ c. not (is_in modified c) in
+    let test : ℕ → Bool = λ c. not (is_listed modified c) in
     apart_distinct modified (filter test (numbers_in (frame_at t n) cs)) m (filtered_distinct test (numbers_in (frame_at t n) cs) (standing_distinct t n cs k d))
-    (λ y i j. not_both (is_in modified y) (member_in modified y i) (filtered_member test (numbers_in (frame_at t n) cs) y j).1)
+    (λ y i j. not_both (is_listed modified y) (member_in modified y i) (filtered_member test (numbers_in (frame_at t n) cs) y j).1)

@@ -10,7 +10,8 @@ use Rattle.boogie_points.specs.Points.{Point, settled, past_first}
 use Rattle.boogie_points.specs.Actions as actions
 use Rattle.boogie_points.specs.Actions.{Action, action_at, called_action, unseen_action, chosen_columns, ensured_conditions}
 use Rattle.boogie_points.specs.Starts.{targets_at}
-use Rattle.lowered_steps.specs.Moves.{AreAssigned, results_of_procedure, IsTypedAction, IsNoImport, IsKnownCall}
+use Rattle.lowered_steps.specs.Moves.{AreAssigned, IsTypedAction, IsNoImport, IsKnownCall}
+use Rattle.typing_rules.specs.Rules.{results_of}
 use Rattle.lowered_imports.specs.Imports.{IsModified, IsKnownImport, later}
 use Rattle.lowered_imports.specs.KnownPoints.{IsPointOf, StandsAtImport, PointsAreKnown, ImportsAreKnown}
 use Rattle.lowered_graph.specs.Lowered.{lowered}
@@ -49,7 +50,7 @@ import_writes t n p f args k q e =
     let one : ImportWrites t n k.procedure (targets_at p.todo) = record {
       modified = varying t k.procedure.modifies k.modified;
       modified_differ = k.modified_differ;
-      targets = targets_stand t n (results_of_procedure k.procedure) (targets_at p.todo) k.targets;
+      targets = targets_stand t n (results_of k.procedure) (targets_at p.todo) k.targets;
       targets_differ = k.targets_differ;
     } in
     subst (λ (r : TypedProcedure). ImportWrites t n r (targets_at p.todo)) same one

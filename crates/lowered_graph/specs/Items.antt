@@ -18,6 +18,7 @@ use Rattle.boogie_points.specs.Starts.{targets_at}
 use Rattle.boogie_places.specs.Places.{Place, parts_from, program_places}
 use Rattle.lowered_steps.specs.ProgramFrames.{frame_at, width_at}
 use Rattle.lowered_steps.specs.Edges.{import_written, import_environment, those_in, all_hold, parameters_get, columns_before_locals, numbers_in}
+use Rattle.boogie_tree.specs.Apart.{nowhere}
 
 -- ---- the lists that the edges of a place need
 
@@ -78,9 +79,6 @@ pub record Item : Type 0 where
   pub span : Span
   pub needed : List Needed
 
-abbrev pub no_span : Span
-no_span = record { line = 0; col = 0 }
-
 abbrev pub expression_span : TypedExpression → Span
 expression_span (Lit at n) = at
 expression_span (Truth at b) = at
@@ -101,7 +99,7 @@ statement_span (While at g is x) = at
 statement_span (Break at n) = at
 statement_span (Goto at ks) = at
 statement_span (Return at) = at
-statement_span (Label n) = no_span
+statement_span (Label n) = nowhere
 
 abbrev pub condition_span : Span → Option TypedInvariant → Span
 condition_span at None = at
@@ -109,7 +107,7 @@ condition_span at (Some i) = i.span
 
 -- a condition that is assumed at the start: an axiom, or else a requires of the entry
 abbrev pub start_span : List TypedExpression → List TypedInvariant → ℕ → Span
-start_span [] is part = condition_span no_span (slice_get is part)
+start_span [] is part = condition_span nowhere (slice_get is part)
 start_span (e ∷ es) is zero = expression_span e
 start_span (e ∷ es) is (suc part) = start_span es is part
 
@@ -119,21 +117,21 @@ span_of (While at g is x) part = condition_span at (slice_get is part)
 span_of s part = statement_span s
 
 abbrev pub block_span : TypedBlock → ℕ → Span
-block_span Empty part = no_span
+block_span Empty part = nowhere
 block_span (Then s b) part = span_of s part
 
 abbrev pub todo_span : List Todo → ℕ → Span
-todo_span [] part = no_span
+todo_span [] part = nowhere
 todo_span (d ∷ ds) part = block_span d.rest part
 
 abbrev pub stage_span : TypedProgram → TypedProcedure → Stage → List Todo → ℕ → Span
 stage_span t q Start todo part = start_span t.axioms (plain_conditions q.specs) part
-stage_span t q Entry todo part = condition_span no_span (slice_get (free_conditions q.specs) part)
+stage_span t q Entry todo part = condition_span nowhere (slice_get (free_conditions q.specs) part)
 stage_span t q Body todo part = todo_span todo part
-stage_span t q Exit todo part = condition_span no_span (slice_get (ensured_conditions q.specs) part)
+stage_span t q Exit todo part = condition_span nowhere (slice_get (ensured_conditions q.specs) part)
 
 abbrev pub span_if_any : TypedProgram → Option TypedProcedure → Point → Span
-span_if_any t None p = no_span
+span_if_any t None p = nowhere
 span_if_any t (Some q) p = stage_span t q p.stage p.todo p.part
 
 -- where the item at a place stands in the text

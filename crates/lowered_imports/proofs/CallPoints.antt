@@ -32,7 +32,8 @@ use Rattle.boogie_run.specs.Needs.{locals_at}
 use Rattle.boogie_run.specs.Steps.{put, all_put, modifies_of, granted_state}
 use Rattle.lowered_steps.specs.ProgramFrames.{frame_at, variable_values, shown, number_in, number_if_any}
 use Rattle.lowered_steps.specs.Edges.{found_from, those_in, import_written, left_at, found_or_0, results_at, numbers_in, import_environment}
-use Rattle.lowered_steps.specs.Moves.{HasTypes, FrameKeeps, IsTarget, AreTargets, results_of_procedure}
+use Rattle.lowered_steps.specs.Moves.{HasTypes, FrameKeeps, IsTarget, AreTargets}
+use Rattle.typing_rules.specs.Rules.{results_of}
 use Rattle.lowered_steps.proofs.FrameColumns.{types_length, shown_state, shown_is_shown}
 use Rattle.lowered_steps.proofs.Places.{before_locals, global_place, local_place, put_is_set, IsThere}
 use Rattle.lowered_imports.specs.Imports.{IsModified, IsEnsured, IsKnownImport, AreGlobalValues, keeping}
@@ -217,7 +218,7 @@ module _ (t : TypedProgram) (c : Config) (f : ℕ) (args : List TypedExpression)
   inside_modified = modified_inside t modified (length before) globals_inside k.modified
 
   pub inside_targets : AllByRecursion (λ x. x < length before) targets
-  inside_targets = targets_inside t c.top.proc (results_of_procedure k.procedure) (targets_at c.top.point.todo) (length before) (sym before_length) k.targets
+  inside_targets = targets_inside t c.top.proc (results_of k.procedure) (targets_at c.top.point.todo) (length before) (sym before_length) k.targets
 
   pub global_inside : (g : ℕ) (v : VarInfo) → slice_get t.globals g ≡ Some v → g < length c.globals
   global_inside g v e =
@@ -239,7 +240,7 @@ module _ (t : TypedProgram) (c : Config) (f : ℕ) (args : List TypedExpression)
       of_all [] h = tt
       of_all (i ∷ is) h = (record { typed = h.0.typed; linear = h.0.linear }, of_all is h.1)
 
-  module _ (held results : List ℤ) (held_typed : AreGlobalValues t.globals k.procedure.modifies held) (results_typed : HasTypes (results_of_procedure k.procedure) results) where
+  module _ (held results : List ℤ) (held_typed : AreGlobalValues t.globals k.procedure.modifies held) (results_typed : HasTypes (results_of k.procedure) results) where
     -- the values where the globals are written and the targets are not, and behind the call
     abbrev pub middle : List ℤ
     middle = put_all before modified held
@@ -285,13 +286,13 @@ module _ (t : TypedProgram) (c : Config) (f : ℕ) (args : List TypedExpression)
 
     pub results_count : length results ≡ length targets
     results_count =
-        types_length (results_of_procedure k.procedure) results results_typed
-        ∙ sym (targets_count t c.top.proc (results_of_procedure k.procedure) (targets_at c.top.point.todo) k.targets)
+        types_length (results_of k.procedure) results results_typed
+        ∙ sym (targets_count t c.top.proc (results_of k.procedure) (targets_at c.top.point.todo) k.targets)
         ∙ sym (length-map (targets_at c.top.point.todo) (number_in (frame_at t c.top.proc)))
 
     pub results_read : results ≡ picked after targets
     results_read =
-        let there : AllByRecursion (IsThere t c.top.proc) (targets_at c.top.point.todo) = targets_there t c.top.proc (results_of_procedure k.procedure) (targets_at c.top.point.todo) k.targets in
+        let there : AllByRecursion (IsThere t c.top.proc) (targets_at c.top.point.todo) = targets_there t c.top.proc (results_of k.procedure) (targets_at c.top.point.todo) k.targets in
         sym (picked_put middle targets results (numbers_distinct t c.top.proc (targets_at c.top.point.todo) there k.targets_differ)
         (subst (λ (m : ℕ). AllByRecursion (λ x. x < m) targets) (sym (length-put_all before modified held)) inside_targets) results_count)
 
@@ -306,9 +307,9 @@ module _ (t : TypedProgram) (c : Config) (f : ℕ) (args : List TypedExpression)
           let inside : j < length written = slice_get_within written j g stands in
           (omega arith, at_written j g stands)
 
-      results_there : AreResults whole p (results_at base written targets (results_of_procedure k.procedure)) results
+      results_there : AreResults whole p (results_at base written targets (results_of k.procedure)) results
       results_there =
-          results_stand whole base p after written targets (results_of_procedure k.procedure) results (omega arith) at_written (λ x i. target_written modified targets x i) results_typed results_read
+          results_stand whole base p after written targets (results_of k.procedure) results (omega arith) at_written (λ x i. target_written modified targets x i) results_typed results_read
 
       arguments_linear : AllByRecursion (λ e. is_linear (fixed_in call_frame) false e ≡ true) args
       arguments_linear = linear_arguments t c.top.proc (take k.procedure.params k.procedure.locals) args k.arguments
@@ -317,7 +318,7 @@ module _ (t : TypedProgram) (c : Config) (f : ℕ) (args : List TypedExpression)
       pub call_shows : ((i g : ℕ) → slice_get both i ≡ Some g → p (helpers_from + i) ≡ point_of middle g) → Shows whole p environment ensured_state
       call_shows helper =
           import_show base whole p (frame_environment call_frame) (state_of c) frame_shown (omega arith) (left_at t.globals base modified targets) args
-          (results_at base written targets (results_of_procedure k.procedure)) globals_behind results arguments_linear
+          (results_at base written targets (results_of k.procedure)) globals_behind results arguments_linear
           (λ g. left_of whole p (state_of c) globals_behind g (left_at t.globals base modified targets g)
           (left_by t.globals base helpers_from g modified both (λ x ty. (x < whole) × (p x ≡ member globals_behind g) × IsValue ty (member globals_behind g)) (member c.globals g ≡ member globals_behind g) (outside g)
           (λ j e. let m = modified_at j g e in (m.info, m.is))
@@ -329,7 +330,7 @@ module _ (t : TypedProgram) (c : Config) (f : ℕ) (args : List TypedExpression)
           Follows whole p environment ensured_state
       call_follows helper =
           import_follows base whole p (frame_environment call_frame) (state_of c) frame_shown (omega arith) (left_at t.globals base modified targets) args
-          (results_at base written targets (results_of_procedure k.procedure)) globals_behind results arguments_linear
+          (results_at base written targets (results_of k.procedure)) globals_behind results arguments_linear
           (λ g. left_near_of whole p (state_of c) globals_behind g (left_at t.globals base modified targets g)
           (left_by t.globals base helpers_from g modified both (λ x ty. (x < whole) × IsNear ty (p x) (member globals_behind g)) (member c.globals g ≡ member globals_behind g) (outside g)
           (λ j e. let m = modified_at j g e in (m.info, m.is))

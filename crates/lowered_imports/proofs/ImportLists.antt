@@ -16,7 +16,8 @@ use Rattle.letter_acts.specs.Invariant.{AreDistinct}
 use Rattle.letter_acts.proofs.PointLemmas.{set_here, length-put_all, put_all_other, put_picked}
 use Rattle.boogie_run.specs.Needs.{locals_at}
 use Rattle.lowered_steps.specs.ProgramFrames.{frame_at, number_in, number_if_any}
-use Rattle.lowered_steps.specs.Edges.{is_in, those_in, those_not_in, found_from, import_written, numbers_in}
+use Rattle.lowered_steps.specs.Edges.{those_in, those_not_in, found_from, import_written, numbers_in}
+use Rattle.letter_acts.specs.Reading.{is_listed}
 use Rattle.lowered_steps.specs.Moves.{AreTargets}
 use Rattle.lowered_steps.proofs.Places.{IsThere, global_place, local_place, before_locals}
 use Rattle.lowered_steps.proofs.Writes.{target_there}
@@ -30,33 +31,33 @@ or_false false b e = (refl, e)
 
 -- ---- members
 
-pub is_in_member : (ms : List ℕ) (n : ℕ) → is_in ms n ≡ true → Member ms n
+pub is_in_member : (ms : List ℕ) (n : ℕ) → is_listed ms n ≡ true → Member ms n
 is_in_member [] n e = absurd (true≢false (sym e))
 is_in_member (m ∷ ms) n e = by_test (nat_eq m n) refl e (λ f. is_in_member ms n f)
   where
-    by_test : (b : Bool) → nat_eq m n ≡ b → (b || is_in ms n) ≡ true → (is_in ms n ≡ true → Member ms n) → (m ≡ n) ⊎ Member ms n
+    by_test : (b : Bool) → nat_eq m n ≡ b → (b || is_listed ms n) ≡ true → (is_listed ms n ≡ true → Member ms n) → (m ≡ n) ⊎ Member ms n
     by_test true f e later = inl (number_is m n f)
     by_test false f e later = inr (later e)
 
-pub no_member : (ms : List ℕ) (n : ℕ) → is_in ms n ≡ false → Member ms n → ⊥
+pub no_member : (ms : List ℕ) (n : ℕ) → is_listed ms n ≡ false → Member ms n → ⊥
 no_member [] n e k = k
 no_member (m ∷ ms) n e (inl f) =
     let g : nat_eq m n ≡ true = subst (λ (x : ℕ). nat_eq m x ≡ true) f (eq-eqb m m refl) in
-    true≢false (sym g ∙ (or_false (nat_eq m n) (is_in ms n) e).0)
-no_member (m ∷ ms) n e (inr k) = no_member ms n (or_false (nat_eq m n) (is_in ms n) e).1 k
+    true≢false (sym g ∙ (or_false (nat_eq m n) (is_listed ms n) e).0)
+no_member (m ∷ ms) n e (inr k) = no_member ms n (or_false (nat_eq m n) (is_listed ms n) e).1 k
 
 -- a number is in the list or not
-pub in_or_not : (ms : List ℕ) (n : ℕ) → Member ms n ⊎ (is_in ms n ≡ false)
-in_or_not ms n = by_test (is_in ms n) refl
+pub in_or_not : (ms : List ℕ) (n : ℕ) → Member ms n ⊎ (is_listed ms n ≡ false)
+in_or_not ms n = by_test (is_listed ms n) refl
   where
-    by_test : (b : Bool) → is_in ms n ≡ b → Member ms n ⊎ (is_in ms n ≡ false)
+    by_test : (b : Bool) → is_listed ms n ≡ b → Member ms n ⊎ (is_listed ms n ≡ false)
     by_test true e = inl (is_in_member ms n e)
     by_test false e = inr e
 
-member_is_in : (ms : List ℕ) (n : ℕ) → Member ms n → is_in ms n ≡ true
-member_is_in ms n k = by_test (is_in ms n) refl
+member_is_in : (ms : List ℕ) (n : ℕ) → Member ms n → is_listed ms n ≡ true
+member_is_in ms n k = by_test (is_listed ms n) refl
   where
-    by_test : (b : Bool) → is_in ms n ≡ b → is_in ms n ≡ true
+    by_test : (b : Bool) → is_listed ms n ≡ b → is_listed ms n ≡ true
     by_test true e = e
     by_test false e = absurd (no_member ms n e k)
 
@@ -117,23 +118,23 @@ modified_written ms ts c k = member_left ms (those_not_in ms ts) c k
 pub target_written : (ms ts : List ℕ) (c : ℕ) → Member ts c → Member (import_written ms ts) c
 target_written ms ts c k = elim (in_or_not ms c) [
   | inl h ↦ member_left ms (those_not_in ms ts) c h
-  | inr e ↦ member_right ms (those_not_in ms ts) c (filter_member (λ n. not (is_in ms n)) ts c (ap not e) k)
+  | inr e ↦ member_right ms (those_not_in ms ts) c (filter_member (λ n. not (is_listed ms n)) ts c (ap not e) k)
 ]
 
 pub written_either : (ms ts : List ℕ) (c : ℕ) → Member (import_written ms ts) c → Member ms c ⊎ Member ts c
-written_either ms ts c k = elim (member_either ms (those_not_in ms ts) c k) [ inl h ↦ inl h | inr h ↦ inr (filter_members (λ n. not (is_in ms n)) ts c h).1 ]
+written_either ms ts c k = elim (member_either ms (those_not_in ms ts) c k) [ inl h ↦ inl h | inr h ↦ inr (filter_members (λ n. not (is_listed ms n)) ts c h).1 ]
 
 pub written_distinct : (ms ts : List ℕ) → AreDistinct ms → AreDistinct ts → AreDistinct (import_written ms ts)
-written_distinct ms ts d e = append_distinct ms (those_not_in ms ts) d (filter_distinct (λ n. not (is_in ms n)) ts e)
-    (λ c h k. let r : not (is_in ms c) ≡ true = (filter_members (λ n. not (is_in ms n)) ts c k).0 in
+written_distinct ms ts d e = append_distinct ms (those_not_in ms ts) d (filter_distinct (λ n. not (is_listed ms n)) ts e)
+    (λ c h k. let r : not (is_listed ms c) ≡ true = (filter_members (λ n. not (is_listed ms n)) ts c k).0 in
     true≢false (sym r ∙ ap not (member_is_in ms c h)))
 
 -- a modified global that is a target, too
 pub both_member : (ts ms : List ℕ) (c : ℕ) → Member ts c → Member ms c → Member (those_in ts ms) c
-both_member ts ms c h k = filter_member (is_in ts) ms c (member_is_in ts c h) k
+both_member ts ms c h k = filter_member (is_listed ts) ms c (member_is_in ts c h) k
 
 pub both_members : (ts ms : List ℕ) (c : ℕ) → Member (those_in ts ms) c → Member ts c × Member ms c
-both_members ts ms c k = let r = filter_members (is_in ts) ms c k in (is_in_member ts c r.0, r.1)
+both_members ts ms c k = let r = filter_members (is_listed ts) ms c k in (is_in_member ts c r.0, r.1)
 
 -- ---- places of numbers
 
@@ -154,13 +155,13 @@ found_at k (m ∷ ms) n j e = by_test (nat_eq m n) refl e (λ f. found_at (suc k
         let r = later e in
         record { index = suc r.index; at_index = (let i : j ≡ suc k + r.index = r.at_index in omega arith); is = r.is }
 
-pub not_found : (k : ℕ) (ns : List ℕ) (n : ℕ) → found_from k ns n ≡ None → is_in ns n ≡ false
+pub not_found : (k : ℕ) (ns : List ℕ) (n : ℕ) → found_from k ns n ≡ None → is_listed ns n ≡ false
 not_found k [] n e = refl
 not_found k (m ∷ ms) n e = by_test (nat_eq m n) refl e (λ f. not_found (suc k) ms n f)
   where
-    by_test : (b : Bool) → nat_eq m n ≡ b → (if b then Some k else found_from (suc k) ms n) ≡ None → (found_from (suc k) ms n ≡ None → is_in ms n ≡ false) → (nat_eq m n || is_in ms n) ≡ false
+    by_test : (b : Bool) → nat_eq m n ≡ b → (if b then Some k else found_from (suc k) ms n) ≡ None → (found_from (suc k) ms n ≡ None → is_listed ms n ≡ false) → (nat_eq m n || is_listed ms n) ≡ false
     by_test true f e later = absurd (cc)
-    by_test false f e later = ap (λ (b : Bool). b || is_in ms n) f ∙ later e
+    by_test false f e later = ap (λ (b : Bool). b || is_listed ms n) f ∙ later e
 
 pub record IsFound (k : ℕ) (ns : List ℕ) (n : ℕ) : Type 0 where
   pub place : ℕ
@@ -219,7 +220,7 @@ put_map f (n ∷ ns) s c k l =
     let more : c < length (slice_set s n (f n)) = (let e = length_set s n (f n) in omega arith) in
     by_test (in_or_not ns c) k (λ h. put_map f ns (slice_set s n (f n)) c h more)
   where
-    by_test : Member ns c ⊎ (is_in ns c ≡ false) → (n ≡ c) ⊎ Member ns c → (Member ns c → point_of (put_all (slice_set s n (f n)) ns (map f ns)) c ≡ f c) →
+    by_test : Member ns c ⊎ (is_listed ns c ≡ false) → (n ≡ c) ⊎ Member ns c → (Member ns c → point_of (put_all (slice_set s n (f n)) ns (map f ns)) c ≡ f c) →
         point_of (put_all (slice_set s n (f n)) ns (map f ns)) c ≡ f c
     by_test (inl h) k later = later h
     by_test (inr e) (inl i) later =
@@ -230,7 +231,7 @@ put_map f (n ∷ ns) s c k l =
 -- What writes the written columns of a call writes the modified globals and then the targets, where a modified global that is no target has its value
 -- behind the call.
 pub one_writing : (s news : List ℤ) (ms ts : List ℕ) (held : ℕ → ℤ) → AllByRecursion (λ c. c < length s) ms →
-    ((c : ℕ) → is_in ts c ≡ false → held c ≡ point_of (put_all s (import_written ms ts) news) c) →
+    ((c : ℕ) → is_listed ts c ≡ false → held c ≡ point_of (put_all s (import_written ms ts) news) c) →
     put_all s (import_written ms ts) news ≡ put_all (put_all s ms (map held ms)) ts (picked (put_all s (import_written ms ts) news) ts)
 one_writing s news ms ts held inside same =
     let after : List ℤ = put_all s (import_written ms ts) news in
@@ -242,7 +243,7 @@ one_writing s news ms ts held inside same =
     member_inside (x ∷ xs) c h (inl e) = subst (λ (y : ℕ). y < length s) e h.0
     member_inside (x ∷ xs) c h (inr k) = member_inside xs c h.1 k
 
-    at_column : (c : ℕ) → (Member ts c → ⊥) → Member ms c ⊎ (is_in ms c ≡ false) → Member ts c ⊎ (is_in ts c ≡ false) →
+    at_column : (c : ℕ) → (Member ts c → ⊥) → Member ms c ⊎ (is_listed ms c ≡ false) → Member ts c ⊎ (is_listed ts c ≡ false) →
         point_of (put_all s (import_written ms ts) news) c ≡ point_of (put_all s ms (map held ms)) c
     at_column c apart h (inl k) = absurd (apart k)
     at_column c apart (inl h) (inr k) = sym (put_map held ms s c h (member_inside ms c inside h) ∙ same c k)

@@ -19,7 +19,8 @@ use Rattle.boogie_run.specs.Steps.{moved_to, all_written, all_put, modifies_of, 
 use Rattle.lowered_steps.specs.ProgramFrames.{frame_at, shown}
 use Rattle.lowered_steps.specs.Edges.{At, inside_edges, import_edges, numbers_in}
 use Rattle.lowered_steps.specs.Stacks.{Stack}
-use Rattle.lowered_steps.specs.Moves.{HasTypes, FrameKeeps, AreTargets, results_of_procedure, IsGood, KnowsPoints, shown_stack, shown_below}
+use Rattle.lowered_steps.specs.Moves.{HasTypes, FrameKeeps, AreTargets, IsGood, KnowsPoints, shown_stack, shown_below}
+use Rattle.typing_rules.specs.Rules.{results_of}
 use Rattle.lowered_steps.proofs.Places.{all_state_written, all_written_shown, state_written}
 use Rattle.lowered_steps.proofs.Writes.{AreTaken, keeps_all_written, taken_there, is_long, all_written_is, stack_of_written}
 use Rattle.lowered_steps.proofs.Goodness.{below_moved, written_good}
@@ -141,12 +142,12 @@ finished_is t c f q held results e l =
     ∙ (λ i. moved_to (all_written (record (keeping c (held ++ results)) { globals = put i }) targets (dropped i)) next)
 
 module _ (t : TypedProgram) (Known : ℕ → Point → Type 0) (know : KnowsPoints t Known) (c : Config) (f : ℕ) (args : List TypedExpression) (g : IsGood t Known c) (k : IsKnownImport t c.top.proc c.top.point f args)
-    (held results : List ℤ) (held_typed : AreGlobalValues t.globals k.procedure.modifies held) (results_typed : HasTypes (results_of_procedure k.procedure) results) where
+    (held results : List ℤ) (held_typed : AreGlobalValues t.globals k.procedure.modifies held) (results_typed : HasTypes (results_of k.procedure) results) where
   chosen_keeps : FrameKeeps t c.top.proc (changed (state_of c) k.procedure.modifies held)
   chosen_keeps = changed_keeps t c.top.proc (state_of c) k.procedure.modifies held g.top.keeps k.modified held_typed
 
   chosen_taken : AreTaken t c.top.proc (targets_at c.top.point.todo) results
-  chosen_taken = targets_taken t c.top.proc (results_of_procedure k.procedure) (targets_at c.top.point.todo) results k.targets results_typed
+  chosen_taken = targets_taken t c.top.proc (results_of k.procedure) (targets_at c.top.point.todo) results k.targets results_typed
 
   pub behind_good : IsGood t Known (behind t c k.procedure.modifies held results)
   behind_good =

@@ -31,7 +31,8 @@ use Rattle.boogie_run.specs.Steps.{is_true, all_put, granted_state, moved_to, fi
 use Rattle.lowered_steps.specs.ProgramFrames.{frame_at, shown}
 use Rattle.lowered_steps.specs.Edges.{At, Edge, leads, all_hold, those_in, found_from, import_written, import_edges, import_list, inside_edges, numbers_in}
 use Rattle.lowered_steps.specs.Stacks.{Stack, IsAmong, IsStep, inside}
-use Rattle.lowered_steps.specs.Moves.{HasTypes, FrameKeeps, results_of_procedure, IsGood, KnowsPoints, shown_stack, shown_below}
+use Rattle.lowered_steps.specs.Moves.{HasTypes, FrameKeeps, IsGood, KnowsPoints, shown_stack, shown_below}
+use Rattle.typing_rules.specs.Rules.{results_of}
 use Rattle.lowered_steps.proofs.FrameColumns.{shown_state}
 use Rattle.lowered_steps.proofs.ListSteps.{MetMember, member_met, edge_among, among_led, IsLed}
 use Rattle.lowered_imports.specs.Imports.{IsModified, IsKnownImport, IsGlobalValue, AreGlobalValues, keeping, as_value, value_of_variable, told_global}
@@ -155,7 +156,7 @@ module _ (t : TypedProgram) (Known : ℕ → Point → Type 0) (know : KnowsPoin
 
   -- ---- from the call to the step
 
-  module _ (held results : List ℤ) (held_typed : AreGlobalValues t.globals k.procedure.modifies held) (results_typed : HasTypes (results_of_procedure k.procedure) results) where
+  module _ (held results : List ℤ) (held_typed : AreGlobalValues t.globals k.procedure.modifies held) (results_typed : HasTypes (results_of k.procedure) results) where
     abbrev middle : List ℤ
     middle = put_all before modified held
 
@@ -291,8 +292,8 @@ module _ (t : TypedProgram) (Known : ℕ → Point → Type 0) (know : KnowsPoin
         all_told [] h = tt
         all_told (x ∷ xs) h = (told_typed x h.0, all_told xs h.1)
 
-    told_results_typed : HasTypes (results_of_procedure k.procedure) told_results
-    told_results_typed = points.targets_typed t c.top.proc (results_of_procedure k.procedure) (targets_at c.top.point.todo) after state k.targets
+    told_results_typed : HasTypes (results_of k.procedure) told_results
+    told_results_typed = points.targets_typed t c.top.proc (results_of k.procedure) (targets_at c.top.point.todo) after state k.targets
 
     -- the state behind is that of the call
     told_after : after ≡ put_all (put_all before modified told_held) targets told_results
@@ -310,7 +311,7 @@ module _ (t : TypedProgram) (Known : ℕ → Point → Type 0) (know : KnowsPoin
 
     written_differ : AreDistinct written
     written_differ = written_distinct modified targets k.modified_differ
-        (numbers_distinct t c.top.proc (targets_at c.top.point.todo) (targets_there t c.top.proc (results_of_procedure k.procedure) (targets_at c.top.point.todo) k.targets) k.targets_differ)
+        (numbers_distinct t c.top.proc (targets_at c.top.point.todo) (targets_there t c.top.proc (results_of k.procedure) (targets_at c.top.point.todo) k.targets) k.targets_differ)
 
     news_are : news ≡ picked after written
     news_are = sym (picked_put before written news written_differ written_inside counted) ∙ ap (λ (zs : List ℤ). picked zs written) (sym put)
@@ -348,7 +349,7 @@ module _ (t : TypedProgram) (Known : ℕ → Point → Type 0) (know : KnowsPoin
             subst (λ (z : ℤ). IsNear v.ty (point_of ((before ++ news) ++ helpers) (length frame + length written + i)) z) (sym value_is)
             (subst (λ (z : ℤ). IsNear v.ty z (as_value v.ty (point_of helpers i))) (sym at) (near_as v.ty (point_of helpers i)))
 
-  granted_of : (held results : List ℤ) (held_typed : AreGlobalValues t.globals k.procedure.modifies held) (results_typed : HasTypes (results_of_procedure k.procedure) results) → (is : List TypedInvariant) →
+  granted_of : (held results : List ℤ) (held_typed : AreGlobalValues t.globals k.procedure.modifies held) (results_typed : HasTypes (results_of k.procedure) results) → (is : List TypedInvariant) →
       AreTrue (points.ensured_state t c f args k keeps held results held_typed results_typed) is →
       AllByRecursion (λ i. is_true (value (granted_state t (keeping c (held ++ results)) f args) i.cond) ≡ true) is
   granted_of held results h r [] a = tt
@@ -358,7 +359,7 @@ module _ (t : TypedProgram) (Known : ℕ → Point → Type 0) (know : KnowsPoin
   )
 
   -- a run reads each ensures in that state
-  true_of_granted : (held results : List ℤ) (held_typed : AreGlobalValues t.globals k.procedure.modifies held) (results_typed : HasTypes (results_of_procedure k.procedure) results) → (is : List TypedInvariant) →
+  true_of_granted : (held results : List ℤ) (held_typed : AreGlobalValues t.globals k.procedure.modifies held) (results_typed : HasTypes (results_of k.procedure) results) → (is : List TypedInvariant) →
       AllByRecursion (λ i. IsTruth (value (points.ensured_state t c f args k keeps held results held_typed results_typed) i.cond)) is →
       AllByRecursion (λ i. is_true (value (granted_state t (keeping c (held ++ results)) f args) i.cond) ≡ true) is → AreTrue (points.ensured_state t c f args k keeps held results held_typed results_typed) is
   true_of_granted held results h r [] w a = tt
@@ -367,7 +368,7 @@ module _ (t : TypedProgram) (Known : ℕ → Point → Type 0) (know : KnowsPoin
     true_of_granted held results h r is w.1 a.1,
   )
 
-  pub goes : (d : Config) (held results : List ℤ) → AreGlobalValues t.globals k.procedure.modifies held → HasTypes (results_of_procedure k.procedure) results →
+  pub goes : (d : Config) (held results : List ℤ) → AreGlobalValues t.globals k.procedure.modifies held → HasTypes (results_of k.procedure) results →
       AllByRecursion (λ i. is_true (value (granted_state t (keeping c (held ++ results)) f args) i.cond) ≡ true) ensured →
       d ≡ moved_to (finished t (keeping c (held ++ results)) f (targets_at c.top.point.todo)) next → IsStep t (shown_stack t c) (shown_stack t d) × IsGood t Known d
   goes d held results h r a e =
@@ -389,7 +390,7 @@ module _ (t : TypedProgram) (Known : ℕ → Point → Type 0) (know : KnowsPoin
       let held : List ℤ = told_held led.news helpers y.values led.after counted put in
       let results : List ℤ = told_results led.news helpers y.values led.after counted put in
       let h : AreGlobalValues t.globals k.procedure.modifies held = told_held_typed led.news helpers y.values led.after counted put in
-      let r : HasTypes (results_of_procedure k.procedure) results = told_results_typed led.news helpers y.values led.after counted put in
+      let r : HasTypes (results_of k.procedure) results = told_results_typed led.news helpers y.values led.after counted put in
       let a : AreTrue (points.ensured_state t c f args k keeps held results h r) ensured = told_true led.news helpers y.values led.after counted put b.member b.among hold in
       let d : Config = moved_to (finished t (keeping c (held ++ results)) f (targets_at c.top.point.todo)) next in
       let is : d ≡ behind t c modified held results = finished_is t c f k.procedure held results k.is (global_values_length t.globals modified held h) in

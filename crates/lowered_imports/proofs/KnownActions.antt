@@ -23,13 +23,13 @@ use Rattle.cond_jumps.specs.Frames.{fixed_in, frame_environment}
 use Rattle.cond_jumps.specs.Passing.{passed, standing_environment}
 use Rattle.boogie_points.specs.Points.{Todo, Stage, Start, Entry, Body, Exit, Point, settled, past}
 use Rattle.boogie_points.specs.Actions as actions
-use Rattle.boogie_points.specs.Actions.{Action, next_part, guarded, checked, plain_conditions, free_conditions, ensured_conditions, chosen_columns, unseen_action, called_action, call_action, call_if_any, head_action, one_of, ways_to, havoc_action, statement_action, block_action, body_action, entry_action, exit_action, start_conditions, start_action, stage_action, body_or_leave, procedure_action, action_at, first_assertion, first_place}
+use Rattle.boogie_points.specs.Actions.{Action, next_part, guarded, checked, plain_conditions, free_conditions, ensured_conditions, chosen_columns, unseen_action, called_action, call_action, call_if_any, head_action, one_of, ways_to, havoc_action, statement_action, block_action, body_action, entry_action, exit_action, start_conditions, start_action, stage_action, body_or_leave, procedure_action, action_at}
 use Rattle.boogie_places.proofs.Closed.{all_append, plain_count}
 use Rattle.boogie_run.proofs.TypedPoints.{IsInside}
 use Rattle.boogie_run.specs.Needs.{locals_if_any, locals_at}
 use Rattle.lowered_steps.specs.ProgramFrames.{frame_at}
 use Rattle.lowered_steps.specs.Edges.{numbers_in, import_environment}
-use Rattle.lowered_steps.specs.Moves.{IsTarget, AreAssigned, IsPassed, IsSimple, AreArguments, AreTargets, IsTypedAction, IsKnownCall, results_of_procedure}
+use Rattle.lowered_steps.specs.Moves.{IsTarget, AreAssigned, IsPassed, IsSimple, AreArguments, AreTargets, IsTypedAction, IsKnownCall}
 use Rattle.lowered_imports.specs.Imports.{IsEnsured, later, IsKnownImport}
 use Rattle.lowered_imports.proofs.SeenTypes.{IsScope, same_types, same_constants, right_typed, right_linear, unhidden, frame_sees, passed_sees, import_sees}
 use Rattle.lowered_imports.proofs.ValidParts.{all_at, all_get, meets_some, not_of, distinct_of, column_itself, plain_right, free_right, ensured_right, IsRequired, IsEnsuring, axioms_right, specifications_right, enough_locals, has_parameters, modified_right}
@@ -221,7 +221,7 @@ module _ (t : TypedProgram) (valid : IsTrue (is_valid t)) (n : ℕ) (q : TypedPr
       pub procedure : TypedProcedure
       pub is : slice_get t.procs f ≡ Some procedure
       pub arguments : AreArguments (frame_at t n) (take procedure.params procedure.locals) es
-      pub targets : AreTargets t n (results_of_procedure procedure) cs
+      pub targets : AreTargets t n (results_of procedure) cs
       pub differ : AreDistinct cs
 
     pub call_parts : (at : Span) (cs : List Column) (f : ℕ) (es : List TypedExpression) → is_statement k (Call at cs f es) ≡ true → is_shaped t.procs (Call at cs f es) ≡ true → CallParts cs f es
@@ -241,7 +241,7 @@ module _ (t : TypedProgram) (valid : IsTrue (is_valid t)) (n : ℕ) (q : TypedPr
           differ = distinct_of same_column column_itself cs w.1;
         }
 
-  ensured_all : (p : TypedProcedure) (cs : List Column) (es : List TypedExpression) → AreArguments (frame_at t n) (take p.params p.locals) es → AreTargets t n (results_of_procedure p) cs → (is : List TypedInvariant) →
+  ensured_all : (p : TypedProcedure) (cs : List Column) (es : List TypedExpression) → AreArguments (frame_at t n) (take p.params p.locals) es → AreTargets t n (results_of p) cs → (is : List TypedInvariant) →
       AllByRecursion (IsEnsuring t.globals p) is → AllByRecursion (λ i. IsEnsured (frame_at t n) t.globals p es (numbers_in (frame_at t n) cs) i.cond) is
   ensured_all p cs es a b [] h = tt
   ensured_all p cs es a b (i ∷ is) h =
@@ -260,7 +260,7 @@ module _ (t : TypedProgram) (valid : IsTrue (is_valid t)) (n : ℕ) (q : TypedPr
     at_call at cs f es r l id place ts m = record { stage = Body; todo = record { rest = Then (Call at cs f es) r; of_loop = l; id = id; at = place } ∷ ts; part = m }
 
     module _ (at : Span) (cs : List Column) (f : ℕ) (es : List TypedExpression) (r : TypedBlock) (l : Bool) (id place : ℕ) (ts : List Todo) (m : ℕ)
-        (p : TypedProcedure) (is : slice_get t.procs f ≡ Some p) (args : AreArguments (frame_at t n) (take p.params p.locals) es) (to : AreTargets t n (results_of_procedure p) cs) (differ : AreDistinct cs)
+        (p : TypedProcedure) (is : slice_get t.procs f ≡ Some p) (args : AreArguments (frame_at t n) (take p.params p.locals) es) (to : AreTargets t n (results_of p) cs) (differ : AreDistinct cs)
         (few : m ≤ checked_at_call (slice_get t.procs f)) where
       abbrev here : Point
       here = at_call at cs f es r l id place ts m

@@ -22,7 +22,8 @@ use Rattle.cond_jumps.proofs.TypeLemmas.{only_is}
 use Rattle.boogie_run.specs.Needs.{locals_at}
 use Rattle.lowered_steps.specs.ProgramFrames.{frame_at}
 use Rattle.lowered_steps.specs.Edges.{found_from, those_in, import_written, typed_column, left_if, results_at, numbers_in, import_environment}
-use Rattle.lowered_steps.specs.Moves.{AreArguments, AreTargets, results_of_procedure}
+use Rattle.lowered_steps.specs.Moves.{AreArguments, AreTargets}
+use Rattle.typing_rules.specs.Rules.{results_of}
 use Rattle.lowered_steps.proofs.Places.{global_place, no_global_place, local_place}
 
 -- what stands for the columns has the types of the variables that are seen, now and at the entry
@@ -313,7 +314,7 @@ locals_typed t n base written (suc p) r (y ∷ ys) (d ∷ ds) cs l x a b h =
     by_number (suc k) g again = again k g
 
 pub import_sees : (t : TypedProgram) (n : ℕ) (s : Scope) (q : TypedProcedure) (args : List TypedExpression) (cs : List Column) →
-    IsScope t (take (q.params + q.results) q.locals) s → AreArguments (frame_at t n) (take q.params q.locals) args → AreTargets t n (results_of_procedure q) cs →
+    IsScope t (take (q.params + q.results) q.locals) s → AreArguments (frame_at t n) (take q.params q.locals) args → AreTargets t n (results_of q) cs →
     Sees s (import_environment (frame_at t n) t.globals q args (numbers_in (frame_at t n) cs))
 import_sees t n s q args cs i a b = record { now = λ c x h. now c x h; entry = λ c x h. entry c x h }
   where

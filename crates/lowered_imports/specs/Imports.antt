@@ -19,7 +19,8 @@ use Rattle.boogie_run.specs.Configurations.{Config}
 use Rattle.boogie_run.specs.Steps.{granted_state, finished, moved_to, is_true}
 use Rattle.lowered_steps.specs.ProgramFrames.{frame_at}
 use Rattle.lowered_steps.specs.Edges.{those_in, found_from, numbers_in, import_environment}
-use Rattle.lowered_steps.specs.Moves.{HasTypes, AreArguments, AreTargets, results_of_procedure}
+use Rattle.lowered_steps.specs.Moves.{HasTypes, AreArguments, AreTargets}
+use Rattle.typing_rules.specs.Rules.{results_of}
 
 -- ---- what typing gives
 
@@ -50,7 +51,7 @@ pub record IsKnownImport (t : TypedProgram) (n : ℕ) (p : Point) (f : ℕ) (arg
   pub modified : AllByRecursion (IsModified t) procedure.modifies
   pub modified_differ : AreDistinct procedure.modifies
   pub arguments : AreArguments (frame_at t n) (take procedure.params procedure.locals) args
-  pub targets : AreTargets t n (results_of_procedure procedure) (targets_at p.todo)
+  pub targets : AreTargets t n (results_of procedure) (targets_at p.todo)
   pub targets_differ : AreDistinct (targets_at p.todo)
   pub ensured : AllByRecursion (λ i. IsEnsured (frame_at t n) t.globals procedure args (numbers_in (frame_at t n) (targets_at p.todo)) i.cond) (ensured_conditions procedure.specs)
 
@@ -80,7 +81,7 @@ pub record IsImport (t : TypedProgram) (c d : Config) : Type 0 where
   pub held : List ℤ
   pub held_typed : AreGlobalValues t.globals known.procedure.modifies held
   pub results : List ℤ
-  pub results_typed : HasTypes (results_of_procedure known.procedure) results
+  pub results_typed : HasTypes (results_of known.procedure) results
   pub granted : AllByRecursion (λ i. is_true (value (granted_state t (keeping c (held ++ results)) callee args) i.cond) ≡ true) (ensured_conditions known.procedure.specs)
   pub done : d ≡ moved_to (finished t (keeping c (held ++ results)) callee (targets_at c.top.point.todo)) (settled (past_first t.procs c.top.point.todo))
 

@@ -2,19 +2,20 @@
 use Rattle.std.proofs.Common.{◌≡◌, ℕ, zero, suc, ◌+◌, ◌<◌, ◌≤◌, Bool, true, false, List, [], ◌∷◌, ◌++◌, map, length, take, Option, None, Some, refl, sym, ap, ◌∙◌, subst, append_assoc, arith}
 use Rattle.std.specs.Prelude.{slice_get}
 use Rattle.boogie_tree.specs.declared.span.Span.{Span}
-use Rattle.typed_tree.specs.TypedTree.{TypedExpression, TypedInvariant, TypedStatement, Assert, Assume, Havoc, Assign, Call, If, While, Break, Goto, Return, Label, TypedBlock, Empty, Then, TypedProcedure, TypedProgram}
+use Rattle.typed_tree.specs.TypedTree.{TypedExpression, TypedInvariant, Assert, Assume, Havoc, Assign, Call, If, While, Break, Goto, Return, Label, TypedBlock, Empty, Then, TypedProcedure, TypedProgram}
 use Rattle.typing_rules.specs.Counts.{block_assertions, block_points, plain_invariants}
 use Rattle.letter_acts.specs.declared.sites.Site.{Site}
 use Rattle.cond_jumps.specs.Lists.{path_list}
-use Rattle.boogie_points.specs.Points.{Todo, Stage, Start, Entry, Body, Exit, Point, at_exit, settled}
-use Rattle.boogie_points.specs.Actions.{Action, Suppose, Leave, checked, next_part, free_conditions, ensured_conditions, plain_conditions, start_conditions, entry_point, first_point, entry_action, exit_action, start_action, first_assertion, first_place}
+use Rattle.boogie_points.specs.Points.{Todo, Start, Entry, Point, at_exit, settled}
+use Rattle.boogie_points.specs.Actions.{Suppose, Leave, checked, next_part, free_conditions, ensured_conditions, plain_conditions, start_conditions, entry_point, first_point, entry_action, exit_action, start_action, first_assertion, first_place}
 use Rattle.boogie_points.specs.Starts.{point_of_call, point_of_procedure, start_point_of, unless_none}
-use Rattle.boogie_places.specs.Places.{Place, parts_from, points_of, points_of_body, points_with, start_points, starts_if_any, places_from, program_places, located, place_of}
-use Rattle.letter_table.specs.Letters.{Arc, with_arc, with_arcs, no_letters}
+use Rattle.boogie_places.specs.Places.{Place, parts_from, points_of, points_with, start_points, starts_if_any, places_from, program_places, located, place_of}
+use Rattle.letter_table.specs.Letters.{with_arc, with_arcs, no_letters}
 use Rattle.lowered_steps.specs.ProgramFrames.{frame_at}
-use Rattle.lowered_graph.specs.Arcs.{place_number, return_point, return_place, start_arc, arcs_of, program_arcs}
+use Rattle.lowered_graph.specs.Arcs.{place_number, return_point, return_place, start_arc, arcs_of}
 use Rattle.lowered_graph.specs.Lowered.{sites_of}
-use Rattle.lowered_graph.specs.Items.{Needed, path_needed, condition_span, start_span, no_span, earlier, first_of, items_of}
+use Rattle.lowered_graph.specs.Items.{path_needed, condition_span, start_span, earlier, first_of, items_of}
+use Rattle.boogie_tree.specs.Apart.{nowhere}
 use Rattle.lowered_parts.specs.Parts.{Walked, Adds, IsWalked}
 use Rattle.lowered_parts.specs.Lists.{list_arcs}
 use Rattle.lowered_parts.specs.Making.{MakesItem}
@@ -23,7 +24,7 @@ use Rattle.lowered_parts.proofs.Joining.{joined, nothing, no_more}
 use Rattle.lowered_parts.proofs.OneItem.{placed, plain_item, nothing_led}
 use Rattle.lowered_parts.proofs.ActionArcs as arcs
 use Rattle.lowered_parts.proofs.Numbers as numbers
-use Rattle.lowered_parts.proofs.Numbers.{both_added, part_added, located-append}
+use Rattle.lowered_parts.proofs.Numbers.{both_added, part_added}
 use Rattle.lowered_parts.proofs.Statements.{checked_edges, checked_lists, checked_at}
 
 -- ---- numbers
@@ -131,7 +132,7 @@ module _ (t : TypedProgram) (n : ℕ) (q : TypedProcedure) (body : TypedBlock) (
       let next = entry_next (slice_get frees (i + 1)) inv i e refl in
       placed t n here (Suppose inv.cond next.0) inv.span _ _ _ old new
       (numbers.action_is t n q body found whole here ∙ ap (λ (o : Option TypedInvariant). entry_action o (slice_get frees (i + 1)) here) e ∙ next.1)
-      (numbers.span_is t n q body found whole here ∙ ap (condition_span no_span) e) refl p refl
+      (numbers.span_is t n q body found whole here ∙ ap (condition_span nowhere) e) refl p refl
       (checked_edges t n here (first_place t n + i) (first_place t n + (i + 1)) next.0 (number_is here) (sym next.2) true 0 inv.span inv.cond)
       refl h
 
@@ -152,7 +153,7 @@ module _ (t : TypedProgram) (n : ℕ) (q : TypedProcedure) (body : TypedBlock) (
       ∙ ap (λ (m : ℕ). checked inv.free m inv.span inv.cond next) (sym is_number) in
       placed t n here (checked inv.free number inv.span inv.cond next) inv.span _ _ _ old new
       (numbers.action_is t n q body found whole here ∙ action)
-      (numbers.span_is t n q body found whole here ∙ ap (condition_span no_span) e) refl p
+      (numbers.span_is t n q body found whole here ∙ ap (condition_span nowhere) e) refl p
       (checked_at t n here (exit + i) (exit + (i + 1)) next (number_is here) (sym (number_is next)) inv.free number inv.span inv.cond)
       (checked_edges t n here (exit + i) (exit + (i + 1)) next (number_is here) (sym (number_is next)) inv.free number inv.span inv.cond)
       (checked_lists t n here (exit + i) (exit + (i + 1)) next (number_is here) (sym (number_is next)) inv.free number inv.span inv.cond) h
@@ -165,11 +166,11 @@ module _ (t : TypedProgram) (n : ℕ) (q : TypedProcedure) (body : TypedBlock) (
   pub return_added : (w : Walked) → w.program ≡ t → Adds (located n (record at_exit { part = length (ensured_conditions q.specs) } ∷ [])) w w
   return_added w p =
       let here : Point = exit_part (length ensured) in
-      placed t n here Leave no_span [] [] [] w w
+      placed t n here Leave nowhere [] [] [] w w
       (numbers.action_is t n q body found whole here
       ∙ ap (λ (o : Option TypedInvariant). exit_action o (first + (block_assertions t.procs body + plain_invariants (take (length ensured) ensured))) here) (none_behind ensured))
-      (numbers.span_is t n q body found whole here ∙ ap (condition_span no_span) (none_behind ensured)) refl p refl refl refl
-      (plain_item no_span [] w w (nothing_led w))
+      (numbers.span_is t n q body found whole here ∙ ap (condition_span nowhere) (none_behind ensured)) refl p refl refl refl
+      (plain_item nowhere [] w w (nothing_led w))
 
   -- ---- the whole body
 

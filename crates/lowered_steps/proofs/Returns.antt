@@ -16,16 +16,17 @@ use Rattle.cond_jumps.specs.Worth.{Read}
 use Rattle.cond_jumps.specs.Lists.{Decide}
 use Rattle.boogie_points.specs.Points.{Point, settled, past_first}
 use Rattle.boogie_points.specs.Actions as actions
-use Rattle.boogie_points.specs.Actions.{Action, action_at}
+use Rattle.boogie_points.specs.Actions.{action_at}
 use Rattle.boogie_points.specs.Starts.{targets_at}
 use Rattle.boogie_run.specs.Configurations.{Frame, Config, state_of}
 use Rattle.boogie_run.specs.Needs.{locals_at, locals_if_any}
 use Rattle.boogie_run.specs.Steps.{values, all_written, moved_to, results_if_any}
 use Rattle.boogie_run.specs.Steps as steps
+use Rattle.typing_rules.specs.Rules.{results_of as results_of_procedure}
 use Rattle.lowered_steps.specs.ProgramFrames.{frame_at, width_at, shown, variable_values, number_in}
 use Rattle.lowered_steps.specs.Edges.{call_list, columns_before_locals, numbers_in}
 use Rattle.lowered_steps.specs.Stacks.{Pending, Stack, IsStep, back}
-use Rattle.lowered_steps.specs.Moves.{HasTypes, FrameKeeps, results_of_procedure, AreTargets, Awaits, shown_stack, shown_below}
+use Rattle.lowered_steps.specs.Moves.{HasTypes, FrameKeeps, AreTargets, Awaits, shown_stack, shown_below}
 use Rattle.letter_acts.specs.Frames.{IsFrame}
 use Rattle.letter_acts.proofs.FrameLemmas.{IsConsecutive, olds_consecutive, olds_of_variables, olds_are, global_count}
 use Rattle.letter_acts.specs.Frames.{olds_from}

@@ -18,6 +18,7 @@ use Rattle.boogie_points.specs.Points.{Point, settled, past_first}
 use Rattle.boogie_points.specs.Actions as actions
 use Rattle.boogie_points.specs.Actions.{Action, ensured_conditions}
 use Rattle.boogie_points.specs.Starts.{targets_at}
+use Rattle.letter_acts.specs.Reading.{is_listed}
 use Rattle.lowered_steps.specs.ProgramFrames.{frame_at, width_at, number_in}
 
 -- where an inside edge leads in its procedure: to a point, or to the failing of an assertion
@@ -42,15 +43,11 @@ no_rows = record { rows = []; helpers = 0 } ∷ []
 -- ---- calls without body
 
 -- of the numbers those that stand in a list, and those that do not
-abbrev pub is_in : List ℕ → ℕ → Bool
-is_in [] n = false
-is_in (m ∷ ms) n = nat_eq m n || is_in ms n
-
 abbrev pub those_in : List ℕ → List ℕ → List ℕ
-those_in ms ns = filter (is_in ms) ns
+those_in ms ns = filter (is_listed ms) ns
 
 abbrev pub those_not_in : List ℕ → List ℕ → List ℕ
-those_not_in ms ns = filter (λ n. not (is_in ms n)) ns
+those_not_in ms ns = filter (λ n. not (is_listed ms n)) ns
 
 -- the first place of a number in a list, from k on
 abbrev pub found_from : ℕ → List ℕ → ℕ → Option ℕ

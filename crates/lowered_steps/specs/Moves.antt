@@ -21,6 +21,7 @@ use Rattle.boogie_points.specs.Actions.{Action, action_at}
 use Rattle.boogie_run.specs.Configurations.{Frame, Config, state_of}
 use Rattle.boogie_run.specs.Needs.{locals_at, need_of_action, is_taken}
 use Rattle.boogie_run.specs.Steps.{Went, act, number_of, values}
+use Rattle.typing_rules.specs.Rules.{results_of}
 use Rattle.lowered_steps.specs.ProgramFrames.{frame_at, shown}
 use Rattle.lowered_steps.specs.Stacks.{Pending, Stack}
 use Rattle.lowered_steps.specs.Edges.{At}
@@ -131,10 +132,6 @@ shown_stack t c = record { proc = c.top.proc; spot = At c.top.point; values = sh
 
 -- ---- calls that are open
 
--- the results of a procedure, among its locals
-abbrev pub results_of_procedure : TypedProcedure → List VarInfo
-results_of_procedure q = take q.results (drop q.params q.locals)
-
 -- a target for each result, of its type
 abbrev pub AreTargets : TypedProgram → ℕ → List VarInfo → List Column → Type 0
 AreTargets t n [] [] = Unit {0}
@@ -159,7 +156,7 @@ pub record Awaits (t : TypedProgram) (above below : Frame) : Type 0 where
   pub arguments : AreArguments (frame_at t below.proc) (take procedure.params procedure.locals) args
   pub later : List ℤ
   pub passed : above.locals ≡ values (record { globals = above.entry; old = below.entry; locals = below.locals }) args ++ later
-  pub targets : AreTargets t below.proc (results_of_procedure procedure) (targets_at below.point.todo)
+  pub targets : AreTargets t below.proc (results_of procedure) (targets_at below.point.todo)
 
 -- ---- what a configuration keeps in a run
 
@@ -211,7 +208,7 @@ pub record IsKnownCall (t : TypedProgram) (n : ℕ) (p : Point) (f : ℕ) (args 
   pub enough : procedure.params + procedure.results ≤ length procedure.locals
   pub shape : HasParameters procedure
   pub arguments : AreArguments (frame_at t n) (take procedure.params procedure.locals) args
-  pub targets : AreTargets t n (results_of_procedure procedure) (targets_at p.todo)
+  pub targets : AreTargets t n (results_of procedure) (targets_at p.todo)
 
 pub record KnowsPoints (t : TypedProgram) (Known : ℕ → Point → Type 0) : Type 0 where
   pub starts : Known t.entry (start_point_of t (slice_get t.procs t.entry))

@@ -8,7 +8,7 @@ use Rattle.nwa_base.specs.declared.letters.Letter.{Letter}
 use Rattle.letter_acts.specs.Invariant.{Graph}
 use Rattle.farkas_check.specs.Nodes.{PlainNode}
 use Rattle.farkas_check.specs.Refutes.{at_most, above}
-use Rattle.farkas_check.specs.Trees.{Tree, leaf_tree, cut_tree, cases_tree, TreeRefutes}
+use Rattle.farkas_check.specs.Trees.{Tree, leaf_tree, cut_tree, cases_tree, TreeRefutes, cuts_on_branch}
 use Rattle.farkas_check.specs.Trees as trees
 use Rattle.triple_rows.specs.declared.predicates.PredNode.{PredNode}
 use Rattle.triple_rows.specs.declared.predicates.PredNode.TheVariants.{And, Or}
@@ -19,7 +19,7 @@ use Rattle.nested_predicates.specs.Positions.{Position, is_counted, positions_of
 use Rattle.nested_predicates.specs.Sums.{Branch, root_of, with_cut, inequality, terms_from, coefficients_at, bound_at}
 use Rattle.nested_predicates.specs.Joins.{joined, joined_at, simplified}
 use Rattle.nested_predicates.specs.Simplifying.{AreJoined}
-use Rattle.nested_predicates.specs.Interpolants.{cuts_on_branch, scoped_at}
+use Rattle.nested_predicates.specs.Interpolants.{scoped_at}
 use Rattle.nested_predicates.specs.Bases.{node_of}
 use Rattle.nested_predicates.specs.Layouts.{leaf_node}
 use Rattle.nested_predicates.specs.Tables.{cut_node_at, table_along}

@@ -5,13 +5,12 @@ use Rattle.lin_rows.specs.Sums.{is_zero}
 use Rattle.nwa_base.specs.declared.letters.Letter.{Letter}
 use Rattle.letter_acts.specs.Invariant.{Graph}
 use Rattle.farkas_check.specs.Refutes.{at_most, above}
-use Rattle.farkas_check.specs.Trees.{Tree, leaf_tree, cut_tree, cases_tree}
+use Rattle.farkas_check.specs.Trees.{Tree, leaf_tree, cut_tree, cases_tree, cuts_on_branch}
 use Rattle.triple_rows.specs.Predicates.{Formula, truth, atom, and_of, or_of, IsOver, IsTree, nesting, IsTruth, IsPredicate}
 use Rattle.nested_predicates.specs.Stamps.{column_stamp, stamps_of}
 use Rattle.nested_predicates.specs.Positions.{Position, is_counted}
 use Rattle.nested_predicates.specs.Sums.{Branch, root_of, with_cut, column_sums, terms_from, inequality, coefficients_at, bound_at, sum_at}
 use Rattle.nested_predicates.specs.Joins.{joined, joined_at, and_before, and_joined, or_before, or_joined, simplified, predicate_at}
-use Rattle.nested_predicates.specs.Interpolants.{cuts_on_branch}
 
 -- a truth value, or a tree that is nested at most so deep
 abbrev pub IsShallow : ℕ → Formula → Type 0

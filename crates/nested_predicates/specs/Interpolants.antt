@@ -1,5 +1,5 @@
 -- Nested interpolants: the prefix predicates of a word under a refutation of its rows, with a proved triple for each letter.
-use Rattle.std.specs.Prelude.{◌≡◌, ℕ, suc, ◌≤◌, true, false, max, List, [], ◌∷◌, ◌++◌, map}
+use Rattle.std.specs.Prelude.{◌≡◌, ℕ, ◌≤◌, true, false, List, [], ◌∷◌, ◌++◌, map}
 use Rattle.std.specs.List.{AllByRecursion}
 use Rattle.nwa_base.specs.declared.letters.Kind.{Kind}
 use Rattle.nwa_base.specs.declared.letters.Kind.TheVariants as kinds
@@ -9,7 +9,7 @@ use Rattle.lin_rows.specs.Rows.{LinearRow}
 use Rattle.lin_rows.specs.Tightening.{tightened}
 use Rattle.farkas_check.specs.Nodes.{PlainNode}
 use Rattle.farkas_check.specs.Refutes.{Refute}
-use Rattle.farkas_check.specs.Trees.{Tree, Trees, leaf_tree, cut_tree, cases_tree, no_tree, one_more, prefix_of as nodes_of}
+use Rattle.farkas_check.specs.Trees.{Tree, prefix_of as nodes_of, cuts_on_branch}
 use Rattle.triple_rows.specs.declared.predicates.PredNode.TheVariants.{Truth}
 use Rattle.triple_rows.specs.declared.triples.Scoped.{Scoped}
 use Rattle.triple_rows.specs.declared.triples.Triple.{Triple}
@@ -18,17 +18,6 @@ use Rattle.triple_rows.specs.Predicates.{prefix_of}
 use Rattle.triple_rows.specs.Proofs.{PlainProof, IsProofOver}
 use Rattle.nested_predicates.specs.Positions.{Position, positions_of}
 use Rattle.nested_predicates.specs.Joins.{predicate_at}
-
--- how many cuts lie on the branch of a tree that has most
-abbrev mutual
-  pub cuts_on_branch : Tree → ℕ
-  cuts_on_branch (leaf_tree parts) = 0
-  cuts_on_branch (cut_tree c k t u) = suc (max (cuts_on_branch t) (cuts_on_branch u))
-  cuts_on_branch (cases_tree ts) = most_cuts ts
-
-  pub most_cuts : Trees → ℕ
-  most_cuts no_tree = 0
-  most_cuts (one_more t ts) = max (cuts_on_branch t) (most_cuts ts)
 
 -- no branch of the tree with these nodes has more than n cuts
 abbrev pub HasCutsUpTo : ℕ → List PlainNode → Type 0

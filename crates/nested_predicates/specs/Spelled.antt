@@ -4,7 +4,7 @@ use Rattle.std.specs.Global.{Vec}
 use Rattle.nwa_base.specs.declared.letters.Letter.{Letter}
 use Rattle.letter_acts.specs.Invariant.{Graph}
 use Rattle.path_rows.specs.Paths.{path_of}
-use Rattle.farkas_check.specs.Trees.{Tree}
+use Rattle.farkas_check.specs.Trees.{Tree, cuts_on_branch}
 use Rattle.farkas_check.specs.Trees as trees
 use Rattle.triple_rows.specs.declared.predicates.PredNode.{PredNode}
 use Rattle.triple_rows.specs.Predicates.{Formula, prefix_of, formula_of, IsPredicate}
@@ -13,7 +13,7 @@ use Rattle.nested_predicates.specs.Positions.{positions_of}
 use Rattle.nested_predicates.specs.Sums.{root_of}
 use Rattle.nested_predicates.specs.Joins.{simplified}
 use Rattle.nested_predicates.specs.Simplifying.{SpellsJoined}
-use Rattle.nested_predicates.specs.Interpolants.{cuts_on_branch, RefutesRows}
+use Rattle.nested_predicates.specs.Interpolants.{RefutesRows}
 use Rattle.nested_predicates.specs.Tables.{table_along}
 
 -- the nodes at the position spell the formula

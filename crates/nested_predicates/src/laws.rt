@@ -4,11 +4,11 @@ ghost use Rattle.std.specs.Prelude.{◌≤◌, ◌≢◌, ℕ, List, [], length}
 ghost use Rattle.nwa_base.specs.declared.letters.Letter.{Letter};
 ghost use Rattle.letter_acts.specs.Invariant.{Graph};
 ghost use Rattle.path_rows.specs.Paths.{path_of};
-ghost use Rattle.farkas_check.specs.Trees.{Tree, prefix_of};
+ghost use Rattle.farkas_check.specs.Trees.{Tree, prefix_of, cuts_on_branch};
 ghost use Rattle.triple_rows.specs.Predicates.{IsPredicate, IsOver};
 ghost use Rattle.nested_predicates.specs.Positions.{Position};
 ghost use Rattle.nested_predicates.specs.Joins.{predicate_at};
-ghost use Rattle.nested_predicates.specs.Interpolants.{cuts_on_branch, RefutesRows, prefix_predicates, BeginsTrue, EndsFalse};
+ghost use Rattle.nested_predicates.specs.Interpolants.{RefutesRows, prefix_predicates, BeginsTrue, EndsFalse};
 
 /// A prefix predicate is a predicate where no branch of the refutation has more than 200 cuts.
 pub fn prefix_predicates_are_predicates()

@@ -9,7 +9,7 @@ use Rattle.lin_rows.specs.Rows.{LinearRow}
 use Rattle.farkas_check.specs.Trees.{Tree}
 use Rattle.letter_acts.specs.Frames.{Columns, constants_of, olds_of, results_of, variables_of}
 use Rattle.letter_acts.specs.Acts.{PlainAct, call_act, back_act, Alphabet, frame_of, act_of}
-use Rattle.letter_acts.specs.Reading.{taken}
+use Rattle.letter_acts.specs.Reading.{taken, is_listed}
 use Rattle.letter_acts.specs.Invariant.{Graph, IsGraph, alphabet_of, BackIsActed, written_by}
 use Rattle.letter_acts.proofs.KnownLemmas.{act_found}
 use Rattle.path_rows.specs.Versions.{Part, returned, back_part, return_part, part_of, act_part}
@@ -17,7 +17,7 @@ use Rattle.path_rows.specs.Stages.{AreVersions, VersionsAt}
 use Rattle.path_rows.specs.Drafts.{CanGoOn}
 use Rattle.path_rows.proofs.EdgeLemmas.{BackEdge, back_acts}
 use Rattle.triple_rows.specs.Predicates.{Formula}
-use Rattle.triple_rows.specs.Systems.{PlainSystem, only_rows, all_systems, said, denied, is_listed, after_column, call_column, back_system}
+use Rattle.triple_rows.specs.Systems.{PlainSystem, only_rows, all_systems, said, denied, after_column, call_column, back_system}
 use Rattle.frame_rows.specs.Rows.{equal_row, renamed, types_of, types_at, bounds}
 use Rattle.nested_predicates.specs.Stamps.{stamp_of}
 use Rattle.nested_predicates.specs.Positions.{Scope, has_return, returned_by, left, scopes_after, Position, innermost}

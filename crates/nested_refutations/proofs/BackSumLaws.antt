@@ -7,12 +7,12 @@ use Rattle.lin_rows.specs.Rows.{LinearRow}
 use Rattle.lin_rows.specs.Tightening.{tightened}
 use Rattle.letter_acts.specs.Frames.{Columns, constants_of, olds_of, variables_of, results_of}
 use Rattle.letter_acts.specs.Acts.{PlainAct, Alphabet}
-use Rattle.letter_acts.specs.Reading.{taken}
+use Rattle.letter_acts.specs.Reading.{taken, is_listed}
 use Rattle.letter_acts.specs.Invariant.{alphabet_of}
 use Rattle.frame_rows.specs.Rows.{bounds, types_at}
 use Rattle.frame_rows.specs.Rows.{columns_from, renamed, bounds, types_of, types_at, equal_row}
 use Rattle.triple_rows.specs.Predicates.{Formula, prefix_of, formula_of}
-use Rattle.triple_rows.specs.Systems.{PlainSystem, said, denied, is_listed, back_system}
+use Rattle.triple_rows.specs.Systems.{PlainSystem, said, denied, back_system}
 use Rattle.triple_rows.specs.Triples.{return_system_of, back_system_of, system_of}
 use Rattle.triple_rows.proofs.FormulaLaws.{prefix_read}
 use Rattle.nested_predicates.specs.Sums.{root_of}

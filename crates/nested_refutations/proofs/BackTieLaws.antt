@@ -15,7 +15,7 @@ use Rattle.letter_acts.proofs.FrameLemmas.{variables_are, constants_are, variabl
 use Rattle.path_rows.proofs.LayoutLemmas.{length-globals_from}
 use Rattle.path_rows.proofs.OpenLemmas.{at_place}
 use Rattle.path_rows.proofs.DifferLemmas.{places_distinct}
-use Rattle.triple_rows.specs.Systems.{is_listed}
+use Rattle.letter_acts.specs.Reading.{is_listed}
 use Rattle.triple_rows.proofs.ListLaws.{places_below}
 use Rattle.nested_predicates.specs.Positions.{known_at, if_constant, innermost, Position}
 use Rattle.nested_predicates.specs.Sums.{Branch, column_upto, known_sum, coefficients_at}

@@ -15,14 +15,14 @@ use Rattle.nwa_base.specs.declared.letters.Letter.{Letter}
 use Rattle.nwa_base.specs.Automata.{IsAutomaton}
 use Rattle.nwa_base.specs.Acceptance.{Accepts}
 use Rattle.letter_acts.specs.Frames.{Columns, globals_of, constants_of, variables_of, results_of, olds_of}
-use Rattle.letter_acts.specs.Reading.{taken}
+use Rattle.letter_acts.specs.Reading.{taken, is_listed}
 use Rattle.letter_acts.specs.Acts.{PlainAct, inside_act, call_act, back_act, Alphabet, frame_of, act_of}
 use Rattle.letter_acts.specs.Invariant.{Graph, IsGraph, alphabet_of, written_by}
 use Rattle.letter_acts.proofs.KnownLemmas.{act_found}
 use Rattle.path_rows.specs.Paths.{path_of}
 use Rattle.triple_rows.specs.Predicates as predicates
 use Rattle.triple_rows.specs.Predicates.{Formula, formula_of}
-use Rattle.triple_rows.specs.Systems.{PlainSystem, Groups, no_group, groups_joined, only_rows, all_systems, said, denied, is_listed, after_column, call_column, IsSystem, AreGroups, inside_system, call_system, back_system}
+use Rattle.triple_rows.specs.Systems.{PlainSystem, Groups, no_group, groups_joined, only_rows, all_systems, said, denied, after_column, call_column, IsSystem, AreGroups, inside_system, call_system, back_system}
 use Rattle.frame_rows.specs.Rows.{equal_row, renamed, bounds, types_of, types_at}
 use Rattle.triple_rows.specs.Triples.{inside_system_of, call_system_of, return_system_of, back_system_of, system_of}
 use Rattle.triple_rows.proofs.FormulaLaws.{prefix_read}

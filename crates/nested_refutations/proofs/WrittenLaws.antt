@@ -7,12 +7,12 @@ use Rattle.boogie_tree.specs.declared.tree.Column.{Column}
 use Rattle.boogie_tree.specs.declared.tree.VarInfo.{VarInfo}
 use Rattle.nwa_base.specs.Members.{Member}
 use Rattle.letter_acts.specs.Frames.{Columns, is_old_column, is_global, is_variable, added, places, variables_of}
-use Rattle.letter_acts.specs.Reading.{taken}
+use Rattle.letter_acts.specs.Reading.{taken, is_listed}
 use Rattle.letter_acts.specs.Invariant.{AreDistinct, MayTarget, Take, is_global_at, written_by}
 use Rattle.letter_acts.proofs.ListLemmas.{member_or_not, all_member}
 use Rattle.path_rows.proofs.OpenLemmas.{at_place}
 use Rattle.path_rows.proofs.DifferLemmas.{distinct_joined, places_distinct}
-use Rattle.triple_rows.specs.Systems.{is_listed, after_column}
+use Rattle.triple_rows.specs.Systems.{after_column}
 use Rattle.nested_refutations.proofs.ContentLaws.{DiffersBelow}
 use Rattle.nested_refutations.proofs.NamesLaws.{index_member, member_joined}
 use Rattle.nested_refutations.proofs.VersionLaws.{places_differ, after_absent}

@@ -12,7 +12,7 @@ use Rattle.farkas_check.specs.Trees.{Tree, leaf_tree, cut_tree, cases_tree, pref
 use Rattle.nwa_base.specs.declared.letters.Letter.{Letter}
 use Rattle.letter_acts.specs.Frames.{Columns, globals_of, constants_of, variables_of, results_of, olds_of, places, is_local}
 use Rattle.letter_acts.specs.Acts.{PlainAct, inside_act, call_act, back_act, Alphabet, frame_of, act_of}
-use Rattle.letter_acts.specs.Reading.{taken}
+use Rattle.letter_acts.specs.Reading.{taken, is_listed}
 use Rattle.letter_acts.specs.Invariant.{Graph, alphabet_of, written_by}
 use Rattle.frame_rows.specs.Rows.{bounds, types_of, types_at, columns_from}
 use Rattle.frame_rows.specs.Frames.{is_old}
@@ -20,7 +20,7 @@ use Rattle.path_rows.specs.Versions.{Stage, rows_in, locals_of, old_part, part_o
 use Rattle.path_rows.specs.Paths.{start_frame, first_stage}
 use Rattle.triple_rows.specs.declared.triples.Triple.{Triple}
 use Rattle.triple_rows.specs.declared.triples.Triple.TheVariants.{Inside, Call, Back}
-use Rattle.triple_rows.specs.Systems.{PlainFits, after_column, is_listed}
+use Rattle.triple_rows.specs.Systems.{PlainFits, after_column}
 use Rattle.triple_rows.specs.Triples.{system_of}
 use Rattle.nested_predicates.specs.Stamps.{stamps_of}
 use Rattle.nested_predicates.specs.Positions.{Scope, has_return, scopes_after, Position, position_at, positions_of, start_scope}

@@ -7,11 +7,11 @@ use Rattle.farkas_check.specs.Trees.{Tree, Trees, leaf_tree, cut_tree, cases_tre
 use Rattle.nwa_base.specs.declared.letters.Letter.{Letter}
 use Rattle.letter_acts.specs.Frames.{globals_of, constants_of, variables_of, results_of, olds_of}
 use Rattle.letter_acts.specs.Acts.{PlainAct, inside_act, call_act, back_act, Alphabet, frame_of}
-use Rattle.letter_acts.specs.Reading.{taken}
+use Rattle.letter_acts.specs.Reading.{taken, is_listed}
 use Rattle.letter_acts.specs.Invariant.{Graph, alphabet_of}
 use Rattle.triple_rows.specs.declared.triples.Triple.{Triple}
 use Rattle.triple_rows.specs.declared.triples.Triple.TheVariants.{Inside, Call, Back}
-use Rattle.triple_rows.specs.Systems.{is_listed, IsSystem}
+use Rattle.triple_rows.specs.Systems.{IsSystem}
 use Rattle.triple_rows.specs.Triples.{system_of}
 use Rattle.nested_predicates.specs.Sums.{root_of}
 use Rattle.nested_refutations.specs.Refutations.{is_same, Claim, Spot, truth_in, left_at, exposed, View, Goes, Stop, at_leaf, at_cut, at_group, nowhere, stops, stops_at, with_own, opened, leaf_of}

@@ -30,7 +30,8 @@ use Rattle.boogie_places.specs.Places.{parts_from, located}
 use Rattle.letter_table.specs.Letters.{inside_arc, with_arc}
 use Rattle.lowered_steps.specs.ProgramFrames.{frame_at}
 use Rattle.lowered_graph.specs.Arcs.{place_number, entering, entering_rows}
-use Rattle.lowered_graph.specs.Items.{path_needed, no_span, expression_span, condition_span, start_span}
+use Rattle.lowered_graph.specs.Items.{path_needed, expression_span, condition_span, start_span}
+use Rattle.boogie_tree.specs.Apart.{nowhere}
 use Rattle.lowered_parts.specs.Parts.{Walked, Adds}
 use Rattle.lowered_parts.specs.Lists.{list_arcs}
 use Rattle.lowered_parts.specs.Making.{MakesItem}
@@ -126,8 +127,8 @@ span_before [] is i e h = cc
 span_before (x ∷ es) is zero e h = let f : x ≡ e = cc in ap expression_span f
 span_before (x ∷ es) is (suc i) e h = span_before es is i e h
 
-span_behind : (es : List TypedExpression) (is : List TypedInvariant) (k : ℕ) → start_span es is (length es + k) ≡ condition_span no_span (slice_get is k)
-span_behind [] is k = let e : 0 + k ≡ k = omega arith in ap (λ (m : ℕ). condition_span no_span (slice_get is m)) e
+span_behind : (es : List TypedExpression) (is : List TypedInvariant) (k : ℕ) → start_span es is (length es + k) ≡ condition_span nowhere (slice_get is k)
+span_behind [] is k = let e : 0 + k ≡ k = omega arith in ap (λ (m : ℕ). condition_span nowhere (slice_get is m)) e
 span_behind (x ∷ es) is k =
     let e : suc (length es) + k ≡ suc (length es + k) = omega arith in
     ap (start_span (x ∷ es) is) e ∙ span_behind es is k
@@ -172,7 +173,7 @@ said_one t number i said rest old new e one =
     (ap (slice_get (start_conditions t q)) place ∙ ap (λ (l : List TypedExpression). slice_get l (length (t.axioms ++ map (λ j. j.cond) before))) whole_list
     ∙ get_behind (t.axioms ++ map (λ j. j.cond) before) i.cond (map (λ j. j.cond) rest))
     (ap (start_span t.axioms (plain_conditions q.specs)) count ∙ span_behind t.axioms (plain_conditions q.specs) (length before)
-    ∙ ap (λ (l : List TypedInvariant). condition_span no_span (slice_get l (length before))) split ∙ ap (condition_span no_span) (get_behind before i rest)))
+    ∙ ap (λ (l : List TypedInvariant). condition_span nowhere (slice_get l (length before))) split ∙ ap (condition_span nowhere) (get_behind before i rest)))
 
 plain_append : (xs ys : List TypedSpecification) → plain_conditions (xs ++ ys) ≡ plain_conditions xs ++ plain_conditions ys
 plain_append [] ys = refl

@@ -10,13 +10,12 @@ use Rattle.triple_rows.specs.declared.predicates.PredNode.{PredNode}
 use Rattle.triple_rows.specs.declared.predicates.PredNode.TheVariants.{Truth}
 use Rattle.triple_rows.specs.declared.triples.Scoped.{Scoped}
 use Rattle.triple_rows.specs.Predicates.{Formula, truth, atom, and_of, or_of, formula_of, IsTruth, IsOver}
-use Rattle.triple_rows.specs.Triples.{IsScoped, InsideAgrees, CallAgrees, ReturnAgrees, BackAgrees}
+use Rattle.triple_rows.specs.Triples.{IsScoped, InsideAgrees, CallAgrees, ReturnAgrees, BackAgrees, truth_of}
 use Rattle.triple_rows.specs.Proofs.{PlainProof}
 use Rattle.triple_rows.proofs.ListLaws.{within}
 use Rattle.itp_automaton.specs.Certified.{Certificate}
 use Rattle.itp_automaton.specs.Making.{named_in}
 use Rattle.itp_automaton.proofs.StateLaws.{member_at, place_of, one_place, distinct_more}
-use Rattle.proof_names.specs.Naming.{truth_in}
 use Rattle.proof_spell.specs.Correspond.{Correspond}
 use Rattle.proof_spell.specs.Drafts.{MayBeNamed}
 use Rattle.proof_build.specs.Numbering.{HasBody, IsNumberOf, IsNumber, truth_number, AreNumbers, number_at, AreListed, IsNumbered, AreNumbered, AreAllNumbered, ListsMore}
@@ -24,8 +23,8 @@ use Rattle.proof_build.proofs.ListLaws.{got_front, got_last, all_push, all_mappe
 use Rattle.proof_build.proofs.ScopeLaws.{all_of_member}
 
 -- a truth value of its procedure, as a predicate
-truth_is : (p : ℕ) (b : Bool) (s : Scoped) → Some (truth_in p b) ≡ Some s → s.pred ≡ Truth b ∷ []
-truth_is p b s e = let k : truth_in p b ≡ s = cc in sym (ap (λ (x : Scoped). x.pred) k)
+truth_is : (p : ℕ) (b : Bool) (s : Scoped) → Some (truth_of p b) ≡ Some s → s.pred ≡ Truth b ∷ []
+truth_is p b s e = let k : truth_of p b ≡ s = cc in sym (ap (λ (x : Scoped). x.pred) k)
 
 pub number_within : (preds : List Scoped) (s : Scoped) (k : ℕ) → IsNumberOf preds s k → k < 2 + length preds
 number_within preds s zero h = omega arith

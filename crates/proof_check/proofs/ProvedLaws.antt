@@ -13,7 +13,7 @@ use Rattle.farkas_check.specs.Nodes.{PlainNode}
 use Rattle.triple_rows.specs.declared.triples.Scoped.{Scoped}
 use Rattle.triple_rows.specs.declared.triples.Triple.{Triple}
 use Rattle.triple_rows.specs.Predicates.{truth, SpellsPredicate}
-use Rattle.triple_rows.specs.Triples.{HasTarget, IsRefuted}
+use Rattle.triple_rows.specs.Triples.{HasTarget, IsRefuted, truth_of}
 use Rattle.triple_rows.proofs.ListLaws.{within, something_at}
 use Rattle.triple_rows.proofs.ValidLaws.{refuted_valid}
 use Rattle.proof_form.specs.Lines as form
@@ -23,7 +23,7 @@ use Rattle.proof_names.specs.declared.outlines.Listed.{Listed}
 use Rattle.proof_names.specs.declared.outlines.Listed.TheVariants.{Inside, Call, Back}
 use Rattle.proof_names.specs.declared.outlines.NamedTriple.{NamedTriple}
 use Rattle.proof_names.specs.Predicates.{pred_named}
-use Rattle.proof_names.specs.Naming.{truth_in, scoped_at, inside_at, call_at, return_at, back_at, triple_at, NamesTriple}
+use Rattle.proof_names.specs.Naming.{scoped_at, inside_at, call_at, return_at, back_at, triple_at, NamesTriple}
 use Rattle.proof_names.specs.Items.{pred_at, Names}
 use Rattle.proof_names.specs.Outlines.{Sketch}
 use Rattle.proof_names.proofs.SpelledLaws.{pred_spells}
@@ -55,12 +55,12 @@ preds_spell g a h k sc e =
     let b = both_hold (list_all form.is_pred a.preds) _ h in
     spelled_line g (slice_get a.preds k) sc (λ p i. passes_at a.preds k p b.0 i) e
 
-truth_spells : (p : ℕ) (value : Bool) → SpellsPredicate (truth_in p value).pred
+truth_spells : (p : ℕ) (value : Bool) → SpellsPredicate (truth_of p value).pred
 truth_spells p value = (truth value, refl, inl tt)
 
 scoped_spells : (preds : ℕ → Option Scoped) (p k : ℕ) (sc : Scoped) → Spell preds → scoped_at preds p k ≡ Some sc → SpellsPredicate sc.pred
-scoped_spells preds p zero sc h e = let i : truth_in p true ≡ sc = cc in subst (λ (x : Scoped). SpellsPredicate x.pred) i (truth_spells p true)
-scoped_spells preds p (suc zero) sc h e = let i : truth_in p false ≡ sc = cc in subst (λ (x : Scoped). SpellsPredicate x.pred) i (truth_spells p false)
+scoped_spells preds p zero sc h e = let i : truth_of p true ≡ sc = cc in subst (λ (x : Scoped). SpellsPredicate x.pred) i (truth_spells p true)
+scoped_spells preds p (suc zero) sc h e = let i : truth_of p false ≡ sc = cc in subst (λ (x : Scoped). SpellsPredicate x.pred) i (truth_spells p false)
 scoped_spells preds p (suc (suc k)) sc h e = h k sc e
 
 inside_target : (preds : ℕ → Option Scoped) (q l r : ℕ) (o : Option PlainAct) (t : Triple) → Spell preds → inside_at preds q l r o ≡ Some t → HasTarget t

@@ -19,12 +19,12 @@ use Rattle.letter_acts.proofs.KnownLemmas.{inside_edge_known, call_edge_known, b
 use Rattle.triple_rows.specs.declared.triples.Scoped.{Scoped}
 use Rattle.triple_rows.specs.declared.triples.Triple.{Triple}
 use Rattle.triple_rows.specs.declared.triples.Triple.TheVariants as triples
-use Rattle.triple_rows.specs.Triples.{ScopedHolds, IsValid}
+use Rattle.triple_rows.specs.Triples.{ScopedHolds, IsValid, truth_of}
 use Rattle.proof_names.specs.declared.outlines.Listed.{Listed}
 use Rattle.proof_names.specs.declared.outlines.Listed.TheVariants.{Inside, Call, Back}
 use Rattle.proof_names.specs.declared.outlines.NamedStep.{NamedStep}
 use Rattle.proof_names.specs.declared.outlines.NamedStep.TheVariants as steps
-use Rattle.proof_names.specs.Naming.{truth_in, scoped_at, triple_at}
+use Rattle.proof_names.specs.Naming.{scoped_at, triple_at}
 use Rattle.proof_names.specs.Outlines.{Node, Sketch}
 use Rattle.proof_check.specs.Steps.{IsNode, IsOf, IsOpen, Lists, StepIsSound, ReturnIsSound, IsSound, HasSteps, HasBacks}
 use Rattle.proof_check.specs.Proves.{HasStart}
@@ -69,12 +69,12 @@ AreLinked g preds s entry (c ∷ stack) = (n : ℕ) × (x : Node) × IsOpenCall 
 
 false_holds_not : (preds : ℕ → Option Scoped) (s : Situation) → HoldsAt preds 1 s → ⊥
 false_holds_not preds s h =
-    let k : Some (truth_in s.proc false) ≡ Some h.0 = h.1 in
-    let e : truth_in s.proc false ≡ h.0 = cc in
+    let k : Some (truth_of s.proc false) ≡ Some h.0 = h.1 in
+    let e : truth_of s.proc false ≡ h.0 = cc in
     (subst (λ (sc : Scoped). ScopedHolds sc s) (sym e) h.2).1
 
 true_holds : (preds : ℕ → Option Scoped) (s : Situation) → HoldsAt preds 0 s
-true_holds preds s = (truth_in s.proc true, refl, (refl, tt))
+true_holds preds s = (truth_of s.proc true, refl, (refl, tt))
 
 -- a node that describes something lacks false
 describes_open : (preds : ℕ → Option Scoped) (x : Node) (c : ℕ × Situation) → Describes preds x c → IsOpen x

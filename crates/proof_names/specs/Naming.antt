@@ -1,15 +1,14 @@
 -- What each line of an annotation names.
-use Rattle.std.specs.Prelude.{◌≡◌, ◌⊎◌, ℕ, zero, suc, ◌+◌, Bool, true, false, IsTrue, List, [], ◌∷◌, map, Option, None, Some, IsSomeAnd, slice_get}
+use Rattle.std.specs.Prelude.{◌≡◌, ◌⊎◌, ℕ, zero, suc, ◌+◌, true, false, IsTrue, List, [], ◌∷◌, map, Option, None, Some, IsSomeAnd, slice_get}
 use Rattle.std.specs.Option.{option_map}
 use Rattle.std.specs.List.{AllByRecursion}
 use Rattle.letter_acts.specs.Acts.{PlainAct, inside_act, call_act, back_act, Alphabet, frame_of}
 use Rattle.letter_acts.specs.Invariant.{Graph, alphabet_of, IsPlaceOf, inside_width, call_width}
 use Rattle.letter_acts.specs.Widths.{back_width}
-use Rattle.triple_rows.specs.declared.predicates.PredNode.TheVariants.{Truth}
 use Rattle.triple_rows.specs.declared.triples.Scoped.{Scoped}
 use Rattle.triple_rows.specs.declared.triples.Triple.{Triple}
 use Rattle.triple_rows.specs.declared.triples.Triple.TheVariants as triples
-use Rattle.triple_rows.specs.Triples.{Agrees}
+use Rattle.triple_rows.specs.Triples.{Agrees, truth_of}
 use Rattle.proof_form.specs.declared.lines.StepLine.{StepLine}
 use Rattle.proof_form.specs.declared.lines.StepLine.TheVariants as lines
 use Rattle.proof_form.specs.Refutations.{RefutationNode}
@@ -27,14 +26,10 @@ use Rattle.proof_names.specs.Outlines.{Node}
 
 -- ---- predicates by number
 
--- true or false, in a procedure
-abbrev pub truth_in : ℕ → Bool → Scoped
-truth_in p value = record { proc = p; pred = Truth value ∷ [] }
-
 -- the predicate with this number in a procedure: 0 is true and 1 is false in every procedure, the lines have the numbers from 2 on
 abbrev pub scoped_at : (ℕ → Option Scoped) → ℕ → ℕ → Option Scoped
-scoped_at preds p zero = Some (truth_in p true)
-scoped_at preds p (suc zero) = Some (truth_in p false)
+scoped_at preds p zero = Some (truth_of p true)
+scoped_at preds p (suc zero) = Some (truth_of p false)
 scoped_at preds p (suc (suc k)) = preds k
 
 -- the number is that of a predicate of the procedure

@@ -8,6 +8,7 @@ ghost use Rattle.letter_acts.specs.Kept.{Keeps};
 ghost use Rattle.letter_acts.specs.Invariant.{alphabet_of, is_global_at, written_by, BackIsActedFrom};
 ghost use Rattle.proof_form.specs.Lines as lines;
 ghost use Rattle.proof_form.specs.Refutations as form;
+ghost use Rattle.triple_rows.specs.Triples.{truth_of};
 ghost use Rattle.proof_names.specs.declared.outlines.NamedTriple.{NamedTriple};
 ghost use Rattle.letter_acts.specs.Widths.{back_width};
 ghost use Rattle.proof_names.specs.Naming as spec;
@@ -27,7 +28,7 @@ use triple_rows::{PredNode, Scoped, Triple, agrees, pred};
 
 /// The predicate that is true or false in a procedure.
 fn truth(alloc: Global, proc: u32, value: bool) -> Result<Option<Scoped>, AllocError>
-    ensures { IfOk result (λ o. o ≡ Some (spec.truth_in proc value)) }
+    ensures { IfOk result (λ o. o ≡ Some (truth_of proc value)) }
 {
     let mut nodes = Vec::new(alloc);
     nodes.push(PredNode::Truth(value))?;

@@ -13,7 +13,8 @@ use Rattle.fm_elim.specs.Columns.{SetAside, step}
 use Rattle.fm_elim.specs.Values.{value_of}
 use Rattle.fm_elim.specs.Elimination as outcome
 use Rattle.int_decide.specs.Decisions.{Decision, refuted, whole, gap, beside, under, WhereRefuted}
-use Rattle.int_decide.specs.Decide.{first_broken, floor_of, by_values, by_outcome, decide_rows}
+use Rattle.int_decide.specs.Decide.{first_broken, by_values, by_outcome, decide_rows}
+use Rattle.fm_elim.specs.Quotients.{floor}
 use Rattle.nwa_base.specs.declared.letters.Letter.{Letter}
 use Rattle.letter_acts.specs.Invariant.{Graph}
 use Rattle.letter_acts.proofs.ListLemmas.{all_append}
@@ -84,7 +85,7 @@ cut_within n c k (refuted ns) (refuted ms) l h i = (l, all_append (IsCutWithin n
 values_within : (n : ℕ) (broken : ℕ → ℤ → Decision) (values : List Fraction) (x : Option (ℕ × Fraction)) → ((c : ℕ) (k : ℤ) → c < n → CutsWithin n (broken c k)) →
     IsBrokenWithin n x → CutsWithin n (by_values broken values x)
 values_within n broken values None f h = tt
-values_within n broken values (Some x) f h = f x.0 (floor_of x.1) h
+values_within n broken values (Some x) f h = f x.0 (floor x.1) h
 
 outcome_within : (n : ℕ) (broken : ℕ → ℤ → Decision) (o : outcome.Outcome) → ((c : ℕ) (k : ℤ) → c < n → CutsWithin n (broken c k)) → HasValues n o →
     CutsWithin n (by_outcome broken o)

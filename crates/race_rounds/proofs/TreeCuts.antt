@@ -1,9 +1,9 @@
 -- A prefix list is that of one tree, so the cuts on its branches are those of the list.
-use Rattle.std.proofs.Common.{◌≡◌, ◌≤◌, ◌+◌, ℕ, zero, suc, ℤ, max, List, [], ◌∷◌, ◌++◌, sym, ap, subst, ◌∙◌, refl, append_assoc, arith}
-use Rattle.farkas_check.specs.Nodes.{PlainNode, leaf, cut, cases}
-use Rattle.farkas_check.specs.Trees.{Tree, Trees, leaf_tree, cut_tree, cases_tree, no_tree, one_more, tree_count, prefix_of, prefixes_of}
+use Rattle.std.proofs.Common.{◌≡◌, ◌≤◌, ◌+◌, ℕ, List, [], ◌∷◌, ◌++◌, sym, ap, subst, ◌∙◌, refl, append_assoc, arith}
+use Rattle.farkas_check.specs.Nodes.{PlainNode}
+use Rattle.farkas_check.specs.Trees.{Tree, Trees, leaf_tree, cut_tree, cases_tree, no_tree, one_more, tree_count, prefix_of, prefixes_of, cuts_on_branch}
 use Rattle.int_decide.specs.Worth as worth
-use Rattle.nested_predicates.specs.Interpolants.{cuts_on_branch, most_cuts, HasCutsUpTo}
+use Rattle.nested_predicates.specs.Interpolants.{HasCutsUpTo}
 
 mutual
   same_tree : (t u : Tree) (ns ms : List PlainNode) → prefix_of t ++ ns ≡ prefix_of u ++ ms → (t ≡ u) × (ns ≡ ms)
@@ -40,18 +40,8 @@ mutual
       let x = first.0 in let y = rest.0 in
       (cc, rest.1)
 
-mutual
-  same_cuts : (t : Tree) → cuts_on_branch t ≡ worth.cuts_of t
-  same_cuts (leaf_tree p) = refl
-  same_cuts (cut_tree c k t u) = let a = same_cuts t in let b = same_cuts u in cc
-  same_cuts (cases_tree ts) = same_most ts
-
-  same_most : (ts : Trees) → most_cuts ts ≡ worth.most_cuts ts
-  same_most no_tree = refl
-  same_most (one_more t ts) = let a = same_cuts t in let b = same_most ts in cc
-
 pub few_cuts : (d : ℕ) (nodes : List PlainNode) → d ≤ 64 → worth.IsTreeOf d nodes → HasCutsUpTo 64 nodes
 few_cuts d nodes l h = λ t e.
     let same : t ≡ h.tree = (same_tree t h.tree [] [] (ap (λ (ns : List PlainNode). ns ++ []) (e ∙ sym h.prefix))).0 in
-    let b = same_cuts h.tree in let f = h.few_cuts in
-    subst (λ (u : Tree). cuts_on_branch u ≤ 64) (sym same) (omega (arith, b, f, l))
+    let f = h.few_cuts in
+    subst (λ (u : Tree). cuts_on_branch u ≤ 64) (sym same) (omega (arith, f, l))

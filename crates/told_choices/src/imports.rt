@@ -6,6 +6,7 @@ ghost use Rattle.math_facts.specs.Fits.{Fits};
 ghost use Rattle.std.specs.List.{AllByRecursion};
 ghost use Rattle.typing_rules.specs.TypedParts.{typed_program};
 ghost use Rattle.letter_acts.specs.Values.{picked};
+ghost use Rattle.letter_acts.specs.Reading.{is_listed};
 ghost use Rattle.lowered_steps.specs.Edges as edges;
 ghost use Rattle.lowered_imports.specs.Imports as spec;
 ghost use Rattle.lowered_runs.specs.Choices.{call_choices};
@@ -19,7 +20,7 @@ use std::alloc::{AllocError, Global};
 use typing_rules::Typed;
 
 fn is_in(numbers: &[usize], number: u32) -> bool
-    ensures { result ≡ edges.is_in numbers.now number }
+    ensures { result ≡ is_listed numbers.now number }
 {
     for listed in numbers {
         if *listed == number as usize {

@@ -5,11 +5,11 @@ use Rattle.lin_rows.specs.Rows.{LinearRow}
 use Rattle.lin_rows.specs.Negating.{negated}
 use Rattle.lin_rows.specs.Systems.{members_of}
 use Rattle.letter_acts.specs.Frames.{Columns, constants_of, variables_of, results_of, olds_of}
-use Rattle.letter_acts.specs.Reading.{taken}
+use Rattle.letter_acts.specs.Reading.{taken, is_listed}
 use Rattle.letter_acts.specs.Invariant.{written_by}
 use Rattle.triple_rows.specs.declared.drafts.Draft.{Draft}
 use Rattle.triple_rows.specs.Predicates.{Formula, Formulas}
-use Rattle.triple_rows.specs.Systems.{PlainSystem, Groups, Members, plain_system, AreGroups, only_rows, is_listed, after_column, call_column, said, all_said, members_said, denied, all_denied, members_denied}
+use Rattle.triple_rows.specs.Systems.{PlainSystem, Groups, Members, plain_system, AreGroups, only_rows, after_column, call_column, said, all_said, members_said, denied, all_denied, members_denied}
 use Rattle.frame_rows.specs.Rows.{renamed, equal_row}
 
 abbrev pub rows_in : PlainSystem → List LinearRow

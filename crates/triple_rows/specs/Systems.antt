@@ -1,5 +1,5 @@
 -- Systems as plain trees, and the systems of triples, row by row.
-use Rattle.std.specs.Prelude.{◌≡◌, ◌⊎◌, ℕ, suc, ◌+◌, ◌-◌, ℤ, Bool, true, false, List, [], ◌∷◌, ◌++◌, map, filter, length, nat_eq, nat_lt, not, ◌||◌, if◌then◌else◌}
+use Rattle.std.specs.Prelude.{◌≡◌, ◌⊎◌, ℕ, suc, ◌+◌, ◌-◌, ℤ, true, false, List, [], ◌∷◌, ◌++◌, map, filter, length, nat_eq, nat_lt, not, ◌||◌, if◌then◌else◌}
 use Rattle.std.specs.List.{AllByRecursion}
 use Rattle.boogie_tree.specs.declared.tree.Ty.TheVariants as types
 use Rattle.lin_rows.specs.declared.systems.System.{System}
@@ -8,7 +8,7 @@ use Rattle.lin_rows.specs.Negating.{negated}
 use Rattle.lin_rows.specs.Tightening.{never}
 use Rattle.lin_rows.specs.Systems.{rows_of, groups_of}
 use Rattle.letter_acts.specs.Frames.{Columns, globals_of, constants_of, variables_of, results_of, olds_of}
-use Rattle.letter_acts.specs.Reading.{taken}
+use Rattle.letter_acts.specs.Reading.{taken, is_listed}
 use Rattle.letter_acts.specs.Invariant.{written_by}
 use Rattle.frame_rows.specs.Rows.{renamed, equal_row, bounds, types_of, types_at}
 use Rattle.triple_rows.specs.Predicates.{Formula, Formulas, truth, atom, and_of, or_of, no_formula, one_more}
@@ -130,11 +130,6 @@ abbrev mutual
   members_denied to (one_more f fs) = one_member (denied to f) (members_denied to fs)
 
 -- ---- the other rows
-
--- the number stands in the list
-abbrev pub is_listed : List ℕ → ℕ → Bool
-is_listed [] c = false
-is_listed (d ∷ ds) c = nat_eq d c || is_listed ds c
 
 -- ---- the systems of triples
 

@@ -1,16 +1,21 @@
 -- Triples: when their scopes agree with their letter, when they are valid, and which system each has.
-use Rattle.std.specs.Prelude.{◌≡◌, ℕ, ◌<◌, List, [], length, Option, None, Some, slice_get}
+use Rattle.std.specs.Prelude.{◌≡◌, ℕ, ◌<◌, Bool, List, [], ◌∷◌, length, Option, None, Some, slice_get}
 use Rattle.lin_rows.specs.declared.systems.System.{System}
 use Rattle.lin_rows.specs.Points.{point_of}
 use Rattle.letter_acts.specs.Acts.{PlainAct, inside_act, call_act, back_act, Alphabet, frame_of}
 use Rattle.letter_acts.specs.Meaning.{Situation, ActInside, ActCalls, ActReturns}
 use Rattle.farkas_check.specs.Nodes.{PlainNode}
 use Rattle.farkas_check.specs.Refutes.{Refutes}
+use Rattle.triple_rows.specs.declared.predicates.PredNode.TheVariants.{Truth}
 use Rattle.triple_rows.specs.declared.triples.Scoped.{Scoped}
 use Rattle.triple_rows.specs.declared.triples.Triple.{Triple}
 use Rattle.triple_rows.specs.declared.triples.Triple.TheVariants.{Inside, Call, Back}
 use Rattle.triple_rows.specs.Predicates.{Formula, formula_of, FormulaHolds, IsOver, SpellsPredicate}
 use Rattle.triple_rows.specs.Systems.{PlainSystem, only_rows, PlainFits, IsSystem, inside_system, call_system, back_system}
+
+-- the predicate true, or false, of a procedure
+abbrev pub truth_of : ℕ → Bool → Scoped
+truth_of p b = record { proc = p; pred = Truth b ∷ [] }
 
 -- the situation is in the predicate's procedure, and its values meet the predicate
 abbrev pub ScopedHolds : Scoped → Situation → Type 0

@@ -2,9 +2,8 @@
 
 ghost use Rattle.std.specs.Prelude.{◌≡◌, ℕ, ◌≤◌, ◌^◌, IfOk, map, filter, length, not};
 ghost use Rattle.letter_acts.specs.Frames.{olds_of};
-ghost use Rattle.letter_acts.specs.Reading.{taken};
+ghost use Rattle.letter_acts.specs.Reading.{taken, is_listed};
 ghost use Rattle.letter_acts.specs.Invariant.{is_global_at};
-ghost use Rattle.triple_rows.specs.Systems.{is_listed};
 ghost use Rattle.triple_rows.specs.Tables.{old_global};
 
 use boogie_tree::{Column, VarInfo};

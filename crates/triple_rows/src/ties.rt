@@ -4,9 +4,9 @@ ghost use Rattle.std.specs.Prelude.{◌≡◌, ◌+◌, ◌<◌, ◌≤◌, ◌^
 ghost use Rattle.std.specs.List.{AllByRecursion};
 ghost use Rattle.math_facts.specs.Terms.{IsBelow};
 ghost use Rattle.letter_acts.specs.Frames.{places, olds_of, variables_of, results_of};
-ghost use Rattle.letter_acts.specs.Reading.{taken};
+ghost use Rattle.letter_acts.specs.Reading.{taken, is_listed};
 ghost use Rattle.letter_acts.specs.Invariant.{AreDistinct};
-ghost use Rattle.triple_rows.specs.Systems.{PlainFits, only_rows, is_listed};
+ghost use Rattle.triple_rows.specs.Systems.{PlainFits, only_rows};
 ghost use Rattle.frame_rows.specs.Rows.{renamed, equal_row, bounds, types_of, types_at};
 ghost use Rattle.frame_rows.specs.Frames.{is_of};
 ghost use Rattle.triple_rows.specs.Drafts.{Adds};

@@ -9,7 +9,7 @@ use Rattle.boogie_tree.specs.declared.tree.Column.TheVariants.{Global, Old, Loca
 use Rattle.letter_acts.specs.Frames.{Columns, added, places, old_at, olds_from, olds_of}
 use Rattle.frame_rows.specs.Rows.{columns_from}
 use Rattle.frame_rows.specs.Frames.{is_old}
-use Rattle.triple_rows.specs.Systems.{is_listed}
+use Rattle.letter_acts.specs.Reading.{is_listed}
 
 -- ---- columns in order
 

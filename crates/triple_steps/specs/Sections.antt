@@ -3,9 +3,8 @@ use Rattle.std.specs.Prelude.{◌≡◌, ℕ, ◌+◌, not, List, [], ◌∷◌,
 use Rattle.nwa_base.specs.declared.letters.Letter.{Letter}
 use Rattle.letter_acts.specs.Frames.{Columns, globals_of, constants_of, variables_of, results_of, olds_of}
 use Rattle.letter_acts.specs.Invariant.{Graph}
-use Rattle.letter_acts.specs.Reading.{taken}
+use Rattle.letter_acts.specs.Reading.{taken, is_listed}
 use Rattle.farkas_check.specs.Trees.{Tree}
-use Rattle.triple_rows.specs.Systems.{is_listed}
 use Rattle.nested_refutations.specs.Refutations.{Claim, Role, target_tie, opposite_tie, source_tie, View}
 use Rattle.nested_refutations.specs.Numbers.{spares, branch_rows, roles_of}
 use Rattle.triple_steps.specs.declared.sections.Tie.{Tie}

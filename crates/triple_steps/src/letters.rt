@@ -4,11 +4,10 @@ ghost use Rattle.std.specs.Prelude.{◌≡◌, ◌++◌, ◌∷◌, [], IfOk, On
 ghost use Rattle.nwa_base.specs.declared.letters.Letter.{Letter};
 ghost use Rattle.letter_acts.specs.Frames.{globals_of, constants_of, variables_of, results_of, olds_of};
 ghost use Rattle.letter_acts.specs.Invariant.{Graph, Take};
-ghost use Rattle.letter_acts.specs.Reading.{taken};
+ghost use Rattle.letter_acts.specs.Reading.{taken, is_listed};
 ghost use Rattle.frame_rows.specs.Rows.{bounds, types_at};
 ghost use Rattle.path_rows.specs.Versions.{locals_of, old_part};
 ghost use Rattle.farkas_check.specs.Trees.{Tree};
-ghost use Rattle.triple_rows.specs.Systems.{is_listed};
 ghost use Rattle.nested_refutations.specs.Refutations.{View, target_tie, source_tie, opposite_tie};
 ghost use Rattle.nested_refutations.specs.Numbers.{spares, branch_rows, bounds_in, before_bounds, callee_bounds, made_by_call};
 ghost use Rattle.triple_steps.specs.Sections.{section_roles, roles_in, claims_in, claim_roles, ClaimsStand, call_counts, back_counts, AddsRoles};

@@ -4,9 +4,8 @@ ghost use Rattle.std.specs.Prelude.{◌≡◌, ℕ, ◌++◌, not, IfOk, OnOk, m
 ghost use Rattle.std.specs.HashSet.{contains};
 ghost use Rattle.letter_acts.specs.Frames.{globals_of, constants_of, variables_of, results_of, olds_of};
 ghost use Rattle.letter_acts.specs.Invariant.{Take, written_by, is_global_at};
-ghost use Rattle.letter_acts.specs.Reading.{taken};
+ghost use Rattle.letter_acts.specs.Reading.{taken, is_listed};
 ghost use Rattle.nested_refutations.specs.Refutations.{target_tie, source_tie};
-ghost use Rattle.triple_rows.specs.Systems.{is_listed};
 ghost use Rattle.triple_steps.specs.Sections.{AddsRoles};
 
 use crate::classes::{Class, add_if, is_of, places};

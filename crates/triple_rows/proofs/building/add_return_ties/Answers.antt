@@ -3,11 +3,11 @@ use Rattle.std.specs.Prelude.{filter}
 use Rattle.std.specs.List.{AllByRecursion}
 use Rattle.lin_rows.specs.Rows.{LinearRow}
 use Rattle.letter_acts.specs.Frames.{constants_of, variables_of, results_of, olds_of}
-use Rattle.letter_acts.specs.Reading.{taken}
+use Rattle.letter_acts.specs.Reading.{taken, is_listed}
 use Rattle.letter_acts.specs.Invariant.{written_by}
 use Rattle.letter_acts.proofs.ListLemmas.{all_weaker}
 use Rattle.triple_rows.specs.declared.drafts.Draft.{Draft}
-use Rattle.triple_rows.specs.Systems.{PlainFits, only_rows, is_listed, after_column, call_column}
+use Rattle.triple_rows.specs.Systems.{PlainFits, only_rows, after_column, call_column}
 use Rattle.triple_rows.specs.Drafts.{Adds}
 use Rattle.triple_rows.proofs.ListLaws.{all_passed}
 use Rattle.triple_rows.proofs.PieceLaws.{ties_by_tables, rows_by_table, within_tables}

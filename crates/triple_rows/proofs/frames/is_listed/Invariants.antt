@@ -1,5 +1,5 @@
 use Rattle.std.proofs.Common.{◌≡◌, drop}
-use Rattle.triple_rows.specs.Systems.{is_listed}
+use Rattle.letter_acts.specs.Reading.{is_listed}
 use Rattle.triple_rows.proofs.frames.is_listed.Given as goal
 
 abbrev pub invariant-loop-i : goal.invariant-loop-i

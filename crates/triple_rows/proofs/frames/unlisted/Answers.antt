@@ -1,5 +1,5 @@
 use Rattle.std.proofs.Common.{◌∙◌, not, sym, ap}
-use Rattle.triple_rows.specs.Systems.{is_listed}
+use Rattle.letter_acts.specs.Reading.{is_listed}
 use Rattle.triple_rows.proofs.FilterLaws.{passed, missed}
 use Rattle.triple_rows.proofs.frames.unlisted.Goals as goal
 use Rattle.triple_rows.proofs.frames.unlisted.Goals.{then-not-is_listed+in_ok-push, else-not-is_listed}

@@ -1,6 +1,6 @@
 use Rattle.std.proofs.Common.{◌≡◌, take, not}
 use Rattle.std.specs.Prelude.{filter}
-use Rattle.triple_rows.specs.Systems.{is_listed}
+use Rattle.letter_acts.specs.Reading.{is_listed}
 use Rattle.triple_rows.proofs.frames.unlisted.Given as goal
 
 abbrev pub invariant-loop-number : goal.invariant-loop-number

@@ -3,7 +3,7 @@ use Rattle.std.specs.Prelude.{filter}
 use Rattle.std.specs.List.{AllByRecursion}
 use Rattle.letter_acts.specs.Frames.{variables_of}
 use Rattle.letter_acts.proofs.ListLemmas.{all_weaker}
-use Rattle.triple_rows.specs.Systems.{is_listed}
+use Rattle.letter_acts.specs.Reading.{is_listed}
 use Rattle.triple_rows.proofs.ListLaws.{all_passed}
 use Rattle.triple_rows.proofs.ties.add_kept.Goals as goal
 

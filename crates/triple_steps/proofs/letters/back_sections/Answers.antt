@@ -2,8 +2,7 @@ use Rattle.std.proofs.Common.{◌≡◌, ℕ, ◌+◌, List, [], ◌∷◌, leng
 use Rattle.std.specs.Prelude.{filter, not}
 use Rattle.std.proofs.lemmas.List.{length-map}
 use Rattle.letter_acts.specs.Frames.{constants_of, variables_of, results_of, olds_of}
-use Rattle.letter_acts.specs.Reading.{taken}
-use Rattle.triple_rows.specs.Systems.{is_listed}
+use Rattle.letter_acts.specs.Reading.{taken, is_listed}
 use Rattle.nested_refutations.specs.Refutations.{target_tie, source_tie}
 use Rattle.triple_steps.specs.declared.sections.Section.TheVariants.{Claim}
 use Rattle.triple_steps.specs.Sections.{back_counts}

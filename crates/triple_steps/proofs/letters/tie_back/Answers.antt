@@ -1,8 +1,7 @@
 use Rattle.std.proofs.Common.{◌++◌, ℕ, List, map, refl}
 use Rattle.std.specs.Prelude.{filter, not}
 use Rattle.letter_acts.specs.Frames.{constants_of, variables_of, results_of, olds_of}
-use Rattle.letter_acts.specs.Reading.{taken}
-use Rattle.triple_rows.specs.Systems.{is_listed}
+use Rattle.letter_acts.specs.Reading.{taken, is_listed}
 use Rattle.nested_refutations.specs.Refutations.{Role, target_tie, source_tie}
 use Rattle.nested_refutations.specs.Numbers.{branch_rows}
 use Rattle.triple_steps.specs.declared.sections.Section.{Section}

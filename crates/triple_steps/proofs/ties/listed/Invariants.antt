@@ -1,6 +1,6 @@
 use Rattle.std.proofs.Common.{◌≡◌, ℕ, take, nat_eq}
 use Rattle.std.specs.HashSet.{contains}
-use Rattle.triple_rows.specs.Systems.{is_listed}
+use Rattle.letter_acts.specs.Reading.{is_listed}
 use Rattle.triple_steps.proofs.ties.listed.Given as goal
 
 abbrev pub invariant-loop-i : goal.invariant-loop-i

@@ -1,7 +1,7 @@
 use Rattle.std.proofs.Common.{◌≡◌, ◌∙◌, ◌++◌, List, ℕ, map, ap}
 use Rattle.std.specs.Prelude.{filter, not}
 use Rattle.letter_acts.specs.Frames.{variables_of}
-use Rattle.triple_rows.specs.Systems.{is_listed}
+use Rattle.letter_acts.specs.Reading.{is_listed}
 use Rattle.nested_refutations.specs.Refutations.{target_tie}
 use Rattle.triple_steps.specs.declared.sections.Tie.TheVariants.{Target}
 use Rattle.triple_steps.specs.declared.sections.Section.{Section}

@@ -1,6 +1,6 @@
 use Rattle.std.proofs.Common.{◌∙◌, ℕ, List, [], ◌++◌, refl, ap}
 use Rattle.std.specs.Prelude.{filter, not}
-use Rattle.triple_rows.specs.Systems.{is_listed}
+use Rattle.letter_acts.specs.Reading.{is_listed}
 use Rattle.triple_steps.proofs.ColumnLaws.{filtered_behind, filtered_all}
 use Rattle.triple_steps.proofs.ties.without.Goals as goal
 

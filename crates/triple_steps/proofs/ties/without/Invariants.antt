@@ -1,6 +1,6 @@
 use Rattle.std.proofs.Common.{◌≡◌, ◌++◌, drop}
 use Rattle.std.specs.Prelude.{filter, not}
-use Rattle.triple_rows.specs.Systems.{is_listed}
+use Rattle.letter_acts.specs.Reading.{is_listed}
 use Rattle.triple_steps.proofs.ties.without.Given as goal
 
 abbrev pub invariant-loop-i : goal.invariant-loop-i
