@@ -1,7 +1,10 @@
 #!/usr/bin/env python3
 """Counts what is said twice in the crates: groups of definitions (in specs/), and of functions (in src/), that stand in two crates or more and are
 equal up to the names of their own variables and of the functions that they cite of their own crate. Types are told apart by the crate that
-declares them, and the fields of a record by their names. equal.py [--list] prints both counts, and with `--list` each group with its places."""
+declares them, and the fields of a record by their names.
+
+equal.py [--list | --most D F] prints both counts; with `--list` each group with its places; with `--most` only a count that is above its
+number, and then it ends with status 1."""
 import collections
 import pathlib
 import re
@@ -116,6 +119,10 @@ def main():
         "definitions": groups("definitions", sorted(crates.glob("*/specs/*.antt")), definitions),
         "functions": groups("functions", sorted(crates.glob("*/src/**/*.rt")), functions),
     }
+    if sys.argv[1:2] == ["--most"]:
+        above = [f"{kind} {len(found)}" for (kind, found), most in zip(all_groups.items(), sys.argv[2:]) if len(found) > int(most)]
+        print("".join(f"{line}\n" for line in above), end="")
+        sys.exit(bool(above))
     for kind, found in all_groups.items():
         print(f"{kind} {len(found)}")
         if "--list" in sys.argv:
