@@ -78,15 +78,15 @@ bounds_related : (P : LinearRow → LinearRow → Type 0) (n k : ℕ) (ts : List
     P (tightened (row_of ((n + i, pos 1) ∷ []) Le (pos 1))) (tightened (row_of ((k + i, pos 1) ∷ []) Le (pos 1)))) →
     AllPairs P (map tightened (bounds n ts)) (map tightened (bounds k ts))
 bounds_related P n k [] h = tt
-bounds_related P n k (t ∷ ts) h = by_type t (bounds_related P (n + 1) (suc k) ts (λ i l. next i (h (suc i) (omega (arith, l)))))
+bounds_related P n k (t ∷ ts) h = by_type t (bounds_related P (suc n) (suc k) ts (λ i l. next i (h (suc i) (omega (arith, l)))))
   where
     next : (i : ℕ) → P (tightened (row_of ((n + suc i, negsuc 0) ∷ []) Le (pos 0))) (tightened (row_of ((k + suc i, negsuc 0) ∷ []) Le (pos 0))) ×
         P (tightened (row_of ((n + suc i, pos 1) ∷ []) Le (pos 1))) (tightened (row_of ((k + suc i, pos 1) ∷ []) Le (pos 1))) →
-        P (tightened (row_of ((n + 1 + i, negsuc 0) ∷ []) Le (pos 0))) (tightened (row_of ((suc k + i, negsuc 0) ∷ []) Le (pos 0))) ×
-        P (tightened (row_of ((n + 1 + i, pos 1) ∷ []) Le (pos 1))) (tightened (row_of ((suc k + i, pos 1) ∷ []) Le (pos 1)))
+        P (tightened (row_of ((suc n + i, negsuc 0) ∷ []) Le (pos 0))) (tightened (row_of ((suc k + i, negsuc 0) ∷ []) Le (pos 0))) ×
+        P (tightened (row_of ((suc n + i, pos 1) ∷ []) Le (pos 1))) (tightened (row_of ((suc k + i, pos 1) ∷ []) Le (pos 1)))
     next i p =
         subst (λ (x : ℕ). P (tightened (row_of ((x, negsuc 0) ∷ []) Le (pos 0))) (tightened (row_of ((suc k + i, negsuc 0) ∷ []) Le (pos 0))) ×
-        P (tightened (row_of ((x, pos 1) ∷ []) Le (pos 1))) (tightened (row_of ((suc k + i, pos 1) ∷ []) Le (pos 1)))) (let e : n + suc i ≡ n + 1 + i = omega arith in e)
+        P (tightened (row_of ((x, pos 1) ∷ []) Le (pos 1))) (tightened (row_of ((suc k + i, pos 1) ∷ []) Le (pos 1)))) (let e : n + suc i ≡ suc n + i = omega arith in e)
         (subst (λ (y : ℕ). P (tightened (row_of ((n + suc i, negsuc 0) ∷ []) Le (pos 0))) (tightened (row_of ((y, negsuc 0) ∷ []) Le (pos 0))) ×
         P (tightened (row_of ((n + suc i, pos 1) ∷ []) Le (pos 1))) (tightened (row_of ((y, pos 1) ∷ []) Le (pos 1)))) (let e : k + suc i ≡ suc k + i = omega arith in e) p)
 
@@ -100,7 +100,7 @@ bounds_related P n k (t ∷ ts) h = by_type t (bounds_related P (n + 1) (suc k) 
         (subst (λ (y : ℕ). P (tightened (row_of ((n + 0, negsuc 0) ∷ []) Le (pos 0))) (tightened (row_of ((y, negsuc 0) ∷ []) Le (pos 0))) ×
         P (tightened (row_of ((n + 0, pos 1) ∷ []) Le (pos 1))) (tightened (row_of ((y, pos 1) ∷ []) Le (pos 1)))) (let e : k + 0 ≡ k = omega arith in e) p)
 
-    by_type : (t : Option Ty) → AllPairs P (map tightened (bounds (n + 1) ts)) (map tightened (bounds (suc k) ts)) → AllPairs P (map tightened (bounds n (t ∷ ts))) (map tightened (bounds k (t ∷ ts)))
+    by_type : (t : Option Ty) → AllPairs P (map tightened (bounds (suc n) ts)) (map tightened (bounds (suc k) ts)) → AllPairs P (map tightened (bounds n (t ∷ ts))) (map tightened (bounds k (t ∷ ts)))
     by_type None r = r
     by_type (Some types.Int) r = r
     by_type (Some types.Bool) r = let p = first (h 0 (omega arith)) in (p.0, (p.1, r))

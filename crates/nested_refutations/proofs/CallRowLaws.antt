@@ -213,11 +213,11 @@ type_of v = Some v.1.ty
 
 bounds_joined : (n : ℕ) (ts us : List (Option Ty)) → bounds n (ts ++ us) ≡ bounds n ts ++ bounds (n + length ts) us
 bounds_joined n [] us = ap (λ (k : ℕ). bounds k us) (let e : n ≡ n + 0 = omega arith in e)
-bounds_joined n (None ∷ ts) us = bounds_joined (n + 1) ts us ∙ ap (λ (k : ℕ). bounds (n + 1) ts ++ bounds k us) (let e : n + 1 + length ts ≡ n + suc (length ts) = omega arith in e)
-bounds_joined n (Some types.Int ∷ ts) us = bounds_joined (n + 1) ts us ∙ ap (λ (k : ℕ). bounds (n + 1) ts ++ bounds k us) (let e : n + 1 + length ts ≡ n + suc (length ts) = omega arith in e)
+bounds_joined n (None ∷ ts) us = bounds_joined (suc n) ts us ∙ ap (λ (k : ℕ). bounds (suc n) ts ++ bounds k us) (let e : suc n + length ts ≡ n + suc (length ts) = omega arith in e)
+bounds_joined n (Some types.Int ∷ ts) us = bounds_joined (suc n) ts us ∙ ap (λ (k : ℕ). bounds (suc n) ts ++ bounds k us) (let e : suc n + length ts ≡ n + suc (length ts) = omega arith in e)
 bounds_joined n (Some types.Bool ∷ ts) us =
     ap (λ (l : List LinearRow). row_of ((n, negsuc 0) ∷ []) Le (pos 0) ∷ row_of ((n, pos 1) ∷ []) Le (pos 1) ∷ l)
-    (bounds_joined (n + 1) ts us ∙ ap (λ (k : ℕ). bounds (n + 1) ts ++ bounds k us) (let e : n + 1 + length ts ≡ n + suc (length ts) = omega arith in e))
+    (bounds_joined (suc n) ts us ∙ ap (λ (k : ℕ). bounds (suc n) ts ++ bounds k us) (let e : suc n + length ts ≡ n + suc (length ts) = omega arith in e))
 
 pub length_types : (frame : Columns) → length (types_of frame) ≡ length frame
 length_types [] = refl
@@ -273,9 +273,9 @@ local_bounds_below c =
 -- bounds from a column on do not name earlier ones
 pub bounds_above : (n x : ℕ) (ts : List (Option Ty)) → x < n → AllByRecursion (λ r. coefficient x r.terms ≡ pos 0) (bounds n ts)
 bounds_above n x [] l = tt
-bounds_above n x (None ∷ ts) l = bounds_above (n + 1) x ts (omega (arith, l))
-bounds_above n x (Some types.Int ∷ ts) l = bounds_above (n + 1) x ts (omega (arith, l))
-bounds_above n x (Some types.Bool ∷ ts) l = (one (negsuc 0), (one (pos 1), bounds_above (n + 1) x ts (omega (arith, l))))
+bounds_above n x (None ∷ ts) l = bounds_above (suc n) x ts (omega (arith, l))
+bounds_above n x (Some types.Int ∷ ts) l = bounds_above (suc n) x ts (omega (arith, l))
+bounds_above n x (Some types.Bool ∷ ts) l = (one (negsuc 0), (one (pos 1), bounds_above (suc n) x ts (omega (arith, l))))
   where
     one : (a : ℤ) → coefficient x ((n, a) ∷ []) ≡ pos 0
     one a = rw (ne_eqb n x (λ (e : n ≡ x). omega (arith, l, e))) (omega (arith, ints))

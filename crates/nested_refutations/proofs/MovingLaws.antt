@@ -93,11 +93,11 @@ kinds_moved names differ (r ∷ rows) h k = (sym (moved_row names differ r h.0 k
 pub bounds_renamed : (f : ℕ → ℕ) (n made : ℕ) (ts : List (Option Ty)) → ((i : ℕ) → i < length ts → f (n + i) ≡ made + i) → map (renamed f) (bounds n ts) ≡ bounds made ts
 bounds_renamed f n made [] h = refl
 bounds_renamed f n made (t ∷ ts) h =
-    map-append (renamed f) (bounds_of n t) (bounds (n + 1) ts) ∙
-    ap (λ (l : List LinearRow). l ++ map (renamed f) (bounds (n + 1) ts)) (one t) ∙
+    map-append (renamed f) (bounds_of n t) (bounds (suc n) ts) ∙
+    ap (λ (l : List LinearRow). l ++ map (renamed f) (bounds (suc n) ts)) (one t) ∙
     ap (λ (l : List LinearRow). bounds_of made t ++ l)
-    (bounds_renamed f (n + 1) (suc made) ts
-    (λ i l. ap f (let e : n + 1 + i ≡ n + suc i = omega arith in e) ∙ h (suc i) (omega (arith, l)) ∙ (let e : made + suc i ≡ suc made + i = omega arith in e)))
+    (bounds_renamed f (suc n) (suc made) ts
+    (λ i l. ap f (let e : suc n + i ≡ n + suc i = omega arith in e) ∙ h (suc i) (omega (arith, l)) ∙ (let e : made + suc i ≡ suc made + i = omega arith in e)))
   where
     first : f n ≡ made
     first = ap f (let e : n ≡ n + 0 = omega arith in e) ∙ h 0 (omega arith) ∙ (let e : made + 0 ≡ made = omega arith in e)
@@ -109,12 +109,12 @@ bounds_renamed f n made (t ∷ ts) h =
 
 pub bounds_below : (m n : ℕ) (ts : List (Option Ty)) → n + length ts ≤ m → AllByRecursion (λ r. IsBelow m r.terms) (bounds n ts)
 bounds_below m n [] l = tt
-bounds_below m n (None ∷ ts) l = bounds_below m (n + 1) ts (omega (arith, l))
-bounds_below m n (Some types.Int ∷ ts) l = bounds_below m (n + 1) ts (omega (arith, l))
-bounds_below m n (Some types.Bool ∷ ts) l = ((omega (arith, l), tt), ((omega (arith, l), tt), bounds_below m (n + 1) ts (omega (arith, l))))
+bounds_below m n (None ∷ ts) l = bounds_below m (suc n) ts (omega (arith, l))
+bounds_below m n (Some types.Int ∷ ts) l = bounds_below m (suc n) ts (omega (arith, l))
+bounds_below m n (Some types.Bool ∷ ts) l = ((omega (arith, l), tt), ((omega (arith, l), tt), bounds_below m (suc n) ts (omega (arith, l))))
 
 pub bounds_counted : (n made : ℕ) (ts : List (Option Ty)) → length (bounds n ts) ≡ length (bounds made ts)
 bounds_counted n made [] = refl
-bounds_counted n made (None ∷ ts) = bounds_counted (n + 1) (suc made) ts
-bounds_counted n made (Some types.Int ∷ ts) = bounds_counted (n + 1) (suc made) ts
-bounds_counted n made (Some types.Bool ∷ ts) = ap (λ (k : ℕ). suc (suc k)) (bounds_counted (n + 1) (suc made) ts)
+bounds_counted n made (None ∷ ts) = bounds_counted (suc n) (suc made) ts
+bounds_counted n made (Some types.Int ∷ ts) = bounds_counted (suc n) (suc made) ts
+bounds_counted n made (Some types.Bool ∷ ts) = ap (λ (k : ℕ). suc (suc k)) (bounds_counted (suc n) (suc made) ts)
