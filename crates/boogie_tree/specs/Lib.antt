@@ -3,3 +3,5 @@ pub mod View
 pub mod Levels
 pub mod Printing
 pub mod Apart
+pub mod Names
+pub mod Places

@@ -3,6 +3,7 @@
 
 pub mod laws;
 mod level;
+pub mod names;
 mod printing;
 mod span;
 mod text;
