@@ -7,6 +7,7 @@ use Rattle.boogie_tree.specs.declared.level.Level.TheVariants.{Equivalence, Impl
 use Rattle.boogie_tree.specs.declared.tree.Op.{Op}
 use Rattle.boogie_tree.specs.Levels.{right_of}
 use Rattle.boogie_tree.specs.Tree.{Expression, Lit, Old, Bin}
+use Rattle.boogie_tree.specs.Places.{beginning}
 use Rattle.boogie_parse.specs.declared.fault.Which.TheVariants.{Nesting}
 use Rattle.boogie_parse.specs.declared.symbols.Fixed.{Fixed}
 use Rattle.boogie_parse.specs.declared.symbols.Fixed.TheVariants as fixed
@@ -16,7 +17,6 @@ use Rattle.boogie_parse.specs.declared.symbols.Symbol.{Symbol}
 use Rattle.boogie_parse.specs.declared.grammar.expressions.operators.Chain.{Chain}
 use Rattle.boogie_parse.specs.declared.grammar.expressions.operators.Chain.TheVariants as chains
 use Rattle.boogie_parse.specs.declared.grammar.expressions.operators.Prefix.{Prefix}
-use Rattle.boogie_parse.specs.Places.{beginning}
 use Rattle.boogie_parse.specs.Outcomes.{Outcome, place_or, and_then}
 use Rattle.boogie_parse.specs.Grammar
 use Rattle.boogie_parse.specs.Grammar.{Is, Reads, links}

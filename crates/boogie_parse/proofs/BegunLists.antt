@@ -7,13 +7,13 @@ use Rattle.boogie_tree.specs.declared.tree.Ty.{Ty}
 use Rattle.boogie_tree.specs.declared.tree.Ty.TheVariants as types
 use Rattle.boogie_tree.specs.declared.tree.Vary.{Vary}
 use Rattle.boogie_tree.specs.Tree.{Expression, Guard, Any, Invariant}
+use Rattle.boogie_tree.specs.Places.{beginning}
 use Rattle.boogie_parse.specs.declared.fault.Which.TheVariants as limits
 use Rattle.boogie_parse.specs.declared.symbols.Fixed.{Fixed}
 use Rattle.boogie_parse.specs.declared.symbols.Fixed.TheVariants as fixed
 use Rattle.boogie_parse.specs.declared.symbols.Sign.{Sign}
 use Rattle.boogie_parse.specs.declared.symbols.Sign.TheVariants as signs
 use Rattle.boogie_parse.specs.declared.symbols.Symbol.{Symbol}
-use Rattle.boogie_parse.specs.Places.{beginning}
 use Rattle.boogie_parse.specs.Outcomes.{Read, Outcome, limit_fault}
 use Rattle.boogie_parse.specs.Grammar.{Is, Reads}
 use Rattle.boogie_parse.specs.GrammarLists as grammar

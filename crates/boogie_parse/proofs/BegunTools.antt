@@ -1,6 +1,7 @@
 -- A limit stands at a symbol that the grammar allows there: the tools for it, whatever the rule. What is read is told by the symbols before and behind it alone.
 use Rattle.std.proofs.Common.{◌≡◌, ℕ, zero, suc, ◌-◌, List, [], ◌∷◌, ◌++◌, length, Option, None, Some, IfSome, Result, Ok, Err, IfOk, refl, ap, sym, ◌∙◌, subst, append_assoc}
 use Rattle.boogie_tree.specs.declared.span.Span.{Span}
+use Rattle.boogie_tree.specs.Places.{beginning}
 use Rattle.boogie_parse.specs.declared.fault.Fault.{Fault}
 use Rattle.boogie_parse.specs.declared.fault.Fault.TheVariants as faults
 use Rattle.boogie_parse.specs.declared.fault.Which.{Which}
@@ -9,7 +10,6 @@ use Rattle.boogie_parse.specs.declared.symbols.Fixed.{Fixed}
 use Rattle.boogie_parse.specs.declared.symbols.Fixed.TheVariants as fixed
 use Rattle.boogie_parse.specs.declared.symbols.Sign.TheVariants as signs
 use Rattle.boogie_parse.specs.declared.symbols.Symbol.{Symbol}
-use Rattle.boogie_parse.specs.Places.{beginning}
 use Rattle.boogie_parse.specs.Outcomes.{Read, Outcome, limit_fault, and_then}
 use Rattle.boogie_parse.specs.Grammar.{Is}
 use Rattle.boogie_parse.specs.ListReading.{◌>>=◌, read, Possible, there, one, one_there, seen, must_be, behind, opened_by, opened, with_front, more_by, separated, repeated_by, repeated}

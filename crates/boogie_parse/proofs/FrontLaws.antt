@@ -3,7 +3,8 @@ use Rattle.std.proofs.Common.{◌≡◌, ℕ, zero, suc, ◌+◌, ◌^◌, ◌<�
 use Rattle.std.specs.List.{find, list_all, starts_with}
 use Rattle.std.specs.Str.Parse.{digits_value}
 use Rattle.std.proofs.lemmas.Bool.{and_parts, cond_both}
-use Rattle.boogie_parse.specs.Bytes.{is_blank, is_digit, is_name_byte}
+use Rattle.boogie_tree.specs.Names.{is_digit, is_name_byte}
+use Rattle.boogie_parse.specs.Bytes.{is_blank}
 use Rattle.boogie_parse.specs.Tokens.{run, marks, makes_real}
 use Rattle.boogie_parse.specs.Pieces.{Front, longer, opens_comment, closes_comment, comment_length, string_length, is_in_line, literal_front, comment_front, string_front, mark_front, front}
 use Rattle.boogie_parse.specs.Turns.{length_of}

@@ -3,9 +3,10 @@ use Rattle.std.proofs.Common.{◌≡◌, ℕ, Bool, true, false, nat_eq, List, �
 use Rattle.std.specs.List.{find, starts_with}
 use Rattle.std.proofs.lemmas.Bool.Decides.{nat_tests}
 use Rattle.std.proofs.lemmas.Option.{some_pair_parts}
+use Rattle.boogie_tree.specs.Names.{is_digit, is_name_byte}
 use Rattle.boogie_parse.specs.declared.token.TokenKind.{TokenKind}
 use Rattle.boogie_parse.specs.declared.token.TokenKind.TheVariants as kinds
-use Rattle.boogie_parse.specs.Bytes.{is_blank, is_digit, is_name_byte}
+use Rattle.boogie_parse.specs.Bytes.{is_blank}
 use Rattle.boogie_parse.specs.Tokens.{run, marks, mark_of, mark_at}
 use Rattle.boogie_parse.specs.Pieces.{Front, Skipped, Found, Lexeme, Stray, is_in_line, comment_length, string_length, literal_front, comment_front, string_front, mark_front, front}
 use Rattle.boogie_parse.specs.Turns.{front_of, first_mark}

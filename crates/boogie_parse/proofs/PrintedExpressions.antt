@@ -9,11 +9,11 @@ use Rattle.boogie_tree.specs.declared.tree.Op.TheVariants.{Iff, Implies, And, Or
 use Rattle.boogie_tree.specs.Levels.{may_stand, level_of, level_of_operator, left_of, right_of}
 use Rattle.boogie_tree.specs.Tree.{Expression, Lit, Truth, Var, Old, Not, Neg, Bin}
 use Rattle.boogie_tree.specs.Printing.{operator_text, grouped, expression_text}
+use Rattle.boogie_tree.specs.Names.{is_digit, is_name_byte}
 use Rattle.boogie_parse.specs.declared.token.TokenKind.TheVariants as kinds
 use Rattle.boogie_parse.specs.declared.symbols.Fixed.TheVariants as fixed
 use Rattle.boogie_parse.specs.declared.symbols.Sign.{Sign}
 use Rattle.boogie_parse.specs.declared.symbols.Sign.TheVariants as signs
-use Rattle.boogie_parse.specs.Bytes.{is_digit, is_name_byte}
 use Rattle.boogie_parse.specs.Tokens.{begins_with}
 use Rattle.boogie_parse.specs.Pieces.{Found, Lexeme, mark_front, front}
 use Rattle.boogie_parse.specs.Lexed.{left_out}

@@ -6,10 +6,10 @@ use Rattle.boogie_tree.specs.declared.tree.Name.{Name}
 use Rattle.boogie_tree.specs.declared.tree.Vary.{Vary}
 use Rattle.boogie_tree.specs.Tree.{Specification, Requires, Ensures, Modifies, ProcedureBody, Procedure, Declaration, Const, Global, Axiom, Declares, Implements}
 use Rattle.boogie_tree.specs.Printing.{line, variable_text, variables_text, modified_text, specification_text, specifications_text, locals_text, results_text, end_of_head, body_text, procedure_text, declaration_text, program_text}
+use Rattle.boogie_tree.specs.Places.{beginning}
 use Rattle.boogie_parse.specs.declared.symbols.Fixed.{Fixed}
 use Rattle.boogie_parse.specs.declared.symbols.Fixed.TheVariants as fixed
 use Rattle.boogie_parse.specs.declared.symbols.Sign.TheVariants as signs
-use Rattle.boogie_parse.specs.Places.{beginning}
 use Rattle.boogie_parse.specs.Lexed.{left_out}
 use Rattle.boogie_parse.specs.Spelled.{led, ended_signs, variables_signs, names_signs, specification_signs, specifications_signs, declared_signs, locals_signs, results_signs, end_of_head_signs, body_signs, procedure_signs, declaration_signs, program_signs}
 use Rattle.boogie_parse.specs.PrintedTokens.{AreNames, IsSpellableSpecification, IsSpellableVariable, AreSpellableVariables, IsSpellableBody, IsSpellableProcedure, IsSpellableDeclaration, IsSpellableProgram, HasSigns}

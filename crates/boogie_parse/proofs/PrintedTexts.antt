@@ -10,12 +10,13 @@ use Rattle.std.proofs.lemmas.Bool.Decides.{nat_tests}
 use Rattle.std.proofs.lemmas.Fmt.{decimal_is_IsNumeral_wide}
 use Rattle.std.proofs.lemmas.Str.Parse.{digit_at}
 use Rattle.std.proofs.lemmas.Slice.Eq.{bytes_eq-Decides}
+use Rattle.boogie_tree.specs.Names.{is_digit, is_letter, is_name_mark, is_name_byte}
 use Rattle.boogie_parse.specs.declared.fault.What.{What}
 use Rattle.boogie_parse.specs.declared.token.TokenKind.TheVariants as kinds
 use Rattle.boogie_parse.specs.declared.symbols.Fixed.TheVariants as fixed
 use Rattle.boogie_parse.specs.declared.symbols.Sign.{Sign}
 use Rattle.boogie_parse.specs.declared.symbols.Sign.TheVariants as signs
-use Rattle.boogie_parse.specs.Bytes.{is_blank, is_digit, is_letter, is_name_mark, is_name_byte}
+use Rattle.boogie_parse.specs.Bytes.{is_blank}
 use Rattle.boogie_parse.specs.Tokens.{run, begins_with, makes_real}
 use Rattle.boogie_parse.specs.Pieces.{Found, Lexeme, literal_front}
 use Rattle.boogie_parse.specs.Lexed.{left_out, beside}

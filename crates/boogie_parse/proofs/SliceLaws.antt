@@ -3,11 +3,12 @@ use Rattle.std.proofs.Common.{◌≡◌, ℕ, zero, suc, ◌+◌, ◌<◌, ◌�
 use Rattle.std.proofs.Math.Seq.{drop-cons, take-suc}
 use Rattle.std.proofs.lemmas.List.{length-take-le}
 use Rattle.boogie_tree.specs.declared.span.Span.{Span}
+use Rattle.boogie_tree.specs.Places.{beginning}
 use Rattle.boogie_parse.specs.declared.token.TokenKind.{TokenKind}
 use Rattle.boogie_parse.specs.declared.fault.Fault.{Fault}
 use Rattle.boogie_parse.specs.declared.fault.What.{What}
 use Rattle.boogie_parse.specs.declared.lexer.token.Token.{Token}
-use Rattle.boogie_parse.specs.Places.{beginning, behind_byte, behind}
+use Rattle.boogie_parse.specs.Places.{behind_byte, behind}
 use Rattle.boogie_parse.specs.Pieces.{Shape, Lexeme, Quoted, RealLiteral, LargeLiteral, Stray, Front, Skipped, Found, front, Piece, more_bytes, with_piece, pieces_from, pieces}
 use Rattle.boogie_parse.specs.Attributes.{begins_attribute, braced_length}
 use Rattle.boogie_parse.specs.Lexed.{left_out, beside, supported, judged, inside_attribute, attribute, found_in, with_token, tokens_or_fault, lexed}

@@ -11,9 +11,11 @@ use Rattle.boogie_parse.specs.declared.lexer.token.Token.{Token}
 use Rattle.boogie_parse.specs.declared.fault.Fault.{Fault}
 use Rattle.boogie_parse.specs.declared.fault.What.{What}
 use Rattle.boogie_parse.specs.declared.symbols.Fixed.{Fixed}
-use Rattle.boogie_parse.specs.Bytes.{is_blank, is_digit, is_name_byte}
+use Rattle.boogie_parse.specs.Bytes.{is_blank}
+use Rattle.boogie_tree.specs.Names.{is_digit, is_name_byte}
+use Rattle.boogie_tree.specs.Places.{beginning}
 use Rattle.boogie_parse.specs.Tokens.{run, marks, makes_real}
-use Rattle.boogie_parse.specs.Places.{beginning, behind_byte}
+use Rattle.boogie_parse.specs.Places.{behind_byte}
 use Rattle.boogie_parse.specs.Pieces.{Shape, Lexeme, Quoted, RealLiteral, LargeLiteral, Stray, Front, Skipped, Found, comment_length, string_length, is_in_line, literal_front, comment_front, string_front, mark_front, front, Piece, more_bytes, with_piece, pieces_from}
 use Rattle.boogie_parse.specs.Attributes.{begins_attribute, braced_length}
 use Rattle.boogie_parse.specs.Lexed.{left_out, beside, supported, judged, inside_attribute, attribute, found_in, with_token, tokens_or_fault, lexed}

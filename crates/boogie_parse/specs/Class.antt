@@ -1,8 +1,8 @@
 -- The classes of bytes that the code of the lexer names.
 use Rattle.std.specs.Prelude.{ℕ, Bool}
+use Rattle.boogie_tree.specs.Names.{is_digit, is_name_byte}
 use Rattle.boogie_parse.specs.declared.lexer.runs.Class.{Class}
 use Rattle.boogie_parse.specs.declared.lexer.runs.Class.TheVariants.{Digit, Name, Line}
-use Rattle.boogie_parse.specs.Bytes.{is_digit, is_name_byte}
 use Rattle.boogie_parse.specs.Pieces.{is_in_line}
 
 -- whether a byte is of the class

@@ -8,11 +8,11 @@ use Rattle.boogie_tree.specs.declared.tree.Op.{Op}
 use Rattle.boogie_tree.specs.declared.tree.Op.TheVariants as op
 use Rattle.boogie_tree.specs.Levels.{right_of}
 use Rattle.boogie_tree.specs.Tree.{Expression, Lit, Truth, Var, Old, Not, Neg, Bin}
+use Rattle.boogie_tree.specs.Places.{beginning}
 use Rattle.boogie_parse.specs.declared.symbols.Fixed.{Fixed}
 use Rattle.boogie_parse.specs.declared.symbols.Fixed.TheVariants as fixed
 use Rattle.boogie_parse.specs.declared.symbols.Sign.TheVariants as signs
 use Rattle.boogie_parse.specs.declared.symbols.Symbol.{Symbol}
-use Rattle.boogie_parse.specs.Places.{beginning}
 
 -- the symbol is that fixed word or mark
 abbrev pub Is : Symbol → Fixed → Type 0

@@ -5,9 +5,11 @@ use Rattle.std.specs.Str.Parse.{digits_value}
 use Rattle.boogie_tree.specs.declared.span.Span.{Span}
 use Rattle.boogie_parse.specs.declared.token.TokenKind.{TokenKind}
 use Rattle.boogie_parse.specs.declared.token.TokenKind.TheVariants as kinds
-use Rattle.boogie_parse.specs.Bytes.{is_blank, is_digit, is_name_byte}
+use Rattle.boogie_parse.specs.Bytes.{is_blank}
+use Rattle.boogie_tree.specs.Names.{is_digit, is_name_byte}
+use Rattle.boogie_tree.specs.Places.{beginning}
 use Rattle.boogie_parse.specs.Tokens.{run, marks, makes_real}
-use Rattle.boogie_parse.specs.Places.{beginning, behind_byte}
+use Rattle.boogie_parse.specs.Places.{behind_byte}
 
 -- what a piece is
 pub data Shape : Type 0 where

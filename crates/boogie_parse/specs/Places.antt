@@ -2,10 +2,6 @@
 use Rattle.std.specs.Prelude.{ℕ, ◌+◌, ◌==◌, List, [], ◌∷◌, if◌then◌else◌}
 use Rattle.boogie_tree.specs.declared.span.Span.{Span}
 
--- the place of a text's first byte
-abbrev pub beginning : Span
-beginning = record { line = 1; col = 1 }
-
 -- the place behind a byte that stands here
 abbrev pub behind_byte : ℕ → Span → Span
 behind_byte b here = if b == 10 then (record { line = here.line + 1; col = 1 }) else (record { line = here.line; col = here.col + 1 })

@@ -5,10 +5,10 @@ use Rattle.boogie_tree.specs.declared.tree.Name.{Name}
 use Rattle.boogie_tree.specs.declared.tree.Vary.{Vary}
 use Rattle.boogie_tree.specs.Tree.{Expression, Lit, Truth, Var, Old, Not, Neg, Bin, Guard, Any, Cond, Invariant, Statement, Assert, Assume, Havoc, Assign, Call, If, While, Break, Goto, Return, Label, Block, Empty, Then, Specification, Requires, Ensures, Modifies, ProcedureBody, Procedure, Declaration, Const, Global, Axiom, Declares, Implements}
 use Rattle.boogie_tree.specs.Printing.{program_text}
+use Rattle.boogie_tree.specs.Names.{is_digit, is_name_byte}
 use Rattle.boogie_parse.specs.declared.token.TokenKind.TheVariants as kinds
 use Rattle.boogie_parse.specs.declared.lexer.token.Token.{Token}
 use Rattle.boogie_parse.specs.declared.symbols.Sign.TheVariants as signs
-use Rattle.boogie_parse.specs.Bytes.{is_digit, is_name_byte}
 use Rattle.boogie_parse.specs.Lexed.{lexed, beside, left_out}
 use Rattle.boogie_parse.specs.Symbols.{sign_of, symbol}
 use Rattle.boogie_parse.specs.Spelled.{program_signs}

@@ -1,7 +1,8 @@
 -- Tokens as slices of their text.
 use Rattle.std.specs.Prelude.{◌≡◌, ℕ, ◌+◌, ◌<◌, ◌≤◌, List, [], ◌∷◌, length, take, drop}
+use Rattle.boogie_tree.specs.Places.{beginning}
 use Rattle.boogie_parse.specs.declared.lexer.token.Token.{Token}
-use Rattle.boogie_parse.specs.Places.{beginning, behind}
+use Rattle.boogie_parse.specs.Places.{behind}
 
 -- the token is the slice of the text behind n bytes, and stands there
 pub record IsSlice (text : List ℕ) (n : ℕ) (t : Token) : Type 0 where

@@ -1,9 +1,9 @@
 -- Marks and runs of bytes that a text begins with.
 use Rattle.std.specs.Prelude.{ℕ, suc, Bool, false, ◌||◌, ◌&&◌, ◌==◌, nat_eq, List, [], ◌∷◌, length, Option, None, Some, codes, if◌then◌else◌}
 use Rattle.std.specs.List.{find, starts_with}
+use Rattle.boogie_tree.specs.Names.{is_digit, is_letter}
 use Rattle.boogie_parse.specs.declared.token.TokenKind.{TokenKind}
 use Rattle.boogie_parse.specs.declared.token.TokenKind.TheVariants.{Mark}
-use Rattle.boogie_parse.specs.Bytes.{is_digit, is_letter}
 
 -- the marks, longer ones before those that they begin with
 abbrev pub marks : List (List ℕ)

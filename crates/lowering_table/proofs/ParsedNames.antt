@@ -6,7 +6,7 @@ use Rattle.std.specs.List.{list_all, list_any}
 use Rattle.boogie_tree.specs.declared.tree.Name.{Name}
 use Rattle.boogie_tree.specs.declared.tree.Vary.{Vary}
 use Rattle.boogie_tree.specs.Tree.{Declaration, Const, Global, Axiom, Declares, Implements, Procedure, ProcedureBody}
-use Rattle.boogie_parse.specs.Bytes as bytes
+use Rattle.boogie_tree.specs.Names as bytes
 use Rattle.boogie_parse.specs.PrintedTokens.{IsFreeWord, AreSpellableVariables, IsSpellableBody, IsSpellableProcedure, IsSpellableProgram}
 use Rattle.typing_rules.specs.Names as names
 use Rattle.boogie_types.specs.Sorted.{global_names, procedures_of, implementations_of, procedure_names, variable_names, body_locals}

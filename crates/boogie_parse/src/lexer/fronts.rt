@@ -1,18 +1,19 @@
 //! What a text begins with.
 
 ghost use Rattle.std.specs.Prelude.{◌≡◌, ◌≤◌, length, drop, option_map};
-ghost use Rattle.boogie_parse.specs.Bytes.{is_digit};
+ghost use Rattle.boogie_tree.specs.Names.{is_digit};
 ghost use Rattle.boogie_parse.specs.Tokens.{run};
 ghost use Rattle.boogie_parse.specs.Pieces as spec;
 ghost use Rattle.boogie_parse.specs.PieceViews.{front};
 ghost use Rattle.boogie_parse.specs.Turns.{first_mark, front_of};
 
-use super::bytes::{is_blank, is_digit, is_name_byte};
+use super::bytes::is_blank;
 use super::enclosed::{comment_length, string_length};
 use super::piece::{Front, Shape};
 use super::runs::{Class, makes_real, mark_at, run};
 use crate::literals::literal;
 use crate::token::TokenKind;
+use boogie_tree::names::{is_digit, is_name_byte};
 
 // A text that begins with a digit. A literal that is too large is no real, whatever stands behind it.
 fn literal_front(text: &[u8]) -> Front

@@ -4,8 +4,8 @@ ghost use Rattle.std.specs.Prelude.{◌≡◌, ◌≤◌, length};
 ghost use Rattle.boogie_parse.specs.Tokens.{run, makes_real, mark_at};
 ghost use Rattle.boogie_parse.specs.Class.{passes};
 
-use super::bytes::{is_digit, is_letter, is_name_byte};
 use crate::token::TokenKind;
+use boogie_tree::names::{is_digit, is_letter, is_name_byte};
 
 /// The marks, longer ones before those that they begin with.
 const MARKS: [&[u8]; 31] = [
