@@ -1,8 +1,9 @@
 -- What is answered to an annotation: its cases exclude each other.
 use Rattle.std.proofs.Common.{◌≡◌, ℕ, zero, suc, ◌+◌, ◌^◌, ◌<◌, ◌≤◌, List, [], ◌∷◌, length, Option, Some, inl, inr, ap, refl, sym, ◌∙◌, subst, arith}
+use Rattle.outer_io.specs.Lines.{lines_of}
 use Rattle.letter_acts.specs.Invariant.{Graph}
 use Rattle.proof_form.specs.Annotations.{Content, safe_text}
-use Rattle.proof_form.specs.Standing.{lines_of, no_content, FirstWrong, WrongBehindRounds, WrongBehindSafe, FirstWrongOfText}
+use Rattle.proof_form.specs.Standing.{no_content, FirstWrong, WrongBehindRounds, WrongBehindSafe, FirstWrongOfText}
 use Rattle.proof_form.proofs.StandingSteps.{adds_once, adds_no_end}
 use Rattle.proof_form.proofs.ReadLaws.{body_fits}
 use Rattle.proof_form.proofs.SpelledLaws.{body_text, spelled_header, spelled_completes, spelled_not_wrong}

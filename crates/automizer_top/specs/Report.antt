@@ -2,6 +2,7 @@
 use Rattle.std.specs.Prelude.{◌≡◌, ℕ, ◌+◌, ◌-◌, ◌^◌, ◌<◌, ◌≤◌, IsTrue, List, [], ◌∷◌, ◌++◌, length, Option, None, Some, Err, codes, IfSome, ◌⊎◌}
 use Rattle.std.specs.Fmt.{decimal}
 use Rattle.outer_io.specs.Texts.{text_named, GainsFront}
+use Rattle.outer_io.specs.Lines.{lines_of}
 use Rattle.boogie_tree.specs.Tree.{Declaration}
 use Rattle.boogie_tree.specs.Printing.{program_text}
 use Rattle.boogie_parse.specs.declared.fault.Fault.{Fault}
@@ -18,7 +19,7 @@ use Rattle.letter_acts.specs.Invariant.{Graph}
 use Rattle.lowered_graph.specs.Items.{ItemFault, first_fault}
 use Rattle.lowered_graph.specs.Lowered.{lowered}
 use Rattle.proof_form.specs.Annotations.{Content, is_annotation, safe_text}
-use Rattle.proof_form.specs.Standing.{lines_of, FirstWrongOfText}
+use Rattle.proof_form.specs.Standing.{FirstWrongOfText}
 use Rattle.proof_check.specs.declared.rejects.RejectCause.{RejectCause}
 use Rattle.proof_check.specs.declared.rejects.RejectCause.TheVariants as rejects
 use Rattle.proof_check.specs.Proves.{Proves}

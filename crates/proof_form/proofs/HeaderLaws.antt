@@ -3,11 +3,11 @@ use Rattle.std.proofs.Common.{◌≡◌, ◌≢◌, ℕ, List, [], ◌∷◌, �
 use Rattle.std.specs.Fmt.{decimal}
 use Rattle.std.proofs.lemmas.List.{append_cancel_left, append_cancel_right}
 use Rattle.std.proofs.lemmas.Option.{none-some}
+use Rattle.outer_io.specs.Lines.{lines_of}
 use Rattle.proof_form.specs.declared.refusal.Refusal.{Refusal}
 use Rattle.proof_form.specs.declared.refusal.Refusal.TheVariants.{Form, Memory}
 use Rattle.proof_form.specs.Reading.{after}
 use Rattle.proof_form.specs.Annotations.{ended, rounds_line}
-use Rattle.proof_form.specs.Standing.{lines_of}
 use Rattle.proof_form.specs.TextReading.{first_line, ReadsNumber}
 use Rattle.proof_form.specs.TextOutcomes.{Lacks, LacksRounds, TakesRounds}
 use Rattle.proof_form.proofs.AfterLaws.{after_spells, after_reads}

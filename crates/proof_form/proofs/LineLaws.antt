@@ -5,10 +5,10 @@ use Rattle.std.specs.Fmt.{decimal}
 use Rattle.std.proofs.lemmas.Bool.{false≢true}
 use Rattle.std.proofs.lemmas.List.{append-nil}
 use Rattle.std.proofs.lemmas.Option.{some_pair_parts, same_Some}
+use Rattle.boogie_tree.specs.Names.{is_spelled}
 use Rattle.proof_form.specs.declared.numerals.Numeral.{Numeral}
 use Rattle.proof_form.specs.declared.lines.StepLine.{StepLine}
 use Rattle.proof_form.specs.declared.lines.StepLine.TheVariants as steps
-use Rattle.proof_form.specs.Names.{is_procedure}
 use Rattle.proof_form.specs.Numerals.{is_numeral, numeral_text}
 use Rattle.proof_form.specs.Reading.{after, number_at, word_at, many, more_follow, all_read}
 use Rattle.proof_form.specs.Predicates as predicates
@@ -86,7 +86,7 @@ pred_spells k line p h =
 pub pred_reads : (k : ℕ) (p : Pred) → is_pred p ≡ true → pred_of k (pred_text k p) ≡ Some p
 unfolding pred_of
 pred_reads k p h =
-    let both = both_hold (is_procedure p.proc) _ h in
+    let both = both_hold (is_spelled p.proc) _ h in
     let grouped : pred_text k p ≡ pred_front k ++ (p.proc ++ predicate_text p.nodes) = ap (λ r. codes "pred " ++ r) (sym (append_assoc (decimal k) (32 ∷ []) (p.proc ++ predicate_text p.nodes))) in
     let front = after_reads (pred_front k) (p.proc ++ predicate_text p.nodes) in
     let stops = predicate_stops p.nodes both.1 in

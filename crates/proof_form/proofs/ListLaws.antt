@@ -2,11 +2,11 @@
 use Rattle.std.proofs.Common.{◌≡◌, ℕ, ◌<◌, ◌≤◌, Bool, true, false, not, ◌&&◌, nat_eq, List, [], ◌∷◌, ◌++◌, length, Option, Some, None, ◌⊎◌, inl, inr, refl, arith, length-append, subst}
 use Rattle.std.proofs.lemmas.List.{append-nil}
 use Rattle.std.specs.List.{list_all, flat_map, AllByRecursion, prefix_len}
+use Rattle.boogie_tree.specs.Names.{is_digit}
 use Rattle.proof_form.specs.Outcomes.{then_or}
 use Rattle.std.proofs.lemmas.Bool.{false≢true}
 use Rattle.std.proofs.lemmas.Bool.Decides.{nat_tests}
 use Rattle.proof_form.specs.declared.numerals.Numeral.{Numeral}
-use Rattle.proof_form.specs.Names.{is_digit}
 use Rattle.proof_form.specs.Numerals.{is_numeral, numeral_text}
 use Rattle.proof_form.specs.Reading.{is_word_byte, is_number_byte, item_follows}
 use Rattle.proof_form.proofs.RunLaws.{both_hold}

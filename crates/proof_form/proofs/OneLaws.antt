@@ -1,6 +1,7 @@
 -- One spelling for each value.
 use Rattle.std.proofs.Common.{◌≡◌, ℕ, ◌^◌, ◌<◌, true, List, length, refl, sym, ap, ◌∙◌, subst}
 use Rattle.std.proofs.lemmas.Option.{same_Some}
+use Rattle.outer_io.specs.Lines.{lines_of}
 use Rattle.proof_form.specs.declared.numerals.Numeral.{Numeral}
 use Rattle.proof_form.specs.declared.lines.StepLine.{StepLine}
 use Rattle.proof_form.specs.Numerals.{is_numeral, numeral_text}
@@ -12,7 +13,7 @@ use Rattle.proof_form.specs.RefutationReading.{refutation_of}
 use Rattle.proof_form.specs.Lines.{Pred, Triple, Node, pred_text, triple_text, node_text, step_text, is_pred, is_triple, is_node, is_step}
 use Rattle.proof_form.specs.LineReading.{pred_of, triple_of, node_of, step_of}
 use Rattle.proof_form.specs.Annotations.{Content, is_annotation, safe_text}
-use Rattle.proof_form.specs.Standing.{lines_of, Completes, no_content}
+use Rattle.proof_form.specs.Standing.{Completes, no_content}
 use Rattle.proof_form.proofs.LineLaws.{pred_reads, triple_reads, node_reads, step_reads}
 use Rattle.proof_form.proofs.PredicateLaws.{predicate_reads}
 use Rattle.proof_form.proofs.RefutationLaws.{refutation_reads}

@@ -6,7 +6,7 @@ use Rattle.std.proofs.lemmas.Bool.{false≢true, eqb-true, eqb-false, ltb-true, 
 use Rattle.std.proofs.lemmas.Bool.Decides.{nat_tests}
 use Rattle.std.proofs.lemmas.Int.{ints}
 use Rattle.std.proofs.Math.Nat.{mul-le-mul_left, pow-suc, pow-le-pow_right, one-le-pow}
-use Rattle.proof_form.specs.Names.{is_digit}
+use Rattle.boogie_tree.specs.Names.{is_digit}
 use Rattle.proof_form.specs.Numerals.{has_one_spelling, is_numeral, comes_before, is_less, is_below}
 use Rattle.proof_form.specs.NumberValues.{number, value}
 use Rattle.proof_form.proofs.RunLaws.{both_hold}

@@ -6,10 +6,10 @@ use Rattle.std.specs.Char.{digit_value}
 use Rattle.std.specs.Str.Parse.{AllDigits}
 use Rattle.std.proofs.lemmas.Bool.Decides.{nat_tests}
 use Rattle.std.proofs.lemmas.Fmt.{decimal_is_IsNumeral}
+use Rattle.boogie_tree.specs.Names.{is_spelled}
 use Rattle.proof_form.specs.declared.numerals.Numeral.{Numeral}
 use Rattle.proof_form.specs.declared.lines.StepLine.{StepLine}
 use Rattle.proof_form.specs.declared.lines.StepLine.TheVariants as steps
-use Rattle.proof_form.specs.Names.{is_procedure}
 use Rattle.proof_form.specs.Numerals.{is_numeral, is_zero, numeral_text}
 use Rattle.proof_form.specs.Reading.{is_word_byte, is_number_byte}
 use Rattle.proof_form.specs.Trees.{texts, tree_text}
@@ -116,7 +116,7 @@ plain_predicate ns h = plain_tree predicates.head predicates.parts predicates.is
 
 pub plain_pred : (k : ℕ) (p : Pred) → k < 2 ^ 64 → is_pred p ≡ true → Plain (pred_text k p)
 plain_pred k p small h =
-    let b = both_hold (is_procedure p.proc) _ h in
+    let b = both_hold (is_spelled p.proc) _ h in
     plain_append (decimal k) (32 ∷ (p.proc ++ predicate_text p.nodes)) (plain_decimal k small)
     (plain_append p.proc (predicate_text p.nodes) (all_weaker is_word_byte is_inside word_byte p.proc (procedure_is_word p.proc b.0)) (plain_predicate p.nodes b.1))
 

@@ -1,10 +1,11 @@
 -- The reader of whole texts: what it answers on the text of an annotation.
 use Rattle.std.proofs.Common.{◌≡◌, ℕ, ◌+◌, ◌^◌, ◌<◌, ◌≤◌, true, List, ◌∷◌, ◌++◌, length, codes, Ok, Err, refl, sym, ap, subst, arith, length-append}
+use Rattle.outer_io.specs.Lines.{lines_of}
 use Rattle.proof_form.specs.declared.drafts.Draft.{Draft}
 use Rattle.proof_form.specs.declared.fault.ProofFault.{ProofFault}
 use Rattle.proof_form.specs.declared.fault.ProofFault.TheVariants as faults
 use Rattle.proof_form.specs.Annotations.{Content, is_annotation, ended, rounds_line, safe_text}
-use Rattle.proof_form.specs.Standing.{lines_of, Completes, no_content}
+use Rattle.proof_form.specs.Standing.{Completes, no_content}
 use Rattle.proof_form.specs.TextReading.{content_of}
 use Rattle.proof_form.specs.TextOutcomes.{ReadsText}
 use Rattle.proof_form.proofs.SpelledLaws.{body_text, HasHeader, spelled_header, spelled_completes, header_spells, one_header, spelled_not_wrong}

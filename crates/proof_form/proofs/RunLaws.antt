@@ -1,11 +1,12 @@
 -- Runs of bytes, names and numerals at the front.
 use Rattle.std.proofs.Common.{◌≡◌, ℕ, Bool, true, false, not, cond, ◌&&◌, ◌||◌, nat_eq, List, [], ◌∷◌, ◌++◌, length, refl, sym, ap, ◌∙◌, arith}
 use Rattle.std.specs.List.{list_all, prefix_len}
-use Rattle.std.proofs.lemmas.Bool.{false≢true, eqb-true}
+use Rattle.std.proofs.lemmas.Bool.{false≢true, eqb-true, or_left, or_right}
 use Rattle.std.proofs.lemmas.Bool.Decides.{nat_tests}
 use Rattle.std.proofs.lemmas.List.{take-append-drop, take_at, drop_at}
+use Rattle.boogie_tree.specs.Names.{is_digit, is_name_byte, is_name, is_name_or_number, is_letter, is_name_mark, is_made_mark, is_made, is_spelled}
 use Rattle.proof_form.specs.declared.numerals.Numeral.{Numeral}
-use Rattle.proof_form.specs.Names.{is_digit, is_name_byte, is_name, is_name_or_number, is_letter, is_mark, is_made, is_procedure, is_column_mark, is_column}
+use Rattle.proof_form.specs.Names.{is_column_mark, is_column}
 use Rattle.proof_form.specs.Numerals.{is_numeral, numeral_text}
 use Rattle.proof_form.specs.Reading.{is_word_byte, is_number_byte, run_at, word_at, numeral_of, number_at}
 
@@ -82,10 +83,6 @@ pub all_weaker : (p q : ℕ → Bool) → ((b : ℕ) → p b ≡ true → q b �
 all_weaker p q w [] h = refl
 all_weaker p q w (b ∷ bs) h = let k = both_hold (p b) _ h in rw (w b k.0, all_weaker p q w bs k.1) refl
 
-or_right : (a b : Bool) → b ≡ true → (a || b) ≡ true
-or_right true b h = refl
-or_right false b h = h
-
 or_cases : {P : Type 0} (a b : Bool) → (a || b) ≡ true → (a ≡ true → P) → (b ≡ true → P) → P
 or_cases true b h f g = f refl
 or_cases false b h f g = g h
@@ -94,7 +91,7 @@ name_bytes_are : (bs : List ℕ) → list_all is_name_byte bs ≡ true → list_
 name_bytes_are bs h = all_weaker is_name_byte is_word_byte (λ b k. or_right (nat_eq b 58) (is_name_byte b) k) bs h
 
 digit_in_name : (b : ℕ) → is_digit b ≡ true → is_name_byte b ≡ true
-digit_in_name b h = rw h (or_right (is_letter b) true refl)
+digit_in_name b h = or_left (is_letter b || is_digit b) (is_name_mark b) (or_right (is_letter b) (is_digit b) h)
 
 name_is_word : (bs : List ℕ) → is_name bs ≡ true → list_all is_word_byte bs ≡ true
 name_is_word [] h = refl
@@ -108,17 +105,17 @@ marked_is_word (b ∷ bs) h = or_cases (list_all is_digit (b ∷ bs)) (is_name (
 colon_with : (a b : ℕ) (bs : List ℕ) → is_word_byte a ≡ true → nat_eq b 58 ≡ true → list_all is_word_byte bs ≡ true → list_all is_word_byte (a ∷ (b ∷ bs)) ≡ true
 colon_with a b bs h k l = rw (h, k, l) refl
 
-mark_is_word : (a : ℕ) → is_mark a ≡ true → is_word_byte a ≡ true
+mark_is_word : (a : ℕ) → is_made_mark a ≡ true → is_word_byte a ≡ true
 mark_is_word a h = or_cases (nat_eq a 104) (nat_eq a 109) h (λ e. rw (eqb-true a 104 e) refl) (λ e. rw (eqb-true a 109 e) refl)
 
 made_is_word : (bs : List ℕ) → is_made bs ≡ true → list_all is_word_byte bs ≡ true
 made_is_word [] h = absurd (false≢true h)
 made_is_word (a ∷ []) h = absurd (false≢true h)
 made_is_word (a ∷ (b ∷ bs)) h =
-    let k = both_hold (is_mark a) _ h in
+    let k = both_hold (is_made_mark a) _ h in
     let j = both_hold (nat_eq b 58) _ k.1 in colon_with a b bs (mark_is_word a k.0) j.0 (marked_is_word bs j.1)
 
-pub procedure_is_word : (bs : List ℕ) → is_procedure bs ≡ true → list_all is_word_byte bs ≡ true
+pub procedure_is_word : (bs : List ℕ) → is_spelled bs ≡ true → list_all is_word_byte bs ≡ true
 procedure_is_word bs h = or_cases (is_name bs) (is_made bs) h (name_is_word bs) (made_is_word bs)
 
 column_mark_is_word : (a : ℕ) → is_column_mark a ≡ true → is_word_byte a ≡ true
@@ -133,7 +130,7 @@ column_is_word (a ∷ (b ∷ bs)) h =
     let j = both_hold (nat_eq b 58) _ k.1 in colon_with a b bs (column_mark_is_word a k.0) j.0 (procedure_is_word bs j.1)
 
 -- what is spelled so is read, where no byte of a name follows
-pub procedure_reads : (name rest : List ℕ) → is_procedure name ≡ true → prefix_len is_word_byte rest ≡ 0 → word_at (name ++ rest) ≡ (name, rest)
+pub procedure_reads : (name rest : List ℕ) → is_spelled name ≡ true → prefix_len is_word_byte rest ≡ 0 → word_at (name ++ rest) ≡ (name, rest)
 unfolding word_at
 procedure_reads name rest h stop = run_reads is_word_byte name rest (procedure_is_word name h) stop
 

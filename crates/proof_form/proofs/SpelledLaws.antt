@@ -4,10 +4,11 @@ use Rattle.std.specs.List.{AllByRecursion, concat, flat_map, list_all}
 use Rattle.std.specs.Fmt.{decimal}
 use Rattle.std.proofs.lemmas.Fmt.{decimal_injective}
 use Rattle.std.proofs.lemmas.List.{append-nil, map-append, append_cancel_left, append_cancel_right}
+use Rattle.outer_io.specs.Lines.{lines_of}
 use Rattle.proof_form.specs.declared.lines.StepLine.{StepLine}
 use Rattle.proof_form.specs.Lines.{Pred, Triple, Node, pred_text, triple_text, node_text, step_text, is_pred, is_triple, is_node, is_step}
 use Rattle.proof_form.specs.Annotations.{Content, is_annotation, numbered, item_lines, ended, rounds_line, safe_text}
-use Rattle.proof_form.specs.Standing.{pred_item, triple_item, node_item, step_item, lines_of, end_line, Completes, no_content, WrongBehindRounds, WrongBehindSafe, FirstWrongOfText}
+use Rattle.proof_form.specs.Standing.{pred_item, triple_item, node_item, step_item, end_line, Completes, no_content, WrongBehindRounds, WrongBehindSafe, FirstWrongOfText}
 use Rattle.proof_form.proofs.ListLaws.{no_more_texts}
 use Rattle.proof_form.proofs.PlainLaws.{Plain, plain_append, plain_decimal, plain_pred, plain_triple, plain_node, plain_step}
 use Rattle.proof_form.proofs.RunLaws.{both_hold}

@@ -5,9 +5,9 @@ use Rattle.std.proofs.lemmas.Bool.Decides.{nat_tests}
 use Rattle.std.proofs.lemmas.Bool.{eqb-true, ne_eqb, eq-eqb}
 use Rattle.std.proofs.lemmas.List.{append-nil, drop_more, drop_all, take_more, take_rest}
 use Rattle.std.proofs.lemmas.Option.{some_pair_parts, none-some}
+use Rattle.outer_io.specs.Lines.{onto_first, lines_of}
 use Rattle.proof_form.specs.Outcomes.{◌>>=◌}
 use Rattle.proof_form.specs.Annotations.{ended}
-use Rattle.proof_form.specs.Standing.{onto_first, lines_of}
 use Rattle.proof_form.specs.TextReading.{first_line}
 use Rattle.proof_form.proofs.AfterLaws.{bind_some}
 use Rattle.proof_form.proofs.PlainLaws.{is_inside}

@@ -3,6 +3,7 @@ use Rattle.std.proofs.Common.{◌≡◌, ◌≢◌, ℕ, ◌+◌, ◌≤◌, Boo
 use Rattle.std.proofs.lemmas.Bool.{false≢true}
 use Rattle.std.proofs.lemmas.List.{append_cancel_right}
 use Rattle.std.proofs.lemmas.Option.{cond_some, none-some, same_Some}
+use Rattle.outer_io.specs.Lines.{onto_first, lines_of}
 use Rattle.proof_form.specs.declared.lines.StepLine.{StepLine}
 use Rattle.proof_form.specs.declared.lines.StepLine.TheVariants as steps
 use Rattle.proof_form.specs.declared.drafts.Draft.{Draft}
@@ -12,7 +13,7 @@ use Rattle.proof_form.specs.Outcomes.{◌>>=◌}
 use Rattle.proof_form.specs.Lines.{Pred, Triple, Node, inside_triple, call_triple, back_triple, pred_text, triple_text, node_text, step_text, is_pred, is_triple, is_node, is_step}
 use Rattle.proof_form.specs.LineReading.{checked, pred_of, triple_of, node_of, step_of}
 use Rattle.proof_form.specs.Annotations.{Content, ended}
-use Rattle.proof_form.specs.Standing.{Item, pred_item, triple_item, node_item, step_item, is_item, item_text, with_item, Adds, onto_first, lines_of, end_line, Completes, FirstWrong, no_content}
+use Rattle.proof_form.specs.Standing.{Item, pred_item, triple_item, node_item, step_item, is_item, item_text, with_item, Adds, end_line, Completes, FirstWrong, no_content}
 use Rattle.proof_form.specs.TextReading.{first_line, content_of, checked_pred_of, checked_triple_of, checked_node_of, checked_step_of, with_pred, with_triple, with_node, with_step, with_line, ReadsFrom}
 use Rattle.proof_form.proofs.AfterLaws.{bind_some}
 use Rattle.proof_form.proofs.LineLaws.{pred_spells, pred_reads, triple_spells, triple_reads, node_spells, node_reads, step_spells, step_reads}

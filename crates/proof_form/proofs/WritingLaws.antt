@@ -2,7 +2,7 @@
 use Rattle.std.proofs.Common.{◌≡◌, ℕ, Bool, true, ◌&&◌, ◌+◌, ◌<◌, ◌≤◌, List, [], ◌∷◌, ◌++◌, length, map, drop, get_or, codes, refl, sym, ap, ◌∙◌, append_assoc}
 use Rattle.std.specs.List.{flat_map, list_all}
 use Rattle.std.proofs.lemmas.List.{append-nil, drop_more, drop_all}
-use Rattle.proof_form.specs.Names.{is_procedure}
+use Rattle.boogie_tree.specs.Names.{is_spelled}
 use Rattle.proof_form.specs.Numerals.{is_numeral}
 use Rattle.proof_form.specs.Trees.{is_tree}
 use Rattle.proof_form.specs.Predicates as predicates
@@ -38,7 +38,7 @@ viewed_texts view text (x ∷ xs) = ap (λ t. text (view x) ++ t) (viewed_texts 
 -- a predicate in the grammar is one whole tree, and so is a refutation
 pub whole_predicate : (p : Pred) (nodes : List PredicateNode) → nodes ≡ p.nodes → is_pred p ≡ true → is_tree predicates.parts nodes ≡ true
 whole_predicate p nodes e h =
-    let a = both_hold (is_procedure p.proc) _ h in
+    let a = both_hold (is_spelled p.proc) _ h in
     let b = both_hold (list_all predicates.is_node p.nodes) _ a.1 in
     let c = both_hold (is_tree predicates.parts p.nodes) _ b.1 in rw e c.0
 

@@ -2,6 +2,7 @@
 use Rattle.std.specs.Prelude.{ℕ, Bool, true, not, ◌&&◌, List, [], ◌∷◌, ◌++◌, map, codes}
 use Rattle.std.specs.List.{list_all, flat_map}
 use Rattle.std.specs.Fmt.{decimal}
+use Rattle.boogie_tree.specs.Names.{is_spelled}
 use Rattle.proof_form.specs.declared.numerals.Numeral.{Numeral}
 use Rattle.proof_form.specs.declared.lines.PredLine.{PredLine}
 use Rattle.proof_form.specs.declared.lines.TripleLine.{TripleLine}
@@ -9,7 +10,6 @@ use Rattle.proof_form.specs.declared.lines.TripleLine.TheVariants as triples
 use Rattle.proof_form.specs.declared.lines.NodeLine.{NodeLine}
 use Rattle.proof_form.specs.declared.lines.StepLine.{StepLine}
 use Rattle.proof_form.specs.declared.lines.StepLine.TheVariants as steps
-use Rattle.proof_form.specs.Names.{is_procedure}
 use Rattle.proof_form.specs.Numerals.{is_numeral, is_zero, is_below, numeral_text}
 use Rattle.proof_form.specs.Predicates as predicates
 use Rattle.proof_form.specs.Predicates.{PredicateNode, is_predicate, predicate_text}
@@ -72,7 +72,7 @@ step_text (steps.Back exit call letter to) = codes "back" ++ (spaced exit ++ (sp
 -- Which of them are in the grammar
 
 abbrev pub is_pred : Pred → Bool
-is_pred p = is_procedure p.proc && is_predicate p.nodes
+is_pred p = is_spelled p.proc && is_predicate p.nodes
 
 abbrev pub is_triple : Triple → Bool
 is_triple (inside_triple from letter to proof) = is_numeral from && (is_numeral letter && (is_numeral to && is_refutation proof))

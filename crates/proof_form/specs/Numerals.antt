@@ -1,8 +1,8 @@
 -- Numerals of any length, which keep their digits.
 use Rattle.std.specs.Prelude.{ℕ, Bool, true, false, not, ◌&&◌, ◌||◌, nat_eq, nat_lt, List, [], ◌∷◌, length, if◌then◌else◌}
 use Rattle.std.specs.List.{list_all}
+use Rattle.boogie_tree.specs.Names.{is_digit}
 use Rattle.proof_form.specs.declared.numerals.Numeral.{Numeral}
-use Rattle.proof_form.specs.Names.{is_digit}
 
 -- there are digits, none is a zero in front, and 0 has no minus
 abbrev pub has_one_spelling : Bool → List ℕ → Bool

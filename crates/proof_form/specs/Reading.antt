@@ -1,8 +1,8 @@
 -- Reading from the front of bytes: a value and the bytes after it.
 use Rattle.std.specs.Prelude.{ℕ, zero, suc, Bool, true, false, not, ◌&&◌, ◌||◌, nat_eq, List, [], ◌∷◌, take, drop, Option, None, Some, if◌then◌else◌}
 use Rattle.std.specs.List.{prefix_len}
+use Rattle.boogie_tree.specs.Names.{is_digit, is_name_byte}
 use Rattle.proof_form.specs.declared.numerals.Numeral.{Numeral}
-use Rattle.proof_form.specs.Names.{is_digit, is_name_byte}
 use Rattle.proof_form.specs.Outcomes.{◌>>=◌}
 
 -- what stands after a text

@@ -1,5 +1,5 @@
 -- Which lines can stand where, and the first that cannot.
-use Rattle.std.specs.Prelude.{◌≡◌, ◌≢◌, ℕ, ◌+◌, ◌^◌, ◌<◌, Bool, true, false, ◌&&◌, nat_eq, List, [], ◌∷◌, ◌++◌, length, codes, Option, None, Some, if◌then◌else◌, ◌⊎◌}
+use Rattle.std.specs.Prelude.{◌≡◌, ◌≢◌, ℕ, ◌+◌, ◌^◌, ◌<◌, Bool, true, false, ◌&&◌, List, [], ◌∷◌, ◌++◌, length, codes, Option, None, Some, if◌then◌else◌, ◌⊎◌}
 use Rattle.proof_form.specs.declared.lines.StepLine.{StepLine}
 use Rattle.proof_form.specs.Lines.{Pred, Triple, Node, pred_text, triple_text, node_text, step_text, is_pred, is_triple, is_node, is_step}
 use Rattle.proof_form.specs.Annotations.{Content, ended, rounds_line}
@@ -41,15 +41,6 @@ pub record Adds (a : Content) (line : List ℕ) (b : Content) : Type 0 where
   pub is : is_item item ≡ true
   pub spelled : line ≡ ended (item_text a item)
   pub added : with_item a item ≡ Some b
-
--- the lines of a text, each with its newline; the last may have none
-abbrev pub onto_first : ℕ → List (List ℕ) → List (List ℕ)
-onto_first b [] = (b ∷ []) ∷ []
-onto_first b (l ∷ ls) = (b ∷ l) ∷ ls
-
-abbrev pub lines_of : List ℕ → List (List ℕ)
-lines_of [] = []
-lines_of (b ∷ bs) = if nat_eq b 10 then (b ∷ []) ∷ lines_of bs else onto_first b (lines_of bs)
 
 abbrev pub end_line : List ℕ
 end_line = ended (codes "end")

@@ -1,13 +1,14 @@
 -- What the reader of annotations answers.
 use Rattle.std.specs.Prelude.{◌≡◌, ◌≢◌, ℕ, ◌<◌, ◌^◌, List, [], ◌∷◌, codes, Option, None, Some, Result, Ok, Err}
 use Rattle.std.specs.Borrow.{Bor}
+use Rattle.outer_io.specs.Lines.{lines_of}
 use Rattle.proof_form.specs.declared.refusal.Refusal.{Refusal}
 use Rattle.proof_form.specs.declared.refusal.Refusal.TheVariants.{Form, Memory}
 use Rattle.proof_form.specs.declared.fault.ProofFault.{ProofFault}
 use Rattle.proof_form.specs.declared.fault.ProofFault.TheVariants as faults
 use Rattle.proof_form.specs.Annotations.{Content, ended, rounds_line}
 use Rattle.proof_form.specs.declared.drafts.Draft.{Draft}
-use Rattle.proof_form.specs.Standing.{lines_of, Completes, no_content, FirstWrongOfText}
+use Rattle.proof_form.specs.Standing.{Completes, no_content, FirstWrongOfText}
 use Rattle.proof_form.specs.TextReading.{content_of}
 
 -- the first of the lines is not this one

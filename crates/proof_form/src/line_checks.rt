@@ -10,14 +10,14 @@ use crate::lines::{NodeLine, PredLine, StepLine, TripleLine};
 use crate::numerals::{Numeral, is_below, is_numeral, is_zero};
 use crate::predicates::is_predicate;
 use crate::refutations::{RNode, is_refutation};
-use crate::spelling::is_procedure;
+use boogie_tree::names::is_spelled;
 use std::alloc::{AllocError, Global};
 
 /// Whether the line of a predicate is in the grammar.
 pub(crate) fn is_pred(alloc: Global, line: &PredLine) -> Result<bool, AllocError>
     ensures { IfOk result (λ r. r ≡ spec.is_pred (spec.pred line.now)) }
 {
-    if !is_procedure(line.proc.bytes()) {
+    if !is_spelled(line.proc.bytes()) {
         return Ok(false);
     }
     is_predicate(alloc, &line.nodes)

@@ -13,7 +13,6 @@ use crate::predicates::{PNode, is_predicate, predicate_of, push_predicate};
 use crate::reading::{after, more_follow, number_at, text_at, word_at};
 use crate::refusal::Refusal;
 use crate::refutations::{RNode, is_refutation, push_refutation, refutation_of};
-use crate::spelling::is_procedure;
 use boogie_tree::Text;
 use std::alloc::{AllocError, Global};
 

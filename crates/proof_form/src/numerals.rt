@@ -1,9 +1,8 @@
 ghost use Rattle.std.specs.Prelude.{◌≡◌, ◌++◌, OnOk, length};
-ghost use Rattle.proof_form.specs.Names as names;
 ghost use Rattle.proof_form.specs.Numerals as spec;
 
-use crate::spelling::all_digits;
 use boogie_tree::Text;
+use boogie_tree::names::all_digits;
 use std::alloc::AllocError;
 
 /// A numeral of any length: `-` where it is negative, and its decimal digits.

@@ -1,6 +1,7 @@
 //! Reading the lines of an annotation from the fourth on.
 
-ghost use Rattle.proof_form.specs.Standing.{lines_of, no_content};
+ghost use Rattle.outer_io.specs.Lines.{lines_of};
+ghost use Rattle.proof_form.specs.Standing.{no_content};
 ghost use Rattle.proof_form.specs.TextReading.{ReadsFrom};
 
 use crate::drafts::Draft;
