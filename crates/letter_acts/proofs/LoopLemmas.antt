@@ -35,16 +35,6 @@ step T U Q xs i x d e l s h =
     let k = drop_at xs i x d e l in
     (λ u. h.0 (subst T (sym k) (s.1 u)), λ q. s.0 (subst T k (h.1 q)))
 
--- the member refutes it
-pub stop : {X : Type 0} (T : List X → Type 0) (Q : Type 0) (xs : List X) (i : ℕ) (x d : X) → x ≡ get_or xs i d → i < length xs →
-    (T (x ∷ drop (i + 1) xs) → ⊥) → (T (drop i xs) ↔ Q) → (false ≡ true) ↔ Q
-stop T Q xs i x d e l n h = not_so Q (λ q. n (subst T (drop_at xs i x d e l) (h.1 q)))
-
--- the member shows it
-pub shown : {X : Type 0} (T : List X → Type 0) (Q : Type 0) (xs : List X) (i : ℕ) (x d : X) → x ≡ get_or xs i d → i < length xs →
-    T (x ∷ drop (i + 1) xs) → (T (drop i xs) ↔ Q) → (true ≡ true) ↔ Q
-shown T Q xs i x d e l t h = so Q (h.0 (subst T (sym (drop_at xs i x d e l)) t))
-
 -- no member is left, and so it holds
 pub ended : {X : Type 0} (T : List X → Type 0) (Q : Type 0) (xs : List X) (i : ℕ) → length xs ≤ i → T [] → (T (drop i xs) ↔ Q) → (true ≡ true) ↔ Q
 ended T Q xs i l t h = so Q (h.0 (subst T (sym (drop_all i xs l)) t))

@@ -3,11 +3,11 @@ use Rattle.std.specs.Prelude.{◌≡◌, ℕ, Bool, true, false, not, List, [], 
 use Rattle.std.specs.List.{AllByRecursion}
 use Rattle.boogie_tree.specs.declared.tree.Column.{Column}
 use Rattle.boogie_tree.specs.declared.tree.VarInfo.{VarInfo}
+use Rattle.boogie_tree.specs.Names.{is_spelled}
 use Rattle.nwa_base.specs.declared.letters.Letter.{Letter}
 use Rattle.nwa_base.specs.Edges.{leaving}
 use Rattle.nwa_base.specs.Automata.{Automaton}
 use Rattle.letter_acts.specs.Frames.{Columns, ConstantsFirst, is_global, is_local}
-use Rattle.letter_acts.specs.Names.{is_spelled}
 use Rattle.letter_acts.specs.Invariant.{AreDistinct, names_where, is_global_at}
 
 -- the columns of one of two kinds: the constants and globals, or the locals

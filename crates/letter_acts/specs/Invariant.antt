@@ -6,6 +6,7 @@ use Rattle.math_facts.specs.Terms.{IsBelow}
 use Rattle.boogie_tree.specs.declared.tree.Column.{Column}
 use Rattle.boogie_tree.specs.declared.tree.VarInfo.{VarInfo}
 use Rattle.boogie_tree.specs.declared.tree.Ty.{Ty}
+use Rattle.boogie_tree.specs.Names.{is_spelled}
 use Rattle.lin_rows.specs.Rows.{LinearRow}
 use Rattle.nwa_base.specs.declared.letters.Letter.{Letter}
 use Rattle.nwa_base.specs.Members.{Member, SameMembers}
@@ -13,7 +14,6 @@ use Rattle.nwa_base.specs.Automata.{Automaton}
 use Rattle.letter_acts.specs.declared.sites.Site.{Site}
 use Rattle.letter_acts.specs.Frames.{Columns, IsFrame, is_global, is_old_column, is_local, is_parameter, results_of, variables_of}
 use Rattle.letter_acts.specs.Acts.{PlainAct, inside_act, call_act, back_act, Alphabet, frame_of, act_of}
-use Rattle.letter_acts.specs.Names.{is_spelled}
 
 -- what an `Icfg` consists of, as contracts see it
 pub record Graph : Type 0 where

@@ -5,7 +5,6 @@ pub mod Meaning
 pub mod Reading
 pub mod Ways
 pub mod Feasible
-pub mod Names
 pub mod Invariant
 pub mod Known
 pub mod Kept

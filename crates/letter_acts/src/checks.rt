@@ -10,13 +10,13 @@ mod columns;
 mod distinct;
 mod edges;
 mod frames;
-mod names;
 mod naming;
 mod procedures;
 mod sites;
 
 use crate::parts::Parts;
 use acts::are_acted;
+pub use acts::is_within;
 use edges::has_edges;
 use frames::are_frames;
 use naming::are_named;

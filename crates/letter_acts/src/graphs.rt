@@ -1,13 +1,15 @@
-ghost use Rattle.std.specs.Prelude.{◌≡◌, IfOk, OnOk};
+ghost use Rattle.std.specs.Prelude.{◌≡◌, ◌<◌, Some, IfOk, OnOk, length, slice_get};
+ghost use Rattle.std.specs.Option.{option_map};
 ghost use Rattle.letter_acts.specs.Acts.{plain_acts, plain_frames};
 ghost use Rattle.letter_acts.specs.Parts.{graph_of};
 
 use crate::acts::Act;
+use crate::finding::{act_of, columns_of};
 use crate::frames::Frame;
 use crate::parts::Parts;
 use crate::sites::Site;
-use boogie_tree::Text;
-use nwa_base::Nwa;
+use boogie_tree::{Column, Text, VarInfo};
+use nwa_base::{Letter, Nwa};
 use std::alloc::AllocError;
 use std::marker::Model;
 
@@ -31,7 +33,8 @@ impl Model for Icfg {
 }
 
 impl Icfg {
-    ghost use Rattle.letter_acts.specs.Acts.{plain_acts, plain_frames};
+    ghost use Rattle.letter_acts.specs.Acts.{plain_act, plain_acts, plain_frames, frame_of, act_of};
+    ghost use Rattle.letter_acts.specs.Invariant.{alphabet_of};
     ghost use Rattle.letter_acts.specs.Kept.{Keeps};
     ghost use Rattle.letter_acts.specs.Parts.{graph_of};
 
@@ -59,12 +62,45 @@ impl Icfg {
         self.parts.acts.as_slice()
     }
 
+    /// The act of the letter of this number, `None` where there is no such letter.
+    pub fn act(&self, letter: u32) -> Option<&Act>
+        ensures value { option_map (λ a. plain_act a.now) result ≡ slice_get self.now.acts letter }
+        ensures valid { Keeps self.now }
+    {
+        self.parts.acts.get(letter as usize)
+    }
+
+    /// The act of the letter of this number, which there is.
+    pub fn act_at(&self, letter: u32) -> &Act
+        requires { letter < length self.now.acts }
+        ensures value { slice_get self.now.acts letter ≡ Some (plain_act result.now) }
+        ensures valid { Keeps self.now }
+    {
+        &self.parts.acts[letter as usize]
+    }
+
+    /// The act of the letter, `None` where it is none of the alphabet.
+    pub fn act_of(&self, letter: Letter) -> Option<&Act>
+        ensures value { option_map (λ a. plain_act a.now) result ≡ act_of (alphabet_of self.now) letter }
+        ensures valid { Keeps self.now }
+    {
+        act_of(&self.parts.acts, letter)
+    }
+
     /// The frame of each procedure.
     pub fn frames(&self) -> &[Frame]
         ensures value { plain_frames result.now ≡ self.now.frames }
         ensures valid { Keeps self.now }
     {
         self.parts.frames.as_slice()
+    }
+
+    /// The columns of a procedure, none where there is no such procedure.
+    pub fn columns(&self, proc: u32) -> &[(Column, VarInfo)]
+        ensures value { result.now ≡ frame_of (alphabet_of self.now) proc }
+        ensures valid { Keeps self.now }
+    {
+        columns_of(&self.parts.frames, proc)
     }
 
     /// The name of each procedure.

@@ -4,6 +4,7 @@
 
 mod acts;
 mod checks;
+mod finding;
 mod frames;
 mod graphs;
 pub mod laws;
@@ -12,6 +13,8 @@ mod parts;
 mod sites;
 
 pub use acts::Act;
+pub use checks::is_within;
+pub use finding::type_at;
 pub use frames::Frame;
 pub use graphs::Icfg;
 pub use making::icfg;

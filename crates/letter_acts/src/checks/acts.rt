@@ -12,15 +12,15 @@ ghost use Rattle.letter_acts.specs.Parts.{alphabet};
 use crate::acts::Act;
 use crate::checks::columns::{
     count_local_targets, count_variables, is_result, may_name, may_target, may_write, sum_within,
-    type_at,
 };
 use crate::checks::distinct::numbers_differ;
+use crate::finding::{columns_of, type_at};
 use crate::frames::Frame;
 use boogie_tree::{Column, VarInfo};
 use lin_rows::Row;
 
 /// Whether the row's columns are below the number.
-fn is_within(row: &Row, width: usize) -> bool
+pub fn is_within(row: &Row, width: usize) -> bool
     ensures { IsTrue result ↔ IsBelow width row.now.terms }
 {
     row.terms().iter().all(|term| (term.0 as usize) < width)
@@ -44,16 +44,6 @@ fn width(first: usize, second: usize, helpers: u32) -> Option<usize>
 {
     let both = sum_within(first, second)?;
     sum_within(both, helpers as usize)
-}
-
-/// The columns of a procedure, none where it does not exist.
-pub(super) fn columns_of(frames: &[Frame], proc: u32) -> &[(Column, VarInfo)]
-    ensures { result.now ≡ frame_of (alphabet [] frames.now) proc }
-{
-    match frames.get(proc as usize) {
-        Some(frame) => frame.columns.as_slice(),
-        None => &[],
-    }
 }
 
 fn inside_is_acted(frames: &[Frame], proc: u32, written: &[u32], helpers: u32, rows: &[Row]) -> bool

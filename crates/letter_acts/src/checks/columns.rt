@@ -3,10 +3,10 @@
 ghost use Rattle.std.specs.Prelude.{◌≡◌, ◌↔◌, ◌+◌, ◌<◌, ◌≤◌, ◌^◌, IsTrue, MatchOption, length};
 ghost use Rattle.std.specs.List.{AllByRecursion};
 ghost use Rattle.letter_acts.specs.Frames.{is_global_column, is_old_column, is_local_column, is_variable, is_parameter, is_result, variables_of};
-ghost use Rattle.letter_acts.specs.Invariant.{MayWrite, MayTarget, MayName, IsOld, is_global_at, type_at};
+ghost use Rattle.letter_acts.specs.Invariant.{MayWrite, MayTarget, MayName, IsOld, is_global_at};
 ghost use Rattle.letter_acts.specs.Checks.{local_targets};
 
-use boogie_tree::{Column, Ty, VarInfo};
+use boogie_tree::{Column, VarInfo};
 
 pub(super) fn is_global_column(column: Column) -> bool
     ensures { result ≡ is_global_column column }
@@ -84,16 +84,6 @@ fn is_global_at(frame: &[(Column, VarInfo)], column: u32) -> bool
     match frame.get(column as usize) {
         Some(found) => is_global_column(found.0),
         None => false,
-    }
-}
-
-/// The type of the column, if it exists.
-pub(super) fn type_at(frame: &[(Column, VarInfo)], column: u32) -> Option<Ty>
-    ensures { result ≡ type_at frame.now column }
-{
-    match frame.get(column as usize) {
-        Some(found) => Some(found.1.ty),
-        None => None,
     }
 }
 

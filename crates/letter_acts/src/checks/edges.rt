@@ -10,33 +10,12 @@ ghost use Rattle.letter_acts.specs.Checks.{AgreesWithCall, BackAgrees};
 ghost use Rattle.letter_acts.specs.Parts.{graph_of, alphabet};
 
 use crate::acts::Act;
-use crate::checks::acts::columns_of;
 use crate::checks::columns::is_not_old;
 use crate::checks::procedures::is_place_of;
+use crate::finding::{act_of, columns_of};
 use crate::parts::Parts;
 use boogie_tree::{Column, VarInfo};
-use nwa_base::{Kind, Letter, Nwa};
-
-/// Whether the letter is the one of its number, whose act this is.
-fn is_letter_of(letter: Letter, act: &Act) -> bool
-    ensures { IsTrue result ↔ (letter ≡ letter_of letter.id (plain_act act.now)) }
-{
-    match act {
-        Act::Inside { .. } => letter.kind == Kind::Inside && letter.call == 0,
-        Act::Call { .. } => letter.kind == Kind::Call && letter.call == 0,
-        Act::Back { call, .. } => letter.kind == Kind::Back && letter.call == *call,
-    }
-}
-
-/// The act of a letter, `None` where it is none of the alphabet.
-fn act_of(acts: &[Act], letter: Letter) -> Option<&Act>
-    ensures { MatchOption result (act_of (alphabet acts.now []) letter ≡ None) (λ act. act_of (alphabet acts.now []) letter ≡ Some (plain_act act.now)) }
-{
-    match acts.get(letter.id as usize) {
-        Some(act) if is_letter_of(letter, act) => Some(act),
-        _ => None,
-    }
-}
+use nwa_base::{Letter, Nwa};
 
 fn write_no_old(frame: &[(Column, VarInfo)], written: &[u32]) -> bool
     ensures { IsTrue result ↔ AllByRecursion (λ c. IsOld frame.now c → ⊥) written.now }

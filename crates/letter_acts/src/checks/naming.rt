@@ -3,18 +3,18 @@
 
 ghost use Rattle.std.specs.Prelude.{◌≡◌, ◌↔◌, true, IsTrue, IfOk, map};
 ghost use Rattle.std.specs.List.{AllByRecursion};
+ghost use Rattle.boogie_tree.specs.Names.{is_spelled};
 ghost use Rattle.nwa_base.specs.Members.{Member};
 ghost use Rattle.letter_acts.specs.Acts.{plain_frames};
-ghost use Rattle.letter_acts.specs.Names.{is_spelled};
 ghost use Rattle.letter_acts.specs.Invariant.{AreDistinct, AreFrames, HasNames, AreNamed, names_where};
 ghost use Rattle.letter_acts.specs.Checks.{is_named_by, HasOwnNames};
 ghost use Rattle.letter_acts.specs.Parts.{graph_of};
 
 use crate::checks::columns::{is_global_column, is_local_column};
 use crate::checks::distinct::{slices_differ, texts_differ};
-use crate::checks::names::is_spelled;
 use crate::frames::Frame;
 use crate::parts::Parts;
+use boogie_tree::names::is_spelled;
 use boogie_tree::{Column, Text, VarInfo};
 use std::alloc::{AllocError, Global};
 

@@ -1,7 +1,7 @@
 use Rattle.std.proofs.Common.{IsTrue, rules}
 use Rattle.std.proofs.lemmas.Iterator.{YieldsList-from_slice}
 use borrow.Author.Tests.{tests}
-use Rattle.letter_acts.specs.Names.{is_spelled}
+use Rattle.boogie_tree.specs.Names.{is_spelled}
 use Rattle.letter_acts.proofs.CheckLemmas.{all_said}
 use Rattle.letter_acts.proofs.checks.naming.are_spelled.Goals as goal
 
