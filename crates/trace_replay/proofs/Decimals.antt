@@ -9,7 +9,8 @@ use Rattle.std.proofs.lemmas.Bool.Decides.{nat_tests}
 use Rattle.std.proofs.lemmas.Fmt.{decimal_digit, decimal_step_wide, decimal_by_steps_wide, decimal_is_IsNumeral_wide}
 use Rattle.std.proofs.lemmas.List.{append-nil, get_or_append_left}
 use Rattle.std.proofs.lemmas.Str.Parse.{digit_from_value}
-use Rattle.trace_replay.specs.Pieces.{is_digit, has_one_spelling}
+use Rattle.boogie_tree.specs.Names.{is_digit}
+use Rattle.trace_replay.specs.Pieces.{has_one_spelling}
 
 -- each byte is a digit
 abbrev pub AreDigits : List ℕ → Type 0

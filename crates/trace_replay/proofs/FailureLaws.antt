@@ -4,13 +4,14 @@ use Rattle.std.specs.List.{AllByRecursion, concat}
 use Rattle.std.specs.Fmt.{decimal}
 use Rattle.std.proofs.lemmas.List.{append_cancel_left, append_cancel_right, append-nil, length-map}
 use Rattle.std.proofs.lemmas.Bool.{cases_order}
+use Rattle.outer_io.specs.Lines.{lines_of}
 use Rattle.boogie_run.specs.declared.types.Choice.{Choice}
 use Rattle.trace_replay.specs.declared.failure.FailureFault.{FailureFault}
 use Rattle.trace_replay.specs.declared.failure.FailureFault.TheVariants.{Syntax, Memory}
 use Rattle.trace_replay.specs.declared.reading.Head.{Head}
 use Rattle.math_facts.specs.Fits.{Fits}
 use Rattle.trace_replay.specs.FailureText.{PlainFailure, IsInBounds, assertion_line, value_line, failure_lines, failure_text, numbers}
-use Rattle.trace_replay.specs.FailureFaults.{lines_of, IsFirstFault, IsFaultOf}
+use Rattle.trace_replay.specs.FailureFaults.{IsFirstFault, IsFaultOf}
 use Rattle.trace_replay.specs.Pieces.{IsHead, head_lines}
 use Rattle.trace_replay.proofs.Decimals.{decimal_injective}
 use Rattle.trace_replay.proofs.NumeralReading.{same_number}

@@ -1,15 +1,17 @@
 -- The first line that cannot stand there.
 use Rattle.std.proofs.Common.{◌≡◌, ◌≢◌, ℕ, suc, ◌+◌, ◌^◌, ◌<◌, ℤ, pos, negsuc, true, not, nat_eq, List, [], ◌∷◌, ◌++◌, map, codes, length, take, drop, refl, sym, ap, ◌∙◌, arith, append_assoc}
-use Rattle.std.specs.List.{AllByRecursion}
+use Rattle.std.specs.List.{AllByRecursion, concat}
 use Rattle.std.specs.Fmt.{decimal}
 use Rattle.std.proofs.lemmas.List.{take-append-drop, take-append-le, take-take, drop-take, take_at, drop_at}
 use Rattle.math_facts.specs.Fits.{Fits}
+use Rattle.outer_io.specs.Lines.{lines_of}
+use Rattle.boogie_tree.specs.Names.{is_digit}
 use Rattle.trace_replay.specs.declared.reading.Head.{Head}
 use Rattle.trace_replay.specs.FailureText.{PlainFailure, IsInBounds, numbered_line, assertion_line, value_line, failure_lines}
-use Rattle.trace_replay.specs.FailureFaults.{lines_of, IsFirstFault}
+use Rattle.trace_replay.specs.FailureFaults.{IsFirstFault}
 use Rattle.std.proofs.lemmas.Bool.{and_from}
 use Rattle.std.proofs.lemmas.Bool.Decides.{nat_tests}
-use Rattle.trace_replay.specs.Pieces.{is_digit, IsHead, head_lines}
+use Rattle.trace_replay.specs.Pieces.{IsHead, head_lines}
 use Rattle.trace_replay.proofs.Decimals.{AreDigits, decimal_digits}
 use Rattle.trace_replay.proofs.TextLines.{no_newline, no_newline-append, IsLine, line_first, first_line_is}
 
@@ -100,6 +102,27 @@ failure_in_bounds : (rounds number line steps : ℕ) → rounds < 2 ^ 64 → num
 failure_in_bounds rounds number line steps a b c d = record { rounds = a; assertion = b; line = c; steps = d; values = omega arith; choices = tt }
 
 -- The lines before the values
+
+line_on : (l : List ℕ) (ls : List (List ℕ)) (rest whole part : List ℕ) → whole ≡ l ++ part → part ≡ concat ls ++ rest → whole ≡ concat (l ∷ ls) ++ rest
+line_on l ls rest whole part e f = e ∙ ap (λ t. l ++ t) f ∙ sym (append_assoc l (concat ls) rest)
+
+-- they were read one after another
+pub head_spelled : (h : Head) (text behind_word behind_rounds behind_id behind_steps rest : List ℕ) → text ≡ codes "unsafe\n" ++ behind_word
+    → (h.rounds < 2 ^ 64) × (behind_word ≡ numbered_line (codes "rounds ") h.rounds ++ behind_rounds)
+    → ((h.id.number < 2 ^ 32) × (h.id.line < 2 ^ 32)) × (behind_rounds ≡ assertion_line h.id.number h.id.line ++ behind_id)
+    → (h.steps < 2 ^ 64) × (behind_id ≡ numbered_line (codes "steps ") h.steps ++ behind_steps)
+    → (h.values < 2 ^ 64) × (behind_steps ≡ numbered_line (codes "values ") h.values ++ rest) → IsHead h × (text ≡ concat (head_lines h) ++ rest)
+head_spelled h text behind_word behind_rounds behind_id behind_steps rest first rounds id steps values =
+    let counted = numbered_line (codes "values ") h.values ∷ [] in
+    let run = numbered_line (codes "steps ") h.steps ∷ counted in
+    let told = assertion_line h.id.number h.id.line ∷ run in (
+      record { rounds = rounds.0; number = id.0.0; line = id.0.1; steps = steps.0; values = values.0 },
+      line_on (codes "unsafe\n") (numbered_line (codes "rounds ") h.rounds ∷ told) rest text behind_word first
+          (line_on (numbered_line (codes "rounds ") h.rounds) told rest behind_word behind_rounds rounds.1
+          (line_on (assertion_line h.id.number h.id.line) run rest behind_rounds behind_id id.1
+          (line_on (numbered_line (codes "steps ") h.steps) counted rest behind_id behind_steps steps.1
+          (line_on (numbered_line (codes "values ") h.values) [] rest behind_steps rest values.1 refl)))),
+    )
 
 pub no_unsafe : (text : List ℕ) → ((rest : List ℕ) → text ≢ codes "unsafe\n" ++ rest) → IsFirstFault text 1
 no_unsafe text none =

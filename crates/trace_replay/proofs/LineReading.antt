@@ -4,11 +4,12 @@ use Rattle.std.specs.Borrow.{Bor}
 use Rattle.std.specs.Result.{OkIff, result_ok}
 use Rattle.std.specs.Fmt.{decimal}
 use Rattle.std.proofs.lemmas.List.{append_cancel_left}
+use Rattle.boogie_tree.specs.Names.{is_digit}
 use Rattle.boogie_run.specs.declared.types.AssertId.{AssertId}
 use Rattle.boogie_run.specs.declared.types.Choice.{Choice}
 use Rattle.math_facts.specs.Fits.{Fits}
 use Rattle.trace_replay.specs.FailureText.{numbered_line, assertion_line, value_line}
-use Rattle.trace_replay.specs.Pieces.{Reads, IsBelowZero, is_digit}
+use Rattle.trace_replay.specs.Pieces.{Reads, IsBelowZero}
 use Rattle.trace_replay.proofs.Decimals.{AreDigits, decimal_digits}
 use Rattle.trace_replay.proofs.NumeralReading.{same_number}
 
@@ -61,6 +62,9 @@ minus_and_value bytes rest (Some found) is h =
 
 -- A word and a number
 
+pub no_word : (word bytes : List ℕ) → ((rest : List ℕ) → bytes ≢ word ++ rest) → (n : ℕ) (more : List ℕ) → n < 2 ^ 64 → bytes ≢ numbered_line word n ++ more
+no_word word bytes none n more small e = none ((decimal n ++ 10 ∷ []) ++ more) (e ∙ append_assoc word (decimal n ++ 10 ∷ []) more)
+
 pub number_behind_word : (word bytes rest : List ℕ) (r : Option (ℕ × Bor (List ℕ))) → bytes ≡ word ++ rest → Reads {A = ℕ} (λ n. n < 2 ^ 64) (λ n. decimal n ++ 10 ∷ []) rest r → Reads {A = ℕ} (λ n. n < 2 ^ 64) (numbered_line word) bytes r
 number_behind_word word bytes rest None is h =
     λ n more small e. h n more small (append_cancel_left word rest ((decimal n ++ 10 ∷ []) ++ more) (sym is ∙ e ∙ append_assoc word (decimal n ++ 10 ∷ []) more))
@@ -78,6 +82,10 @@ behind_word : (number line : ℕ) (bytes rest more : List ℕ) → bytes ≡ cod
 behind_word number line bytes rest more is e =
     append_cancel_left (codes "assertion ") rest ((decimal number ++ 32 ∷ []) ++ behind_number line more)
     (sym is ∙ e ∙ simp append_assoc)
+
+-- The word is not in front.
+pub no_assertion_word : (bytes : List ℕ) → ((rest : List ℕ) → bytes ≢ codes "assertion " ++ rest) → (id : AssertId) (more : List ℕ) → (id.number < 2 ^ 32) × (id.line < 2 ^ 32) → bytes ≢ assertion_line id.number id.line ++ more
+no_assertion_word bytes none id more small e = none ((decimal id.number ++ (codes " line " ++ (decimal id.line ++ 10 ∷ []))) ++ more) (e ∙ append_assoc (codes "assertion ") (decimal id.number ++ (codes " line " ++ (decimal id.line ++ 10 ∷ []))) more)
 
 -- No number is behind the word.
 pub no_assertion_number : (bytes rest : List ℕ) → bytes ≡ codes "assertion " ++ rest → ((n : ℕ) (more : List ℕ) → n < 2 ^ 32 → rest ≢ (decimal n ++ 32 ∷ []) ++ more) → (id : AssertId) (more : List ℕ) → (id.number < 2 ^ 32) × (id.line < 2 ^ 32) → bytes ≢ assertion_line id.number id.line ++ more

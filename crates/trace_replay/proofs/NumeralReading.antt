@@ -3,7 +3,7 @@ use Rattle.std.proofs.Common.{◌≡◌, ◌≢◌, ℕ, ◌+◌, ◌^◌, ◌<�
 use Rattle.std.specs.List.{prefix_len}
 use Rattle.std.specs.Fmt.{decimal}
 use Rattle.std.proofs.lemmas.List.{take_at, drop_at}
-use Rattle.trace_replay.specs.Pieces.{is_digit}
+use Rattle.boogie_tree.specs.Names.{is_digit}
 use Rattle.trace_replay.proofs.Decimals.{AreDigits, decimal_digits, decimal_injective}
 
 -- the digits at the front

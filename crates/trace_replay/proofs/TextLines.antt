@@ -2,7 +2,7 @@
 use Rattle.std.proofs.Common.{◌≡◌, ℕ, Bool, true, false, not, cond, ◌&&◌, nat_eq, List, [], ◌∷◌, ◌++◌, take, refl, sym, ap, ◌∙◌, append_assoc}
 use Rattle.std.specs.List.{AllByRecursion, concat}
 use Rattle.std.proofs.lemmas.Bool.{and_parts, and_from, not-true}
-use Rattle.trace_replay.specs.FailureFaults.{onto_first, lines_of}
+use Rattle.outer_io.specs.Lines.{onto_first, lines_of}
 
 -- no byte ends a line
 abbrev pub no_newline : List ℕ → Bool

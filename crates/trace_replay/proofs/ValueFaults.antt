@@ -4,11 +4,12 @@ use Rattle.std.specs.List.{AllByRecursion, concat}
 use Rattle.std.specs.Fmt.{decimal}
 use Rattle.std.proofs.lemmas.List.{append_cancel_left, append_cancel_right, map-append, length-map, length-replicate}
 use Rattle.math_facts.specs.Fits.{Fits}
+use Rattle.outer_io.specs.Lines.{lines_of}
 use Rattle.trace_replay.specs.declared.failure.FailureFault.{FailureFault}
 use Rattle.trace_replay.specs.declared.failure.FailureFault.TheVariants.{Syntax, Memory}
 use Rattle.trace_replay.specs.declared.reading.Head.{Head}
 use Rattle.trace_replay.specs.FailureText.{PlainFailure, IsInBounds, numbered_line, value_line, failure_lines}
-use Rattle.trace_replay.specs.FailureFaults.{lines_of, IsFirstFault, IsFaultOf}
+use Rattle.trace_replay.specs.FailureFaults.{IsFirstFault, IsFaultOf}
 use Rattle.trace_replay.specs.Pieces.{IsHead, head_lines, ValuesEnd, ReadsValues}
 use Rattle.trace_replay.proofs.Decimals.{decimal_injective}
 use Rattle.trace_replay.proofs.TextLines.{lines_first, first_line_is, no_line_is}

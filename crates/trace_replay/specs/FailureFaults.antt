@@ -1,18 +1,9 @@
 -- The first line that cannot stand where it stands.
-use Rattle.std.specs.Prelude.{◌≡◌, ℕ, ◌<◌, List, [], ◌∷◌, take, nat_eq, if◌then◌else◌}
+use Rattle.std.specs.Prelude.{◌≡◌, ℕ, ◌<◌, List, take}
+use Rattle.outer_io.specs.Lines.{lines_of}
 use Rattle.trace_replay.specs.FailureText.{PlainFailure, IsInBounds, failure_lines}
 use Rattle.trace_replay.specs.declared.failure.FailureFault.{FailureFault}
 use Rattle.trace_replay.specs.declared.failure.FailureFault.TheVariants.{Syntax, Memory}
-
--- a byte put in front of the first line
-abbrev pub onto_first : ℕ → List (List ℕ) → List (List ℕ)
-onto_first b [] = (b ∷ []) ∷ []
-onto_first b (l ∷ ls) = (b ∷ l) ∷ ls
-
--- the lines of a text, each with its newline; the last may have none
-abbrev pub lines_of : List ℕ → List (List ℕ)
-lines_of [] = []
-lines_of (b ∷ bs) = if nat_eq b 10 then (b ∷ []) ∷ lines_of bs else onto_first b (lines_of bs)
 
 -- The text begins with the first n lines of some failure's text; n lines of a text that has fewer are all of it.
 abbrev pub BeginsAsFailure : ℕ → List ℕ → Type 0

@@ -1,5 +1,5 @@
 -- Reading a text from the front.
-use Rattle.std.specs.Prelude.{◌≡◌, ◌≢◌, ℕ, ◌+◌, ◌^◌, ◌<◌, ℤ, pos, negsuc, Bool, true, false, not, ◌&&◌, ◌⊎◌, nat_eq, nat_le, List, [], ◌∷◌, ◌++◌, map, length, codes, Option, None, Some, Result, Ok, Err, Vec}
+use Rattle.std.specs.Prelude.{◌≡◌, ◌≢◌, ℕ, ◌+◌, ◌^◌, ◌<◌, ℤ, pos, negsuc, Bool, true, false, not, ◌⊎◌, nat_eq, List, [], ◌∷◌, ◌++◌, map, length, codes, Option, None, Some, Result, Ok, Err, Vec}
 use Rattle.std.specs.List.{AllByRecursion, concat}
 use Rattle.std.specs.Borrow.{Bor}
 use Rattle.std.specs.declared.alloc.Global.{Global}
@@ -14,9 +14,6 @@ use Rattle.trace_replay.specs.FailureText.{numbered_line, assertion_line, value_
 abbrev pub Reads : {A : Type 0} → (A → Type 0) → (A → List ℕ) → List ℕ → Option (A × Bor (List ℕ)) → Type 0
 Reads {A} P spelled bytes None = (x : A) (rest : List ℕ) → P x → bytes ≢ spelled x ++ rest
 Reads P spelled bytes (Some found) = P found.0 × (bytes ≡ spelled found.0 ++ found.1.now)
-
-abbrev pub is_digit : ℕ → Bool
-is_digit b = nat_le 48 b && nat_le b 57
 
 -- no zero in front, and at least one digit
 abbrev pub has_one_spelling : List ℕ → Bool

@@ -2,9 +2,8 @@
 ghost use Rattle.std.specs.Prelude.{◌≡◌, ◌≢◌, ◌++◌, ◌∷◌, ◌^◌, ◌<◌, ◌≤◌, [], ℕ, true, false, length, MatchOption};
 ghost use Rattle.std.specs.List.{AllByRecursion, prefix_len};
 ghost use Rattle.std.specs.Fmt.{decimal};
-ghost use Rattle.trace_replay.specs.Pieces.{Reads, is_digit, has_one_spelling};
-
-use crate::pieces::after;
+ghost use Rattle.boogie_tree.specs.Names.{is_digit};
+ghost use Rattle.trace_replay.specs.Pieces.{Reads, has_one_spelling};
 
 /// A number, and behind it the byte that ends it, which is no digit.
 pub(crate) fn number_to(bytes: &[u8], end: u8) -> Option<(u128, &[u8])>
@@ -13,7 +12,7 @@ pub(crate) fn number_to(bytes: &[u8], end: u8) -> Option<(u128, &[u8])>
 {
     let (digits, rest) = bytes.split_at(digit_count(bytes));
     let n = number_of(digits)?;
-    let rest = after(rest, &[end])?;
+    let rest = rest.strip_prefix(&[end])?;
     Some((n, rest))
 }
 

@@ -1,5 +1,5 @@
 //! The lines of a failure's text, each at the front of what is left of the text.
-ghost use Rattle.std.specs.Prelude.{◌≡◌, ◌≢◌, ◌++◌, ◌∷◌, [], ◌^◌, ◌<◌, ℕ, List, MatchOption, unsigned_abs};
+ghost use Rattle.std.specs.Prelude.{◌++◌, ◌∷◌, [], ◌^◌, ◌<◌, unsigned_abs};
 ghost use Rattle.std.specs.Fmt.{decimal};
 ghost use Rattle.math_facts.specs.Fits.{Fits};
 ghost use Rattle.trace_replay.specs.FailureText.{numbered_line, assertion_line, value_line};
@@ -8,18 +8,11 @@ ghost use Rattle.trace_replay.specs.Pieces.{Reads, IsBelowZero};
 use crate::numerals::{long_number_to, number_to, short_number_to};
 use boogie_run::{AssertId, Choice};
 
-/// What stands after the text, where the bytes begin with it.
-pub(crate) fn after<'a>(bytes: &'a [u8], text: &[u8]) -> Option<&'a [u8]>
-    ensures { MatchOption result ((rest : List ℕ) → bytes.now ≢ text.now ++ rest) (λ rest. bytes.now ≡ text.now ++ rest.now) }
-{
-    bytes.strip_prefix(text)
-}
-
 /// A line of the word and a number of 64 bits.
 pub(crate) fn numbered<'a>(bytes: &'a [u8], word: &[u8]) -> Option<(u64, &'a [u8])>
     ensures { Reads (λ n. n < 2 ^ 64) (numbered_line word.now) bytes.now result }
 {
-    let rest = after(bytes, word)?;
+    let rest = bytes.strip_prefix(word)?;
     long_number_to(rest, b'\n')
 }
 
@@ -27,9 +20,9 @@ pub(crate) fn numbered<'a>(bytes: &'a [u8], word: &[u8]) -> Option<(u64, &'a [u8
 pub(crate) fn assertion(bytes: &[u8]) -> Option<(AssertId, &[u8])>
     ensures { Reads (λ id. (id.number < 2 ^ 32) × (id.line < 2 ^ 32)) (λ id. assertion_line id.number id.line) bytes.now result }
 {
-    let rest = after(bytes, b"assertion ")?;
+    let rest = bytes.strip_prefix(b"assertion ")?;
     let (number, rest) = short_number_to(rest, b' ')?;
-    let rest = after(rest, b"line ")?;
+    let rest = rest.strip_prefix(b"line ")?;
     let (line, rest) = short_number_to(rest, b'\n')?;
     Some((AssertId { number, line }, rest))
 }
@@ -38,7 +31,7 @@ pub(crate) fn assertion(bytes: &[u8]) -> Option<(AssertId, &[u8])>
 pub(crate) fn value(bytes: &[u8]) -> Option<(Choice, &[u8])>
     ensures { Reads (λ c. Fits c.0) (λ c. value_line c.0) bytes.now result }
 {
-    match after(bytes, b"-") {
+    match bytes.strip_prefix(b"-") {
         Some(rest) => value_below_zero(rest),
         None => natural_value(bytes),
     }

@@ -7,7 +7,7 @@ ghost use Rattle.trace_replay.specs.FailureFaults.{IsFaultOf};
 ghost use Rattle.trace_replay.specs.Pieces.{IsHead, head_lines, ReadsValues};
 
 use crate::failure::{Failure, FailureFault, Trail};
-use crate::pieces::{after, assertion, numbered, value};
+use crate::pieces::{assertion, numbered, value};
 use boogie_run::{AssertId, Choice};
 use std::alloc::Global;
 
@@ -48,7 +48,7 @@ fn head_of(text: &[u8]) -> Result<(Head, &[u8]), FailureFault>
     ensures found { IfOk result (λ r. IsHead r.0 × (text.now ≡ concat (head_lines r.0) ++ r.1.now)) }
     ensures fault { IfErr result (IsFaultOf text.now) }
 {
-    let Some(rest) = after(text, b"unsafe\n") else {
+    let Some(rest) = text.strip_prefix(b"unsafe\n") else {
         return Err(FailureFault::Syntax { line: 1 });
     };
     let Some((rounds, rest)) = numbered(rest, b"rounds ") else {
