@@ -5,15 +5,14 @@ ghost use Rattle.boogie_tree.specs.View as view;
 ghost use Rattle.boogie_parse.specs.ListReading as list;
 ghost use Rattle.boogie_parse.specs.StatementReading as spec;
 ghost use Rattle.boogie_parse.specs.declared.symbols.Fixed.TheVariants as fixed;
-ghost use Rattle.boogie_parse.specs.StatementViews.{inside, block_of};
-ghost use Rattle.boogie_parse.specs.ListViews.{Gives, found, found_if, items_as};
+ghost use Rattle.boogie_parse.specs.StatementViews.{inside, block_of, Adds, AddsIf};
+ghost use Rattle.boogie_parse.specs.ListViews.{Gives, found, items_as};
 
 use super::lists::seen;
 use super::parser::{Parser, past_limit};
-use super::statements::FoundStmt;
 use crate::fault::{Fault, Which};
 use crate::symbols::{Fixed, Sign, Symbol};
-use boogie_tree::{Guard, Name, Span, Stmt};
+use boogie_tree::{Name, Span, Stmt};
 
 /// In each, `blocks` more blocks may be opened.
 impl Parser {
@@ -31,7 +30,8 @@ impl Parser {
             return Err(past_limit(Which::Nesting, span));
         }
         let (statements, rest) = self.list(blocks - 1, rest)?;
-        self.ended_by(Fixed::CloseBrace, statements, rest)
+        let (_, rest) = self.behind(Fixed::CloseBrace, rest)?;
+        Ok((statements, rest))
     }
 
     /// The branch of an `else if`, whose `if` stands at `span`; it is inside one block more.
@@ -41,13 +41,14 @@ impl Parser {
         blocks: u8,
         span: Span,
         symbols: &'a [Symbol],
-    ) -> Result<FoundStmt<'a>, Fault>
-        ensures { Gives (found view.statement) result ((inside self.now.end blocks).branch span symbols.now) }
+        statements: &mut Vec<Stmt>,
+    ) -> Result<&'a [Symbol], Fault>
+        ensures { Adds statements.old.items statements.new.items result ((inside self.now.end blocks).branch span symbols.now) }
     {
         if blocks == 0 {
             return Err(past_limit(Which::Nesting, span));
         }
-        self.branch(blocks - 1, span, symbols)
+        self.branch(blocks - 1, span, symbols, statements)
     }
 
     /// What stands behind `else`.
@@ -63,9 +64,8 @@ impl Parser {
         match seen(Fixed::If, symbols) {
             None => self.block(blocks, symbols),
             Some((span, rest)) => {
-                let (branch, rest) = self.inner_branch(blocks, span, rest)?;
                 let mut statements = Vec::new(self.alloc);
-                statements.push(branch)?;
+                let rest = self.inner_branch(blocks, span, rest, &mut statements)?;
                 Ok((statements, rest))
             }
         }
@@ -79,19 +79,19 @@ impl Parser {
         blocks: u8,
         span: Span,
         symbols: &'a [Symbol],
-    ) -> Result<FoundStmt<'a>, Fault>
-        ensures { Gives (found view.statement) result
+        statements: &mut Vec<Stmt>,
+    ) -> Result<&'a [Symbol], Fault>
+        ensures { Adds statements.old.items statements.new.items result
             (spec.branch_by (list.expression_at self.now.end) self.now.end 200 (inside self.now.end blocks) span symbols.now) }
     {
         let (guard, rest) = self.guard(symbols)?;
         let (then, rest) = self.block(blocks, rest)?;
-        match seen(Fixed::Else, rest) {
-            None => Ok((Stmt::If(span, guard, then, Vec::new(self.alloc)), rest)),
-            Some((_, rest)) => {
-                let (other, rest) = self.other(blocks, rest)?;
-                Ok((Stmt::If(span, guard, then, other), rest))
-            }
-        }
+        let (other, rest) = match seen(Fixed::Else, rest) {
+            None => (Vec::new(self.alloc), rest),
+            Some((_, rest)) => self.other(blocks, rest)?,
+        };
+        statements.push(Stmt::If(span, guard, then, other))?;
+        Ok(rest)
     }
 
     /// A loop, behind its `while`.
@@ -102,14 +102,16 @@ impl Parser {
         blocks: u8,
         span: Span,
         symbols: &'a [Symbol],
-    ) -> Result<FoundStmt<'a>, Fault>
-        ensures { Gives (found view.statement) result
+        statements: &mut Vec<Stmt>,
+    ) -> Result<&'a [Symbol], Fault>
+        ensures { Adds statements.old.items statements.new.items result
             (spec.loop_at (list.expression_at self.now.end) self.now.end 200 (inside self.now.end blocks).block span symbols.now) }
     {
         let (guard, rest) = self.guard(symbols)?;
         let (invariants, rest) = self.invariants(rest)?;
         let (body, rest) = self.block(blocks, rest)?;
-        Ok((Stmt::While(span, guard, invariants, body), rest))
+        statements.push(Stmt::While(span, guard, invariants, body))?;
+        Ok(rest)
     }
 
     /// A statement, if one stands there.
@@ -119,8 +121,9 @@ impl Parser {
         &self,
         blocks: u8,
         symbols: &'a [Symbol],
-    ) -> Result<Option<FoundStmt<'a>>, Fault>
-        ensures { Gives (found_if view.statement) result
+        statements: &mut Vec<Stmt>,
+    ) -> Result<Option<&'a [Symbol]>, Fault>
+        ensures { AddsIf statements.old.items statements.new.items result
             (spec.statement_at (list.expression_at self.now.end) self.now.end 200 (inside self.now.end blocks) symbols.now) }
     {
         let Some((first, rest)) = symbols.split_first() else {
@@ -128,21 +131,21 @@ impl Parser {
         };
         let span = first.span;
         match &first.sign {
-            Sign::Fixed(Fixed::Assert) => there(self.assertion(span, rest)),
-            Sign::Fixed(Fixed::Assume) => there(self.assumption(span, rest)),
-            Sign::Fixed(Fixed::Havoc) => there(self.havoc(span, rest)),
-            Sign::Fixed(Fixed::Call) => there(self.call(span, rest)),
-            Sign::Fixed(Fixed::If) => there(self.branch(blocks, span, rest)),
-            Sign::Fixed(Fixed::While) => there(self.looped(blocks, span, rest)),
-            Sign::Fixed(Fixed::Break) => there(self.break_out(span, rest)),
-            Sign::Fixed(Fixed::Goto) => there(self.goto(span, rest)),
-            Sign::Fixed(Fixed::Return) => there(self.return_out(span, rest)),
+            Sign::Fixed(Fixed::Assert) => there(self.assertion(span, rest, statements)),
+            Sign::Fixed(Fixed::Assume) => there(self.assumption(span, rest, statements)),
+            Sign::Fixed(Fixed::Havoc) => there(self.havoc(span, rest, statements)),
+            Sign::Fixed(Fixed::Call) => there(self.call(span, rest, statements)),
+            Sign::Fixed(Fixed::If) => there(self.branch(blocks, span, rest, statements)),
+            Sign::Fixed(Fixed::While) => there(self.looped(blocks, span, rest, statements)),
+            Sign::Fixed(Fixed::Break) => there(self.break_out(span, rest, statements)),
+            Sign::Fixed(Fixed::Goto) => there(self.goto(span, rest, statements)),
+            Sign::Fixed(Fixed::Return) => there(self.return_out(span, rest, statements)),
             Sign::Name(text) => {
                 let name = Name {
                     span,
                     text: text.copy()?,
                 };
-                there(self.named(name, symbols, rest))
+                there(self.named(name, symbols, rest, statements))
             }
             _ => Ok(None),
         }
@@ -161,12 +164,9 @@ impl Parser {
         let mut statements = Vec::new(self.alloc);
         let mut rest = symbols;
         for _turn in 0..symbols.len() {
-            match self.statement(blocks, rest)? {
+            match self.statement(blocks, rest, &mut statements)? {
                 None => return Ok((statements, rest)),
-                Some((statement, behind)) => {
-                    statements.push(statement)?;
-                    rest = behind;
-                }
+                Some(behind) => rest = behind,
             }
         }
         Ok((statements, rest))

@@ -3,11 +3,9 @@ use Rattle.std.proofs.lemmas.Result.{err_from_is_err_and}
 use Rattle.boogie_tree.specs.View.{statement}
 use Rattle.boogie_parse.specs.ListReading.{one_there, expression_at}
 use Rattle.boogie_parse.specs.StatementReading.{statement_item, list_at}
-use Rattle.boogie_parse.specs.StatementViews.{inside, block_of}
-use Rattle.boogie_parse.specs.declared.symbols.Fixed.TheVariants as fixed
+use Rattle.boogie_parse.specs.StatementViews.{inside}
 use Rattle.boogie_parse.proofs.ListTurns.{starts, continues, stops, fails, completes, length-adds, map-pushed}
 use Rattle.boogie_parse.proofs.BlockSteps.{block_unopened, block_full, block_opened, block_fails, branch_full, branch_goes}
-use Rattle.boogie_parse.proofs.EndedValues.{ended_as}
 use Rattle.boogie_parse.proofs.grammar.parser.Parser.+statements.Goals as goal
 
 pub list-loop-turn-init : goal.list-loop-turn-init
@@ -20,12 +18,15 @@ list-returns-in_err-statement t c =
     rw (p.1, p.2) (λ m. fails (statement_item (expression_at c.args.self.now.end) c.args.self.now.end 200 (inside c.args.self.now.end c.args.blocks)) length _ _ _ _ _ _ _ _ c.loop-turn.invariant c.loop-turn-test.true refl (ap one_there (c.in_err-statement.ensures m)))
 
 pub list-returns-in-None : goal.list-returns-in-None
-list-returns-in-None t c = stops (statement_item (expression_at c.args.self.now.end) c.args.self.now.end 200 (inside c.args.self.now.end c.args.blocks)) length _ _ _ _ _ _ _ c.loop-turn.invariant c.loop-turn-test.true refl (ap one_there (rw c.in-None.is at c.in_ok-statement.ensures))
+list-returns-in-None t c =
+    let h = rw c.in-None.is at c.in_ok-statement.ensures in
+    rw h.0 (stops (statement_item (expression_at c.args.self.now.end) c.args.self.now.end 200 (inside c.args.self.now.end c.args.blocks)) length _ _ _ _ _ _ _ c.loop-turn.invariant c.loop-turn-test.true refl (ap one_there h.1))
 
 pub list-loop-turn-preserved : goal.list-loop-turn-preserved
 list-loop-turn-preserved t c =
-    continues (statement_item (expression_at c.args.self.now.end) c.args.self.now.end 200 (inside c.args.self.now.end c.args.blocks)) length length-adds _ _ _ _ _ _ _ _ _ _ c.loop-turn.invariant c.loop-turn-test.true refl (ap one_there (rw c.in-Some.is at c.in_ok-statement.ensures))
-    (map-pushed statement _ _ _ c.in_ok-push-in-Some.ensures.items)
+    let h = rw c.in-Some.is at c.in_ok-statement.ensures in
+    continues (statement_item (expression_at c.args.self.now.end) c.args.self.now.end 200 (inside c.args.self.now.end c.args.blocks)) length length-adds _ _ _ _ _ _ _ _ _ _ c.loop-turn.invariant c.loop-turn-test.true refl (ap one_there h.2)
+    (map-pushed statement _ _ _ h.1)
 
 pub list-returns : goal.list-returns
 list-returns t c = completes (statement_item (expression_at c.args.self.now.end) c.args.self.now.end 200 (inside c.args.self.now.end c.args.blocks)) length _ _ _ _ _ c.loop-turn.invariant (omega arith)
@@ -45,10 +46,13 @@ block-returns-in_err-statements t c =
     let p = err_from_is_err_and c.from_residual-in_err-statements.result c.from_residual-in_err-statements.ensures.1 in
     rw (p.1, p.2) (λ m. block_fails c.args.self.now.end c.args.blocks c.args.symbols.now _ _ _ c.in_ok-span.ensures c.if-blocks-eq0.false (c.in_err-statements.ensures m))
 
+pub block-returns-in_err-rest : goal.block-returns-in_err-rest
+block-returns-in_err-rest t c =
+    let p = err_from_is_err_and c.from_residual-in_err-rest.result c.from_residual-in_err-rest.ensures.1 in
+    rw (p.1, p.2) (λ m. rw (block_opened c.args.self.now.end c.args.blocks c.args.symbols.now _ _ c.in_ok-span.ensures c.if-blocks-eq0.false, c.in_ok-statements.ensures, c.in_err-rest.ensures m) refl)
+
 pub block-returns : goal.block-returns
-block-returns t c =
-    rw (block_opened c.args.self.now.end c.args.blocks c.args.symbols.now _ _ c.in_ok-span.ensures c.if-blocks-eq0.false, c.in_ok-statements.ensures)
-    (ended_as block_of c.ended_by.result c.args.self.now.end fixed.CloseBrace _ _ c.ended_by.ensures)
+block-returns t c = rw (block_opened c.args.self.now.end c.args.blocks c.args.symbols.now _ _ c.in_ok-span.ensures c.if-blocks-eq0.false, c.in_ok-statements.ensures, c.in_ok-rest.ensures) refl
 
 -- a branch inside a block
 

@@ -1,0 +1,12 @@
+-- A statement that the code adds to its list, as contracts see it.
+use Rattle.std.proofs.Common.{◌≡◌, List, [], ◌∷◌, ◌++◌, sym, ap, ◌∙◌}
+use Rattle.boogie_tree.specs.declared.tree.Stmt.{Stmt}
+use Rattle.boogie_tree.specs.Tree.{Statement}
+use Rattle.boogie_tree.specs.View.{statement}
+use Rattle.boogie_parse.specs.declared.symbols.Symbol.{Symbol}
+use Rattle.boogie_parse.specs.Outcomes.{Outcome}
+use Rattle.boogie_parse.specs.ListReading.{read}
+
+pub added : (old new : List Stmt) (s : Stmt) (v : Statement) (x : Outcome Statement) (ts : List Symbol) → new ≡ old ++ s ∷ [] → statement s ≡ v → x ≡ read v ts
+    → (t : Stmt) × (new ≡ old ++ t ∷ []) × (x ≡ read (statement t) ts)
+added old new s v x ts e seen is = (s, e, is ∙ ap (λ w. read w ts) (sym seen))
