@@ -1,6 +1,7 @@
 -- The lines of programs that break a typing rule.
 use Rattle.std.specs.Prelude.{ℕ, List, [], ◌++◌, codes}
 use Rattle.boogie_tree.specs.declared.span.Span.{Span}
+use Rattle.boogie_tree.specs.Places.{beginning}
 use Rattle.typed_tree.specs.declared.fault.TypeFault.{TypeFault}
 use Rattle.typed_tree.specs.declared.fault.TypeFault.TheVariants.{Unknown, Twice, Mismatch, NotAssignable, NotModified, NoEntry, ZeroDivisor, NonLinear, BadGoto, TooBig, Memory}
 use Rattle.automizer_top.specs.Refusals.{place_text}
@@ -8,10 +9,6 @@ use Rattle.automizer_top.specs.Refusals.{place_text}
 -- `refused`, the rule and the place
 abbrev pub rule_line : List ℕ → Span → List ℕ
 rule_line rule at = codes "refused " ++ rule ++ place_text at.line at.col
-
--- where a program begins
-abbrev pub beginning : Span
-beginning = record { line = 1; col = 1 }
 
 -- the line of a program with this fault; want of memory is no fault of the program
 abbrev pub type_refusal : TypeFault → List ℕ

@@ -10,8 +10,8 @@ use Rattle.std.proofs.lemmas.Fmt.{decimal_by_steps, decimal_injective}
 use Rattle.std.proofs.lemmas.List.Folds.{list_all-append}
 use Rattle.std.proofs.lemmas.Slice.Eq.{bytes_eq-Decides}
 use Rattle.boogie_tree.specs.declared.tree.Name.{Name}
+use Rattle.boogie_tree.specs.Names.{is_digit, is_letter, is_name_mark, is_name_byte, is_name}
 use Rattle.boogie_tree.specs.Tree.{Procedure}
-use Rattle.typing_rules.specs.Names.{is_digit, is_letter, is_sign, is_name_byte, is_name}
 use Rattle.typing_rules.specs.Rules.{all_differ}
 use Rattle.generated_program.specs.Generated.{link_name, link, is_positive, chain, main_procedure}
 
@@ -21,7 +21,7 @@ digit_named : (b : ℕ) → 48 ≤ b → b ≤ 57 → is_name_byte b ≡ true
 digit_named b low high =
     let above : nat_le 48 b ≡ true = grind (arith, nat_tests) in
     let below : nat_le b 57 ≡ true = grind (arith, nat_tests) in
-    or_right (is_letter b) (is_digit b || is_sign b) (or_left (is_digit b) (is_sign b) (and_from (nat_le 48 b) (nat_le b 57) above below))
+    or_left (is_letter b || is_digit b) (is_name_mark b) (or_right (is_letter b) (is_digit b) (and_from (nat_le 48 b) (nat_le b 57) above below))
 
 abbrev AreNamed : ℕ → List ℕ → Type 0
 AreNamed n ds = list_all is_name_byte ds ≡ true

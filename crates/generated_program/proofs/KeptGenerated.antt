@@ -7,10 +7,10 @@ use Rattle.std.proofs.lemmas.Bool.{and_from, or_left}
 use Rattle.std.proofs.lemmas.Bool.Decides.{nat_tests}
 use Rattle.boogie_tree.specs.declared.tree.Name.{Name}
 use Rattle.boogie_tree.specs.declared.tree.VarInfo.{VarInfo}
+use Rattle.boogie_tree.specs.Names.{is_name, is_spelled, is_made}
 use Rattle.boogie_tree.specs.Tree.{Procedure, Declaration}
 use Rattle.typed_tree.specs.TypedTree.{TypedProcedure, TypedProgram}
 use Rattle.typed_tree.specs.Scope.{Scope}
-use Rattle.typing_rules.specs.Names.{is_name, is_spelled, is_made}
 use Rattle.typing_rules.specs.Rules.{all_differ, meets, is_call, is_procedure, keeps_typing}
 use Rattle.typing_rules.specs.Shape.{are_arguments, are_names, is_procedure_shaped, has_shape}
 use Rattle.typing_rules.specs.ValidProgram.{has_entry, is_typed}

@@ -6,12 +6,13 @@ use Rattle.std.proofs.Math.IntN.{sub_ℕ}
 use Rattle.std.proofs.lemmas.Bool.Decides.{nat_tests}
 use Rattle.typed_tree.specs.AffineForm.{fits}
 use Rattle.boogie_tree.specs.declared.tree.Op.TheVariants.{Add}
+use Rattle.boogie_tree.specs.Places.{beginning}
 use Rattle.typed_tree.specs.TypedTree as typed
 use Rattle.typed_tree.specs.TypedTree.{TypedBlock, TypedProcedure, TypedProgram}
 use Rattle.boogie_places.specs.Places.{Place, located, points_of_body, places_from}
 use Rattle.lowered_graph.specs.Items.{Item, ItemFault, fault_span, stands_before, item_fault, earlier, items_at, items_of, first_of, first_fault}
 use Rattle.std.proofs.lemmas.Option.{same_Some}
-use Rattle.generated_program.specs.Generated.{here, is_positive}
+use Rattle.generated_program.specs.Generated.{is_positive}
 use Rattle.generated_program.specs.Laws.{IsLowered}
 use Rattle.generated_program.proofs.KeptGenerated.{typed_stands, generated_resolved}
 use Rattle.generated_program.proofs.TypedGenerated.{counter_info, column, typed_becomes, typed_calls, typed_rest, typed_main, typed_link, typed_chain, typed_generated}
@@ -21,10 +22,10 @@ abbrev pub of_procs : List TypedProcedure → TypedProgram
 of_procs procs = record { globals = counter_info ∷ []; axioms = []; procs = procs; entry = 0 }
 
 abbrev pub main_block : TypedBlock
-main_block = typed.Then (typed_becomes (typed.Lit here (pos 0))) (typed.Then (typed_calls 1) typed.Empty)
+main_block = typed.Then (typed_becomes (typed.Lit beginning (pos 0))) (typed.Then (typed_calls 1) typed.Empty)
 
 abbrev pub link_block : Bool → ℕ → TypedBlock
-link_block next number = typed.Then (typed_becomes (typed.Bin here Add (typed.Var here column) (typed.Lit here (pos 1)))) (typed_rest next number)
+link_block next number = typed.Then (typed_becomes (typed.Bin beginning Add (typed.Var beginning column) (typed.Lit beginning (pos 1)))) (typed_rest next number)
 
 items_behind : (t : TypedProgram) (ps qs : List Place) → items_of t (ps ++ qs) ≡ items_of t ps ++ items_of t qs
 items_behind t [] qs = refl

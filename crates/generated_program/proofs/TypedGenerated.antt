@@ -9,13 +9,14 @@ use Rattle.boogie_tree.specs.declared.tree.Column.{Column}
 use Rattle.boogie_tree.specs.declared.tree.Column.TheVariants as columns
 use Rattle.boogie_tree.specs.declared.tree.VarInfo.{VarInfo}
 use Rattle.boogie_tree.specs.Tree.{Procedure, Declaration, Declares}
+use Rattle.boogie_tree.specs.Places.{beginning}
 use Rattle.typed_tree.specs.TypedTree as typed
 use Rattle.typed_tree.specs.Scope.{axiom_scope}
 use Rattle.typed_tree.specs.TypedTree.{TypedExpression, TypedStatement, TypedBlock, TypedProcedure, TypedProgram}
 use Rattle.boogie_types.specs.Sorted.{globals_of, global_names, axioms_of, procedures_of, implementations_of}
 use Rattle.boogie_types.specs.Naming.{each, both, named, hidden_arguments}
 use Rattle.boogie_types.specs.Resolved.{named_procedure, program_of, named_program}
-use Rattle.generated_program.specs.Generated.{here, link_name, link, is_positive, chain, main_procedure, generated}
+use Rattle.generated_program.specs.Generated.{link_name, link, is_positive, chain, main_procedure, generated}
 use Rattle.generated_program.proofs.GeneratedNames.{link_found}
 
 -- ---- the typed tree
@@ -30,17 +31,17 @@ abbrev pub typed_procedure : List ℕ → TypedBlock → TypedProcedure
 typed_procedure x b = record { name = x; params = 0; results = 0; locals = []; modifies = 0 ∷ []; specs = []; body = Some b }
 
 abbrev pub typed_becomes : TypedExpression → TypedStatement
-typed_becomes e = typed.Assign here (column ∷ []) (e ∷ [])
+typed_becomes e = typed.Assign beginning (column ∷ []) (e ∷ [])
 
 -- the call of the procedure with that number; `main` has number 0
 abbrev pub typed_calls : ℕ → TypedStatement
-typed_calls number = typed.Call here [] number []
+typed_calls number = typed.Call beginning [] number []
 
 abbrev pub typed_main : TypedProcedure
-typed_main = typed_procedure (codes "main") (typed.Then (typed_becomes (typed.Lit here (pos 0))) (typed.Then (typed_calls 1) typed.Empty))
+typed_main = typed_procedure (codes "main") (typed.Then (typed_becomes (typed.Lit beginning (pos 0))) (typed.Then (typed_calls 1) typed.Empty))
 
 abbrev pub typed_bound : ℕ → TypedBlock
-typed_bound number = typed.Then (typed.Assert here (typed.Bin here Ge (typed.Var here column) (typed.Lit here (pos number)))) typed.Empty
+typed_bound number = typed.Then (typed.Assert beginning (typed.Bin beginning Ge (typed.Var beginning column) (typed.Lit beginning (pos number)))) typed.Empty
 
 abbrev pub typed_rest : Bool → ℕ → TypedBlock
 typed_rest true number = typed.Then (typed_calls (number + 1)) (typed_bound number)
@@ -48,7 +49,7 @@ typed_rest false number = typed_bound number
 
 abbrev pub typed_link : Bool → ℕ → TypedProcedure
 typed_link next number =
-    typed_procedure (link_name number).text (typed.Then (typed_becomes (typed.Bin here Add (typed.Var here column) (typed.Lit here (pos 1)))) (typed_rest next number))
+    typed_procedure (link_name number).text (typed.Then (typed_becomes (typed.Bin beginning Add (typed.Var beginning column) (typed.Lit beginning (pos 1)))) (typed_rest next number))
 
 unfoldable pub typed_chain : ℕ → ℕ → List TypedProcedure
 typed_chain number zero = []

@@ -1,18 +1,15 @@
 -- The generated program: `main` and a chain of procedures, each of which adds 1 to a global variable, calls the next one, and asserts a lower bound.
 use Rattle.std.specs.Prelude.{ℕ, zero, suc, ◌+◌, pos, Bool, true, false, List, [], ◌∷◌, ◌++◌, Some, map, codes}
 use Rattle.std.specs.Fmt.{decimal}
-use Rattle.boogie_tree.specs.declared.span.Span.{Span}
 use Rattle.boogie_tree.specs.declared.tree.Name.{Name}
 use Rattle.boogie_tree.specs.declared.tree.Ty.TheVariants.{Int}
 use Rattle.boogie_tree.specs.declared.tree.Op.TheVariants.{Add, Ge}
 use Rattle.boogie_tree.specs.Tree.{Expression, Lit, Var, Bin, Statement, Assert, Assign, Call, Block, Empty, Then, Modifies, Procedure, Declaration, Global, Declares}
+use Rattle.boogie_tree.specs.Places.{beginning}
 
--- no part of it stands in a text
-abbrev pub here : Span
-here = record { line = 1; col = 1 }
-
+-- No part of it stands in a text: each has the place of a beginning.
 abbrev pub name : List ℕ → Name
-name text = record { span = here; text = text }
+name text = record { span = beginning; text = text }
 
 -- the global variable
 abbrev pub counter : Name
@@ -25,7 +22,7 @@ link_name number = name (codes "p" ++ decimal number)
 -- a procedure without parameters that modifies the counter
 abbrev pub procedure : Name → Block → Procedure
 procedure x b = record {
-  span = here;
+  span = beginning;
   name = x;
   params = [];
   results = [];
@@ -34,18 +31,18 @@ procedure x b = record {
 }
 
 abbrev pub becomes : Expression → Statement
-becomes e = Assign here (counter ∷ []) (e ∷ [])
+becomes e = Assign beginning (counter ∷ []) (e ∷ [])
 
 abbrev pub calls : ℕ → Statement
-calls number = Call here [] (link_name number) []
+calls number = Call beginning [] (link_name number) []
 
 -- `g := 0; call p1();`
 abbrev pub main_procedure : Procedure
-main_procedure = procedure (name (codes "main")) (Then (becomes (Lit here (pos 0))) (Then (calls 1) Empty))
+main_procedure = procedure (name (codes "main")) (Then (becomes (Lit beginning (pos 0))) (Then (calls 1) Empty))
 
 -- `assert g >= K;`
 abbrev pub bound : ℕ → Block
-bound number = Then (Assert here (Bin here Ge (Var here counter) (Lit here (pos number)))) Empty
+bound number = Then (Assert beginning (Bin beginning Ge (Var beginning counter) (Lit beginning (pos number)))) Empty
 
 -- the call of the next procedure, if there is one, and the assertion
 abbrev pub rest_of : Bool → ℕ → Block
@@ -54,7 +51,7 @@ rest_of false number = bound number
 
 -- `g := g + 1;`
 abbrev pub step : Statement
-step = becomes (Bin here Add (Var here counter) (Lit here (pos 1)))
+step = becomes (Bin beginning Add (Var beginning counter) (Lit beginning (pos 1)))
 
 -- the procedure with that number, which calls the next one or not
 abbrev pub link : Bool → ℕ → Procedure

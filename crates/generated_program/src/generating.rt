@@ -4,6 +4,7 @@ ghost use Rattle.std.specs.Prelude.{◌≡◌, ◌+◌, ◌≤◌, ◌<◌, pos,
 ghost use Rattle.boogie_tree.specs.Printing.{program_text};
 ghost use Rattle.boogie_tree.specs.Tree as tree;
 ghost use Rattle.boogie_tree.specs.View as view;
+ghost use Rattle.boogie_tree.specs.Places.{beginning};
 ghost use Rattle.generated_program.specs.Generated as generated;
 
 use crate::parts::{bound, calls, declared, link_name, name, procedure, reset, step};
@@ -12,7 +13,7 @@ use std::alloc::{AllocError, Global};
 
 /// The statements of the entry procedure.
 fn main_statements(alloc: Global) -> Result<Vec<Stmt>, AllocError>
-    ensures { IfOk result (λ ss. view.statements ss.items ≡ tree.Then (generated.becomes (tree.Lit generated.here (pos 0))) (tree.Then (generated.calls 1) tree.Empty)) }
+    ensures { IfOk result (λ ss. view.statements ss.items ≡ tree.Then (generated.becomes (tree.Lit beginning (pos 0))) (tree.Then (generated.calls 1) tree.Empty)) }
 {
     Ok(vec![in alloc; reset(alloc)?, calls(alloc, 1)?]?)
 }

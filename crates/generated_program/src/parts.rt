@@ -3,6 +3,7 @@
 ghost use Rattle.std.specs.Prelude.{◌≡◌, ◌+◌, ◌<◌, ◌^◌, pos, [], ◌∷◌, IfOk};
 ghost use Rattle.boogie_tree.specs.Tree as tree;
 ghost use Rattle.boogie_tree.specs.View as view;
+ghost use Rattle.boogie_tree.specs.Places.{beginning};
 ghost use Rattle.generated_program.specs.Generated as generated;
 
 use boogie_tree::{Body, Decl, Expr, ExprKind, Name, Op, Proc, Span, Spec, Stmt, Text, Ty, Vary};
@@ -10,7 +11,7 @@ use std::alloc::{AllocError, Global};
 
 /// Where the parts stand: in no text.
 fn here() -> Span
-    ensures { result ≡ generated.here }
+    ensures { result ≡ beginning }
 {
     Span { line: 1, col: 1 }
 }
@@ -71,7 +72,7 @@ pub(crate) fn procedure(alloc: Global, name: Name, stmts: Vec<Stmt>) -> Result<D
 
 /// A number.
 fn literal(value: i128) -> Expr
-    ensures { view.expression result ≡ tree.Lit generated.here value }
+    ensures { view.expression result ≡ tree.Lit beginning value }
 {
     Expr {
         span: here(),
@@ -81,7 +82,7 @@ fn literal(value: i128) -> Expr
 
 /// The global variable and a number with an operator between them.
 fn operation(alloc: Global, op: Op, value: i128) -> Result<Expr, AllocError>
-    ensures { IfOk result (λ e. view.expression e ≡ tree.Bin generated.here op (tree.Var generated.here generated.counter) (tree.Lit generated.here value)) }
+    ensures { IfOk result (λ e. view.expression e ≡ tree.Bin beginning op (tree.Var beginning generated.counter) (tree.Lit beginning value)) }
 {
     let left = Expr {
         span: here(),
@@ -103,7 +104,7 @@ fn becomes(alloc: Global, value: Expr) -> Result<Stmt, AllocError>
 
 /// `g := 0;`
 pub(crate) fn reset(alloc: Global) -> Result<Stmt, AllocError>
-    ensures { IfOk result (λ s. view.statement s ≡ generated.becomes (tree.Lit generated.here (pos 0))) }
+    ensures { IfOk result (λ s. view.statement s ≡ generated.becomes (tree.Lit beginning (pos 0))) }
 {
     becomes(alloc, literal(0))
 }
