@@ -1,60 +1,24 @@
 -- The names of parsed programs are names, as typing asks.
-use Rattle.std.proofs.Common.{◌≡◌, ℕ, Bool, true, false, not, ◌&&◌, ◌||◌, nat_le, nat_eq, ◌==◌, List, [], ◌∷◌, ◌++◌, Option, None, Some, map, codes, subst, sym, ap, refl, ◌∙◌}
-use Rattle.std.proofs.lemmas.Bool.{and_parts, and_from, or_left, or_right, eqb-true, false≢true}
+use Rattle.std.proofs.Common.{◌≡◌, ℕ, Bool, true, false, not, ◌&&◌, List, [], ◌∷◌, ◌++◌, Option, None, Some, map, ap, refl, ◌∙◌}
+use Rattle.std.proofs.lemmas.Bool.{and_from, false≢true}
 use Rattle.std.proofs.lemmas.List.{map-append}
-use Rattle.std.specs.List.{list_all, list_any}
+use Rattle.std.specs.List.{list_all}
 use Rattle.boogie_tree.specs.declared.tree.Name.{Name}
 use Rattle.boogie_tree.specs.declared.tree.Vary.{Vary}
 use Rattle.boogie_tree.specs.Tree.{Declaration, Const, Global, Axiom, Declares, Implements, Procedure, ProcedureBody}
-use Rattle.boogie_tree.specs.Names as bytes
+use Rattle.boogie_tree.specs.Names.{is_digit, is_name_byte, is_name}
 use Rattle.boogie_parse.specs.PrintedTokens.{IsFreeWord, AreSpellableVariables, IsSpellableBody, IsSpellableProcedure, IsSpellableProgram}
-use Rattle.typing_rules.specs.Names as names
 use Rattle.boogie_types.specs.Sorted.{global_names, procedures_of, implementations_of, procedure_names, variable_names, body_locals}
 use Rattle.boogie_types.specs.Resolved.{are_named}
 use Rattle.boogie_types.proofs.ShapeLists.{all_append}
 
-either : {P : Type 0} (x y : Bool) → (x ≡ true → P) → (y ≡ true → P) → (x || y) ≡ true → P
-either true y f g h = f refl
-either false y f g h = g h
-
-letter_is : (b : ℕ) → bytes.is_letter b ≡ true → names.is_letter b ≡ true
-letter_is b h = either (nat_le 97 b && nat_le b 122) (nat_le 65 b && nat_le b 90)
-    (λ e. or_right (nat_le 65 b && nat_le b 90) (nat_le 97 b && nat_le b 122) e) (λ e. or_left (nat_le 65 b && nat_le b 90) (nat_le 97 b && nat_le b 122) e) h
-
-abbrev IsMark : ℕ → Bool
-IsMark b = list_any (nat_eq b) (codes "_.$#'`~^?\\")
-
-one_mark : (k b : ℕ) → IsMark k ≡ true → (b == k) ≡ true → IsMark b ≡ true
-one_mark k b h e = let P : ℕ → Type 0 = λ n. IsMark n ≡ true in subst P (sym (eqb-true b k e)) h
-
-mark_is : (b : ℕ) → bytes.is_name_mark b ≡ true → IsMark b ≡ true
-mark_is b =
-    either _ (b == 92) (either _ (b == 63) (either _ (b == 94) (either _ (b == 126) (either _ (b == 96) (either _ (b == 39) (either _ (b == 35) (either _ (b == 36)
-    (either (b == 95) (b == 46) (one_mark 95 b refl) (one_mark 46 b refl)) (one_mark 36 b refl)) (one_mark 35 b refl)) (one_mark 39 b refl)) (one_mark 96 b refl)) (one_mark 126 b refl))
-    (one_mark 94 b refl)) (one_mark 63 b refl)) (one_mark 92 b refl)
-
--- a byte of a name
-byte_is : (b : ℕ) → bytes.is_name_byte b ≡ true → names.is_name_byte b ≡ true
-byte_is b =
-    let rest : Bool = names.is_digit b || IsMark b in
-    either (bytes.is_letter b || bytes.is_digit b) (bytes.is_name_mark b)
-    (either (bytes.is_letter b) (bytes.is_digit b) (λ l. or_left (names.is_letter b) rest (letter_is b l))
-    (λ d. or_right (names.is_letter b) rest (or_left (names.is_digit b) (IsMark b) d)))
-    (λ m. or_right (names.is_letter b) rest (or_right (names.is_digit b) (IsMark b) (mark_is b m)))
-
-bytes_are : (bs : List ℕ) → list_all bytes.is_name_byte bs ≡ true → list_all names.is_name_byte bs ≡ true
-bytes_are [] h = refl
-bytes_are (b ∷ bs) h =
-    let p = and_parts (bytes.is_name_byte b) (list_all bytes.is_name_byte bs) h in
-    and_from (names.is_name_byte b) (list_all names.is_name_byte bs) (byte_is b p.0) (bytes_are bs p.1)
-
 -- a free word is a name
-word_is : (w : List ℕ) → IsFreeWord w → names.is_name w ≡ true
+word_is : (w : List ℕ) → IsFreeWord w → is_name w ≡ true
 word_is [] f = absurd (false≢true f.begins)
-word_is (b ∷ bs) f = and_from (not (names.is_digit b)) (list_all names.is_name_byte (b ∷ bs)) f.begins (bytes_are (b ∷ bs) f.bytes)
+word_is (b ∷ bs) f = and_from (not (is_digit b)) (list_all is_name_byte (b ∷ bs)) f.begins f.bytes
 
 abbrev IsNamed : Name → Bool
-IsNamed x = names.is_name x.text
+IsNamed x = is_name x.text
 
 variables_are : (vs : List Vary) → AreSpellableVariables vs → list_all IsNamed (map (λ v. v.name) vs) ≡ true
 variables_are [] h = refl
