@@ -2,7 +2,7 @@
 use Rattle.std.specs.Prelude.{◌≡◌, ◌≢◌, ℕ, ◌+◌, ◌≤◌, ℤ, pos, ◌≤ℤ◌, List, [], ◌∷◌}
 use Rattle.std.specs.List.{AllByRecursion}
 use Rattle.math_facts.specs.Fits.{Fits}
-use Rattle.math_facts.specs.Terms.{dot}
+use Rattle.math_facts.specs.Terms.{dot, IsBelow}
 use Rattle.lin_rows.specs.declared.types.RowKind.{RowKind}
 use Rattle.lin_rows.specs.declared.types.RowKind.TheVariants.{Le, Eq}
 
@@ -36,3 +36,7 @@ Stands Eq sum bound = sum ≡ bound
 -- the row holds at a point, which gives each column a whole number
 abbrev pub Holds : (ℕ → ℤ) → LinearRow → Type 0
 Holds point r = Stands r.kind (dot point r.terms) r.bound
+
+-- all columns of the rows are below n
+abbrev pub RowsBelow : ℕ → List LinearRow → Type 0
+RowsBelow n rows = AllByRecursion (λ r. IsBelow n r.terms) rows
