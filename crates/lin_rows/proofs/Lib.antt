@@ -7,6 +7,7 @@ pub mod TighteningLaw
 mod TighteningLemmas
 mod MergingLemmas
 mod MakingLemmas
+mod RowLists
 pub mod PointLemmas
 pub mod NegatingLemmas
 pub mod SystemLaws

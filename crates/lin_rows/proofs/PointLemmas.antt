@@ -4,7 +4,9 @@ use Rattle.std.proofs.lemmas.Int.{ints}
 use Rattle.std.proofs.lemmas.List.{drop_more, drop_all}
 use Rattle.math_facts.specs.Fits.{Fits}
 use Rattle.math_facts.specs.Terms.{dot, IsBelow}
-use Rattle.lin_rows.specs.Points.{point_of, DotFits}
+use Rattle.lin_rows.specs.declared.types.RowKind.{RowKind}
+use Rattle.lin_rows.specs.Rows.{LinearRow, Stands, Holds}
+use Rattle.lin_rows.specs.Points.{point_of, DotFits, HasSum, IsSeenToHold}
 
 -- what is read at a place is the point's value there
 pub get_or-point_of : (vs : List ℤ) (c : ℕ) (d : ℤ) → c < length vs → get_or vs c d ≡ point_of vs c
@@ -59,3 +61,20 @@ valuing_ends point terms sum i l h = at_end (subst (IsValuing point terms sum) (
   where
     at_end : IsValuing point terms sum [] → DotFits point (pos 0) terms × (sum ≡ dot point terms)
     at_end h = (h.fits.0 tt, let e = h.value in omega (arith, ints))
+
+-- a row whose sum is found is seen to hold where the sum meets its bound
+pub seen_by : (vs : List ℤ) (r : LinearRow) (ts : List (ℕ × ℤ)) (kind : RowKind) (sum bound : ℤ) (P : Type 0) → ts ≡ r.terms → kind ≡ r.kind → bound ≡ r.bound →
+    HasSum vs ts × (sum ≡ dot (point_of vs) ts) → (P ↔ Stands kind sum bound) → P ↔ IsSeenToHold vs r
+seen_by vs r ts kind sum bound P e f g h s =
+    let there : Stands kind sum bound → Holds (point_of vs) r =
+    (λ x.
+    subst (λ (us : List (ℕ × ℤ)). Stands r.kind (dot (point_of vs) us) r.bound) e
+    (subst (λ (z : ℤ). Stands r.kind (dot (point_of vs) ts) z) g
+    (subst (λ (k : RowKind). Stands k (dot (point_of vs) ts) bound) f (subst (λ (z : ℤ). Stands kind z bound) h.1 x)))) in
+    let back : Holds (point_of vs) r → Stands kind sum bound =
+    (λ x.
+    subst (λ (z : ℤ). Stands kind z bound) (sym h.1)
+    (subst (λ (k : RowKind). Stands k (dot (point_of vs) ts) bound) (sym f)
+    (subst (λ (z : ℤ). Stands r.kind (dot (point_of vs) ts) z) (sym g)
+    (subst (λ (us : List (ℕ × ℤ)). Stands r.kind (dot (point_of vs) us) r.bound) (sym e) x)))) in
+    (λ p. record { sum = subst (HasSum vs) e h.0; holds = there (s.0 p) }, λ k. s.1 (back k.holds))

@@ -21,9 +21,9 @@ ghost use Rattle.lin_rows.specs.Combinations.{Contradicts};
 pub use make::{row, system};
 pub use negating::negate;
 pub use numbers::plus_times;
-pub use points::holds;
+pub use points::{all_hold, holds, sum_at};
 pub use sums::add_scaled;
-pub use systems::System;
+pub use systems::{System, copied_rows};
 pub use tightening::tighten;
 pub use types::{Col, Past, Row, RowFault, RowKind};
 

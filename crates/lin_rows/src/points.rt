@@ -1,7 +1,8 @@
-ghost use Rattle.std.specs.Prelude.{◌≡◌, ◌↔◌, ℕ, ℤ, pos, ◌<◌, IsTrue, IfOk, OnOk, OnErr, MatchOption, length};
+ghost use Rattle.std.specs.Prelude.{◌≡◌, ◌↔◌, ℕ, ℤ, pos, ◌<◌, IsTrue, IfOk, OnOk, OnErr, SomeIff, length};
+ghost use Rattle.std.specs.List.{AllByRecursion};
 ghost use Rattle.math_facts.specs.Terms.{dot, IsBelow};
 ghost use Rattle.lin_rows.specs.Rows.{Stands, Holds};
-ghost use Rattle.lin_rows.specs.Points.{point_of, DotFits};
+ghost use Rattle.lin_rows.specs.Points.{point_of, DotFits, HasSum, IsSeenToHold};
 
 use crate::numbers::plus_times;
 use crate::types::{Col, Past, Row, RowKind};
@@ -14,24 +15,57 @@ pub fn holds(row: &Row, point: &[i128]) -> Result<bool, Past>
     ensures fits { OnOk result (DotFits (point_of point.now) (pos 0) row.now.terms) }
     ensures past { OnErr result (DotFits (point_of point.now) (pos 0) row.now.terms → ⊥) }
 {
-    let Some(sum) = value_at(row.terms(), point) else {
+    let Some(sum) = sum_at(row.terms(), point) else {
         return Err(Past);
     };
     Ok(stands(row.kind(), sum, row.bound()))
 }
 
-/// The value of the terms at a point, or `None` where a product or a running sum would not fit.
-fn value_at(terms: &[(Col, i128)], point: &[i128]) -> Option<i128>
-    requires { IsBelow (length point.now) terms.now }
-    ensures { MatchOption result
-        (DotFits (point_of point.now) (pos 0) terms.now → ⊥)
-        (λ sum. DotFits (point_of point.now) (pos 0) terms.now × (sum ≡ dot (point_of point.now) terms.now)) }
+/// Whether all rows are seen to hold at the point, which gives the column c the value at its place c: false too where a column has
+/// no value there, or a number does not fit.
+pub fn all_hold(rows: &[Row], point: &[i128]) -> bool
+    ensures holds { IsTrue result → AllByRecursion (Holds (point_of point.now)) rows.now }
+    ensures seen { AllByRecursion (IsSeenToHold point.now) rows.now → IsTrue result }
+{
+    for row in rows {
+        if !is_seen_to_hold(row, point) {
+            return false;
+        }
+    }
+    true
+}
+
+/// Whether the row is seen to hold at the point.
+fn is_seen_to_hold(row: &Row, point: &[i128]) -> bool
+    ensures { IsTrue result ↔ IsSeenToHold point.now row.now }
+{
+    match sum_at(row.terms(), point) {
+        Some(sum) => stands(row.kind(), sum, row.bound()),
+        None => false,
+    }
+}
+
+/// The value of the terms at the point, which gives the column c the value at its place c. `None` where a column has no value there,
+/// or a product or a running sum would not fit.
+pub fn sum_at(terms: &[(Col, i128)], point: &[i128]) -> Option<i128>
+    ensures { SomeIff result (HasSum point.now terms.now) (dot (point_of point.now) terms.now) }
 {
     let mut sum = 0;
     for (column, coefficient) in terms {
-        sum = plus_times(sum, *coefficient, point[*column as usize])?;
+        sum = plus_times(sum, *coefficient, value_at(point, *column)?)?;
     }
     Some(sum)
+}
+
+/// The value of a column at the point, where it has one.
+fn value_at(point: &[i128], column: Col) -> Option<i128>
+    ensures { SomeIff result (column < length point.now) (point_of point.now column) }
+{
+    if (column as usize) < point.len() {
+        Some(point[column as usize])
+    } else {
+        None
+    }
 }
 
 /// Whether a sum meets the bound of a row of that kind.

@@ -1,8 +1,10 @@
 ghost use Rattle.std.specs.Prelude.{◌≡◌, IfOk};
+ghost use Rattle.std.specs.List.{AllByRecursion};
+ghost use Rattle.lin_rows.specs.Rows.{IsRow};
 ghost use Rattle.lin_rows.specs.Systems.{IsCopy, RelatedInPairs};
 
 use crate::types::Row;
-use std::alloc::AllocError;
+use std::alloc::{AllocError, Global};
 
 /// Rows that all hold, and groups of systems: of each group a member holds.
 #[derive(Drop)]
@@ -21,7 +23,7 @@ impl System {
     pub fn copy(&self) -> Result<Self, AllocError>
         ensures { IfOk result (IsCopy self.now) }
     {
-        let rows = copied_rows(&self.rows)?;
+        let rows = copied_rows(*self.rows.allocator(), &self.rows)?;
         let mut groups = Vec::new(*self.groups.allocator());
         for group in &self.groups {
             groups.push(copied_members(group)?)?;
@@ -31,10 +33,11 @@ impl System {
 }
 
 /// Equal rows.
-fn copied_rows(rows: &Vec<Row>) -> Result<Vec<Row>, AllocError>
-    ensures { IfOk result (λ copies. copies.items ≡ rows.now.items) }
+pub fn copied_rows(alloc: Global, rows: &[Row]) -> Result<Vec<Row>, AllocError>
+    ensures value { IfOk result (λ copies. copies.items ≡ rows.now) }
+    ensures valid { IfOk result (λ copies. AllByRecursion IsRow copies.items) }
 {
-    let mut copies = Vec::with_capacity(*rows.allocator(), rows.len())?;
+    let mut copies = Vec::with_capacity(alloc, rows.len())?;
     for row in rows {
         copies.push(row.copy()?)?;
     }

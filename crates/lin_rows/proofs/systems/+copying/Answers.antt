@@ -16,7 +16,7 @@ System::copy-loop-group-preserved t c =
 pub System::copy-returns : goal.System::copy-returns
 System::copy-returns t c =
     let all : take c.loop-group.group-index c.deref-group-items.result.now ≡ c.deref-group-items.result.now = take_all _ c.deref-group-items.result.now c.loop-group-test.false in
-    copy_of_parts c.args.self.now (record { rows = c.in_ok-rows.rows; groups = c.loop-group.groups }) c.in_ok-rows.ensures
+    copy_of_parts c.args.self.now (record { rows = c.in_ok-rows.rows; groups = c.loop-group.groups }) (c.in_ok-rows.ensures.value ∙ c.deref.ensures.value)
     (subst (λ (gs : List (Vec System Global)). RelatedInPairs (RelatedInPairs IsCopy) (members_of gs) (members_of c.loop-group.groups.items))
     (all ∙ c.deref-group-items.ensures.value) c.loop-group.invariant)
 
