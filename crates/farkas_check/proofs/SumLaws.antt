@@ -1,15 +1,16 @@
 -- Terms added to the numbers of their columns, one after another.
-use Rattle.std.proofs.Common.{◌≡◌, ◌≢◌, ◌↔◌, ℕ, zero, suc, ◌+◌, ◌<◌, ◌≤◌, ℤ, pos, ◌+ℤ◌, ◌*ℤ◌, List, [], ◌∷◌, ◌++◌, Option, None, Some, length, take, get_or, nat_eq, ap, refl, sym, ◌∙◌, subst, inl, inr, ◌⊎◌, arith}
+use Rattle.std.proofs.Common.{◌≡◌, ℕ, zero, suc, ◌+◌, ◌<◌, ◌≤◌, ℤ, pos, ◌+ℤ◌, ◌*ℤ◌, List, [], ◌∷◌, Some, length, take, get_or, nat_eq, ap, refl, sym, ◌∙◌, subst, inl, inr, ◌⊎◌, arith}
 use Rattle.std.specs.Map.{lookup}
 use Rattle.std.proofs.lemmas.Int.{ints}
 use Rattle.std.proofs.lemmas.Bool.{eq-eqb, ne_eqb, cases_eq}
 use Rattle.std.proofs.lemmas.List.{take_more, take_all}
 use Rattle.math_facts.specs.Fits.{Fits}
 use Rattle.math_facts.specs.Terms.{coefficient, with_value}
+use Rattle.math_facts.specs.Optional.{or_zero}
 use Rattle.math_facts.proofs.TermLaws.{coefficient-append}
 use Rattle.lin_rows.specs.Rows.{AscendsFrom}
-use Rattle.lin_rows.proofs.Ascending.{coefficient_below, coefficient_first, coefficient_rest}
-use Rattle.farkas_check.specs.Leaves.{or_zero, AreKept, TermsFit, AddsTerms}
+use Rattle.lin_rows.proofs.Ascending.{coefficient_first, coefficient_rest}
+use Rattle.farkas_check.specs.Leaves.{AreKept, TermsFit, AddsTerms}
 
 -- ---- a term and those before it
 

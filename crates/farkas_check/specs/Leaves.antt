@@ -1,8 +1,9 @@
 -- What the steps of the test of a leaf answer: its parts are added up one after another, by column.
-use Rattle.std.specs.Prelude.{◌≡◌, ◌≢◌, ℕ, ◌+◌, ◌≤◌, ℤ, pos, ◌+ℤ◌, ◌*ℤ◌, ◌<ℤ◌, List, Option, None, Some, nat_eq}
+use Rattle.std.specs.Prelude.{◌≡◌, ◌≢◌, ℕ, ◌+◌, ◌≤◌, ℤ, pos, ◌+ℤ◌, ◌*ℤ◌, ◌<ℤ◌, List, Some, nat_eq}
 use Rattle.std.specs.Map.{lookup}
 use Rattle.math_facts.specs.Fits.{Fits}
 use Rattle.math_facts.specs.Terms.{coefficient}
+use Rattle.math_facts.specs.Optional.{or_zero}
 use Rattle.lin_rows.specs.Rows.{LinearRow}
 use Rattle.lin_rows.specs.Combinations.{row_at, IsPart}
 
@@ -10,10 +11,6 @@ use Rattle.lin_rows.specs.Combinations.{row_at, IsPart}
 pub record PartSum : Type 0 where
   pub kept : List (ℕ × ℤ)
   pub bound : ℤ
-
-abbrev pub or_zero : Option ℤ → ℤ
-or_zero None = pos 0
-or_zero (Some z) = z
 
 -- the number of each column
 abbrev pub columns_of : PartSum → ℕ → ℤ

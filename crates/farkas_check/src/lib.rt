@@ -8,31 +8,20 @@ mod refutations;
 mod sums;
 mod walk;
 
-ghost use Rattle.std.specs.Prelude.{ℕ, ℤ, ◌↔◌, IsTrue, List};
+ghost use Rattle.std.specs.Prelude.{◌↔◌, List};
 ghost use Rattle.lin_rows.specs.declared.systems.System.{System};
-ghost use Rattle.lin_rows.specs.Systems.{Meets, SaysSame};
-ghost use Rattle.farkas_check.specs.Nodes.{PlainNode, is_tree};
+ghost use Rattle.lin_rows.specs.Systems.{SaysSame};
+ghost use Rattle.farkas_check.specs.Nodes.{PlainNode};
 ghost use Rattle.farkas_check.specs.Refutes.{goal_of, Refutes};
-ghost use Rattle.farkas_check.specs.Trees.{Tree, prefix_of, TreeRefutes, IsPrefixList};
+ghost use Rattle.farkas_check.specs.Trees.{Tree, prefix_of, TreeRefutes};
 
 pub use checking::check;
 pub use refutations::{Node, Refutation, tree};
 pub use walk::Walk;
 
-/// A system that a tree refutes is met by no whole point.
-pub fn refutation_is_sound()
-    ensures { (nodes : List PlainNode) (system : System) (point : ℕ → ℤ) →
-        Refutes nodes system → Meets point system → ⊥ }
-{}
-
 /// A prefix list refutes a system exactly where its tree does, by cases on the tree.
 pub fn prefix_list_refutes_as_tree()
     ensures { (t : Tree) (system : System) → Refutes (prefix_of t) system ↔ TreeRefutes t (goal_of system) }
-{}
-
-/// A list is the prefix list of a tree exactly where the trees that its nodes ask for are all there.
-pub fn prefix_lists_are_counted()
-    ensures { (nodes : List PlainNode) → IsTrue (is_tree nodes) ↔ IsPrefixList nodes }
 {}
 
 /// Systems that say the same have the same refutations: equal rows, and groups whose members say the same in order.

@@ -1,7 +1,8 @@
 use Rattle.std.proofs.Common.{◌≡◌, ℕ, ℤ, pos, List, length, nat_eq, ap, sym, ◌∙◌, subst}
 use Rattle.std.specs.Map.{lookup}
 use Rattle.std.proofs.lemmas.Bool.{false≢true}
-use Rattle.farkas_check.specs.Leaves.{PartSum, or_zero}
+use Rattle.math_facts.specs.Optional.{or_zero}
+use Rattle.farkas_check.specs.Leaves.{PartSum}
 use Rattle.farkas_check.proofs.SumLaws.{none_kept}
 use Rattle.farkas_check.proofs.sums.Sum.is_contradiction.Goals as goal
 
