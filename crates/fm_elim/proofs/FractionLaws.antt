@@ -4,7 +4,7 @@ use Rattle.std.specs.Prelude.{unsigned_abs}
 use Rattle.std.specs.Int.{IsGcd}
 use Rattle.std.proofs.Math.Nat.{mod-lt}
 use Rattle.std.proofs.lemmas.Int.{ints}
-use Rattle.std.proofs.lemmas.Nat.Gcd.{IsGcd-from_zero, IsGcd-from_mod}
+use Rattle.std.proofs.lemmas.Nat.Gcd.{IsGcd-from_zero, IsGcd-from_mod, same_from_IsGcd}
 use Rattle.math_facts.proofs.Whole.{product_comm, product_assoc, product_cancel, product_nonzero, product_one_left, product_one_right, distrib_right, product_neg_left, product_zero_right, product_strict}
 use Rattle.frac.specs.Fractions.{Fraction, IsLowest, IsRatio}
 use Rattle.frac.proofs.Factors.{product_right_swap, product_inner}
@@ -22,6 +22,10 @@ common_by_is (suc steps) a (suc b) l =
 pub common_is : (a b : ℕ) → IsGcd a b (common a b)
 unfolding common
 common_is a b = common_by_is (suc b) a b (omega arith)
+
+-- and no other number is one
+pub only_common : (a b g : ℕ) → IsGcd a b g → g ≡ common a b
+only_common a b g h = same_from_IsGcd a b g (common a b) h (common_is a b)
 
 -- the value of n/d in lowest terms
 pub ratio : (n d : ℤ) → IsRatio (reduced n d) n d

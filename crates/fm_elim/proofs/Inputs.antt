@@ -11,13 +11,12 @@ use Rattle.math_facts.proofs.Whole.{product_one_left}
 use Rattle.math_facts.proofs.TermLaws.{coefficient_past}
 use Rattle.lin_rows.specs.declared.types.RowKind.{RowKind}
 use Rattle.lin_rows.specs.declared.types.RowKind.TheVariants.{Le, Eq}
-use Rattle.lin_rows.specs.Rows.{LinearRow, AscendsFrom, IsRow}
+use Rattle.lin_rows.specs.Rows.{LinearRow, AscendsFrom, IsRow, RowsBelow}
 use Rattle.lin_rows.specs.Tightening.{content, divided, never, divided_row, tightened_by, tightened}
 use Rattle.lin_rows.specs.Combinations.{row_at}
 use Rattle.lin_rows.proofs.Ascending.{HasNoZero}
 use Rattle.lin_rows.proofs.RowLemmas.{HasNoZero-terms}
 use Rattle.fm_elim.specs.Derivations.{DerivedRow, input, inputs, at}
-use Rattle.fm_elim.specs.Worth.{ColumnsBelow}
 use Rattle.fm_elim.proofs.Multipliers.{MayTake, IsMade}
 
 -- the rows, tightened, stand in a list from n on
@@ -102,7 +101,7 @@ IsClear n r = (c : ℕ) → n ≤ c → at c r ≡ pos 0
 abbrev pub IsOrdered : DerivedRow → Type 0
 IsOrdered r = AscendsFrom 0 r.row.terms × HasNoZero r.row.terms
 
-pub inputs_are_clear : (n k : ℕ) (rows : List LinearRow) → ColumnsBelow n rows → AllByRecursion (IsClear n) (inputs k rows)
+pub inputs_are_clear : (n k : ℕ) (rows : List LinearRow) → RowsBelow n rows → AllByRecursion (IsClear n) (inputs k rows)
 inputs_are_clear n k [] h = tt
 inputs_are_clear n k (r ∷ rs) h =
     (λ c l. coefficient_past c n (tightened r).terms l (IsBelow-tightened n r h.0), inputs_are_clear n (suc k) rs h.1)

@@ -3,13 +3,13 @@ use Rattle.std.proofs.Common.{◌≡◌, ℕ, zero, suc, ℤ, pos, ◌<ℤ◌, L
 use Rattle.std.specs.List.{AllByRecursion}
 use Rattle.std.proofs.lemmas.Int.{ints}
 use Rattle.frac.specs.Fractions.{Fraction, IsLowest}
-use Rattle.lin_rows.specs.Rows.{LinearRow, IsRow}
+use Rattle.lin_rows.specs.Rows.{LinearRow, IsRow, RowsBelow}
 use Rattle.lin_rows.specs.Tightening.{tightened}
 use Rattle.lin_rows.proofs.TighteningLaw.{tightened_is_row}
 use Rattle.fm_elim.specs.Derivations.{inputs}
 use Rattle.fm_elim.specs.Values.{value_at}
 use Rattle.fm_elim.specs.Elimination.{Outcome, refuted, point, elimination}
-use Rattle.fm_elim.specs.Worth.{HoldsAt, IsWorth, ColumnsBelow}
+use Rattle.fm_elim.specs.Worth.{HoldsAt, IsWorth}
 use Rattle.fm_elim.specs.Slices.{InSlice, IsPicked, IsPoint, IsPickedOutcome}
 use Rattle.fm_elim.proofs.Lists.{all_weaker, all_parts}
 use Rattle.fm_elim.proofs.Inputs.{inputs_are_clear, inputs_are_ordered}
@@ -71,7 +71,7 @@ outcome_picked n rows (refuted parts) w h = no_point (map tightened rows) parts 
 outcome_picked n rows (point values) w h =
     picked_of_same (IsOne n (inputs 0 rows)) (IsPoint n (map tightened rows)) values (to_point n rows) (from_point n rows) h
 
-pub point_is_picked : (n : ℕ) (rows : List LinearRow) → AllByRecursion IsRow rows → ColumnsBelow n rows → IsPickedOutcome n (map tightened rows) (elimination n rows)
+pub point_is_picked : (n : ℕ) (rows : List LinearRow) → AllByRecursion IsRow rows → RowsBelow n rows → IsPickedOutcome n (map tightened rows) (elimination n rows)
 point_is_picked n rows v b =
     outcome_picked n rows (elimination n rows) (rows_are_worth n rows v b)
     (solve_picked n (inputs 0 rows) (inputs_are_clear n 0 rows b)

@@ -1,7 +1,7 @@
 -- What the outcomes of the elimination are worth: a combination that is false, or a rational point that meets all rows.
 use Rattle.std.specs.Prelude.{◌≡◌, ℕ, ℤ, pos, ◌*ℤ◌, ◌<ℤ◌, List, length}
 use Rattle.std.specs.List.{AllByRecursion}
-use Rattle.math_facts.specs.Terms.{coefficient, dot, IsBelow}
+use Rattle.math_facts.specs.Terms.{coefficient, dot}
 use Rattle.frac.specs.Fractions.{Fraction, IsRatio}
 use Rattle.lin_rows.specs.Rows.{LinearRow, AscendsFrom, Stands}
 use Rattle.lin_rows.specs.Combinations.{IsPart, combined}
@@ -39,7 +39,3 @@ pub record MeetsAll (n : ℕ) (rows : List LinearRow) (values : List Fraction) :
 abbrev pub IsWorth : ℕ → List LinearRow → Outcome → Type 0
 IsWorth n rows (refuted parts) = Combines rows parts
 IsWorth n rows (point values) = MeetsAll n rows values
-
--- all columns of the rows are below n
-abbrev pub ColumnsBelow : ℕ → List LinearRow → Type 0
-ColumnsBelow n rows = AllByRecursion (λ r. IsBelow n r.terms) rows

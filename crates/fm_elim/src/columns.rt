@@ -10,10 +10,11 @@ ghost use Rattle.fm_elim.specs.Derivations.{has, is_upper, is_lower};
 ghost use Rattle.fm_elim.specs.Columns.{forced, is_pivot, cleared, ClearedFits, both_halves, BothHalvesFit, halves, HalvesFit, AreSides, pair, PairFits, pairs, PairsFit, step, StepFits, combined, CombinedFits};
 
 use crate::derivations::{nothing, plus_times};
-use crate::numbers::{coefficient, greatest_divisor};
+use crate::numbers::coefficient;
 use crate::rows::{first_pivot, has, is_lower, is_upper};
 use crate::types::{Aside, Derived, ElimFault, Eliminated};
 use lin_rows::RowKind;
+use math_facts::greatest_divisor;
 use std::alloc::{AllocError, Global};
 
 // ---- by an equality

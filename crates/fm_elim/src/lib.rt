@@ -13,11 +13,10 @@ mod solving;
 mod types;
 mod values;
 
-ghost use Rattle.std.specs.Prelude.{◌≡◌, ℕ, ℤ, List, map};
+ghost use Rattle.std.specs.Prelude.{◌≡◌, ℕ, List, map};
 ghost use Rattle.std.specs.List.{AllByRecursion};
-ghost use Rattle.lin_rows.specs.Rows.{LinearRow, IsRow};
+ghost use Rattle.lin_rows.specs.Rows.{LinearRow, IsRow, RowsBelow};
 ghost use Rattle.lin_rows.specs.Tightening.{tightened};
-ghost use Rattle.fm_elim.specs.Worth.{Combines, IsSolvable, IsWorth, ColumnsBelow};
 ghost use Rattle.fm_elim.specs.Elimination.{elimination};
 ghost use Rattle.fm_elim.specs.Slices.{IsPicked, IsPoint, IsPickedOutcome};
 ghost use Rattle.frac.specs.Fractions.{Fraction};
@@ -25,23 +24,11 @@ ghost use Rattle.frac.specs.Fractions.{Fraction};
 pub use solving::eliminate;
 pub use types::{Elim, ElimFault};
 
-/// Rows with a false combination have no rational point (Farkas, 1902).
-pub fn combination_is_sound()
-    ensures { (rows : List LinearRow) (parts : List (ℕ × ℤ)) → Combines rows parts → IsSolvable rows → ⊥ }
-{}
-
-/// The outcome of the elimination is true of the tightened rows: multipliers whose combination is false, or a rational
-/// point that meets the rows. So it refutes exactly where the tightened rows have no rational point.
-pub fn elimination_is_sound()
-    ensures { (columns : ℕ) (rows : List LinearRow) → AllByRecursion IsRow rows → ColumnsBelow columns rows →
-        IsWorth columns (map tightened rows) (elimination columns rows) }
-{}
-
 /// The elimination refutes exactly where the tightened rows have no rational point, and else its point is the picked one:
 /// column by column, of the values with which a point of the rows begins, after the values before it, the whole number nearest
 /// 0, or the least where none is whole.
 pub fn the_point_is_picked()
-    ensures { (columns : ℕ) (rows : List LinearRow) → AllByRecursion IsRow rows → ColumnsBelow columns rows →
+    ensures { (columns : ℕ) (rows : List LinearRow) → AllByRecursion IsRow rows → RowsBelow columns rows →
         IsPickedOutcome columns (map tightened rows) (elimination columns rows) }
 {}
 

@@ -1,9 +1,8 @@
-//! Coefficients of rows, and greatest common divisors.
+//! Coefficients of rows.
 
-ghost use Rattle.std.specs.Prelude.{◌≡◌, ◌<◌, ◌^◌, not, unsigned_abs};
+ghost use Rattle.std.specs.Prelude.{◌≡◌};
 ghost use Rattle.math_facts.specs.Fits.{Fits};
 ghost use Rattle.math_facts.specs.Terms.{coefficient};
-ghost use Rattle.fm_elim.specs.Quotients.{common};
 
 use lin_rows::Row;
 
@@ -26,18 +25,4 @@ pub fn coefficient(row: &Row, column: u32) -> i128
         left -= 1;
     }
     0
-}
-
-/// The greatest common divisor (Euclid).
-pub fn greatest_divisor(a: u128, b: u128) -> u128
-    ensures { result ≡ common a b }
-{
-    let mut x = a;
-    let mut y = b;
-    while y != 0 {
-        let rest = x % y;
-        x = y;
-        y = rest;
-    }
-    x
 }

@@ -1,10 +1,11 @@
 //! The elimination of all columns.
 
 ghost use Rattle.std.specs.Prelude.{◌≡◌, ◌<◌, ◌^◌, Err, IfOk, OnOk, length, map};
+ghost use Rattle.lin_rows.specs.Rows.{RowsBelow};
 ghost use Rattle.lin_rows.specs.Tightening.{tightened};
 ghost use Rattle.fm_elim.specs.Answers.{Exactly, outcome_of};
 ghost use Rattle.fm_elim.specs.Elimination.{elimination, EliminationFits, solve, SolveFits};
-ghost use Rattle.fm_elim.specs.Worth.{IsWorth, ColumnsBelow};
+ghost use Rattle.fm_elim.specs.Worth.{IsWorth};
 
 use crate::ascent::go_up;
 use crate::derivations::inputs;
@@ -21,7 +22,7 @@ use std::alloc::Global;
 /// `Past` comes exactly where a number that it forms does not fit: a coefficient, a bound, a multiplier, a value, or a
 /// product or sum on the way. `Memory` comes where memory ran out.
 pub fn eliminate(alloc: Global, rows: &[Row], columns: u32) -> Result<Elim, ElimFault>
-    requires below { ColumnsBelow columns rows.now }
+    requires below { RowsBelow columns rows.now }
     requires numbered { length rows.now < 2 ^ 32 }
     ensures value { IfOk result (λ e. outcome_of e ≡ elimination columns rows.now) }
     ensures worth { IfOk result (λ e. IsWorth columns (map tightened rows.now) (outcome_of e)) }

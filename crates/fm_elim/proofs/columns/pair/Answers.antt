@@ -4,6 +4,7 @@ use Rattle.std.specs.Int.{w128}
 use Rattle.std.proofs.lemmas.Int.{to_z-of_z}
 use Rattle.fm_elim.specs.Derivations.{at, PlusTimesFits}
 use Rattle.fm_elim.specs.Quotients.{common}
+use Rattle.fm_elim.proofs.FractionLaws.{only_common}
 use Rattle.fm_elim.proofs.StepLemmas.{pair_exact, divisor_positive}
 use Rattle.fm_elim.specs.Columns.{share, pair, PairFits}
 use Rattle.fm_elim.proofs.ColumnSteps.{many_scale, pair_fits}
@@ -25,7 +26,9 @@ below_of c =
 
 divisor_of : (c : After-greatest_divisor-divisor) →
     c.greatest_divisor-divisor.result ≡ common (unsigned_abs (at c.args.column c.args.upper.now)) (unsigned_abs (at c.args.column c.args.lower.now))
-divisor_of c = rw (above_of c, below_of c) at c.greatest_divisor-divisor.ensures
+divisor_of c =
+    let e = only_common c.unsigned_abs-above.result c.unsigned_abs-below.result c.greatest_divisor-divisor.result c.greatest_divisor-divisor.ensures in
+    rw (above_of c, below_of c) at e
 
 pub share-requires-clause-positive : goal.share-requires-clause-positive
 share-requires-clause-positive c =
