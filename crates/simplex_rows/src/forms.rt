@@ -1,6 +1,6 @@
 //! Linear forms over the variables of a tableau, with whole numbers as coefficients.
 
-use crate::numbers::{combination, common_divisor, product, quotient};
+use crate::numbers::{combination, common_divisor, product};
 use crate::types::Stop;
 use lin_rows::{Col, Row};
 use smallvec::SmallVec;
@@ -102,8 +102,8 @@ pub fn reduce(form: &mut Form, denominator: &mut i128) {
     }
     if divisor > 1 {
         for term in form.as_mut_slice() {
-            term.1 = quotient(term.1, divisor);
+            term.1 /= divisor;
         }
-        *denominator = quotient(*denominator, divisor);
+        *denominator /= divisor;
     }
 }

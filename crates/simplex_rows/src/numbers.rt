@@ -35,12 +35,3 @@ pub fn common_divisor(a: i128, b: i128) -> i128 {
     let divisor = greatest_divisor(a.unsigned_abs(), b.unsigned_abs());
     i128::try_from(divisor).unwrap_or(1)
 }
-
-/// The number divided by a positive one.
-pub fn quotient(number: i128, positive: i128) -> i128 {
-    if positive > 1 {
-        number / positive
-    } else {
-        number
-    }
-}
