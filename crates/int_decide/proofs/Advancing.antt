@@ -5,14 +5,14 @@ use Rattle.std.proofs.lemmas.List.{length-map, length-append}
 use Rattle.math_facts.specs.Terms.{IsBelow}
 use Rattle.frac.specs.Fractions.{Fraction}
 use Rattle.lin_rows.specs.declared.systems.System.{System}
-use Rattle.lin_rows.specs.Rows.{LinearRow, Holds}
+use Rattle.lin_rows.specs.Rows.{LinearRow, Holds, RowsBelow}
 use Rattle.lin_rows.specs.Tightening.{tightened}
 use Rattle.lin_rows.specs.Systems.{SomeMember, EachHasMember, Meets, rows_of, groups_of}
 use Rattle.lin_rows.proofs.SystemLaws.{meets_close}
 use Rattle.farkas_check.specs.Nodes.{PlainNode, leaf, cut, cases}
 use Rattle.farkas_check.specs.Refutes.{Goal, at_most, above, with_row, with_member, goal_of, Refute}
 use Rattle.fm_elim.specs.Elimination as outcome
-use Rattle.fm_elim.specs.Worth.{Combines, IsWorth, ColumnsBelow}
+use Rattle.fm_elim.specs.Worth.{Combines, IsWorth}
 use Rattle.fm_elim.proofs.Lists.{all_append, all_parts, all_map}
 use Rattle.fm_elim.proofs.Inputs.{IsBelow-tightened}
 use Rattle.int_decide.specs.Decisions.{Decision, refuted, whole, gap, beside, all_beside, under, UnlessWhole}
@@ -201,7 +201,7 @@ advance_cut n left rows s values x e b f l r =
 
 -- members of the first group, with what the goal has else
 members_ready : (n left k : ℕ) (rows : List LinearRow) (groups : List (List System)) (members : List System) (ts : List Task) →
-    ColumnsBelow n rows → AllByRecursion StaysTight rows → AllMembers (SystemBelow n) groups → AllByRecursion (SystemBelow n) members →
+    RowsBelow n rows → AllByRecursion StaysTight rows → AllMembers (SystemBelow n) groups → AllByRecursion (SystemBelow n) members →
     (length rows + total (λ m. suc (extent m)) members) + total (λ ms. total (λ m. suc (extent m)) ms) groups + left < 2 ^ 32 →
     AllByRecursion (IsReady n) ts → AllByRecursion (IsReady n) (map (λ m. record { left = left; goal = with_member (record { rows = rows; groups = groups }) m }) members ++ ts)
 members_ready n left k rows groups [] ts b t g m l h = h

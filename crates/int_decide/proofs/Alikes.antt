@@ -8,6 +8,7 @@ use Rattle.lin_rows.specs.declared.systems.System.{System}
 use Rattle.lin_rows.specs.Rows.{LinearRow, Holds}
 use Rattle.lin_rows.specs.Systems.{EachHasMember, Meets}
 use Rattle.lin_rows.specs.Tightening.{tightened}
+use Rattle.lin_rows.specs.Points.{point_of}
 use Rattle.farkas_check.specs.Nodes.{PlainNode, leaf, cut, plain_nodes}
 use Rattle.farkas_check.specs.Refutes.{at_most, above}
 use Rattle.fm_elim.specs.Elimination as outcome
@@ -18,7 +19,6 @@ use Rattle.int_decide.specs.Decisions.{Decision, refuted, whole, gap, beside, un
 use Rattle.int_decide.specs.Decide.{first_broken, by_values, by_outcome, decide_rows, decide}
 use Rattle.fm_elim.specs.Quotients.{floor}
 use Rattle.int_decide.specs.Sizes.{extent, SystemBelow}
-use Rattle.int_decide.specs.Worth.{point_of}
 use Rattle.int_decide.specs.Searching.{Task, Standing, standing_of, cut_at, sides, after_broken, after_values, after_outcome, values_if, whole_outcome, StaysTight, IsReady, found_by, decide_task, SomeMet, Takes, TakesNone, IsPoint}
 use Rattle.int_decide.specs.Alike.{AreAlike, StandsIn, bare, StandsAfter, GoesOn, IsMetBy, ComesTo}
 use Rattle.int_decide.proofs.DecisionLaws.{nothing_beside, beside_assoc}

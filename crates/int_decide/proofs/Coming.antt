@@ -9,6 +9,7 @@ use Rattle.lin_rows.specs.Rows.{LinearRow, Holds}
 use Rattle.lin_rows.specs.Tightening.{tightened}
 use Rattle.lin_rows.specs.Systems.{EachHasMember, Meets, rows_of, groups_of}
 use Rattle.lin_rows.proofs.SystemLaws.{meets_close}
+use Rattle.lin_rows.specs.Points.{point_of}
 use Rattle.farkas_check.specs.Nodes.{PlainNode, plain_nodes}
 use Rattle.farkas_check.specs.Refutes.{goal_of, Refutes}
 use Rattle.fm_elim.specs.Elimination as outcome
@@ -19,7 +20,6 @@ use Rattle.int_decide.specs.Decisions.{Decision, refuted, whole, gap, beside, Un
 use Rattle.int_decide.specs.Decide.{first_broken, decide_groups, decide}
 use Rattle.int_decide.specs.Numbers.{GroupsFit, LeavesFit}
 use Rattle.int_decide.specs.Sizes.{total, over_groups, group_count, extent, SystemBelow}
-use Rattle.int_decide.specs.Worth.{point_of}
 use Rattle.int_decide.specs.Searching.{Task, Standing, standing_of, values_if, whole_outcome, whole_groups, StepFits, Goes, IsMet, Takes, TakesNone, IsReady, found_by, decide_task, TaskFits, EliminationsFit, SomeMet, IsSound, HasCome, steps_left, IsClosed, IsPoint}
 use Rattle.int_decide.proofs.DecisionLaws.{nothing_beside, beside_nothing}
 use Rattle.int_decide.proofs.Opening.{group_count_opened, extent_opened, SystemBelow_open}

@@ -47,6 +47,34 @@ refutes_within d s ns h (t, e) r =
       tree = record { tree = t; prefix = e; few_cuts = (tree_cuts t d [] [] k).0 };
     }
 
+mutual
+  tree_has_few : (t : Tree) (l : ℕ) (ls : List ℕ) (ns : List PlainNode) → cuts_on_branch t ≤ l → have_few_cuts ls ns ≡ true →
+      have_few_cuts (l ∷ ls) (prefix_of t ++ ns) ≡ true
+  tree_has_few (leaf_tree parts) l ls ns few h = h
+  tree_has_few (cut_tree c k t u) zero ls ns few h = absurd (omega arith)
+  tree_has_few (cut_tree c k t u) (suc l) ls ns few h =
+      let a : (prefix_of t ++ prefix_of u) ++ ns ≡ prefix_of t ++ (prefix_of u ++ ns) = append_assoc (prefix_of t) (prefix_of u) ns in
+      let p : cuts_on_branch t ≤ l = omega (arith, few) in
+      let q : cuts_on_branch u ≤ l = omega (arith, few) in
+      subst (λ (x : List PlainNode). have_few_cuts (l ∷ l ∷ ls) x ≡ true) (sym a) (tree_has_few t l (l ∷ ls) (prefix_of u ++ ns) p (tree_has_few u l ls ns q h))
+  tree_has_few (cases_tree ts) l ls ns few h = trees_have_few ts l ls ns few h
+
+  trees_have_few : (ts : Trees) (l : ℕ) (ls : List ℕ) (ns : List PlainNode) → most_cuts ts ≤ l → have_few_cuts ls ns ≡ true →
+      have_few_cuts (replicate (tree_count ts) l ++ ls) (prefixes_of ts ++ ns) ≡ true
+  trees_have_few no_tree l ls ns few h = h
+  trees_have_few (one_more t ts) l ls ns few h =
+      let a : (prefix_of t ++ prefixes_of ts) ++ ns ≡ prefix_of t ++ (prefixes_of ts ++ ns) = append_assoc (prefix_of t) (prefixes_of ts) ns in
+      let p : cuts_on_branch t ≤ l = omega (arith, few) in
+      let q : most_cuts ts ≤ l = omega (arith, few) in
+      subst (λ (x : List PlainNode). have_few_cuts (l ∷ replicate (tree_count ts) l ++ ls) x ≡ true) (sym a)
+      (tree_has_few t l (replicate (tree_count ts) l ++ ls) (prefixes_of ts ++ ns) p (trees_have_few ts l ls ns q h))
+
+-- and the other way round, the cuts of such a tree are few by count
+pub counted_within : (d : ℕ) (s : System) (ns : List PlainNode) → RefutesWithin d s ns → have_few_cuts (d ∷ []) ns ≡ true
+counted_within d s ns r =
+    let t = r.tree.tree in
+    subst (λ (x : List PlainNode). have_few_cuts (d ∷ []) x ≡ true) (append-nil (prefix_of t) ∙ r.tree.prefix) (tree_has_few t d [] [] r.tree.few_cuts refl)
+
 -- ---- along the nodes
 
 replicated : (n left : ℕ) → reverse (replicate n left) ≡ replicate n left

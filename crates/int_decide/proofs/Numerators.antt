@@ -1,16 +1,14 @@
--- A rational point by numerators over one denominator, and what terms add up to there.
-use Rattle.std.proofs.Common.{◌≡◌, ℕ, zero, suc, ◌+◌, ◌<◌, ◌≤◌, ℤ, pos, ◌+ℤ◌, ◌*ℤ◌, ◌<ℤ◌, List, [], ◌∷◌, ◌++◌, length, take, drop, get_or, sym, ap, ◌∙◌, subst, arith}
+-- A rational point by numerators over one denominator.
+use Rattle.std.proofs.Common.{◌≡◌, ℕ, zero, suc, ◌+◌, ◌<◌, ◌≤◌, ℤ, pos, ◌*ℤ◌, ◌<ℤ◌, List, [], ◌∷◌, ◌++◌, length, take, get_or, sym, ap, ◌∙◌, subst}
 use Rattle.std.specs.List.{AllByRecursion}
-use Rattle.std.proofs.lemmas.Int.{ints}
-use Rattle.std.proofs.lemmas.List.{take_more, take_all, drop_more, drop_all}
-use Rattle.math_facts.specs.Terms.{dot}
+use Rattle.std.proofs.lemmas.List.{take_more, take_all}
 use Rattle.math_facts.proofs.Whole.{product_zero_left, product_assoc}
 use Rattle.frac.specs.Fractions.{Fraction, IsLowest, IsRatio}
 use Rattle.lin_rows.specs.Rows.{LinearRow}
+use Rattle.lin_rows.specs.Points.{point_of}
 use Rattle.fm_elim.specs.Values.{value_at}
 use Rattle.fm_elim.specs.Slices.{IsPoint}
 use Rattle.fm_elim.specs.Worth.{HoldsAt}
-use Rattle.int_decide.specs.Worth.{point_of}
 use Rattle.int_decide.specs.Picking.{IsOver, AreOver}
 
 over_more : (d : ℤ) (fs : List Fraction) (ps : List ℤ) (f : Fraction) (p : ℤ) → AreOver d fs ps → IsOver d f p → AreOver d (fs ++ f ∷ []) (ps ++ p ∷ [])
@@ -56,17 +54,3 @@ over_is d times f p low e g = record {
   lowest = low;
   ratio = ap (λ (x : ℤ). f.num *ℤ x) (sym e) ∙ sym (product_assoc f.num times f.den) ∙ ap (λ (x : ℤ). x *ℤ f.den) (sym g);
 }
-
--- ---- what terms add up to
-
-pub sum_next : (p : ℕ → ℤ) (terms : List (ℕ × ℤ)) (sum new : ℤ) (i : ℕ) (d : ℕ × ℤ) → i < length terms → sum +ℤ dot p (drop i terms) ≡ dot p terms →
-    new ≡ sum +ℤ ((get_or terms i d).1 *ℤ p (get_or terms i d).0) → new +ℤ dot p (drop (i + 1) terms) ≡ dot p terms
-sum_next p terms sum new i d l h e =
-    let t : ℕ × ℤ = get_or terms i d in
-    let a : dot p (drop i terms) ≡ (t.1 *ℤ p t.0) +ℤ dot p (drop (i + 1) terms) = ap (dot p) (drop_more terms i d l) in
-    omega (arith, ints)
-
-pub sum_end : (p : ℕ → ℤ) (terms : List (ℕ × ℤ)) (sum : ℤ) (i : ℕ) → length terms ≤ i → sum +ℤ dot p (drop i terms) ≡ dot p terms → sum ≡ dot p terms
-sum_end p terms sum i l h =
-    let a : dot p (drop i terms) ≡ pos 0 = ap (dot p) (drop_all i terms l) in
-    omega (arith, ints)

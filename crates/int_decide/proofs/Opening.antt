@@ -6,9 +6,8 @@ use Rattle.std.specs.List.{AllByRecursion}
 use Rattle.std.specs.formers.vec.Vec.{mapped}
 use mathlib.Core.Former.{this}
 use Rattle.lin_rows.specs.declared.systems.System.{System, out-System, roll-out-System, fold-roll-System, rec-roll-System}
-use Rattle.lin_rows.specs.Rows.{LinearRow}
+use Rattle.lin_rows.specs.Rows.{LinearRow, RowsBelow}
 use Rattle.lin_rows.specs.Systems.{members_of, rows_of, groups_of}
-use Rattle.fm_elim.specs.Worth.{ColumnsBelow}
 use Rattle.int_decide.specs.Sizes.{total, over_groups, group_count, extent, AllMembers, AllRows, SystemBelow}
 
 -- ---- lists of members, each replaced by its image
@@ -64,14 +63,14 @@ AllRows_open P s h = subst (λ (T : Type 0). T) (rows_opened P s) h
 pub AllRows_close : (P : LinearRow → Type 0) (s : System) → AllByRecursion P (rows_of s) × AllMembers (AllRows P) (groups_of s) → AllRows P s
 AllRows_close P s h = subst (λ (T : Type 0). T) (sym (rows_opened P s)) h
 
-below_opened : (n : ℕ) (s : System) → SystemBelow n s ≡ (ColumnsBelow n (rows_of s) × AllMembers (SystemBelow n) (groups_of s))
+below_opened : (n : ℕ) (s : System) → SystemBelow n s ≡ (RowsBelow n (rows_of s) × AllMembers (SystemBelow n) (groups_of s))
 below_opened n s =
     ap (SystemBelow n) (sym (roll-out-System s)) ∙
-    rec-roll-System (Type 0) (λ X is below s. ColumnsBelow n s.rows.items × AllMembers below (members_of s.groups.items))
-    (λ X f below s i. ColumnsBelow n s.rows.items × AllMembers-mapped below f s.groups.items i) (out-System s)
+    rec-roll-System (Type 0) (λ X is below s. RowsBelow n s.rows.items × AllMembers below (members_of s.groups.items))
+    (λ X f below s i. RowsBelow n s.rows.items × AllMembers-mapped below f s.groups.items i) (out-System s)
 
-pub SystemBelow_open : (n : ℕ) (s : System) → SystemBelow n s → ColumnsBelow n (rows_of s) × AllMembers (SystemBelow n) (groups_of s)
+pub SystemBelow_open : (n : ℕ) (s : System) → SystemBelow n s → RowsBelow n (rows_of s) × AllMembers (SystemBelow n) (groups_of s)
 SystemBelow_open n s h = subst (λ (T : Type 0). T) (below_opened n s) h
 
-pub SystemBelow_close : (n : ℕ) (s : System) → ColumnsBelow n (rows_of s) × AllMembers (SystemBelow n) (groups_of s) → SystemBelow n s
+pub SystemBelow_close : (n : ℕ) (s : System) → RowsBelow n (rows_of s) × AllMembers (SystemBelow n) (groups_of s) → SystemBelow n s
 SystemBelow_close n s h = subst (λ (T : Type 0). T) (sym (below_opened n s)) h

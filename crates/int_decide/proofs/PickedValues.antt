@@ -7,13 +7,13 @@ use Rattle.std.proofs.lemmas.Bool.{eqb-true, ne_eqb}
 use Rattle.std.proofs.lemmas.Int.{ints}
 use Rattle.math_facts.proofs.Whole.{product_comm, product_assoc, product_one_left, product_one_right, product_neg_left, product_monotone, product_strict, cancel_strict}
 use Rattle.frac.specs.Fractions.{Fraction, IsLowest, IsRatio}
-use Rattle.lin_rows.specs.Rows.{LinearRow, IsRow}
+use Rattle.lin_rows.specs.Rows.{LinearRow, IsRow, RowsBelow}
 use Rattle.lin_rows.specs.Tightening.{tightened}
 use Rattle.farkas_check.specs.Refutes.{at_most, above}
 use Rattle.fm_elim.specs.Quotients.{whole, floor}
 use Rattle.fm_elim.specs.Values.{value_at}
 use Rattle.fm_elim.specs.Elimination as outcome
-use Rattle.fm_elim.specs.Worth.{HoldsAt, IsSolvable, MeetsAll, ColumnsBelow}
+use Rattle.fm_elim.specs.Worth.{HoldsAt, IsSolvable, MeetsAll}
 use Rattle.fm_elim.specs.Slices.{IsOnTheWay, IsPick, InSlice, IsPicked, IsPoint, IsPickedOutcome}
 use Rattle.fm_elim.proofs.Lists.{all_append, all_middle}
 use Rattle.fm_elim.proofs.Multipliers.{less_is, not_less_is}
@@ -334,16 +334,16 @@ refuted_by : (n : ℕ) (rows : List LinearRow) (parts : List (ℕ × ℤ)) (o : 
 refuted_by n rows parts (outcome.refuted own) u h = tt
 refuted_by n rows parts (outcome.point own) u h = h (record { d = u.one.meets.d; p = u.one.meets.p; positive = u.one.meets.positive; holds = u.one.meets.holds })
 
-own_outcome : (n : ℕ) (rows : List LinearRow) → AllByRecursion IsRow rows → ColumnsBelow n rows → map tightened rows ≡ rows → IsPickedOutcome n rows (outcome.elimination n rows)
+own_outcome : (n : ℕ) (rows : List LinearRow) → AllByRecursion IsRow rows → RowsBelow n rows → map tightened rows ≡ rows → IsPickedOutcome n rows (outcome.elimination n rows)
 own_outcome n rows v b t = subst (λ (rs : List LinearRow). IsPickedOutcome n rs (outcome.elimination n rows)) t (point_is_picked n rows v b)
 
 -- multipliers stand in where no rational point meets the rows
-pub refuted_stands : (n : ℕ) (rows : List LinearRow) (parts : List (ℕ × ℤ)) → AllByRecursion IsRow rows → ColumnsBelow n rows → map tightened rows ≡ rows → (IsSolvable rows → ⊥) →
+pub refuted_stands : (n : ℕ) (rows : List LinearRow) (parts : List (ℕ × ℤ)) → AllByRecursion IsRow rows → RowsBelow n rows → map tightened rows ≡ rows → (IsSolvable rows → ⊥) →
     StandsIn n rows (outcome.refuted parts)
 refuted_stands n rows parts v b t h = record { alike = refuted_by n rows parts (outcome.elimination n rows) (own_outcome n rows v b t) h; meets = tt }
 
 -- a point stands in whose values are shown to be picked
-pub point_stands : (n : ℕ) (rows : List LinearRow) (values : List Fraction) → AllByRecursion IsRow rows → ColumnsBelow n rows → map tightened rows ≡ rows → IsPoint n rows values →
+pub point_stands : (n : ℕ) (rows : List LinearRow) (values : List Fraction) → AllByRecursion IsRow rows → RowsBelow n rows → map tightened rows ≡ rows → IsPoint n rows values →
     ArePicked rows 0 values → StandsIn n rows (outcome.point values)
 point_stands n rows values v b t p a = record {
   alike = alike_by n rows values (outcome.elimination n rows) (own_outcome n rows v b t) p a;

@@ -2,7 +2,6 @@
 use Rattle.std.proofs.Common.{◌≡◌, ℕ, zero, suc, ◌+◌, ◌<◌, Bool, true, false, ℤ, pos, ◌+ℤ◌, ◌*ℤ◌, ◌<ℤ◌, List, [], ◌∷◌, Option, None, Some, length, map, nat_eq, refl, sym, ap, ◌∙◌, subst, arith, if◌then◌else◌}
 use Rattle.std.specs.Prelude.{unsigned_abs}
 use Rattle.std.specs.List.{AllByRecursion}
-use Rattle.std.proofs.Math.ListN.{get_or-map}
 use Rattle.std.proofs.lemmas.Bool.{eqb-true, eqb-false}
 use Rattle.std.proofs.lemmas.Int.{ints}
 use Rattle.math_facts.specs.Fits.{Fits}
@@ -11,22 +10,22 @@ use Rattle.math_facts.proofs.Whole.{product_comm, product_assoc, product_one_rig
 use Rattle.frac.specs.Fractions.{Fraction, IsFraction}
 use Rattle.lin_rows.specs.declared.types.RowKind.{RowKind}
 use Rattle.lin_rows.specs.declared.types.RowKind.TheVariants.{Le, Eq}
-use Rattle.lin_rows.specs.Rows.{LinearRow, AscendsFrom, Stands, Holds}
+use Rattle.lin_rows.specs.Rows.{LinearRow, AscendsFrom, Stands, Holds, RowsBelow}
 use Rattle.lin_rows.specs.Tightening.{tightened}
 use Rattle.lin_rows.specs.Negating.{below_opposite}
+use Rattle.lin_rows.specs.Points.{point_of}
 use Rattle.lin_rows.proofs.Ascending.{HasNoZero}
 use Rattle.fm_elim.specs.Quotients.{whole, floor}
 use Rattle.fm_elim.specs.Derivations.{inputs}
 use Rattle.fm_elim.specs.Values.{value_at}
 use Rattle.fm_elim.specs.Elimination as outcome
-use Rattle.fm_elim.specs.Worth.{Combines, HoldsAt, MeetsAll, ColumnsBelow}
+use Rattle.fm_elim.specs.Worth.{Combines, HoldsAt, MeetsAll}
 use Rattle.fm_elim.proofs.Lists.{all_weaker}
 use Rattle.fm_elim.proofs.Multipliers.{IfRefuted, solve_refutes}
 use Rattle.fm_elim.proofs.Inputs.{IsOrdered, inputs_are_made, inputs_are_clear}
 use Rattle.fm_elim.proofs.Ends.{AreValues}
 use Rattle.fm_elim.proofs.Points.{RowHolds, MeetsRows, IfPoint, solve_meets}
 use Rattle.int_decide.specs.Decide.{first_broken}
-use Rattle.int_decide.specs.Worth.{point_of}
 use Rattle.int_decide.proofs.CutNumbers.{cut_numbers_fit}
 use Rattle.int_decide.proofs.Tight.{IsTight, tight_rows_stay}
 
@@ -65,7 +64,7 @@ worth_of n rows (outcome.point values) h m = record {
   holds = inputs_hold m.d m.p 0 rows m.holds;
 }
 
-pub elimination_worth : (n : ℕ) (rows : List LinearRow) → AllByRecursion IsTight rows → ColumnsBelow n rows → OutcomeWorth n rows (outcome.elimination n rows)
+pub elimination_worth : (n : ℕ) (rows : List LinearRow) → AllByRecursion IsTight rows → RowsBelow n rows → OutcomeWorth n rows (outcome.elimination n rows)
 elimination_worth n rows t b =
     subst (λ (rs : List LinearRow). OutcomeWorth n rs (outcome.elimination n rows)) (tight_rows_stay rows t)
     (worth_of n rows (outcome.elimination n rows) (solve_refutes (map tightened rows) n (inputs 0 rows) (inputs_are_made rows))
@@ -138,6 +137,11 @@ stands_over Le x b d p h =
     cancel_order d x b p (omega (arith, ints))
 stands_over Eq x b d p h = positive_cancel d x b p (product_comm d x ∙ h ∙ product_comm b d)
 
+numerator_at : (values : List Fraction) (c : ℕ) → point_of (map (λ f. f.num) values) c ≡ (value_at values c).num
+numerator_at [] c = refl
+numerator_at (f ∷ fs) zero = refl
+numerator_at (f ∷ fs) (suc c) = numerator_at fs c
+
 -- The values, as whole numbers, meet the rows.
 pub whole_holds : (rows : List LinearRow) (values : List Fraction) (d : ℤ) (p : ℕ → ℤ) → AreValues values d p → first_broken 0 values ≡ None →
     AllByRecursion (HoldsAt d p) rows → AllByRecursion (Holds (point_of (map (λ f. f.num) values))) rows
@@ -150,7 +154,7 @@ whole_holds rows values d p a e h =
     let i = a.each c in
     let o : f.den ≡ pos 1 = one_from_size f.den s i.positive in
     let r : f.num *ℤ d ≡ p c *ℤ f.den = i.ratio in
-    let v : q c ≡ f.num = get_or-map (λ (g : Fraction). g.num) values c (whole (pos 0)) in
+    let v : q c ≡ f.num = numerator_at values c in
     sym (product_one_right (p c)) ∙ ap (λ (z : ℤ). p c *ℤ z) (sym o) ∙ sym r ∙ ap (λ (z : ℤ). z *ℤ d) (sym v)) in
     all_weaker (HoldsAt d p) (Holds q) rows
     (λ r i. stands_over r.kind (dot q r.terms) r.bound d a.positive

@@ -5,10 +5,9 @@ use Rattle.std.proofs.lemmas.List.{take_more, drop_more, take-append-drop}
 use Rattle.math_facts.specs.Terms.{IsBelow}
 use Rattle.math_facts.proofs.TermLaws.{IsBelow-append}
 use Rattle.lin_rows.specs.declared.systems.System.{System}
-use Rattle.lin_rows.specs.Rows.{LinearRow}
+use Rattle.lin_rows.specs.Rows.{LinearRow, RowsBelow}
 use Rattle.lin_rows.specs.Systems.{members_of, rows_of, groups_of}
 use Rattle.lin_rows.proofs.SystemLaws.{members_of-append}
-use Rattle.fm_elim.specs.Worth.{ColumnsBelow}
 use Rattle.fm_elim.proofs.Lists.{all_append, all_middle}
 use Rattle.int_decide.specs.Sizes.{total, extent, AllMembers, SystemBelow}
 use Rattle.int_decide.proofs.Opening.{extent_opened, SystemBelow_open, SystemBelow_close}
@@ -34,7 +33,7 @@ around {X = X} xs i x l e =
     ap (λ (y : X). take i xs ++ y ∷ drop (i + 1) xs) e ∙ ap (λ (ys : List X). take i xs ++ ys) (sym (drop_more xs i x l)) ∙ take-append-drop i xs
 
 -- a row with a term that is not below
-pub row_not_below : (n : ℕ) (rows : List LinearRow) (i : ℕ) (r : LinearRow) → i < length rows → r ≡ get_or rows i r → (IsBelow n r.terms → ⊥) → ColumnsBelow n rows → ⊥
+pub row_not_below : (n : ℕ) (rows : List LinearRow) (i : ℕ) (r : LinearRow) → i < length rows → r ≡ get_or rows i r → (IsBelow n r.terms → ⊥) → RowsBelow n rows → ⊥
 row_not_below n rows i r l e f h = f (all_middle (λ r. IsBelow n r.terms) (take i rows) r (drop (i + 1) rows) rows (around rows i r l e) h)
 
 -- ---- members
@@ -124,7 +123,7 @@ group_of_all P (b ∷ before) g rest h = group_of_all P before g rest h.1
 -- ---- systems
 
 -- all groups
-pub all_measured : (n sum : ℕ) (s : System) (gs : List (Vec System Global)) → members_of gs ≡ groups_of s → ColumnsBelow n (rows_of s) →
+pub all_measured : (n sum : ℕ) (s : System) (gs : List (Vec System Global)) → members_of gs ≡ groups_of s → RowsBelow n (rows_of s) →
     GroupsMeasured n (length (rows_of s)) sum (members_of gs) → SystemBelow n s × (extent s ≡ sum)
 all_measured n sum s gs e r h =
     let x : extent s ≡ length (rows_of s) + group_total (groups_of s) = extent_opened s in
@@ -133,7 +132,7 @@ all_measured n sum s gs e r h =
     (SystemBelow_close n s (r, subst (AllMembers (SystemBelow n)) e h.below), omega arith)
 
 -- a system with a column that is not below
-pub columns_past : (most n : ℕ) (s : System) → (ColumnsBelow n (rows_of s) → ⊥) → SystemBelow n s → most ≤ extent s
+pub columns_past : (most n : ℕ) (s : System) → (RowsBelow n (rows_of s) → ⊥) → SystemBelow n s → most ≤ extent s
 columns_past most n s f h = absurd (f (SystemBelow_open n s h).0)
 
 -- a system with a group that is too large

@@ -6,13 +6,13 @@ use Rattle.std.proofs.lemmas.List.{length-map}
 use Rattle.frac.specs.Fractions.{Fraction, IsFraction}
 use Rattle.lin_rows.specs.Rows.{LinearRow, Holds}
 use Rattle.lin_rows.specs.Tightening.{tightened}
+use Rattle.lin_rows.specs.Points.{point_of}
 use Rattle.fm_elim.specs.Elimination as outcome
 use Rattle.fm_elim.specs.Worth.{MeetsAll, IsWorth}
 use Rattle.farkas_check.specs.Walks.{goal_at_hand}
 use Rattle.farkas_check.specs.Refutes.{Goal}
 use Rattle.int_decide.specs.declared.search.Search.{Search}
 use Rattle.int_decide.specs.Decide.{first_broken}
-use Rattle.int_decide.specs.Worth.{point_of}
 use Rattle.int_decide.specs.Searching.{Task, Standing, standing_of, values_if, whole_outcome, whole_groups, whole_at, after_values, after_outcome, after_groups, StepFits, StepIsWorth, OpensNone, Breaks, IsWholePoint, Goes, IsMet}
 use Rattle.int_decide.proofs.Points.{whole_meets_all}
 

@@ -7,16 +7,17 @@ use Rattle.math_facts.specs.Terms.{dot, IsBelow}
 use Rattle.math_facts.proofs.Whole.{product_one_right}
 use Rattle.frac.specs.Fractions.{Fraction}
 use Rattle.lin_rows.specs.declared.systems.System.{System}
-use Rattle.lin_rows.specs.Rows.{LinearRow, IsRow, Stands, Holds}
+use Rattle.lin_rows.specs.Rows.{LinearRow, IsRow, Stands, Holds, RowsBelow}
 use Rattle.lin_rows.specs.Tightening.{tightened}
 use Rattle.lin_rows.specs.Systems.{SomeMember, EachHasMember, Meets, rows_of, groups_of}
 use Rattle.lin_rows.proofs.SystemLaws.{meets_open, meets_close}
 use Rattle.lin_rows.proofs.NegatingLemmas.{negated_holds}
+use Rattle.lin_rows.specs.Points.{point_of}
 use Rattle.farkas_check.specs.Nodes.{PlainNode, cut, cases}
 use Rattle.farkas_check.specs.Refutes.{Goal, at_most, above, with_row, with_member, goal_of, Refutes}
 use Rattle.farkas_check.proofs.Sound.{MeetsGoal}
 use Rattle.fm_elim.specs.Elimination as outcome
-use Rattle.fm_elim.specs.Worth.{Combines, HoldsAt, ColumnsBelow}
+use Rattle.fm_elim.specs.Worth.{Combines, HoldsAt}
 use Rattle.fm_elim.proofs.Lists.{all_append, all_parts, all_map, all_weaker, all_both}
 use Rattle.fm_elim.proofs.Refuting.{no_point}
 use Rattle.fm_elim.proofs.Inputs.{IsBelow-tightened}
@@ -25,7 +26,7 @@ use Rattle.int_decide.specs.Decide.{first_broken, by_values, by_outcome, decide_
 use Rattle.fm_elim.specs.Quotients.{floor}
 use Rattle.int_decide.specs.Sizes.{group_count, AllMembers, AllRows, SystemBelow}
 use Rattle.int_decide.specs.Numbers.{LeavesFit}
-use Rattle.int_decide.specs.Worth.{point_of, IsTreeOf, IsWorth, IsRefuted}
+use Rattle.int_decide.specs.Worth.{IsTreeOf, IsWorth, IsRefuted}
 use Rattle.int_decide.proofs.Tight.{IsTight, tightened_are_tight, at_most_is_tight, above_is_tight, hold_tightened, hold_untightened}
 use Rattle.int_decide.proofs.Points.{MeetsTight, OutcomeWorth, elimination_worth, broken_below, whole_meets}
 use Rattle.int_decide.proofs.Refuting.{RefuteFirst, none_first, joined_first, leaf_first, cut_first, cases_first, refutes_alone, AreTreesOf, leaf_is_tree, cut_is_tree, no_trees, one_more_tree, cases_are_tree}
@@ -103,7 +104,7 @@ outcome_worth n d rows broken (outcome.refuted parts) w f = (
 )
 outcome_worth n d rows broken (outcome.point values) w f = values_worth n d rows broken values (first_broken 0 values) refl w f
 
-pub rows_worth : (n d : ℕ) (rows : List LinearRow) → AllByRecursion IsTight rows → ColumnsBelow n rows →
+pub rows_worth : (n d : ℕ) (rows : List LinearRow) → AllByRecursion IsTight rows → RowsBelow n rows →
     GoalWorth n d (record { rows = rows; groups = [] }) (decide_rows n d rows)
 rows_worth n zero rows t b =
     outcome_worth n zero rows (λ c k. gap) (outcome.elimination n rows) (elimination_worth n rows t b) (λ c k l. tt)
@@ -115,7 +116,7 @@ rows_worth n (suc d) rows t b =
     (rows_worth n d (rows ++ at_most c k ∷ []) (all_append IsTight rows (at_most c k ∷ []) t (at_most_is_tight c k, tt)) (below_more (at_most c k) ((l, tt), tt)))
     (rows_worth n d (rows ++ above c k ∷ []) (all_append IsTight rows (above c k ∷ []) t (above_is_tight c k, tt)) (below_more (above c k) ((l, tt), tt))))
   where
-    below_more : (r : LinearRow) → ColumnsBelow n (r ∷ []) → ColumnsBelow n (rows ++ r ∷ [])
+    below_more : (r : LinearRow) → RowsBelow n (r ∷ []) → RowsBelow n (rows ++ r ∷ [])
     below_more r h = all_append (λ q. IsBelow n q.terms) rows (r ∷ []) b h
 
 -- ---- groups
@@ -213,7 +214,7 @@ members_both P Q (g ∷ gs) h k = (all_both P Q g h.0 k.0, members_both P Q gs h
 -- the rows of a system, tightened, and its groups
 pub record IsFineOpen (n : ℕ) (s : System) : Type 0 where
   pub tight : AllByRecursion IsTight (map tightened (rows_of s))
-  pub below : ColumnsBelow n (map tightened (rows_of s))
+  pub below : RowsBelow n (map tightened (rows_of s))
   pub groups : AllMembers (IsFine n) (groups_of s)
 
 pub fine_open : (n : ℕ) (s : System) → IsFine n s → IsFineOpen n s
@@ -226,7 +227,7 @@ fine_open n s h =
       groups = members_both (AllRows IsRow) (SystemBelow n) (groups_of s) a.1 b.1;
     }
 
-pub groups_worth : (f n d : ℕ) (rows : List LinearRow) (groups : List (List System)) → AllByRecursion IsTight rows → ColumnsBelow n rows → AllMembers (IsFine n) groups →
+pub groups_worth : (f n d : ℕ) (rows : List LinearRow) (groups : List (List System)) → AllByRecursion IsTight rows → RowsBelow n rows → AllMembers (IsFine n) groups →
     GoalWorth n d (record { rows = rows; groups = groups }) (decide_groups f n d rows groups)
 groups_worth zero n d rows [] t b h = rows_worth n d rows t b
 groups_worth (suc f) n d rows [] t b h = rows_worth n d rows t b

@@ -4,6 +4,7 @@ use Rattle.std.specs.List.{AllByRecursion}
 use Rattle.math_facts.specs.Fits.{Fits}
 use Rattle.lin_rows.specs.declared.systems.System.{System}
 use Rattle.lin_rows.specs.Systems.{Meets}
+use Rattle.lin_rows.specs.Points.{point_of}
 use Rattle.farkas_check.specs.Nodes.{PlainNode}
 use Rattle.farkas_check.specs.Refutes.{Refutes}
 use Rattle.fm_elim.specs.declared.types.ElimFault.{ElimFault}
@@ -14,7 +15,7 @@ use Rattle.int_decide.specs.declared.types.DecideFault.{DecideFault}
 use Rattle.int_decide.specs.declared.types.DecideFault.TheVariants.{Past, Memory}
 use Rattle.int_decide.specs.Decisions.{Decision, refuted, whole}
 use Rattle.int_decide.specs.Decide.{decide}
-use Rattle.int_decide.specs.Worth.{point_of, IsTreeOf, IsPointOf}
+use Rattle.int_decide.specs.Worth.{IsTreeOf, IsPointOf}
 
 -- a fault of an elimination as a fault of Decide
 abbrev pub fault_of : ElimFault → DecideFault

@@ -4,14 +4,15 @@ use Rattle.std.specs.List.{AllByRecursion}
 use Rattle.math_facts.specs.Fits.{Fits}
 use Rattle.frac.specs.Fractions.{Fraction, IsFraction}
 use Rattle.lin_rows.specs.declared.systems.System.{System}
-use Rattle.lin_rows.specs.Rows.{LinearRow, Holds}
+use Rattle.lin_rows.specs.Rows.{LinearRow, Holds, RowsBelow}
 use Rattle.lin_rows.specs.Tightening.{tightened}
 use Rattle.lin_rows.specs.Systems.{rows_of, groups_of, EachHasMember, Meets}
+use Rattle.lin_rows.specs.Points.{point_of}
 use Rattle.farkas_check.specs.Nodes.{PlainNode, leaf, cut, cases, plain_nodes, is_tree}
 use Rattle.farkas_check.specs.Walks.{goals_left}
 use Rattle.farkas_check.specs.Refutes.{Goal, at_most, above, with_row, with_member, goal_of, Refute, Refutes}
 use Rattle.fm_elim.specs.Elimination as outcome
-use Rattle.fm_elim.specs.Worth.{IsWorth, ColumnsBelow}
+use Rattle.fm_elim.specs.Worth.{IsWorth}
 use Rattle.int_decide.specs.declared.search.Search.{Search}
 use Rattle.int_decide.specs.declared.deciding.Ending.{Ending}
 use Rattle.int_decide.specs.declared.deciding.Ending.TheVariants.{Closed, Met, Open}
@@ -20,7 +21,7 @@ use Rattle.int_decide.specs.Decide.{first_broken, decide_groups, decide}
 use Rattle.fm_elim.specs.Quotients.{floor}
 use Rattle.int_decide.specs.Numbers.{EachUntilWhole, GroupsFit, LeavesFit}
 use Rattle.int_decide.specs.Sizes.{total, over_groups, group_count, extent, AllMembers, SystemBelow}
-use Rattle.int_decide.specs.Worth.{point_of, IsPointOf}
+use Rattle.int_decide.specs.Worth.{IsPointOf}
 
 -- ---- goals that are still to be decided
 
@@ -179,7 +180,7 @@ StaysTight r = tightened r ≡ r
 
 -- its columns are below n, its rows are tight, and numbers of rows and of cases have 32 bits
 pub record IsReady (n : ℕ) (t : Task) : Type 0 where
-  pub below : ColumnsBelow n t.goal.rows
+  pub below : RowsBelow n t.goal.rows
   pub groups_below : AllMembers (SystemBelow n) t.goal.groups
   pub tight : AllByRecursion StaysTight t.goal.rows
   pub numbered : goal_extent t.goal + t.left < 2 ^ 32

@@ -3,8 +3,7 @@ use Rattle.std.specs.Prelude.{ℕ, suc, ◌+◌, List, [], ◌∷◌, length}
 use Rattle.std.specs.List.{AllByRecursion}
 use Rattle.lin_rows.specs.declared.systems.System.{System, fold-System, rec-System}
 use Rattle.lin_rows.specs.Systems.{members_of}
-use Rattle.lin_rows.specs.Rows.{LinearRow}
-use Rattle.fm_elim.specs.Worth.{ColumnsBelow}
+use Rattle.lin_rows.specs.Rows.{LinearRow, RowsBelow}
 
 -- the sum of a number of each member
 abbrev pub total : {X : Type 0} → (X → ℕ) → List X → ℕ
@@ -34,4 +33,4 @@ AllRows P = rec-System (Type 0) (λ X is all s. AllByRecursion P s.rows.items ×
 
 -- all columns of the system are below n, those of its members too
 abbrev pub SystemBelow : ℕ → System → Type 0
-SystemBelow n = rec-System (Type 0) (λ X is below s. ColumnsBelow n s.rows.items × AllMembers below (members_of s.groups.items))
+SystemBelow n = rec-System (Type 0) (λ X is below s. RowsBelow n s.rows.items × AllMembers below (members_of s.groups.items))

@@ -1,16 +1,13 @@
 -- What decisions are worth: a refutation refutes but for its own numbers, and a whole point meets the system.
-use Rattle.std.specs.Prelude.{◌≡◌, ◌≤◌, ℕ, ℤ, pos, List, [], ◌∷◌, length, slice_index_or}
+use Rattle.std.specs.Prelude.{◌≡◌, ◌≤◌, ℕ, ℤ, List, [], ◌∷◌, length}
 use Rattle.lin_rows.specs.declared.systems.System.{System}
+use Rattle.lin_rows.specs.Points.{point_of}
 use Rattle.lin_rows.specs.Systems.{Meets}
 use Rattle.farkas_check.specs.Nodes.{PlainNode}
 use Rattle.farkas_check.specs.Refutes.{Refutes, goal_of}
 use Rattle.farkas_check.specs.Trees.{Tree, prefix_of, cuts_on_branch}
 use Rattle.int_decide.specs.Decisions.{Decision, refuted, whole, gap}
 use Rattle.int_decide.specs.Numbers.{LeavesFit}
-
--- the point with these values; 0 past the last
-abbrev pub point_of : List ℤ → ℕ → ℤ
-point_of values c = slice_index_or values c (pos 0)
 
 -- the list is the prefix list of one tree, with d cuts on a branch at most
 pub record IsTreeOf (d : ℕ) (ns : List PlainNode) : Type 0 where

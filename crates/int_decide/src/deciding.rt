@@ -12,7 +12,8 @@ ghost use Rattle.int_decide.specs.Numbers.{DecideFits};
 ghost use Rattle.int_decide.specs.Searching.{EliminationsFit, Ends};
 ghost use Rattle.int_decide.specs.Sizes.{extent, SystemBelow};
 
-use crate::proposing::{MOST_GOALS, accepted, proposed};
+use crate::accepting::accepted;
+use crate::proposing::{MOST_GOALS, proposed};
 use crate::search::{Search, Step};
 use crate::types::{Answer, DecideFault};
 use farkas_check::{Node, check, tree};

@@ -1,9 +1,9 @@
 //! What the answers of Decide are worth.
 
-ghost use Rattle.std.specs.Prelude.{◌≡◌, ◌≤◌, ◌↔◌, ℕ, ℤ, [], map};
+ghost use Rattle.std.specs.Prelude.{◌≡◌, ◌≤◌, ◌↔◌, ℕ, [], map};
 ghost use Rattle.lin_rows.specs.declared.systems.System.{System};
 ghost use Rattle.lin_rows.specs.Rows.{IsRow};
-ghost use Rattle.lin_rows.specs.Systems.{Meets, rows_of, groups_of};
+ghost use Rattle.lin_rows.specs.Systems.{rows_of, groups_of};
 ghost use Rattle.lin_rows.specs.Tightening.{tightened};
 ghost use Rattle.fm_elim.specs.Worth.{IsSolvable};
 ghost use Rattle.int_decide.specs.Decide.{decide, decide_groups};
@@ -15,12 +15,6 @@ ghost use Rattle.int_decide.specs.Worth.{IsWorth, IsRefuted};
 /// system.
 pub fn decisions_are_sound()
     ensures { (n d : ℕ) (s : System) → AllRows IsRow s → SystemBelow n s → IsWorth n d s (decide n d s) }
-{}
-
-/// No whole point meets a system that is refuted, whether the numbers of the refutation fit or not.
-pub fn refuted_systems_have_no_whole_point()
-    ensures { (n d : ℕ) (s : System) (point : ℕ → ℤ) → AllRows IsRow s → SystemBelow n s → IsRefuted (decide n d s) →
-        Meets point s → ⊥ }
 {}
 
 /// More groups than a system has make no difference.

@@ -2,6 +2,7 @@
 //! found.
 #![tactic(auto)]
 
+mod accepting;
 mod deciding;
 mod laws;
 mod measuring;
@@ -12,10 +13,8 @@ mod search;
 mod types;
 mod values;
 
+pub use accepting::accepted;
 pub use deciding::{decide, plain};
-pub use laws::{
-    decisions_are_sound, group_count_is_enough, refuted_systems_have_no_whole_point,
-    rows_are_refuted_exactly,
-};
+pub use laws::{decisions_are_sound, group_count_is_enough, rows_are_refuted_exactly};
 pub use measuring::measure;
 pub use types::{Answer, DecideFault};

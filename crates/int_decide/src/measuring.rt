@@ -3,7 +3,7 @@
 ghost use Rattle.std.specs.Prelude.{◌≡◌, ◌≤◌, ◌^◌, suc, MatchBool, MatchOption};
 ghost use Rattle.std.specs.List.{AllByRecursion};
 ghost use Rattle.math_facts.specs.Terms.{IsBelow};
-ghost use Rattle.fm_elim.specs.Worth.{ColumnsBelow};
+ghost use Rattle.lin_rows.specs.Rows.{RowsBelow};
 ghost use Rattle.int_decide.specs.Sizes.{total, extent, SystemBelow};
 
 use lin_rows::{Row, System};
@@ -43,7 +43,7 @@ fn measure_members(members: &Vec<System>, columns: u32) -> Option<u32>
 
 /// Whether all columns of the rows are below the number given.
 fn are_below(rows: &[Row], columns: u32) -> bool
-    ensures { MatchBool result (ColumnsBelow columns rows.now) (ColumnsBelow columns rows.now → ⊥) }
+    ensures { MatchBool result (RowsBelow columns rows.now) (RowsBelow columns rows.now → ⊥) }
 {
     for row in rows {
         if !is_below(row, columns) {

@@ -2,14 +2,13 @@
 
 ghost use Rattle.std.specs.Prelude.{◌≡◌, ◌<ℤ◌, pos, IfOk, IfSome, IsTrue};
 ghost use Rattle.std.specs.List.{AllByRecursion};
-ghost use Rattle.math_facts.specs.Terms.{dot};
+ghost use Rattle.lin_rows.specs.Points.{point_of};
 ghost use Rattle.fm_elim.specs.Slices.{IsPoint};
 ghost use Rattle.fm_elim.specs.Worth.{HoldsAt};
 ghost use Rattle.int_decide.specs.Picking.{IsOver, AreOver};
-ghost use Rattle.int_decide.specs.Worth.{point_of};
 
 use frac::{Frac, den, num};
-use lin_rows::{Col, Row, RowKind};
+use lin_rows::{Row, RowKind, sum_at};
 use math_facts::greatest_divisor;
 use std::alloc::{AllocError, Global};
 
@@ -111,28 +110,5 @@ fn holds_over(row: &Row, denominator: i128, numerators: &[i128]) -> bool
     match row.kind() {
         RowKind::Le => sum <= bound,
         RowKind::Eq => sum == bound,
-    }
-}
-
-/// What the terms add up to at the point.
-fn sum_at(terms: &[(Col, i128)], point: &[i128]) -> Option<i128>
-    ensures { IfSome result (λ sum. sum ≡ dot (point_of point.now) terms.now) }
-{
-    let mut sum: i128 = 0;
-    for (column, coefficient) in terms {
-        let product = coefficient.checked_mul(value_at(point, *column)?)?;
-        sum = sum.checked_add(product)?;
-    }
-    Some(sum)
-}
-
-/// The value of a column at the point.
-fn value_at(point: &[i128], column: Col) -> Option<i128>
-    ensures { IfSome result (λ v. v ≡ point_of point.now column) }
-{
-    if (column as usize) < point.len() {
-        Some(point[column as usize])
-    } else {
-        None
     }
 }

@@ -1,13 +1,12 @@
 //! An outcome that stands in for that of the elimination: proposed by a simplex, and shown column by column.
 
 ghost use Rattle.std.specs.Prelude.{◌≡◌, [], ◌∷◌, ◌++◌, Ok, List, IfOk, IfSome, OnOk, IsTrue, map};
-ghost use Rattle.std.specs.List.{AllByRecursion};
 ghost use Rattle.frac.specs.Fractions.{IsFraction};
-ghost use Rattle.lin_rows.specs.Rows.{LinearRow, IsRow};
+ghost use Rattle.lin_rows.specs.Rows.{LinearRow, RowsBelow};
 ghost use Rattle.lin_rows.specs.Tightening.{tightened};
 ghost use Rattle.farkas_check.specs.Refutes.{at_most, above};
 ghost use Rattle.fm_elim.specs.Answers.{outcome_of};
-ghost use Rattle.fm_elim.specs.Worth.{IsSolvable, ColumnsBelow};
+ghost use Rattle.fm_elim.specs.Worth.{IsSolvable};
 ghost use Rattle.int_decide.specs.Alike.{StandsIn};
 ghost use Rattle.int_decide.specs.Picking.{Implies, fixed, IsNearest, IsApart, ArePicked};
 
@@ -15,14 +14,14 @@ use crate::meeting::is_met;
 use crate::proposing::pivots_for;
 use fm_elim::Elim;
 use frac::{Frac, den, floor, num};
-use lin_rows::{Col, Row, RowFault, RowKind, add_scaled, negate, row};
+use lin_rows::{Col, Row, RowFault, RowKind, add_scaled, copied_rows, negate, row};
 use simplex_rows::{Parts, Picked, try_pick};
 use std::alloc::{AllocError, Global};
 
 /// What is as good as the outcome of the elimination of the rows, which are tight, where it is proposed and shown: where no
 /// rational point meets them, and else up to the first value that is not whole.
 pub fn picked_outcome(alloc: Global, rows: &[Row], columns: u32) -> Result<Option<Elim>, AllocError>
-    requires below { ColumnsBelow columns rows.now }
+    requires below { RowsBelow columns rows.now }
     requires tight { map tightened rows.now ≡ rows.now }
     ensures { IfOk result (λ o. IfSome o (λ e. StandsIn columns rows.now (outcome_of e))) }
 {
@@ -45,11 +44,11 @@ fn refuted_outcome(
     columns: u32,
     parts: Parts,
 ) -> Result<Option<Elim>, AllocError>
-    requires below { ColumnsBelow columns rows.now }
+    requires below { RowsBelow columns rows.now }
     requires tight { map tightened rows.now ≡ rows.now }
     ensures { IfOk result (λ o. IfSome o (λ e. StandsIn columns rows.now (outcome_of e))) }
 {
-    let held = copied(alloc, rows)?;
+    let held = copied_rows(alloc, rows)?;
     if refutes(alloc, &held, &parts)? {
         Ok(Some(Elim::Refuted(parts)))
     } else {
@@ -65,31 +64,19 @@ fn point_outcome(
     values: Vec<Frac>,
     shown: &[Parts],
 ) -> Result<Option<Elim>, AllocError>
-    requires below { ColumnsBelow columns rows.now }
+    requires below { RowsBelow columns rows.now }
     requires tight { map tightened rows.now ≡ rows.now }
     ensures { IfOk result (λ o. IfSome o (λ e. StandsIn columns rows.now (outcome_of e))) }
 {
     if !is_met(alloc, rows, columns, &values)? {
         return Ok(None);
     }
-    let mut held = copied(alloc, rows)?;
+    let mut held = copied_rows(alloc, rows)?;
     if are_picked(alloc, &mut held, &values, shown)? {
         Ok(Some(Elim::Point(values)))
     } else {
         Ok(None)
     }
-}
-
-/// Equal rows.
-fn copied(alloc: Global, rows: &[Row]) -> Result<Vec<Row>, AllocError>
-    ensures value { IfOk result (λ copies. copies.items ≡ rows.now) }
-    ensures valid { OnOk result (AllByRecursion IsRow rows.now) }
-{
-    let mut copies = Vec::with_capacity(alloc, rows.len())?;
-    for row in rows {
-        copies.push(row.copy()?)?;
-    }
-    Ok(copies)
 }
 
 /// Whether each whole value up to the first that is not whole is shown to be nearest 0, and that one to have no whole number beside

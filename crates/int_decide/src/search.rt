@@ -2,12 +2,12 @@
 
 ghost use Rattle.std.specs.Prelude.{◌≡◌, ◌<◌, ◌^◌, ◌++◌, ◌∷◌, [], IfOk, OnOk, suc, false, MatchBool, MatchOption, length, map, replicate};
 ghost use Rattle.lin_rows.specs.Negating.{below_opposite};
+ghost use Rattle.lin_rows.specs.Rows.{RowsBelow};
 ghost use Rattle.lin_rows.specs.Tightening.{tightened};
 ghost use Rattle.math_facts.specs.Fits.{Fits};
 ghost use Rattle.farkas_check.specs.Refutes.{goal_of};
 ghost use Rattle.farkas_check.specs.Walks.{goal_at_hand};
 ghost use Rattle.fm_elim.specs.Answers.{Exactly};
-ghost use Rattle.fm_elim.specs.Worth.{ColumnsBelow};
 ghost use Rattle.int_decide.specs.Searching.{Task, Standing, goal_extent, StepFits, IsWholePoint, IsMet};
 
 use crate::picking::picked_outcome;
@@ -85,7 +85,7 @@ impl<'a> Search<'a> {
         left: u32,
     ) -> Result<Option<Vec<i128>>, ElimFault>
         requires paired { IsPaired self.old }
-        requires below { ColumnsBelow columns (goal_at_hand self.old.walk).rows }
+        requires below { RowsBelow columns (goal_at_hand self.old.walk).rows }
         requires numbered { goal_extent (goal_at_hand self.old.walk) < 2 ^ 32 }
         ensures { Exactly result (λ o. MatchOption o
             (Goes columns (record { left = left; goal = goal_at_hand self.old.walk }) self.old self.new)
@@ -112,7 +112,7 @@ impl<'a> Search<'a> {
         left: u32,
     ) -> Result<Step, AllocError>
         requires paired { IsPaired self.old }
-        requires below { ColumnsBelow columns (goal_at_hand self.old.walk).rows }
+        requires below { RowsBelow columns (goal_at_hand self.old.walk).rows }
         requires tight { map tightened (goal_at_hand self.old.walk).rows ≡ (goal_at_hand self.old.walk).rows }
         requires numbered { goal_extent (goal_at_hand self.old.walk) < 2 ^ 32 }
         ensures { IfOk result

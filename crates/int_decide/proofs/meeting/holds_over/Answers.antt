@@ -2,7 +2,7 @@ use Rattle.std.proofs.Common.{rules, ℕ, to_z, FitsSigned, sym, ap}
 use Rattle.std.specs.Int.{w128}
 use Rattle.std.proofs.lemmas.Int.{to_z-of_z}
 use Rattle.std.proofs.lemmas.Bool.{eqb-true}
-use Rattle.int_decide.specs.Worth.{point_of}
+use Rattle.lin_rows.specs.Points.{point_of}
 use Rattle.int_decide.proofs.ShownValues.{le_holds, eq_holds}
 use Rattle.int_decide.proofs.meeting.holds_over.Goals as goal
 
@@ -12,7 +12,7 @@ returns-in-Le c =
     let g : FitsSigned w128 c.in-Some-Some.bound = search rules in
     let h : FitsSigned w128 c.bound.result = search rules in
     let d : FitsSigned w128 c.args.denominator = c.ranges.denominator in
-    let s = rw c.terms.ensures.value at c.in-Some-Some.ensures in
+    let s = rw c.terms.ensures.value at c.in-Some-Some.ensures.1 in
     let b = rw c.bound.ensures at (simp to_z-of_z at c.in-Some-Some.ensures'.1) in
     λ t. le_holds c.args.row.now (point_of c.args.numerators.now) c.args.denominator c.in-Some-Some.sum c.in-Some-Some.bound s b (sym c.in-Le.ensures) (simp to_z-of_z at t)
 
@@ -22,7 +22,7 @@ returns-in-Eq c =
     let g : FitsSigned w128 c.in-Some-Some.bound = search rules in
     let h : FitsSigned w128 c.bound.result = search rules in
     let d : FitsSigned w128 c.args.denominator = c.ranges.denominator in
-    let s = rw c.terms.ensures.value at c.in-Some-Some.ensures in
+    let s = rw c.terms.ensures.value at c.in-Some-Some.ensures.1 in
     let b = rw c.bound.ensures at (simp to_z-of_z at c.in-Some-Some.ensures'.1) in
     λ t. eq_holds c.args.row.now (point_of c.args.numerators.now) c.args.denominator c.in-Some-Some.sum c.in-Some-Some.bound s b (sym c.in-Eq.ensures)
     (simp to_z-of_z at (ap (λ (n : ℕ). to_z w128 n) (eqb-true _ _ t)))

@@ -1,4 +1,6 @@
-use Rattle.std.proofs.Common.{rules}
+use Rattle.std.proofs.Common.{rules, subst}
+use Rattle.std.specs.List.{AllByRecursion}
+use Rattle.lin_rows.specs.Rows.{IsRow}
 use Rattle.fm_elim.specs.Slices.{IsPoint}
 use Rattle.int_decide.specs.Picking.{ArePicked}
 use Rattle.int_decide.proofs.PickedValues.{point_stands}
@@ -8,4 +10,4 @@ pub returns-then-branch : goal.returns-then-branch
 returns-then-branch c =
     let p : IsPoint c.args.columns c.args.rows.now c.args.values.items = search rules in
     let a : ArePicked c.args.rows.now 0 c.args.values.items = search rules in
-    point_stands c.args.columns c.args.rows.now c.args.values.items c.in_ok-held.ensures.valid c.requires.below c.requires.tight p a
+    point_stands c.args.columns c.args.rows.now c.args.values.items (subst (AllByRecursion IsRow) c.in_ok-held.ensures.value c.in_ok-held.ensures.valid) c.requires.below c.requires.tight p a

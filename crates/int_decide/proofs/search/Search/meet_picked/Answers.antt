@@ -1,9 +1,8 @@
 use Rattle.std.proofs.Common.{◌≡◌, List, map, sym, ap, ◌∙◌, subst}
-use Rattle.lin_rows.specs.Rows.{LinearRow}
+use Rattle.lin_rows.specs.Rows.{LinearRow, RowsBelow}
 use Rattle.lin_rows.specs.Tightening.{tightened}
 use Rattle.farkas_check.specs.Walks.{goal_at_hand}
 use Rattle.farkas_check.specs.Refutes.{Goal}
-use Rattle.fm_elim.specs.Worth.{ColumnsBelow}
 use Rattle.int_decide.specs.Searching.{OpensNone}
 use Rattle.int_decide.proofs.SearchSteps.{opens_goes_on}
 use Rattle.int_decide.proofs.search.Search.meet_picked.Goals as goal
@@ -21,7 +20,7 @@ rows_of c =
     c.rows.ensures ∙ ap (λ (g : Goal). g.rows) h.same_goal
 
 pub picked_outcome-requires-clause-below : goal.picked_outcome-requires-clause-below
-picked_outcome-requires-clause-below c = subst (λ (rs : List LinearRow). ColumnsBelow c.args.columns rs) (sym (rows_of c)) c.requires.below
+picked_outcome-requires-clause-below c = subst (λ (rs : List LinearRow). RowsBelow c.args.columns rs) (sym (rows_of c)) c.requires.below
 
 pub picked_outcome-requires-clause-tight : goal.picked_outcome-requires-clause-tight
 picked_outcome-requires-clause-tight c = subst (λ (rs : List LinearRow). map tightened rs ≡ rs) (sym (rows_of c)) c.requires.tight

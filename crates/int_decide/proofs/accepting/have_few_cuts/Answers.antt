@@ -2,7 +2,7 @@ use Rattle.std.proofs.Common.{◌≡◌, ◌<◌, ◌∙◌, sym, None, Some, re
 use Rattle.farkas_check.specs.Nodes.{plain, plain_nodes}
 use Rattle.int_decide.specs.CutCounts.{after_node, have_few_cuts}
 use Rattle.int_decide.proofs.CutLaws.{few_stop, few_go}
-use Rattle.int_decide.proofs.proposing.have_few_cuts.Goals as goal
+use Rattle.int_decide.proofs.accepting.have_few_cuts.Goals as goal
 
 pub returns-then-not-passes : goal.returns-then-not-passes
 returns-then-not-passes c =

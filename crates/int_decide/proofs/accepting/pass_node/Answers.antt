@@ -1,7 +1,7 @@
 use Rattle.int_decide.proofs.CutLaws.{pass_cases}
 use Rattle.std.proofs.Common.{ℕ, suc, ◌≡◌, ◌-◌, List, [], ◌∷◌, ◌++◌, ap, ◌∙◌, arith}
 use Rattle.int_decide.proofs.CutSteps.{pass_leaf, pass_cut}
-use Rattle.int_decide.proofs.proposing.pass_node.Goals as goal
+use Rattle.int_decide.proofs.accepting.pass_node.Goals as goal
 
 pub returns-in_ok-push_copies-in-Cases : goal.returns-in_ok-push_copies-in-Cases
 returns-in_ok-push_copies-in-Cases c =
