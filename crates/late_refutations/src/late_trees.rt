@@ -3,10 +3,10 @@
 ghost use Rattle.std.specs.Prelude.{IfOk};
 ghost use Rattle.int_decide.specs.Answers.{RefutesWithin};
 
-use crate::accepting::accepted;
 use crate::orders::Order;
 use crate::shrinking::shrunk;
 use farkas_check::{Node, Refutation};
+use int_decide::accepted;
 use lin_rows::{Row, System, tighten};
 use std::alloc::{AllocError, Global};
 

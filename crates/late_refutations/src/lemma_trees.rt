@@ -3,13 +3,13 @@
 ghost use Rattle.std.specs.Prelude.{IfOk};
 ghost use Rattle.int_decide.specs.Answers.{RefutesWithin};
 
-use crate::accepting::accepted;
 use crate::chains::chained;
 use crate::late_trees::{WORK, late, tight_rows};
 use crate::orders::Order;
 use crate::searching::{Lemma, Search};
 use crate::shrinking::shrunk;
 use farkas_check::{Node, Refutation};
+use int_decide::accepted;
 use lin_rows::{Col, Row, System};
 use std::alloc::{AllocError, Global};
 

@@ -2,7 +2,6 @@
 //! ones are proposals, which are checked before they are taken.
 #![tactic(auto)]
 
-mod accepting;
 mod bounds;
 mod chains;
 mod dropping;

@@ -150,17 +150,10 @@ fn divide(multipliers: &mut [i128]) {
     let Ok(divisor) = i128::try_from(divisor) else {
         return;
     };
-    for multiplier in multipliers {
-        *multiplier = quotient(*multiplier, divisor);
-    }
-}
-
-/// The number divided by a positive one.
-fn quotient(number: i128, positive: i128) -> i128 {
-    if positive > 1 {
-        number / positive
-    } else {
-        number
+    if divisor > 1 {
+        for multiplier in multipliers {
+            *multiplier /= divisor;
+        }
     }
 }
 
