@@ -1,5 +1,5 @@
 -- Decide of difference rows has no gap.
-use Rattle.std.proofs.Common.{◌≡◌, inl, inr, ℕ, zero, suc, ◌≤◌, ◌%◌, ℤ, pos, negsuc, List, [], ◌∷◌, ◌++◌, map, None, refl, sym, ap, ◌∙◌, subst, arith}
+use Rattle.std.proofs.Common.{◌≡◌, inl, inr, ℕ, zero, suc, ◌≤◌, ◌%◌, ℤ, pos, List, [], ◌∷◌, ◌++◌, map, None, refl, sym, ap, ◌∙◌, subst, arith}
 use Rattle.std.specs.Prelude.{unsigned_abs}
 use Rattle.std.specs.Int.{int_div_euclid}
 use Rattle.std.specs.List.{AllByRecursion}
@@ -9,11 +9,10 @@ use Rattle.math_facts.proofs.Whole.{product_one_left}
 use Rattle.frac.specs.Fractions.{Fraction}
 use Rattle.lin_rows.specs.declared.types.RowKind.{RowKind}
 use Rattle.lin_rows.specs.declared.types.RowKind.TheVariants.{Le, Eq}
-use Rattle.lin_rows.specs.Rows.{LinearRow, IsRow}
+use Rattle.lin_rows.specs.Rows.{LinearRow, IsRow, RowsBelow}
 use Rattle.lin_rows.specs.Tightening.{tightened, content, divided, divided_row}
 use Rattle.lin_rows.proofs.TighteningLaw.{content_below, tightened_as}
 use Rattle.fm_elim.specs.Elimination as outcome
-use Rattle.fm_elim.specs.Worth.{ColumnsBelow}
 use Rattle.fm_elim.specs.Slices.{IsPickedOutcome}
 use Rattle.farkas_check.specs.Nodes.{cut}
 use Rattle.farkas_check.specs.Refutes.{at_most, above}
@@ -92,8 +91,8 @@ of_rows n (suc depth) rows p a e =
     (λ c k. under (cut c k) (beside (decide_rows n depth (rows ++ at_most c k ∷ [])) (decide_rows n depth (rows ++ above c k ∷ [])))) n rows (outcome.elimination n rows) a
     (subst (λ (xs : List LinearRow). IsPickedOutcome n xs (outcome.elimination n rows)) (stay rows a) p) e
 
-pub differences_decided : ((n : ℕ) (rows : List LinearRow) → AllByRecursion IsRow rows → ColumnsBelow n rows → PickedAt n rows) →
-    (n depth : ℕ) (rows : List LinearRow) → AllByRecursion IsRow rows → ColumnsBelow n rows → AllByRecursion IsDifference rows →
+pub differences_decided : ((n : ℕ) (rows : List LinearRow) → AllByRecursion IsRow rows → RowsBelow n rows → PickedAt n rows) →
+    (n depth : ℕ) (rows : List LinearRow) → AllByRecursion IsRow rows → RowsBelow n rows → AllByRecursion IsDifference rows →
     decide_rows n depth (map tightened rows) ≡ gap → ⊥
 differences_decided law n depth rows v b a e =
     of_rows n depth rows (law n rows v b) a (ap (decide_rows n depth) (sym (stay rows a)) ∙ e)

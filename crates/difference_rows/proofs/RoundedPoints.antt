@@ -1,17 +1,16 @@
 -- A rational point of difference rows, each value rounded down, is a point of them again; so the picked one is whole.
-use Rattle.std.proofs.Common.{◌≡◌, inl, inr, ℕ, zero, suc, ℤ, pos, ◌+ℤ◌, ◌*ℤ◌, ◌<ℤ◌, List, [], ◌∷◌, ◌++◌, length, map, refl, sym, ap, ◌∙◌, subst, append_assoc, arith}
-use Rattle.std.specs.Int.{int_div_euclid}
+use Rattle.std.proofs.Common.{◌≡◌, ℕ, zero, suc, ℤ, pos, ◌<ℤ◌, List, [], ◌∷◌, ◌++◌, map, refl, sym, ap, ◌∙◌, subst, append_assoc, arith}
 use Rattle.std.specs.List.{AllByRecursion}
 use Rattle.std.proofs.lemmas.Int.{ints}
 use Rattle.std.proofs.lemmas.List.{length-map}
 use Rattle.math_facts.proofs.Division.{multiple_floor}
-use Rattle.math_facts.proofs.Whole.{product_one_left, product_one_right}
+use Rattle.math_facts.proofs.Whole.{product_one_left}
 use Rattle.frac.specs.Fractions.{Fraction, IsLowest, IsRatio}
 use Rattle.lin_rows.specs.Rows.{LinearRow}
 use Rattle.fm_elim.specs.Quotients.{whole, floor}
 use Rattle.fm_elim.specs.Values.{value_at}
-use Rattle.fm_elim.specs.Worth.{HoldsAt, MeetsAll}
-use Rattle.fm_elim.specs.Slices.{IsPick, InSlice, IsPicked, IsPoint}
+use Rattle.fm_elim.specs.Worth.{HoldsAt}
+use Rattle.fm_elim.specs.Slices.{InSlice, IsPicked, IsPoint}
 use Rattle.fm_elim.proofs.Slicing.{whole_lowest}
 use Rattle.difference_rows.specs.Differences.{IsDifference}
 use Rattle.difference_rows.proofs.Rounding.{IsRounded, floor_rounds, rounded_holds}
