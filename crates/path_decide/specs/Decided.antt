@@ -1,5 +1,5 @@
 -- What Decide says of the rows of a word, and when its numbers fit.
-use Rattle.std.specs.Prelude.{◌≡◌, ℕ, ℤ, List, [], ◌∷◌, length, map}
+use Rattle.std.specs.Prelude.{◌≡◌, ℕ, ℤ, List, [], ◌∷◌, length, map, Result, Ok, Err}
 use Rattle.std.specs.List.{AllByRecursion}
 use Rattle.math_facts.specs.Fits.{Fits}
 use Rattle.lin_rows.specs.Rows.{LinearRow, Holds}
@@ -7,6 +7,10 @@ use Rattle.lin_rows.specs.Points.{point_of}
 use Rattle.lin_rows.specs.Tightening.{tightened}
 use Rattle.farkas_check.specs.Nodes.{PlainNode}
 use Rattle.farkas_check.specs.Refutes.{Goal, Refute}
+use Rattle.int_decide.specs.declared.types.Answer.{Answer}
+use Rattle.int_decide.specs.declared.types.Answer.TheVariants.{Refuted, Whole}
+use Rattle.int_decide.specs.declared.types.DecideFault.{DecideFault}
+use Rattle.int_decide.specs.declared.types.DecideFault.TheVariants.{Gap, Past, Memory}
 use Rattle.int_decide.specs.Decisions.{Decision, refuted, whole, gap, WhereRefuted}
 use Rattle.int_decide.specs.Decide.{decide_rows}
 use Rattle.int_decide.specs.Numbers.{RowsFit, LeavesFit}
@@ -15,8 +19,6 @@ use Rattle.difference_rows.specs.Differences.{IsDifference}
 use Rattle.nwa_base.specs.declared.letters.Letter.{Letter}
 use Rattle.letter_acts.specs.Invariant.{Graph}
 use Rattle.path_rows.specs.Paths.{path_of}
-use Rattle.path_decide.specs.declared.deciding.Finding.{Finding}
-use Rattle.path_decide.specs.declared.deciding.Finding.TheVariants.{Refuted, Whole, Gap, Past}
 
 -- the rows of a word, as Decide and refutations take them
 abbrev pub tight_rows : Graph → List Letter → List LinearRow
@@ -64,17 +66,17 @@ pub record IsRowsRefutation (d : ℕ) (rows : List LinearRow) (nodes : List Plai
   pub refutes : Refute nodes (goal_of_rows rows ∷ [])
   pub tree : IsTreeOf d nodes
 
--- What may be found of a word: a refutation of its rows, not necessarily Decide's own; Decide's whole point; that Decide has neither; or that a
--- number of Decide does not fit.
-abbrev pub IsFinding : Graph → ℕ → List Letter → Finding → Type 0
-IsFinding g d w (Refuted nodes) = IsRefutation g d w nodes
-IsFinding g d w (Whole values) = IsWholePoint g d w values.items
-IsFinding g d w Gap = IsGap g d w
-IsFinding g d w Past = PathFits g d w → ⊥
+-- What may be answered of a word: a refutation of its rows, not necessarily Decide's own; Decide's whole point; that Decide has neither; that a
+-- number of Decide does not fit; or that memory ran out.
+abbrev pub IsAnswer : Graph → ℕ → List Letter → Result Answer DecideFault → Type 0
+IsAnswer g d w (Ok (Refuted nodes)) = IsRefutation g d w nodes
+IsAnswer g d w (Ok (Whole values)) = IsWholePoint g d w values.items
+IsAnswer g d w (Err Gap) = IsGap g d w
+IsAnswer g d w (Err Past) = PathFits g d w → ⊥
+IsAnswer g d w (Err Memory) = Unit {0}
 
--- What is found of a word by Decide itself: its own refutation, its whole point, or that it has neither; or that one of its numbers does not fit.
-abbrev pub IsPlainFinding : Graph → ℕ → List Letter → Finding → Type 0
-IsPlainFinding g d w (Refuted nodes) = (path_decision g d w ≡ refuted nodes) × IsRefutation g d w nodes
-IsPlainFinding g d w (Whole values) = IsWholePoint g d w values.items
-IsPlainFinding g d w Gap = IsGap g d w
-IsPlainFinding g d w Past = PathFits g d w → ⊥
+-- a refutation that is answered is Decide's own
+abbrev pub IsOwn : Graph → ℕ → List Letter → Result Answer DecideFault → Type 0
+IsOwn g d w (Ok (Refuted nodes)) = path_decision g d w ≡ refuted nodes
+IsOwn g d w (Ok (Whole values)) = Unit {0}
+IsOwn g d w (Err fault) = Unit {0}

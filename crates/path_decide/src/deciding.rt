@@ -1,14 +1,13 @@
 //! Decide of the rows of a word.
 
-ghost use Rattle.std.specs.Prelude.{◌≡◌, ◌+◌, ◌<◌, ◌^◌, IfOk, IfSome, Some};
+ghost use Rattle.std.specs.Prelude.{◌≡◌, ◌+◌, ◌<◌, ◌^◌, IfOk, IfSome, IsTrue};
 ghost use Rattle.std.specs.List.{AllByRecursion};
 ghost use Rattle.lin_rows.specs.Rows.{IsRow};
 ghost use Rattle.lin_rows.specs.Systems.{rows_of};
 ghost use Rattle.letter_acts.specs.Invariant.{Graph};
 ghost use Rattle.int_decide.specs.Sizes.{extent, SystemBelow};
 ghost use Rattle.path_rows.specs.Paths.{IsPathOf};
-ghost use Rattle.path_decide.specs.Decided.{IsFinding, IsPlainFinding, IsRowsRefutation};
-ghost use Rattle.path_decide.specs.Found.{finding_of};
+ghost use Rattle.path_decide.specs.Decided.{IsAnswer, IsOwn, IsRowsRefutation};
 
 use crate::calls::returned_calls;
 use difference_rows::laws::differences_are_decided;
@@ -19,44 +18,48 @@ use lin_rows::System;
 use path_rows::PathSystem;
 use std::alloc::{AllocError, Global};
 
-/// What is found out about the rows of a word.
-#[derive(Drop)]
-pub enum Finding {
-    /// The word is not feasible: the tree refutes its rows.
-    Refuted(Refutation),
-    /// The word is feasible: this point meets its rows, a value for each column.
-    Whole(Vec<i128>),
-    /// Decide finds neither.
-    Gap,
-    /// A number of Decide does not fit.
-    Past,
-}
-
-/// Decide of the rows of a word, with at most `depth` cuts on a branch of a refutation, which need not be Decide's own.
-/// A word of 2^32 columns, or of so many rows and cuts, is want of memory.
-pub fn decide_path(alloc: Global, path: &PathSystem, depth: u32) -> Result<Finding, AllocError>
-    ensures { (g : Graph) → IsPathOf g path.now → IfOk result (IsFinding g depth path.now.word) }
+/// Decide of the rows of a word, with at most `depth` cuts on a branch of a refutation, which need not be Decide's own: it refutes
+/// the rows, so the word is not feasible; or a point, a value for each column, meets them, so it is.
+///
+/// # Errors
+///
+/// `Gap` comes only where Decide finds neither, `Past` only where a number of Decide does not fit. A word of 2^32 columns, or of so
+/// many rows and cuts, is want of memory.
+pub fn decide_path(alloc: Global, path: &PathSystem, depth: u32) -> Result<Answer, DecideFault>
+    ensures { (g : Graph) → IsPathOf g path.now → IsAnswer g depth path.now.word result }
 {
-    let system = path.system();
-    know_rows(system);
-    differences_are_decided();
-    let Some(columns) = measured(system, path.column_at().len(), depth) else {
-        return Err(AllocError);
-    };
-    found(decide(alloc, system, columns, depth))
+    decided(alloc, path, depth, false)
 }
 
 /// The same by Decide itself, whose refutation is its own.
-pub fn plain_path(alloc: Global, path: &PathSystem, depth: u32) -> Result<Finding, AllocError>
-    ensures { (g : Graph) → IsPathOf g path.now → IfOk result (IsPlainFinding g depth path.now.word) }
+pub fn plain_path(alloc: Global, path: &PathSystem, depth: u32) -> Result<Answer, DecideFault>
+    ensures answer { (g : Graph) → IsPathOf g path.now → IsAnswer g depth path.now.word result }
+    ensures own { (g : Graph) → IsPathOf g path.now → IsOwn g depth path.now.word result }
+{
+    decided(alloc, path, depth, true)
+}
+
+/// Decide of the rows of a word, whose refutation is Decide's own where it is to be.
+fn decided(
+    alloc: Global,
+    path: &PathSystem,
+    depth: u32,
+    is_own: bool,
+) -> Result<Answer, DecideFault>
+    ensures answer { (g : Graph) → IsPathOf g path.now → IsAnswer g depth path.now.word result }
+    ensures own { IsTrue is_own → (g : Graph) → IsPathOf g path.now → IsOwn g depth path.now.word result }
 {
     let system = path.system();
     know_rows(system);
     differences_are_decided();
     let Some(columns) = measured(system, path.column_at().len(), depth) else {
-        return Err(AllocError);
+        return Err(DecideFault::Memory);
     };
-    found(plain(alloc, system, columns, depth))
+    if is_own {
+        plain(alloc, system, columns, depth)
+    } else {
+        decide(alloc, system, columns, depth)
+    }
 }
 
 /// A refutation of the rows of a word by late ones, with at most `depth` cuts on a branch, from another; or that one again.
@@ -116,18 +119,5 @@ fn know_rows(system: &System)
 {
     for row in &system.rows {
         let _terms = row.terms();
-    }
-}
-
-/// What is found of a word by an answer of Decide.
-fn found(answer: Result<Answer, DecideFault>) -> Result<Finding, AllocError>
-    ensures { IfOk result (λ f. finding_of answer ≡ Some f) }
-{
-    match answer {
-        Ok(Answer::Refuted(tree)) => Ok(Finding::Refuted(tree)),
-        Ok(Answer::Whole(values)) => Ok(Finding::Whole(values)),
-        Err(DecideFault::Gap) => Ok(Finding::Gap),
-        Err(DecideFault::Past) => Ok(Finding::Past),
-        Err(DecideFault::Memory) => Err(AllocError),
     }
 }

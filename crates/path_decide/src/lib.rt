@@ -4,4 +4,4 @@
 mod calls;
 mod deciding;
 
-pub use deciding::{Finding, decide_path, late_path, lemma_path, plain_path};
+pub use deciding::{decide_path, late_path, lemma_path, plain_path};
