@@ -1,7 +1,7 @@
 //! The calls of `fm_elim`, `simplex_rows`, `int_decide` and `late_refutations`.
 
 ghost use Rattle.std.specs.Prelude.{◌+◌, ◌<◌, ◌^◌, IsTrue};
-ghost use Rattle.fm_elim.specs.Worth.{ColumnsBelow};
+ghost use Rattle.lin_rows.specs.Rows.{RowsBelow};
 ghost use Rattle.int_decide.specs.Sizes.{SystemBelow, extent};
 
 use crate::calls::Call;
@@ -28,7 +28,7 @@ pub(crate) fn show_of_rows(rt: &HostRuntime, rows: &[Row], call: &Call<'_>) {
 
 /// Whether all columns of the rows are below the number given.
 fn all_below(rows: &[Row], columns: u32) -> bool
-    ensures { IsTrue result → ColumnsBelow columns rows.now }
+    ensures { IsTrue result → RowsBelow columns rows.now }
 {
     for row in rows {
         if !are_below(row.terms(), columns as usize) {
