@@ -2,11 +2,11 @@
 
 ghost use Rattle.std.specs.Prelude.{◌≡◌, ◌≤◌, ◌^◌, IfOk, filter, length};
 ghost use Rattle.letter_acts.specs.Frames.{places};
-ghost use Rattle.letter_acts.specs.Invariant.{type_at};
 ghost use Rattle.frame_rows.specs.Rows.{types_of, types_at};
 ghost use Rattle.frame_rows.specs.Frames.{is_of};
 
 use boogie_tree::{Column, Ty, VarInfo};
+use letter_acts::type_at;
 use std::alloc::{AllocError, Global};
 
 /// What a column of a frame may be.
@@ -83,16 +83,6 @@ pub fn types_of(alloc: Global, frame: &[(Column, VarInfo)]) -> Result<Vec<Option
     ensures { IfOk result (λ v. v.items ≡ types_of frame.now) }
 {
     frame.iter().map(|column| Some(column.1.ty)).collect(alloc)
-}
-
-/// The type of a column, if it exists.
-fn type_at(frame: &[(Column, VarInfo)], column: u32) -> Option<Ty>
-    ensures { result ≡ type_at frame.now column }
-{
-    match frame.get(column as usize) {
-        Some(found) => Some(found.1.ty),
-        None => None,
-    }
 }
 
 /// The types of these columns.
