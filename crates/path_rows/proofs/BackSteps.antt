@@ -20,9 +20,6 @@ pub fits_last : (al : Alphabet) (targets : List ℕ) (o : Option PlainAct) (exit
     FitsBefore al targets o exit (innermost_first old) → BackFitsFrom al targets o exit before.items
 fits_last al targets o exit old saved before e h = subst (FitsBefore al targets o exit) (saved_pushed saved old before e) h
 
-pub none_fits : (al : Alphabet) (targets : List ℕ) (o : Option PlainAct) (exit : List ℕ) (old : List (Vec ℕ)) → old ≡ [] → FitsBefore al targets o exit (innermost_first old) → ⊥
-none_fits al targets o exit old e h = subst (λ (l : List (Vec ℕ)). FitsBefore al targets o exit (innermost_first l)) e h
-
 -- what the return makes
 back_makes : (al : Alphabet) (targets : List ℕ) (o : Option PlainAct) (made : ℕ) (here before : List ℕ) (rest : List (List ℕ)) → BackFitsFrom al targets o here before →
     no_rows (record { made = made; here = returned_from al targets o here before; saved = rest }) ≡ return_part al targets o (record { made = made; here = here; saved = before ∷ rest })

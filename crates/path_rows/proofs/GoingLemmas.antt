@@ -323,10 +323,6 @@ letter_within g k a p h = (let e = acts_of g (kept_graph g k) a p h in some_at g
     some_at (y ∷ ys) zero x e = omega arith
     some_at (y ∷ ys) (suc i) x e = let k = some_at ys i x e in omega (arith, k)
 
-pub inside_exists : (g : Graph) → Keeps g → (a : Letter) (p : Stage) (q : ℕ) (written : List ℕ) (helpers : ℕ) (rows : List LinearRow) → GoesOnBy g a p →
-    slice_get g.acts a.id ≡ Some (inside_act q written helpers rows) → q < length g.frames
-inside_exists g k a p q written helpers rows h e = (inside_goes g (kept_graph g k) a p q written helpers rows h e).exists
-
 pub inside_asks : (g : Graph) → Keeps g → (a : Letter) (p : Stage) (q : ℕ) (written : List ℕ) (helpers : ℕ) (rows : List LinearRow) (ws : List ℕ) (rs : List LinearRow) → GoesOnBy g a p →
     slice_get g.acts a.id ≡ Some (inside_act q written helpers rows) → ws ≡ written → rs ≡ rows → InsideFits ws helpers rs p.made p.here
 inside_asks g k a p q written helpers rows ws rs h e f i =
@@ -340,10 +336,6 @@ inside_gives g k a p q written helpers rows frame ws rs h e j f i =
     ap (λ (l : Columns). inside_part l ws helpers rs p) j ∙ ap (λ (l : List ℕ). inside_part (frame_of (alphabet_of g) q) l helpers rs p) f ∙
     ap (λ (l : List LinearRow). inside_part (frame_of (alphabet_of g) q) written helpers l p) i ∙
     sym (inside_goes g (kept_graph g k) a p q written helpers rows h e).is
-
-pub call_exists : (g : Graph) → Keeps g → (a : Letter) (p : Stage) (caller callee helpers : ℕ) (rows : List LinearRow) → GoesOnBy g a p →
-    slice_get g.acts a.id ≡ Some (call_act caller callee helpers rows) → callee < length g.frames
-call_exists g k a p caller callee helpers rows h e = (call_goes g (kept_graph g k) a p caller callee helpers rows h e).exists
 
 pub call_asks : (g : Graph) → Keeps g → (a : Letter) (p : Stage) (caller callee helpers : ℕ) (rows : List LinearRow) (frame : Columns) (rs : List LinearRow) → GoesOnBy g a p →
     slice_get g.acts a.id ≡ Some (call_act caller callee helpers rows) → frame ≡ frame_of (alphabet_of g) callee → rs ≡ rows → CallFits frame helpers rs p.made p.here

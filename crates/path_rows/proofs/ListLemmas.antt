@@ -15,10 +15,6 @@ all_joined P (x ∷ xs) ys =
     let r = all_joined P xs ys in
     (λ h. ((h.0, (r.0 h.1).0), (r.0 h.1).1), λ h. (h.0.0, r.1 (h.0.1, h.1)))
 
-pub all_same : {X : Type 0} (P Q : X → Type 0) → ((x : X) → P x ↔ Q x) → (xs : List X) → AllByRecursion P xs ↔ AllByRecursion Q xs
-all_same P Q f [] = (λ h. tt, λ h. tt)
-all_same P Q f (x ∷ xs) = let r = all_same P Q f xs in (λ h. ((f x).0 h.0, r.0 h.1), λ h. ((f x).1 h.0, r.1 h.1))
-
 -- what follows member by member from two facts
 pub all_from : {X : Type 0} (W P Q : X → Type 0) → ((x : X) → W x → P x → Q x) → (xs : List X) → AllByRecursion W xs → AllByRecursion P xs → AllByRecursion Q xs
 all_from W P Q f [] w h = tt

@@ -2,7 +2,6 @@
 use Rattle.std.proofs.Common.{◌≡◌, ◌∙◌, ℕ, zero, suc, ◌+◌, ◌<◌, ◌≤◌, List, [], ◌∷◌, ◌++◌, length, take, drop, get_or, append_assoc, refl, sym, ap, arith}
 use Rattle.std.specs.Prelude.{map, reverse, slice_set}
 use Rattle.std.specs.Global.{Vec}
-use Rattle.std.specs.List.{AllByRecursion}
 use Rattle.std.proofs.lemmas.List.{take_more, drop_more, length-take-le, map-append, reverse-append}
 use Rattle.lin_rows.specs.Rows.{LinearRow}
 use Rattle.frame_rows.specs.Rows.{equal_row}
@@ -49,19 +48,14 @@ written_short start now cs news i l h = sym (ap (λ (ys : List ℕ). written_ove
 pub written_ends : (start now cs news : List ℕ) (i : ℕ) → length cs ≤ i → written_over now (drop i cs) (drop i news) ≡ written_over start cs news → now ≡ written_over start cs news
 written_ends start now cs news i l h = sym (ap (λ (ys : List ℕ). written_over now ys (drop i news)) (dropped_all cs i l)) ∙ h
 
-pub number_within : (n : ℕ) (xs : List ℕ) (i : ℕ) → i < length xs → AllByRecursion (λ c. c < n) xs → get_or xs i 0 < n
-number_within n [] i l w = absurd (omega arith)
-number_within n (x ∷ xs) zero l w = w.0
-number_within n (x ∷ xs) (suc i) l w = number_within n xs i (omega arith) w.1
-
-repeated_more : (n k : ℕ) → repeated n (suc k) ≡ repeated n k ++ n ∷ []
+repeated_more : {X : Type 0} (n : X) (k : ℕ) → repeated n (suc k) ≡ repeated n k ++ n ∷ []
 repeated_more n zero = refl
-repeated_more n (suc k) = ap (λ (l : List ℕ). n ∷ l) (repeated_more n k)
+repeated_more {X} n (suc k) = ap (λ (l : List X). n ∷ l) (repeated_more n k)
 
-pub repeated_next : (n i : ℕ) (old now new : List ℕ) → now ≡ old ++ repeated n i → new ≡ now ++ n ∷ [] → new ≡ old ++ repeated n (i + 1)
-repeated_next n i old now new e h =
-    h ∙ ap (λ (xs : List ℕ). xs ++ n ∷ []) e ∙ append_assoc old (repeated n i) (n ∷ []) ∙
-    ap (λ (xs : List ℕ). old ++ xs) (sym (ap (repeated n) (let k : i + 1 ≡ suc i = omega arith in k) ∙ repeated_more n i))
+pub repeated_next : {X : Type 0} (n : X) (i : ℕ) (old now new : List X) → now ≡ old ++ repeated n i → new ≡ now ++ n ∷ [] → new ≡ old ++ repeated n (i + 1)
+repeated_next {X} n i old now new e h =
+    h ∙ ap (λ (xs : List X). xs ++ n ∷ []) e ∙ append_assoc old (repeated n i) (n ∷ []) ∙
+    ap (λ (xs : List X). old ++ xs) (sym (ap (repeated n) (let k : i + 1 ≡ suc i = omega arith in k) ∙ repeated_more n i))
 
 pub same_stage : (a b : Stage) → a.made ≡ b.made → a.here ≡ b.here → a.saved ≡ b.saved → a ≡ b
 same_stage a b e f g = λ i. record { made = e i; here = f i; saved = g i }

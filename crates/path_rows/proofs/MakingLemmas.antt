@@ -38,9 +38,6 @@ got_index [] i = refl
 got_index (x ∷ xs) zero = refl
 got_index (x ∷ xs) (suc i) = got_index xs i
 
-pub start_proc_within : (g : Graph) → Keeps g → IsAutomaton g.automaton → get_or g.place_procs g.automaton.start 0 < length g.frames
-start_proc_within g k m = subst (λ (p : ℕ). p < length g.frames) (got_index g.place_procs g.automaton.start) (start_exists g (kept_graph g k) m)
-
 pub start_frame_is : (g : Graph) (frame : Columns) → frame ≡ frame_of (alphabet_of g) (get_or g.place_procs g.automaton.start 0) → frame ≡ start_frame g
 start_frame_is g frame e = e ∙ ap (frame_of (alphabet_of g)) (sym (got_index g.place_procs g.automaton.start))
 

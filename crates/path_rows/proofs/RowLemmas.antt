@@ -1,9 +1,8 @@
 -- Where the rows of a word hold: rows with renamed columns, columns that are equal, and bounds.
-use Rattle.std.proofs.Common.{◌≡◌, ◌↔◌, ◌⊎◌, ℕ, zero, suc, ℤ, ◌+ℤ◌, ◌*ℤ◌, ◌≤ℤ◌, List, [], ◌∷◌, ◌++◌, length, Option, Some, refl, sym, subst, arith}
+use Rattle.std.proofs.Common.{◌≡◌, ◌↔◌, ℕ, zero, suc, ℤ, List, [], ◌∷◌, ◌++◌, length, Option, Some, refl, sym, subst, arith}
 use Rattle.std.specs.Prelude.{map, slice_index, slice_set}
 use Rattle.std.specs.List.{AllByRecursion}
 use Rattle.boogie_tree.specs.declared.tree.Ty.{Ty}
-use Rattle.boogie_tree.specs.declared.tree.Ty.TheVariants as types
 use Rattle.math_facts.specs.Terms.{IsBelow}
 use Rattle.math_facts.proofs.TermLaws.{dot_same_points}
 use Rattle.lin_rows.specs.Rows.{LinearRow, Stands, Holds}

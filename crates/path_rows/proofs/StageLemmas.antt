@@ -347,10 +347,6 @@ call_apart globals caller callee helpers rows p fr fe h j l =
           ])
     ]
 
-pub call_saved : (g : Graph) (places : List ℕ) (globals : List VarInfo) (caller callee : Columns) (helpers : ℕ) (rows : List LinearRow) (p : Stage) → IsFrame globals caller →
-    IsFrame globals callee → AreVersions p.made caller p.here → AreSaved g p.made places p.saved p.here → AreSaved g p.made places p.saved p.here
-call_saved g places globals caller callee helpers rows p fr fe h s = s
-
 -- ---- returns
 
 -- what is known at a return: the versions at the exit are apart from those before the call

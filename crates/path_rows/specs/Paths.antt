@@ -19,7 +19,7 @@ pub record Path : Type 0 where
   pub states : List (List ℕ)
 
 -- so many times n
-abbrev pub repeated : ℕ → ℕ → List ℕ
+abbrev pub repeated : {X : Type 0} → X → ℕ → List X
 repeated n zero = []
 repeated n (suc k) = n ∷ repeated n k
 
@@ -77,7 +77,7 @@ pub record IsPathOf (g : Graph) (p : PlainPath) : Type 0 where
 abbrev pub IsPath : PlainPath → Type 0
 IsPath p = (g : Graph) × IsPathOf g p
 
--- the system of a path has no groups
-pub record IsKept (p : PlainPath) (groups : List (List System)) : Type 0 where
+-- what a `PathSystem` keeps: it is the path of a word over some graph, and its system has no groups
+pub record KeepsPath (p : PlainPath) (groups : List (List System)) : Type 0 where
   pub path : IsPath p
   pub no_groups : groups ≡ []

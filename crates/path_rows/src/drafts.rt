@@ -1,7 +1,6 @@
 //! Paths that are being made, letter by letter.
 
 ghost use Rattle.std.specs.Prelude.{◌≡◌, ◌+◌, ◌<◌, ◌≤◌, ◌^◌, ◌++◌, [], ◌∷◌, Some, IfOk, OnOk, length, map, slice_get};
-ghost use Rattle.letter_acts.specs.Acts.{plain_act, frame_of};
 ghost use Rattle.letter_acts.specs.Invariant.{alphabet_of};
 ghost use Rattle.letter_acts.specs.Kept.{Keeps};
 ghost use Rattle.path_rows.specs.Paths.{repeated};
@@ -9,6 +8,7 @@ ghost use Rattle.path_rows.specs.Stages.{BackFitsFrom, returned_from};
 ghost use Rattle.frame_rows.specs.Rows.{bounds, types_of, columns_from};
 
 use crate::parts::{MOST_COLUMNS, Made, call_part, inside_part};
+use crate::times::add_times;
 use crate::versions::returned;
 use boogie_tree::{Column, VarInfo};
 use frame_rows::{add_columns, bound_rows, types_of};
@@ -32,16 +32,6 @@ pub(crate) struct Draft {
     pub(crate) column_at: Vec<u32>,
     /// The versions at the positions before.
     pub(crate) states: Vec<Vec<Col>>,
-}
-
-/// Adds a number so many times.
-fn add_times(numbers: &mut Vec<u32>, number: u32, count: usize) -> Result<(), AllocError>
-    ensures { OnOk result (numbers.new.items ≡ numbers.old.items ++ repeated number count) }
-{
-    for _i in 0..count {
-        numbers.push(number)?;
-    }
-    Ok(())
 }
 
 impl Draft {
@@ -211,14 +201,14 @@ impl Draft {
         ensures value { OnOk result (Reads (part_of (alphabet_of icfg.now) letter (stage_of self.old)) number self.old self.new) }
         ensures room { OnOk result (self.new.made ≤ 2 ^ 32) }
     {
-        match act_at(icfg, letter.id) {
+        match icfg.act_at(letter.id) {
             Act::Inside {
                 proc,
                 written,
                 helpers,
                 rows,
             } => {
-                let frame = frame_at(icfg, *proc);
+                let frame = icfg.columns(*proc);
                 self.read_inside(alloc, frame, written, *helpers, rows, number)
             }
             Act::Call {
@@ -227,7 +217,7 @@ impl Draft {
                 rows,
                 ..
             } => {
-                let frame = frame_at(icfg, *callee);
+                let frame = icfg.columns(*callee);
                 self.read_call(alloc, frame, *helpers, rows, number)
             }
             Act::Back { call, targets } => { self.read_back(alloc, icfg, *call, targets, number) }
@@ -244,23 +234,6 @@ fn start_rows(alloc: Global, frame: &[(Column, VarInfo)]) -> Result<Vec<Row>, Al
     bound_rows(alloc, 0, &types)
 }
 
-/// The act of a letter.
-fn act_at(icfg: &Icfg, letter: u32) -> &Act
-    requires { letter < length icfg.now.acts }
-    ensures value { slice_get icfg.now.acts letter ≡ Some (plain_act result.now) }
-    ensures valid { Keeps icfg.now }
-{
-    &icfg.acts()[letter as usize]
-}
-
-/// The columns of a procedure.
-pub(crate) fn frame_at(icfg: &Icfg, proc: u32) -> &[(Column, VarInfo)]
-    requires { proc < length icfg.now.frames }
-    ensures { result.now ≡ frame_of (alphabet_of icfg.now) proc }
-{
-    icfg.frames()[proc as usize].columns.as_slice()
-}
-
 /// The versions after a return from a call of this letter.
 fn returned_from(
     alloc: Global,
@@ -273,11 +246,11 @@ fn returned_from(
     requires { BackFitsFrom (alphabet_of icfg.now) targets.now (slice_get icfg.now.acts call) exit.now before.now }
     ensures { IfOk result (λ v. v.items ≡ returned_from (alphabet_of icfg.now) targets.now (slice_get icfg.now.acts call) exit.now before.now) }
 {
-    match act_at(icfg, call) {
+    match icfg.act_at(call) {
         Act::Call { caller, callee, .. } => returned(
             alloc,
-            frame_at(icfg, *caller),
-            frame_at(icfg, *callee),
+            icfg.columns(*caller),
+            icfg.columns(*callee),
             targets,
             exit,
             before,

@@ -8,7 +8,9 @@ mod making;
 mod parts;
 mod paths;
 mod rows;
+mod times;
 mod versions;
 
 pub use making::rows_of;
 pub use paths::PathSystem;
+pub use times::add_times;

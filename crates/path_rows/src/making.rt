@@ -9,7 +9,7 @@ ghost use Rattle.letter_acts.specs.Kept.{Keeps};
 ghost use Rattle.path_rows.specs.Paths.{IsPathOf, path_of, start_frame};
 ghost use Rattle.path_rows.specs.Drafts.{IsDone};
 
-use crate::drafts::{Draft, frame_at};
+use crate::drafts::Draft;
 use crate::paths::PathSystem;
 use boogie_tree::{Column, VarInfo};
 use letter_acts::Icfg;
@@ -42,7 +42,7 @@ fn frame_at_start(icfg: &Icfg) -> &[(Column, VarInfo)]
     let _states = nwa.states();
     let start = nwa.start();
     let procs = icfg.place_procs();
-    frame_at(icfg, procs[start as usize])
+    icfg.columns(procs[start as usize])
 }
 
 /// Reads a word to its end.

@@ -18,19 +18,19 @@ pub struct PathSystem {
 impl Model for PathSystem {
     ghost use Rattle.std.specs.Prelude.{map};
     ghost use Rattle.lin_rows.specs.Systems.{rows_of, groups_of};
-    ghost use Rattle.path_rows.specs.Paths.{PlainPath, IsKept};
+    ghost use Rattle.path_rows.specs.Paths.{PlainPath, KeepsPath};
 
     ghost Value = { PlainPath };
 
     ghost view = { λ p. record { word = p.word; rows = rows_of p.system; row_at = p.row_at.items; column_at = p.column_at.items; states = map (λ v. v.items) p.states.items } };
 
-    ghost invariant = { λ p. IsKept (record { word = p.word; rows = rows_of p.system; row_at = p.row_at.items; column_at = p.column_at.items; states = map (λ v. v.items) p.states.items }) (groups_of p.system) };
+    ghost invariant = { λ p. KeepsPath (record { word = p.word; rows = rows_of p.system; row_at = p.row_at.items; column_at = p.column_at.items; states = map (λ v. v.items) p.states.items }) (groups_of p.system) };
 }
 
 impl PathSystem {
     ghost use Rattle.std.specs.Prelude.{[], map};
     ghost use Rattle.lin_rows.specs.Systems.{rows_of, groups_of};
-    ghost use Rattle.path_rows.specs.Paths.{IsPath, IsKept};
+    ghost use Rattle.path_rows.specs.Paths.{IsPath, KeepsPath};
 
     /// The path of a word.
     pub(crate) fn new(
@@ -40,7 +40,7 @@ impl PathSystem {
         column_at: Vec<u32>,
         states: Vec<Vec<Col>>,
     ) -> Self
-        requires { IsKept (record { word = word; rows = rows_of system; row_at = row_at.items; column_at = column_at.items; states = map (λ v. v.items) states.items }) (groups_of system) }
+        requires { KeepsPath (record { word = word; rows = rows_of system; row_at = row_at.items; column_at = column_at.items; states = map (λ v. v.items) states.items }) (groups_of system) }
         ensures { result ≡ record { word = word; rows = rows_of system; row_at = row_at.items; column_at = column_at.items; states = map (λ v. v.items) states.items } }
     {
         PathSystem {
