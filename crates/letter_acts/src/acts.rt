@@ -1,7 +1,6 @@
 ghost use Rattle.std.specs.Prelude.{◌≡◌, IfOk};
-ghost use Rattle.lin_rows.specs.Rows.{LinearRow};
 
-use lin_rows::Row;
+use lin_rows::{Row, copied_rows};
 use std::alloc::AllocError;
 
 /// What a letter does. Rows number their columns from 0: those of the frames, then those written, then the helpers.
@@ -52,7 +51,7 @@ impl Act {
                 proc: *proc,
                 written: written.clone()?,
                 helpers: *helpers,
-                rows: copied_rows(rows)?,
+                rows: copied_rows(*rows.allocator(), rows)?,
             }),
             Act::Call {
                 caller,
@@ -63,7 +62,7 @@ impl Act {
                 caller: *caller,
                 callee: *callee,
                 helpers: *helpers,
-                rows: copied_rows(rows)?,
+                rows: copied_rows(*rows.allocator(), rows)?,
             }),
             Act::Back { call, targets } => Ok(Act::Back {
                 call: *call,
@@ -71,15 +70,4 @@ impl Act {
             }),
         }
     }
-}
-
-/// Equal rows.
-fn copied_rows(rows: &Vec<Row>) -> Result<Vec<Row>, AllocError>
-    ensures { IfOk result (λ copies. copies.items ≡ rows.now.items) }
-{
-    let mut copies = Vec::with_capacity(*rows.allocator(), rows.len())?;
-    for row in rows {
-        copies.push(row.copy()?)?;
-    }
-    Ok(copies)
 }
