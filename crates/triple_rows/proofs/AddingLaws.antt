@@ -1,18 +1,17 @@
 -- What is added of a predicate, tree by tree.
-use Rattle.std.proofs.Common.{◌≡◌, ◌↔◌, ◌∙◌, ℕ, zero, suc, ◌+◌, ◌<◌, ◌≤◌, Bool, true, false, List, [], ◌∷◌, ◌++◌, length, take, drop, append_assoc, refl, sym, ap, subst, arith}
+use Rattle.std.proofs.Common.{◌≡◌, ◌∙◌, ℕ, zero, suc, ◌+◌, ◌<◌, ◌≤◌, Bool, true, false, List, [], ◌∷◌, ◌++◌, length, take, drop, append_assoc, refl, sym, ap, subst, arith}
 use Rattle.std.specs.List.{AllByRecursion}
 use Rattle.std.proofs.lemmas.List.{append-nil}
 use Rattle.lin_rows.specs.declared.systems.System.{System}
 use Rattle.lin_rows.specs.Rows.{LinearRow}
-use Rattle.lin_rows.specs.Tightening.{never}
 use Rattle.triple_rows.specs.declared.drafts.Draft.{Draft}
 use Rattle.triple_rows.specs.declared.predicates.PredNode.{PredNode}
 use Rattle.triple_rows.specs.declared.predicates.PredNode.TheVariants.{And, Or}
-use Rattle.triple_rows.specs.Predicates.{Formula, Formulas, truth, atom, and_of, or_of, no_formula, one_more, HasInequalities, HaveInequalities, bundled, formulas, first_formula, formula_of, SpellsPredicate}
+use Rattle.triple_rows.specs.Predicates.{Formula, Formulas, no_formula, one_more, HasInequalities, HaveInequalities, bundled, formulas, first_formula, formula_of, SpellsPredicate}
 use Rattle.triple_rows.specs.Reading.{IsRest}
-use Rattle.triple_rows.specs.Systems.{PlainSystem, Groups, Members, plain_system, no_group, one_group, no_member, one_member, PlainFits, MembersFit, IsSystem, AreMembers, both_systems, only_rows, one_of, groups_joined}
-use Rattle.triple_rows.specs.Drafts.{Adds, stated, all_stated, members_stated, stated_row}
-use Rattle.triple_rows.proofs.DraftLaws.{adds_both, adds_none, both_fit}
+use Rattle.triple_rows.specs.Systems.{PlainSystem, Groups, Members, plain_system, no_group, one_group, no_member, one_member, PlainFits, MembersFit, IsSystem, AreMembers, both_systems, only_rows, groups_joined}
+use Rattle.triple_rows.specs.Drafts.{Adds, stated, all_stated, members_stated}
+use Rattle.triple_rows.proofs.DraftLaws.{adds_both, both_fit}
 use Rattle.triple_rows.proofs.HoldingLaws.{take_next, rest_first, predicate_is_whole}
 use Rattle.triple_rows.proofs.SaidLaws.{spelled_inequalities}
 
@@ -74,12 +73,6 @@ pub record IsAdding (deny : Bool) (to : ℕ → ℕ) (i : ℕ) (nodes : List Pre
   pub adds : Adds (all_stated deny to (bundled (take i (formulas nodes)))) old new
   pub fits : PlainFits (all_stated deny to (bundled (take i (formulas nodes))))
 
-pub adding_start : (deny : Bool) (to : ℕ → ℕ) (nodes : List PredNode) (d : Draft) → IsAdding deny to 0 nodes d d
-adding_start deny to nodes d = record {
-  adds = subst (λ (p : PlainSystem). Adds p d d) (sym (none_stated deny to)) (adds_none d);
-  fits = subst PlainFits (sym (none_stated deny to)) (tt, tt);
-}
-
 pub adding_next : (deny : Bool) (to : ℕ → ℕ) (i : ℕ) (nodes left : List PredNode) (old mid new : Draft) → IsAdding deny to i nodes old mid → IsRest i nodes left →
     i < length (formulas nodes) → Adds (stated deny to (formula_of left)) mid new → PlainFits (stated deny to (formula_of left)) → IsAdding deny to (i + 1) nodes old new
 adding_next deny to i nodes left old mid new h r l a f =
@@ -115,12 +108,6 @@ adding_stops deny to n i nodes left r l m f h =
 pub record IsGathering (deny : Bool) (to : ℕ → ℕ) (i : ℕ) (nodes : List PredNode) (systems : List System) : Type 0 where
   pub are_members : AreMembers (members_stated deny to (bundled (take i (formulas nodes)))) systems
   pub fit : MembersFit (members_stated deny to (bundled (take i (formulas nodes))))
-
-pub gathering_start : (deny : Bool) (to : ℕ → ℕ) (nodes : List PredNode) (systems : List System) → systems ≡ [] → IsGathering deny to 0 nodes systems
-gathering_start deny to nodes systems e = record {
-  are_members = subst (λ (ms : Members). AreMembers ms systems) (sym (none_members deny to)) (subst (AreMembers no_member) (sym e) tt);
-  fit = subst MembersFit (sym (none_members deny to)) tt;
-}
 
 member_last : (deny : Bool) (to : ℕ → ℕ) (xs : List Formula) (f : Formula) (ss : List System) (s : System) → AreMembers (members_stated deny to (bundled xs)) ss →
     IsSystem (stated deny to f) s → AreMembers (members_stated deny to (bundled (xs ++ f ∷ []))) (ss ++ s ∷ [])
@@ -173,41 +160,6 @@ gathering_stops deny to n i nodes left r l m f h =
     f (subst (λ (g : Formula). PlainFits (stated deny to g)) (sym (rest_first i nodes left r)) (member_fits_at deny to (formulas nodes) n i l m h))
 
 -- ---- one node
-
-pub truth_same : (deny b : Bool) (to : ℕ → ℕ) → b ≡ deny → stated deny to (truth b) ≡ only_rows (never ∷ [])
-truth_same true true to e = refl
-truth_same true false to e = absurd (cc)
-truth_same false true to e = absurd (cc)
-truth_same false false to e = refl
-
-pub truth_other : (deny b : Bool) (to : ℕ → ℕ) → (b ≡ deny → ⊥) → stated deny to (truth b) ≡ only_rows []
-truth_other true true to n = absurd (n refl)
-truth_other true false to n = refl
-truth_other false true to n = refl
-truth_other false false to n = absurd (n refl)
-
-pub atom_stated : (deny : Bool) (to : ℕ → ℕ) (r : LinearRow) → stated deny to (atom r) ≡ only_rows (stated_row deny to r ∷ [])
-atom_stated true to r = refl
-atom_stated false to r = refl
-
-pub and_held : (deny : Bool) (to : ℕ → ℕ) (fs : Formulas) → deny ≡ false → stated deny to (and_of fs) ≡ all_stated deny to fs
-and_held true to fs e = absurd (cc)
-and_held false to fs e = refl
-
-pub and_denied : (deny : Bool) (to : ℕ → ℕ) (fs : Formulas) → deny ≡ true → stated deny to (and_of fs) ≡ one_of (members_stated deny to fs)
-and_denied true to fs e = refl
-and_denied false to fs e = absurd (cc)
-
-pub or_held : (deny : Bool) (to : ℕ → ℕ) (fs : Formulas) → deny ≡ false → stated deny to (or_of fs) ≡ one_of (members_stated deny to fs)
-or_held true to fs e = absurd (cc)
-or_held false to fs e = refl
-
-pub or_denied : (deny : Bool) (to : ℕ → ℕ) (fs : Formulas) → deny ≡ true → stated deny to (or_of fs) ≡ all_stated deny to fs
-or_denied true to fs e = refl
-or_denied false to fs e = absurd (cc)
-
-pub one_of_fits : (members : Members) → PlainFits (one_of members) ↔ MembersFit members
-one_of_fits members = (λ h. h.1.0, λ h. (tt, (h, tt)))
 
 -- ---- the inequalities of parts
 

@@ -30,14 +30,6 @@ adds_both (plain_system rows groups) (plain_system more_rows more_groups) old mi
 pub adds_none : (d : Draft) → Adds (only_rows []) d d
 adds_none d = record { rows = sym (append-nil d.rows.items); more = []; groups = sym (append-nil (members_of d.groups.items)); are_groups = tt }
 
-pub adds_rows : (rows : List LinearRow) (old new : Draft) → new.rows.items ≡ old.rows.items ++ rows → new.groups.items ≡ old.groups.items → Adds (only_rows rows) old new
-adds_rows rows old new e g = record {
-  rows = e;
-  more = [];
-  groups = ap (λ (gs : List (Vec System Global)). members_of gs) g ∙ sym (append-nil (members_of old.groups.items));
-  are_groups = tt;
-}
-
 pub adds_group : (members : Members) (systems : Vec System Global) (old new : Draft) → AreMembers members systems.items → new.rows.items ≡ old.rows.items →
     new.groups.items ≡ old.groups.items ++ systems ∷ [] → Adds (one_of members) old new
 adds_group members systems old new m e g = record {

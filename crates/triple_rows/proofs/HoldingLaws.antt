@@ -4,9 +4,8 @@ use Rattle.std.specs.Prelude.{◌&&◌, ◌||◌, Result, Ok, Err, OnErr}
 use Rattle.std.specs.List.{AllByRecursion}
 use Rattle.std.proofs.lemmas.List.{append-nil}
 use Rattle.std.proofs.lemmas.Bool.{false≢true}
-use Rattle.lin_rows.specs.Rows.{LinearRow}
 use Rattle.triple_rows.specs.declared.predicates.PredNode.{PredNode}
-use Rattle.triple_rows.specs.declared.predicates.PredNode.TheVariants.{Truth, Atom, And, Or}
+use Rattle.triple_rows.specs.declared.predicates.PredNode.TheVariants.{And, Or}
 use Rattle.triple_rows.specs.Predicates.{Formula, Formulas, truth, atom, and_of, or_of, no_formula, one_more, FormulaHolds, AllHold, SomeHolds, IsOver, AreOver, formula_count, prefix_of, prefixes_of, bundled, formulas, first_formula, formula_of, SpellsPredicate}
 use Rattle.triple_rows.specs.Reading.{AreComplete, IsRest, FormulaFits, FormulasFit}
 use Rattle.triple_rows.proofs.FormulaLaws.{listed, formula_read, formulas_read, prefix_read}
@@ -24,25 +23,12 @@ drop_next [] (suc i) = refl
 drop_next (f ∷ fs) zero = refl
 drop_next (f ∷ fs) (suc i) = drop_next fs i
 
-length-drop_some : (fs : List Formula) (i : ℕ) → i < length fs → 0 < length (drop i fs)
-length-drop_some [] i l = absurd (omega arith)
-length-drop_some (f ∷ fs) zero l = omega arith
-length-drop_some (f ∷ fs) (suc i) l = length-drop_some fs i (omega arith)
-
-pub all_dropped : (P : Formula → Type 0) (fs : List Formula) (i : ℕ) → AllByRecursion P fs → AllByRecursion P (drop i fs)
-all_dropped P fs zero h = h
-all_dropped P [] (suc i) h = tt
-all_dropped P (f ∷ fs) (suc i) h = all_dropped P fs i h.1
-
 over_from_parts : (n k : ℕ) (fs : List Formula) → AreOver n (bundled (take k fs)) → AllByRecursion (IsOver n) (drop k fs) → AllByRecursion (IsOver n) fs
 over_from_parts n zero fs h g = g
 over_from_parts n (suc k) [] h g = tt
 over_from_parts n (suc k) (f ∷ fs) h g = (h.0, over_from_parts n k fs h.1 g)
 
 -- ---- what is left
-
-pub rest_start : (nodes : List PredNode) → AreComplete nodes → IsRest 0 nodes nodes
-rest_start nodes h = record { trees = refl; complete = h; shorter = omega arith }
 
 pub rest_next : (i : ℕ) (nodes left rest : List PredNode) → IsRest i nodes left → IsRest 1 left rest → IsRest (i + 1) nodes rest
 rest_next i nodes left rest h k =
@@ -54,27 +40,8 @@ rest_next i nodes left rest h k =
       shorter = omega (arith, a, b);
     }
 
-pub rest_some : (i : ℕ) (nodes left : List PredNode) → IsRest i nodes left → i < length (formulas nodes) → 0 < length (formulas left)
-rest_some i nodes left h l = subst (λ (fs : List Formula). 0 < length fs) (sym h.trees) (length-drop_some (formulas nodes) i l)
-
-pub rest_over : (n i : ℕ) (nodes left : List PredNode) → IsRest i nodes left → AllByRecursion (IsOver n) (formulas nodes) → AllByRecursion (IsOver n) (formulas left)
-rest_over n i nodes left h o = subst (AllByRecursion (IsOver n)) (sym h.trees) (all_dropped (IsOver n) (formulas nodes) i o)
-
 pub rest_first : (i : ℕ) (nodes left : List PredNode) → IsRest i nodes left → formula_of left ≡ first_formula (drop i (formulas nodes))
 rest_first i nodes left h = ap first_formula h.trees
-
--- behind one node
-pub rest_truth : (b : Bool) (ns : List PredNode) → AreComplete ns → IsRest 1 (Truth b ∷ ns) ns
-rest_truth b ns h = record { trees = refl; complete = h; shorter = omega arith }
-
-pub rest_atom : (r : LinearRow) (ns : List PredNode) → AreComplete ns → IsRest 1 (Atom r ∷ ns) ns
-rest_atom r ns h = record { trees = refl; complete = h; shorter = omega arith }
-
-pub rest_and : (k : ℕ) (ns rest : List PredNode) → IsRest k ns rest → IsRest 1 (And k ∷ ns) rest
-rest_and k ns rest h = let a = h.shorter in record { trees = h.trees; complete = h.complete; shorter = omega (arith, a) }
-
-pub rest_or : (k : ℕ) (ns rest : List PredNode) → IsRest k ns rest → IsRest 1 (Or k ∷ ns) rest
-rest_or k ns rest h = let a = h.shorter in record { trees = h.trees; complete = h.complete; shorter = omega (arith, a) }
 
 pub parts_over_and : (n k : ℕ) (ns : List PredNode) → AllByRecursion (IsOver n) (formulas (And k ∷ ns)) → AllByRecursion (IsOver n) (formulas ns)
 parts_over_and n k ns h = over_from_parts n k (formulas ns) h.0 h.1
@@ -118,9 +85,6 @@ predicate_is_whole nodes h = subst IsWhole h.1 (record {
   complete = subst AreComplete (append-nil (prefix_of h.0)) (complete_tree h.0 [] tt);
 })
 
-pub whole_some : (nodes : List PredNode) → IsWhole nodes → 0 < length (formulas nodes)
-whole_some nodes h = subst (λ (fs : List Formula). 0 < length fs) (sym h.one) (omega arith)
-
 pub whole_over : (n : ℕ) (nodes : List PredNode) → IsWhole nodes → IsOver n (formula_of nodes) → AllByRecursion (IsOver n) (formulas nodes)
 whole_over n nodes h o = subst (AllByRecursion (IsOver n)) (sym h.one) (o, tt)
 
@@ -157,9 +121,6 @@ pub record AreHeld (point : ℕ → ℤ) (i : ℕ) (nodes : List PredNode) (all 
   pub all_hold : (all ≡ true) ↔ AllHold point (bundled (take i (formulas nodes)))
   pub one_holds : (one ≡ true) ↔ SomeHolds point (bundled (take i (formulas nodes)))
   pub fit : FormulasFit point (bundled (take i (formulas nodes)))
-
-pub held_start : (point : ℕ → ℤ) (nodes : List PredNode) → AreHeld point 0 nodes true false
-held_start point nodes = record { all_hold = (λ h. tt, λ h. refl); one_holds = (λ h. false≢true h, λ h. absurd h); fit = tt }
 
 held_with : (point : ℕ → ℤ) (xs : List Formula) (f : Formula) (all one held : Bool) → (all ≡ true) ↔ AllHold point (bundled xs) → (one ≡ true) ↔ SomeHolds point (bundled xs) →
     (held ≡ true) ↔ FormulaHolds point f →

@@ -123,9 +123,6 @@ distinct_front (x ∷ xs) ys d u m = elim m [
     stands [] ys d x e = inl (sym e)
     stands (z ∷ xs) ys d x e = inr (stands xs ys d x e)
 
-pub after_start : (base first n : ℕ) (written columns : List ℕ) → IsTable n (λ c. base + c) columns → HasColumns n (after_column base first (take 0 written)) columns
-after_start base first n written columns h = record { count = h.count; value = h.value }
-
 set_here : (xs : List ℕ) (d v : ℕ) → d < length xs → slice_index (slice_set xs d v) d ≡ v
 set_here [] d v l = absurd (omega arith)
 set_here (x ∷ xs) zero v l = refl

@@ -1,8 +1,7 @@
 //! Whether kinds and scopes of a triple agree with its letter. None of these calls takes memory.
 
-ghost use Rattle.std.specs.Prelude.{◌≡◌, ◌↔◌, IsTrue, slice_get};
+ghost use Rattle.std.specs.Prelude.{◌↔◌, IsTrue, slice_get};
 ghost use Rattle.std.specs.List.{AllByRecursion};
-ghost use Rattle.math_facts.specs.Terms.{IsBelow};
 ghost use Rattle.letter_acts.specs.Invariant.{alphabet_of};
 ghost use Rattle.triple_rows.specs.Predicates.{IsOver, formula_of};
 ghost use Rattle.triple_rows.specs.Reading.{NodeIsOver};
@@ -10,8 +9,7 @@ ghost use Rattle.triple_rows.specs.Triples.{IsScoped, InsideAgrees, CallAgrees, 
 
 use crate::predicates::{Pred, PredNode};
 use crate::triples::{Scoped, Triple};
-use letter_acts::{Act, Icfg};
-use lin_rows::Row;
+use letter_acts::{Act, Icfg, is_within};
 
 /// Whether the letter has the triple's kind, and the predicates are of its procedures and name columns of their frames alone.
 pub fn agrees(icfg: &Icfg, triple: &Triple) -> bool
@@ -32,7 +30,7 @@ pub fn agrees(icfg: &Icfg, triple: &Triple) -> bool
 fn inside_agrees(icfg: &Icfg, letter: u32, from: &Scoped, to: &Scoped) -> bool
     ensures { IsTrue result ↔ InsideAgrees (alphabet_of icfg.now) (slice_get icfg.now.acts letter) from.now to.now }
 {
-    match icfg.acts().get(letter as usize) {
+    match icfg.act(letter) {
         Some(Act::Inside { proc, .. }) => {
             is_scoped(icfg, *proc, from) && is_scoped(icfg, *proc, to)
         }
@@ -43,7 +41,7 @@ fn inside_agrees(icfg: &Icfg, letter: u32, from: &Scoped, to: &Scoped) -> bool
 fn call_agrees(icfg: &Icfg, letter: u32, from: &Scoped, to: &Scoped) -> bool
     ensures { IsTrue result ↔ CallAgrees (alphabet_of icfg.now) (slice_get icfg.now.acts letter) from.now to.now }
 {
-    match icfg.acts().get(letter as usize) {
+    match icfg.act(letter) {
         Some(Act::Call { caller, callee, .. }) => {
             is_scoped(icfg, *caller, from) && is_scoped(icfg, *callee, to)
         }
@@ -54,7 +52,7 @@ fn call_agrees(icfg: &Icfg, letter: u32, from: &Scoped, to: &Scoped) -> bool
 fn back_agrees(icfg: &Icfg, letter: u32, exit: &Scoped, before: &Scoped, to: &Scoped) -> bool
     ensures { IsTrue result ↔ BackAgrees (alphabet_of icfg.now) (slice_get icfg.now.acts letter) exit.now before.now to.now }
 {
-    match icfg.acts().get(letter as usize) {
+    match icfg.act(letter) {
         Some(Act::Back { call, .. }) => return_agrees(icfg, *call, exit, before, to),
         _ => false,
     }
@@ -63,7 +61,7 @@ fn back_agrees(icfg: &Icfg, letter: u32, exit: &Scoped, before: &Scoped, to: &Sc
 fn return_agrees(icfg: &Icfg, call: u32, exit: &Scoped, before: &Scoped, to: &Scoped) -> bool
     ensures { IsTrue result ↔ ReturnAgrees (alphabet_of icfg.now) (slice_get icfg.now.acts call) exit.now before.now to.now }
 {
-    match icfg.acts().get(call as usize) {
+    match icfg.act(call) {
         Some(Act::Call { caller, callee, .. }) => {
             is_scoped(icfg, *callee, exit)
                 && is_scoped(icfg, *caller, before)
@@ -100,13 +98,7 @@ fn node_is_over(node: &PredNode, columns: usize) -> bool
     ensures { IsTrue result ↔ NodeIsOver columns node.now }
 {
     match node {
-        PredNode::Atom(row) => row_is_over(row, columns),
+        PredNode::Atom(row) => is_within(row, columns),
         PredNode::Truth(_) | PredNode::And(_) | PredNode::Or(_) => true,
     }
-}
-
-fn row_is_over(row: &Row, columns: usize) -> bool
-    ensures { IsTrue result ↔ IsBelow columns row.now.terms }
-{
-    row.terms().iter().all(|term| (term.0 as usize) < columns)
 }

@@ -9,18 +9,6 @@ use frame_rows::equal_row;
 use lin_rows::Row;
 use std::alloc::{AllocError, Global};
 
-/// Equal rows.
-pub(crate) fn copied_rows(alloc: Global, rows: &[Row]) -> Result<Vec<Row>, AllocError>
-    ensures value { IfOk result (λ v. v.items ≡ rows.now) }
-    ensures valid { IfOk result (λ v. AllByRecursion IsRow v.items) }
-{
-    let mut copies = Vec::with_capacity(alloc, rows.len())?;
-    for row in rows {
-        copies.push(row.copy()?)?;
-    }
-    Ok(copies)
-}
-
 /// A row for each pair, which says that the number of the first column by one table equals that of the second by another.
 pub(crate) fn equal_rows(
     alloc: Global,

@@ -1,6 +1,6 @@
-ghost use Rattle.std.specs.Prelude.{◌≡◌, ◌↔◌, ◌<◌, ℕ, ℤ, Err, Some, IfOk, OnOk, length, slice_get};
+ghost use Rattle.std.specs.Prelude.{◌≡◌, ◌↔◌, ℕ, ℤ, Err, Some, IfOk, OnOk, slice_get};
 ghost use Rattle.lin_rows.specs.Systems.{Meets};
-ghost use Rattle.letter_acts.specs.Acts.{back_act, plain_act, frame_of};
+ghost use Rattle.letter_acts.specs.Acts.{back_act};
 ghost use Rattle.letter_acts.specs.Invariant.{alphabet_of};
 ghost use Rattle.letter_acts.specs.Kept.{Keeps};
 ghost use Rattle.triple_rows.specs.Predicates.{SpellsPredicate, formula_of};
@@ -9,7 +9,6 @@ ghost use Rattle.triple_rows.specs.Triples.{InsideAgrees, CallAgrees, BackAgrees
 
 use crate::building::{call_triple, inside_triple, return_triple};
 use crate::triples::{Scoped, Triple};
-use boogie_tree::{Column, VarInfo};
 use letter_acts::{Act, Icfg};
 use lin_rows::{RowFault, System};
 use std::alloc::Global;
@@ -35,23 +34,6 @@ pub fn systems_of(alloc: Global, icfg: &Icfg, triple: &Triple) -> Result<System,
     }
 }
 
-/// The act of a letter.
-fn act_at(icfg: &Icfg, letter: u32) -> &Act
-    requires { letter < length icfg.now.acts }
-    ensures value { slice_get icfg.now.acts letter ≡ Some (plain_act result.now) }
-    ensures valid { Keeps icfg.now }
-{
-    &icfg.acts()[letter as usize]
-}
-
-/// The columns of a procedure.
-fn frame_at(icfg: &Icfg, proc: u32) -> &[(Column, VarInfo)]
-    requires { proc < length icfg.now.frames }
-    ensures { result.now ≡ frame_of (alphabet_of icfg.now) proc }
-{
-    icfg.frames()[proc as usize].columns.as_slice()
-}
-
 /// The system of an inside triple.
 fn inside_system(
     alloc: Global,
@@ -66,7 +48,7 @@ fn inside_system(
     ensures fits { OnOk result (PlainFits (inside_system_of (alphabet_of icfg.now) (slice_get icfg.now.acts letter) (formula_of from.now.pred) (formula_of to.now.pred))) }
     ensures past { result ≡ Err RowFault.Past → PlainFits (inside_system_of (alphabet_of icfg.now) (slice_get icfg.now.acts letter) (formula_of from.now.pred) (formula_of to.now.pred)) → ⊥ }
 {
-    match act_at(icfg, letter) {
+    match icfg.act_at(letter) {
         Act::Inside {
             proc,
             written,
@@ -74,7 +56,7 @@ fn inside_system(
             ..
         } => inside_triple(
             alloc,
-            frame_at(icfg, *proc),
+            icfg.columns(*proc),
             written,
             rows,
             &from.pred,
@@ -98,7 +80,7 @@ fn call_system(
     ensures fits { OnOk result (PlainFits (call_system_of (alphabet_of icfg.now) (slice_get icfg.now.acts letter) (formula_of from.now.pred) (formula_of to.now.pred))) }
     ensures past { result ≡ Err RowFault.Past → PlainFits (call_system_of (alphabet_of icfg.now) (slice_get icfg.now.acts letter) (formula_of from.now.pred) (formula_of to.now.pred)) → ⊥ }
 {
-    match act_at(icfg, letter) {
+    match icfg.act_at(letter) {
         Act::Call {
             caller,
             callee,
@@ -106,8 +88,8 @@ fn call_system(
             ..
         } => call_triple(
             alloc,
-            frame_at(icfg, *caller),
-            frame_at(icfg, *callee),
+            icfg.columns(*caller),
+            icfg.columns(*callee),
             rows,
             &from.pred,
             &to.pred,
@@ -131,7 +113,7 @@ fn back_system(
     ensures fits { OnOk result (PlainFits (back_system_of (alphabet_of icfg.now) (slice_get icfg.now.acts letter) (formula_of exit.now.pred) (formula_of before.now.pred) (formula_of to.now.pred))) }
     ensures past { result ≡ Err RowFault.Past → PlainFits (back_system_of (alphabet_of icfg.now) (slice_get icfg.now.acts letter) (formula_of exit.now.pred) (formula_of before.now.pred) (formula_of to.now.pred)) → ⊥ }
 {
-    match act_at(icfg, letter) {
+    match icfg.act_at(letter) {
         Act::Back { call, targets } => {
             return_system(alloc, icfg, letter, *call, targets, exit, before, to)
         }
@@ -157,7 +139,7 @@ fn return_system(
     ensures fits { OnOk result (PlainFits (return_system_of (alphabet_of icfg.now) targets.now (slice_get icfg.now.acts call) (formula_of exit.now.pred) (formula_of before.now.pred) (formula_of to.now.pred))) }
     ensures past { result ≡ Err RowFault.Past → PlainFits (return_system_of (alphabet_of icfg.now) targets.now (slice_get icfg.now.acts call) (formula_of exit.now.pred) (formula_of before.now.pred) (formula_of to.now.pred)) → ⊥ }
 {
-    match act_at(icfg, call) {
+    match icfg.act_at(call) {
         Act::Call {
             caller,
             callee,
@@ -165,8 +147,8 @@ fn return_system(
             rows,
         } => return_triple(
             alloc,
-            frame_at(icfg, *caller),
-            frame_at(icfg, *callee),
+            icfg.columns(*caller),
+            icfg.columns(*callee),
             *helpers,
             rows,
             targets,

@@ -1,6 +1,6 @@
 //! Adding to a draft the rows that come from no predicate.
 
-ghost use Rattle.std.specs.Prelude.{◌≡◌, ◌+◌, ◌<◌, ◌≤◌, ◌^◌, OnOk, map, filter, not, length, slice_index};
+ghost use Rattle.std.specs.Prelude.{◌+◌, ◌<◌, ◌≤◌, ◌^◌, OnOk, map, filter, not, length, slice_index};
 ghost use Rattle.std.specs.List.{AllByRecursion};
 ghost use Rattle.math_facts.specs.Terms.{IsBelow};
 ghost use Rattle.letter_acts.specs.Frames.{places, olds_of, variables_of, results_of};
@@ -13,10 +13,10 @@ ghost use Rattle.triple_rows.specs.Drafts.{Adds};
 
 use crate::drafts::Draft;
 use crate::frames::{doubled, olds, taken, unlisted};
-use crate::pieces::{copied_rows, equal_rows};
+use crate::pieces::equal_rows;
 use boogie_tree::{Column, VarInfo};
 use frame_rows::{Class, bound_rows, numbers_of, renamed_rows, types_at, types_of};
-use lin_rows::Row;
+use lin_rows::{Row, copied_rows};
 use std::alloc::{AllocError, Global};
 
 /// Adds equal rows.
