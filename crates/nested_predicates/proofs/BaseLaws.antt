@@ -1,11 +1,10 @@
 -- What the caller's sum at a call has at the columns of the callee.
-use Rattle.std.proofs.Common.{◌≡◌, ◌∙◌, ℕ, zero, suc, ◌+◌, ◌<◌, ◌≤◌, ℤ, pos, Bool, true, false, List, [], ◌∷◌, ◌++◌, length, map, drop, take, get_or, length-append, append_assoc, refl, sym, ap, subst, arith}
+use Rattle.std.proofs.Common.{◌≡◌, ◌∙◌, ℕ, zero, suc, ◌+◌, ◌<◌, ◌≤◌, ℤ, pos, Bool, true, false, List, [], ◌∷◌, ◌++◌, length, map, drop, take, get_or, length-append, refl, sym, ap, subst, arith}
 use Rattle.std.specs.Prelude.{Option, Some, slice_get, Result, Ok, Err, IfOk}
 use Rattle.std.specs.List.{AllByRecursion}
-use Rattle.std.proofs.lemmas.List.{append-nil, drop_more, map-append}
+use Rattle.std.proofs.lemmas.List.{append-nil}
 use Rattle.boogie_tree.specs.declared.tree.Column.{Column}
 use Rattle.boogie_tree.specs.declared.tree.Column.TheVariants.{Global, Old, Local}
-use Rattle.boogie_tree.specs.declared.tree.VarInfo.{VarInfo}
 use Rattle.letter_acts.specs.Frames.{Columns}
 use Rattle.triple_rows.specs.declared.predicates.PredNode.{PredNode}
 use Rattle.triple_rows.specs.Predicates.{prefix_of}
@@ -61,22 +60,6 @@ no_entry callee entry before j l = ap (λ (v : List ℕ). known_columns (drop j 
 pub all_taken : (columns : List Wide) (known : List (Option ℕ)) (left : List (Option ℕ)) (now : List Wide) → left ≡ [] →
     map value_of now ++ map (known_value columns) left ≡ map (known_value columns) known → map value_of now ≡ map (known_value columns) known
 all_taken columns known left now e h = sym (append-nil (map value_of now)) ∙ sym (ap (λ (l : List (Option ℕ)). map value_of now ++ map (known_value columns) l) e) ∙ h
-
-pub next_taken : (columns : List Wide) (callee : Columns) (entry before : List ℕ) (j : ℕ) (c d : Column × VarInfo) (v : ℕ) (now new : List Wide) (w : Wide) (all : List ℤ) →
-    j < length callee → j < length entry → c ≡ get_or callee j d → v ≡ get_or entry j 0 → value_of w ≡ known_value columns (known_at c.0 c.1.constant v before) → new ≡ now ++ w ∷ [] →
-    map value_of now ++ map (known_value columns) (known_columns (drop j callee) (drop j entry) before) ≡ all →
-    map value_of new ++ map (known_value columns) (known_columns (drop (j + 1) callee) (drop (j + 1) entry) before) ≡ all
-next_taken columns callee entry before j c d v now new w all l k e f h p i =
-    let rest : List (Option ℕ) = known_columns (drop (j + 1) callee) (drop (j + 1) entry) before in
-    let x : drop j callee ≡ c ∷ drop (j + 1) callee = drop_more callee j d l ∙ ap (λ (y : Column × VarInfo). y ∷ drop (j + 1) callee) (sym e) in
-    let y : drop j entry ≡ v ∷ drop (j + 1) entry = drop_more entry j 0 k ∙ ap (λ (z : ℕ). z ∷ drop (j + 1) entry) (sym f) in
-    let s : known_columns (drop j callee) (drop j entry) before ≡ known_at c.0 c.1.constant v before ∷ rest =
-    ap (λ (z : Columns). known_columns z (drop j entry) before) x ∙ ap (λ (z : List ℕ). known_columns (c ∷ drop (j + 1) callee) z before) y in
-    ap (λ (z : List Wide). map value_of z ++ map (known_value columns) rest) p ∙
-    ap (λ (z : List ℤ). z ++ map (known_value columns) rest) (map-append value_of now (w ∷ [])) ∙
-    append_assoc (map value_of now) (value_of w ∷ []) (map (known_value columns) rest) ∙
-    ap (λ (z : ℤ). map value_of now ++ z ∷ map (known_value columns) rest) h ∙
-    sym (ap (λ (z : List (Option ℕ)). map value_of now ++ map (known_value columns) z) s) ∙ i
 
 pub all_more : {X : Type 0} (P : X → Type 0) (xs new : List X) (x : X) → new ≡ xs ++ x ∷ [] → AllByRecursion P xs → P x → AllByRecursion P new
 all_more {X} P xs new x e h p = subst (λ (l : List X). AllByRecursion P l) (sym e) (joined xs h)

@@ -279,9 +279,6 @@ past_next g w i a d b parts ps qs first mid last old new old_sums returns before
     position_past b parts (i + 1) read.stage read.scopes last new entry empty reached.summed le (here_read g w (i + 1) read entry en) reached.bases past
     (front_all (SumFits b parts) h.read.front _ (position_at (i + 1) read.stage read.scopes) (subst (AllByRecursion (SumFits b parts)) (sym read.whole) fits))
 
-pub past_open : (running : Running) (here : List ℕ) (taken frames : List Base) → taken ≡ frames → IsPast running taken here → IsPast running frames here
-past_open running here taken frames e h = subst (λ (l : List Base). IsPast running l here) e h
-
 -- ---- from what the code has
 
 -- a letter is one of the word, at its number
@@ -301,9 +298,3 @@ first_within g v states h = let k = states_of_word g v states h in omega (arith,
 pub versions_are : (g : Graph) (v : List Letter) (states : List (Vec ℕ)) (n : ℕ) (here : List ℕ) → items_of states ≡ (path_of g v).states → slice_get (items_of states) n ≡ Some here →
     slice_get (path_of g v).states n ≡ Some here
 versions_are g v states n here h e = subst (λ (l : List (List ℕ)). slice_get l n ≡ Some here) h e
-
-pub node_open : (node : PredNode) (running : Running) (here : List ℕ) (taken frames : List Base) → taken ≡ frames →
-    node ≡ node_of (inequality (terms_from 0 (differences running.columns.items (first_columns (reverse taken)) here)) (value_of running.bound -ℤ first_bound (reverse taken))) →
-    node ≡ node_of (inequality (terms_from 0 (differences running.columns.items (first_columns (reverse frames)) here)) (value_of running.bound -ℤ first_bound (reverse frames)))
-node_open node running here taken frames e h =
-    subst (λ (l : List Base). node ≡ node_of (inequality (terms_from 0 (differences running.columns.items (first_columns (reverse l)) here)) (value_of running.bound -ℤ first_bound (reverse l)))) e h

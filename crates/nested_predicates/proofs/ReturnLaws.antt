@@ -48,18 +48,6 @@ tests_next w i a d count now new l e c h k =
     ap (λ (b : Bool). b ∷ reverse now) (ap (nat_lt 0) c ∙ sym (return_counted 0 rest)) ∙ ap (λ (l : List Bool). has_return 0 rest ∷ l) h ∙
     sym (ap return_tests (front w i a d l e))
 
-pub none_behind : (w : List Letter) → drop (length w - 0) w ≡ []
-none_behind w = dropped w (length w - 0) (omega arith)
-  where
-    dropped : (v : List Letter) (n : ℕ) → length v ≤ n → drop n v ≡ []
-    dropped [] zero l = refl
-    dropped [] (suc n) l = refl
-    dropped (a ∷ v) zero l = absurd (omega (arith, l))
-    dropped (a ∷ v) (suc n) l = dropped v n (omega (arith, l))
-
-pub all_tested : (w : List Letter) (i : ℕ) → length w ≤ i → drop (length w - i) w ≡ w
-all_tested w i l = ap (λ (n : ℕ). drop n w) (let e : length w - i ≡ 0 = omega (arith, l) in e)
-
 pub one_more : (kind : Kind) (n i : ℕ) → n ≤ i → unmatched_before kind n ≤ i + 1
 one_more Inside n i l = omega (arith, l)
 one_more Call n i l = omega (arith, l)

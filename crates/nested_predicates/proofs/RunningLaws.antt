@@ -14,7 +14,7 @@ use Rattle.std.proofs.Math.Seq.{drop-cons}
 use Rattle.nested_predicates.specs.declared.wide.Wide.{Wide}
 use Rattle.nested_predicates.specs.declared.running.Running.{Running}
 use Rattle.nested_predicates.specs.Wides.{value_of, AreParts, KeepsCount}
-use Rattle.nested_predicates.specs.Runnings.{value_at, AreCounted, SameWidth, AddsTerm, AddsTerms, AddsBound, AddsRow, AddsParts}
+use Rattle.nested_predicates.specs.Runnings.{value_at, AreCounted, SameWidth, AddsTerm, AddsTerms, AddsBound, AddsRow}
 
 -- ---- one more
 
@@ -131,9 +131,6 @@ pub record TermsLeft (terms : List (ℕ × ℤ)) (times : ℤ) (i : ℕ) (first 
   pub bound : now.bound ≡ first.bound
   pub counted : AreCounted now
 
-pub terms_start : (terms : List (ℕ × ℤ)) (times : ℤ) (r : Running) → AreCounted r → TermsLeft terms times 0 r r
-terms_start terms times r h = record { width = refl; columns = λ x l. refl; bound = refl; counted = h }
-
 product_of_front : (b : Bool) (times a rest : ℤ) → times *ℤ ((if b then a else pos 0) +ℤ rest) ≡ (if b then times *ℤ a else pos 0) +ℤ (times *ℤ rest)
 product_of_front true times a rest = distrib_left times a rest
 product_of_front false times a rest = distrib_left times (pos 0) rest ∙ ap (λ (z : ℤ). z +ℤ (times *ℤ rest)) (product_zero_right times)
@@ -183,9 +180,6 @@ pub record PartsLeft (rows : List LinearRow) (parts : List (ℕ × ℤ)) (i : �
   pub bound : value_of now.bound +ℤ combined (λ r. r.bound) rows (drop i parts) ≡ value_of first.bound +ℤ combined (λ r. r.bound) rows parts
   pub counted : AreCounted now
 
-pub parts_start : (rows : List LinearRow) (parts : List (ℕ × ℤ)) (r : Running) → AreCounted r → PartsLeft rows parts 0 r r
-parts_start rows parts r h = record { width = refl; columns = λ x l. refl; bound = refl; counted = h }
-
 pub part_taken : (rows : List LinearRow) (parts : List (ℕ × ℤ)) (i : ℕ) (first now next : Running) (t d : ℕ × ℤ) → i < length parts → get_or parts i d ≡ t →
     PartsLeft rows parts i first now → AddsRow (row_at rows t.0) t.1 now next → PartsLeft rows parts (i + 1) first next
 part_taken rows parts i first now next t d l e h a =
@@ -206,22 +200,6 @@ part_taken rows parts i first now next t d l e h a =
           subst (λ (ts : List (ℕ × ℤ)). value_of now.bound +ℤ combined number rows ts ≡ value_of first.bound +ℤ combined number rows parts) f h.bound in
           omega (arith, ints, old, a.bound);
       counted = a.counted;
-    }
-
-pub parts_done : (rows : List LinearRow) (parts : List (ℕ × ℤ)) (i : ℕ) (first now : Running) → length parts ≤ i → PartsLeft rows parts i first now → AddsParts rows parts first now
-parts_done rows parts i first now l h =
-    let e : drop i parts ≡ [] = drop_all i parts l in
-    record {
-      width = h.width;
-      columns = λ x k.
-          let number : LinearRow → ℤ = λ r. coefficient x r.terms in
-          let z : combined number rows (drop i parts) ≡ pos 0 = ap (combined number rows) e in
-          omega (arith, ints, h.columns x k, z);
-      bound =
-          let number : LinearRow → ℤ = λ r. r.bound in
-          let z : combined number rows (drop i parts) ≡ pos 0 = ap (combined number rows) e in
-          omega (arith, ints, h.bound, z);
-      counted = h.counted;
     }
 
 pub on_ok : {A E : Type 0} (P Q : Type 0) → (P → Q) → (r : Result A E) → OnOk r P → OnOk r Q

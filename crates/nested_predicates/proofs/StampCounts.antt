@@ -21,15 +21,6 @@ use Rattle.nested_predicates.specs.Walking.{is_boolean, is_bool, is_bool_at, Rea
 
 -- ---- so many times one stamp
 
-repeated_more : (n k : ℕ) → repeated n (suc k) ≡ repeated n k ++ n ∷ []
-repeated_more n zero = refl
-repeated_more n (suc k) = ap (λ (l : List ℕ). n ∷ l) (repeated_more n k)
-
-pub repeated_next : (n i : ℕ) (old now new : List ℕ) → now ≡ old ++ repeated n i → new ≡ now ++ n ∷ [] → new ≡ old ++ repeated n (i + 1)
-repeated_next n i old now new e h =
-    h ∙ ap (λ (xs : List ℕ). xs ++ n ∷ []) e ∙ append_assoc old (repeated n i) (n ∷ []) ∙
-    ap (λ (xs : List ℕ). old ++ xs) (sym (ap (repeated n) (let k : i + 1 ≡ suc i = omega arith in k) ∙ repeated_more n i))
-
 repeated_joined : (x m n : ℕ) → repeated x m ++ repeated x n ≡ repeated x (m + n)
 repeated_joined x zero n = ap (repeated x) (let e : n ≡ 0 + n = omega arith in e)
 repeated_joined x (suc m) n = ap (λ (l : List ℕ). x ∷ l) (repeated_joined x m n) ∙ ap (repeated x) (let e : suc (m + n) ≡ suc m + n = omega arith in e)

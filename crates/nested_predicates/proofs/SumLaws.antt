@@ -100,9 +100,6 @@ pub record ColumnsLeft (numbers : List ℤ) (j : ℕ) (terms : List (ℕ × ℤ)
   pub all : AllByRecursion Fits (drop j numbers) → AllByRecursion Fits numbers
   pub left : AllByRecursion Fits numbers → AllByRecursion Fits (drop j numbers)
 
-pub no_column_read : (numbers : List ℤ) → ColumnsLeft numbers 0 []
-no_column_read numbers = record { rest = refl; all = λ h. h; left = λ h. h }
-
 number_front : (numbers : List ℤ) (j : ℕ) → j < length numbers → drop j numbers ≡ get_or numbers j (pos 0) ∷ drop (j + 1) numbers
 number_front numbers j l = drop-cons numbers j (pos 0) l ∙ ap (λ (n : ℕ). get_or numbers j (pos 0) ∷ drop n numbers) (let e : suc j ≡ j + 1 = omega arith in e)
 

@@ -131,12 +131,6 @@ cut_is g w columns stamps c stamp k b spots row e f h r =
     r ∙ ap (λ (l : List Spot). cut_nodes_from 0 stamp l) e ∙ cut_from (alphabet_of g) 0 stamp (first_stage (start_frame g)) (start_scope g ∷ []) w ∙
     ap (λ (s : ℕ). map (cut_node_at s) (positions_of g w)) (f ∙ ap (λ (l : List ℕ). column_stamp l c) h)
 
-pub sides_wait : (columns stamps : List ℕ) (c stamp : ℕ) (k : ℤ) (s new : Branches) → stamp ≡ column_stamp stamps c → stamps ≡ columns →
-    ((rest : List Branch) → Await s rest → (branch_of new ≡ branch_of s) × Await new (with_cut (branch_of s) stamp (at_most c k) ∷ with_cut (branch_of s) stamp (above c k) ∷ rest)) →
-    (rest : List Branch) → Await s rest → Await new (branches_after columns (cut c k) (branch_of s) rest)
-sides_wait columns stamps c stamp k s new e f h rest a =
-    subst (λ (x : ℕ). Await new (with_cut (branch_of s) x (at_most c k) ∷ with_cut (branch_of s) x (above c k) ∷ rest)) (e ∙ ap (λ (l : List ℕ). column_stamp l c) f) (h rest a).1
-
 pub leaf_is : (columns : List ℕ) (qs : List Position) (b : Branch) (n : PlainNode) (rows : List LinearRow) (stamps : List ℕ) (parts ps : List (ℕ × ℤ)) (v : List PredNode) → rows ≡ b.rows → stamps ≡ b.stamps →
     parts ≡ ps → n ≡ leaf ps → v ≡ map (leaf_node (record { rows = rows; stamps = stamps }) parts) qs → v ≡ row_of_node columns qs n b
 leaf_is columns qs b n rows stamps parts ps v e f h m r =

@@ -77,10 +77,10 @@ pub record JoinsParts (by_or : Bool) (first second part : Part) (old new : Simpl
 abbrev pub IsTree : Simplifier → Type 0
 IsTree s = length s.parts.items ≡ 1
 
--- the truth value decides the join, whatever the other part is
-abbrev pub decides : Bool → Bool → Bool
-decides true value = value
-decides false value = not value
+-- both truth values are the same; so a truth value that is that of `or`, or of `and`, settles the join whatever the other part is
+abbrev pub is_same : Bool → Bool → Bool
+is_same true value = value
+is_same false value = not value
 
 -- two truth values joined
 abbrev pub decided : Bool → Bool → Bool → Bool

@@ -56,7 +56,7 @@ column_sums b parts own upto (v ∷ vs) [] = column_upto b parts upto v ∷ colu
 column_sums b parts own upto (v ∷ vs) (k ∷ ks) =
     (column_upto b parts upto v -ℤ known_sum b parts own k) ∷ column_sums b parts own upto vs ks
 
--- the columns from n on with these coefficients, those with 0 left out
+-- the columns, or the rows, from number n on with these coefficients, those with 0 left out
 abbrev pub terms_from : ℕ → List ℤ → List (ℕ × ℤ)
 terms_from n [] = []
 terms_from n (a ∷ coefficients) = led_by n a (terms_from (suc n) coefficients)

@@ -1,7 +1,7 @@
 //! The acts and frames of letters, and how many columns and bounds they have.
 
 ghost use Rattle.std.specs.Prelude.{◌≡◌, Some, IsSome, filter, length};
-ghost use Rattle.letter_acts.specs.Acts.{plain_act, act_of, frame_of};
+ghost use Rattle.letter_acts.specs.Acts.{plain_act, act_of};
 ghost use Rattle.letter_acts.specs.Frames.{is_local, is_variable};
 ghost use Rattle.letter_acts.specs.Invariant.{alphabet_of};
 ghost use Rattle.path_rows.specs.Versions.{locals_of, old_part};
@@ -18,17 +18,7 @@ pub fn act_at(icfg: &Icfg, letter: Letter) -> &Act
     requires { IsSome (act_of (alphabet_of icfg.now) letter) }
     ensures { act_of (alphabet_of icfg.now) letter ≡ Some (plain_act result.now) }
 {
-    &icfg.acts()[letter.id as usize]
-}
-
-/// The columns of a procedure, none where there is no such procedure.
-pub fn frame_at(icfg: &Icfg, proc: u32) -> &[(Column, VarInfo)]
-    ensures { result.now ≡ frame_of (alphabet_of icfg.now) proc }
-{
-    match icfg.frames().get(proc as usize) {
-        Some(frame) => frame.columns.as_slice(),
-        None => &[],
-    }
+    icfg.act_at(letter.id)
 }
 
 /// The procedure of the start.

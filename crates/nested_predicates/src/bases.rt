@@ -1,18 +1,16 @@
 //! The caller's sum at a call, by the columns of the callee's frame.
 
-ghost use Rattle.std.specs.Prelude.{◌≡◌, ◌≤◌, ◌<◌, ◌^◌, ◌-ℤ◌, [], ◌∷◌, Err, IsSome, IfOk, OnOk, length, reverse};
+ghost use Rattle.std.specs.Prelude.{◌≡◌, ◌<◌, ◌-ℤ◌, [], Err, IsSome, IfOk, OnOk, length, reverse};
 ghost use Rattle.letter_acts.specs.Acts.{act_of, frame_of};
 ghost use Rattle.letter_acts.specs.Invariant.{alphabet_of};
 ghost use Rattle.std.specs.List.{AllByRecursion};
 ghost use Rattle.math_facts.specs.Fits.{Fits};
-ghost use Rattle.triple_rows.specs.Predicates.{prefix_of};
 ghost use Rattle.nested_predicates.specs.Wides.{value_of, HasRoom};
 ghost use Rattle.nested_predicates.specs.Positions.{known_at, known_columns, callee_of};
 ghost use Rattle.nested_predicates.specs.Sums.{terms_from, inequality};
 ghost use Rattle.nested_predicates.specs.Runnings.{AreCounted, differences};
 ghost use Rattle.nested_predicates.specs.Bases.{known_value, AreMade, CanRead, IsTaken, IsNothing, IsEntered, Enters, first_columns, first_bound, node_of};
 
-use crate::acts::frame_at;
 use crate::faults::ItpFault;
 use crate::running::Running;
 use crate::spots::callee_of;
@@ -142,7 +140,7 @@ pub(crate) fn enter(
     match letter.kind {
         Kind::Inside => {}
         Kind::Call => {
-            let callee = frame_at(icfg, callee_of(icfg, letter));
+            let callee = icfg.columns(callee_of(icfg, letter));
             let base = Base::entered(alloc, running, callee, returns, entry, before)?;
             frames.push(base)?;
         }

@@ -23,7 +23,7 @@ pub(crate) struct Simplifier {
 }
 
 ghost use Rattle.nested_predicates.specs.Joins.{simplified};
-ghost use Rattle.nested_predicates.specs.Simplifying.{SpellsJoined, decides, decided, join_node};
+ghost use Rattle.nested_predicates.specs.Simplifying.{SpellsJoined, is_same, decided, join_node};
 
 /// The nodes of a predicate without truth values in it, or of one alone, where each `And` and `Or` had two parts.
 pub(crate) fn without_truth(
@@ -45,7 +45,7 @@ pub(crate) fn without_truth(
 }
 
 impl Simplifier {
-    ghost use Rattle.std.specs.Prelude.{List, ◌∷◌, [], Bool, ◌||◌, ◌&&◌, reverse, take, if◌then◌else◌};
+    ghost use Rattle.std.specs.Prelude.{◌∷◌, [], ◌||◌, ◌&&◌, reverse, take, if◌then◌else◌};
     ghost use Rattle.triple_rows.specs.Predicates.{Formula, prefix_of};
     ghost use Rattle.nested_predicates.specs.Simplifying.{Spell, FindsParts, Reads, JoinsTwo, JoinsParts, IsTree};
 
@@ -121,8 +121,8 @@ impl Simplifier {
     /// The part of nodes beside a truth value, which may decide.
     fn beside(&mut self, by_or: bool, value: bool, from: usize) -> Part
         ensures parts { self.new.parts.items ≡ self.old.parts.items }
-        ensures part { result ≡ (if decides by_or value then Part.Truth value else Part.Nodes from) }
-        ensures nodes { self.new.nodes.items ≡ (if decides by_or value then take from self.old.nodes.items else self.old.nodes.items) }
+        ensures part { result ≡ (if is_same by_or value then Part.Truth value else Part.Nodes from) }
+        ensures nodes { self.new.nodes.items ≡ (if is_same by_or value then take from self.old.nodes.items else self.old.nodes.items) }
     {
         if by_or == value {
             self.nodes.truncate(from);

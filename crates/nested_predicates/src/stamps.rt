@@ -1,20 +1,20 @@
 //! The stamps of a word's rows and columns: from where on each is counted.
 
-ghost use Rattle.std.specs.Prelude.{◌≡◌, ◌<◌, ◌^◌, ◌*◌, ◌++◌, [], IsSome, IfOk, OnOk, length, filter};
+ghost use Rattle.std.specs.Prelude.{◌≡◌, ◌<◌, ◌^◌, ◌*◌, ◌++◌, IsSome, IfOk, OnOk, length, filter};
 ghost use Rattle.letter_acts.specs.Acts.{act_of};
 ghost use Rattle.letter_acts.specs.Invariant.{alphabet_of};
 ghost use Rattle.path_rows.specs.Paths.{repeated};
 ghost use Rattle.path_rows.specs.Versions.{locals_of, old_part};
-ghost use Rattle.letter_acts.specs.Frames.{variables_of};
 ghost use Rattle.nested_predicates.specs.Walking.{is_bool};
 
 use crate::acts::{
-    act_at, bool_count, bool_count_at, bool_local_count, bool_old_count, frame_at, local_count,
-    old_count, start_proc, variable_count,
+    act_at, bool_count, bool_count_at, bool_local_count, bool_old_count, local_count, old_count,
+    start_proc, variable_count,
 };
 use boogie_tree::{Column, VarInfo};
 use letter_acts::{Act, Icfg};
 use nwa_base::Letter;
+use path_rows::add_times;
 use std::alloc::{AllocError, Global};
 
 /// The stamps of a word's rows and of its columns.
@@ -22,16 +22,6 @@ use std::alloc::{AllocError, Global};
 pub(crate) struct Stamps {
     pub(crate) rows: Vec<u64>,
     pub(crate) columns: Vec<u64>,
-}
-
-/// Adds a stamp so many times.
-fn add_times(stamps: &mut Vec<u64>, stamp: u64, count: usize) -> Result<(), AllocError>
-    ensures { OnOk result (stamps.new.items ≡ stamps.old.items ++ repeated stamp count) }
-{
-    for _i in 0..count {
-        stamps.push(stamp)?;
-    }
-    Ok(())
 }
 
 /// Adds a stamp twice for each of so many booleans, which have two bounds each.
@@ -44,9 +34,8 @@ fn add_bounds(stamps: &mut Vec<u64>, stamp: u64, booleans: usize) -> Result<(), 
 
 impl Stamps {
     ghost use Rattle.std.specs.Prelude.{suc};
-    ghost use Rattle.frame_rows.specs.Rows.{bounds, types_of};
     ghost use Rattle.letter_acts.specs.Frames.{is_variable};
-    ghost use Rattle.nested_predicates.specs.Stamps.{stamp_of, stamps_of};
+    ghost use Rattle.nested_predicates.specs.Stamps.{stamps_of};
     ghost use Rattle.nested_predicates.specs.Walking.{is_bool_at, AreLetters, ReadsLetter};
 
     /// Those of a word.
@@ -56,7 +45,7 @@ impl Stamps {
         ensures rows { IfOk result (λ s. s.rows.items ≡ (stamps_of icfg.now letters.now).rows) }
         ensures columns { IfOk result (λ s. s.columns.items ≡ (stamps_of icfg.now letters.now).columns) }
     {
-        let mut stamps = Stamps::start(alloc, frame_at(icfg, start_proc(icfg)))?;
+        let mut stamps = Stamps::start(alloc, icfg.columns(start_proc(icfg)))?;
         for i in 0..letters.len() {
             stamps.read(icfg, letters[i], i as u64 + 1)?;
         }
@@ -88,7 +77,7 @@ impl Stamps {
                 helpers,
                 rows,
             } => {
-                let frame = frame_at(icfg, *proc);
+                let frame = icfg.columns(*proc);
                 self.read_inside(frame, written, *helpers, rows.len(), 2 * number)
             }
             Act::Call {
@@ -96,7 +85,7 @@ impl Stamps {
                 helpers,
                 rows,
                 ..
-            } => { self.read_call(frame_at(icfg, *callee), *helpers, rows.len(), 2 * number) }
+            } => { self.read_call(icfg.columns(*callee), *helpers, rows.len(), 2 * number) }
             Act::Back { .. } => Ok(()),
         }
     }

@@ -14,7 +14,7 @@ returns-in_ok-push-in-Call-clause-value c =
     let base : Base = c.in_ok-base-in-Call.base in
     let frame : Columns = frame_of (alphabet_of c.args.icfg.now) (callee_of (act_of (alphabet_of c.args.icfg.now) c.args.letter)) in
     let known : List (Option ℕ) = known_columns frame c.args.entry.now c.args.before.now in
-    let f : c.frame_at-callee.result.now ≡ frame = c.frame_at-callee.ensures ∙ ap (frame_of (alphabet_of c.args.icfg.now)) c.callee_of.ensures in
+    let f : c.columns-callee.result.now ≡ frame = c.columns-callee.ensures.value ∙ ap (frame_of (alphabet_of c.args.icfg.now)) c.callee_of.ensures in
     subst (λ (k : Kind). Enters k c.args.returns known c.args.running.now (reverse c.args.frames.now.items) (reverse c.push.new.self.items)) (sym c.in-Call.is) (
       base,
       ap reverse c.in_ok-push-in-Call.ensures.items ∙ reverse-append c.args.frames.now.items (base ∷ []),

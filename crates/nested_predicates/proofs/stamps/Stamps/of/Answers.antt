@@ -7,7 +7,7 @@ use Rattle.nested_predicates.proofs.StampCounts.{stamps_start, stamps_next, stam
 use Rattle.nested_predicates.proofs.stamps.Stamps.of.Goals as goal
 
 pub loop-i-init : goal.loop-i-init
-loop-i-init c = stamps_start c.args.icfg.now c.args.letters.now c.frame_at.result.now c.in_ok-stamps.stamps (c.frame_at.ensures ∙ ap (frame_of (alphabet_of c.args.icfg.now)) c.start_proc.ensures) c.in_ok-stamps.ensures.rows c.in_ok-stamps.ensures.columns
+loop-i-init c = stamps_start c.args.icfg.now c.args.letters.now c.columns.result.now c.in_ok-stamps.stamps (c.columns.ensures.value ∙ ap (frame_of (alphabet_of c.args.icfg.now)) c.start_proc.ensures) c.in_ok-stamps.ensures.rows c.in_ok-stamps.ensures.columns
 
 pub loop-i-preserved : goal.loop-i-preserved
 loop-i-preserved c =
