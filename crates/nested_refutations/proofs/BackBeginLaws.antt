@@ -17,7 +17,8 @@ use Rattle.nested_predicates.specs.Stamps.{stamps_of}
 use Rattle.nested_predicates.specs.Positions.{Scope, callee_scope, Position, innermost, is_counted}
 use Rattle.nested_predicates.specs.Sums.{root_of}
 use Rattle.nested_predicates.proofs.EndLaws.{rows_goal}
-use Rattle.nested_refutations.specs.Refutations.{is_same, Claim, rows_in, said_at, Role, target_tie, source_tie, stands}
+use Rattle.nested_predicates.specs.Simplifying.{is_same}
+use Rattle.nested_refutations.specs.Refutations.{Claim, rows_in, said_at, Role, target_tie, source_tie, stands}
 use Rattle.nested_refutations.specs.Numbers.{Step, branch_rows, spares, before_bounds, bounds_in, OpenCall, back_step, Reading, here, IsFalse, AreCutsAt}
 use Rattle.nested_refutations.specs.Refuting.{StepRefutes}
 use Rattle.nested_refutations.specs.Waiting.{StepWaits}

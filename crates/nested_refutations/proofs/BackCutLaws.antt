@@ -42,10 +42,6 @@ abbrev test_with : ℕ → ℕ → ℕ → ℕ → ℕ → ℕ → Bool
 test_with exit last own before after s =
     not (nat_lt exit s && nat_lt s (suc last)) && (not (nat_lt own s && nat_lt s (suc before)) && (nat_lt own s && nat_lt s (suc after)))
 
-and_false : (x : Bool) → (x && false) ≡ false
-and_false true = refl
-and_false false = refl
-
 test_own : (exit last own before after s : ℕ) → exit ≡ suc before → own ≤ before → exit ≤ last → last ≤ after →
     (s < suc before → test_with exit last own before after s ≡ false) × (s ≡ exit → test_with exit last own before after s ≡ true) ×
     (exit < s → s < suc last → test_with exit last own before after s ≡ false) × (after < s → test_with exit last own before after s ≡ false)

@@ -414,9 +414,6 @@ local_known (d, info) h y before = by_column d h
     by_column (Old g) h = absurd (cc)
     by_column (Local g) h = refl
 
-parameter_version : (c : BackLetter) (i : ℕ) → i < locals c.call → (h : LocalAt c i) → h.column.1.constant ≡ true → slice_index c.r.stage.here (heads c.call + (olds c.call + i)) ≡ made c.call + i
-parameter_version c i l h k = kept_at c (heads c.call + (olds c.call + i)) h.column h.there (inl k) ∙ entry_local c.call (heads c.call + (olds c.call + i)) i refl l
-
 pub exit_parameter : (c : BackLetter) (b : Branch) (parts : List (ℕ × ℤ)) (i : ℕ) → i < locals c.call → (h : LocalAt c i) → h.column.1.constant ≡ true → exit_sum c b parts (heads c.call + (olds c.call + i)) ≡
     column_upto b parts (suc (2 * c.r.letters)) (slice_index c.r.stage.here (heads c.call + (olds c.call + i))) -ℤ column_upto b parts (2 * suc c.call.r.letters) (made c.call + i)
 exit_parameter c b parts i l h k =

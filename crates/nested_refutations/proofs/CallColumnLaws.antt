@@ -122,11 +122,6 @@ name_mid c x j e l =
     index_right c.r.stage.here ((columns_from (made c + made_count c) (heads c) ++ new_in_callee c) ++ columns_from (made c + locals c) c.helpers) j ∙
     index_left (columns_from (made c + made_count c) (heads c) ++ new_in_callee c) (columns_from (made c + locals c) c.helpers) j (omega (arith, l, m))
 
-pub name_global : (c : CallLetter) (x i : ℕ) → x ≡ width c + i → i < heads c → slice_index (call_names c) x ≡ made c + made_count c + i
-name_global c x i e l =
-    let k = columns_count (made c + made_count c) (heads c) in
-    name_mid c x i e (omega (arith, l)) ∙ index_left (columns_from (made c + made_count c) (heads c)) (new_in_callee c) i (omega (arith, l, k)) ∙ columns_at (made c + made_count c) (heads c) i l
-
 name_new : (c : CallLetter) (x j : ℕ) → x ≡ width c + (heads c + j) → j < olds c + locals c → slice_index (call_names c) x ≡ slice_index (new_in_callee c) j
 name_new c x j e l =
     name_mid c x (heads c + j) e (omega (arith, l)) ∙

@@ -14,7 +14,8 @@ use Rattle.nwa_base.specs.declared.letters.Letter.{Letter}
 use Rattle.letter_acts.specs.Invariant.{Graph}
 use Rattle.triple_rows.specs.Predicates.{Formula, truth}
 use Rattle.nested_predicates.specs.Sums.{root_of}
-use Rattle.nested_refutations.specs.Refutations.{is_same, Claim, Spot, truth_in, left_at, Exposed, exposed, View, rows_in}
+use Rattle.nested_predicates.specs.Simplifying.{is_same}
+use Rattle.nested_refutations.specs.Refutations.{Claim, Spot, truth_in, left_at, Exposed, exposed, View, rows_in}
 use Rattle.nested_refutations.specs.Numbers.{IsFalse}
 use Rattle.nested_refutations.specs.Walked.{is_truth, false_row}
 use Rattle.nested_refutations.proofs.SpotLaws.{spot, IsUncased, uncased_stands}

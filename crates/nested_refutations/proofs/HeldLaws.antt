@@ -8,7 +8,8 @@ use Rattle.nested_predicates.specs.Stamps.{column_stamp}
 use Rattle.nested_predicates.specs.Positions.{is_counted}
 use Rattle.nested_predicates.specs.Sums.{Branch, with_cut}
 use Rattle.nested_predicates.specs.Joins.{joined_at}
-use Rattle.nested_refutations.specs.Refutations.{is_same, Claim, Spot, low_side, high_side, truth_in, left_at, Asked, one_part, both_parts, some_part, each_asked, some_asked, asked_at, Exposed, atom_exposed, parts_exposed, unless_truth, exposed, Role, stands, taken_at}
+use Rattle.nested_predicates.specs.Simplifying.{is_same}
+use Rattle.nested_refutations.specs.Refutations.{Claim, Spot, low_side, high_side, truth_in, left_at, Asked, one_part, both_parts, some_part, each_asked, some_asked, asked_at, Exposed, atom_exposed, parts_exposed, unless_truth, exposed, Role, stands, taken_at}
 use Rattle.nested_refutations.proofs.TruthLaws.{decided, cut_truth, HeldUnless, PartsHeld, FollowHeld, each_held, some_held, IsOpen, open_held, AskedOpen, asked_open}
 use Rattle.nested_refutations.proofs.SpotLaws.{spot, IsUncased}
 

@@ -344,9 +344,6 @@ record Opened (v : View) (root : Spot) (W : Goes → Branch → Type 0) (g : Goe
   pub goes : GoesWell v root next
   pub stops : StopsWell v root (W next) next (stops_at v next.taken s)
 
-some_claim : (o : Option Claim) (c : Claim) → o ≡ Some c → (v : View) (i n : ℕ) (side : Bool) (sd : Option Spot) (g : Goes) → member_taken v i o n side sd g ≡ member_taken v i (Some c) n side sd g
-some_claim o c e v i n side sd g = ap (λ (x : Option Claim). member_taken v i x n side sd g) e
-
 group_opened : (v : View) → IsView v → (root : Spot) → IsUncased root.tree → (W : Goes → Branch → Type 0) → Keeps v root W → (g : Goes) → GoesWell v root g → (s : Spot) → GroupReached v root (W g) g s →
     (side : Bool) → Opened v root W g s side
 group_opened v view root un W keeps g goes s h side = by_groups g.groups refl h.waits goes.groups

@@ -42,11 +42,6 @@ below_or (suc x) (suc n) = by_rest (below_or x n)
     by_rest (inl l) = inl (omega (arith, l))
     by_rest (inr l) = inr (omega (arith, l))
 
-pub below_at : (n : ℕ) (xs : List ℕ) (j : ℕ) → AllByRecursion (λ c. c < n) xs → j < length xs → slice_index xs j < n
-below_at n [] j h l = absurd (omega (arith, l))
-below_at n (x ∷ xs) zero h l = h.0
-below_at n (x ∷ xs) (suc j) h l = below_at n xs j h.1 (omega (arith, l))
-
 pub no_zero : (ts : List (ℕ × ℤ)) → AllByRecursion IsCoefficient ts → HasNoZero ts
 no_zero [] h = tt
 no_zero (t ∷ ts) h = (h.0.is_not_zero, no_zero ts h.1)

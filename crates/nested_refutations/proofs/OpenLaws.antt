@@ -233,23 +233,6 @@ heads_same infos a b f h j l =
     ap (λ (x : Columns). slice_get x j) p ∙ get_left (globals_from 0 infos) (old_part a ++ locals_of a) j (omega (arith, l, n)) ∙
     sym (ap (λ (x : Columns). slice_get x j) q ∙ get_left (globals_from 0 infos) (old_part b ++ locals_of b) j (omega (arith, l, n)))
 
--- what is open at a return, whose call letter is that of the innermost call
-pub record Returning (g : Graph) (globals : ℕ) (w : List Letter) (place : ℕ) (call : OpenCall) (scope : Scope) (before : List ℕ) (letter caller callee helpers : ℕ) (rows : List LinearRow) : Type 0 where
-  pub open_at : OpenAt g globals w place call scope before
-  pub id : open_at.letter.id ≡ letter
-  pub caller_is : open_at.caller ≡ caller
-  pub callee_is : open_at.callee ≡ callee
-  pub helpers_is : open_at.helpers ≡ helpers
-  pub rows_is : open_at.rows ≡ rows
-
-pub returning_call : (g : Graph) → IsGraph g → (globals : ℕ) (w : List Letter) (place : ℕ) (call : OpenCall) (scope : Scope) (before : List ℕ) → OpenAt g globals w place call scope before →
-    (from to : ℕ) (a : Letter) → Member g.automaton.backs (from, place, a, to) → (x : BackEdge g from place a to) →
-    Returning g globals w place call scope before a.call x.known.caller x.known.callee x.known.helpers x.known.rows
-returning_call g ok globals w place call scope before o from to a m x =
-    let id : o.letter.id ≡ a.call = ok.edges.one_call.both place from o.to to o.letter a o.edge m in
-    let act : Some (call_act o.caller o.callee o.helpers o.rows) ≡ Some (call_act x.known.caller x.known.callee x.known.helpers x.known.rows) = sym o.at.there ∙ ap (slice_get g.acts) id ∙ x.known.call in
-    record { open_at = o; id = id; caller_is = cc; callee_is = cc; helpers_is = cc; rows_is = cc }
-
 -- the columns of the caller that stay have the versions that they had before the call
 returned_fixed : (g : Graph) → (globals : ℕ) → HaveGlobals g globals → (w : List Letter) (place : ℕ) (call : OpenCall) (scope : Scope) (v : List ℕ) (o : OpenAt g globals w place call scope v) (targets exit : List ℕ) →
     globals ≤ length exit → AllByRecursion (MayTarget (frame_of (alphabet_of g) o.caller)) targets → IsKept (frame_of (alphabet_of g) o.callee) (entry_of g o.reading o.callee o.helpers) exit →

@@ -148,10 +148,6 @@ own_parts v root b front block early now more late h times number =
 
 -- ---- windows of stamps
 
--- the stamps of a branch are 2 or more
-abbrev pub FromTwo : List ℕ → Type 0
-FromTwo ss = AllByRecursion (λ s. 2 ≤ s) ss
-
 -- where the stamps above one and up to another are those of own cuts, the difference of the running sums is what is own
 pub window_sum : (v : View) (b : Branch) (parts : List (ℕ × ℤ)) (number : LinearRow → ℤ) (low high : ℕ) → low ≤ high → length b.stamps ≡ length b.rows → AllByRecursion (IsPart b.rows) parts →
     AllByRecursion (λ s. (s < suc low → is_own v s ≡ false) × (low < s → s < suc high → is_own v s ≡ true) × (high < s → is_own v s ≡ false)) b.stamps →

@@ -15,7 +15,8 @@ use Rattle.nested_predicates.specs.Stamps.{column_stamp}
 use Rattle.nested_predicates.specs.Positions.{is_counted}
 use Rattle.nested_predicates.specs.Sums.{Branch, with_cut, terms_from, inequality, coefficients_at, bound_at}
 use Rattle.nested_predicates.specs.Joins.{joined, joined_at, and_before, and_joined, or_before, or_joined, simplified}
-use Rattle.nested_refutations.specs.Refutations.{is_same, Claim, Spot, low_side, high_side, truth_in, left_at, Asked, one_part, both_parts, some_part, each_asked, some_asked, asked_at, Exposed, atom_exposed, parts_exposed, unless_truth, exposed, rows_in}
+use Rattle.nested_predicates.specs.Simplifying.{is_same}
+use Rattle.nested_refutations.specs.Refutations.{Claim, Spot, low_side, high_side, truth_in, left_at, Asked, one_part, both_parts, some_part, each_asked, some_asked, asked_at, Exposed, atom_exposed, parts_exposed, unless_truth, exposed, rows_in}
 use Rattle.nested_refutations.proofs.TruthLaws.{decided, join_simplified, AskedOpen, asked_open}
 use Rattle.nested_refutations.proofs.SpotLaws.{spot, StandsIn, IsUncased, sides_stand}
 use Rattle.nested_refutations.proofs.HeldLaws.{truth_at, truth_of_cut}

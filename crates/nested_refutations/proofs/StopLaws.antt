@@ -49,9 +49,6 @@ none_some x e = absurd (cc)
 same_some : {X : Type 0} (x y : X) → Some x ≡ Some y → x ≡ y
 same_some x y e = cc
 
-is_true : (b : Bool) → b ≡ true → IsTrue b
-is_true b e = e
-
 last_tells : (used : ℕ → Bool) (k : ℕ) (c : Claim) (stamp : ℕ) → c.is_denied ≡ true → used k ≡ true → (z : Bool) → is_counted c.position stamp ≡ z →
     TellsFrom used k (c ∷ []) stamp (if z then own_cut else told_by k c)
 last_tells used k c stamp d u true e = one

@@ -4,7 +4,8 @@ use Rattle.std.specs.Prelude.{not, if◌then◌else◌}
 use Rattle.triple_rows.specs.Predicates.{Formula, truth, atom, and_of, or_of}
 use Rattle.nested_predicates.specs.Joins.{joined, and_before, and_joined, or_before, or_joined, simplified}
 use Rattle.nested_predicates.proofs.SpellingLaws.{and_true, or_false}
-use Rattle.nested_refutations.specs.Refutations.{is_same, truth_in, Asked, one_part, both_parts, some_part, each_asked, some_asked}
+use Rattle.nested_predicates.specs.Simplifying.{is_same}
+use Rattle.nested_refutations.specs.Refutations.{truth_in, Asked, one_part, both_parts, some_part, each_asked, some_asked}
 
 -- what two parts come to where a part that is x decides them, and the other truth value is simplified away
 abbrev pub decided : Bool → Option Bool → Option Bool → Option Bool

@@ -3,7 +3,8 @@ use Rattle.std.proofs.Common.{◌≡◌, ◌∙◌, ℕ, zero, suc, ◌<◌, ◌
 use Rattle.std.specs.Prelude.{◌&&◌, nat_lt, slice_get, if◌then◌else◌}
 use Rattle.std.proofs.lemmas.Bool.{lt-ltb, le-ltb, ltb-true, ltb-false}
 use Rattle.nested_predicates.specs.Positions.{Position, is_counted}
-use Rattle.nested_refutations.specs.Refutations.{is_same, Claim, View, own_cut, told_by, meets}
+use Rattle.nested_predicates.specs.Simplifying.{is_same}
+use Rattle.nested_refutations.specs.Refutations.{Claim, View, own_cut, told_by, meets}
 use Rattle.nested_refutations.proofs.HeldLaws.{asks_each}
 use Rattle.nested_refutations.proofs.StopLaws.{AreClaims, IsView}
 use Rattle.nested_refutations.proofs.WayLaws.{is_own_meeting, is_own}

@@ -259,7 +259,7 @@ begins g w t s = record {
 }
 
 -- the numbers of the triple's system fit; and, where no claim is false, those of each leaf of its refutation
-pub record StepFits (g : Graph) (w : List Letter) (t : Tree) (s : Step) : Type 0 where
+pub record StepNumbersFit (g : Graph) (w : List Letter) (t : Tree) (s : Step) : Type 0 where
   pub system : PlainFits (system_of (alphabet_of g) s.triple)
   pub leaves : AllByRecursion (λ c. IsFalse g w t s.view c → ⊥) s.view.claims → (sides : List Bool) →
       IfSome (leaf_from s.view sides (begins g w t s) (stops s.view [] 0 (root_of g w) t)) LeafFits
@@ -275,4 +275,4 @@ AreCutsAt count (cases_tree ts) = Unit {0}
 pub record NumbersFit (g : Graph) (w : List Letter) (nodes : List PlainNode) : Type 0 where
   pub cuts : (t : Tree) → prefix_of t ≡ nodes → AreCutsAt (length (stamps_of g w).columns) t
   pub sums : (t : Tree) → prefix_of t ≡ nodes → SumsFit (stamps_of g w).columns (positions_of g w) (root_of g w) t
-  pub steps : (t : Tree) → prefix_of t ≡ nodes → AllByRecursion (StepFits g w t) (steps_of g w t)
+  pub steps : (t : Tree) → prefix_of t ≡ nodes → AllByRecursion (StepNumbersFit g w t) (steps_of g w t)

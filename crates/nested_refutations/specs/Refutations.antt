@@ -3,7 +3,6 @@
 use Rattle.std.specs.Prelude.{ℕ, suc, ◌+◌, ℤ, pos, neg_ℤ, Bool, true, false, not, ◌&&◌, ◌||◌, List, [], ◌∷◌, ◌++◌, map, length, nat_eq, Option, None, Some, unwrap_or, slice_get, if◌then◌else◌}
 use Rattle.math_facts.specs.Terms.{coefficient}
 use Rattle.lin_rows.specs.Rows.{LinearRow}
-use Rattle.lin_rows.specs.Sums.{led_by}
 use Rattle.lin_rows.specs.Tightening.{content, tightened}
 use Rattle.farkas_check.specs.Refutes.{at_most, above}
 use Rattle.farkas_check.specs.Trees.{Tree, leaf_tree, cut_tree, cases_tree, prefix_of}
@@ -13,6 +12,7 @@ use Rattle.nested_predicates.specs.Stamps.{column_stamp}
 use Rattle.nested_predicates.specs.Positions.{Position, is_counted}
 use Rattle.nested_predicates.specs.Sums.{Branch, with_cut, terms_from, coefficients_at}
 use Rattle.nested_predicates.specs.Joins.{joined_at, simplified}
+use Rattle.nested_predicates.specs.Simplifying.{is_same}
 
 -- ---- what a triple's system says of its predicates
 
@@ -39,11 +39,6 @@ low_side columns n b c k t = record { node = suc n; branch = with_cut b (column_
 
 abbrev pub high_side : List ℕ → ℕ → Branch → ℕ → ℤ → Tree → Tree → Spot
 high_side columns n b c k t u = record { node = suc n + length (prefix_of t); branch = with_cut b (column_stamp columns c) (above c k); tree = u }
-
--- both truth values are the same
-abbrev pub is_same : Bool → Bool → Bool
-is_same true b = b
-is_same false b = not b
 
 -- the truth value, if the formula is one
 abbrev pub truth_in : Formula → Option Bool
@@ -188,11 +183,6 @@ abbrev pub multipliers : View → ℕ → Branch → List (ℕ × ℤ) → List 
 multipliers v n b parts [] = []
 multipliers v n b parts (r ∷ rs) = (if is_again r rs then pos 0 else multiplier v n b parts r) ∷ multipliers v n b parts rs
 
--- the rows from number k on with these multipliers, those that are taken 0 times left out
-abbrev pub parts_from : ℕ → List ℤ → List (ℕ × ℤ)
-parts_from k [] = []
-parts_from k (m ∷ ms) = led_by k m (parts_from (suc k) ms)
-
 -- ---- the way to a leaf
 
 -- Where the refutation has come to: the rows of the goal and what each is, the groups that are not opened, each of a claim at a
@@ -321,7 +311,7 @@ pub record Leaf : Type 0 where
   pub parts : List (ℕ × ℤ)
 
 abbrev pub leaf_of : View → Goes → ℕ → Branch → List (ℕ × ℤ) → Leaf
-leaf_of v g n b parts = record { rows = g.rows; parts = parts_from 0 (multipliers v n b parts g.roles) }
+leaf_of v g n b parts = record { rows = g.rows; parts = terms_from 0 (multipliers v n b parts g.roles) }
 
 -- on from a group that is opened, if there is one
 abbrev pub on_opened : Option Goes → (Goes → Option Leaf) → Option Leaf

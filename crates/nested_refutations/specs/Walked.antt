@@ -14,8 +14,9 @@ use Rattle.triple_rows.specs.declared.triples.Triple.TheVariants.{Inside, Call, 
 use Rattle.triple_rows.specs.Systems.{IsSystem}
 use Rattle.triple_rows.specs.Triples.{system_of}
 use Rattle.nested_predicates.specs.Sums.{root_of}
-use Rattle.nested_refutations.specs.Refutations.{is_same, Claim, Spot, truth_in, left_at, exposed, View, Goes, Stop, at_leaf, at_cut, at_group, nowhere, stops, stops_at, with_own, opened, leaf_of}
-use Rattle.nested_refutations.specs.Numbers.{Step, StepFits, begins}
+use Rattle.nested_predicates.specs.Simplifying.{is_same}
+use Rattle.nested_refutations.specs.Refutations.{Claim, Spot, truth_in, left_at, exposed, View, Goes, Stop, at_leaf, at_cut, at_group, nowhere, stops, stops_at, with_own, opened, leaf_of}
+use Rattle.nested_refutations.specs.Numbers.{Step, StepNumbersFit, begins}
 
 -- ---- a tree that is put down
 
@@ -147,4 +148,4 @@ RefutesTriple g s found = (system : System) → IsSystem (system_of (alphabet_of
 
 -- Where the numbers of the step fit, a tree that is put down for its triple refutes the triple's system.
 abbrev pub WalkedRefutes : Graph → List Letter → Tree → Step → Type 0
-WalkedRefutes g w t s = StepFits g w t s → (found : Tree) → IsPutDown g w t s found → RefutesTriple g s found
+WalkedRefutes g w t s = StepNumbersFit g w t s → (found : Tree) → IsPutDown g w t s found → RefutesTriple g s found

@@ -18,7 +18,7 @@ use Rattle.nested_predicates.specs.Stamps.{stamps_of}
 use Rattle.nested_predicates.specs.Positions.{positions_of}
 use Rattle.nested_predicates.specs.Sums.{root_of}
 use Rattle.nested_predicates.specs.Fitting.{SumsFit}
-use Rattle.nested_refutations.specs.Numbers.{steps_of, StepFits}
+use Rattle.nested_refutations.specs.Numbers.{steps_of, StepNumbersFit}
 use Rattle.path_decide.specs.Decided.{RefutesPath, path_decision, PathFits, IsGap}
 use Rattle.path_rows.specs.Paths.{path_of}
 use Rattle.trace_replay.specs.ToldRuns.{ToldFails, ToldPasses}
@@ -48,7 +48,7 @@ pub record FailsAfter (t : TypedProgram) (w : List Letter) (steps : ℕ) (choice
 -- these fit.
 pub record PredicatesFit (g : Graph) (w : List Letter) (nodes : List PlainNode) : Type 0 where
   pub sums : (t : Tree) → prefix_of t ≡ nodes → SumsFit (stamps_of g w).columns (positions_of g w) (root_of g w) t
-  pub steps : (t : Tree) → prefix_of t ≡ nodes → AllByRecursion (StepFits g w t) (steps_of g w t)
+  pub steps : (t : Tree) → prefix_of t ≡ nodes → AllByRecursion (StepNumbersFit g w t) (steps_of g w t)
 
 -- A number that does not fit: one of Decide on the rows of the word; one of the prefix predicates, of the systems of their triples or of the
 -- refutations of these, under Decide's own refutation; or a value of the run that Decide's point and an accepting run tell.
