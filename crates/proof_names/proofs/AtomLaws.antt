@@ -13,10 +13,11 @@ use Rattle.lin_rows.specs.Rows.{LinearRow, AscendsFrom, IsCoefficient}
 use Rattle.lin_rows.specs.Sums.{row_of, summed, SumsFit}
 use Rattle.lin_rows.proofs.RowLemmas.{terms_are_summed}
 use Rattle.lin_rows.proofs.Ascending.{coefficient_first, coefficient_rest}
+use Rattle.boogie_tree.specs.Names.{is_digit}
 use Rattle.letter_acts.specs.Frames.{Columns}
 use Rattle.proof_form.specs.declared.numerals.Numeral.{Numeral}
 use Rattle.proof_form.specs.NumberValues.{number}
-use Rattle.proof_form.specs.Names.{is_digit, is_column}
+use Rattle.proof_form.specs.Names.{is_column}
 use Rattle.proof_form.specs.Numerals.{is_numeral, is_zero, has_one_spelling}
 use Rattle.proof_form.specs.Predicates.{is_term}
 use Rattle.proof_form.proofs.RunLaws.{both_hold}

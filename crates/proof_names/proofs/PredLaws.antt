@@ -4,6 +4,7 @@ use Rattle.std.specs.Prelude.{map, IsTrue}
 use Rattle.std.specs.List.{list_all}
 use Rattle.std.specs.Option.{option_map}
 use Rattle.std.proofs.lemmas.List.Folds.{list_all-map}
+use Rattle.boogie_tree.specs.Names.{is_spelled}
 use Rattle.letter_acts.specs.Frames.{Columns}
 use Rattle.letter_acts.specs.Acts.{frame_of}
 use Rattle.letter_acts.specs.Invariant.{Graph, alphabet_of}
@@ -15,7 +16,6 @@ use Rattle.proof_form.specs.declared.lines.PredLine.{PredLine}
 use Rattle.proof_form.specs.Predicates as form
 use Rattle.proof_form.specs.Lines as lines
 use Rattle.proof_form.specs.Trees.{is_tree}
-use Rattle.proof_form.specs.Names.{is_procedure}
 use Rattle.proof_form.proofs.RunLaws.{both_hold}
 use Rattle.proof_names.specs.Options.{all_some}
 use Rattle.proof_names.specs.Columns.{procedure_named}
@@ -35,12 +35,12 @@ named_as g line p o h e =
 pub line_spells : (g : Graph) (line : PredLine) (p : ℕ) (nodes : List PredNode) → IsTrue (lines.is_pred (lines.pred line)) →
     Some nodes ≡ all_some (map (λ n. node_named (frame_of (alphabet_of g) p) (form.plain n)) line.nodes.items) → SpellsPredicate nodes
 line_spells g line p nodes h e =
-    let b = both_hold (is_procedure line.proc) (form.is_predicate (map form.plain line.nodes.items)) h in
+    let b = both_hold (is_spelled line.proc) (form.is_predicate (map form.plain line.nodes.items)) h in
     nodes_spell (frame_of (alphabet_of g) p) (map form.plain line.nodes.items) nodes b.1 (sym (nodes_as (frame_of (alphabet_of g) p) line.nodes.items (Some nodes) e))
 
 pub nodes_hold : (line : PredLine) (ns : List PNode) → IsTrue (lines.is_pred (lines.pred line)) → ns ≡ line.nodes.items → IsTrue (list_all (λ n. form.is_node (form.plain n)) ns)
 nodes_hold line ns h e =
-    let b = both_hold (is_procedure line.proc) (form.is_predicate (map form.plain line.nodes.items)) h in
+    let b = both_hold (is_spelled line.proc) (form.is_predicate (map form.plain line.nodes.items)) h in
     let d = both_hold (list_all form.is_node (map form.plain line.nodes.items))
     (is_tree form.parts (map form.plain line.nodes.items) && form.are_low (map form.plain line.nodes.items)) b.1 in
     ap (list_all (λ n. form.is_node (form.plain n))) e ∙ sym (list_all-map form.is_node form.plain line.nodes.items) ∙ d.0

@@ -7,6 +7,7 @@ use Rattle.std.proofs.lemmas.Bool.{leb-true}
 use Rattle.std.proofs.lemmas.List.{append-nil}
 use Rattle.lin_rows.specs.declared.types.RowKind.TheVariants.{Le}
 use Rattle.lin_rows.specs.Rows.{LinearRow}
+use Rattle.boogie_tree.specs.Names.{is_spelled}
 use Rattle.letter_acts.specs.Frames.{Columns}
 use Rattle.letter_acts.specs.Acts.{frame_of}
 use Rattle.letter_acts.specs.Invariant.{Graph, alphabet_of}
@@ -20,7 +21,6 @@ use Rattle.proof_form.specs.Trees.{is_tree}
 use Rattle.proof_form.specs.Forests.{Tree, Forest, tree, no_tree, one_more, size, HasParts, HaveParts, prefix_of, prefixes_of}
 use Rattle.proof_form.specs.Predicates.{PredicateNode, atom, and_of, or_of, parts, is_term, is_node, highest, height_of, with_height, heights, are_low, is_predicate}
 use Rattle.proof_form.specs.Refutations.{is_some_list}
-use Rattle.proof_form.specs.Names.{is_procedure}
 use Rattle.proof_form.specs.Lines as form
 use Rattle.proof_form.specs.Numerals.{is_numeral}
 use Rattle.proof_form.proofs.RunLaws.{both_hold}
@@ -128,10 +128,6 @@ all_of_append f (x ∷ xs) ys h =
     let r = all_of_append f xs ys b.1 in
     (rw (b.0, r.0) refl, r.1)
 
-no_trees : (ts : Forest PredicateNode) → 0 ≡ size ts → ts ≡ no_tree
-no_trees no_tree e = refl
-no_trees (one_more t ts) e = absurd (omega arith)
-
 node_grown : (frame : Columns) (n : PredicateNode) (ts : Forest PredicateNode) (m : PredNode) (ms : List PredNode) → parts n ≡ size ts → is_node n ≡ true →
     node_named frame n ≡ Some m → AllGrown ts ms → Grown (tree n ts) (m ∷ ms)
 node_grown frame (atom bound terms) ts m ms p g e a =
@@ -225,5 +221,5 @@ spelled_in g nodes (Some p) sc h e = by_nodes (all_some (map (node_named (frame_
 -- the predicate that a line of the grammar names spells a predicate
 pub pred_spells : (g : Graph) (line : form.Pred) (sc : Scoped) → IsTrue (form.is_pred line) → pred_named g line ≡ Some sc → SpellsPredicate sc.pred
 pred_spells g line sc h e =
-    let b = both_hold (is_procedure line.proc) (is_predicate line.nodes) h in
+    let b = both_hold (is_spelled line.proc) (is_predicate line.nodes) h in
     spelled_in g line.nodes (procedure_named g line.proc) sc b.1 e

@@ -1,23 +1,11 @@
 //! Procedures and columns, found by their names.
 
 ghost use Rattle.std.specs.Prelude.{◌≡◌, ◌^◌, [], ◌∷◌, bytes_eq, position, slice_get};
-ghost use Rattle.letter_acts.specs.Acts.{frame_of};
-ghost use Rattle.letter_acts.specs.Invariant.{alphabet_of};
 ghost use Rattle.proof_names.specs.Columns as spec;
 ghost use Rattle.proof_names.specs.Numbers.{below};
 
 use boogie_tree::{Column, Text, VarInfo};
 use letter_acts::Icfg;
-
-/// The columns of a procedure, none where there is no such procedure.
-pub(crate) fn columns_of(icfg: &Icfg, proc: u32) -> &[(Column, VarInfo)]
-    ensures { result.now ≡ frame_of (alphabet_of icfg.now) proc }
-{
-    match icfg.frames().get(proc as usize) {
-        Some(frame) => frame.columns.as_slice(),
-        None => &[],
-    }
-}
 
 /// The letter before the colon that stands before the name of a column.
 fn mark(column: Column) -> u8

@@ -8,7 +8,7 @@ ghost use Rattle.proof_form.specs.Predicates as form;
 ghost use Rattle.proof_names.specs.Options.{all_some};
 ghost use Rattle.proof_names.specs.Predicates as spec;
 
-use crate::columns::{column_named, columns_of, procedure_named};
+use crate::columns::{column_named, procedure_named};
 use crate::numbers::number_in;
 use boogie_tree::{Column, Text, VarInfo};
 use letter_acts::Icfg;
@@ -129,7 +129,7 @@ pub(crate) fn pred_named(
     let Some(proc) = procedure_named(icfg, line.proc.bytes()) else {
         return Ok(None);
     };
-    let Some(nodes) = nodes_named(alloc, columns_of(icfg, proc), &line.nodes)? else {
+    let Some(nodes) = nodes_named(alloc, icfg.columns(proc), &line.nodes)? else {
         return Ok(None);
     };
     match pred(nodes) {

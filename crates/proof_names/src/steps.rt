@@ -52,7 +52,7 @@ fn is_node_in(icfg: &Icfg, nodes: &[NamedNode], proc: u32, number: usize) -> boo
 fn step_is_in(icfg: &Icfg, nodes: &[NamedNode], from: usize, letter: u32, to: usize) -> bool
     ensures { IsTrue result ↔ StepIsIn icfg.now (named_place nodes.now) from to (slice_get icfg.now.acts letter) }
 {
-    match icfg.acts().get(letter as usize) {
+    match icfg.act(letter) {
         Some(Act::Inside { proc, .. }) => {
             is_node_in(icfg, nodes, *proc, from) && is_node_in(icfg, nodes, *proc, to)
         }
@@ -74,7 +74,7 @@ fn return_is_in(
 ) -> bool
     ensures { IsTrue result ↔ ReturnIsIn icfg.now (named_place nodes.now) exit before to (slice_get icfg.now.acts call) }
 {
-    match icfg.acts().get(call as usize) {
+    match icfg.act(call) {
         Some(Act::Call { caller, callee, .. }) => {
             is_node_in(icfg, nodes, *callee, exit)
                 && is_node_in(icfg, nodes, *caller, before)
@@ -95,7 +95,7 @@ fn back_is_in(
 ) -> bool
     ensures { IsTrue result ↔ BackIsIn icfg.now (named_place nodes.now) exit before to (slice_get icfg.now.acts letter) }
 {
-    match icfg.acts().get(letter as usize) {
+    match icfg.act(letter) {
         Some(Act::Back { call, .. }) => return_is_in(icfg, nodes, exit, before, to, *call),
         _ => false,
     }

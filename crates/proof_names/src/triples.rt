@@ -1,10 +1,7 @@
 //! The triples that lines name.
 
 ghost use Rattle.std.specs.Prelude.{◌≡◌, ◌≤◌, ◌^◌, Some, map, filter, count_by, length, not, IsTrue, IfOk, MatchOption, slice_get};
-ghost use Rattle.std.specs.Option.{option_map};
-ghost use Rattle.letter_acts.specs.Acts.{plain_act};
 ghost use Rattle.letter_acts.specs.Frames.{is_global, is_variable};
-ghost use Rattle.letter_acts.specs.Kept.{Keeps};
 ghost use Rattle.letter_acts.specs.Invariant.{alphabet_of, is_global_at, written_by, BackIsActedFrom};
 ghost use Rattle.proof_form.specs.Lines as lines;
 ghost use Rattle.proof_form.specs.Refutations as form;
@@ -16,7 +13,6 @@ ghost use Rattle.proof_names.specs.Naming.{NamesTriple};
 ghost use Rattle.proof_names.specs.Refutations.{refutation_of};
 ghost use Rattle.proof_names.specs.Scopes.{call_scopes, back_scopes};
 
-use crate::columns::columns_of;
 use crate::numbers::{index_in, short_in};
 use crate::outlines::{Listed, NamedTriple};
 use crate::refutations::{is_named, refutation_of};
@@ -106,14 +102,6 @@ fn proof_in(line: &TripleLine) -> &[RNode]
     }
 }
 
-/// The act of a letter.
-fn act_of(icfg: &Icfg, letter: u32) -> Option<&Act>
-    ensures value { option_map (λ a. plain_act a.now) result ≡ slice_get icfg.now.acts letter }
-    ensures valid { Keeps icfg.now }
-{
-    icfg.acts().get(letter as usize)
-}
-
 /// The triple with these numbers of an inside letter.
 fn inside_at(
     alloc: Global,
@@ -125,7 +113,7 @@ fn inside_at(
 ) -> Result<Option<Triple>, AllocError>
     ensures { IfOk result (λ o. o ≡ spec.inside_at (slice_get preds.now) from letter to (slice_get icfg.now.acts letter)) }
 {
-    let Some(Act::Inside { proc, .. }) = act_of(icfg, letter) else {
+    let Some(Act::Inside { proc, .. }) = icfg.act(letter) else {
         return Ok(None);
     };
     let Some(from) = scoped_at(alloc, preds, *proc, from)? else {
@@ -148,7 +136,7 @@ fn call_at(
 ) -> Result<Option<Triple>, AllocError>
     ensures { IfOk result (λ o. o ≡ spec.call_at (slice_get preds.now) from letter to (slice_get icfg.now.acts letter)) }
 {
-    let Some(Act::Call { caller, callee, .. }) = act_of(icfg, letter) else {
+    let Some(Act::Call { caller, callee, .. }) = icfg.act(letter) else {
         return Ok(None);
     };
     let Some(from) = scoped_at(alloc, preds, *caller, from)? else {
@@ -164,7 +152,7 @@ fn call_at(
 fn call_scopes(icfg: &Icfg, letter: u32) -> Option<(u32, u32)>
     ensures { result ≡ call_scopes (slice_get icfg.now.acts letter) }
 {
-    match act_of(icfg, letter) {
+    match icfg.act(letter) {
         Some(Act::Call { caller, callee, .. }) => Some((*caller, *callee)),
         _ => None,
     }
@@ -174,7 +162,7 @@ fn call_scopes(icfg: &Icfg, letter: u32) -> Option<(u32, u32)>
 fn back_scopes(icfg: &Icfg, letter: u32) -> Option<(u32, u32)>
     ensures { result ≡ back_scopes icfg.now.acts (slice_get icfg.now.acts letter) }
 {
-    match act_of(icfg, letter) {
+    match icfg.act(letter) {
         Some(Act::Back { call, .. }) => call_scopes(icfg, *call),
         _ => None,
     }
@@ -284,7 +272,7 @@ fn return_width(icfg: &Icfg, call: u32, targets: &[u32]) -> usize
     requires { BackIsActedFrom (alphabet_of icfg.now) targets.now (slice_get icfg.now.acts call) }
     ensures { result ≡ back_width (alphabet_of icfg.now) targets.now (slice_get icfg.now.acts call) }
 {
-    match act_of(icfg, call) {
+    match icfg.act(call) {
         Some(
             Act::Call {
                 caller,
@@ -293,8 +281,8 @@ fn return_width(icfg: &Icfg, call: u32, targets: &[u32]) -> usize
                 ..
             },
         ) => {
-            let frame = columns_of(icfg, *caller);
-            columns_of(icfg, *callee).len()
+            let frame = icfg.columns(*caller);
+            icfg.columns(*callee).len()
                 + frame.len()
                 + written_count(frame, targets)
                 + *helpers as usize
@@ -307,7 +295,7 @@ fn return_width(icfg: &Icfg, call: u32, targets: &[u32]) -> usize
 fn width(icfg: &Icfg, letter: u32) -> usize
     ensures { result ≡ spec.width (alphabet_of icfg.now) (slice_get icfg.now.acts letter) }
 {
-    match act_of(icfg, letter) {
+    match icfg.act(letter) {
         Some(
             Act::Inside {
                 proc,
@@ -315,7 +303,7 @@ fn width(icfg: &Icfg, letter: u32) -> usize
                 helpers,
                 ..
             },
-        ) => columns_of(icfg, *proc).len() + written.len() + *helpers as usize,
+        ) => icfg.columns(*proc).len() + written.len() + *helpers as usize,
         Some(
             Act::Call {
                 caller,
@@ -323,7 +311,7 @@ fn width(icfg: &Icfg, letter: u32) -> usize
                 helpers,
                 ..
             },
-        ) => columns_of(icfg, *caller).len() + columns_of(icfg, *callee).len() + *helpers as usize,
+        ) => icfg.columns(*caller).len() + icfg.columns(*callee).len() + *helpers as usize,
         Some(Act::Back { call, targets }) => return_width(icfg, *call, targets),
         None => 0,
     }

@@ -13,12 +13,12 @@ nodes_named-requires c = nodes_hold c.args.line.now c.deref.result.now c.require
 pub returns-in_default-2 : goal.returns-in_default-2
 returns-in_default-2 c =
     named_as c.args.icfg.now c.args.line.now c.in-Some.proc None (c.in-Some.ensures ∙ ap (procedure_named c.args.icfg.now) c.bytes.ensures)
-    (sym (ap (option_map (λ v. v.items)) c.in_default-2.is) ∙ columns_are c.columns_of.ensures c.deref.ensures.value c.in_ok-nodes.ensures)
+    (sym (ap (option_map (λ v. v.items)) c.in_default-2.is) ∙ columns_are c.columns.ensures.value c.deref.ensures.value c.in_ok-nodes.ensures)
 
 pub returns-in-Some-pred : goal.returns-in-Some-pred
 returns-in-Some-pred c =
     let e : Some c.in-Some-2.nodes.items ≡ _ =
-    sym (ap (option_map (λ v. v.items)) c.in-Some-2.is) ∙ columns_are c.columns_of.ensures c.deref.ensures.value c.in_ok-nodes.ensures in
+    sym (ap (option_map (λ v. v.items)) c.in-Some-2.is) ∙ columns_are c.columns.ensures.value c.deref.ensures.value c.in_ok-nodes.ensures in
     let k = found_where (SpellsPredicate c.in-Some-2.nodes.items) c.pred.result c.in-Some-2.nodes.items
     (line_spells c.args.icfg.now c.args.line.now c.in-Some.proc c.in-Some-2.nodes.items c.requires e) c.pred.ensures.found c.pred.ensures.value in
     ap (option_map (scoped_of c.in-Some.proc)) (sym c.in-Some-pred.is ∙ k) ∙ named_as c.args.icfg.now c.args.line.now c.in-Some.proc (Some c.in-Some-2.nodes.items)
@@ -27,7 +27,7 @@ returns-in-Some-pred c =
 pub returns-in-None : goal.returns-in-None
 returns-in-None c =
     let e : Some c.in-Some-2.nodes.items ≡ _ =
-    sym (ap (option_map (λ v. v.items)) c.in-Some-2.is) ∙ columns_are c.columns_of.ensures c.deref.ensures.value c.in_ok-nodes.ensures in
+    sym (ap (option_map (λ v. v.items)) c.in-Some-2.is) ∙ columns_are c.columns.ensures.value c.deref.ensures.value c.in_ok-nodes.ensures in
     let k = found_where (SpellsPredicate c.in-Some-2.nodes.items) c.pred.result c.in-Some-2.nodes.items
     (line_spells c.args.icfg.now c.args.line.now c.in-Some.proc c.in-Some-2.nodes.items c.requires e) c.pred.ensures.found c.pred.ensures.value in
     ap (option_map (scoped_of c.in-Some.proc)) (sym c.in-None.is ∙ k) ∙ named_as c.args.icfg.now c.args.line.now c.in-Some.proc (Some c.in-Some-2.nodes.items)
