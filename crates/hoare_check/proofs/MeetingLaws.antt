@@ -1,27 +1,13 @@
 -- Whole points that meet systems.
-use Rattle.std.proofs.Common.{◌≡◌, ◌∙◌, ◌⊎◌, ℕ, zero, suc, ◌+◌, ◌<◌, ◌≤◌, ℤ, pos, ◌+ℤ◌, ◌*ℤ◌, List, [], ◌∷◌, ◌++◌, length, take, drop, get_or, Vec, Global, sym, ap, subst, inl, inr, arith}
+use Rattle.std.proofs.Common.{◌≡◌, ◌∙◌, ℕ, zero, suc, ◌+◌, ◌<◌, ◌≤◌, ℤ, List, [], ◌∷◌, ◌++◌, length, take, get_or, Vec, Global, sym, ap, subst, inl, inr, arith}
 use Rattle.std.specs.List.{AllByRecursion}
-use Rattle.std.proofs.lemmas.List.{take_more, take_all, drop_more, drop_all}
-use Rattle.std.proofs.lemmas.Int.{ints}
-use Rattle.math_facts.specs.Terms.{dot}
+use Rattle.std.proofs.lemmas.List.{take_more, take_all}
 use Rattle.lin_rows.specs.declared.systems.System.{System}
 use Rattle.lin_rows.specs.Rows.{Holds}
 use Rattle.lin_rows.specs.Systems.{Meets, SomeMember, EachHasMember, members_of, rows_of, groups_of}
 use Rattle.lin_rows.proofs.SystemLaws.{meets_close, members_of-append}
 
 -- ---- what terms add up to
-
-pub sum_next : (p : ℕ → ℤ) (terms : List (ℕ × ℤ)) (sum new : ℤ) (i : ℕ) (d : ℕ × ℤ) → i < length terms → sum +ℤ dot p (drop i terms) ≡ dot p terms →
-    new ≡ sum +ℤ ((get_or terms i d).1 *ℤ p (get_or terms i d).0) → new +ℤ dot p (drop (i + 1) terms) ≡ dot p terms
-sum_next p terms sum new i d l h e =
-    let t : ℕ × ℤ = get_or terms i d in
-    let a : dot p (drop i terms) ≡ (t.1 *ℤ p t.0) +ℤ dot p (drop (i + 1) terms) = ap (dot p) (drop_more terms i d l) in
-    omega (arith, ints)
-
-pub sum_end : (p : ℕ → ℤ) (terms : List (ℕ × ℤ)) (sum : ℤ) (i : ℕ) → length terms ≤ i → sum +ℤ dot p (drop i terms) ≡ dot p terms → sum ≡ dot p terms
-sum_end p terms sum i l h =
-    let a : dot p (drop i terms) ≡ pos 0 = ap (dot p) (drop_all i terms l) in
-    omega (arith, ints)
 
 -- ---- members and groups
 

@@ -1,6 +1,5 @@
 -- Lists in pieces.
-use Rattle.std.proofs.Common.{◌≡◌, ◌∙◌, List, [], ◌∷◌, ◌++◌, Vec, Global, append_assoc, refl, sym, ap, subst}
-use Rattle.std.proofs.lemmas.List.{append-nil}
+use Rattle.std.proofs.Common.{◌≡◌, ◌∙◌, List, [], ◌∷◌, ◌++◌, Vec, Global, append_assoc, refl, sym, ap}
 use Rattle.std.specs.List.{AllByRecursion, AllZip, flat_map}
 
 -- the items of all pieces
@@ -10,10 +9,6 @@ all_of pieces = flat_map (λ piece. piece.items) pieces
 pub all_of-append : {X : Type 0} (ps qs : List (Vec X Global)) → all_of (ps ++ qs) ≡ all_of ps ++ all_of qs
 all_of-append [] qs = refl
 all_of-append (p ∷ ps) qs = ap (λ (l : List _). p.items ++ l) (all_of-append ps qs) ∙ sym (append_assoc p.items (all_of ps) (all_of qs))
-
--- one piece more
-pub piece_more : {X : Type 0} (ps qs : List (Vec X Global)) (p : Vec X Global) → qs ≡ ps ++ p ∷ [] → all_of qs ≡ all_of ps ++ p.items
-piece_more ps qs p e = ap all_of e ∙ all_of-append ps (p ∷ []) ∙ ap (λ (l : List _). all_of ps ++ l) (append-nil p.items)
 
 -- what holds of all items holds of those of each piece
 all_front : {X : Type 0} (P : X → Type 0) (xs ys : List X) → AllByRecursion P (xs ++ ys) → AllByRecursion P xs

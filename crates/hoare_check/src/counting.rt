@@ -1,7 +1,7 @@
 //! How many columns the system of a triple has.
 
-ghost use Rattle.std.specs.Prelude.{◌≡◌, ◌+◌, Some, filter, length, not, slice_get};
-ghost use Rattle.letter_acts.specs.Acts.{frame_of, back_act, plain_act};
+ghost use Rattle.std.specs.Prelude.{◌≡◌, ◌+◌, Some, filter, length, not};
+ghost use Rattle.letter_acts.specs.Acts.{plain_act};
 ghost use Rattle.letter_acts.specs.Frames.{is_variable, variables_of};
 ghost use Rattle.letter_acts.specs.Invariant.{alphabet_of, is_global_at, written_by};
 ghost use Rattle.hoare_check.specs.Counts.{IsCount};
@@ -62,16 +62,6 @@ fn local_targets(frame: &[(Column, VarInfo)], targets: &[u32]) -> usize
     count
 }
 
-/// The columns of a procedure.
-fn frame_at(icfg: &Icfg, proc: u32) -> &[(Column, VarInfo)]
-    ensures { result.now ≡ frame_of (alphabet_of icfg.now) proc }
-{
-    match icfg.frames().get(proc as usize) {
-        Some(frame) => frame.columns.as_slice(),
-        None => &[],
-    }
-}
-
 fn inside_columns(icfg: &Icfg, act: &Act) -> Option<u32>
     ensures { IsCount (inside_columns (alphabet_of icfg.now) (Some (plain_act act.now))) result }
 {
@@ -82,7 +72,7 @@ fn inside_columns(icfg: &Icfg, act: &Act) -> Option<u32>
             helpers,
             rows: _,
         } => {
-            let frame = plus(0, frame_at(icfg, *proc).len())?;
+            let frame = plus(0, icfg.columns(*proc).len())?;
             plus(frame, written.len())?.checked_add(*helpers)
         }
         Act::Call { .. } | Act::Back { .. } => Some(0),
@@ -99,8 +89,8 @@ fn call_columns(icfg: &Icfg, act: &Act) -> Option<u32>
             helpers,
             rows: _,
         } => {
-            let frame = plus(0, frame_at(icfg, *caller).len())?;
-            plus(frame, frame_at(icfg, *callee).len())?.checked_add(*helpers)
+            let frame = plus(0, icfg.columns(*caller).len())?;
+            plus(frame, icfg.columns(*callee).len())?.checked_add(*helpers)
         }
         Act::Inside { .. } | Act::Back { .. } => Some(0),
     }
@@ -126,8 +116,8 @@ fn back_width(icfg: &Icfg, targets: &[u32], act: &Act) -> Option<u32>
             helpers,
             rows: _,
         } => {
-            let before = frame_at(icfg, *caller);
-            let frame = plus(0, frame_at(icfg, *callee).len())?;
+            let before = icfg.columns(*caller);
+            let frame = plus(0, icfg.columns(*callee).len())?;
             let frames = plus(frame, before.len())?;
             let columns = frames.checked_add(written(before, targets)?)?;
             columns.checked_add(*helpers)
@@ -140,7 +130,7 @@ fn back_columns(icfg: &Icfg, act: &Act) -> Option<u32>
     ensures { IsCount (back_columns (alphabet_of icfg.now) (Some (plain_act act.now))) result }
 {
     match act {
-        Act::Back { call, targets } => match icfg.acts().get(*call as usize) {
+        Act::Back { call, targets } => match icfg.act(*call) {
             Some(called) => back_width(icfg, targets, called),
             None => Some(0),
         },
@@ -156,7 +146,7 @@ pub(crate) fn columns_of(icfg: &Icfg, triple: &Triple) -> Option<u32>
         Triple::Inside { letter, .. } | Triple::Call { letter, .. } | Triple::Back { letter, .. } =>
             *letter,
     };
-    let Some(act) = icfg.acts().get(letter as usize) else {
+    let Some(act) = icfg.act(letter) else {
         return Some(0);
     };
     match triple {

@@ -3,7 +3,7 @@ use Rattle.std.specs.List.{AllByRecursion}
 use Rattle.lin_rows.specs.declared.systems.System.{System}
 use Rattle.lin_rows.specs.Rows.{LinearRow, Holds}
 use Rattle.lin_rows.specs.Systems.{Meets, SomeMember, members_of}
-use Rattle.int_decide.specs.Worth.{point_of}
+use Rattle.lin_rows.specs.Points.{point_of}
 use Rattle.hoare_check.proofs.MeetingLaws.{some_at, group_more, all_met}
 use Rattle.hoare_check.proofs.meeting.+meeting.Goals as goal
 
@@ -16,7 +16,7 @@ pub is_met-returns : goal.is_met-returns
 is_met-returns t c = λ yes.
     all_met (point_of c.args.point.now) c.args.system.now c.deref-group-items.result.now c.loop-group.group-index (ap members_of c.deref-group-items.ensures.value)
     c.loop-group-test.false
-    (subst (λ (rows : List LinearRow). AllByRecursion (Holds (point_of c.args.point.now)) rows) c.deref.ensures.value (c.all_hold.ensures c.if-not-all_hold.false))
+    (subst (λ (rows : List LinearRow). AllByRecursion (Holds (point_of c.args.point.now)) rows) c.deref.ensures.value (c.all_hold.ensures.holds c.if-not-all_hold.false))
     c.loop-group.invariant
 
 pub has_met_member-returns-then-is_met : goal.has_met_member-returns-then-is_met

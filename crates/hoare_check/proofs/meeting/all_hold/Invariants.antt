@@ -1,8 +1,0 @@
-use Rattle.std.proofs.Common.{take}
-use Rattle.std.specs.List.{AllByRecursion}
-use Rattle.lin_rows.specs.Rows.{Holds}
-use Rattle.int_decide.specs.Worth.{point_of}
-use Rattle.hoare_check.proofs.meeting.all_hold.Given as goal
-
-abbrev pub invariant-loop-row : goal.invariant-loop-row
-invariant-loop-row l = AllByRecursion (Holds (point_of l.point)) (take l.row-index l.rows)
