@@ -14,12 +14,12 @@ use Rattle.triple_steps.specs.declared.making.Step as found
 use Rattle.triple_steps.specs.Sections.{roles_in, gaps_in, claims_in}
 
 -- the column in the system of a column of the word
-abbrev pub place_of : Columns → ℕ → ℕ
-place_of columns c = column_in columns.at columns.first columns.made.items c
+abbrev pub column_place : Columns → ℕ → ℕ
+column_place columns c = column_in columns.at columns.first columns.made.items c
 
 -- each of so many columns of the word has a column in the system, whose number fits
 abbrev pub FitColumns : ℕ → Columns → Type 0
-FitColumns count columns = (c : ℕ) → c < count → place_of columns c < 2 ^ 32
+FitColumns count columns = (c : ℕ) → c < count → column_place columns c < 2 ^ 32
 
 -- The step is that of the definition: the same claims, at positions of the word by number, the target last; the same rows, those of
 -- the claims in order; and the same columns.
@@ -31,7 +31,7 @@ pub record IsStep (g : Graph) (w : List Letter) (t : Tree) (s : Step) (f : found
   pub roles : s.roles ≡ roles_in g w t s.view f.sections.items
   pub order : claims_in f.sections.items ≡ columns_from 0 (length s.view.claims)
   pub gaps : gaps_in 0 f.sections.items ≡ gaps_of (alphabet_of g) s.triple
-  pub column : (c : ℕ) → s.view.column c ≡ place_of f.columns c
+  pub column : (c : ℕ) → s.view.column c ≡ column_place f.columns c
 
 -- one after the other
 abbrev pub AreSteps : Graph → List Letter → Tree → List Step → List found.Step → Type 0

@@ -18,8 +18,8 @@ pub struct Columns {
 }
 
 impl Columns {
-    ghost use Rattle.std.specs.Prelude.{List, ℕ, ◌≡◌};
-    ghost use Rattle.triple_steps.specs.Steps.{place_of, FitColumns};
+    ghost use Rattle.std.specs.Prelude.{◌≡◌};
+    ghost use Rattle.triple_steps.specs.Steps.{column_place, FitColumns};
 
     /// Those of a word with so many columns. No memory is left where a number does not fit.
     pub(crate) fn of(
@@ -39,8 +39,8 @@ impl Columns {
 
     /// The column in the system of a column of the word.
     pub fn place(&self, column: Col) -> Col
-        requires { place_of self.now column < 2 ^ 32 }
-        ensures { result ≡ place_of self.now column }
+        requires { column_place self.now column < 2 ^ 32 }
+        ensures { result ≡ column_place self.now column }
     {
         let column = column as usize;
         if column >= self.first {

@@ -1,6 +1,6 @@
 //! The steps of a word's letters.
 
-ghost use Rattle.std.specs.Prelude.{◌≡◌, suc, ◌∷◌, IfOk, List, IsSome, length, reverse};
+ghost use Rattle.std.specs.Prelude.{◌≡◌, suc, IfOk, List, IsSome, length, reverse};
 ghost use Rattle.std.specs.List.{AllByRecursion};
 ghost use Rattle.nwa_base.specs.declared.letters.Letter.{Letter};
 ghost use Rattle.letter_acts.specs.Acts.{act_of};
@@ -20,7 +20,7 @@ use crate::letters::{back_step, call_step, inside_step};
 use crate::readings::{OpenCall, Reading};
 use crate::sections::Section;
 use letter_acts::{Act, Icfg};
-use nested_predicates::acts::{act_at, frame_at, start_proc};
+use nested_predicates::acts::{act_at, start_proc};
 use nwa_base::Letter;
 use path_rows::PathSystem;
 use std::alloc::{AllocError, Global};
@@ -56,7 +56,7 @@ pub fn steps(
     let _valid = icfg.acts();
     let letters = path.word().letters();
     let total = path.column_at().len();
-    let mut reading = Reading::start(alloc, frame_at(icfg, start_proc(icfg)))?;
+    let mut reading = Reading::start(alloc, icfg.columns(start_proc(icfg)))?;
     let mut steps = Vec::with_capacity(alloc, letters.len())?;
     for i in 0..letters.len() {
         let step = step_of(alloc, icfg, &reading, total, letters[i], returned[i])?;
@@ -88,7 +88,7 @@ fn step_of(
             helpers,
             rows,
         } => {
-            let frame = frame_at(icfg, *proc);
+            let frame = icfg.columns(*proc);
             inside_step(alloc, reading, total, frame, written, *helpers, rows.len())
         }
         Act::Call {
@@ -97,8 +97,8 @@ fn step_of(
             helpers,
             rows,
         } => {
-            let caller = frame_at(icfg, *caller);
-            let callee = frame_at(icfg, *callee);
+            let caller = icfg.columns(*caller);
+            let callee = icfg.columns(*callee);
             call_step(
                 alloc,
                 reading,
@@ -142,8 +142,8 @@ fn step_back(
                 rows,
             },
         ) => {
-            let caller = frame_at(icfg, *caller);
-            let callee = frame_at(icfg, *callee);
+            let caller = icfg.columns(*caller);
+            let callee = icfg.columns(*callee);
             back_step(
                 alloc,
                 reading,

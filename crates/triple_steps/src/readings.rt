@@ -13,7 +13,7 @@ use crate::bounds::{bounds_at, bounds_in, local_bounds, old_bounds};
 use crate::columns::sum;
 use boogie_tree::{Column, VarInfo};
 use letter_acts::{Act, Icfg};
-use nested_predicates::acts::{act_at, frame_at, local_count, old_count, variable_count};
+use nested_predicates::acts::{act_at, local_count, old_count, variable_count};
 use nwa_base::Letter;
 use std::alloc::{AllocError, Global};
 
@@ -62,13 +62,13 @@ impl Reading {
                 written,
                 helpers,
                 rows,
-            } => self.pass_inside(frame_at(icfg, *proc), written, *helpers, rows.len()),
+            } => self.pass_inside(icfg.columns(*proc), written, *helpers, rows.len()),
             Act::Call {
                 callee,
                 helpers,
                 rows,
                 ..
-            } => self.pass_call(frame_at(icfg, *callee), *helpers, rows.len()),
+            } => self.pass_call(icfg.columns(*callee), *helpers, rows.len()),
             Act::Back { .. } => self.pass_back(),
         }
     }

@@ -8,16 +8,16 @@ use Rattle.triple_steps.proofs.making.step_of.Goals as goal
 
 pub returns-in-Inside-clause-step : goal.returns-in-Inside-clause-step
 returns-in-Inside-clause-step c =
-    if_ok (IsInsideStep c.args.reading.now c.frame_at-frame.result.now c.deref.result.now c.in-Inside.helpers c.len.result) _
+    if_ok (IsInsideStep c.args.reading.now c.columns-frame.result.now c.deref.result.now c.in-Inside.helpers c.len.result) _
     (λ f h. λ w t rest r to is from at b. inside_by c.args.icfg.now w rest t c.args.letter r c.args.reading.now to c.in-Inside.proc c.in-Inside.written.items c.in-Inside.helpers c.in-Inside.rows.items
-    c.frame_at-frame.result.now c.deref.result.now c.len.result f (c.act_at.ensures ∙ ap (λ (a : Act). Some (plain_act a)) c.in-Inside.is) c.frame_at-frame.ensures c.deref.ensures.value (search rules) h is from at)
+    c.columns-frame.result.now c.deref.result.now c.len.result f (c.act_at.ensures ∙ ap (λ (a : Act). Some (plain_act a)) c.in-Inside.is) c.columns-frame.ensures.value c.deref.ensures.value (search rules) h is from at)
     c.inside_step.result c.inside_step.ensures.step
 
 pub returns-in-Call-clause-step : goal.returns-in-Call-clause-step
 returns-in-Call-clause-step c =
-    if_ok (IsCallStep c.args.reading.now c.args.returns c.frame_at-caller.result.now c.frame_at-callee.result.now c.in-Call.helpers c.len-in-Call.result) _
+    if_ok (IsCallStep c.args.reading.now c.args.returns c.columns-caller.result.now c.columns-callee.result.now c.in-Call.helpers c.len-in-Call.result) _
     (λ f h. λ w t rest r to is from at b. call_by c.args.icfg.now w rest t c.args.letter r c.args.reading.now to c.in-Call.caller c.in-Call.callee c.in-Call.helpers c.in-Call.rows.items c.args.returns
-    c.frame_at-caller.result.now c.frame_at-callee.result.now c.len-in-Call.result f (c.act_at.ensures ∙ ap (λ (a : Act). Some (plain_act a)) c.in-Call.is) c.frame_at-caller.ensures c.frame_at-callee.ensures (search rules) b h is from at)
+    c.columns-caller.result.now c.columns-callee.result.now c.len-in-Call.result f (c.act_at.ensures ∙ ap (λ (a : Act). Some (plain_act a)) c.in-Call.is) c.columns-caller.ensures.value c.columns-callee.ensures.value (search rules) b h is from at)
     c.call_step.result c.call_step.ensures.step
 
 pub step_back-requires : goal.step_back-requires
