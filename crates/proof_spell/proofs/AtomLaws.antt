@@ -3,7 +3,7 @@ use Rattle.std.proofs.Common.{◌≡◌, ◌∙◌, ◌≢◌, ℕ, suc, ◌+◌
 use Rattle.std.specs.Prelude.{ℤ, map, slice_get, IsTrue}
 use Rattle.std.specs.List.{AllByRecursion}
 use Rattle.std.specs.Option.{option_map}
-use Rattle.std.proofs.lemmas.Bool.{lt-ltb, le-leb}
+use Rattle.std.proofs.lemmas.Bool.{lt-ltb}
 use Rattle.math_facts.specs.Terms.{IsBelow}
 use Rattle.boogie_tree.specs.declared.tree.Column.{Column}
 use Rattle.boogie_tree.specs.declared.tree.VarInfo.{VarInfo}
@@ -90,9 +90,6 @@ atom_spelled frame bound terms r i a w c =
 pub terms_within : (n : ℕ) (ts : List (ℕ × ℤ)) → AllByRecursion IsCoefficient ts → IsBelow n ts → AllByRecursion (IsTermWithin n) ts
 terms_within n [] c b = tt
 terms_within n (t ∷ ts) c b = (record { within = b.0; coefficient = c.0 }, terms_within n ts c.1 b.1)
-
-pub count_spelled : (n : ℕ) → 2 ≤ n → n < 2 ^ 32 → form.is_count n ≡ true
-count_spelled n a b = rw (le-leb 2 n a, lt-ltb n (2 ^ 32) b) refl
 
 -- ---- the nodes of a predicate
 

@@ -53,14 +53,6 @@ weaker R S f [] (y ∷ ys) h = absurd h
 weaker R S f (x ∷ xs) [] h = absurd h
 weaker R S f (x ∷ xs) (y ∷ ys) h = (f x y h.0, weaker R S f xs ys h.1)
 
--- what follows from each pair and a fact of the second member
-pub weaker_where : {X Y : Type 0} (R S : X → Y → Type 0) (P : Y → Type 0) → ((x : X) (y : Y) → R x y → P y → S x y) → (xs : List X) (ys : List Y) → Correspond R xs ys → AllByRecursion P ys →
-    Correspond S xs ys
-weaker_where R S P f [] [] h p = tt
-weaker_where R S P f [] (y ∷ ys) h p = absurd h
-weaker_where R S P f (x ∷ xs) [] h p = absurd h
-weaker_where R S P f (x ∷ xs) (y ∷ ys) h p = (f x y h.0 p.0, weaker_where R S P f xs ys h.1 p.1)
-
 -- ---- tests and values
 
 pub all_pass : {X Y : Type 0} (R : X → Y → Type 0) (test : X → Bool) → ((x : X) (y : Y) → R x y → test x ≡ true) → (xs : List X) (ys : List Y) → Correspond R xs ys → list_all test xs ≡ true

@@ -31,7 +31,7 @@ use Rattle.proof_names.specs.Items.{Names, pred_at, place_at}
 use Rattle.proof_names.proofs.PairLaws.{same_at, map_same}
 use Rattle.proof_spell.specs.declared.drafts.Shown.{Shown}
 use Rattle.proof_spell.specs.Correspond.{Correspond}
-use Rattle.proof_spell.specs.Drafts.{PlainShown, Draft, draft, plain, AscendFrom, IsWithin, MayBeShown, MayStand, MayBeSpelled, IsEntryOf, place_of}
+use Rattle.proof_spell.specs.Drafts.{PlainShown, Draft, draft, plain, AscendFrom, IsWithin, MayBeShown, MayStand, MayBeSpelled, IsEntryOf, node_place}
 use Rattle.proof_spell.specs.Nodes.{HasNumbers}
 use Rattle.proof_spell.specs.Spelled.{SpellsPred, SpellsTriple, SpellsNode, SpellsStep, Spells, IsOutlined, Outlines}
 use Rattle.proof_spell.proofs.CorrespondLaws.{viewed, views, paired, at_place, all_pass, counted}
@@ -78,9 +78,9 @@ same_preds g a ps c =
 abbrev PlaceIs : ℕ → form.Node → Node → Type 0
 PlaceIs k line x = short_in line.place ≡ Some x.place
 
-same_places : (a : Content) (ns : List Node) → Correspond SpellsNode a.nodes ns → place_of ns ≡ place_at a
+same_places : (a : Content) (ns : List Node) → Correspond SpellsNode a.nodes ns → node_place ns ≡ place_at a
 same_places a ns c =
-    let e : (k : ℕ) → place_of ns k ≡ place_at a k =
+    let e : (k : ℕ) → node_place ns k ≡ place_at a k =
     same_at (λ (line : form.Node). short_in line.place) (λ (x : Node). x.place) PlaceIs a.nodes ns (λ j x y r. r)
     (paired SpellsNode PlaceIs a.nodes ns c (λ k x y p q r. r.place)) in
     λ i k. e k i
@@ -161,8 +161,8 @@ draft_named g a d m s = record {
       (paired SpellsNode (NamesNode g (slice_get d.preds) a.nodes) a.nodes d.nodes s.nodes
       (λ k x y p q r. node_named g d.preds a.nodes d.nodes k x y s.nodes r (m.nodes k y q)));
   steps = subst (λ (f : ℕ → Option ℕ). ArePaired (λ k line t. NamesStep g f line t) a.steps d.steps) (same_places a d.nodes s.nodes)
-      (paired SpellsStep (λ k line t. NamesStep g (place_of d.nodes) line t) a.steps d.steps s.steps
-      (λ k x y p q r. record { numbers = r.numbers; scoped = all_at (IsInScope g (place_of d.nodes)) d.steps k y q m.steps }));
+      (paired SpellsStep (λ k line t. NamesStep g (node_place d.nodes) line t) a.steps d.steps s.steps
+      (λ k x y p q r. record { numbers = r.numbers; scoped = all_at (IsInScope g (node_place d.nodes)) d.steps k y q m.steps }));
 }
 
 -- lines that spell a draft name it

@@ -1,7 +1,7 @@
 -- Names: no two columns of a frame and no two procedures are named alike, and each name is in the grammar.
-use Rattle.std.proofs.Common.{◌≡◌, ◌∙◌, ◌⊎◌, ℕ, zero, suc, ◌+◌, ◌^◌, ◌<◌, Bool, true, false, not, ◌&&◌, ◌||◌, cond, List, [], ◌∷◌, ◌++◌, length, drop, Option, None, Some, refl, sym, ap, subst, inl, inr, arith}
-use Rattle.std.specs.Prelude.{map, slice_get, bytes_eq, position, nat_eq, nat_le, unwrap_or, IsTrue}
-use Rattle.std.specs.List.{list_all, AllByRecursion, prefix_len}
+use Rattle.std.proofs.Common.{◌≡◌, ◌∙◌, ◌⊎◌, ℕ, zero, suc, ◌+◌, ◌^◌, ◌<◌, Bool, true, false, not, cond, List, [], ◌∷◌, ◌++◌, length, Option, None, Some, refl, sym, ap, subst, inl, inr, arith}
+use Rattle.std.specs.Prelude.{map, slice_get, bytes_eq, position, unwrap_or, IsTrue}
+use Rattle.std.specs.List.{AllByRecursion, prefix_len}
 use Rattle.std.specs.Option.{option_and_then}
 use Rattle.std.proofs.lemmas.Bool.{lt-ltb, false≢true}
 use Rattle.std.proofs.lemmas.List.{append-nil}
@@ -9,16 +9,14 @@ use Rattle.std.proofs.lemmas.Slice.Eq.{bytes_eq-Decides}
 use Rattle.boogie_tree.specs.declared.tree.Column.{Column}
 use Rattle.boogie_tree.specs.declared.tree.Column.TheVariants.{Global, Old, Local}
 use Rattle.boogie_tree.specs.declared.tree.VarInfo.{VarInfo}
+use Rattle.boogie_tree.specs.Names.{is_spelled}
 use Rattle.nwa_base.specs.Members.{Member}
 use Rattle.letter_acts.specs.Frames.{Columns, added, globals_from, old_columns, locals_from, is_global, is_local, IsFrame}
 use Rattle.letter_acts.specs.Acts.{frame_of}
 use Rattle.letter_acts.specs.Invariant.{Graph, alphabet_of, AreDistinct, names_where, HasNames}
 use Rattle.letter_acts.specs.Kept.{Keeps}
-use Rattle.letter_acts.specs.Names as names
-use Rattle.letter_acts.specs.Names.{is_spelled}
 use Rattle.triple_rows.proofs.ListLaws.{within, all_at}
-use Rattle.proof_form.specs.Names.{is_name, is_made, is_procedure, is_column, is_name_byte, is_letter, is_sign, is_digit, is_name_or_number}
-use Rattle.proof_form.proofs.RunLaws.{both_hold}
+use Rattle.proof_form.specs.Names.{is_column}
 use Rattle.proof_names.specs.Numbers.{below}
 use Rattle.proof_names.specs.Columns.{mark, column_text, column_named, has_entry, with_body, procedure_named}
 use Rattle.proof_spell.specs.Nodes.{IsReadable}
@@ -74,9 +72,6 @@ map_joined f [] ys = refl
 map_joined f (x ∷ xs) ys = ap (λ l. f x ∷ l) (map_joined f xs ys)
 
 -- ---- columns
-
-abbrev name_in : (Column × VarInfo) → List ℕ
-name_in c = c.1.name
 
 abbrev info_names : List VarInfo → List (List ℕ)
 info_names vs = map (λ v. v.name) vs
@@ -205,81 +200,13 @@ differ_parts gs ls a b =
 
 -- ---- names of the grammar
 
-letter_as : (b : ℕ) → names.is_letter b ≡ true → is_letter b ≡ true
-letter_as b h = swapped (nat_le 97 b && nat_le b 122) (nat_le 65 b && nat_le b 90) h
-  where
-    swapped : (x y : Bool) → (x || y) ≡ true → (y || x) ≡ true
-    swapped true true h = refl
-    swapped true false h = refl
-    swapped false true h = refl
-    swapped false false h = h
-
-ten_tests : (a b c d e f g h i j : Bool) → (a || b || c || d || e || f || g || h || i || j) ≡ true →
-    (a || (b || (c || (d || (e || (f || (g || (h || (i || (j || false)))))))))) ≡ true
-ten_tests true b c d e f g h i j k = refl
-ten_tests false true c d e f g h i j k = refl
-ten_tests false false true d e f g h i j k = refl
-ten_tests false false false true e f g h i j k = refl
-ten_tests false false false false true f g h i j k = refl
-ten_tests false false false false false true g h i j k = refl
-ten_tests false false false false false false true h i j k = refl
-ten_tests false false false false false false false true i j k = refl
-ten_tests false false false false false false false false true j k = refl
-ten_tests false false false false false false false false false true k = refl
-ten_tests false false false false false false false false false false k = k
-
-sign_as : (b : ℕ) → names.is_name_mark b ≡ true → is_sign b ≡ true
-sign_as b h = ten_tests (nat_eq b 95) (nat_eq b 46) (nat_eq b 36) (nat_eq b 35) (nat_eq b 39) (nat_eq b 96) (nat_eq b 126) (nat_eq b 94) (nat_eq b 63) (nat_eq b 92) h
-
-byte_tests : (l k d m s : Bool) → (l ≡ true → k ≡ true) → (m ≡ true → s ≡ true) → (l || d || m) ≡ true → (k || (d || s)) ≡ true
-byte_tests true k d m s f g h = rw (f refl) refl
-byte_tests false true d m s f g h = refl
-byte_tests false false true m s f g h = refl
-byte_tests false false false m s f g h = g h
-
-byte_as : (b : ℕ) → names.is_name_byte b ≡ true → is_name_byte b ≡ true
-byte_as b h = byte_tests (names.is_letter b) (is_letter b) (is_digit b) (names.is_name_mark b) (is_sign b) (letter_as b) (sign_as b) h
-
-bytes_as : (bs : List ℕ) → list_all names.is_name_byte bs ≡ true → list_all is_name_byte bs ≡ true
-bytes_as [] h = refl
-bytes_as (b ∷ bs) h = let k = both_hold (names.is_name_byte b) (list_all names.is_name_byte bs) h in rw (byte_as b k.0, bytes_as bs k.1) refl
-
-name_as : (bs : List ℕ) → names.is_plain_name bs ≡ true → is_name bs ≡ true
-name_as [] h = h
-name_as (b ∷ bs) h = let k = both_hold (not (is_digit b)) (list_all names.is_name_byte (b ∷ bs)) h in rw (k.0, bytes_as (b ∷ bs) k.1) refl
-
-some_test : (a b c d : Bool) → (a ≡ true → c ≡ true) → (b ≡ true → d ≡ true) → (a || b) ≡ true → (c || d) ≡ true
-some_test true b c d f g h = rw (f refl) refl
-some_test false b true d f g h = refl
-some_test false b false d f g h = g h
-
-number_as : (bs : List ℕ) → (names.are_digits bs || names.is_plain_name bs) ≡ true → is_name_or_number bs ≡ true
-number_as [] h = h
-number_as (b ∷ bs) h = some_test (list_all is_digit (b ∷ bs)) (names.is_plain_name (b ∷ bs)) (list_all is_digit (b ∷ bs)) (is_name (b ∷ bs)) (λ k. k) (name_as (b ∷ bs)) h
-
-made_as : (bs : List ℕ) → (names.has_mark bs && (names.are_digits (drop 2 bs) || names.is_plain_name (drop 2 bs))) ≡ true → is_made bs ≡ true
-made_as [] h = h
-made_as (a ∷ []) h = no_mark (nat_eq a 104 || nat_eq a 109) (names.are_digits [] || names.is_plain_name []) h
-  where
-    no_mark : (b c : Bool) → ((b && false) && c) ≡ true → false ≡ true
-    no_mark true c h = h
-    no_mark false c h = h
-made_as (a ∷ b ∷ bs) h =
-    let k = both_hold ((nat_eq a 104 || nat_eq a 109) && nat_eq b 58) (names.are_digits bs || names.is_plain_name bs) h in
-    let m = both_hold (nat_eq a 104 || nat_eq a 109) (nat_eq b 58) k.0 in
-    rw (m.0, m.1, number_as bs k.1) refl
-
-pub procedure_as : (bs : List ℕ) → is_spelled bs ≡ true → is_procedure bs ≡ true
-procedure_as bs h =
-    some_test (names.is_plain_name bs) (names.has_mark bs && (names.are_digits (drop 2 bs) || names.is_plain_name (drop 2 bs))) (is_name bs) (is_made bs) (name_as bs) (made_as bs) h
-
 column_valid : (c : Column × VarInfo) → is_spelled c.1.name ≡ true → is_column (column_text c) ≡ true
 column_valid c h = by_column c.0
   where
     by_column : (k : Column) → is_column (mark k ++ c.1.name) ≡ true
-    by_column (Global n) = procedure_as c.1.name h
-    by_column (Old n) = procedure_as c.1.name h
-    by_column (Local n) = procedure_as c.1.name h
+    by_column (Global n) = h
+    by_column (Old n) = h
+    by_column (Local n) = h
 
 columns_valid : (frame : Columns) → AllByRecursion (λ c. IsTrue (is_spelled c.1.name)) frame → AllByRecursion (λ c. IsTrue (is_column (column_text c))) frame
 columns_valid [] h = tt
@@ -326,9 +253,9 @@ procedure_found g p name k h e l =
     ap (option_and_then (with_body g.entries)) (position_is (λ (x : List ℕ). x) g.names p name (subst (λ (x : List (List ℕ)). AreDistinct x) (sym (mapped_same g.names)) k.names.differ) e) ∙
     rw h (below_is (2 ^ 32) p l)
 
-pub procedure_valid : (g : Graph) (p : ℕ) (name : List ℕ) → Keeps g → slice_get g.names p ≡ Some name → is_procedure name ≡ true
+pub procedure_valid : (g : Graph) (p : ℕ) (name : List ℕ) → Keeps g → slice_get g.names p ≡ Some name → is_spelled name ≡ true
 unfolding Keeps
-procedure_valid g p name k e = procedure_as name (all_at (λ n. IsTrue (is_spelled n)) g.names p name e k.names.spelled)
+procedure_valid g p name k e = all_at (λ n. IsTrue (is_spelled n)) g.names p name e k.names.spelled
 
 entry_exists : (o : Option (Option ℕ)) → has_entry o ≡ true → (x : Option ℕ) × (o ≡ Some x)
 entry_exists None h = absurd (false≢true h)

@@ -10,9 +10,9 @@ use Rattle.std.proofs.lemmas.Bool.{lt-ltb, eqb-true, false≢true}
 use Rattle.std.proofs.lemmas.Bool.Decides.{nat_tests}
 use lib.Signed.{lt_z}
 use Rattle.math_facts.specs.Fits.{Fits}
+use Rattle.boogie_tree.specs.Names.{is_digit}
 use Rattle.proof_form.specs.declared.numerals.Numeral.{Numeral}
 use Rattle.proof_form.specs.NumberValues.{number, value}
-use Rattle.proof_form.specs.Names.{is_digit}
 use Rattle.proof_form.specs.Numerals.{is_numeral, is_zero, has_one_spelling}
 use Rattle.proof_form.proofs.RunLaws.{both_hold}
 use Rattle.proof_names.specs.Numbers.{index_in, short_in, number_in, count_in, below, signed}

@@ -1,9 +1,9 @@
 -- The nodes of refutations: what spells them is of the grammar, names them again, and is one whole tree.
 use Rattle.std.proofs.Common.{◌≡◌, ◌∙◌, ◌≢◌, ℕ, zero, suc, ◌+◌, ◌^◌, ◌<◌, true, List, [], ◌∷◌, Option, None, Some, refl, sym, ap, arith}
-use Rattle.std.specs.Prelude.{ℤ, pos, map, nat_le, is_some}
+use Rattle.std.specs.Prelude.{ℤ, pos, map, nat_le}
 use Rattle.std.specs.List.{AllByRecursion}
 use Rattle.std.specs.Option.{option_map}
-use Rattle.std.proofs.lemmas.Bool.{lt-ltb, le-leb, eqb-true, false≢true}
+use Rattle.std.proofs.lemmas.Bool.{le-leb, eqb-true, false≢true}
 use Rattle.math_facts.specs.Fits.{Fits}
 use Rattle.farkas_check.specs.Nodes as nodes
 use Rattle.farkas_check.specs.Nodes.{PlainNode, branches, are_trees}
@@ -18,13 +18,10 @@ use Rattle.proof_spell.specs.Correspond.{Correspond}
 use Rattle.proof_spell.specs.Drafts.{IsWithin}
 use Rattle.proof_spell.specs.Spelled.{Writes}
 use Rattle.proof_spell.specs.Nodes.{SpellsPart, SpellsBranch}
-use Rattle.proof_spell.proofs.NumeralLaws.{writes_index, writes_short, writes_number}
+use Rattle.proof_spell.proofs.NumeralLaws.{writes_short, writes_number}
 use Rattle.proof_spell.proofs.CorrespondLaws.{all_pass, all_values}
 
 -- ---- nodes
-
-fits_some : {X : Type 0} (o : Option X) (x : X) → o ≡ Some x → is_some o ≡ true
-fits_some o x e = rw e refl
 
 row_number : (m : Numeral) (k : ℕ) → Writes m (pos k) → k < 2 ^ 32 → number_in m ≡ Some (pos k)
 row_number m k w l = let f : k < 2 ^ 127 = omega arith in writes_number m (pos k) w f
@@ -47,16 +44,6 @@ leaf_spelled ps qs n c = record {
   named = ap (option_map nodes.leaf) (all_values SpellsPart part_of (λ x y h. h.named) ps qs c);
   fits = λ columns t. all_pass SpellsPart part_fits (λ x y h. h.fits) ps qs c;
 }
-
-pub cut_spelled : (a b : Numeral) (c : ℕ) (k : ℤ) → c < 2 ^ 32 → Fits k → Writes a (pos c) → Writes b k → SpellsBranch (cut a b) (nodes.cut c k)
-cut_spelled a b c k l f v w = record {
-  valid = rw (v.valid, w.valid) refl;
-  named = ap (λ o. cut_of (both o (number_in b))) (writes_short a c v l) ∙ ap (λ o. cut_of (both (Some c) o)) (writes_number b k w f);
-  fits = λ columns h. rw (writes_index a c v (omega arith), writes_number b k w f, lt-ltb c columns h) refl;
-}
-
-pub cases_spelled : (n : ℕ) → n < 2 ^ 32 → SpellsBranch (cases n) (nodes.cases n)
-cases_spelled n l = record { valid = lt-ltb n (2 ^ 32) l; named = refl; fits = λ columns t. refl }
 
 -- ---- the list of the nodes
 

@@ -20,7 +20,7 @@ use Rattle.proof_names.specs.Numbers.{index_in, short_in}
 use Rattle.proof_names.specs.Options.{both}
 use Rattle.proof_spell.specs.Correspond.{Correspond}
 use Rattle.proof_spell.specs.Drafts.{AscendFrom}
-use Rattle.proof_spell.specs.Spelled.{Writes, WritesIndex, WritesShort, SpellsTriple, SpellsNode, SpellsStep}
+use Rattle.proof_spell.specs.Spelled.{Writes, WritesIndex, WritesShort, SpellsTriple, SpellsNode}
 use Rattle.proof_spell.specs.Nodes.{SpellsBranch}
 use Rattle.proof_spell.proofs.NumeralLaws.{writes_value, writes_not_zero}
 use Rattle.proof_spell.proofs.CorrespondLaws.{viewed, all_values}
@@ -87,20 +87,6 @@ back_spelled x p l r proof i h k j ms t u v w f =
     }
 
 -- ---- steps
-
-pub step_spelled : (q l r : Numeral) (i k j : ℕ) → WritesIndex q i → WritesShort l k → WritesIndex r j →
-    SpellsStep (steps.Step q l r) (named.Step i k j)
-step_spelled q l r i k j u v w = record {
-  valid = rw (u.writes.valid, v.writes.valid, w.writes.valid) refl;
-  numbers = ap (option_map (λ (t : ℕ × (ℕ × ℕ)). named.Step t.0 t.1.0 t.1.1)) (three q l r i k j u v w);
-}
-
-pub back_step_spelled : (x p l r : Numeral) (i h k j : ℕ) → WritesIndex x i → WritesIndex p h → WritesShort l k → WritesIndex r j →
-    SpellsStep (steps.Back x p l r) (named.Back i h k j)
-back_step_spelled x p l r i h k j t u v w = record {
-  valid = rw (t.writes.valid, u.writes.valid, v.writes.valid, w.writes.valid) refl;
-  numbers = ap (option_map (λ (t : (ℕ × ℕ) × (ℕ × ℕ)). named.Back t.0.0 t.0.1 t.1.0 t.1.1)) (four x p l r i h k j t u v w);
-}
 
 -- ---- nodes
 

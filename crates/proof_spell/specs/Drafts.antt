@@ -89,12 +89,12 @@ pub record MayStand (g : Graph) (preds : List Scoped) (nodes : List Node) (n : �
 -- ---- all
 
 -- the place of the node with this number
-abbrev pub place_of : List Node → ℕ → Option ℕ
-place_of nodes n = option_map (λ x. x.place) (slice_get nodes n)
+abbrev pub node_place : List Node → ℕ → Option ℕ
+node_place nodes n = option_map (λ x. x.place) (slice_get nodes n)
 
 -- lines can say all of it
 pub record MayBeSpelled (g : Graph) (d : Draft) : Type 0 where
   pub preds : AllByRecursion (MayBeNamed g) d.preds
   pub triples : AllByRecursion (MayBeShown g d.preds) d.triples
   pub nodes : (n : ℕ) (x : Node) → slice_get d.nodes n ≡ Some x → MayStand g d.preds d.nodes n x
-  pub steps : AllByRecursion (IsInScope g (place_of d.nodes)) d.steps
+  pub steps : AllByRecursion (IsInScope g (node_place d.nodes)) d.steps

@@ -1,25 +1,10 @@
 //! The texts that name procedures and columns.
 
 ghost use Rattle.std.specs.Prelude.{◌≡◌, [], ◌∷◌, IfOk};
-ghost use Rattle.letter_acts.specs.Acts.{frame_of};
-ghost use Rattle.letter_acts.specs.Invariant.{alphabet_of};
-ghost use Rattle.letter_acts.specs.Kept.{Keeps};
 ghost use Rattle.proof_names.specs.Columns as spec;
 
 use boogie_tree::{Column, Text, VarInfo};
-use letter_acts::Icfg;
 use std::alloc::{AllocError, Global};
-
-/// The columns of a procedure, none where there is no such procedure.
-pub(crate) fn columns_of(icfg: &Icfg, proc: u32) -> &[(Column, VarInfo)]
-    ensures value { result.now ≡ frame_of (alphabet_of icfg.now) proc }
-    ensures valid { Keeps icfg.now }
-{
-    match icfg.frames().get(proc as usize) {
-        Some(frame) => frame.columns.as_slice(),
-        None => &[],
-    }
-}
 
 /// The letter before the colon that stands before the name of a column.
 fn mark(column: Column) -> u8

@@ -12,7 +12,7 @@ ghost use Rattle.proof_spell.specs.Drafts.{MayBeNamed};
 ghost use Rattle.proof_spell.specs.Nodes.{IsReadable, IsTermWithin, SpellsTerm, IsNodeWithin, SpellsNode};
 ghost use Rattle.proof_spell.specs.Spelled.{SpellsPred};
 
-use crate::columns::{column_text, columns_of};
+use crate::columns::column_text;
 use crate::numerals::integer;
 use boogie_tree::{Column, Text, VarInfo};
 use letter_acts::Icfg;
@@ -114,6 +114,6 @@ pub(crate) fn pred_line(alloc: Global, icfg: &Icfg, scoped: &Scoped) -> Result<P
     ensures { IfOk result (λ line. SpellsPred icfg.now (lines.pred line) scoped.now) }
 {
     let proc = name_of(icfg, scoped.proc)?;
-    let nodes = node_lines(alloc, columns_of(icfg, scoped.proc), scoped.pred.nodes())?;
+    let nodes = node_lines(alloc, icfg.columns(scoped.proc), scoped.pred.nodes())?;
     Ok(PredLine { proc, nodes })
 }
