@@ -1,12 +1,10 @@
 -- The parts of each leaf of a refutation of rows ascend.
-use Rattle.std.proofs.Common.{◌≡◌, ℕ, zero, suc, ℤ, List, [], ◌∷◌, ◌++◌, map, refl, subst, Some}
+use Rattle.std.proofs.Common.{◌≡◌, ℕ, zero, suc, List, [], ◌∷◌, ◌++◌, map, refl, subst, Some}
 use Rattle.std.specs.Prelude.{slice_get}
-use Rattle.std.specs.Global.{Vec}
 use Rattle.std.specs.List.{AllByRecursion}
-use Rattle.lin_rows.specs.Rows.{LinearRow, AscendsFrom}
+use Rattle.lin_rows.specs.Rows.{LinearRow}
 use Rattle.lin_rows.specs.Tightening.{tightened}
 use Rattle.farkas_check.specs.declared.refutations.Node.{Node}
-use Rattle.farkas_check.specs.declared.refutations.Node.TheVariants.{Leaf}
 use Rattle.farkas_check.specs.Nodes.{PlainNode, leaf, cut, cases, plain, plain_nodes}
 use Rattle.farkas_check.specs.Refutes.{Goal, at_most, above, with_row, CasesRefute, Refute}
 use Rattle.nested_predicates.specs.Interpolants.{RefutesRows}
@@ -29,6 +27,3 @@ node_ascends : (nodes : List Node) (i : ℕ) (n : Node) → AllByRecursion Ascen
 node_ascends [] i n h e = absurd (cc)
 node_ascends (m ∷ nodes) zero n h e = subst (λ (x : Node). Ascends (plain x)) (let q : m ≡ n = cc in q) h.0
 node_ascends (m ∷ nodes) (suc i) n h e = node_ascends nodes i n h.1 e
-
-pub leaf_ascends : (nodes : List Node) (i : ℕ) (parts : Vec (ℕ × ℤ)) → AllByRecursion Ascends (plain_nodes nodes) → slice_get nodes i ≡ Some (Leaf parts) → AscendsFrom 0 parts.items
-leaf_ascends nodes i parts h e = node_ascends nodes i (Leaf parts) h e

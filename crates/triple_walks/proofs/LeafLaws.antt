@@ -12,7 +12,7 @@ use Rattle.lin_rows.proofs.Ascending.{coefficient_below, coefficient_first, coef
 use Rattle.farkas_check.specs.Trees.{leaf_tree}
 use Rattle.nested_predicates.specs.Bases.{node_of}
 use Rattle.nested_predicates.specs.Sums.{Branch, terms_from, inequality, coefficients_at, bound_at}
-use Rattle.nested_refutations.specs.Refutations.{Claim, Role, spare, atom_at, branch_row, View, last_of, sums_of, coefficient_of, multiplier, is_atom, stands, is_again, multipliers, parts_from}
+use Rattle.nested_refutations.specs.Refutations.{Claim, Role, spare, atom_at, branch_row, View, last_of, sums_of, coefficient_of, multiplier, is_atom, stands, is_again, multipliers}
 use Rattle.nested_refutations.proofs.ColumnLaws.{number_in, coefficient_terms}
 use Rattle.triple_steps.specs.Sections.{tie_role}
 use Rattle.triple_steps.specs.declared.sections.Tie.{Tie}
@@ -245,8 +245,8 @@ pub seen_first : (count n : ℕ) (roles : List row.Role) (seen : List Bool) → 
 seen_first count n roles seen e =
     subst (λ (rs : List Role). IsSeen count n rs seen) (sym (rows_none roles)) (subst (λ (xs : List Bool). IsSeen count n [] xs) (sym e) (none_seen count n))
 
-pub parts_first : (v : View) (n : ℕ) (b : Branch) (parts : List (ℕ × ℤ)) (roles : List row.Role) (k : ℕ) → [] ≡ parts_from k (multipliers v n b parts (rows_from (length roles - 0) roles))
-parts_first v n b parts roles k = ap (λ (rs : List Role). parts_from k (multipliers v n b parts rs)) (sym (rows_none roles))
+pub parts_first : (v : View) (n : ℕ) (b : Branch) (parts : List (ℕ × ℤ)) (roles : List row.Role) (k : ℕ) → [] ≡ terms_from k (multipliers v n b parts (rows_from (length roles - 0) roles))
+parts_first v n b parts roles k = ap (λ (rs : List Role). terms_from k (multipliers v n b parts rs)) (sym (rows_none roles))
 
 -- with the row before them
 rows_more : (roles : List row.Role) (at k : ℕ) (d : row.Role) → at < length roles → k ≡ at + 1 → rows_from at roles ≡ role_of (get_or roles at d) ∷ rows_from k roles
@@ -260,15 +260,15 @@ seen_more count n roles at next k d old new l q e f s =
 
 pub parts_more : (v : View) (n : ℕ) (b : Branch) (parts : List (ℕ × ℤ)) (roles : List row.Role) (at next k : ℕ) (d : row.Role) (m : ℤ) (old new : List (ℕ × ℤ)) → at < length roles → next ≡ at → k ≡ at + 1 →
     m ≡ (if is_again (role_of (get_or roles at d)) (rows_from k roles) then pos 0 else multiplier v n b parts (role_of (get_or roles at d))) → reverse new ≡ led_by at m (reverse old) →
-    reverse old ≡ parts_from k (multipliers v n b parts (rows_from k roles)) → reverse new ≡ parts_from next (multipliers v n b parts (rows_from next roles))
+    reverse old ≡ terms_from k (multipliers v n b parts (rows_from k roles)) → reverse new ≡ terms_from next (multipliers v n b parts (rows_from next roles))
 parts_more v n b parts roles at next k d m old new l q e g h p =
     h ∙ ap (λ (z : ℤ). led_by at z (reverse old)) g ∙
     ap (led_by at (if is_again (role_of (get_or roles at d)) (rows_from k roles) then pos 0 else multiplier v n b parts (role_of (get_or roles at d))))
-    (p ∙ ap (λ (j : ℕ). parts_from j (multipliers v n b parts (rows_from k roles))) (let u : k ≡ suc at = omega (arith, e) in u)) ∙
-    ap (λ (rs : List Role). parts_from at (multipliers v n b parts rs)) (sym (rows_more roles at k d l e)) ∙
-    ap (λ (j : ℕ). parts_from j (multipliers v n b parts (rows_from j roles))) (sym q)
+    (p ∙ ap (λ (j : ℕ). terms_from j (multipliers v n b parts (rows_from k roles))) (let u : k ≡ suc at = omega (arith, e) in u)) ∙
+    ap (λ (rs : List Role). terms_from at (multipliers v n b parts rs)) (sym (rows_more roles at k d l e)) ∙
+    ap (λ (j : ℕ). terms_from j (multipliers v n b parts (rows_from j roles))) (sym q)
 
 -- all of them
 pub parts_all : (v : View) (n : ℕ) (b : Branch) (parts : List (ℕ × ℤ)) (roles : List row.Role) (k : ℕ) → k ≡ 0 →
-    parts_from k (multipliers v n b parts (rows_from k roles)) ≡ parts_from 0 (multipliers v n b parts (map role_of roles))
-parts_all v n b parts roles k e = ap (λ (j : ℕ). parts_from j (multipliers v n b parts (rows_from j roles))) e
+    terms_from k (multipliers v n b parts (rows_from k roles)) ≡ terms_from 0 (multipliers v n b parts (map role_of roles))
+parts_all v n b parts roles k e = ap (λ (j : ℕ). terms_from j (multipliers v n b parts (rows_from j roles))) e

@@ -2,7 +2,7 @@
 use Rattle.std.proofs.Common.{◌≡◌, ◌∙◌, ℕ, zero, suc, ◌+◌, ◌-◌, ◌<◌, ◌≤◌, ℤ, Bool, true, false, List, [], ◌∷◌, ◌++◌, length, map, drop, get_or, reverse, append_assoc, refl, sym, ap, arith, Option, None, Some}
 use Rattle.std.specs.Prelude.{slice_get, if◌then◌else◌}
 use Rattle.std.specs.Global.{Vec}
-use Rattle.std.proofs.lemmas.List.{append-nil, drop_more, drop_all, reverse-append, map-append}
+use Rattle.std.proofs.lemmas.List.{append-nil, drop_more, reverse-append, map-append}
 use Rattle.farkas_check.specs.Nodes.{PlainNode}
 use Rattle.farkas_check.specs.Trees.{Tree, leaf_tree, cut_tree, cases_tree}
 use Rattle.triple_rows.specs.declared.predicates.PredNode.{PredNode}
@@ -48,15 +48,6 @@ in_column p (r ∷ rows) (suc at) = in_column p rows at
 column_long : (p : ℕ) (rows : List (Vec PredNode)) → length (column p rows) ≡ length rows
 column_long p [] = refl
 column_long p (r ∷ rows) = ap suc (column_long p rows)
-
-pub lefts_none : (rows : List (Vec PredNode)) (p : ℕ) (lefts roots : List (Option Bool)) → lefts ≡ [] → roots ≡ [] → AreLefts rows p 0 lefts roots
-lefts_none rows p lefts roots e f =
-    let none : drop (length rows - 0) (column p rows) ≡ [] =
-    drop_all (length rows - 0) (column p rows) (let k = column_long p rows in omega (arith, k)) in
-    record {
-      those = ap reverse e ∙ sym (ap (λ (l : List (Option PredNode)). lefts_from l) none);
-      behind = ap reverse f ∙ sym (ap (λ (l : List (Option PredNode)). lefts_roots l) none);
-    }
 
 front : (rows : List (Vec PredNode)) (p i at : ℕ) → i < length rows → at ≡ length rows - 1 - i →
     drop (length rows - (i + 1)) (column p rows) ≡ in_row (slice_get rows at) p ∷ drop (length rows - i) (column p rows)

@@ -17,7 +17,7 @@ use Rattle.nested_refutations.specs.Walked.{gaps_of, is_truth, false_row, TakesO
 use Rattle.nested_refutations.specs.Waiting.{GroupsWait, StepWaits}
 use Rattle.nested_refutations.proofs.FalseLaws.{none_false}
 use Rattle.triple_steps.specs.Sections.{claim_roles, section_roles, roles_in, gaps_in, claims_in}
-use Rattle.triple_steps.specs.Steps.{place_of, IsStep}
+use Rattle.triple_steps.specs.Steps.{column_place, IsStep}
 use Rattle.triple_steps.specs.declared.sections.Section.{Section}
 use Rattle.triple_steps.specs.declared.sections.Section.TheVariants as sections
 use Rattle.triple_steps.specs.declared.making.Step as steps
@@ -186,9 +186,6 @@ with_claim_of g w t v i o h = record h { roles = h.roles ++ claim_roles g w t v 
 
 none_added : (h : PlainGoal) → h ≡ record h { roles = h.roles ++ []; groups = h.groups ++ [] }
 none_added h = ap (λ (l : List Role). record h { roles = l }) (sym (append-nil h.roles)) ∙ ap (λ (l : List (ℕ × ℕ)). record h { roles = h.roles ++ []; groups = l }) (sym (append-nil h.groups))
-
-pub roles_added : (roles : List Role) (h : PlainGoal) → with_roles roles h ≡ record h { roles = h.roles ++ roles; groups = h.groups ++ [] }
-roles_added roles h = ap (λ (l : List (ℕ × ℕ)). record h { roles = h.roles ++ roles; groups = l }) (sym (append-nil h.groups))
 
 pub claim_absent : (g : Graph) (w : List Letter) (t : Tree) (v : View) (x : code.Guide) (i : ℕ) (h : PlainGoal) → Known v x (root_spot g w t) → slice_get x.claims.now i ≡ None →
     h ≡ with_section g w t v (sections.Claim i) h
@@ -400,7 +397,7 @@ put_walked g w t s x ss i h nodes led there laid waits l so_far run =
 -- ---- of a step
 
 pub step_led : (g : Graph) (w : List Letter) (t : Tree) (s : Step) (f : steps.Step) (x : code.Guide) → IsStep g w t s f → x.returns ≡ f.returns → x.columns.now ≡ f.columns → IsLed s.view x
-step_led g w t s f x step er ec = record { returns = step.returns ∙ sym er; column = λ c. step.column c ∙ ap (λ k. place_of k c) (sym ec) }
+step_led g w t s f x step er ec = record { returns = step.returns ∙ sym er; column = λ c. step.column c ∙ ap (λ k. column_place k c) (sym ec) }
 
 pub step_there : (g : Graph) (w : List Letter) (t : Tree) (s : Step) (f : steps.Step) (nodes : List PlainNode) (x : code_trees.Tree) (ys : List claims.Claim) (rows : ℕ) → IsStep g w t s f →
     IsTree (stamps_of g w).columns (positions_of g w) (root_of g w) t nodes x → AreClaims (stamps_of g w).columns (positions_of g w) (root_of g w) t s.view.claims ys → rows ≡ length (root_of g w).rows →

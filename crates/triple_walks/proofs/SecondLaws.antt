@@ -1,7 +1,7 @@
 -- Where the parts of the nodes of a prefix list begin, which is read from its end.
-use Rattle.std.proofs.Common.{◌≡◌, ◌∙◌, ℕ, suc, ◌+◌, ◌-◌, ◌<◌, ◌≤◌, List, [], ◌∷◌, ◌++◌, length, map, drop, get_or, reverse, append_assoc, length-append, sym, ap, arith, Option, None, Some}
+use Rattle.std.proofs.Common.{◌≡◌, ◌∙◌, ℕ, suc, ◌+◌, ◌-◌, ◌<◌, ◌≤◌, List, [], ◌∷◌, ◌++◌, length, drop, get_or, reverse, append_assoc, length-append, sym, ap, arith, Option, None, Some}
 use Rattle.std.specs.Prelude.{slice_get}
-use Rattle.std.proofs.lemmas.List.{append-nil, drop_more, drop_all, reverse-append, length-map, get_or-map}
+use Rattle.std.proofs.lemmas.List.{append-nil, drop_more, reverse-append, length-map, get_or-map}
 use Rattle.farkas_check.specs.declared.refutations.Node.{Node}
 use Rattle.farkas_check.specs.Nodes.{PlainNode, plain, plain_nodes, cut}
 use Rattle.farkas_check.specs.Trees.{Tree, leaf_tree, cut_tree, cases_tree, prefix_of}
@@ -62,15 +62,6 @@ seconds_tree n (cases_tree ts) ns h = absurd h
 pub record AreSeconds (nodes : List Node) (i : ℕ) (seconds : List (Option ℕ)) (roots : List ℕ) : Type 0 where
   pub those : reverse seconds ≡ seconds_from (length nodes - i) (drop (length nodes - i) (plain_nodes nodes))
   pub behind : reverse roots ≡ roots_from (length nodes - i) (drop (length nodes - i) (plain_nodes nodes))
-
-pub seconds_none : (nodes : List Node) (seconds : List (Option ℕ)) (roots : List ℕ) → seconds ≡ [] → roots ≡ [] → AreSeconds nodes 0 seconds roots
-seconds_none nodes seconds roots e f =
-    let none : drop (length nodes - 0) (plain_nodes nodes) ≡ [] =
-    drop_all (length nodes - 0) (plain_nodes nodes) (let k = length-map nodes plain in omega (arith, k)) in
-    record {
-      those = ap reverse e ∙ sym (ap (λ (l : List PlainNode). seconds_from (length nodes - 0) l) none);
-      behind = ap reverse f ∙ sym (ap (λ (l : List PlainNode). roots_from (length nodes - 0) l) none);
-    }
 
 front : (nodes : List Node) (i at : ℕ) (x : Node) → i < length nodes → at ≡ length nodes - 1 - i → x ≡ get_or nodes at x →
     drop (length nodes - (i + 1)) (plain_nodes nodes) ≡ plain x ∷ drop (length nodes - i) (plain_nodes nodes)

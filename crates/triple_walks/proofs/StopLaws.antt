@@ -1,5 +1,5 @@
 -- Where the refutation of a triple goes on and where it stops.
-use Rattle.std.proofs.Common.{◌≡◌, ◌∙◌, ℕ, zero, suc, ◌+◌, ◌-◌, ◌<◌, ◌≤◌, ℤ, Bool, true, false, List, [], ◌∷◌, ◌++◌, length, map, drop, reverse, get_or, length-append, refl, sym, ap, subst, arith, Option, None, Some}
+use Rattle.std.proofs.Common.{◌≡◌, ◌∙◌, ℕ, zero, suc, ◌+◌, ◌-◌, ◌<◌, ℤ, Bool, true, false, List, [], ◌∷◌, ◌++◌, length, map, drop, reverse, get_or, length-append, refl, sym, ap, subst, arith, Option, None, Some}
 use Rattle.std.specs.Prelude.{not, ◌&&◌, nat_eq, slice_get, if◌then◌else◌}
 use Rattle.std.proofs.lemmas.List.{drop_more, at_drop_all, length-map, length-reverse, get_or-map, get_or-reverse}
 use Rattle.farkas_check.specs.Nodes.{PlainNode}
@@ -330,10 +330,6 @@ pub record IsOnWay (v : View) (taken : List (ℕ × ℕ × Bool)) (nodes : List 
   pub at : Spot
   pub place_is : IsPlace v.columns nodes x v.claims ys rows at p
   pub same : stop ≡ stops_at v taken at
-
-pub on_way_first : (v : View) (taken : List (ℕ × ℕ × Bool)) (nodes : List PlainNode) (x : code_trees.Tree) (ys : List code.Claim) (rows : ℕ) (s : Spot) (p : place.Spot) →
-    IsPlace v.columns nodes x v.claims ys rows s p → IsOnWay v taken nodes x ys rows (stops_at v taken s) p
-on_way_first v taken nodes x ys rows s p h = record { at = s; place_is = h; same = refl }
 
 pub on_way_next : (v : View) (taken : List (ℕ × ℕ × Bool)) (nodes : List PlainNode) (x : code_trees.Tree) (ys : List code.Claim) (rows : ℕ) (stop : Stop) (p q : place.Spot) (sides : ℕ × ℕ) (part : ℕ) →
     sides_in x p.node ≡ Some sides → Part part ≡ way_told x ys taken (teller v.returns 0 (counted_by x p.node ys)) p.node sides → q.node ≡ part → q.depth ≡ p.depth + 1 →

@@ -1,5 +1,5 @@
 -- What is read of the word's tree, and of the claims on it, from a node on and from the nodes below it on.
-use Rattle.std.proofs.Common.{◌≡◌, ◌∙◌, ℕ, zero, suc, ℤ, Bool, true, false, List, [], ◌∷◌, ◌++◌, length, map, refl, sym, ap, subst, Option, None, Some}
+use Rattle.std.proofs.Common.{◌≡◌, ◌∙◌, ℕ, zero, suc, ℤ, Bool, true, false, List, [], ◌∷◌, ◌++◌, map, refl, sym, ap, subst, Option, None, Some}
 use Rattle.std.specs.Prelude.{unwrap_or, slice_get, if◌then◌else◌}
 use Rattle.std.specs.Global.{Vec}
 use Rattle.std.specs.List.{AllByRecursion}
@@ -227,12 +227,6 @@ told_at columns x s (d ∷ cs) (y ∷ ys) zero c h e = (y, refl, told_as d c (le
     told_as : (d c : Claim) → d ≡ c → Tells columns x s d y → Tells columns x s c y
     told_as d c k t = subst (λ (z : Claim). Tells columns x s z y) k t
 told_at columns x s (d ∷ cs) (y ∷ ys) (suc i) c h e = told_at columns x s cs ys i c h.1 e
-
-pub told_long : (columns : List ℕ) (x : code_trees.Tree) (s : Spot) (cs : List Claim) (ys : List code.Claim) → AllTell columns x s cs ys → length cs ≡ length ys
-told_long columns x s [] [] h = refl
-told_long columns x s [] (y ∷ ys) h = absurd h
-told_long columns x s (c ∷ cs) [] h = absurd h
-told_long columns x s (c ∷ cs) (y ∷ ys) h = ap suc (told_long columns x s cs ys h.1)
 
 -- ---- of one claim at a node
 

@@ -7,20 +7,20 @@ use Rattle.lin_rows.specs.Rows.{AscendsFrom}
 use Rattle.farkas_check.specs.Nodes.{PlainNode, leaf, cut, cases, plain, plain_nodes}
 use Rattle.farkas_check.specs.Trees.{Tree, leaf_tree, cut_tree, cases_tree, prefix_of}
 use Rattle.farkas_check.specs.declared.refutations.Node.{Node}
-use Rattle.nested_predicates.specs.Sums.{Branch}
-use Rattle.nested_refutations.specs.Refutations.{Claim, Spot, side_of, low_side, high_side, Exposed, exposed, Role, branch_row, View, Goes, multipliers, parts_from, Stop, at_leaf, at_cut, at_group, nowhere, stops_at, with_own, atom_roles, is_used, of_claim, with_member, member_taken, opened, leaf_of}
+use Rattle.nested_predicates.specs.Sums.{Branch, terms_from}
+use Rattle.nested_refutations.specs.Refutations.{Claim, Spot, side_of, low_side, high_side, Exposed, exposed, Role, View, Goes, multipliers, Stop, at_leaf, at_cut, at_group, nowhere, stops_at, with_own, atom_roles, is_used, of_claim, with_member, member_taken, opened, leaf_of}
 use Rattle.nested_refutations.specs.Walked.{ComesTo, AreWalkedFrom}
 use Rattle.nested_refutations.specs.Waiting.{IsNotEmpty, AfterOpening, HasGroupAlong, GroupsWait}
 use Rattle.nested_refutations.proofs.PutLaws.{comes_first, comes_leaf, comes_cut, comes_cases, comes_last}
-use Rattle.triple_steps.specs.Steps.{place_of}
+use Rattle.triple_steps.specs.Steps.{column_place}
 use Rattle.triple_steps.specs.declared.columns.Columns.{Columns}
 use Rattle.triple_walks.specs.Spots.{sides_in}
 use Rattle.triple_walks.specs.Telling.{Tells, AllTell, IsExposed}
 use Rattle.triple_walks.specs.Stops.{taken_of, IsPlace, IsStop}
 use Rattle.triple_walks.specs.Leaves.{Ascends}
 use Rattle.triple_walks.specs.Putting.{IsPlaced}
-use Rattle.triple_walks.specs.Goals.{role_of, group_of, PlainGoal, plain_goal, with_roles, with_exposed, with_taken, without_first, mark_of, gone_back}
-use Rattle.triple_walks.specs.Walking.{parts_in, cut_in, IsLed, Known, IsThere, StopsThere, IsCutTree, IsGroup, IsAtHand, IsWithin, Keeps, TakesMember, TakesRow, IsBegun, IsWaiting, AreWaiting, HasCome, IsComing, ComesNext}
+use Rattle.triple_walks.specs.Goals.{role_of, group_of, PlainGoal, plain_goal, with_exposed, with_taken, without_first, mark_of, gone_back}
+use Rattle.triple_walks.specs.Walking.{parts_in, cut_in, IsLed, Known, IsThere, StopsThere, IsCutTree, IsGroup, IsAtHand, IsWithin, Keeps, TakesMember, IsBegun, IsWaiting, AreWaiting, HasCome, IsComing, ComesNext}
 use Rattle.triple_walks.proofs.TellingLaws.{IsCut, HasCut, known_low, known_high, known_groups, groups_are_cuts, told_at}
 use Rattle.triple_walks.specs.declared.trees.Tree as code_trees
 use Rattle.triple_walks.specs.declared.claims.Claim as claims
@@ -84,9 +84,6 @@ keeps_added a b roles groups taken d e f = λ m w.
           (ap (take m.taken) f ∙ take-append-le m.taken a.taken taken w.taken),
     )
 
-pub keeps_row : (a b : PlainGoal) (role : Role) → b ≡ with_roles (role ∷ []) a → Keeps a b
-keeps_row a b role e = subst (Keeps a) (sym e) (keeps_added a (with_roles (role ∷ []) a) (role ∷ []) [] [] refl (sym (append-nil a.groups)) (sym (append-nil a.taken)))
-
 pub keeps_taken : (a b : PlainGoal) (t : ℕ × ℕ × Bool) → b ≡ with_taken t a → Keeps a b
 keeps_taken a b t e = subst (Keeps a) (sym e) (keeps_added a (with_taken t a) [] [] (t ∷ []) (sym (append-nil a.roles)) (sym (append-nil a.groups)) refl)
 
@@ -96,15 +93,6 @@ keeps_given a b c t i used leaves groups d e =
     (subst (Keeps b) (sym e) (keeps_added b (with_exposed i used leaves groups b) (atom_roles used i leaves) (map (with_claim i) groups) [] refl refl (sym (append-nil b.taken))))
 
 -- ---- a part begins
-
-pub row_added : (v : View) (x : code.Guide) (g h : Goes) (a b : PlainGoal) (row : ℕ) → b ≡ with_roles (branch_row row ∷ []) a → IsAtHand v x g a → TakesRow v row g h → IsAtHand v x h b
-row_added v x g h a b row e at t =
-    subst (λ (z : Goes). IsAtHand v x z b) (sym t.goes)
-    (subst (IsAtHand v x (with_own v row t.column t.number t.side g)) (sym e)
-    (record {
-      goal = record { roles = ap (λ (l : List Role). l ++ branch_row row ∷ []) at.goal.roles; groups = at.goal.groups; opened = at.goal.opened; taken = at.goal.taken };
-      groups = at.groups;
-    }))
 
 -- the claim of a member is there, and so are the sides of its cut
 pub member_claimed : (v : View) (x : code.Guide) (t : member.Taken) (g h : Goes) → TakesMember v x t g h → slice_get x.claims.now t.claim ≡ None → ⊥
@@ -241,9 +229,6 @@ stop_is v x h s p g taken f to led there at et ef stops =
 
 -- ---- a leaf
 
-in_nodes : (nodes : List PlainNode) (m : ℕ) (n : PlainNode) → slice_get nodes m ≡ Some n → parts_in (slice_get nodes m) ≡ parts_in (Some n)
-in_nodes nodes m n e = ap parts_in e
-
 -- the parts of a leaf of the word's refutation ascend
 pub parts_ordered : (nodes : List PlainNode) (m : ℕ) (parts : List (ℕ × ℤ)) → AllByRecursion Ascends nodes → parts_in (slice_get nodes m) ≡ Some parts → AscendsFrom 0 parts
 parts_ordered [] m parts h e = absurd (cc)
@@ -263,7 +248,7 @@ leaf_there v x nowhere m h e = absurd h
 pub leaf_put : (v : View) (x : code.Guide) (first h : Goes) (from stop : Stop) (m : ℕ) (old new : walks.Walk) (parts found : List (ℕ × ℤ)) (put : Node) (roles : List row.Role) → StopsThere v x stop (stopped.Leaf m) →
     IsComing v x first from h stop old → parts_in (slice_get (plain_nodes x.nodes.now) m) ≡ Some parts →
     ((w : View) (b : Branch) → AllTell w.columns x.tree.now (record { node = m; branch = b; tree = leaf_tree parts }) w.claims x.claims.now →
-    found ≡ parts_from 0 (multipliers w m b parts (map role_of roles))) → roles ≡ old.goal.roles.items → plain put ≡ leaf found → new.nodes.items ≡ old.nodes.items ++ put ∷ [] → new.goal ≡ old.goal →
+    found ≡ terms_from 0 (multipliers w m b parts (map role_of roles))) → roles ≡ old.goal.roles.items → plain put ≡ leaf found → new.nodes.items ≡ old.nodes.items ++ put ∷ [] → new.goal ≡ old.goal →
     new.waiting.items ≡ old.waiting.items → HasCome v x first from new
 leaf_put v x first h from (at_leaf n b given) m old new parts found put roles at c ep f er e en eg ew =
     let nodes : List PlainNode = plain_nodes x.nodes.now in
@@ -273,8 +258,8 @@ leaf_put v x first h from (at_leaf n b given) m old new parts found put roles at
     (subst (λ (l : List (ℕ × ℤ)). AllTell v.columns x.tree.now (record { node = n; branch = b; tree = leaf_tree l }) v.claims x.claims.now) same at.1.claims) in
     let is_role : map role_of roles ≡ h.roles = ap (map role_of) er ∙ c.goal.goal.roles in
     let is : found ≡ (leaf_of v h n b given).parts =
-    f v b tells ∙ ap (λ (i : ℕ). parts_from 0 (multipliers v i b parts (map role_of roles))) at.0 ∙
-    ap (λ (l : List (ℕ × ℤ)). parts_from 0 (multipliers v n b l (map role_of roles))) (sym same) ∙ ap (λ (l : List Role). parts_from 0 (multipliers v n b given l)) is_role in
+    f v b tells ∙ ap (λ (i : ℕ). terms_from 0 (multipliers v i b parts (map role_of roles))) at.0 ∙
+    ap (λ (l : List (ℕ × ℤ)). terms_from 0 (multipliers v n b l (map role_of roles))) (sym same) ∙ ap (λ (l : List Role). terms_from 0 (multipliers v n b given l)) is_role in
     let listed : plain_nodes old.nodes.items ++ leaf (leaf_of v h n b given).parts ∷ [] ≡ plain_nodes new.nodes.items =
     sym (ap plain_nodes en ∙ map_push plain old.nodes.items put ∙ ap (λ (z : PlainNode). plain_nodes old.nodes.items ++ z ∷ []) (e ∙ ap leaf is)) in
     record {
@@ -330,7 +315,7 @@ side_there v x s p q b e f n d k = record { node = n; depth = omega (arith, e, f
 
 pub cut_put : (v : View) (x : code.Guide) (first h : Goes) (from stop : Stop) (p : place.Spot) (old new : walks.Walk) (c col row : ℕ) (k : ℤ) (sides : ℕ × ℕ) (put : Node) (low_at high_at : place.Spot)
     (low_part high_part : part.Waiting) → IsLed v x → StopsThere v x stop (stopped.Cut p) → IsComing v x first from h stop old → cut_in (slice_get (plain_nodes x.nodes.now) p.node) ≡ Some (c, k) →
-    sides_in x.tree.now p.node ≡ Some sides → col ≡ place_of x.columns.now c → plain put ≡ cut col k → row ≡ x.rows + p.depth → low_at.node ≡ sides.0 → low_at.depth ≡ p.depth + 1 →
+    sides_in x.tree.now p.node ≡ Some sides → col ≡ column_place x.columns.now c → plain put ≡ cut col k → row ≡ x.rows + p.depth → low_at.node ≡ sides.0 → low_at.depth ≡ p.depth + 1 →
     high_at.node ≡ sides.1 → high_at.depth ≡ p.depth + 1 → low_part ≡ record { spot = low_at; begin = Side row; mark = mark_of (plain_goal old.goal) } →
     high_part ≡ record { spot = high_at; begin = Side row; mark = mark_of (plain_goal old.goal) } → new.nodes.items ≡ old.nodes.items ++ put ∷ [] → new.goal ≡ old.goal →
     new.waiting.items ≡ (old.waiting.items ++ high_part ∷ []) ++ low_part ∷ [] → HasCome v x first from new
@@ -377,11 +362,11 @@ cut_put v x first h from (at_cut r c0 k0 low high) p old new c col row k sides p
     }
 
 -- the column of a cut of the word's refutation has one in the system
-pub cut_placed : (columns : Columns) (nodes : List PlainNode) (m c : ℕ) (k : ℤ) → AllByRecursion (IsPlaced columns) nodes → cut_in (slice_get nodes m) ≡ Some (c, k) → place_of columns c < 2 ^ 32
+pub cut_placed : (columns : Columns) (nodes : List PlainNode) (m c : ℕ) (k : ℤ) → AllByRecursion (IsPlaced columns) nodes → cut_in (slice_get nodes m) ≡ Some (c, k) → column_place columns c < 2 ^ 32
 cut_placed columns [] m c k h e = absurd (cc)
 cut_placed columns (leaf found ∷ nodes) zero c k h e = absurd (cc)
 cut_placed columns (cut d j ∷ nodes) zero c k h e =
-    subst (λ (q : ℕ × ℤ). place_of columns q.0 < 2 ^ 32) (some_same (Some (d, j)) (d, j) (c, k) refl e) h.0
+    subst (λ (q : ℕ × ℤ). column_place columns q.0 < 2 ^ 32) (some_same (Some (d, j)) (d, j) (c, k) refl e) h.0
 cut_placed columns (cases n ∷ nodes) zero c k h e = absurd (cc)
 cut_placed columns (n ∷ nodes) (suc m) c k h e = cut_placed columns nodes m c k h.1 e
 

@@ -5,7 +5,8 @@ use Rattle.triple_rows.specs.declared.predicates.PredNode.{PredNode}
 use Rattle.triple_rows.specs.declared.predicates.PredNode.TheVariants.{Truth, Atom, And, Or}
 use Rattle.nested_predicates.specs.Positions.{Position}
 use Rattle.nested_predicates.specs.Sums.{Branch}
-use Rattle.nested_refutations.specs.Refutations.{Claim, is_same, truth_in, left_at, Asked, one_part, both_parts, some_part, each_asked, some_asked}
+use Rattle.nested_predicates.specs.Simplifying.{is_same}
+use Rattle.nested_refutations.specs.Refutations.{Claim, truth_in, left_at, Asked, one_part, both_parts, some_part, each_asked, some_asked}
 use Rattle.triple_walks.specs.Spots.{listed, node_in, is_counted_in}
 use Rattle.triple_walks.specs.declared.trees.Tree as code_trees
 use Rattle.triple_walks.specs.declared.claims.Claim as code

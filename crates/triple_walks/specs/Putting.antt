@@ -10,7 +10,7 @@ use Rattle.nested_refutations.specs.Refutations.{Claim, Spot, truth_in, left_at,
 use Rattle.nested_refutations.specs.Numbers.{Step}
 use Rattle.nested_refutations.specs.Walked.{gaps_of, is_truth, IsPutDown}
 use Rattle.triple_steps.specs.Sections.{section_roles, roles_in, gaps_in, claims_in}
-use Rattle.triple_steps.specs.Steps.{place_of}
+use Rattle.triple_steps.specs.Steps.{column_place}
 use Rattle.triple_steps.specs.declared.columns.Columns.{Columns}
 use Rattle.triple_steps.specs.declared.sections.Section.{Section}
 use Rattle.triple_steps.specs.declared.sections.Section.TheVariants as sections
@@ -19,7 +19,7 @@ use Rattle.triple_walks.specs.Goals.{PlainGoal}
 -- the column of a cut has one in the system, whose number fits
 abbrev pub IsPlaced : Columns → PlainNode → Type 0
 IsPlaced columns (leaf parts) = Unit {0}
-IsPlaced columns (cut c k) = place_of columns c < 2 ^ 32
+IsPlaced columns (cut c k) = column_place columns c < 2 ^ 32
 IsPlaced columns (cases n) = Unit {0}
 
 -- the nodes are those of a tree that is put down for the step's triple

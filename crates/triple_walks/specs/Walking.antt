@@ -6,7 +6,7 @@ use Rattle.farkas_check.specs.Trees.{Tree, leaf_tree, cut_tree, cases_tree}
 use Rattle.nested_refutations.specs.Refutations.{Claim, Spot, side_of, View, Goes, Stop, stops_at, with_own, with_member}
 use Rattle.nested_refutations.specs.Walked.{ComesTo}
 use Rattle.nested_refutations.specs.Waiting.{GroupsWait}
-use Rattle.triple_steps.specs.Steps.{place_of}
+use Rattle.triple_steps.specs.Steps.{column_place}
 use Rattle.triple_walks.specs.Spots.{sides_in}
 use Rattle.triple_walks.specs.Telling.{IsKnown}
 use Rattle.triple_walks.specs.Stops.{IsPlace, IsStop}
@@ -47,7 +47,7 @@ cut_in (Some n) = cut_here n
 -- it is led along the view of the triple
 pub record IsLed (v : View) (x : code.Guide) : Type 0 where
   pub returns : v.returns ≡ x.returns
-  pub column : (c : ℕ) → v.column c ≡ place_of x.columns.now c
+  pub column : (c : ℕ) → v.column c ≡ column_place x.columns.now c
 
 abbrev pub Known : View → code.Guide → Spot → Type 0
 Known v x s = IsKnown v.columns (plain_nodes x.nodes.now) x.tree.now v.claims x.claims.now s

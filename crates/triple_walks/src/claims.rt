@@ -1,6 +1,6 @@
 //! What a triple's system says of its predicates: that the sources hold and the target does not.
 
-ghost use Rattle.std.specs.Prelude.{◌≡◌, ℕ, List, None, Some, IfOk, length, drop, reverse, slice_get};
+ghost use Rattle.std.specs.Prelude.{◌≡◌, ℕ, List, None, Some, IfOk, drop, reverse, slice_get};
 ghost use Rattle.farkas_check.specs.Trees as trees;
 ghost use Rattle.farkas_check.specs.Nodes.{PlainNode};
 ghost use Rattle.nested_predicates.specs.Positions.{Position};
@@ -88,7 +88,8 @@ impl Claim {
     }
 }
 
-ghost use Rattle.nested_refutations.specs.Refutations.{is_same, each_asked, some_asked};
+ghost use Rattle.nested_predicates.specs.Simplifying.{is_same};
+ghost use Rattle.nested_refutations.specs.Refutations.{each_asked, some_asked};
 
 /// Where both parts are asked, and truth values are simplified away.
 fn each_asked(first: Option<bool>, second: Option<bool>) -> Asked

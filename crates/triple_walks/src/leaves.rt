@@ -8,9 +8,9 @@ ghost use Rattle.lin_rows.specs.Rows.{AscendsFrom, IsCoefficient};
 ghost use Rattle.lin_rows.specs.Sums.{led_by};
 ghost use Rattle.lin_rows.specs.Tightening.{content};
 ghost use Rattle.farkas_check.specs.Trees.{leaf_tree};
-ghost use Rattle.nested_predicates.specs.Sums.{Branch};
+ghost use Rattle.nested_predicates.specs.Sums.{Branch, terms_from};
 ghost use Rattle.nested_refutations.specs.Refutations as refutations;
-ghost use Rattle.nested_refutations.specs.Refutations.{View, multipliers, parts_from, is_again};
+ghost use Rattle.nested_refutations.specs.Refutations.{View, multipliers, is_again};
 ghost use Rattle.triple_walks.specs.Leaves.{number_of_pair, terms_here, claim_terms, tie_number, TellAt, IsSeen, is_met, with_met};
 ghost use Rattle.triple_walks.specs.Telling.{AllTell};
 ghost use Rattle.triple_walks.specs.Goals.{role_of};
@@ -35,7 +35,7 @@ pub(crate) fn leaf(
     parts: &[(u32, i128)],
 ) -> Result<Vec<(u32, i128)>, AllocError>
     requires { AscendsFrom 0 parts.now }
-    ensures { IfOk result (λ f. (v : View) (b : Branch) → AllTell v.columns tree.now (record { node = node; branch = b; tree = leaf_tree parts.now }) v.claims claims.now → f.items ≡ parts_from 0 (multipliers v node b parts.now (map role_of roles.now))) }
+    ensures { IfOk result (λ f. (v : View) (b : Branch) → AllTell v.columns tree.now (record { node = node; branch = b; tree = leaf_tree parts.now }) v.claims claims.now → f.items ≡ terms_from 0 (multipliers v node b parts.now (map role_of roles.now))) }
 {
     let mut seen = vec![in alloc; false; claims.len()]?;
     let mut added = Vec::new(alloc);

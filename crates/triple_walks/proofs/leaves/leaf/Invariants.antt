@@ -1,6 +1,6 @@
 use Rattle.std.proofs.Common.{◌≡◌, ◌-◌, length, reverse}
-use Rattle.nested_predicates.specs.Sums.{Branch}
-use Rattle.nested_refutations.specs.Refutations.{View, multipliers, parts_from}
+use Rattle.nested_predicates.specs.Sums.{Branch, terms_from}
+use Rattle.nested_refutations.specs.Refutations.{View, multipliers}
 use Rattle.triple_walks.specs.Leaves.{TellAt, IsSeen}
 use Rattle.triple_walks.proofs.LeafLaws.{rows_from}
 use Rattle.triple_walks.proofs.leaves.leaf.Given as goal
@@ -9,4 +9,4 @@ abbrev pub invariant-loop-i : goal.invariant-loop-i
 invariant-loop-i l =
     IsSeen (length l.claims) l.node (rows_from (length l.roles - l.i) l.roles) l.seen.items
     × ((v : View) (b : Branch) → TellAt v l.tree l.claims l.node b l.parts →
-    reverse l.added.items ≡ parts_from (length l.roles - l.i) (multipliers v l.node b l.parts (rows_from (length l.roles - l.i) l.roles)))
+    reverse l.added.items ≡ terms_from (length l.roles - l.i) (multipliers v l.node b l.parts (rows_from (length l.roles - l.i) l.roles)))
