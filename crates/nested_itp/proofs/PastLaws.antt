@@ -1,5 +1,5 @@
 -- Where no number is past, the tree that is put down for a letter's triple is a proof of it.
-use Rattle.std.proofs.Common.{◌≡◌, ◌∙◌, ℕ, zero, suc, ◌<◌, IsTrue, List, [], ◌∷◌, ◌++◌, length, map, get_or, length-append, refl, sym, ap, subst, arith, Some}
+use Rattle.std.proofs.Common.{◌≡◌, ◌∙◌, ℕ, zero, suc, ◌<◌, IsTrue, List, [], ◌∷◌, ◌++◌, length, get_or, length-append, refl, sym, ap, subst, arith, Some}
 use Rattle.std.specs.Prelude.{slice_get}
 use Rattle.std.specs.List.{AllByRecursion}
 use Rattle.std.proofs.lemmas.List.{length-map}
@@ -25,7 +25,7 @@ use Rattle.nested_predicates.specs.Stamps.{stamps_of}
 use Rattle.nested_predicates.specs.Positions.{positions_of}
 use Rattle.nested_predicates.specs.Sums.{root_of}
 use Rattle.nested_predicates.specs.Interpolants.{RefutesRows}
-use Rattle.nested_refutations.specs.Numbers.{Step, StepFits, steps_of, AreCutsAt}
+use Rattle.nested_refutations.specs.Numbers.{Step, StepNumbersFit, steps_of, AreCutsAt}
 use Rattle.nested_refutations.specs.Walked.{WalkedRefutes}
 use Rattle.nested_refutations.specs.Cuts.{WalkedCuts}
 use Rattle.triple_rows.specs.Cuts.{IsCutWithin}
@@ -132,10 +132,10 @@ rows_counted g w =
 
 -- what is put down for a step is a proof of its triple, where the step's numbers fit
 step_proved : (g : Graph) (w : List Letter) (t : Tree) → IsGraph g → IsAutomaton g.automaton → Accepts g.automaton w → RefutesRows (prefix_of t) (path_of g w).rows →
-    AreCutsAt (length (stamps_of g w).columns) t → AllByRecursion (StepFits g w t) (steps_of g w t) → (i : ℕ) (s : Step) → slice_get (steps_of g w t) i ≡ Some s → (nodes : List PlainNode) →
+    AreCutsAt (length (stamps_of g w).columns) t → AllByRecursion (StepNumbersFit g w t) (steps_of g w t) → (i : ℕ) (s : Step) → slice_get (steps_of g w t) i ≡ Some s → (nodes : List PlainNode) →
     IsPutFor g w t s nodes → IsNoProof (alphabet_of g) s.triple nodes → ⊥
 step_proved g w t ok m acc refutes cuts fit i s there nodes put no_proof =
-    let fits : StepFits g w t s = all_at (StepFits g w t) (steps_of g w t) i s there fit in
+    let fits : StepNumbersFit g w t s = all_at (StepNumbersFit g w t) (steps_of g w t) i s there fit in
     let walked : WalkedRefutes g w t s = all_at (WalkedRefutes g w t) (steps_of g w t) i s there (steps_walked g w t ok m acc refutes cuts) in
     let cut : WalkedCuts g w t s = all_at (WalkedCuts g w t) (steps_of g w t) i s there (steps_cut g w t ok m acc cuts) in
     let within : AreCutsWithin (alphabet_of g) s.triple nodes = subst (AreCutsWithin (alphabet_of g) s.triple) put.listed (cut put.tree put.put) in
@@ -179,7 +179,7 @@ put_whole g w t i triple nodes h = (is_tree_is nodes).1 (h.put.tree, h.put.liste
 -- and a proof of the letter's triple, where the numbers of the steps fit
 pub put_proved : (g : Graph) (w : List Letter) → IsGraph g → IsAutomaton g.automaton → Accepts g.automaton w → (nodes : List PlainNode) (rows : List LinearRow) → rows ≡ (path_of g w).rows →
     RefutesRows nodes rows → AllByRecursion (IsCutWithin (length (stamps_of g w).columns)) nodes → (t : Tree) → prefix_of t ≡ nodes → (i : ℕ) (triple : Triple) (put : List PlainNode) →
-    LetterPut g w t i triple put → IsNoProof (alphabet_of g) triple put → AllByRecursion (StepFits g w t) (steps_of g w t) → ⊥
+    LetterPut g w t i triple put → IsNoProof (alphabet_of g) triple put → AllByRecursion (StepNumbersFit g w t) (steps_of g w t) → ⊥
 put_proved g w ok m acc nodes rows r refutes cuts t e i triple put h no_proof fit =
     let refuted : RefutesRows (prefix_of t) (path_of g w).rows = refuted_by g w nodes rows r refutes t e in
     let at : AreCutsAt (length (stamps_of g w).columns) t = tree_cuts (length (stamps_of g w).columns) t (subst (AllByRecursion (IsCutWithin (length (stamps_of g w).columns))) (sym e) cuts) in

@@ -10,7 +10,7 @@ ghost use Rattle.nested_predicates.specs.Stamps.{stamps_of};
 ghost use Rattle.nested_predicates.specs.Positions.{positions_of};
 ghost use Rattle.nested_predicates.specs.Sums.{root_of};
 ghost use Rattle.nested_predicates.specs.Interpolants.{AreInterpolants, RefutesRows, HasCutsUpTo, BeginsTrue, EndsFalse};
-ghost use Rattle.nested_refutations.specs.Numbers.{NumbersFit, StepFits, steps_of};
+ghost use Rattle.nested_refutations.specs.Numbers.{NumbersFit, StepNumbersFit, steps_of};
 ghost use Rattle.triple_rows.specs.Cuts.{IsCutWithin};
 ghost use Rattle.triple_rows.specs.Triples.{Agrees};
 ghost use Rattle.triple_steps.specs.Steps.{FitColumns, AreSteps};
@@ -103,7 +103,7 @@ fn proofs(
     requires triples { AreTriplesOf icfg.now path.now.word proof.now triples.now }
     ensures proofs { IfOk result (λ v. AreProofsOf (alphabet_of icfg.now) triples.now v.items) }
     ensures count { IfOk result (λ v. length v.items ≡ length steps.now) }
-    ensures past { result ≡ Err ItpFault.Past → ((t : trees.Tree) → trees.prefix_of t ≡ proof.now → AllByRecursion (StepFits icfg.now path.now.word t) (steps_of icfg.now path.now.word t)) → ⊥ }
+    ensures past { result ≡ Err ItpFault.Past → ((t : trees.Tree) → trees.prefix_of t ≡ proof.now → AllByRecursion (StepNumbersFit icfg.now path.now.word t) (steps_of icfg.now path.now.word t)) → ⊥ }
 {
     let _states = icfg.nwa().states();
     let nodes = proof.nodes();
