@@ -58,10 +58,6 @@ between : (q p : ℕ) (edges : List (ℕ × ℕ × Letter × ℕ)) (r : Letter) 
 between q p edges r e m =
     member_filter (λ (x : ℕ × ℕ × Letter × ℕ). eqb x.0 q && eqb x.1 p) edges (q, p, r, e) m (and_both (eqb q q) (eqb p p) (eqb-refl q) (eqb-refl p))
 
-pub from_false : (g : Graph) (s : Sketch) (x q c call : ℕ) → HasPred s.nodes c 1 → HasBacksFrom g s x q c call
-from_false g s x q c call h before i lacks r e m k =
-    let b : h.0 ≡ before = let f = h.1 in cc in absurd (lacks (subst (λ (y : Node). Member y.preds 1) b h.2))
-
 pub from_along : (g : Graph) (s : Sketch) (x q c call : ℕ) (b : Node) → IsNode s c b → HasBacksAlong s x c call (backs_between q b.place g.automaton.backs) → HasBacksFrom g s x q c call
 from_along g s x q c call b i h before j lacks r e m k =
     let w : before ≡ b = cc in
@@ -104,9 +100,6 @@ answered g s n q entry x entering e f k = (there, back)
         (subst (λ (z : ℕ). Member s.steps (steps.Step t.0 r.call z)) (sym f) (subst (λ (z : ℕ). Member s.steps (steps.Step t.0 z entry)) (sym c) j))
 
 -- ---- nodes
-
-pub covered_false : (g : Graph) (s : Sketch) (n : ℕ) (x : Node) → IsNode s n x → HasPred s.nodes n 1 → IsCovered g s n x
-covered_false g s n x i h lacks = let b : h.0 ≡ x = let f = h.1 in cc in absurd (lacks (subst (λ (y : Node). Member y.preds 1) b h.2))
 
 pub covered_open : (g : Graph) (s : Sketch) (n : ℕ) (x : Node) → IsNode s n x → (HasPred s.nodes n 1 → ⊥) → IsCovered g s n x → HasSteps g s n x × HasBacks g s n x
 covered_open g s n x i n1 h = h (λ o. n1 (x, i, o))

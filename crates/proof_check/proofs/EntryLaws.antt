@@ -239,18 +239,6 @@ not_back (Inside q l r) h = refl
 not_back (Call q l r) h = refl
 not_back (Back x b l r) h = absurd (h x b l r refl)
 
-pub no_step : (t : NamedStep) → ((n l m : ℕ) → t ≡ steps.Step n l m → ⊥) → (step_key t ≡ None) × (entering_entry t ≡ None)
-no_step (steps.Step n l m) h = absurd (h n l m refl)
-no_step (steps.Back x c l m) h = (refl, refl)
-
-pub no_landed : (nodes : List Node) (t : NamedStep) → ((n l m : ℕ) → t ≡ steps.Step n l m → ⊥) → landed_key nodes t ≡ None
-no_landed nodes (steps.Step n l m) h = absurd (h n l m refl)
-no_landed nodes (steps.Back x c l m) h = refl
-
-pub no_back : (nodes : List Node) (t : NamedStep) → ((x c l m : ℕ) → t ≡ steps.Back x c l m → ⊥) → back_landed_key nodes t ≡ None
-no_back nodes (steps.Step n l m) h = refl
-no_back nodes (steps.Back x c l m) h = absurd (h x c l m refl)
-
 -- ---- the place at the end
 
 pub at_place : (o : Option Node) (n l p : ℕ) → Some p ≡ option_map (λ (x : Node). x.place) o → option_map {U = ℕ × ℕ × ℕ} (λ (x : Node). (n, l, x.place)) o ≡ Some (n, l, p)

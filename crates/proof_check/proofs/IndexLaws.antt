@@ -185,14 +185,6 @@ keys_skip entry xs x old h e k = (
 pub record Keys {X K : Type 0} (entry : X → Option K) (xs : List X) (i : ℕ) (has : K → Bool) : Type 0 where
   pub so_far : HasKeys entry (take i xs) has
 
-pub keys_none : {X K : Type 0} (entry : X → Option K) (xs : List X) (i : ℕ) (has : K → Bool) → i ≡ 0 → ((k : K) → has k ≡ false) → Keys entry xs i has
-keys_none {X} {K} entry xs i has e h = record {
-  so_far = λ k. (
-    λ m. absurd (false≢true (sym (h k) ∙ m)),
-    λ n. absurd (subst (λ (j : ℕ). Member (take j xs) n.0) e n.1),
-  );
-}
-
 pub keys_next : {X K : Type 0} (entry : X → Option K) (test : K → K → Bool) (xs : List X) (i : ℕ) (x : X) (k : K) (old new : K → Bool) →
     TellsKeys test → Keys entry xs i old → i < length xs → x ≡ get_or xs i x → entry x ≡ Some k → GainsKey test k old new → Keys entry xs (i + 1) new
 keys_next entry test xs i x k old new t h l e f g = record {

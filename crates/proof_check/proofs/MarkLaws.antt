@@ -1,7 +1,6 @@
 -- Which nodes are marked with which predicates.
-use Rattle.std.proofs.Common.{◌≡◌, ◌∙◌, ◌↔◌, ◌⊎◌, ℕ, ◌+◌, ◌<◌, ◌≤◌, Bool, true, false, List, [], ◌∷◌, ◌++◌, length, take, get_or, Some, sym, ap, subst, inl, inr, arith}
+use Rattle.std.proofs.Common.{◌≡◌, ◌∙◌, ◌↔◌, ◌⊎◌, ℕ, ◌+◌, ◌<◌, ◌≤◌, Bool, true, List, [], ◌∷◌, ◌++◌, length, take, get_or, Some, sym, ap, subst, inl, inr, arith}
 use Rattle.std.specs.Prelude.{slice_get}
-use Rattle.std.proofs.lemmas.Bool.{false≢true}
 use Rattle.std.proofs.lemmas.List.{take_all}
 use Rattle.nwa_base.specs.Members.{Member}
 use Rattle.nwa_base.proofs.MemberLemmas.{member_front, member_rest, member_split}
@@ -10,12 +9,6 @@ use Rattle.triple_rows.proofs.ListLaws.{within}
 use Rattle.proof_names.specs.Outlines.{Node}
 use Rattle.proof_check.specs.Plans.{IsTest, Marked, MarksAll, HasPred}
 use Rattle.proof_check.proofs.IndexLaws.{TellsKeys, GainsKey, either_key, key_here, key_there, next_taken}
-
-pub marks_begin : (old : ℕ × ℕ → Bool) (n i : ℕ) (preds : List ℕ) → i ≡ 0 → MarksAll old n (take i preds) old
-marks_begin old n i preds e k = (
-  λ h. inl h,
-  λ s. elim s [ inl h ↦ h | inr m ↦ absurd (subst (λ (j : ℕ). Member (take j preds) k.1) e m.1) ],
-)
 
 pub marks_on : (test : ℕ × ℕ → ℕ × ℕ → Bool) (old mid new : ℕ × ℕ → Bool) (n i p : ℕ) (preds : List ℕ) → TellsKeys test → MarksAll old n (take i preds) mid →
     i < length preds → p ≡ get_or preds i p → GainsKey test (n, p) mid new → MarksAll old n (take (i + 1) preds) new
@@ -48,9 +41,6 @@ marks_end old new n i preds h l = subst (λ ps. MarksAll old n ps new) (take_all
 -- the first nodes are marked
 abbrev pub MarkedBelow : List Node → ℕ → (ℕ × ℕ → Bool) → Type 0
 MarkedBelow nodes i has = (k : ℕ × ℕ) → (has k ≡ true) ↔ ((k.0 < i) × HasPred nodes k.0 k.1)
-
-pub marked_none : (nodes : List Node) (i : ℕ) (has : ℕ × ℕ → Bool) → i ≡ 0 → ((k : ℕ × ℕ) → has k ≡ false) → MarkedBelow nodes i has
-marked_none nodes i has e h k = (λ m. absurd (false≢true (sym (h k) ∙ m)), λ m. absurd (let l = m.0 in omega (arith, l, e)))
 
 pub marked_on : (nodes : List Node) (i : ℕ) (x : Node) (old new : ℕ × ℕ → Bool) → MarkedBelow nodes i old → slice_get nodes i ≡ Some x → MarksAll old i x.preds new →
     MarkedBelow nodes (i + 1) new

@@ -1,9 +1,8 @@
 -- The outcomes of the checks, put together.
-use Rattle.std.proofs.Common.{◌≡◌, ℕ, ◌+◌, ◌<◌, List, length, Option, None, Some, refl, sym, subst, arith}
+use Rattle.std.proofs.Common.{◌≡◌, ℕ, ◌+◌, ◌<◌, List, Option, None, Some, refl, sym, subst, arith}
 use Rattle.std.specs.Prelude.{slice_get, Result, Ok, Err, IfSome, IsErrAnd}
 use Rattle.letter_acts.specs.Invariant.{Graph}
 use Rattle.proof_form.specs.Annotations.{Content}
-use Rattle.proof_names.specs.Items.{first_step, item_count}
 use Rattle.proof_names.specs.Outlines.{Sketch}
 use Rattle.proof_check.specs.declared.rejects.Reject.{Reject}
 use Rattle.proof_check.specs.declared.rejects.Reject.TheVariants.{At, Memory}
@@ -11,7 +10,6 @@ use Rattle.proof_check.specs.declared.rejects.RejectCause.{RejectCause}
 use Rattle.proof_check.specs.declared.rejects.RejectCause.TheVariants.{BadTriple, NoStart, OpenError, MissingStep, BadStep, BadName}
 use Rattle.proof_check.specs.Firsts.{IsFirstOf}
 use Rattle.proof_check.specs.Checks.{PassesIn, turn, IsRefusal, IsOutcome, AreOutcomes}
-use Rattle.proof_check.specs.Proves.{HasStart}
 
 -- ---- from places to items
 
@@ -39,15 +37,6 @@ refused P xs first k cause (Some n) (At item c) e q h =
       subst (λ (j : ℕ). (i : ℕ) → i < j → PassFrom P xs first i) m (before_fails P xs first k h),
       subst (λ (j : ℕ). PassFrom P xs first j → ⊥) m (item_fails P xs first k h),
     )
-
--- and so is the refusal of the end
-pub no_start : (g : Graph) (a : Content) (s : Sketch) (steps : ℕ) (f : Option ℕ) (r : Reject) → IfSome f (λ n. n ≡ first_step a) → steps ≡ length a.steps →
-    IsRefusal f steps NoStart r → (HasStart s → ⊥) → IsOutcome {U = Unit {0}} (PassesIn g a s NoStart) NoStart (Err r)
-no_start g a s steps f Memory e l q h = tt
-no_start g a s steps None (At item c) e l q h = absurd q
-no_start g a s steps (Some n) (At item c) e l q h =
-    let m : item ≡ item_count a = let j = q.0 in omega (arith, e, l, j) in
-    (q.1, λ i b x. absurd (omega (arith, m, b, x)), λ p. h (p m))
 
 -- ---- all checks of what lines name
 

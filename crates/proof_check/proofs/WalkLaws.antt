@@ -11,9 +11,6 @@ use Rattle.proof_check.proofs.IndexLaws.{next_taken}
 pub record AllTo {X : Type 0} (P : X → Type 0) (xs : List X) (i : ℕ) : Type 0 where
   pub each : (x : X) → Member (take i xs) x → P x
 
-pub all_none : {X : Type 0} (P : X → Type 0) (xs : List X) (i : ℕ) → i ≡ 0 → AllTo P xs i
-all_none P xs i e = record { each = λ x m. absurd (subst (λ (j : ℕ). Member (take j xs) x) e m) }
-
 pub all_on : {X : Type 0} (P : X → Type 0) (xs : List X) (i : ℕ) (x : X) → AllTo P xs i → i < length xs → x ≡ get_or xs i x → P x → AllTo P xs (i + 1)
 all_on {X} P xs i x h l e p = record {
   each = λ y m. elim (member_split (take i xs) (x ∷ []) y (subst (λ ys. Member ys y) (next_taken xs i x l e) m)) [
@@ -38,9 +35,6 @@ here_is xs i x l e = member_at xs i x (is_got xs i x l e)
 -- none of the first members has the property
 pub record NoneTo {X : Type 0} (P : X → Type 0) (xs : List X) (i : ℕ) : Type 0 where
   pub none : (x : X) → Member (take i xs) x → P x → ⊥
-
-pub none_none : {X : Type 0} (P : X → Type 0) (xs : List X) (i : ℕ) → i ≡ 0 → NoneTo P xs i
-none_none P xs i e = record { none = λ x m p. subst (λ (j : ℕ). Member (take j xs) x) e m }
 
 pub none_on : {X : Type 0} (P : X → Type 0) (xs : List X) (i : ℕ) (x : X) → NoneTo P xs i → i < length xs → x ≡ get_or xs i x → (P x → ⊥) → NoneTo P xs (i + 1)
 none_on {X} P xs i x h l e n = record {

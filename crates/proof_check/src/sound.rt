@@ -1,8 +1,6 @@
 //! The check of the steps and the backs that there are.
 
-ghost use Rattle.std.specs.Prelude.{◌≡◌, ◌↔◌, ◌<◌, length, IsTrue, slice_get};
-ghost use Rattle.std.specs.Option.{option_map};
-ghost use Rattle.letter_acts.specs.Acts.{plain_act};
+ghost use Rattle.std.specs.Prelude.{◌↔◌, ◌<◌, length, IsTrue};
 ghost use Rattle.nwa_base.specs.declared.letters.Kind.TheVariants as kinds;
 ghost use Rattle.nwa_base.specs.Members.{Member};
 ghost use Rattle.proof_check.specs.Steps.{IsSound};
@@ -180,20 +178,13 @@ fn back_is_sound(
     back_is_shown(plan, id, exit, before, &end.preds)
 }
 
-/// The act of a letter.
-fn act_of(icfg: &Icfg, letter: u32) -> Option<&Act>
-    ensures { option_map (λ a. plain_act a.now) result ≡ slice_get icfg.now.acts letter }
-{
-    icfg.acts().get(letter as usize)
-}
-
 /// Whether a step is sound.
 fn step_is_sound(icfg: &Icfg, plan: &Plan<'_>, from: usize, letter: u32, to: usize) -> bool
     requires before { from < length plan.now.nodes }
     requires end { to < length plan.now.nodes }
     ensures { IsTrue result ↔ StepIsSoundAt icfg.now plan.now from letter to }
 {
-    match act_of(icfg, letter) {
+    match icfg.act(letter) {
         Some(Act::Inside { .. }) => inside_is_sound(icfg, plan, from, letter, to),
         Some(Act::Call { .. }) => call_is_sound(icfg, plan, from, letter, to),
         Some(Act::Back { .. }) => false,
@@ -215,7 +206,7 @@ fn return_is_sound(
     requires end { to < length plan.now.nodes }
     ensures { IsTrue result ↔ ReturnIsSoundAt icfg.now plan.now exit before letter to }
 {
-    match act_of(icfg, letter) {
+    match icfg.act(letter) {
         Some(Act::Back { call, .. }) => {
             back_is_sound(icfg, plan, exit, before, letter, *call, to)
         }

@@ -6,18 +6,18 @@ use Rattle.proof_check.proofs.sound.step_is_sound.Goals as goal
 pub returns-in-Some-Inside : goal.returns-in-Some-Inside
 returns-in-Some-Inside c =
     step_by_act c.args.icfg.now c.args.plan.now c.args.from c.args.letter c.args.to _ c.inside_is_sound.result
-    (sym (ap (λ a. Some (plain_act a)) c.in-Some-Inside.field-0-is) ∙ c.in-Some-Inside.ensures) c.inside_is_sound.ensures
+    (sym (ap (λ a. Some (plain_act a)) c.in-Some-Inside.field-0-is) ∙ c.in-Some-Inside.ensures.value) c.inside_is_sound.ensures
 
 pub returns-in-Some-Call : goal.returns-in-Some-Call
 returns-in-Some-Call c =
     step_by_act c.args.icfg.now c.args.plan.now c.args.from c.args.letter c.args.to _ c.call_is_sound.result
-    (sym (ap (λ a. Some (plain_act a)) c.in-Some-Call.field-0-is) ∙ c.in-Some-Call.ensures) c.call_is_sound.ensures
+    (sym (ap (λ a. Some (plain_act a)) c.in-Some-Call.field-0-is) ∙ c.in-Some-Call.ensures.value) c.call_is_sound.ensures
 
 pub returns-in-Some-Back : goal.returns-in-Some-Back
 returns-in-Some-Back c =
     step_by_none c.args.icfg.now c.args.plan.now c.args.from c.args.letter c.args.to _ c.requires.before c.requires.end
-    (sym (ap (λ a. Some (plain_act a)) c.in-Some-Back.field-0-is) ∙ c.in-Some-Back.ensures) (λ before end h. h)
+    (sym (ap (λ a. Some (plain_act a)) c.in-Some-Back.field-0-is) ∙ c.in-Some-Back.ensures.value) (λ before end h. h)
 
 pub returns-in-None : goal.returns-in-None
 returns-in-None c =
-    step_by_none c.args.icfg.now c.args.plan.now c.args.from c.args.letter c.args.to None c.requires.before c.requires.end c.in-None.ensures (λ before end h. h)
+    step_by_none c.args.icfg.now c.args.plan.now c.args.from c.args.letter c.args.to None c.requires.before c.requires.end c.in-None.ensures.value (λ before end h. h)
