@@ -1,6 +1,7 @@
 -- What the code answers for an expression, from what it answered for the parts.
-use Rattle.std.proofs.Common.{◌≡◌, ℕ, ◌+◌, Bool, true, false, ◌&&◌, ℤ, List, ◌++◌, Option, None, Some, Result, Ok, Err, refl, sym, ◌∙◌, ap, subst}
+use Rattle.std.proofs.Common.{◌≡◌, ℕ, ◌+◌, Bool, true, false, ◌&&◌, ℤ, List, ◌++◌, Option, None, Some, Result, Box, Ok, Err, refl, sym, ◌∙◌, ap, subst}
 use Rattle.std.specs.Result.{IsErrAnd}
+use Rattle.std.specs.declared.alloc.Global.{Global}
 use Rattle.std.proofs.lemmas.Bool.{false≢true}
 use Rattle.std.proofs.lemmas.List.Folds.{list_all-append}
 use Rattle.lin_rows.specs.Rows.{LinearRow}
@@ -20,7 +21,7 @@ use Rattle.cond_jumps.specs.Environments.{Environment}
 use Rattle.cond_jumps.specs.Paths.{constant_of, arithmetic, linear}
 use Rattle.cond_jumps.specs.LongView.{long}
 use Rattle.cond_jumps.specs.CodeView.{combination, is_combination, is_division, IsDivisorFound}
-use Rattle.cond_jumps.specs.SumView.{sum_of, rows_fit, IsSumOf, IsSumAnswer, part, IsPartAnswer}
+use Rattle.cond_jumps.specs.SumView.{sum_of, rows_fit, IsSumOf, IsBoxedAnswer, part, IsPartAnswer}
 
 -- ---- rows that fit
 
@@ -43,7 +44,7 @@ first_too_big a b h = list_all-append row_fits a b ∙ and_first (rows_fit a) (r
 -- ---- answers
 
 -- a fault that is handed on
-pub handed_on : (x : Linear) (r : Result Sum Refusal) (f : Refusal) → IsErrAnd r (λ g. g ≡ f) → (f ≡ TooBig → rows_fit x.rows ≡ false) → IsSumAnswer x r
+pub handed_on : (x : Linear) (r : Result (Box Sum Global) Refusal) (f : Refusal) → IsErrAnd r (λ g. g ≡ f) → (f ≡ TooBig → rows_fit x.rows ≡ false) → IsBoxedAnswer x r
 handed_on x (Ok s) f h k = absurd h
 handed_on x (Err g) f h k = λ e. k (sym h ∙ e)
 
@@ -155,9 +156,9 @@ part_rows Le k x n = refl
 part_rows Gt k x n = refl
 part_rows Ge k x n = refl
 
-part_answer : (op : Op) (q : ℤ) (x y : Linear) (n : ℕ) (r : Result Sum Refusal) → x ≡ y → rows_fit y.rows ≡ true → IsPartAnswer op q x n r → IsSumAnswer (part op q y n) r
+part_answer : (op : Op) (q : ℤ) (x y : Linear) (n : ℕ) (r : Result (Box Sum Global) Refusal) → x ≡ y → rows_fit y.rows ≡ true → IsPartAnswer op q x n r → IsBoxedAnswer (part op q y n) r
 part_answer op q x y n (Ok s) e f h =
-    let P : Linear → Type 0 = λ z. (sum_of s ≡ part op q z n) × (rows_fit (quotient_rows q z (n + z.helpers)) ≡ true) in
+    let P : Linear → Type 0 = λ z. (sum_of s.value ≡ part op q z n) × (rows_fit (quotient_rows q z (n + z.helpers)) ≡ true) in
     let k = subst P e h in
     record { seen = k.0; fit = ap rows_fit (part_rows op q y n) ∙ both_fit y.rows (quotient_rows q y (n + y.helpers)) f k.1 }
 part_answer op q x y n (Err g) e f h = λ t.
@@ -165,11 +166,11 @@ part_answer op q x y n (Err g) e f h = λ t.
     ap rows_fit (part_rows op q y n) ∙ second_too_big y.rows (quotient_rows q y (n + y.helpers)) (subst P e (h t))
 
 -- the operand stands, and the divisor was found
-pub divided_answer : (op : Op) (k l : ℤ) (d : Option ℤ) (a b : Linears) (n : ℕ) (x : Sum) (q : Divisor) (r : Result Sum Refusal) → is_division op ≡ true → IsDivisorFound d (Some q) →
-    IsSumOf (a n) x → IsPartAnswer op (long q.value) (sum_of x) n r → IsSumAnswer (arithmetic op k l d a b n) r
+pub divided_answer : (op : Op) (k l : ℤ) (d : Option ℤ) (a b : Linears) (n : ℕ) (x : Sum) (q : Divisor) (r : Result (Box Sum Global) Refusal) → is_division op ≡ true → IsDivisorFound d (Some q) →
+    IsSumOf (a n) x → IsPartAnswer op (long q.value) (sum_of x) n r → IsBoxedAnswer (arithmetic op k l d a b n) r
 divided_answer op k l None a b n x q r o f h i = absurd f
 divided_answer op k l (Some z) a b n x q r o f h i =
-    let P : Linear → Type 0 = λ y. IsSumAnswer y r in
+    let P : Linear → Type 0 = λ y. IsBoxedAnswer y r in
     let Q : ℤ → Type 0 = λ y. IsPartAnswer op y (sum_of x) n r in
     subst P (sym (divided_is op k l z a b n o)) (part_answer op z (sum_of x) (a n) n r h.seen h.fit (subst Q f.0 i))
 
@@ -200,9 +201,9 @@ combination_answer v old at op e f d1 d2 d3 d4 n m x y s i1 i2 i3 i4 o hx hm hy 
     (hs ∙ (λ j. combination op (p j) (q j) (sum_of x) (sum_of y)))
 
 -- the second of them was refused
-pub second_answer : (v : Environment) (old : Bool) (at : Span) (op : Op) (e f d3 d4 : TypedExpression) (n m : ℕ) (x : Sum) (g : Refusal) (r : Result Sum Refusal) →
+pub second_answer : (v : Environment) (old : Bool) (at : Span) (op : Op) (e f d3 d4 : TypedExpression) (n m : ℕ) (x : Sum) (g : Refusal) (r : Result (Box Sum Global) Refusal) →
     d3 ≡ e → d4 ≡ f → is_combination op ≡ true → IsSumOf (linear v old d3 n) x → m ≡ n + x.helpers → (g ≡ TooBig → rows_fit (linear v old d4 m).rows ≡ false) →
-    IsErrAnd r (λ h. h ≡ g) → IsSumAnswer (linear v old (Bin at op e f) n) r
+    IsErrAnd r (λ h. h ≡ g) → IsBoxedAnswer (linear v old (Bin at op e f) n) r
 second_answer v old at op e f d3 d4 n m x g r i3 i4 o hx hm hy hr =
     let P : TypedExpression → Type 0 = λ d. IsSumOf (linear v old d n) x in
     let Q : TypedExpression → Type 0 = λ d. rows_fit (linear v old d m).rows ≡ false in
@@ -210,9 +211,9 @@ second_answer v old at op e f d3 d4 n m x g r i3 i4 o hx hm hy hr =
     (λ t. second_refused op (constant_of e) (constant_of f) (divisor_of f) (linear v old e) (linear v old f) n m x o (subst P i3 hx) hm (subst Q i4 (hy t)))
 
 -- `div` and `mod`, whose operand was answered
-pub quotient_answer : (v : Environment) (old : Bool) (at : Span) (op : Op) (e f d1 d3 : TypedExpression) (n : ℕ) (x : Sum) (q : Divisor) (r : Result Sum Refusal) →
+pub quotient_answer : (v : Environment) (old : Bool) (at : Span) (op : Op) (e f d1 d3 : TypedExpression) (n : ℕ) (x : Sum) (q : Divisor) (r : Result (Box Sum Global) Refusal) →
     d1 ≡ f → d3 ≡ e → is_division op ≡ true → IsDivisorFound (divisor_of d1) (Some q) → IsSumOf (linear v old d3 n) x → IsPartAnswer op (long q.value) (sum_of x) n r →
-    IsSumAnswer (linear v old (Bin at op e f) n) r
+    IsBoxedAnswer (linear v old (Bin at op e f) n) r
 quotient_answer v old at op e f d1 d3 n x q r i1 i3 o hd hx hr =
     let P : TypedExpression → Type 0 = λ d. IsSumOf (linear v old d n) x in
     let D : TypedExpression → Type 0 = λ d. IsDivisorFound (divisor_of d) (Some q) in

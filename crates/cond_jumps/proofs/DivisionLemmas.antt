@@ -7,10 +7,11 @@ use Rattle.math_facts.specs.Terms.{dot, opposite, IsBelow, with_value}
 use Rattle.math_facts.proofs.Whole.{product_neg_left}
 use Rattle.math_facts.proofs.TermLaws.{dot-append, dot-opposite, dot-with_value, IsBelow_more, IsBelow-append, IsBelow-opposite, with_value_here, with_value_other}
 use Rattle.lin_rows.specs.declared.types.RowKind.TheVariants.{Le}
+use Rattle.lin_rows.specs.Rows.{RowsBelow}
 use Rattle.typed_tree.specs.Values.{is_zero, div_of, mod_of}
 use Rattle.typed_tree.proofs.Euclidean.{euclidean}
 use Rattle.cond_jumps.specs.Forms.{Linear, Linears, amount, quotient_rows, over_quotient, divided, remaining}
-use Rattle.cond_jumps.specs.Meaning.{Agrees, AllHold, Sole, AllBelow}
+use Rattle.cond_jumps.specs.Meaning.{Agrees, AllHold, Sole}
 use Rattle.cond_jumps.specs.Worth.{IsWorth, IsNarrow, IsSum}
 use Rattle.cond_jumps.proofs.MeaningLemmas.{agrees_on, all_hold_same, all_below_more, hold_append, hold_left, hold_right, below_append}
 use Rattle.cond_jumps.proofs.QuotientLemmas.{IsBetween, quotient_between, between_once}
@@ -41,7 +42,7 @@ quotient_held r k x q v e h =
     let j = row_held r (x.terms ++ (q, neg_ℤ k) ∷ []) Le ((pos (unsigned_abs k) -ℤ pos 1) -ℤ x.constant) h.1.0 in
     record { low = omega (arith, ints, d, i); high = omega (arith, ints, f, j) }
 
-quotient_below : (m : ℕ) (k : ℤ) (x : Linear) (q : ℕ) → q < m → IsBelow m x.terms → AllBelow m (quotient_rows k x q)
+quotient_below : (m : ℕ) (k : ℤ) (x : Linear) (q : ℕ) → q < m → IsBelow m x.terms → RowsBelow m (quotient_rows k x q)
 quotient_below m k x q l b = (
   below-summed m ((q, k) ∷ opposite x.terms) (l, IsBelow-opposite m x.terms b),
   (below-summed m (x.terms ++ (q, neg_ℤ k) ∷ []) (IsBelow-append m x.terms ((q, neg_ℤ k) ∷ []) b (l, tt)), tt),

@@ -5,11 +5,11 @@ use Rattle.math_facts.specs.Terms.{dot, scaled, opposite, IsBelow}
 use Rattle.math_facts.proofs.Whole.{distrib_left, product_comm}
 use Rattle.math_facts.proofs.TermLaws.{dot-append, dot-scaled, dot-opposite, IsBelow_more, IsBelow-append, IsBelow-scaled, IsBelow-opposite}
 use Rattle.lin_rows.specs.declared.types.RowKind.{RowKind}
-use Rattle.lin_rows.specs.Rows.{LinearRow, Stands, Holds}
+use Rattle.lin_rows.specs.Rows.{LinearRow, Stands, Holds, RowsBelow}
 use Rattle.lin_rows.specs.Sums.{is_zero as sum_is_zero, led_by, added_at, row_of, summed}
 use Rattle.lin_rows.proofs.SummedLaws.{dot-summed}
 use Rattle.cond_jumps.specs.Forms.{Linear, Linears, amount, number, column, negated, after, over, plus, minus, times}
-use Rattle.cond_jumps.specs.Meaning.{Agrees, AllHold, Sole, AllBelow}
+use Rattle.cond_jumps.specs.Meaning.{Agrees, AllHold, Sole}
 use Rattle.cond_jumps.specs.Worth.{IsWorth, IsNarrow, IsSum}
 use Rattle.cond_jumps.proofs.MeaningLemmas.{agrees_refl, agrees_on, all_hold_same, all_below_more, hold_append, hold_left, hold_right, below_append, sole_append}
 
@@ -136,7 +136,7 @@ pair w p a b u v h k n q l s =
 pub record AreNarrow (m : ℕ) (x y : Linear) : Type 0 where
   pub first : IsBelow m x.terms
   pub second : IsBelow m y.terms
-  pub rows : AllBelow m (x.rows ++ y.rows)
+  pub rows : RowsBelow m (x.rows ++ y.rows)
 
 pub narrow_pair : (w : ℕ) (p : ℕ → ℤ) (a b : Linears) (u v : ℤ) → IsSum w p a u → IsSum w p b v → (n : ℕ) → w ≤ n →
     AreNarrow (n + ((a n).helpers + (after a b n).helpers)) (a n) (after a b n)
@@ -148,7 +148,7 @@ narrow_pair w p a b u v h k n l =
     let j : IsNarrow m y = k.narrow m (omega arith) in
     let e : m + y.helpers ≡ n + (x.helpers + y.helpers) = omega arith in
     let P : ℕ → Type 0 = λ z. IsBelow z y.terms in
-    let R : ℕ → Type 0 = λ z. AllBelow z y.rows in
+    let R : ℕ → Type 0 = λ z. RowsBelow z y.rows in
     record {
       first = IsBelow_more m (n + (x.helpers + y.helpers)) x.terms (omega arith) i.terms;
       second = subst P e j.terms;

@@ -3,6 +3,7 @@ use Rattle.std.proofs.Common.{◌≡◌, ◌⊎◌, inl, inr, ℕ, zero, suc, �
 use Rattle.std.specs.List.{AllByRecursion}
 use Rattle.std.proofs.lemmas.Bool.{cases_lt}
 use Rattle.lin_rows.specs.Points.{point_of}
+use Rattle.lin_rows.specs.Rows.{RowsBelow}
 use Rattle.typed_tree.specs.TypedTree.{TypedExpression}
 use Rattle.typed_tree.specs.Values.{State, column_value, value, truth}
 use Rattle.letter_acts.specs.Values.{HoldBeyond}
@@ -10,7 +11,7 @@ use Rattle.letter_acts.proofs.PointLemmas.{point_of-left, point_of-right, same_p
 use Rattle.cond_jumps.specs.Conjunctions.{Conjunction, Jumps, listed}
 use Rattle.cond_jumps.specs.Forms.{Linears}
 use Rattle.cond_jumps.specs.Paths.{paths, assigns}
-use Rattle.cond_jumps.specs.Meaning.{Agrees, Extends, Meets, Sole, Single, AllBelow, Narrow, IsPath}
+use Rattle.cond_jumps.specs.Meaning.{Agrees, Extends, Meets, Sole, Single, Narrow, IsPath}
 use Rattle.cond_jumps.specs.Worth.{IsSum, IsChoice, Shows, Read}
 use Rattle.cond_jumps.specs.Frames.{frame_environment}
 use Rattle.cond_jumps.specs.Environments.{Environment}
@@ -22,12 +23,12 @@ use Rattle.cond_jumps.proofs.FrameLemmas.{frame_shows}
 
 -- ---- helpers as lists and as points
 
-met_so : (values : List ℤ) (c : Conjunction) → AllBelow (length values + c.helpers) c.rows → IsMet values c → Extends (length values) (point_of values) c.rows
+met_so : (values : List ℤ) (c : Conjunction) → RowsBelow (length values + c.helpers) c.rows → IsMet values c → Extends (length values) (point_of values) c.rows
 met_so values c b h =
     let k : HoldBeyond values c.rows = (helpers_as_point values c.helpers c.rows b).0 h in
     (k.point, record { same = k.agrees }, k.hold)
 
-met_back : (values : List ℤ) (c : Conjunction) → AllBelow (length values + c.helpers) c.rows → Extends (length values) (point_of values) c.rows → IsMet values c
+met_back : (values : List ℤ) (c : Conjunction) → RowsBelow (length values + c.helpers) c.rows → Extends (length values) (point_of values) c.rows → IsMet values c
 met_back values c b h = (helpers_as_point values c.helpers c.rows b).1 (record { point = h.0; agrees = h.1.same; hold = h.2 })
 
 some_so : (values : List ℤ) (cs : List Conjunction) → Narrow (length values) cs → SomeIsMet values cs → Meets (length values) (point_of values) cs

@@ -3,9 +3,9 @@ use Rattle.std.proofs.Common.{◌≡◌, ◌⊎◌, inl, inr, ⊎_elim, ℕ, ◌
 use Rattle.std.specs.List.{AllByRecursion}
 use Rattle.math_facts.specs.Terms.{dot, IsBelow}
 use Rattle.math_facts.proofs.TermLaws.{IsBelow_more, dot_same_points}
-use Rattle.lin_rows.specs.Rows.{LinearRow, Stands, Holds}
+use Rattle.lin_rows.specs.Rows.{LinearRow, Stands, Holds, RowsBelow}
 use Rattle.cond_jumps.specs.Conjunctions.{Conjunction, Jumps, joined, each_with}
-use Rattle.cond_jumps.specs.Meaning.{Agrees, AllHold, Extends, Meets, Sole, Single, AllBelow, Narrow, IsPath}
+use Rattle.cond_jumps.specs.Meaning.{Agrees, AllHold, Extends, Meets, Sole, Single, Narrow, IsPath}
 
 -- ---- points that agree
 
@@ -30,11 +30,11 @@ holds_same n p q r a b h =
     let P : ℤ → Type 0 = λ z. Stands r.kind z r.bound in
     subst P e h
 
-pub all_hold_same : (n : ℕ) (p q : ℕ → ℤ) (rows : List LinearRow) → Agrees n p q → AllBelow n rows → AllHold p rows → AllHold q rows
+pub all_hold_same : (n : ℕ) (p q : ℕ → ℤ) (rows : List LinearRow) → Agrees n p q → RowsBelow n rows → AllHold p rows → AllHold q rows
 all_hold_same n p q [] a b h = tt
 all_hold_same n p q (r ∷ rows) a b h = (holds_same n p q r a b.0 h.0, all_hold_same n p q rows a b.1 h.1)
 
-pub all_below_more : (n m : ℕ) (rows : List LinearRow) → n ≤ m → AllBelow n rows → AllBelow m rows
+pub all_below_more : (n m : ℕ) (rows : List LinearRow) → n ≤ m → RowsBelow n rows → RowsBelow m rows
 all_below_more n m [] l b = tt
 all_below_more n m (r ∷ rows) l b = (IsBelow_more n m r.terms l b.0, all_below_more n m rows l b.1)
 
@@ -61,13 +61,13 @@ hold_left p a b = all_left (Holds p) a b
 pub hold_right : (p : ℕ → ℤ) (a b : List LinearRow) → AllHold p (a ++ b) → AllHold p b
 hold_right p a b = all_right (Holds p) a b
 
-pub below_append : (n : ℕ) (a b : List LinearRow) → AllBelow n a → AllBelow n b → AllBelow n (a ++ b)
+pub below_append : (n : ℕ) (a b : List LinearRow) → RowsBelow n a → RowsBelow n b → RowsBelow n (a ++ b)
 below_append n a b = all_append (λ r. IsBelow n r.terms) a b
 
 -- ---- rows with helpers, one part after the other
 
 -- helpers of the first rows, and then, at whatever point they make, helpers of the second
-pub extends_append : (n m : ℕ) (p : ℕ → ℤ) (a b : List LinearRow) → n ≤ m → AllBelow m a →
+pub extends_append : (n m : ℕ) (p : ℕ → ℤ) (a b : List LinearRow) → n ≤ m → RowsBelow m a →
     (q : ℕ → ℤ) → Agrees n p q → AllHold q a → Extends m q b → Extends n p (a ++ b)
 extends_append n m p a b l narrow q s h e =
     (e.0, agrees_on n m p q e.0 l s e.1, hold_append e.0 a b (all_hold_same m q e.0 a e.1 narrow h) e.2)
@@ -110,11 +110,11 @@ single_append n p (c ∷ a) b s t h = (
 
 -- ---- one conjunction joined to each of a list
 
-narrow_joined : (n : ℕ) (c : Conjunction) (ds : List Conjunction) → AllBelow (n + c.helpers) c.rows → Narrow (n + c.helpers) ds → Narrow n (map (joined c) ds)
+narrow_joined : (n : ℕ) (c : Conjunction) (ds : List Conjunction) → RowsBelow (n + c.helpers) c.rows → Narrow (n + c.helpers) ds → Narrow n (map (joined c) ds)
 narrow_joined n c [] b h = tt
 narrow_joined n c (d ∷ ds) b h =
     let k : n + c.helpers + d.helpers ≡ n + (c.helpers + d.helpers) = omega arith in
-    let P : ℕ → Type 0 = λ m. AllBelow m (c.rows ++ d.rows) in (
+    let P : ℕ → Type 0 = λ m. RowsBelow m (c.rows ++ d.rows) in (
       subst P k (below_append (n + c.helpers + d.helpers) c.rows d.rows
           (all_below_more (n + c.helpers) (n + c.helpers + d.helpers) c.rows (omega arith) b) h.0),
       narrow_joined n c ds b h.1,
@@ -141,7 +141,7 @@ meets_joined n p c (d ∷ ds) (inl e) =
     }
 meets_joined n p c (d ∷ ds) (inr h) = both_more n p c d ds (meets_joined n p c ds h)
 
-joined_meets : (n : ℕ) (p q : ℕ → ℤ) (c : Conjunction) (ds : List Conjunction) → AllBelow (n + c.helpers) c.rows →
+joined_meets : (n : ℕ) (p q : ℕ → ℤ) (c : Conjunction) (ds : List Conjunction) → RowsBelow (n + c.helpers) c.rows →
     Agrees n p q → AllHold q c.rows → Meets (n + c.helpers) q ds → Meets n p (map (joined c) ds)
 joined_meets n p q c [] b s h k = absurd k
 joined_meets n p q c (d ∷ ds) b s h (inl e) = inl (extends_append n (n + c.helpers) p c.rows d.rows (omega arith) b q s h e)

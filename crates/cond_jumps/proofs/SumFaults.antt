@@ -1,6 +1,7 @@
 -- What the code answers for a sum whose first operand is refused, or that is no sum.
-use Rattle.std.proofs.Common.{◌≡◌, ℕ, ◌+◌, ℤ, pos, neg_ℤ, Bool, true, false, Option, None, Some, Result, refl, sym, ap, subst, ◌∙◌}
+use Rattle.std.proofs.Common.{◌≡◌, ℕ, ◌+◌, ℤ, pos, neg_ℤ, Bool, true, false, Option, None, Some, Result, Box, refl, sym, ap, subst, ◌∙◌}
 use Rattle.std.specs.Result.{IsErrAnd}
+use Rattle.std.specs.declared.alloc.Global.{Global}
 use Rattle.std.proofs.lemmas.Bool.{false≢true}
 use Rattle.math_facts.specs.Terms.{opposite}
 use Rattle.boogie_tree.specs.declared.span.Span.{Span}
@@ -18,7 +19,7 @@ use Rattle.cond_jumps.specs.Environments.{Environment}
 use Rattle.cond_jumps.specs.Forms.{Linear, Linears, number, negated, quotient_rows}
 use Rattle.cond_jumps.specs.Frames.{sum_at}
 use Rattle.cond_jumps.specs.Paths.{arithmetic, constant_of, constant_operation, linear}
-use Rattle.cond_jumps.specs.SumView.{sum_of, rows_fit, IsSumOf, IsSumAnswer}
+use Rattle.cond_jumps.specs.SumView.{sum_of, rows_fit, IsSumOf, IsBoxedAnswer}
 use Rattle.cond_jumps.proofs.AnswerLemmas.{handed_on, first_refused, first_too_big}
 
 -- what stands for a column has no rows, and so stands wherever helpers are numbered from
@@ -69,21 +70,21 @@ no_divisor Le k l d a b h i = absurd (false≢true h)
 no_divisor Gt k l d a b h i = absurd (false≢true h)
 no_divisor Ge k l d a b h i = absurd (false≢true h)
 
-zero_is : (x : Linears) (n : ℕ) (s : Sum) → x ≡ number (pos 0) → sum_of s ≡ number (pos 0) 0 → IsSumOf (x n) s
-zero_is x n s e h = let P : Linears → Type 0 = λ z. IsSumOf (z n) s in subst P (sym e) (record { seen = h; fit = refl })
+zero_is : (x : Linears) (n : ℕ) (r : Result (Box Sum Global) Refusal) → x ≡ number (pos 0) → IsBoxedAnswer (number (pos 0) 0) r → IsBoxedAnswer (x n) r
+zero_is x n r e h = let P : Linears → Type 0 = λ z. IsBoxedAnswer (z n) r in subst P (sym e) h
 
 -- no sum: 0
-pub no_sum_answer : (v : Environment) (old : Bool) (at : Span) (op : Op) (e f : TypedExpression) (n : ℕ) (s : Sum) → is_combination op ≡ false → is_division op ≡ false →
-    sum_of s ≡ number (pos 0) 0 → IsSumOf (linear v old (Bin at op e f) n) s
-no_sum_answer v old at op e f n s h i z =
-    zero_is (linear v old (Bin at op e f)) n s (no_arithmetic op (constant_of e) (constant_of f) (divisor_of f) (linear v old e) (linear v old f) h i) z
+pub no_sum_answer : (v : Environment) (old : Bool) (at : Span) (op : Op) (e f : TypedExpression) (n : ℕ) (r : Result (Box Sum Global) Refusal) → is_combination op ≡ false →
+    is_division op ≡ false → IsBoxedAnswer (number (pos 0) 0) r → IsBoxedAnswer (linear v old (Bin at op e f) n) r
+no_sum_answer v old at op e f n r h i z =
+    zero_is (linear v old (Bin at op e f)) n r (no_arithmetic op (constant_of e) (constant_of f) (divisor_of f) (linear v old e) (linear v old f) h i) z
 
 -- a division by no divisor: 0
-pub no_quotient_answer : (v : Environment) (old : Bool) (at : Span) (op : Op) (e f d : TypedExpression) (n : ℕ) (s : Sum) → d ≡ f → is_division op ≡ true → IsDivisorFound (divisor_of d) None →
-    sum_of s ≡ number (pos 0) 0 → IsSumOf (linear v old (Bin at op e f) n) s
-no_quotient_answer v old at op e f d n s i h k z =
+pub no_quotient_answer : (v : Environment) (old : Bool) (at : Span) (op : Op) (e f d : TypedExpression) (n : ℕ) (r : Result (Box Sum Global) Refusal) → d ≡ f →
+    is_division op ≡ true → IsDivisorFound (divisor_of d) None → IsBoxedAnswer (number (pos 0) 0) r → IsBoxedAnswer (linear v old (Bin at op e f) n) r
+no_quotient_answer v old at op e f d n r i h k z =
     let D : TypedExpression → Type 0 = λ y. IsDivisorFound (divisor_of y) None in
-    zero_is (linear v old (Bin at op e f)) n s (no_divisor op (constant_of e) (constant_of f) (divisor_of f) (linear v old e) (linear v old f) h (subst D i k)) z
+    zero_is (linear v old (Bin at op e f)) n r (no_divisor op (constant_of e) (constant_of f) (divisor_of f) (linear v old e) (linear v old f) h (subst D i k)) z
 
 -- a row of the operand of `div` or `mod` does not fit
 operand_refused : (op : Op) (k l : ℤ) (d : Option ℤ) (a b : Linears) (n : ℕ) (q : Divisor) → is_division op ≡ true → IsDivisorFound d (Some q) → rows_fit (a n).rows ≡ false →
@@ -107,17 +108,17 @@ operand_refused Gt k l d a b n q h i f = absurd (false≢true h)
 operand_refused Ge k l d a b n q h i f = absurd (false≢true h)
 
 -- the first operand of `+`, `-` or `*` was refused
-pub first_answer : (v : Environment) (old : Bool) (at : Span) (op : Op) (e f d : TypedExpression) (n : ℕ) (g : Refusal) (r : Result Sum Refusal) → d ≡ e → is_combination op ≡ true →
-    (g ≡ TooBig → rows_fit (linear v old d n).rows ≡ false) → IsErrAnd r (λ h. h ≡ g) → IsSumAnswer (linear v old (Bin at op e f) n) r
+pub first_answer : (v : Environment) (old : Bool) (at : Span) (op : Op) (e f d : TypedExpression) (n : ℕ) (g : Refusal) (r : Result (Box Sum Global) Refusal) → d ≡ e → is_combination op ≡ true →
+    (g ≡ TooBig → rows_fit (linear v old d n).rows ≡ false) → IsErrAnd r (λ h. h ≡ g) → IsBoxedAnswer (linear v old (Bin at op e f) n) r
 first_answer v old at op e f d n g r i o h k =
     let P : TypedExpression → Type 0 = λ y. rows_fit (linear v old y n).rows ≡ false in
     handed_on (linear v old (Bin at op e f) n) r g k
     (λ t. first_refused op (constant_of e) (constant_of f) (divisor_of f) (linear v old e) (linear v old f) n o (subst P i (h t)))
 
 -- the operand of `div` or `mod` was refused
-pub operand_answer : (v : Environment) (old : Bool) (at : Span) (op : Op) (e f d1 d3 : TypedExpression) (n : ℕ) (q : Divisor) (g : Refusal) (r : Result Sum Refusal) → d1 ≡ f → d3 ≡ e →
+pub operand_answer : (v : Environment) (old : Bool) (at : Span) (op : Op) (e f d1 d3 : TypedExpression) (n : ℕ) (q : Divisor) (g : Refusal) (r : Result (Box Sum Global) Refusal) → d1 ≡ f → d3 ≡ e →
     is_division op ≡ true → IsDivisorFound (divisor_of d1) (Some q) → (g ≡ TooBig → rows_fit (linear v old d3 n).rows ≡ false) → IsErrAnd r (λ h. h ≡ g) →
-    IsSumAnswer (linear v old (Bin at op e f) n) r
+    IsBoxedAnswer (linear v old (Bin at op e f) n) r
 operand_answer v old at op e f d1 d3 n q g r i j o d h k =
     let P : TypedExpression → Type 0 = λ y. rows_fit (linear v old y n).rows ≡ false in
     let D : TypedExpression → Type 0 = λ y. IsDivisorFound (divisor_of y) (Some q) in

@@ -1,8 +1,7 @@
 -- What rows with helpers mean at a point: that numbers exist for the helpers, and that they are unique.
 use Rattle.std.specs.Prelude.{◌≡◌, ◌⊎◌, ℕ, ◌+◌, ◌<◌, ◌≤◌, ℤ, List, [], ◌∷◌}
 use Rattle.std.specs.List.{AllByRecursion}
-use Rattle.math_facts.specs.Terms.{IsBelow}
-use Rattle.lin_rows.specs.Rows.{LinearRow, Holds}
+use Rattle.lin_rows.specs.Rows.{LinearRow, Holds, RowsBelow}
 use Rattle.cond_jumps.specs.Conjunctions.{Conjunction, Jumps}
 
 -- q is p below column n
@@ -30,14 +29,10 @@ abbrev pub Single : ℕ → (ℕ → ℤ) → List Conjunction → Type 0
 Single n p [] = Unit {0}
 Single n p (c ∷ cs) = Sole n (n + c.helpers) p c.rows × (Extends n p c.rows → Meets n p cs → ⊥) × Single n p cs
 
--- the rows name columns below n alone
-abbrev pub AllBelow : ℕ → List LinearRow → Type 0
-AllBelow n rows = AllByRecursion (λ r. IsBelow n r.terms) rows
-
 -- each member's rows name columns below n and its helpers alone
 abbrev pub Narrow : ℕ → List Conjunction → Type 0
 Narrow n [] = Unit {0}
-Narrow n (c ∷ cs) = AllBelow (n + c.helpers) c.rows × Narrow n cs
+Narrow n (c ∷ cs) = RowsBelow (n + c.helpers) c.rows × Narrow n cs
 
 -- Wherever the helpers begin, from column w on, and at whatever point that is p below w: a member is met exactly where P
 -- holds, at most one is, and the helpers are unique.

@@ -1,5 +1,6 @@
 -- The sums of the code as contracts see them.
-use Rattle.std.specs.Prelude.{◌≡◌, ℕ, ◌+◌, ℤ, pos, neg_ℤ, Bool, true, false, List, [], ◌∷◌, ◌++◌, Result, MatchResult}
+use Rattle.std.specs.Prelude.{◌≡◌, ℕ, ◌+◌, ℤ, pos, neg_ℤ, Bool, true, false, List, [], ◌∷◌, ◌++◌, Result, MatchResult, Box}
+use Rattle.std.specs.declared.alloc.Global.{Global}
 use Rattle.std.specs.List.{list_all}
 use Rattle.boogie_tree.specs.declared.tree.Op.{Op}
 use Rattle.boogie_tree.specs.declared.tree.Op.TheVariants as ops
@@ -29,6 +30,10 @@ pub record IsSumOf (x : Linear) (s : Sum) : Type 0 where
 abbrev pub IsSumAnswer : Linear → Result Sum Refusal → Type 0
 IsSumAnswer x r = MatchResult r (IsSumOf x) (λ f. f ≡ TooBig → rows_fit x.rows ≡ false)
 
+-- the same of a sum on the heap
+abbrev pub IsBoxedAnswer : Linear → Result (Box Sum Global) Refusal → Type 0
+IsBoxedAnswer x r = MatchResult r (λ s. IsSumOf x s.value) (λ f. f ≡ TooBig → rows_fit x.rows ≡ false)
+
 -- a sum divided by k, its helpers numbered from a column on, and the rows of its quotient, which fit
 pub record IsDivided (k : ℤ) (x : Linear) (next : ℕ) (d : Divided) : Type 0 where
   pub column : d.column ≡ next + x.helpers
@@ -46,7 +51,7 @@ abbrev pub part : Op → ℤ → Linear → ℕ → Linear
 part ops.Div k x next = over_quotient k x (next + x.helpers) ((next + x.helpers, pos 1) ∷ []) (pos 0)
 part op k x next = over_quotient k x (next + x.helpers) (x.terms ++ (next + x.helpers, neg_ℤ k) ∷ []) x.constant
 
-abbrev pub IsPartAnswer : Op → ℤ → Linear → ℕ → Result Sum Refusal → Type 0
+abbrev pub IsPartAnswer : Op → ℤ → Linear → ℕ → Result (Box Sum Global) Refusal → Type 0
 IsPartAnswer op k x next r =
-    MatchResult r (λ s. (sum_of s ≡ part op k x next) × (rows_fit (quotient_rows k x (next + x.helpers)) ≡ true))
+    MatchResult r (λ s. (sum_of s.value ≡ part op k x next) × (rows_fit (quotient_rows k x (next + x.helpers)) ≡ true))
     (λ f. f ≡ TooBig → rows_fit (quotient_rows k x (next + x.helpers)) ≡ false)

@@ -1,6 +1,7 @@
 -- When a sum with helpers has a value, and when what stands for the columns has the values of a state.
 use Rattle.std.specs.Prelude.{◌≡◌, ℕ, suc, ◌+◌, ◌≤◌, ℤ, Bool, true, false, List, [], ◌∷◌, Some}
 use Rattle.math_facts.specs.Terms.{IsBelow}
+use Rattle.lin_rows.specs.Rows.{RowsBelow}
 use Rattle.boogie_tree.specs.declared.tree.Ty.{Ty}
 use Rattle.boogie_tree.specs.declared.tree.Ty.TheVariants as types
 use Rattle.boogie_tree.specs.declared.tree.Column.{Column}
@@ -10,7 +11,7 @@ use Rattle.typed_tree.specs.AffineForm.{is_linear}
 use Rattle.typed_tree.specs.Laws.{IsTruth, FixedStay}
 use Rattle.cond_jumps.specs.Conjunctions.{Plan, listed}
 use Rattle.cond_jumps.specs.Forms.{Linear, Linears, amount}
-use Rattle.cond_jumps.specs.Meaning.{Agrees, AllHold, Sole, AllBelow, IsPath}
+use Rattle.cond_jumps.specs.Meaning.{Agrees, AllHold, Sole, IsPath}
 use Rattle.cond_jumps.specs.Environments.{Environment, type_in}
 
 -- At points that are q below n: helpers exist with which the sum is worth v, it is worth v with whatever helpers meet the
@@ -23,7 +24,7 @@ pub record IsWorth (n : ℕ) (q : ℕ → ℤ) (x : Linear) (v : ℤ) : Type 0 w
 -- the sum and its rows name columns below n and its helpers alone
 pub record IsNarrow (n : ℕ) (x : Linear) : Type 0 where
   pub terms : IsBelow (n + x.helpers) x.terms
-  pub rows : AllBelow (n + x.helpers) x.rows
+  pub rows : RowsBelow (n + x.helpers) x.rows
 
 -- wherever the helpers begin, from column w on, and at whatever point that is p below w, the sum has the value v
 pub record IsSum (w : ℕ) (p : ℕ → ℤ) (a : Linears) (v : ℤ) : Type 0 where

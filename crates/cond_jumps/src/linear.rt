@@ -8,7 +8,7 @@ ghost use Rattle.cond_jumps.specs.Frames.{frame_environment, place, sum_at};
 ghost use Rattle.cond_jumps.specs.Forms.{number};
 ghost use Rattle.cond_jumps.specs.LongView.{long};
 ghost use Rattle.cond_jumps.specs.Paths.{constant_of, linear};
-ghost use Rattle.cond_jumps.specs.SumView.{sum_of, IsSumAnswer, IsPartAnswer};
+ghost use Rattle.cond_jumps.specs.SumView.{sum_of, IsSumAnswer, IsBoxedAnswer, IsPartAnswer};
 
 use crate::columns::place;
 use crate::long::Long;
@@ -99,13 +99,20 @@ pub fn read_at(old: bool, column: Column) -> Column
     }
 }
 
+/// A sum on the heap.
+fn boxed(alloc: Global, sum: Sum) -> Result<Box<Sum>, AllocError>
+    ensures { IfOk result (λ s. sum_of s.value ≡ sum_of sum) }
+{
+    Ok(Box::new(alloc, sum)?)
+}
+
 /// The sum that stands for a column of the frame.
-fn column_sum(alloc: Global, frame: &Frame, column: Column) -> Result<Sum, AllocError>
-    ensures { IfOk result (λ s. sum_of s ≡ sum_at (place frame.now.columns.items column) 0) }
+fn column_sum(alloc: Global, frame: &Frame, column: Column) -> Result<Box<Sum>, AllocError>
+    ensures { IfOk result (λ s. sum_of s.value ≡ sum_at (place frame.now.columns.items column) 0) }
 {
     match place(frame, column)? {
-        None => Sum::number(alloc, 0),
-        Some(spot) => Sum::column(alloc, spot.number),
+        None => boxed(alloc, Sum::number(alloc, 0)?),
+        Some(spot) => boxed(alloc, Sum::column(alloc, spot.number)?),
     }
 }
 
@@ -124,10 +131,10 @@ fn is_division(op: Op) -> bool
 }
 
 /// A number as a sum.
-fn number(alloc: Global, n: i128) -> Result<Sum, Refusal>
-    ensures { IsSumAnswer (number n 0) result }
+fn number(alloc: Global, n: i128) -> Result<Box<Sum>, Refusal>
+    ensures { IsBoxedAnswer (number n 0) result }
 {
-    Ok(Sum::number(alloc, n)?)
+    Ok(boxed(alloc, Sum::number(alloc, n)?)?)
 }
 
 /// The constants of the affine forms of two operands.
@@ -148,8 +155,14 @@ fn constants_of(alloc: Global, left: &TExpr, right: &TExpr) -> Result<Constants,
 }
 
 /// The product of the sums of two operands.
-fn product(alloc: Global, left: &TExpr, right: &TExpr, a: Sum, b: Sum) -> Result<Sum, AllocError>
-    ensures { IfOk result (λ s. sum_of s ≡ combination Op.Mul (constant_of (expression left.now)) (constant_of (expression right.now)) (sum_of a) (sum_of b)) }
+fn product(
+    alloc: Global,
+    left: &TExpr,
+    right: &TExpr,
+    a: Box<Sum>,
+    b: Box<Sum>,
+) -> Result<Box<Sum>, AllocError>
+    ensures { IfOk result (λ s. sum_of s.value ≡ combination Op.Mul (constant_of (expression left.now)) (constant_of (expression right.now)) (sum_of a.value) (sum_of b.value)) }
 {
     let constants = constants_of(alloc, left, right)?;
     times(alloc, &constants.first, &constants.second, a, b)
@@ -161,11 +174,11 @@ fn combined(
     op: Op,
     left: &TExpr,
     right: &TExpr,
-    a: Sum,
-    b: Sum,
-) -> Result<Sum, AllocError>
+    a: Box<Sum>,
+    b: Box<Sum>,
+) -> Result<Box<Sum>, AllocError>
     requires { is_combination op ≡ true }
-    ensures { IfOk result (λ s. sum_of s ≡ combination op (constant_of (expression left.now)) (constant_of (expression right.now)) (sum_of a) (sum_of b)) }
+    ensures { IfOk result (λ s. sum_of s.value ≡ combination op (constant_of (expression left.now)) (constant_of (expression right.now)) (sum_of a.value) (sum_of b.value)) }
 {
     match op {
         Op::Add => plus(alloc, a, b),
@@ -175,14 +188,14 @@ fn combined(
 }
 
 /// A sum divided, or what remains.
-fn part_of(alloc: Global, op: Op, k: &Divisor, x: Sum, next: u32) -> Result<Sum, Refusal>
+fn part_of(alloc: Global, op: Op, k: &Divisor, x: Box<Sum>, next: u32) -> Result<Box<Sum>, Refusal>
     requires { long k.now.magnitude ≡ pos (unsigned_abs (long k.now.value)) }
-    ensures { IsPartAnswer op (long k.now.value) (sum_of x) next result }
+    ensures { IsPartAnswer op (long k.now.value) (sum_of x.value) next result }
 {
-    let divided = divide(alloc, k, x, next)?;
+    let divided = divide(alloc, k, Box::into_inner(x), next)?;
     match op {
-        Op::Div => Ok(quotient(alloc, divided)?),
-        _ => Ok(remainder(divided)),
+        Op::Div => Ok(boxed(alloc, quotient(alloc, divided)?)?),
+        _ => Ok(boxed(alloc, remainder(divided))?),
     }
 }
 
@@ -196,29 +209,43 @@ pub fn linear(
 ) -> Result<Sum, Refusal>
     ensures { IsSumAnswer (linear (frame_environment frame.now.columns.items) old (expression expr.now) next) result }
 {
+    let sum = boxed_linear(alloc, frame, old, expr, next)?;
+    Ok(Box::into_inner(sum))
+}
+
+/// The same sum on the heap, since this recurses as deep as expressions are nested, and a sum is large.
+fn boxed_linear(
+    alloc: Global,
+    frame: &Frame,
+    old: bool,
+    expr: &TExpr,
+    next: u32,
+) -> Result<Box<Sum>, Refusal>
+    ensures { IsBoxedAnswer (linear (frame_environment frame.now.columns.items) old (expression expr.now) next) result }
+{
     match &expr.kind {
         TExprKind::Lit(n) => number(alloc, *n),
         TExprKind::Truth(_) => number(alloc, 0),
         TExprKind::Var(column) => Ok(column_sum(alloc, frame, read_at(old, *column))?),
-        TExprKind::Old(inner) => linear(alloc, frame, true, inner, next),
+        TExprKind::Old(inner) => boxed_linear(alloc, frame, true, inner, next),
         TExprKind::Not(_) => number(alloc, 0),
         TExprKind::Neg(inner) => {
-            let sum = linear(alloc, frame, old, inner, next)?;
+            let sum = boxed_linear(alloc, frame, old, inner, next)?;
             Ok(negated(alloc, sum)?)
         }
         TExprKind::Bin(op, left, right) => {
             if is_combination(*op) {
-                let a = linear(alloc, frame, old, left, next)?;
-                let b = linear(alloc, frame, old, right, later(next, a.helpers)?)?;
+                let a = boxed_linear(alloc, frame, old, left, next)?;
+                let b = boxed_linear(alloc, frame, old, right, later(next, a.helpers)?)?;
                 return Ok(combined(alloc, *op, left, right, a, b)?);
             }
             if !is_division(*op) {
-                return Ok(Sum::number(alloc, 0)?);
+                return number(alloc, 0);
             }
             match divisor(alloc, right)? {
-                None => Ok(Sum::number(alloc, 0)?),
+                None => number(alloc, 0),
                 Some(k) => {
-                    let x = linear(alloc, frame, old, left, next)?;
+                    let x = boxed_linear(alloc, frame, old, left, next)?;
                     part_of(alloc, *op, &k, x, next)
                 }
             }

@@ -107,9 +107,9 @@ pub fn later(a: u32, b: u32) -> Result<u32, AllocError>
 }
 
 /// `a + b`.
-pub fn plus(alloc: Global, a: Sum, b: Sum) -> Result<Sum, AllocError>
-    ensures { IfOk result (λ s. sum_of s ≡
-        over (sum_of a) (sum_of b) ((sum_of a).terms ++ (sum_of b).terms) ((sum_of a).constant +ℤ (sum_of b).constant)) }
+pub fn plus(alloc: Global, a: Box<Sum>, b: Box<Sum>) -> Result<Box<Sum>, AllocError>
+    ensures { IfOk result (λ s. sum_of s.value ≡
+        over (sum_of a.value) (sum_of b.value) ((sum_of a.value).terms ++ (sum_of b.value).terms) ((sum_of a.value).constant +ℤ (sum_of b.value).constant)) }
 {
     let mut sum = a;
     let mut other = b;
@@ -130,21 +130,27 @@ fn add(alloc: Global, a: &mut Sum, b: &mut Sum) -> Result<(), AllocError>
 }
 
 /// `-a`.
-pub fn negated(alloc: Global, a: Sum) -> Result<Sum, AllocError>
-    ensures { IfOk result (λ s. sum_of s ≡ record (sum_of a) { terms = opposite (sum_of a).terms; constant = neg_ℤ (sum_of a).constant }) }
+pub fn negated(alloc: Global, a: Box<Sum>) -> Result<Box<Sum>, AllocError>
+    ensures { IfOk result (λ s. sum_of s.value ≡ record (sum_of a.value) { terms = opposite (sum_of a.value).terms; constant = neg_ℤ (sum_of a.value).constant }) }
 {
-    Ok(Sum {
-        terms: opposite_terms(alloc, a.terms.as_slice())?,
-        constant: a.constant.opposite(alloc)?,
-        rows: a.rows,
-        helpers: a.helpers,
-    })
+    let mut sum = a;
+    negate(alloc, &mut sum)?;
+    Ok(sum)
+}
+
+/// Turns the signs of a sum.
+fn negate(alloc: Global, a: &mut Sum) -> Result<(), AllocError>
+    ensures { OnOk result (sum_of a.new ≡ record (sum_of a.old) { terms = opposite (sum_of a.old).terms; constant = neg_ℤ (sum_of a.old).constant }) }
+{
+    a.terms = opposite_terms(alloc, a.terms.as_slice())?;
+    a.constant = a.constant.opposite(alloc)?;
+    Ok(())
 }
 
 /// `a - b`.
-pub fn minus(alloc: Global, a: Sum, b: Sum) -> Result<Sum, AllocError>
-    ensures { IfOk result (λ s. sum_of s ≡
-        over (sum_of a) (sum_of b) ((sum_of a).terms ++ opposite (sum_of b).terms) ((sum_of a).constant -ℤ (sum_of b).constant)) }
+pub fn minus(alloc: Global, a: Box<Sum>, b: Box<Sum>) -> Result<Box<Sum>, AllocError>
+    ensures { IfOk result (λ s. sum_of s.value ≡
+        over (sum_of a.value) (sum_of b.value) ((sum_of a.value).terms ++ opposite (sum_of b.value).terms) ((sum_of a.value).constant -ℤ (sum_of b.value).constant)) }
 {
     let mut sum = a;
     let mut other = b;
@@ -178,10 +184,16 @@ pub fn push_opposites(
 }
 
 /// `k*b + l*a - k*l`.
-pub fn times(alloc: Global, k: &Long, l: &Long, a: Sum, b: Sum) -> Result<Sum, AllocError>
-    ensures { IfOk result (λ s. sum_of s ≡
-        over (sum_of a) (sum_of b) (scaled (long k.now) (sum_of b).terms ++ scaled (long l.now) (sum_of a).terms)
-        (((long k.now *ℤ (sum_of b).constant) +ℤ (long l.now *ℤ (sum_of a).constant)) -ℤ (long k.now *ℤ long l.now))) }
+pub fn times(
+    alloc: Global,
+    k: &Long,
+    l: &Long,
+    a: Box<Sum>,
+    b: Box<Sum>,
+) -> Result<Box<Sum>, AllocError>
+    ensures { IfOk result (λ s. sum_of s.value ≡
+        over (sum_of a.value) (sum_of b.value) (scaled (long k.now) (sum_of b.value).terms ++ scaled (long l.now) (sum_of a.value).terms)
+        (((long k.now *ℤ (sum_of b.value).constant) +ℤ (long l.now *ℤ (sum_of a.value).constant)) -ℤ (long k.now *ℤ long l.now))) }
 {
     let mut product = a;
     let mut other = b;
