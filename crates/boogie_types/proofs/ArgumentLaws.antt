@@ -6,7 +6,7 @@ use Rattle.boogie_tree.specs.declared.tree.Vary.{Vary}
 use Rattle.boogie_tree.specs.Tree as tree
 use Rattle.typed_tree.specs.TypedTree as typed
 use Rattle.typed_tree.specs.TypedTree.{TypedExpression, TypedStatement}
-use Rattle.boogie_types.specs.Naming.{Place, each, both, named, is_hidden, hidden_arguments, hidden_column, put_aside, named_arguments, place_of}
+use Rattle.boogie_types.specs.Naming.{Place, each, both, named, is_hidden, hidden_arguments, hidden_column, put_aside, named_arguments, expression_span}
 
 -- the first parameter, if there is one, and those behind it
 abbrev pub front : List Vary → List Vary
@@ -59,12 +59,12 @@ arguments_turn p n [] e es =
 arguments_turn p n (v ∷ vs) e es = by_hidden (is_hidden v.ty e)
   where
     by_hidden : (b : Bool) →
-        (if b then option_map (λ ts. typed.Var (place_of e) (hidden_column p n) ∷ ts) (named_arguments p (n + 1) vs es)
+        (if b then option_map (λ ts. typed.Var (expression_span e) (hidden_column p n) ∷ ts) (named_arguments p (n + 1) vs es)
         else both (λ t ts. t ∷ ts) (named p.scope e) (named_arguments p n vs es))
         ≡ together
-        (if b then option_map (λ ts. typed.Var (place_of e) (hidden_column p n) ∷ ts) (Some []) else both (λ t ts. t ∷ ts) (named p.scope e) (Some []))
+        (if b then option_map (λ ts. typed.Var (expression_span e) (hidden_column p n) ∷ ts) (Some []) else both (λ t ts. t ∷ ts) (named p.scope e) (Some []))
         (named_arguments p (n + length (if b then e ∷ [] else [])) vs es)
-    by_hidden true = sym (one_left (typed.Var (place_of e) (hidden_column p n)) (named_arguments p (n + 1) vs es))
+    by_hidden true = sym (one_left (typed.Var (expression_span e) (hidden_column p n)) (named_arguments p (n + 1) vs es))
     by_hidden false =
         made_left (λ t. t) (named p.scope e) (named_arguments p n vs es)
         ∙ ap (λ (k : ℕ). together (both (λ t ts. t ∷ ts) (named p.scope e) (Some [])) (named_arguments p k vs es)) (omega arith)

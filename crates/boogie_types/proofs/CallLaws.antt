@@ -14,14 +14,14 @@ use Rattle.boogie_tree.specs.Tree.{Expression, Procedure}
 use Rattle.boogie_tree.specs.View as view
 use Rattle.typed_tree.specs.TypedTree.{TypedExpression, Var, TypedStatement, Assign, Call}
 use Rattle.boogie_types.specs.Naming.{Place, both, named, is_hidden, hidden_column, hidden_arguments, named_arguments, put_aside, named_call, procedure_number, params_named, params_if_any, targets_of}
-use Rattle.boogie_types.specs.Naming.{place_of as expression_place}
+use Rattle.boogie_types.specs.Naming.{expression_span}
 use Rattle.boogie_types.specs.NamingFaults.{IsCallUnknown, callee, target, argument, IsCallFault}
 use Rattle.boogie_types.proofs.FaultLaws.{or_memory_to}
 use Rattle.typed_tree.specs.declared.fault.TypeFault.{TypeFault}
 use Rattle.boogie_tree.specs.declared.tree.Column.{Column}
 use Rattle.boogie_tree.specs.declared.tree.Name.{Name}
 use Rattle.boogie_types.specs.Making.{made}
-use Rattle.boogie_types.specs.Numbers.{place_of}
+use Rattle.boogie_types.specs.Numbers.{number_of_name}
 use Rattle.boogie_types.specs.Places.{procedure_texts}
 use Rattle.boogie_types.specs.Referred.{parameter_by}
 use Rattle.boogie_types.proofs.ArgumentLaws.{front, behind, together, needed, arguments_turn, aside_turn, count_turn}
@@ -32,8 +32,8 @@ position_of_text t i (p ∷ ps) = ap (cond (bytes_eq t p.name.text) (Some i)) (p
 
 -- the number of a procedure is the place of its name
 pub procedure_place : (t : List ℕ) (names : List (List ℕ)) (ps : List Procedure) → names ≡ procedure_texts ps →
-    place_of names t ≡ position_from (λ q. bytes_eq t q.name.text) 0 ps
-procedure_place t names ps e = ap (λ ns. place_of ns t) e ∙ position_of_text t 0 ps
+    number_of_name names t ≡ position_from (λ q. bytes_eq t q.name.text) 0 ps
+procedure_place t names ps e = ap (λ ns. number_of_name ns t) e ∙ position_of_text t 0 ps
 
 -- the parameter at a place is the first of those from there on
 parameter_front : (o : Option (Bor Vary)) (vs : List Vary) (i : ℕ) → option_copied o ≡ slice_get vs i → parameter_by o ≡ front (drop i vs)
@@ -149,9 +149,9 @@ module _ (p : Place) (loops : List (Option (List ℕ))) where
     where
       by_hidden : (b : Bool) → named_arguments (record p { loops = loops }) (n + 1) vs es ≡ named_arguments p (n + 1) vs es →
           named_arguments (record p { loops = loops }) n vs es ≡ named_arguments p n vs es →
-          (if b then option_map (λ ts. Var (expression_place e) (hidden_column p n) ∷ ts) (named_arguments (record p { loops = loops }) (n + 1) vs es) else both (λ t ts. t ∷ ts) (named p.scope e) (named_arguments (record p { loops = loops }) n vs es))
-          ≡ (if b then option_map (λ ts. Var (expression_place e) (hidden_column p n) ∷ ts) (named_arguments p (n + 1) vs es) else both (λ t ts. t ∷ ts) (named p.scope e) (named_arguments p n vs es))
-      by_hidden true h k = ap (option_map (λ ts. Var (expression_place e) (hidden_column p n) ∷ ts)) h
+          (if b then option_map (λ ts. Var (expression_span e) (hidden_column p n) ∷ ts) (named_arguments (record p { loops = loops }) (n + 1) vs es) else both (λ t ts. t ∷ ts) (named p.scope e) (named_arguments (record p { loops = loops }) n vs es))
+          ≡ (if b then option_map (λ ts. Var (expression_span e) (hidden_column p n) ∷ ts) (named_arguments p (n + 1) vs es) else both (λ t ts. t ∷ ts) (named p.scope e) (named_arguments p n vs es))
+      by_hidden true h k = ap (option_map (λ ts. Var (expression_span e) (hidden_column p n) ∷ ts)) h
       by_hidden false h k = ap (both (λ t ts. t ∷ ts) (named p.scope e)) k
 
   pub call_anywhere : (n : ℕ) (at : Span) (xs : List Name) (f : Name) (es : List Expression) → named_call (record p { loops = loops }) n at xs f es ≡ named_call p n at xs f es

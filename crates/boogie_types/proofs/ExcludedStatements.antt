@@ -9,7 +9,7 @@ use Rattle.boogie_tree.specs.Tree.{Expression, Statement, Block}
 use Rattle.typed_tree.specs.declared.fault.TypeFault.{TypeFault}
 use Rattle.typed_tree.specs.TypedTree as typed
 use Rattle.typed_tree.specs.TypedTree.{TypedExpression, TypedGuard, TypedStatement, TypedInvariant, TypedBlock}
-use Rattle.boogie_types.specs.Naming.{Place, each, both, named, named_guard, named_invariant, targets_of, label_number, levels, procedure_number, params_named, is_hidden, hidden_arguments, hidden_in, hidden_in_block, hidden_column, put_aside, place_of, named_arguments, named_call, label_of, in_loop, alone, in_front, named_statement, named_block}
+use Rattle.boogie_types.specs.Naming.{Place, each, both, named, named_guard, named_invariant, targets_of, label_number, levels, procedure_number, params_named, is_hidden, hidden_arguments, hidden_in, hidden_in_block, hidden_column, put_aside, expression_span, named_arguments, named_call, label_of, in_loop, alone, in_front, named_statement, named_block}
 use Rattle.boogie_types.specs.BrokenNames.{AreUnknownIn, one_of, IsMisnamed, asserted, assumed, chosen, assigned, valued, unknown_callee, returned, passed, branched, in_then, in_else, looping, in_invariant, in_loop_body, no_such_loop, no_such_label, unlisted_label, IsMisnamedIn, first, later}
 use Rattle.boogie_types.proofs.ExcludedLists.{option_map_none, and_then_none, and_then_nothing, both_left_none, both_right_none, no_member, member_cases, each_none}
 use Rattle.boogie_types.proofs.ExcludedNames.{unknown_is_unnamed, unknown_are_unnamed, wrong_have_no_targets, guard_is_unnamed, invariant_is_unnamed}
@@ -27,7 +27,7 @@ module _ (p : Place) where
       ((n : ℕ) (at : Span) → put_aside p n at (if b then e ∷ hidden_arguments vs es else hidden_arguments vs es) ≡ None)
       ⊎ ((n : ℕ) →
       (if b
-      then option_map (λ ts. typed.Var (place_of e) (hidden_column p n) ∷ ts) (named_arguments p (n + 1) vs es)
+      then option_map (λ ts. typed.Var (expression_span e) (hidden_column p n) ∷ ts) (named_arguments p (n + 1) vs es)
       else both (λ t ts. t ∷ ts) (named p.scope e) (named_arguments p n vs es)) ≡ None)
   first_lost true vs e es h =
       inl (λ n at.
@@ -41,14 +41,14 @@ module _ (p : Place) where
       ((n : ℕ) (at : Span) → put_aside p n at (if b then e ∷ hidden_arguments vs es else hidden_arguments vs es) ≡ None)
       ⊎ ((n : ℕ) →
       (if b
-      then option_map (λ ts. typed.Var (place_of e) (hidden_column p n) ∷ ts) (named_arguments p (n + 1) vs es)
+      then option_map (λ ts. typed.Var (expression_span e) (hidden_column p n) ∷ ts) (named_arguments p (n + 1) vs es)
       else both (λ t ts. t ∷ ts) (named p.scope e) (named_arguments p n vs es)) ≡ None)
   later_lost true vs e es (inl h) =
       inl (λ n at.
       both_right_none (λ (t : TypedExpression) (ts : List TypedStatement). typed.Assign at (hidden_column p n ∷ []) (t ∷ []) ∷ ts) (named p.scope e)
       (put_aside p (n + 1) at (hidden_arguments vs es)) (h (n + 1) at))
   later_lost true vs e es (inr h) =
-      inr (λ n. option_map_none (λ (ts : List TypedExpression). typed.Var (place_of e) (hidden_column p n) ∷ ts) (named_arguments p (n + 1) vs es) (h (n + 1)))
+      inr (λ n. option_map_none (λ (ts : List TypedExpression). typed.Var (expression_span e) (hidden_column p n) ∷ ts) (named_arguments p (n + 1) vs es) (h (n + 1)))
   later_lost false vs e es (inl h) = inl h
   later_lost false vs e es (inr h) =
       inr (λ n. both_right_none (λ (t : TypedExpression) (ts : List TypedExpression). t ∷ ts) (named p.scope e) (named_arguments p n vs es) (h n))

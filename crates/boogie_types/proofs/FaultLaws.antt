@@ -14,7 +14,7 @@ use Rattle.std.proofs.lemmas.List.{length-map}
 use Rattle.std.proofs.Math.ListN.{get_or-map}
 use Rattle.typed_tree.specs.Scope.{Scope}
 use Rattle.boogie_types.specs.Meanings.{column_of}
-use Rattle.boogie_types.specs.Numbers.{place_of, IsLabelsFault}
+use Rattle.boogie_types.specs.Numbers.{number_of_name, IsLabelsFault}
 use Rattle.boogie_types.specs.BrokenNames.{unknown, in_old, in_not, in_neg, in_left, in_right, one_of, unknown_target, in_guard, IsMisnamed, asserted, assumed, chosen, assigned, valued, unknown_callee, returned, passed, branched, in_then, in_else, looping, in_invariant, in_loop_body, no_such_loop, no_such_label, unlisted_label}
 use Rattle.boogie_types.specs.NamingFaults.{OrMemory, IsExpressionFault, AreExpressionsFault, IsTargetsFault, IsGuardFault, IsInvariantsFault, IsStatementFault, IsBlockFault, IsLeavingFault, IsCallFault, IsCallUnknown, callee, target, argument}
 
@@ -134,7 +134,7 @@ fault_in_goto p before at xs (fault.ZeroDivisor s) b = absurd b
 fault_in_goto p before at xs (fault.NonLinear s) b = absurd b
 fault_in_goto p before at xs (fault.TooBig s) b = absurd b
 
-pub fault_in_label : (p : Place) (before : Option (List ℕ)) (x : Name) → place_of p.labels x.text ≡ None → IsStatementFault p before (Label x) (fault.BadGoto x.span)
+pub fault_in_label : (p : Place) (before : Option (List ℕ)) (x : Name) → number_of_name p.labels x.text ≡ None → IsStatementFault p before (Label x) (fault.BadGoto x.span)
 fault_in_label p before x e = unlisted_label p before x e
 
 -- ---- calls

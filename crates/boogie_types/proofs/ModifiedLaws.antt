@@ -19,7 +19,7 @@ use Rattle.typed_tree.specs.declared.fault.TypeFault.{TypeFault}
 use Rattle.typed_tree.specs.declared.fault.TypeFault.TheVariants as fault
 use Rattle.boogie_types.specs.Meanings.{number_from}
 use Rattle.boogie_types.specs.Naming.{each}
-use Rattle.boogie_types.specs.Numbers.{info_names, place_of}
+use Rattle.boogie_types.specs.Numbers.{info_names, number_of_name}
 use Rattle.boogie_types.specs.Sorted.{modified_in, firsts}
 use Rattle.boogie_types.specs.Resolved.{unless_constant, modified_number}
 use Rattle.boogie_types.specs.Making.{made}
@@ -33,23 +33,23 @@ use Rattle.boogie_types.proofs.ExcludedLists.{no_member, member_cases}
 -- ---- one name
 
 module _ (globals : List VarInfo) (x : Name) where
-  place_number : (names : List (List ℕ)) (o : Option ℕ) → names ≡ info_names globals → o ≡ place_of names x.text → number_from 0 x.text globals ≡ o
-  place_number names o e h = number_is_place x.text globals ∙ ap (λ (ns : List (List ℕ)). place_of ns x.text) (sym e) ∙ sym h
+  place_number : (names : List (List ℕ)) (o : Option ℕ) → names ≡ info_names globals → o ≡ number_of_name names x.text → number_from 0 x.text globals ≡ o
+  place_number names o e h = number_is_place x.text globals ∙ ap (λ (ns : List (List ℕ)). number_of_name ns x.text) (sym e) ∙ sym h
 
   -- no global has the name
-  pub unknown_modified_fault : (names : List (List ℕ)) (o : Option ℕ) → names ≡ info_names globals → o ≡ place_of names x.text → o ≡ None →
+  pub unknown_modified_fault : (names : List (List ℕ)) (o : Option ℕ) → names ≡ info_names globals → o ≡ number_of_name names x.text → o ≡ None →
       AreModifiedFault globals (x ∷ []) (fault.Unknown x.span)
   unknown_modified_fault names o e h n = unknown_name x (0, omega arith, refl) (place_number names o e h ∙ n)
 
   -- a constant has it
-  pub constant_modified_fault : (names : List (List ℕ)) (o : Option ℕ) (n : ℕ) → names ≡ info_names globals → o ≡ place_of names x.text → o ≡ Some n →
+  pub constant_modified_fault : (names : List (List ℕ)) (o : Option ℕ) (n : ℕ) → names ≡ info_names globals → o ≡ number_of_name names x.text → o ≡ Some n →
       unless_constant globals n ≡ None → AreModifiedFault globals (x ∷ []) (fault.NotAssignable x.span)
   constant_modified_fault names o n e h is c =
       constant_name x n (0, omega arith, refl) (place_number names o e h ∙ is)
       (ap (option_and_then (unless_constant globals)) (place_number names o e h ∙ is) ∙ c)
 
   -- a global that is no constant has it
-  pub modified_is : (names : List (List ℕ)) (o : Option ℕ) (n m : ℕ) → names ≡ info_names globals → o ≡ place_of names x.text → o ≡ Some n →
+  pub modified_is : (names : List (List ℕ)) (o : Option ℕ) (n m : ℕ) → names ≡ info_names globals → o ≡ number_of_name names x.text → o ≡ Some n →
       unless_constant globals n ≡ Some m → modified_number globals x.text ≡ Some m
   modified_is names o n m e h is c = ap (option_and_then (unless_constant globals)) (place_number names o e h ∙ is) ∙ c
 

@@ -12,7 +12,7 @@ use Rattle.std.proofs.lemmas.List.{take_more, map-append, length-map, take-appen
 use Rattle.boogie_tree.specs.declared.tree.Name.{Name}
 use Rattle.boogie_types.specs.BrokenNames.{IsSecond}
 use Rattle.boogie_types.specs.Resolved.{is_set}
-use Rattle.boogie_types.specs.Numbers.{named_by, texts, place_of}
+use Rattle.boogie_types.specs.Numbers.{named_by, texts, number_of_name}
 use Rattle.boogie_types.proofs.Differ.{all_differ_push}
 
 -- ---- whether two texts are the same
@@ -49,7 +49,7 @@ position_some : {X : Type 0} (t : X → Bool) (i : ℕ) (xs : List X) → is_som
 position_some t i [] = refl
 position_some t i (x ∷ xs) = head_some (t x) i (position_from t (i + 1) xs) (list_any t xs) (position_some t (i + 1) xs)
 
-pub place_some : (names : List (List ℕ)) (name : List ℕ) → is_some (place_of names name) ≡ list_any (bytes_eq name) names
+pub place_some : (names : List (List ℕ)) (name : List ℕ) → is_some (number_of_name names name) ≡ list_any (bytes_eq name) names
 place_some names name = position_some (bytes_eq name) 0 names
 
 position_below : {X : Type 0} (t : X → Bool) (i : ℕ) (xs : List X) (k : ℕ) → position_from t i xs ≡ Some k → k < i + length xs
@@ -62,17 +62,17 @@ position_below t i (x ∷ xs) k e = by_head (t x) e (λ f. position_below t (i +
     by_head false e rest = omega (arith, rest e)
 
 -- the number of a name is below how many there are
-pub place_below : (names : List (List ℕ)) (name : List ℕ) (k : ℕ) → place_of names name ≡ Some k → k < length names
+pub place_below : (names : List (List ℕ)) (name : List ℕ) (k : ℕ) → number_of_name names name ≡ Some k → k < length names
 place_below names name k e = omega (arith, position_below (bytes_eq name) 0 names k e)
 
 -- ---- one more name
 
-push_here : (names : List (List ℕ)) (x q : List ℕ) → x ≡ q → is_some (place_of names x) ≡ false →
-    place_of (names ++ x ∷ []) q ≡ Some (length names)
+push_here : (names : List (List ℕ)) (x q : List ℕ) → x ≡ q → is_some (number_of_name names x) ≡ false →
+    number_of_name (names ++ x ∷ []) q ≡ Some (length names)
 push_here names x q e n =
     let p = position_from-push (bytes_eq q) 0 names x in
     let b : bytes_eq q x ≡ true = (bytes_eq-Decides q x).1 (sym e) in
-    let o : place_of names q ≡ None = none (place_of names q) (subst (λ (t : List ℕ). is_some (place_of names t) ≡ false) e n) in
+    let o : number_of_name names q ≡ None = none (number_of_name names q) (subst (λ (t : List ℕ). is_some (number_of_name names t) ≡ false) e n) in
     p ∙ ap (λ (u : Option ℕ). option_or u (if bytes_eq q x then Some (0 + length names) else None)) o
     ∙ ap (λ (t : Bool). if t then Some (0 + length names) else None) b ∙ ap (λ (k : ℕ). Some k) (omega arith)
   where
@@ -80,20 +80,20 @@ push_here names x q e n =
     none None h = refl
     none (Some k) h = absurd (false≢true (sym h))
 
-push_other : (names : List (List ℕ)) (x q : List ℕ) → bytes_eq x q ≡ false → place_of (names ++ x ∷ []) q ≡ place_of names q
+push_other : (names : List (List ℕ)) (x q : List ℕ) → bytes_eq x q ≡ false → number_of_name (names ++ x ∷ []) q ≡ number_of_name names q
 push_other names x q e =
     position_from-push (bytes_eq q) 0 names x
-    ∙ ap (λ (t : Bool). option_or (place_of names q) (if t then Some (0 + length names) else None)) (bytes_eq_turns q x ∙ e)
-    ∙ whole (place_of names q)
+    ∙ ap (λ (t : Bool). option_or (number_of_name names q) (if t then Some (0 + length names) else None)) (bytes_eq_turns q x ∙ e)
+    ∙ whole (number_of_name names q)
   where
     whole : (o : Option ℕ) → option_or o None ≡ o
     whole None = refl
     whole (Some k) = refl
 
 -- a look-up that gives the number of each name, with one more name at the end
-pub numbers_push : (names : List (List ℕ)) (x : List ℕ) (old new : List ℕ → Option ℕ) → ((q : List ℕ) → old q ≡ place_of names q) →
-    is_some (place_of names x) ≡ false → ((q : List ℕ) → new q ≡ update bytes_eq old x (Some (length names)) q) →
-    (q : List ℕ) → new q ≡ place_of (names ++ x ∷ []) q
+pub numbers_push : (names : List (List ℕ)) (x : List ℕ) (old new : List ℕ → Option ℕ) → ((q : List ℕ) → old q ≡ number_of_name names q) →
+    is_some (number_of_name names x) ≡ false → ((q : List ℕ) → new q ≡ update bytes_eq old x (Some (length names)) q) →
+    (q : List ℕ) → new q ≡ number_of_name (names ++ x ∷ []) q
 numbers_push names x old new h n u q =
     ⊎_elim
     (λ (e : bytes_eq x q ≡ true).
@@ -135,19 +135,19 @@ module _ (items : List (Bor Name)) (i : ℕ) (x : Bor Name) (here : x ≡ get_or
       ∙ map-append (λ (y : Bor Name). y.now) (take i items) (get_or items i x ∷ drop (i + 1) items)
       ∙ ap (λ (y : Bor Name). named_by (take i items) ++ y.now ∷ named_by (drop (i + 1) items)) (sym here)
 
-  place_any : (b : Bool) → is_some (place_of (texts (named_by (take i items))) x.now.text) ≡ b →
+  place_any : (b : Bool) → is_some (number_of_name (texts (named_by (take i items))) x.now.text) ≡ b →
       list_any (λ (y : Name). bytes_eq x.now.text y.text) (named_by (take i items)) ≡ b
   place_any b h =
       sym (any-texts x.now.text (named_by (take i items))) ∙ sym (place_some (texts (named_by (take i items))) x.now.text) ∙ h
 
   -- a name that has a number already stands there before
-  pub name_repeated : is_some (place_of (texts (named_by (take i items))) x.now.text) ≡ true → IsSecond (named_by items) x.now
+  pub name_repeated : is_some (number_of_name (texts (named_by (take i items))) x.now.text) ≡ true → IsSecond (named_by items) x.now
   name_repeated h =
       let m = any_member (λ (y : Name). bytes_eq x.now.text y.text) (named_by (take i items)) (place_any true h) in
       (named_by (take i items), named_by (drop (i + 1) items), m.0, names-split, m.1, m.2)
 
   -- one more name that has no number yet
-  pub names_differ_more : is_set (named_by (take i items)) ≡ true → is_some (place_of (texts (named_by (take i items))) x.now.text) ≡ false →
+  pub names_differ_more : is_set (named_by (take i items)) ≡ true → is_some (number_of_name (texts (named_by (take i items))) x.now.text) ≡ false →
       is_set (named_by (take (i + 1) items)) ≡ true
   names_differ_more h n =
       ap is_set names-take
@@ -155,11 +155,11 @@ module _ (items : List (Bor Name)) (i : ℕ) (x : Bor Name) (here : x ≡ get_or
       (place_any false n)
 
   pub numbers_more : (old new : List ℕ → Option ℕ) →
-      ((q : List ℕ) → old q ≡ place_of (texts (named_by (take i items))) q) → is_some (place_of (texts (named_by (take i items))) x.now.text) ≡ false →
+      ((q : List ℕ) → old q ≡ number_of_name (texts (named_by (take i items))) q) → is_some (number_of_name (texts (named_by (take i items))) x.now.text) ≡ false →
       ((q : List ℕ) → new q ≡ update bytes_eq old x.now.text (Some i) q) →
-      (q : List ℕ) → new q ≡ place_of (texts (named_by (take (i + 1) items))) q
+      (q : List ℕ) → new q ≡ number_of_name (texts (named_by (take (i + 1) items))) q
   numbers_more old new h n u q =
       let e : length (texts (named_by (take i items))) ≡ i = length-texts-take in
       numbers_push (texts (named_by (take i items))) x.now.text old new h n
       (λ (p : List ℕ). u p ∙ ap (λ (k : ℕ). update bytes_eq old x.now.text (Some k) p) (sym e)) q
-      ∙ ap (λ (names : List (List ℕ)). place_of names q) (sym texts-take)
+      ∙ ap (λ (names : List (List ℕ)). number_of_name names q) (sym texts-take)

@@ -11,7 +11,7 @@ use Rattle.boogie_tree.specs.declared.tree.Stmt.{Stmt, the_lemmas}
 use Rattle.boogie_tree.specs.declared.tree.Stmt.TheVariants as code
 use Rattle.boogie_tree.specs.Tree as tree
 use Rattle.boogie_tree.specs.View as view
-use Rattle.boogie_types.specs.Naming.{place_of}
+use Rattle.boogie_types.specs.Naming.{expression_span}
 use Rattle.boogie_tree.specs.declared.tree.Column.{Column}
 use Rattle.typed_tree.specs.declared.types.TExpr.{TExpr}
 use Rattle.typed_tree.specs.declared.types.TStmt.{the_lemmas as typed_lemmas}
@@ -57,7 +57,7 @@ pub call_typed : (s : Span) (cs : Vec Column Global) (n : ℕ) (es : Vec TExpr G
 call_typed s cs n es = search (rules, typed_lemmas)
 
 -- an expression stands where its tree says
-pub place_seen : (s : Span) (k : ExprKind) → place_of (view.kind_view s k) ≡ s
+pub place_seen : (s : Span) (k : ExprKind) → expression_span (view.kind_view s k) ≡ s
 place_seen s (kinds.Lit n) = refl
 place_seen s (kinds.Truth b) = refl
 place_seen s (kinds.Var x) = refl

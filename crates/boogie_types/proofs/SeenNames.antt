@@ -6,14 +6,14 @@ use Rattle.std.specs.Str.{bytes_eq}
 use Rattle.std.proofs.lemmas.Bool.{false≢true}
 use Rattle.boogie_tree.specs.declared.tree.VarInfo.{VarInfo}
 use Rattle.boogie_types.specs.Meanings.{number_from}
-use Rattle.boogie_types.specs.Numbers.{info_names, place_of, if_below}
+use Rattle.boogie_types.specs.Numbers.{info_names, number_of_name, if_below}
 
 -- the number of a variable is the place of its name
 number_is_position : (i : ℕ) (name : List ℕ) (vs : List VarInfo) → number_from i name vs ≡ position_from (bytes_eq name) i (info_names vs)
 number_is_position i name [] = refl
 number_is_position i name (v ∷ vs) = ap (cond (bytes_eq name v.name) (Some i)) (number_is_position (i + 1) name vs)
 
-pub number_is_place : (name : List ℕ) (vs : List VarInfo) → number_from 0 name vs ≡ place_of (info_names vs) name
+pub number_is_place : (name : List ℕ) (vs : List VarInfo) → number_from 0 name vs ≡ number_of_name (info_names vs) name
 number_is_place name vs = number_is_position 0 name vs
 
 -- ---- places among the first
@@ -43,7 +43,7 @@ position-take t i (suc k) (x ∷ xs) = by_head (t x) (position-take t (i + 1) k 
 
 -- the number of a variable among the first of all
 pub seen_number : (all : List (List ℕ)) (vs : List VarInfo) (name : List ℕ) → take (length vs) all ≡ info_names vs →
-    number_from 0 name vs ≡ if_below (length vs) (place_of all name)
+    number_from 0 name vs ≡ if_below (length vs) (number_of_name all name)
 seen_number all vs name e =
-    number_is_place name vs ∙ ap (λ (names : List (List ℕ)). place_of names name) (sym e)
-    ∙ position-take (bytes_eq name) 0 (length vs) all ∙ ap (λ (b : ℕ). if_below b (place_of all name)) (omega arith)
+    number_is_place name vs ∙ ap (λ (names : List (List ℕ)). number_of_name names name) (sym e)
+    ∙ position-take (bytes_eq name) 0 (length vs) all ∙ ap (λ (b : ℕ). if_below b (number_of_name all name)) (omega arith)

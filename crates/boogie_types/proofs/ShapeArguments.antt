@@ -13,7 +13,7 @@ use Rattle.typed_tree.specs.Scope.{Scope}
 use Rattle.typing_rules.specs.Shape.{is_simple, is_argument, are_arguments}
 use Rattle.boogie_types.specs.Meanings.{variable_info, column_of}
 use Rattle.boogie_types.specs.Naming as naming
-use Rattle.boogie_types.specs.Naming.{both, named, named_arguments, is_hidden, hidden_column, place_of, Place}
+use Rattle.boogie_types.specs.Naming.{both, named, named_arguments, is_hidden, hidden_column, expression_span, Place}
 use Rattle.boogie_types.proofs.ShapeLists.{option_map_some, both_some}
 
 -- a simple expression is simple when its names are replaced
@@ -59,10 +59,10 @@ arguments_shaped p n (v ∷ vs) (x ∷ es) ts e =
     cond_both (is_hidden v.ty x) aside (both (λ t us. t ∷ us) (named p.scope x) (named_arguments p n vs es))
     (λ o. o ≡ Some ts → are_arguments (map (variable_info true) (v ∷ vs)) ts ≡ true)
     (λ is g.
-    let a = option_map_some (λ us. typed.Var (place_of x) (hidden_column p n) ∷ us) (named_arguments p (n + 1) vs es) ts g in
+    let a = option_map_some (λ us. typed.Var (expression_span x) (hidden_column p n) ∷ us) (named_arguments p (n + 1) vs es) ts g in
     subst (λ (us : List TypedExpression). are_arguments (map (variable_info true) (v ∷ vs)) us ≡ true) a.2
-    (and_from (is_argument v.ty (typed.Var (place_of x) (hidden_column p n))) (are_arguments (map (variable_info true) vs) a.0)
-    (argument_hidden v.ty (place_of x) (hidden_column p n)) (arguments_shaped p (n + 1) vs es a.0 a.1)))
+    (and_from (is_argument v.ty (typed.Var (expression_span x) (hidden_column p n))) (are_arguments (map (variable_info true) vs) a.0)
+    (argument_hidden v.ty (expression_span x) (hidden_column p n)) (arguments_shaped p (n + 1) vs es a.0 a.1)))
     (λ is g.
     let a = both_some (λ t us. t ∷ us) (named p.scope x) (named_arguments p n vs es) ts g in
     subst (λ (us : List TypedExpression). are_arguments (map (variable_info true) (v ∷ vs)) us ≡ true) a.4
@@ -71,4 +71,4 @@ arguments_shaped p n (v ∷ vs) (x ∷ es) ts e =
     e
   where
     aside : Option (List TypedExpression)
-    aside = option_map (λ us. typed.Var (place_of x) (hidden_column p n) ∷ us) (named_arguments p (n + 1) vs es)
+    aside = option_map (λ us. typed.Var (expression_span x) (hidden_column p n) ∷ us) (named_arguments p (n + 1) vs es)

@@ -6,7 +6,7 @@ use Rattle.std.proofs.lemmas.Bool.{and_from, or_left, or_from, false_from_ne_tru
 use Rattle.std.proofs.lemmas.Bool.Decides.{nat_tests}
 use Rattle.std.proofs.lemmas.Int.Digits.{all_below_base_digits_of, first_digits_of, same_from_digits_of}
 use Rattle.std.proofs.lemmas.Slice.Eq.{bytes_eq-Decides}
-use Rattle.typing_rules.specs.Names.{is_digit, is_name, is_spelled}
+use Rattle.boogie_tree.specs.Names.{is_digit, is_name, is_spelled}
 use Rattle.typing_rules.specs.Rules.{all_differ}
 use Rattle.boogie_types.specs.Sorted.{decimal_of, hidden_locals}
 use Rattle.boogie_types.proofs.ShapeLists.{all_differ_cons}

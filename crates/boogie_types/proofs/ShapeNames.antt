@@ -9,7 +9,7 @@ use Rattle.boogie_tree.specs.declared.tree.Name.{Name}
 use Rattle.boogie_tree.specs.declared.tree.Vary.{Vary}
 use Rattle.boogie_tree.specs.declared.tree.VarInfo.{VarInfo}
 use Rattle.boogie_tree.specs.Tree.{Procedure, ProcedureBody, Declaration, Const, Global, Axiom, Declares, Implements}
-use Rattle.typing_rules.specs.Names.{is_name, is_made, is_spelled}
+use Rattle.boogie_tree.specs.Names.{is_name, is_made, is_spelled}
 use Rattle.typing_rules.specs.Rules.{all_differ}
 use Rattle.typing_rules.specs.Shape.{are_names}
 use Rattle.boogie_types.specs.Meanings.{variable_info}

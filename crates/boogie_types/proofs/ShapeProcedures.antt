@@ -8,7 +8,7 @@ use Rattle.boogie_tree.specs.declared.tree.Vary.{Vary}
 use Rattle.boogie_tree.specs.declared.tree.VarInfo.{VarInfo}
 use Rattle.boogie_tree.specs.Tree.{Declaration, Procedure, ProcedureBody}
 use Rattle.typed_tree.specs.TypedTree.{TypedBlock, TypedSpecification, TypedProcedure}
-use Rattle.typing_rules.specs.Names.{is_name, is_spelled}
+use Rattle.boogie_tree.specs.Names.{is_name, is_spelled}
 use Rattle.typing_rules.specs.Rules.{all_differ, params_of}
 use Rattle.typing_rules.specs.Shape as shape
 use Rattle.typing_rules.specs.Shape.{is_shaped_block, block_labels, counts_from, is_body_shaped, are_names, are_locals, are_modified, is_procedure_shaped}

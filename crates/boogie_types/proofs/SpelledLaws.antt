@@ -1,16 +1,16 @@
 -- Texts of letters are names.
-use Rattle.std.proofs.Common.{◌≡◌, ℕ, Bool, true, false, not, nat_eq, length, List, [], ◌∷◌, refl, ap, sym, ◌∙◌, subst, arith}
+use Rattle.std.proofs.Common.{◌≡◌, ℕ, Bool, true, false, not, ◌||◌, nat_eq, length, List, [], ◌∷◌, refl, ap, sym, ◌∙◌, subst, arith}
 use Rattle.std.specs.List.{list_all}
 use Rattle.std.proofs.lemmas.Bool.{and_parts, and_from, or_left, false≢true}
 use Rattle.std.proofs.lemmas.Bool.Decides.{nat_tests}
-use Rattle.typing_rules.specs.Names.{is_digit, is_letter, is_name_byte, is_name}
+use Rattle.boogie_tree.specs.Names.{is_digit, is_letter, is_name_mark, is_name_byte, is_name}
 use Rattle.boogie_types.proofs.ShapeLists.{all_weaker}
 
 no_digit : (b : ℕ) → is_letter b ≡ true → not (is_digit b) ≡ true
 no_digit b h = grind (arith, nat_tests)
 
 name_byte : (b : ℕ) → is_letter b ≡ true → is_name_byte b ≡ true
-name_byte b h = or_left (is_letter b) _ h
+name_byte b h = or_left (is_letter b || is_digit b) (is_name_mark b) (or_left (is_letter b) (is_digit b) h)
 
 pub letters_spell : (bs : List ℕ) → (bs ≡ [] → ⊥) → list_all is_letter bs ≡ true → is_name bs ≡ true
 letters_spell [] n h = absurd (n refl)

@@ -23,14 +23,14 @@ each f [] = Some []
 each f (x ∷ xs) = option_and_then (λ y. option_map (λ ys. y ∷ ys) (each f xs)) (f x)
 
 -- where an expression stands
-abbrev pub place_of : tree.Expression → Span
-place_of (tree.Lit at n) = at
-place_of (tree.Truth at b) = at
-place_of (tree.Var at x) = at
-place_of (tree.Old at e) = at
-place_of (tree.Not at e) = at
-place_of (tree.Neg at e) = at
-place_of (tree.Bin at op a b) = at
+abbrev pub expression_span : tree.Expression → Span
+expression_span (tree.Lit at n) = at
+expression_span (tree.Truth at b) = at
+expression_span (tree.Var at x) = at
+expression_span (tree.Old at e) = at
+expression_span (tree.Not at e) = at
+expression_span (tree.Neg at e) = at
+expression_span (tree.Bin at op a b) = at
 
 -- what two parts make, where both are there
 abbrev pub both : {X Y Z : Type 0} → (X → Y → Z) → Option X → Option Y → Option Z
@@ -141,7 +141,7 @@ named_arguments p n vs [] = Some []
 named_arguments p n [] (e ∷ es) = each (named p.scope) (e ∷ es)
 named_arguments p n (v ∷ vs) (e ∷ es) =
     if is_hidden v.ty e
-    then option_map (λ ts. typed.Var (place_of e) (hidden_column p n) ∷ ts) (named_arguments p (n + 1) vs es)
+    then option_map (λ ts. typed.Var (expression_span e) (hidden_column p n) ∷ ts) (named_arguments p (n + 1) vs es)
     else both (λ t ts. t ∷ ts) (named p.scope e) (named_arguments p n vs es)
 
 -- a call: the assignments to hidden locals, from number n on, directly before it

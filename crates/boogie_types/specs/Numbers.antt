@@ -27,8 +27,8 @@ abbrev pub info_names : List VarInfo → List (List ℕ)
 info_names vs = map (λ v. v.name) vs
 
 -- the number of a name: its place in the list
-abbrev pub place_of : List (List ℕ) → List ℕ → Option ℕ
-place_of names name = position_from (bytes_eq name) 0 names
+abbrev pub number_of_name : List (List ℕ) → List ℕ → Option ℕ
+number_of_name names name = position_from (bytes_eq name) 0 names
 
 -- the number, where it is below that
 abbrev pub if_below : ℕ → Option ℕ → Option ℕ
@@ -37,7 +37,7 @@ if_below b (Some n) = if nat_lt n b then Some n else None
 
 -- The map has the number of each name, and nothing else.
 pub record IsNumbered (places : BTreeMap (Bor (List ℕ)) ℕ) (names : List (List ℕ)) : Type 0 where
-  pub numbers : (q : List ℕ) → get_by (λ k. slice_cmp nat_cmp q k.now) places ≡ place_of names q
+  pub numbers : (q : List ℕ) → get_by (λ k. slice_cmp nat_cmp q k.now) places ≡ number_of_name names q
 
 -- the fault of names of which one stands twice
 abbrev pub IsTwiceFault : List Name → TypeFault → Type 0
@@ -48,7 +48,7 @@ IsTwiceFault xs f = ⊥
 -- the fault of labels of which one has no number
 abbrev pub IsLabelsFault : List (List ℕ) → List Name → TypeFault → Type 0
 IsLabelsFault labels xs fault.Memory = Unit {0}
-IsLabelsFault labels xs (fault.BadGoto at) = (x : Name) × Contains xs x × (place_of labels x.text ≡ None) × (at ≡ x.span)
+IsLabelsFault labels xs (fault.BadGoto at) = (x : Name) × Contains xs x × (number_of_name labels x.text ≡ None) × (at ≡ x.span)
 IsLabelsFault labels xs f = ⊥
 
 -- want of memory

@@ -15,7 +15,7 @@ use Rattle.typed_tree.specs.Typing.{same_type}
 use Rattle.boogie_types.specs.Sorted.{globals_of, global_names, axioms_of, procedures_of, implementations_of, first_named, body_of, locals_of, variable_names, hidden_locals, block_labels, labels_if_any, modified_in, firsts, declared_names}
 use Rattle.boogie_types.specs.Naming.{each, both, named, named_invariant, named_block, hidden_in_block, Place}
 use Rattle.boogie_tree.specs.declared.tree.VarInfo.{VarInfo}
-use Rattle.typing_rules.specs.Names.{is_name}
+use Rattle.boogie_tree.specs.Names.{is_name}
 use Rattle.typing_rules.specs.Rules.{all_differ, meets}
 use Rattle.typing_rules.specs.ValidProgram.{is_typed}
 

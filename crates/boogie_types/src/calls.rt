@@ -71,7 +71,7 @@ fn aside(
     span: Span,
     argument: &Expr,
 ) -> Result<TExpr, TypeFault>
-    ensures ok { IfOk result (λ e. typed.expression e ≡ out_tree.Var (naming.place_of (view.expression argument.now)) (naming.hidden_column (place_outside place.now) hidden.old)) }
+    ensures ok { IfOk result (λ e. typed.expression e ≡ out_tree.Var (naming.expression_span (view.expression argument.now)) (naming.hidden_column (place_outside place.now) hidden.old)) }
     ensures aside { OnOk result (made (map typed.statement out.old.items) (put_aside (place_outside place.now) hidden.old span (view.expression argument.now ∷ [])) ≡ Some (map typed.statement out.new.items)) }
     ensures hidden { OnOk result (hidden.new ≡ hidden.old + 1) }
     ensures fault { IfErr result (λ f. IsExpressionFault (seen place.now.names.scope) (view.expression argument.now) f) }

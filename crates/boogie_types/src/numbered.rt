@@ -1,7 +1,7 @@
 ghost use Rattle.std.specs.Prelude.{◌≡◌, true, IfOk, IfErr};
 ghost use Rattle.typed_tree.specs.declared.fault.TypeFault.TheVariants as TypeFault;
 ghost use Rattle.boogie_types.specs.Resolved.{is_set};
-ghost use Rattle.boogie_types.specs.Numbers.{named_by, texts, place_of, IsTwiceFault};
+ghost use Rattle.boogie_types.specs.Numbers.{named_by, texts, number_of_name, IsTwiceFault};
 
 use boogie_tree::Name;
 use std::alloc::Global;
@@ -58,7 +58,7 @@ impl<'a> Numbered<'a> {
 
     /// The number of a name.
     pub(crate) fn place(&self, name: &[u8]) -> Option<u32>
-        ensures { result ≡ place_of self.now name.now }
+        ensures { result ≡ number_of_name self.now name.now }
     {
         self.places.get(name).copied()
     }

@@ -4,7 +4,7 @@ ghost use Rattle.std.specs.Prelude.{◌≡◌, Some, IfOk, IfErr};
 ghost use Rattle.std.specs.List.{position_from};
 ghost use Rattle.boogie_types.specs.Referred.{procedures_by};
 ghost use Rattle.boogie_types.specs.Naming.{each, is_before_loop};
-ghost use Rattle.boogie_types.specs.Numbers.{place_of, IsLabelsFault, IsMemoryFault};
+ghost use Rattle.boogie_types.specs.Numbers.{number_of_name, IsLabelsFault, IsMemoryFault};
 ghost use Rattle.boogie_types.specs.Places.{label_by, loops_by, procedure_texts};
 
 use crate::names::Names;
@@ -33,7 +33,7 @@ pub(crate) fn label_numbers(
     labels: &Numbered<'_>,
     targets: &[Name],
 ) -> Result<Vec<u32>, TypeFault>
-    ensures ok { IfOk result (λ v. each (λ x. place_of labels.now x.text) targets.now ≡ Some v.items) }
+    ensures ok { IfOk result (λ v. each (λ x. number_of_name labels.now x.text) targets.now ≡ Some v.items) }
     ensures fault { IfErr result (λ f. IsLabelsFault labels.now targets.now f) }
 {
     let mut numbers = Vec::new(alloc);

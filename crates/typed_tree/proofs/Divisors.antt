@@ -12,7 +12,7 @@ use Rattle.typed_tree.specs.declared.types.TExprKind.TheVariants as kinds
 use Rattle.typed_tree.specs.TypedTree.{TypedExpression}
 use Rattle.typed_tree.specs.TypedView.{kind_view, expression}
 use Rattle.typed_tree.specs.AffineForm.{is_zero, divisor_of, is_divisor, fits}
-use Rattle.typed_tree.specs.BrokenRules.{place_of}
+use Rattle.typed_tree.specs.BrokenRules.{expression_span}
 use Rattle.typed_tree.specs.BrokenOperation.{zero_literal, divisor_fault}
 
 pub is_zero_opposite : (z : ℤ) → is_zero (neg_ℤ z) ≡ is_zero z
@@ -20,7 +20,7 @@ is_zero_opposite (pos zero) = refl
 is_zero_opposite (pos (suc n)) = refl
 is_zero_opposite (negsuc n) = refl
 
-kind_place : (s : Span) (k : TExprKind) → place_of (kind_view s k) ≡ s
+kind_place : (s : Span) (k : TExprKind) → expression_span (kind_view s k) ≡ s
 kind_place s (kinds.Lit n) = refl
 kind_place s (kinds.Truth b) = refl
 kind_place s (kinds.Var c) = refl
@@ -30,7 +30,7 @@ kind_place s (kinds.Neg' p s1 k) = refl
 kind_place s (kinds.Bin' op p s1 a q s2 b) = refl
 
 -- an expression stands where its tree says
-pub place_seen : (e : TExpr) → place_of (expression e) ≡ e.span
+pub place_seen : (e : TExpr) → expression_span (expression e) ≡ e.span
 place_seen e = kind_place e.span e.kind
 
 divisor_by : (o : Option ℤ) (r : Option Bool) → r ≡ option_map is_zero o → r ≡ Some false → is_divisor o ≡ true

@@ -1,7 +1,8 @@
 -- The parts of expressions, and where a rule is broken.
-use Rattle.std.proofs.Common.{◌≡◌, ◌⊎◌, inl, inr, Bool, true, false, ◌&&◌, ◌||◌, ℤ, negsuc, Option, None, Some, Result, Ok, Err, refl, ap, sym, ◌∙◌, subst}
+use Rattle.std.proofs.Common.{◌≡◌, ◌⊎◌, inl, inr, Bool, true, false, ◌&&◌, ◌||◌, ℤ, negsuc, Option, None, Some, Result, Ok, Err, Box, refl, ap, sym, ◌∙◌, subst}
 use Rattle.std.specs.List.{list_all}
 use Rattle.std.specs.Option.{option_map}
+use Rattle.std.specs.declared.alloc.Global.{Global}
 use Rattle.std.proofs.lemmas.Bool.{and_from, not-false, true≢false}
 use Rattle.boogie_tree.specs.declared.span.Span.{Span}
 use Rattle.boogie_tree.specs.declared.tree.Column.{Column}
@@ -45,7 +46,7 @@ right_fault s old at op a b f (inr h) = inr (in_right old at op a b f h)
 
 -- ---- `old`
 
-pub old_answer : (s : Scope) (old : Bool) (at : Span) (e : TypedExpression) (r : Result Part TypeFault) → s.old ≡ true → IsAnswer s true e r → IsAnswer s old (Old at e) r
+pub old_answer : (s : Scope) (old : Bool) (at : Span) (e : TypedExpression) (r : Result (Box Part Global) TypeFault) → s.old ≡ true → IsAnswer s true e r → IsAnswer s old (Old at e) r
 old_answer s old at e (Ok p) h a = record { typed = rw h a.typed; linear = a.linear; fit = a.fit; seen = a.seen }
 old_answer s old at e (Err f) h a = old_fault s old at e f a
 

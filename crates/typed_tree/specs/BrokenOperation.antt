@@ -8,7 +8,7 @@ use Rattle.typed_tree.specs.declared.fault.TypeFault.{TypeFault}
 use Rattle.typed_tree.specs.declared.fault.TypeFault.TheVariants as fault
 use Rattle.typed_tree.specs.TypedTree.{TypedExpression}
 use Rattle.typed_tree.specs.AffineForm.{Form, is_constant, is_zero, divisor_of, is_divisor}
-use Rattle.typed_tree.specs.BrokenRules.{place_of}
+use Rattle.typed_tree.specs.BrokenRules.{expression_span}
 
 -- whether the literal is 0, where the expression is one or one after a `-`
 abbrev pub zero_literal : TypedExpression → Option Bool
@@ -23,8 +23,8 @@ keeps_operator op a b e = true
 
 -- the fault of a divisor: at its place
 abbrev pub divisor_fault : Option Bool → TypedExpression → TypeFault
-divisor_fault None e = fault.NonLinear (place_of e)
-divisor_fault (Some zero) e = fault.ZeroDivisor (place_of e)
+divisor_fault None e = fault.NonLinear (expression_span e)
+divisor_fault (Some zero) e = fault.ZeroDivisor (expression_span e)
 
 -- the fault of an operator whose rule is broken
 abbrev pub operator_fault : Op → Span → TypedExpression → TypeFault

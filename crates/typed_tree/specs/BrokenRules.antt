@@ -15,14 +15,14 @@ use Rattle.typed_tree.specs.Typing.{type_of, same_type, operation_type}
 use Rattle.typed_tree.specs.AffineForm.{form, form_fits, is_constant, divisor_of, is_zero, fits}
 
 -- where an expression stands
-abbrev pub place_of : TypedExpression → Span
-place_of (Lit at n) = at
-place_of (Truth at b) = at
-place_of (Var at c) = at
-place_of (Old at e) = at
-place_of (Not at e) = at
-place_of (Neg at e) = at
-place_of (Bin at op a b) = at
+abbrev pub expression_span : TypedExpression → Span
+expression_span (Lit at n) = at
+expression_span (Truth at b) = at
+expression_span (Var at c) = at
+expression_span (Old at e) = at
+expression_span (Not at e) = at
+expression_span (Neg at e) = at
+expression_span (Bin at op a b) = at
 
 abbrev pub is_division : Op → Bool
 is_division Div = true
@@ -46,8 +46,8 @@ pub data IsBroken (s : Scope) : Bool → TypedExpression → TypeFault → Type 
   no_number : (old : Bool) (at : Span) (e : TypedExpression) → type_of s e ≡ Some types.Bool → IsBroken s old (Neg at e) (fault.Mismatch at)
   ill_typed : (old : Bool) (at : Span) (op : Op) (a b : TypedExpression) (t u : Ty) → type_of s a ≡ Some t → type_of s b ≡ Some u → operation_type op t u ≡ None → IsBroken s old (Bin at op a b) (fault.Mismatch at)
   -- divisors that are 0, or no literal
-  zero_divisor : (old : Bool) (at : Span) (op : Op) (a b : TypedExpression) (k : ℤ) → is_division op ≡ true → divisor_of b ≡ Some k → is_zero k ≡ true → IsBroken s old (Bin at op a b) (fault.ZeroDivisor (place_of b))
-  no_literal : (old : Bool) (at : Span) (op : Op) (a b : TypedExpression) → is_division op ≡ true → divisor_of b ≡ None → IsBroken s old (Bin at op a b) (fault.NonLinear (place_of b))
+  zero_divisor : (old : Bool) (at : Span) (op : Op) (a b : TypedExpression) (k : ℤ) → is_division op ≡ true → divisor_of b ≡ Some k → is_zero k ≡ true → IsBroken s old (Bin at op a b) (fault.ZeroDivisor (expression_span b))
+  no_literal : (old : Bool) (at : Span) (op : Op) (a b : TypedExpression) → is_division op ≡ true → divisor_of b ≡ None → IsBroken s old (Bin at op a b) (fault.NonLinear (expression_span b))
   -- a product without a constant factor
   no_factor : (old : Bool) (at : Span) (a b : TypedExpression) → is_constant (form (fixed s) old a) ≡ false → is_constant (form (fixed s) old b) ≡ false → IsBroken s old (Bin at Mul a b) (fault.NonLinear at)
   -- a form with a number that does not fit

@@ -1,5 +1,6 @@
 -- The forms of the code, and the typed parts of expressions, as contracts see them.
-use Rattle.std.specs.Prelude.{◌≡◌, Bool, true, false, Some, ◌⊎◌, Result, MatchResult}
+use Rattle.std.specs.Prelude.{◌≡◌, Bool, true, false, Some, ◌⊎◌, Result, MatchResult, Box}
+use Rattle.std.specs.declared.alloc.Global.{Global}
 use Rattle.boogie_tree.specs.declared.tree.Ty.{Ty}
 use Rattle.boogie_tree.specs.declared.tree.Column.{Column}
 use Rattle.typed_tree.specs.declared.form.Form as code
@@ -31,17 +32,17 @@ abbrev pub IsPartFault : Scope → Bool → TypedExpression → TypeFault → Ty
 IsPartFault s old e f = (f ≡ fault.Memory) ⊎ IsBroken s old e f
 
 -- what is answered for an expression: its part, or a fault
-abbrev pub IsAnswer : Scope → Bool → TypedExpression → Result Part TypeFault → Type 0
-IsAnswer s old e r = MatchResult r (IsPart s old e) (IsPartFault s old e)
+abbrev pub IsAnswer : Scope → Bool → TypedExpression → Result (Box Part Global) TypeFault → Type 0
+IsAnswer s old e r = MatchResult r (λ p. IsPart s old e p.value) (IsPartFault s old e)
 
 -- The same for `!`, `-` and the other operators, given the parts of the operands, whatever expressions these are.
-abbrev pub IsNotAnswer : Span → Part → Result Part TypeFault → Type 0
+abbrev pub IsNotAnswer : Span → Part → Result (Box Part Global) TypeFault → Type 0
 IsNotAnswer at p r = (s : Scope) (old : Bool) (e : TypedExpression) → IsPart s old e p → IsAnswer s old (Not at e) r
 
-abbrev pub IsNegAnswer : Span → Part → Result Part TypeFault → Type 0
+abbrev pub IsNegAnswer : Span → Part → Result (Box Part Global) TypeFault → Type 0
 IsNegAnswer at p r = (s : Scope) (old : Bool) (e : TypedExpression) → IsPart s old e p → IsAnswer s old (Neg at e) r
 
-abbrev pub IsOperationAnswer : Span → Op → TypedExpression → Part → Part → Result Part TypeFault → Type 0
+abbrev pub IsOperationAnswer : Span → Op → TypedExpression → Part → Part → Result (Box Part Global) TypeFault → Type 0
 IsOperationAnswer at op b p q r =
     (s : Scope) (old : Bool) (a : TypedExpression) → IsPart s old a p → IsPart s old b q → IsAnswer s old (Bin at op a b) r
 

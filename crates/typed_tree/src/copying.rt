@@ -101,7 +101,7 @@ fn plain<T: Copy>(parts: &Vec<T>) -> Result<Vec<T>, AllocError>
 }
 
 /// Equal expressions, in order.
-fn expressions(parts: &Vec<TExpr>) -> Result<Vec<TExpr>, AllocError>
+pub fn expressions(parts: &Vec<TExpr>) -> Result<Vec<TExpr>, AllocError>
     ensures { IfOk result (λ copied. map view.expression copied.items ≡ map view.expression parts.now.items) }
 {
     let mut copied = Vec::with_capacity(*parts.allocator(), parts.len())?;
@@ -134,7 +134,7 @@ fn specifications(parts: &Vec<TSpec>) -> Result<Vec<TSpec>, AllocError>
 }
 
 /// Equal variables, in order.
-fn variables(parts: &Vec<VarInfo>) -> Result<Vec<VarInfo>, AllocError>
+pub fn variables(parts: &Vec<VarInfo>) -> Result<Vec<VarInfo>, AllocError>
     ensures { IfOk result (λ copied. copied.items ≡ parts.now.items) }
 {
     let mut copied = Vec::with_capacity(*parts.allocator(), parts.len())?;

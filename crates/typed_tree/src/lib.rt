@@ -2,7 +2,7 @@
 #![tactic(auto)]
 
 mod columns;
-mod copying;
+pub mod copying;
 mod fault;
 mod form;
 mod forms;
@@ -11,6 +11,7 @@ mod merging;
 mod numbers;
 mod operations;
 mod scope;
+pub mod signatures;
 mod types;
 mod typing;
 

@@ -2,7 +2,7 @@
 
 ghost use Rattle.std.specs.Prelude.{◌≡◌, ◌⊎◌, Bool, true, false, Some, Err, IfOk, IfErr, IsOk, IsErr};
 ghost use Rattle.std.specs.Option.{option_copied, option_map};
-ghost use Rattle.typed_tree.specs.TypedTree.{Lit, Var};
+ghost use Rattle.typed_tree.specs.TypedTree.{Lit, Truth, Var};
 ghost use Rattle.typed_tree.specs.TypedView.{expression};
 ghost use Rattle.typed_tree.specs.Scope.{seen, variable_at, fixed};
 ghost use Rattle.typed_tree.specs.Typing.{type_of, operand_type, result_type, operation_type};
@@ -19,7 +19,7 @@ use crate::operations::{operation, times};
 use crate::scope::Scope;
 use crate::types::{TExpr, TExprKind};
 use boogie_tree::{Column, Op, Span, Ty, VarInfo};
-use std::alloc::Global;
+use std::alloc::{AllocError, Global};
 
 /// The type and the form of a part of an expression.
 #[derive(Drop)]
@@ -40,16 +40,19 @@ pub fn expression_type(alloc: Global, scope: &Scope<'_>, expr: &TExpr) -> Result
     Ok(part.ty)
 }
 
-/// An expression that is read at the procedure's entry or now.
-fn part_of(alloc: Global, scope: &Scope<'_>, old: bool, expr: &TExpr) -> Result<Part, TypeFault>
+/// An expression that is read at the procedure's entry or now. Parts are kept on the heap, since this recurses as deep as expressions
+/// are nested, and a part is large.
+fn part_of(
+    alloc: Global,
+    scope: &Scope<'_>,
+    old: bool,
+    expr: &TExpr,
+) -> Result<Box<Part>, TypeFault>
     ensures { IsAnswer (seen scope.now) old (expression expr.now) result }
 {
     match &expr.kind {
         TExprKind::Lit(n) => literal(alloc, scope, old, expr.span, n),
-        TExprKind::Truth(_) => {
-            let form = Form::number(alloc, 0);
-            Ok(Part { ty: Ty::Bool, form })
-        }
+        TExprKind::Truth(value) => truth(alloc, scope, old, expr.span, *value),
         TExprKind::Var(column) => variable(alloc, scope, old, expr.span, *column),
         TExprKind::Old(inner) => {
             if scope.old {
@@ -75,15 +78,15 @@ fn part_of(alloc: Global, scope: &Scope<'_>, old: bool, expr: &TExpr) -> Result<
 }
 
 /// `!` at that place before a part, which it takes.
-fn negated(alloc: Global, at: Span, part: Part) -> Result<Part, TypeFault>
-    ensures { IsNotAnswer at part result }
+fn negated(alloc: Global, at: Span, part: Box<Part>) -> Result<Box<Part>, TypeFault>
+    ensures { IsNotAnswer at part.value result }
 {
     negation(alloc, at, &part)
 }
 
 /// A `-` at that place before a part, which it takes.
-fn opposed(alloc: Global, at: Span, part: Part) -> Result<Part, TypeFault>
-    ensures { IsNegAnswer at part result }
+fn opposed(alloc: Global, at: Span, part: Box<Part>) -> Result<Box<Part>, TypeFault>
+    ensures { IsNegAnswer at part.value result }
 {
     opposite(alloc, at, &part)
 }
@@ -93,13 +96,34 @@ fn combined(
     alloc: Global,
     at: Span,
     op: Op,
-    first: Part,
-    second: Part,
+    first: Box<Part>,
+    second: Box<Part>,
     right: &TExpr,
-) -> Result<Part, TypeFault>
-    ensures { IsOperationAnswer at op (expression right.now) first second result }
+) -> Result<Box<Part>, TypeFault>
+    ensures { IsOperationAnswer at op (expression right.now) first.value second.value result }
 {
     operated(alloc, at, op, &first, &second, right)
+}
+
+/// A part on the heap.
+fn boxed_part(alloc: Global, ty: Ty, form: Form) -> Result<Box<Part>, AllocError>
+    ensures ty { IfOk result (λ p. p.value.ty ≡ ty) }
+    ensures form { IfOk result (λ p. p.value.form ≡ form) }
+{
+    Ok(Box::new(alloc, Part { ty, form })?)
+}
+
+/// A truth value.
+fn truth(
+    alloc: Global,
+    scope: &Scope<'_>,
+    old: bool,
+    at: Span,
+    value: bool,
+) -> Result<Box<Part>, TypeFault>
+    ensures { IsAnswer (seen scope.now) old (Truth at value) result }
+{
+    Ok(boxed_part(alloc, Ty::Bool, Form::number(alloc, 0))?)
 }
 
 /// A number.
@@ -109,14 +133,13 @@ fn literal(
     old: bool,
     at: Span,
     n: &i128,
-) -> Result<Part, TypeFault>
+) -> Result<Box<Part>, TypeFault>
     ensures { IsAnswer (seen scope.now) old (Lit at n.now) result }
 {
     if *n == i128::MIN {
         return Err(TypeFault::TooBig(at));
     }
-    let form = Form::number(alloc, *n);
-    Ok(Part { ty: Ty::Int, form })
+    Ok(boxed_part(alloc, Ty::Int, Form::number(alloc, *n))?)
 }
 
 /// A variable.
@@ -126,37 +149,33 @@ fn variable(
     old: bool,
     at: Span,
     column: Column,
-) -> Result<Part, TypeFault>
+) -> Result<Box<Part>, TypeFault>
     ensures { IsAnswer (seen scope.now) old (Var at column) result }
 {
     let Some(variable) = variable_at(scope, column) else {
         return Err(TypeFault::Unknown(at));
     };
-    let ty = variable.ty;
     let form = Form::once(alloc, form_column(scope.globals, old, column))?;
-    Ok(Part { ty, form })
+    Ok(boxed_part(alloc, variable.ty, form)?)
 }
 
 /// `!` at that place.
-fn negation(alloc: Global, at: Span, part: &Part) -> Result<Part, TypeFault>
+fn negation(alloc: Global, at: Span, part: &Part) -> Result<Box<Part>, TypeFault>
     ensures { IsNotAnswer at part.now result }
 {
     match part.ty {
         Ty::Int => Err(TypeFault::Mismatch(at)),
-        Ty::Bool => {
-            let form = Form::number(alloc, 0);
-            Ok(Part { ty: Ty::Bool, form })
-        }
+        Ty::Bool => Ok(boxed_part(alloc, Ty::Bool, Form::number(alloc, 0))?),
     }
 }
 
 /// A `-` before one operand, at that place.
-fn opposite(alloc: Global, at: Span, part: &Part) -> Result<Part, TypeFault>
+fn opposite(alloc: Global, at: Span, part: &Part) -> Result<Box<Part>, TypeFault>
     ensures { IsNegAnswer at part.now result }
 {
     match part.ty {
         Ty::Int => match times(alloc, -1, &part.form) {
-            Ok(form) => Ok(Part { ty: Ty::Int, form }),
+            Ok(form) => Ok(boxed_part(alloc, Ty::Int, form)?),
             Err(AffineFault::TooBig) => Err(TypeFault::TooBig(at)),
             Err(AffineFault::Memory) => Err(TypeFault::Memory),
         },
@@ -172,7 +191,7 @@ fn operated(
     first: &Part,
     second: &Part,
     right: &TExpr,
-) -> Result<Part, TypeFault>
+) -> Result<Box<Part>, TypeFault>
     ensures { IsOperationAnswer at op (expression right.now) first.now second.now result }
 {
     let Some(ty) = operation_type(op, first.ty, second.ty) else {
@@ -180,7 +199,7 @@ fn operated(
     };
     check_operator(op, at, &first.form, &second.form, right)?;
     match operation(alloc, op, &first.form, &second.form) {
-        Ok(form) => Ok(Part { ty, form }),
+        Ok(form) => Ok(boxed_part(alloc, ty, form)?),
         Err(AffineFault::TooBig) => Err(TypeFault::TooBig(at)),
         Err(AffineFault::Memory) => Err(TypeFault::Memory),
     }

@@ -1,5 +1,5 @@
 -- The places of branches and loops, from the counts of their parts.
-use Rattle.std.proofs.Common.{◌≡◌, ℕ, ◌+◌, ◌^◌, List, length, arith}
+use Rattle.std.proofs.Common.{◌≡◌, ℕ, ◌+◌, List, length, arith}
 use Rattle.boogie_tree.specs.declared.span.Span.{Span}
 use Rattle.typed_tree.specs.TypedTree.{TypedGuard, TypedInvariant, TypedBlock, TypedProcedure, If, While}
 use Rattle.typing_rules.specs.Counts.{plain_invariants}

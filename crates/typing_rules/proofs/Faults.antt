@@ -10,7 +10,7 @@ use Rattle.typed_tree.specs.declared.types.TExprKind.{TExprKind}
 use Rattle.typed_tree.specs.declared.types.TExprKind.TheVariants as kinds
 use Rattle.typed_tree.specs.TypedView.{expression, kind_view}
 use Rattle.typed_tree.specs.Typing.{type_of, same_type}
-use Rattle.typed_tree.specs.BrokenRules.{place_of}
+use Rattle.typed_tree.specs.BrokenRules.{expression_span}
 use Rattle.typed_tree.specs.KeptRules.{is_right, is_arithmetic}
 use Rattle.typed_tree.specs.TypedTree.{TypedExpression, Cond, TypedProcedure, Call}
 use Rattle.typed_tree.specs.Scope.{Scope, variable_at, fixed}
@@ -43,7 +43,7 @@ value_fault s t e f h = go (expression_fault s e f h)
     go (inl m) = inl m
     go (inr p) = inr (inside e f p)
 
-place_of_kind : (s : Span) (k : TExprKind) → place_of (kind_view s k) ≡ s
+place_of_kind : (s : Span) (k : TExprKind) → expression_span (kind_view s k) ≡ s
 place_of_kind s (kinds.Lit n) = refl
 place_of_kind s (kinds.Truth b) = refl
 place_of_kind s (kinds.Var c) = refl

@@ -1,5 +1,5 @@
 -- A frame behind a loop and behind a list is as it was.
-use Rattle.std.proofs.Common.{◌≡◌, ℕ, ◌+◌, ◌-◌, true, List, ◌++◌, length, length-append, drop, ap, sym, ◌∙◌, subst, arith}
+use Rattle.std.proofs.Common.{◌≡◌, ℕ, ◌+◌, ◌-◌, true, List, ◌++◌, length, length-append, drop, ap, ◌∙◌, subst, arith}
 use Rattle.std.proofs.Math.Seq.{drop-append_seam}
 use Rattle.typed_tree.specs.TypedTree.{TypedBlock}
 use Rattle.typing_rules.specs.declared.frame.Frame.{Frame}

@@ -142,37 +142,37 @@ then_fault k s at g a seen_a b f i j h =
     go (inl m) = inl m
     go (inr p) = inr (in_then k at g a b f p)
 
-pub if_judged : (k inner : Frame) (r : Result Frame TypeFault) (s : TypedStatement) (at : Span) (g : TypedGuard) (a seen_a b seen_b : TypedBlock) →
+pub if_judged : {T : Type 0} (k inner out : Frame) (r : Result T TypeFault) (s : TypedStatement) (at : Span) (g : TypedGuard) (a seen_a b seen_b : TypedBlock) →
     s ≡ If at g a b → seen_a ≡ a → seen_b ≡ b → is_head (context k) s ≡ true →
     inner ≡ k → is_block (within (context k) seen_a) seen_a ≡ true →
-    JudgesIn inner r (is_block (within (context inner) seen_b) seen_b) (IsBlockBroken (within (context inner) seen_b) seen_b) →
-    JudgesIn k r (is_statement (context k) s) (IsStatementBroken (context k) s)
-if_judged k inner r s at g a seen_a b seen_b i ja jb head e kept h =
-    subst (λ (x : TypedStatement). JudgesIn k r (is_statement (context k) x) (IsStatementBroken (context k) x)) (sym i)
+    JudgesIn inner out r (is_block (within (context inner) seen_b) seen_b) (IsBlockBroken (within (context inner) seen_b) seen_b) →
+    JudgesIn k out r (is_statement (context k) s) (IsStatementBroken (context k) s)
+if_judged k inner out r s at g a seen_a b seen_b i ja jb head e kept h =
+    subst (λ (x : TypedStatement). JudgesIn k out r (is_statement (context k) x) (IsStatementBroken (context k) x)) (sym i)
     (go r (subst (λ (x : TypedStatement). is_head (context k) x ≡ true) i head)
     (subst (λ (x : TypedBlock). is_block (within (context k) x) x ≡ true) ja kept)
-    (subst (λ (x : TypedBlock). JudgesIn k r (is_block (within (context k) x) x) (IsBlockBroken (within (context k) x) x)) jb
-    (subst (λ (x : Frame). JudgesIn x r (is_block (within (context x) seen_b) seen_b) (IsBlockBroken (within (context x) seen_b) seen_b)) e h)))
+    (subst (λ (x : TypedBlock). JudgesIn k out r (is_block (within (context k) x) x) (IsBlockBroken (within (context k) x) x)) jb
+    (subst (λ (x : Frame). JudgesIn x out r (is_block (within (context x) seen_b) seen_b) (IsBlockBroken (within (context x) seen_b) seen_b)) e h)))
   where
-    go : (r : Result Frame TypeFault) → is_guard (context k).scope g ≡ true → is_block (within (context k) a) a ≡ true →
-        JudgesIn k r (is_block (within (context k) b) b) (IsBlockBroken (within (context k) b) b) →
-        JudgesIn k r (is_statement (context k) (If at g a b)) (IsStatementBroken (context k) (If at g a b))
+    go : {U : Type 0} (r : Result U TypeFault) → is_guard (context k).scope g ≡ true → is_block (within (context k) a) a ≡ true →
+        JudgesIn k out r (is_block (within (context k) b) b) (IsBlockBroken (within (context k) b) b) →
+        JudgesIn k out r (is_statement (context k) (If at g a b)) (IsStatementBroken (context k) (If at g a b))
     go (Ok x) u v w = (w.0, rw (u, v) w.1)
     go (Err f) u v (inl m) = inl m
     go (Err f) u v (inr p) = inr (in_else (context k) at g a b f p)
 
-pub while_judged : (k : Frame) (r : Result Frame TypeFault) (s : TypedStatement) (at : Span) (g : TypedGuard) (is : List TypedInvariant) (b seen_b : TypedBlock) →
+pub while_judged : {T : Type 0} (k out : Frame) (r : Result T TypeFault) (s : TypedStatement) (at : Span) (g : TypedGuard) (is : List TypedInvariant) (b seen_b : TypedBlock) →
     s ≡ While at g is b → seen_b ≡ b → is_head (context k) s ≡ true →
-    JudgesIn k r (is_block (within (looped (context k)) seen_b) seen_b) (IsBlockBroken (within (looped (context k)) seen_b) seen_b) →
-    JudgesIn k r (is_statement (context k) s) (IsStatementBroken (context k) s)
-while_judged k r s at g is b seen_b i j head h =
-    subst (λ (x : TypedStatement). JudgesIn k r (is_statement (context k) x) (IsStatementBroken (context k) x)) (sym i)
+    JudgesIn k out r (is_block (within (looped (context k)) seen_b) seen_b) (IsBlockBroken (within (looped (context k)) seen_b) seen_b) →
+    JudgesIn k out r (is_statement (context k) s) (IsStatementBroken (context k) s)
+while_judged k out r s at g is b seen_b i j head h =
+    subst (λ (x : TypedStatement). JudgesIn k out r (is_statement (context k) x) (IsStatementBroken (context k) x)) (sym i)
     (go r (is_guard (context k).scope g) (list_all (is_invariant (context k).scope) is) refl refl (subst (λ (x : TypedStatement). is_head (context k) x ≡ true) i head)
-    (subst (λ (x : TypedBlock). JudgesIn k r (is_block (within (looped (context k)) x) x) (IsBlockBroken (within (looped (context k)) x) x)) j h))
+    (subst (λ (x : TypedBlock). JudgesIn k out r (is_block (within (looped (context k)) x) x) (IsBlockBroken (within (looped (context k)) x) x)) j h))
   where
-    go : (r : Result Frame TypeFault) (u v : Bool) → is_guard (context k).scope g ≡ u → list_all (is_invariant (context k).scope) is ≡ v → (u && v) ≡ true →
-        JudgesIn k r (is_block (within (looped (context k)) b) b) (IsBlockBroken (within (looped (context k)) b) b) →
-        JudgesIn k r (is_statement (context k) (While at g is b)) (IsStatementBroken (context k) (While at g is b))
+    go : {U : Type 0} (r : Result U TypeFault) (u v : Bool) → is_guard (context k).scope g ≡ u → list_all (is_invariant (context k).scope) is ≡ v → (u && v) ≡ true →
+        JudgesIn k out r (is_block (within (looped (context k)) b) b) (IsBlockBroken (within (looped (context k)) b) b) →
+        JudgesIn k out r (is_statement (context k) (While at g is b)) (IsStatementBroken (context k) (While at g is b))
     go (Ok x) true true y z t w = (w.0, rw (y, z) w.1)
     go (Ok x) true false y z t w = absurd (grind arith)
     go (Ok x) false v y z t w = absurd (grind arith)

@@ -12,14 +12,14 @@ use Rattle.typed_tree.specs.declared.fault.TypeFault.TheVariants as fault
 use Rattle.typed_tree.specs.TypedTree.{TypedExpression, TypedGuard, Cond, TypedInvariant, TypedStatement, Assert, Assume, Havoc, Assign, Call, If, While, Break, Goto, TypedBlock, Then, TypedSpecification, Requires, Ensures, TypedProcedure, TypedProgram}
 use Rattle.typed_tree.specs.Scope.{Scope, axiom_scope, requires_scope, body_scope, variable_at}
 use Rattle.typed_tree.specs.Typing.{type_of, same_type}
-use Rattle.typed_tree.specs.BrokenRules.{IsBroken, place_of}
+use Rattle.typed_tree.specs.BrokenRules.{IsBroken, expression_span}
 use Rattle.std.specs.Prelude.{take, ◌+◌}
 use Rattle.typing_rules.specs.Rules.{Context, all_differ, is_member, same_column, column_has, params_of, results_of, within, looped, context_of}
 
 -- a value that is to have that type
 pub data IsValueBroken (s : Scope) (t : Ty) : TypedExpression → TypeFault → Type 0 where
   inside : (e : TypedExpression) (f : TypeFault) → IsBroken s false e f → IsValueBroken s t e f
-  of_other_type : (e : TypedExpression) (u : Ty) → type_of s e ≡ Some u → same_type t u ≡ false → IsValueBroken s t e (fault.Mismatch (place_of e))
+  of_other_type : (e : TypedExpression) (u : Ty) → type_of s e ≡ Some u → same_type t u ≡ false → IsValueBroken s t e (fault.Mismatch (expression_span e))
 
 abbrev pub IsConditionBroken : Scope → TypedExpression → TypeFault → Type 0
 IsConditionBroken s e f = IsValueBroken s types.Bool e f

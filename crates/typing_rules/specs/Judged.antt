@@ -34,9 +34,9 @@ abbrev pub context : Frame → Context
 context k =
     record { scope = seen k.scope; procs = map view.procedure k.procs.now; modifies = k.modifies; labels = k.labels; loops = k.loops }
 
--- Ok with the frame as it was where the test holds, and a fault of that kind
-abbrev pub JudgesIn : Frame → Result Frame TypeFault → Bool → (TypeFault → Type 0) → Type 0
-JudgesIn k r kept Broken = MatchResult r (λ x. (x ≡ k) × (kept ≡ true)) (IsFaultOf Broken)
+-- Ok with the frame as it was, and then as it is, where the test holds, and a fault of that kind
+abbrev pub JudgesIn : {T : Type 0} → Frame → Frame → Result T TypeFault → Bool → (TypeFault → Type 0) → Type 0
+JudgesIn k j r kept Broken = MatchResult r (λ x. (j ≡ k) × (kept ≡ true)) (IsFaultOf Broken)
 
 -- the rules of a statement, the lists inside it left out
 abbrev pub is_head : Context → TypedStatement → Bool

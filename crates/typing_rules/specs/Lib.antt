@@ -1,4 +1,3 @@
-pub mod Names
 pub mod TypedParts
 pub mod Rules
 pub mod Shape

@@ -6,7 +6,7 @@ use Rattle.boogie_tree.specs.declared.tree.Ty.{Ty}
 use Rattle.boogie_tree.specs.declared.tree.Ty.TheVariants as types
 use Rattle.boogie_tree.specs.declared.tree.VarInfo.{VarInfo}
 use Rattle.typed_tree.specs.TypedTree.{TypedExpression, Lit, Truth, Var, Not, TypedStatement, Call, If, While, Label, TypedBlock, Empty, Then, TypedProcedure, TypedProgram}
-use Rattle.typing_rules.specs.Names.{is_spelled}
+use Rattle.boogie_tree.specs.Names.{is_spelled}
 use Rattle.typing_rules.specs.Rules.{all_differ, meets, params_of}
 
 -- a literal, a variable, or `!` before a variable

@@ -4,8 +4,8 @@ ghost use Rattle.std.specs.Prelude.{◌≡◌, map, slice_get};
 ghost use Rattle.typed_tree.specs.TypedView as view;
 ghost use Rattle.typing_rules.specs.Shape as shape;
 
-use crate::calls::params;
 use boogie_tree::{Ty, VarInfo};
+use typed_tree::signatures::params;
 use typed_tree::{TExpr, TExprKind, TProc, TStmt};
 
 /// Whether it is a literal, a variable, or `!` before a variable.

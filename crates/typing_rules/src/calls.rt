@@ -9,28 +9,12 @@ ghost use Rattle.typing_rules.specs.Rules.{params_of, results_of, arguments_agre
 ghost use Rattle.typing_rules.specs.BrokenTyping.{IsCallBroken, IsStatementBroken};
 ghost use Rattle.typing_rules.specs.Judged.{Judges, context};
 
-use crate::frame::{Frame, after, front, variable};
+use crate::frame::{Frame, variable};
 use crate::targets::targets;
 use crate::values::{same, value};
 use boogie_tree::{Column, Span, VarInfo};
+use typed_tree::signatures::{params, results};
 use typed_tree::{TExpr, TProc, TypeFault};
-
-/// The parameters of a procedure.
-pub(crate) fn params(called: &TProc) -> &[VarInfo]
-    ensures { result.now ≡ params_of (view.procedure called.now) }
-{
-    front(&called.locals, called.params as usize)
-}
-
-/// The results of a procedure.
-pub(crate) fn results(called: &TProc) -> &[VarInfo]
-    ensures { result.now ≡ results_of (view.procedure called.now) }
-{
-    front(
-        after(&called.locals, called.params as usize),
-        called.results as usize,
-    )
-}
 
 /// Whether there is one argument for each parameter, of its type.
 fn arguments(

@@ -1,6 +1,6 @@
 //! The labels that a goto may name: those of the lists around it.
 
-ghost use Rattle.std.specs.Prelude.{◌≡◌, ◌++◌, ◌∷◌, ◌-◌, [], List, length, drop, map, IfOk, Option};
+ghost use Rattle.std.specs.Prelude.{◌≡◌, ◌++◌, ◌∷◌, ◌-◌, [], List, length, drop, map, OnOk, Option};
 ghost use Rattle.typed_tree.specs.TypedView as view;
 ghost use Rattle.typing_rules.specs.Rules.{is_member, own_labels};
 ghost use Rattle.typing_rules.specs.LabelNumber.{label_number};
@@ -52,55 +52,49 @@ impl Labels {
         self.counts.get(&label).copied().unwrap_or(0) > 0
     }
 
-    /// One more in front.
-    fn push(self, label: u32) -> Result<Labels, AllocError>
-        ensures { IfOk result (λ l. l ≡ label ∷ self) }
+    /// Puts one more in front.
+    fn push(&mut self, label: u32) -> Result<(), AllocError>
+        ensures { OnOk result (self.new ≡ label ∷ self.old) }
     {
-        let mut stack = self.stack;
-        let mut counts = self.counts;
-        stack.push(label)?;
-        let count = counts.get(&label).copied().unwrap_or(0);
-        counts.insert(label, count + 1)?;
-        Ok(Labels { stack, counts })
+        self.stack.reserve(1)?;
+        let count = self.counts.get(&label).copied().unwrap_or(0);
+        self.counts.insert(label, count + 1)?;
+        self.stack.push_reserved(label);
+        Ok(())
     }
 
-    /// Without the first one.
-    fn pop(self) -> Result<Labels, AllocError>
-        ensures { IfOk result (λ l. l ≡ drop 1 self) }
+    /// Takes the first one out.
+    fn pop(&mut self)
+        ensures { self.new ≡ drop 1 self.old }
     {
-        let mut stack = self.stack;
-        let mut counts = self.counts;
-        if let Some(label) = stack.pop() {
-            let count = counts.get(&label).copied().unwrap_or(0);
-            counts.insert(label, count - 1)?;
+        if let Some(label) = self.stack.pop() {
+            if let Some(count) = self.counts.get_mut(&label) {
+                *count -= 1;
+            }
         }
-        Ok(Labels { stack, counts })
     }
 
-    /// With those of one more list.
-    pub(crate) fn enter(self, statements: &[TStmt]) -> Result<Labels, AllocError>
-        ensures { IfOk result (λ l. l ≡ own_labels (view.statements statements.now) ++ self) }
+    /// Puts those of one more list in front.
+    pub(crate) fn enter(&mut self, statements: &[TStmt]) -> Result<(), AllocError>
+        ensures { OnOk result (self.new ≡ own_labels (view.statements statements.now) ++ self.old) }
     {
-        let mut labels = self;
         let mut left = statements.len();
         while left > 0 {
             left -= 1;
             if let Some(label) = label_of(&statements[left]) {
-                labels = labels.push(label)?;
+                self.push(label)?;
             }
         }
-        Ok(labels)
+        Ok(())
     }
 
-    /// The last ones, so many.
-    pub(crate) fn leave(self, count: usize) -> Result<Labels, AllocError>
-        ensures { IfOk result (λ l. l ≡ drop (length self - count) self) }
+    /// Keeps the last ones, so many.
+    pub(crate) fn leave(&mut self, count: usize)
+        ensures { self.new ≡ drop (length self.old - count) self.old }
     {
-        let mut labels = self;
-        for _more in count..labels.count() {
-            labels = labels.pop()?;
+        for _more in count..self.count() {
+            self.pop();
         }
-        Ok(labels)
     }
 }
 

@@ -14,7 +14,6 @@ mod numbers;
 mod procedures;
 mod program;
 mod shape;
-mod spelling;
 mod statements;
 mod targets;
 mod validity;

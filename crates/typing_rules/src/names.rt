@@ -3,14 +3,14 @@
 ghost use Rattle.std.specs.Prelude.{◌≡◌, map, IfOk};
 ghost use Rattle.std.specs.List.{list_all};
 ghost use Rattle.std.specs.Str.{bytes_eq};
+ghost use Rattle.boogie_tree.specs.Names as spec;
 ghost use Rattle.typed_tree.specs.TypedView as view;
-ghost use Rattle.typing_rules.specs.Names as spec;
 ghost use Rattle.typing_rules.specs.Rules.{all_differ};
 ghost use Rattle.typing_rules.specs.Shape.{are_names};
 ghost use Rattle.typing_rules.specs.Texts.{texts};
 
-use crate::spelling::is_spelled;
 use boogie_tree::VarInfo;
+use boogie_tree::names::is_spelled;
 use std::alloc::{AllocError, Global};
 use std::collections::BTreeMap;
 use typed_tree::TProc;

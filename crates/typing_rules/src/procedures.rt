@@ -11,14 +11,14 @@ ghost use Rattle.typing_rules.specs.Rules.{params_of, is_specification, is_proce
 ghost use Rattle.typing_rules.specs.BrokenTyping.{IsSpecificationBroken, IsProcedureBroken, IsProgramBroken, IsTypingFault};
 ghost use Rattle.typing_rules.specs.Judged.{Judges, IsOneBroken, context};
 
-use crate::calls::params;
-use crate::frame::{Frame, front};
+use crate::frame::Frame;
 use crate::labels::Labels;
 use crate::numbers::Numbers;
 use crate::statements::block;
 use crate::values::{axioms, condition};
 use boogie_tree::VarInfo;
 use std::alloc::{AllocError, Global};
+use typed_tree::signatures::{params, signature};
 use typed_tree::{Scope, TExpr, TProc, TSpec, TypeFault};
 
 /// Axioms see constants.
@@ -61,8 +61,7 @@ fn body_scope<'a>(globals: &'a [VarInfo], locals: &'a [VarInfo]) -> Scope<'a>
 fn ensures_scope<'a>(globals: &'a [VarInfo], checked: &'a TProc) -> Scope<'a>
     ensures { seen result ≡ scopes.body_scope globals.now (take (checked.now.params + checked.now.results) checked.now.locals.items) }
 {
-    let count = checked.params as usize + checked.results as usize;
-    body_scope(globals, front(&checked.locals, count))
+    body_scope(globals, signature(checked))
 }
 
 fn specification(
@@ -122,7 +121,8 @@ fn body(
     match &checked.body {
         None => Ok(()),
         Some(listed) => {
-            block(frame_of(alloc, globals, procs, checked)?, listed)?;
+            let mut frame = frame_of(alloc, globals, procs, checked)?;
+            block(&mut frame, listed)?;
             Ok(())
         }
     }

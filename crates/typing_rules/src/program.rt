@@ -1,9 +1,10 @@
 ghost use Rattle.std.specs.Prelude.{◌≡◌, IfOk};
 
-use crate::copying::{expressions, procedures, variables};
+use crate::copying::procedures;
 use boogie_tree::VarInfo;
 use std::alloc::AllocError;
 use std::marker::Model;
+use typed_tree::copying::{expressions, variables};
 use typed_tree::{TExpr, TProc};
 
 /// A program for which the typing rules hold.

@@ -9,13 +9,12 @@ ghost use Rattle.typing_rules.specs.Shape as shape;
 ghost use Rattle.typing_rules.specs.TypedParts.{program_of};
 
 use crate::arguments::is_shaped_block;
-use crate::calls::params;
-use crate::frame::after;
 use crate::label_order::block_labels;
 use crate::names::{procedures_named, variables_named};
 use crate::numbers::differ;
 use boogie_tree::VarInfo;
 use std::alloc::{AllocError, Global};
+use typed_tree::signatures::{behind_params, params};
 use typed_tree::{TProc, TStmt};
 
 fn all_constant(variables: &[VarInfo]) -> bool
@@ -47,7 +46,7 @@ fn are_locals(shaped: &TProc) -> bool
     let named = shaped.params as usize + shaped.results as usize;
     named <= shaped.locals.len()
         && all_constant(params(shaped))
-        && none_constant(after(&shaped.locals, shaped.params as usize))
+        && none_constant(behind_params(shaped))
 }
 
 /// Whether there is a global with that number, and it is no constant.

@@ -10,7 +10,7 @@ ghost use Rattle.typing_rules.specs.BrokenTyping.{IsStatementBroken, IsBlockBrok
 ghost use Rattle.typing_rules.specs.Judged.{Judges, JudgesIn, IsLoopHeadBroken, context, is_head};
 
 use crate::calls::call;
-use crate::frame::{Frame, entered, left, one_loop_more, variable};
+use crate::frame::{Frame, variable};
 use crate::targets::targets;
 use crate::values::{condition, guard, invariants, value};
 use boogie_tree::{Column, Span};
@@ -116,50 +116,56 @@ fn head(frame: &Frame, statement: &TStmt) -> Result<(), TypeFault>
 
 /// Whether a statement keeps the rules. It recurses as deep as statements are nested, as dropping one does.
 #[cycle(statements)]
-fn statement<'a>(frame: Frame<'a>, checked: &TStmt) -> Result<Frame<'a>, TypeFault>
-    ensures { JudgesIn frame.entry result (is_statement (context frame.entry) (view.statement checked.now)) (IsStatementBroken (context frame.entry) (view.statement checked.now)) }
+fn statement(frame: &mut Frame<'_>, checked: &TStmt) -> Result<(), TypeFault>
+    ensures { JudgesIn frame.old frame.new result (is_statement (context frame.old) (view.statement checked.now)) (IsStatementBroken (context frame.old) (view.statement checked.now)) }
 {
-    head(&frame, checked)?;
+    head(frame, checked)?;
     match checked {
         TStmt::If(_, _, then, otherwise) => {
-            let frame = block(frame, then)?;
+            block(frame, then)?;
             block(frame, otherwise)
         }
         TStmt::While(_, _, _, body) => round(frame, body),
-        TStmt::Assert(_, _) | TStmt::Assume(_, _) | TStmt::Havoc(_, _) => Ok(frame),
-        TStmt::Assign(_, _, _) | TStmt::Call(_, _, _, _) | TStmt::Break(_, _) => Ok(frame),
-        TStmt::Goto(_, _) | TStmt::Return(_) | TStmt::Label(_) => Ok(frame),
+        TStmt::Assert(_, _) | TStmt::Assume(_, _) | TStmt::Havoc(_, _) => Ok(()),
+        TStmt::Assign(_, _, _) | TStmt::Call(_, _, _, _) | TStmt::Break(_, _) => Ok(()),
+        TStmt::Goto(_, _) | TStmt::Return(_) | TStmt::Label(_) => Ok(()),
     }
 }
 
 /// Whether the statements of a loop keep the rules.
 #[cycle(statements)]
-fn round<'a>(frame: Frame<'a>, body: &[TStmt]) -> Result<Frame<'a>, TypeFault>
-    ensures { JudgesIn frame.entry result (is_block (within (looped (context frame.entry)) (view.statements body.now)) (view.statements body.now)) (IsBlockBroken (within (looped (context frame.entry)) (view.statements body.now)) (view.statements body.now)) }
+fn round(frame: &mut Frame<'_>, body: &[TStmt]) -> Result<(), TypeFault>
+    ensures { JudgesIn frame.old frame.new result (is_block (within (looped (context frame.old)) (view.statements body.now)) (view.statements body.now)) (IsBlockBroken (within (looped (context frame.old)) (view.statements body.now)) (view.statements body.now)) }
 {
     let loops = frame.loops;
-    let frame = block(one_loop_more(frame)?, body)?;
-    Ok(Frame { loops, ..frame })
+    let Some(more) = loops.checked_add(1) else {
+        return Err(TypeFault::Memory);
+    };
+    frame.loops = more;
+    block(frame, body)?;
+    frame.loops = loops;
+    Ok(())
 }
 
 /// Whether the statements of a list keep the rules.
 #[cycle(statements)]
-pub(crate) fn block<'a>(frame: Frame<'a>, listed: &[TStmt]) -> Result<Frame<'a>, TypeFault>
-    ensures { JudgesIn frame.entry result (is_block (within (context frame.entry) (view.statements listed.now)) (view.statements listed.now)) (IsBlockBroken (within (context frame.entry) (view.statements listed.now)) (view.statements listed.now)) }
+pub(crate) fn block(frame: &mut Frame<'_>, listed: &[TStmt]) -> Result<(), TypeFault>
+    ensures { JudgesIn frame.old frame.new result (is_block (within (context frame.old) (view.statements listed.now)) (view.statements listed.now)) (IsBlockBroken (within (context frame.old) (view.statements listed.now)) (view.statements listed.now)) }
 {
     let count = frame.labels.count();
-    let inner = each(entered(frame, listed)?, listed)?;
-    Ok(left(inner, count)?)
+    frame.labels.enter(listed)?;
+    each(frame, listed)?;
+    frame.labels.leave(count);
+    Ok(())
 }
 
 /// Whether each statement keeps the rules.
 #[cycle(statements)]
-fn each<'a>(frame: Frame<'a>, listed: &[TStmt]) -> Result<Frame<'a>, TypeFault>
-    ensures { JudgesIn frame.entry result (is_block (context frame.entry) (view.statements listed.now)) (IsBlockBroken (context frame.entry) (view.statements listed.now)) }
+fn each(frame: &mut Frame<'_>, listed: &[TStmt]) -> Result<(), TypeFault>
+    ensures { JudgesIn frame.old frame.new result (is_block (context frame.old) (view.statements listed.now)) (IsBlockBroken (context frame.old) (view.statements listed.now)) }
 {
-    let mut frame = frame;
     for checked in listed {
-        frame = statement(frame, checked)?;
+        statement(frame, checked)?;
     }
-    Ok(frame)
+    Ok(())
 }

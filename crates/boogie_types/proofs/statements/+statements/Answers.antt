@@ -3,7 +3,7 @@ use Rattle.std.proofs.lemmas.List.{drop_all}
 use Rattle.std.proofs.lemmas.Result.{err_from_is_err_and, MatchResult-weaker, on_ok_weaker}
 use Rattle.boogie_tree.specs.View as view
 use Rattle.typed_tree.specs.TypedView as typed
-use Rattle.boogie_types.specs.Numbers.{place_of}
+use Rattle.boogie_types.specs.Numbers.{number_of_name}
 use Rattle.boogie_types.specs.Places.{loops_by, label_by}
 use Rattle.boogie_types.specs.PlaceViews.{place_at}
 use Rattle.boogie_types.specs.Naming.{named_statement, named_block, hidden_in}
@@ -147,7 +147,7 @@ statement-returns-in-Call-clause-fault t c =
 pub statement-returns-in-None-clause-fault : goal.statement-returns-in-None-clause-fault
 statement-returns-in-None-clause-fault t c =
     let v = ap view.statement c.in-Label.is ∙ label_seen c.in-Label.name in
-    rw v (fault_in_label _ _ _ (ap (place_of c.args.place.now.labels.now) (sym c.bytes.ensures) ∙ sym c.place.ensures ∙ c.in-None.is))
+    rw v (fault_in_label _ _ _ (ap (number_of_name c.args.place.now.labels.now) (sym c.bytes.ensures) ∙ sym c.place.ensures ∙ c.in-None.is))
 
 pub block-statement-requires : goal.block-statement-requires
 block-statement-requires t c =

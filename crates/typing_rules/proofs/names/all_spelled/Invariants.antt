@@ -1,6 +1,6 @@
 use Rattle.std.proofs.Common.{◌≡◌, drop}
 use Rattle.std.specs.List.{list_all}
-use Rattle.typing_rules.specs.Names.{is_spelled}
+use Rattle.boogie_tree.specs.Names.{is_spelled}
 use Rattle.typing_rules.specs.Texts.{texts}
 use Rattle.typing_rules.proofs.names.all_spelled.Given as goal
 

@@ -9,5 +9,5 @@ decreases-loop-left l = l.left
 abbrev pub invariant-loop-left : goal.invariant-loop-left
 invariant-loop-left l = record {
   within : l.left ≤ length l.statements;
-  entered : l.labels ≡ own_labels (view.statements (drop l.left l.statements)) ++ l.fn.self;
+  entered : l.self ≡ own_labels (view.statements (drop l.left l.statements)) ++ l.fn.self;
 }
