@@ -5,7 +5,7 @@ use Rattle.std.proofs.lemmas.Option.{slice_get_within}
 use Rattle.typed_tree.specs.TypedTree.{TypedExpression, TypedInvariant, TypedStatement, Assert, Assume, Havoc, Assign, Call, If, While, Break, Goto, Return, Label, TypedBlock, Empty, Then, TypedProcedure, TypedProgram}
 use Rattle.typing_rules.specs.Counts.{plain_invariants, assertions, points, block_assertions, block_points, checked_at_call}
 use Rattle.boogie_points.specs.Points.{Todo, Stage, Start, Entry, Body, Point, at_exit, before, settled, past, found_block}
-use Rattle.boogie_points.specs.Actions.{next_part, free_conditions, ensured_conditions, entry_point, first_point, first_assertion, first_place, start_conditions, entry_action, exit_action, start_action, stage_action, way_to}
+use Rattle.boogie_points.specs.Actions.{next_part, free_conditions, ensured_conditions, entry_point, first_point, first_assertion, first_place, start_conditions, entry_action, exit_action, start_action, stage_action, point_behind}
 use Rattle.boogie_places.specs.Places.{parts_from, at_statement, points_in, points_of, points_of_body, start_points, BlockWrites}
 use Rattle.boogie_places.proofs.Closed.{all_append, front_all, rest_all, each_part, part_of_all, begins, Leads, checked_leads, Stays, Outs, closed_of, way_of}
 
@@ -137,7 +137,7 @@ module _ (P : Point → Type 0) (t : TypedProgram) (n : ℕ) (q : TypedProcedure
 
   inner_leads : AllByRecursion StageLeads inner
   inner_leads =
-      let gotos : (k : ℕ) → P (way_to (found_block t.procs k b false first start [])) = λ k. way_of P t.procs k exit_holds b false first start [] w inner_holds exit_holds in
+      let gotos : (k : ℕ) → P (point_behind (found_block t.procs k b false first start [])) = λ k. way_of P t.procs k exit_holds b false first start [] w inner_holds exit_holds in
       both_all (Stays P t.procs b first start exit_holds gotos) IsInBody StageLeads inner
       (λ p s e. subst (λ (st : Stage). Leads P t.procs p (stage_action t n q b st p)) (sym e) s)
       (closed_of P t.procs b first start exit_holds gotos b false first start [] w inner_holds exit_holds no_loops)

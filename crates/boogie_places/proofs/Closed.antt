@@ -10,7 +10,7 @@ use Rattle.typing_rules.specs.Counts.{plain_invariants, assertions, points, bloc
 use Rattle.boogie_tree.specs.declared.span.Span.{Span}
 use Rattle.boogie_tree.specs.declared.tree.Column.{Column}
 use Rattle.boogie_points.specs.Points.{Todo, Point, at_exit, before, unless_ended, settled, past, past_first, broken, found_in, found_block}
-use Rattle.boogie_points.specs.Actions.{Action, guarded, checked, next_part, plain_conditions, ensured_conditions, chosen_columns, call_action, call_if_any, called_action, unseen_action, head_action, way_to, ways_to, one_of, havoc_action, body_action}
+use Rattle.boogie_points.specs.Actions.{Action, guarded, checked, next_part, plain_conditions, ensured_conditions, chosen_columns, call_action, call_if_any, called_action, unseen_action, head_action, point_behind, ways_to, one_of, havoc_action, body_action}
 use Rattle.boogie_places.specs.Places.{parts_from, at_statement, points_in, points_of, onward, HavocsWrite, BlockWrites}
 
 -- ---- the parts of a point
@@ -130,7 +130,7 @@ module _ (P : Point → Type 0) (procs : List TypedProcedure) where
 
   -- ---- the points of a body lead to such points
 
-  module _ (body : TypedBlock) (first start : ℕ) (exit : P at_exit) (gotos : (k : ℕ) → P (way_to (found_block procs k body false first start []))) where
+  module _ (body : TypedBlock) (first start : ℕ) (exit : P at_exit) (gotos : (k : ℕ) → P (point_behind (found_block procs k body false first start []))) where
     -- each point that the action at this one leads to
     abbrev pub Stays : Point → Type 0
     Stays p = Leads p (body_action procs body first start p.todo p)
@@ -226,11 +226,11 @@ module _ (P : Point → Type 0) (procs : List TypedProcedure) where
 
   -- ---- labels
 
-  either_way : (o more : Option (List Todo)) → P (way_to o) → P (way_to more) → P (way_to (option_or o more))
+  either_way : (o more : Option (List Todo)) → P (point_behind o) → P (point_behind more) → P (point_behind (option_or o more))
   either_way None more h k = k
   either_way (Some todo) more h k = h
 
-  if_label : (found : Bool) (todo : List Todo) → P at_exit → P (settled todo) → P (way_to (if found then Some todo else None))
+  if_label : (found : Bool) (todo : List Todo) → P at_exit → P (settled todo) → P (point_behind (if found then Some todo else None))
   if_label true todo exit h = h
   if_label false todo exit h = exit
 
@@ -238,7 +238,7 @@ module _ (P : Point → Type 0) (procs : List TypedProcedure) where
     mutual
       -- the way to a label in a statement
       pub way_in : (s : TypedStatement) (b : TypedBlock) (loop : Bool) (id at : ℕ) (under : List Todo) → HavocsWrite s → AllByRecursion P (points_in procs s b loop id at under) →
-          P (settled (past procs s b loop id at ∷ under)) → P (way_to (found_in procs k s b loop id at under))
+          P (settled (past procs s b loop id at ∷ under)) → P (point_behind (found_in procs k s b loop id at under))
       way_in (Label n) b loop id at under w h after =
           let e : id + 0 ≡ id = omega arith in
           let f : at + 0 ≡ at = omega arith in
@@ -269,7 +269,7 @@ module _ (P : Point → Type 0) (procs : List TypedProcedure) where
 
       -- and in a block
       pub way_of : (b : TypedBlock) (loop : Bool) (id at : ℕ) (under : List Todo) → BlockWrites b → AllByRecursion P (points_of procs b loop id at under) → P (settled under) →
-          P (way_to (found_block procs k b loop id at under))
+          P (point_behind (found_block procs k b loop id at under))
       way_of Empty loop id at under w h after = exit
       way_of (Then s b) loop id at under w h after =
           let xs : List Point = points_in procs s b loop id at under in

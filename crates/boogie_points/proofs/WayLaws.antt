@@ -75,9 +75,9 @@ miss_way (Cond e) p q (suc (suc n)) h k = absurd (omega arith)
 -- ---- labels
 
 label_at : (procs : List TypedProcedure) (b : TypedBlock) (id at : ℕ) (ks : List ℕ) (n k : ℕ) → slice_get ks n ≡ Some k →
-    slice_get (spec.ways_to procs b id at ks) n ≡ Some (spec.way_to (found_block procs k b false id at []))
+    slice_get (spec.ways_to procs b id at ks) n ≡ Some (spec.point_behind (found_block procs k b false id at []))
 label_at procs b id at [] n k e = cc
-label_at procs b id at (j ∷ ks) zero k e = ap (λ (m : ℕ). Some (spec.way_to (found_block procs m b false id at []))) (same_Some j k e)
+label_at procs b id at (j ∷ ks) zero k e = ap (λ (m : ℕ). Some (spec.point_behind (found_block procs m b false id at []))) (same_Some j k e)
 label_at procs b id at (j ∷ ks) (suc n) k e = label_at procs b id at ks n k e
 
 one_of_at : (ps : List Point) (n : ℕ) (p : Point) → slice_get ps n ≡ Some p → slice_get (ways_of (spec.one_of ps)) n ≡ Some p
@@ -85,7 +85,7 @@ one_of_at [] n p e = cc
 one_of_at (q ∷ []) n p e = e
 one_of_at (q ∷ r ∷ ps) n p e = e
 
-found_way : (b : Bool) (o : Option (List Todo)) (new : List Todo) → IsFound b o [] new → settled new ≡ spec.way_to o
+found_way : (b : Bool) (o : Option (List Todo)) (new : List Todo) → IsFound b o [] new → settled new ≡ spec.point_behind o
 found_way true (Some ts) new h = ap settled h
 found_way true None new h = absurd h
 found_way false (Some ts) new h = absurd h

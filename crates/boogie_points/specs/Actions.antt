@@ -103,9 +103,9 @@ abbrev pub head_action : Option TypedInvariant → ℕ → Point → Action → 
 head_action (Some i) id here guard = checked i.free id i.span i.cond (next_part here)
 head_action None id here guard = guard
 
-abbrev pub way_to : Option (List Todo) → Point
-way_to None = at_exit
-way_to (Some todo) = settled todo
+abbrev pub point_behind : Option (List Todo) → Point
+point_behind None = at_exit
+point_behind (Some todo) = settled todo
 
 -- one variable of a havoc; the next one, where there is one
 abbrev pub havoc_action : Option Column → Option Column → Point → Point → Action
@@ -116,7 +116,7 @@ havoc_action (Some c) (Some d) here after = Guess c (next_part here)
 -- a way to each label
 abbrev pub ways_to : List TypedProcedure → TypedBlock → ℕ → ℕ → List ℕ → List Point
 ways_to procs body id at [] = []
-ways_to procs body id at (k ∷ ks) = way_to (found_block procs k body false id at []) ∷ ways_to procs body id at ks
+ways_to procs body id at (k ∷ ks) = point_behind (found_block procs k body false id at []) ∷ ways_to procs body id at ks
 
 -- one of several ways, or the only one
 abbrev pub one_of : List Point → Action

@@ -10,7 +10,7 @@ use typed_tree::{TExpr, TInv, TProc, TSpec};
 use typing_rules::Typed;
 
 /// The procedure of that number.
-pub(crate) fn procedure_at(procs: &[TProc], number: u32) -> Option<&TProc>
+pub fn procedure_at(procs: &[TProc], number: u32) -> Option<&TProc>
     ensures { option_map (λ q. view.procedure q.now) result ≡ slice_get (map view.procedure procs.now) number }
 {
     procs.get(number as usize)

@@ -14,6 +14,7 @@ mod starting;
 
 pub use acting::action_at;
 pub use actions::Action;
+pub use conditions::procedure_at;
 pub use going::go_on;
 pub use numbers::Numbers;
 pub use points::{Point, Stage, pass_call, targets};

@@ -17,7 +17,7 @@ use Rattle.typing_rules.specs.Rules.{Context, meets, is_member, are_targets, val
 use Rattle.boogie_points.specs.Points as points
 use Rattle.boogie_points.specs.Points.{Todo, Point, at_exit, unless_ended, settled, past, broken, found_block}
 use Rattle.boogie_points.specs.Actions as actions
-use Rattle.boogie_points.specs.Actions.{Action, next_part, guarded, checked, plain_conditions, ensured_conditions, results_from, chosen_columns, unseen_action, called_action, call_action, call_if_any, head_action, way_to, ways_to, one_of, havoc_action, statement_action, block_action, body_action, entry_point, entry_action, exit_action, start_action, stage_action, body_or_leave, procedure_action}
+use Rattle.boogie_points.specs.Actions.{Action, next_part, guarded, checked, plain_conditions, ensured_conditions, results_from, chosen_columns, unseen_action, called_action, call_action, call_if_any, head_action, point_behind, ways_to, one_of, havoc_action, statement_action, block_action, body_action, entry_point, entry_action, exit_action, start_action, stage_action, body_or_leave, procedure_action}
 use Rattle.boogie_points.specs.Starts.{targets_at}
 use Rattle.boogie_run.specs.Needs.{locals_at, locals_if_any}
 use Rattle.boogie_run.specs.Steps.{values, modifies_of}
@@ -263,7 +263,7 @@ module _ (t : TypedProgram) (q : TypedProcedure) where
   head_true (Some i) id here guard n h = checked_true here i.free id i.span i.cond (next_part here) n
   head_true None id here guard n h = h
 
-  way_fresh : (o : Option (List Todo)) → FreshAt t (way_to o)
+  way_fresh : (o : Option (List Todo)) → FreshAt t (point_behind o)
   way_fresh None = tt
   way_fresh (Some ts) = settled_fresh t ts
 

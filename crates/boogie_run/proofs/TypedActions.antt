@@ -14,7 +14,7 @@ use Rattle.typing_rules.specs.Rules.{Context, meets, all_differ, same_column, is
 use Rattle.boogie_points.specs.Points as points
 use Rattle.boogie_points.specs.Points.{Todo, Point, at_exit, settled, past, broken, found_block}
 use Rattle.boogie_points.specs.Actions as actions
-use Rattle.boogie_points.specs.Actions.{Action, next_part, guarded, checked, unseen_action, called_action, call_action, call_if_any, head_action, way_to, ways_to, one_of, havoc_action, statement_action, block_action, body_action, entry_point, first_point, entry_action, exit_action, start_action, stage_action, body_or_leave, procedure_action}
+use Rattle.boogie_points.specs.Actions.{Action, next_part, guarded, checked, unseen_action, called_action, call_action, call_if_any, head_action, point_behind, ways_to, one_of, havoc_action, statement_action, block_action, body_action, entry_point, first_point, entry_action, exit_action, start_action, stage_action, body_or_leave, procedure_action}
 use Rattle.boogie_run.proofs.TypedPoints as typed
 use Rattle.boogie_run.proofs.TypedPoints.{IsKept, AreKept}
 
@@ -141,7 +141,7 @@ module _ (t : TypedProgram) (q : TypedProcedure) where
   head_kept (Some i) id here guard h g = checked_kept i.free id i.span i.cond (next_part here) h
   head_kept None id here guard h g = g
 
-  way_kept : (o : Option (List Todo)) → typed.FoundKept t q o → PointKept (way_to o)
+  way_kept : (o : Option (List Todo)) → typed.FoundKept t q o → PointKept (point_behind o)
   way_kept None h = tt
   way_kept (Some ts) h = typed.settled_kept t q ts h
 

@@ -12,7 +12,7 @@ use Rattle.typing_rules.specs.Shape.{statement_labels, block_labels, counts_from
 use Rattle.typing_rules.specs.ValidProgram.{is_valid}
 use Rattle.typing_rules.proofs.ValidLaws as valid
 use Rattle.boogie_points.specs.Points.{Todo, Point, at_exit, unless_ended, settled, past, found_in, found_block}
-use Rattle.boogie_points.specs.Actions.{way_to, free_conditions, first_assertion, first_place}
+use Rattle.boogie_points.specs.Actions.{point_behind, free_conditions, first_assertion, first_place}
 use Rattle.boogie_places.specs.Places.{place_of, number_with, number_if_any}
 use Rattle.lowered_graph.specs.Arcs.{place_number}
 use Rattle.program_layout.specs.declared.marks.Marks.{Marks}
@@ -185,7 +185,7 @@ module _ (t : TypedProgram) (n : ℕ) (q : TypedProcedure) (b : TypedBlock) (is 
   number_here : (p : Point) → place_number t n p ≡ place_of t n q b p
   number_here p = ap (λ (o : Option TypedProcedure). number_if_any t n o p) is ∙ ap (λ (o : Option TypedBlock). number_with t n q o p) has
 
-  way_number : (o : Option (List Todo)) → place_number t n (way_to o) ≡ unwrap_or (option_map (λ u. place_of t n q b (settled u)) o) (place_of t n q b at_exit)
+  way_number : (o : Option (List Todo)) → place_number t n (point_behind o) ≡ unwrap_or (option_map (λ u. place_of t n q b (settled u)) o) (place_of t n q b at_exit)
   way_number None = number_here at_exit
   way_number (Some u) = number_here (settled u)
 
@@ -226,7 +226,7 @@ labels_placed t n q b at exit v is has a e =
 -- the way to a label, from the list of all of them
 pub label_told : (t : TypedProgram) (n k : ℕ) (q : TypedProcedure) (b : TypedBlock) → IsTrue (is_valid t) → slice_get t.procs n ≡ Some q → q.body ≡ Some b →
     unwrap_or (slice_get (label_numbers t n) k) (place_number t n at_exit)
-    ≡ place_number t n (way_to (found_block t.procs k b false (first_assertion t.procs n) (first_place t n + length (free_conditions q.specs)) []))
+    ≡ place_number t n (point_behind (found_block t.procs k b false (first_assertion t.procs n) (first_place t n + length (free_conditions q.specs)) []))
 label_told t n k q b v is has =
     ap (λ (ns : List ℕ). unwrap_or (slice_get ns k) (place_number t n at_exit)) (labels_are t n q b is has v ∙ sym (numbers_are t n q b is has v))
     ∙ ap (λ (i : ℕ). unwrap_or (slice_get (numbers t n q b is has) k) i) (number_here t n q b is has at_exit) ∙ told t n q b is has v k

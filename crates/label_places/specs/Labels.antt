@@ -3,13 +3,13 @@ use Rattle.std.specs.Prelude.{ℕ, ◌+◌, false, List, [], map, length, Option
 use Rattle.typed_tree.specs.TypedTree.{TypedBlock, TypedProcedure, TypedProgram}
 use Rattle.typing_rules.specs.Shape.{block_labels}
 use Rattle.boogie_points.specs.Points.{found_block}
-use Rattle.boogie_points.specs.Actions.{way_to, free_conditions, first_assertion, first_place}
+use Rattle.boogie_points.specs.Actions.{point_behind, free_conditions, first_assertion, first_place}
 use Rattle.lowered_graph.specs.Arcs.{place_number}
 
 -- The place to which label k of a body leads. Where there is no such label, it is the one behind the statements.
 abbrev pub label_place : TypedProgram → ℕ → TypedProcedure → TypedBlock → ℕ → ℕ
 label_place t n q b k =
-    place_number t n (way_to (found_block t.procs k b false (first_assertion t.procs n) (first_place t n + length (free_conditions q.specs)) []))
+    place_number t n (point_behind (found_block t.procs k b false (first_assertion t.procs n) (first_place t n + length (free_conditions q.specs)) []))
 
 abbrev pub labels_with : TypedProgram → ℕ → TypedProcedure → Option TypedBlock → List ℕ
 labels_with t n q None = []

@@ -9,7 +9,7 @@ use Rattle.letter_acts.specs.declared.sites.Site.{Site}
 use Rattle.letter_acts.specs.Frames.{Columns}
 use Rattle.cond_jumps.specs.Lists.{path_list, assign_list}
 use Rattle.boogie_points.specs.Points.{Todo, Point, at_exit, before, settled, past, broken, found_block}
-use Rattle.boogie_points.specs.Actions.{Action, action_at, statement_action, Check, Suppose, Write, Guess, Jump, checked, guarded, head_action, havoc_action, one_of, ways_to, way_to, next_part}
+use Rattle.boogie_points.specs.Actions.{Action, action_at, statement_action, Check, Suppose, Write, Guess, Jump, checked, guarded, head_action, havoc_action, one_of, ways_to, point_behind, next_part}
 use Rattle.boogie_places.specs.Places.{at_statement, points_in, points_of, located, parts_from}
 use Rattle.letter_table.specs.Letters.{Arc}
 use Rattle.lowered_steps.specs.ProgramFrames.{frame_at, number_in}
@@ -141,21 +141,21 @@ module _ (t : TypedProgram) (n : ℕ) (q : TypedProcedure) (body : TypedBlock) (
     no_goto_added sp to old new p is_to h = jumped (Goto sp []) sp at_exit to old new p is_to refl refl refl h
 
     pub goto_added : (sp : Span) (k : ℕ) (ks : List ℕ) (tos : List ℕ) (old new : Walked) → old.program ≡ t →
-        tos ≡ map (λ j. place_number t n (way_to (found_block t.procs j body false first start []))) (k ∷ ks) →
+        tos ≡ map (λ j. place_number t n (point_behind (found_block t.procs j body false first start []))) (k ∷ ks) →
         Leads (ways_arcs n at tos) [] false false old new → Adds (located n (points_in t.procs (Goto sp (k ∷ ks)) b loop id at under)) old new
     goto_added sp k ks tos old new p are h =
         let here : Point = at_statement (Goto sp (k ∷ ks)) b loop id at under in
         let plain : _ = arcs.one_of_plain t n here (ways_of (k ∷ ks)) in
         placed t n here (one_of (ways_of (k ∷ ks))) sp [] (ways_arcs n at tos) [] old new
         (does (Goto sp (k ∷ ks)) 0) (span (Goto sp (k ∷ ks)) 0) refl p (ap (map (λ s. s.1)) plain.0)
-        (arcs.one_of_arcs t n here (way_to (found_block t.procs k body false first start [])) (ways_of ks)
+        (arcs.one_of_arcs t n here (point_behind (found_block t.procs k body false first start [])) (ways_of ks)
         ∙ ap (λ (x : ℕ). ways_arcs n x (map (place_number t n) (ways_of (k ∷ ks)))) (numbered_first (Goto sp (k ∷ ks)))
         ∙ ap (ways_arcs n at) (told (k ∷ ks) ∙ sym are))
         plain.1 (plain_item sp (ways_arcs n at tos) old new h)
       where
-        told : (ks : List ℕ) → map (place_number t n) (ways_of ks) ≡ map (λ j. place_number t n (way_to (found_block t.procs j body false first start []))) ks
+        told : (ks : List ℕ) → map (place_number t n) (ways_of ks) ≡ map (λ j. place_number t n (point_behind (found_block t.procs j body false first start []))) ks
         told [] = refl
-        told (k ∷ ks) = ap (λ (l : List ℕ). place_number t n (way_to (found_block t.procs k body false first start [])) ∷ l) (told ks)
+        told (k ∷ ks) = ap (λ (l : List ℕ). place_number t n (point_behind (found_block t.procs k body false first start [])) ∷ l) (told ks)
 
     -- ---- one variable of a havoc
 

@@ -11,7 +11,7 @@ use Rattle.typed_tree.specs.TypedTree.{TypedGuard, TypedInvariant, Havoc, While,
 use Rattle.typing_rules.specs.Counts.{one_if, plain_invariants}
 use Rattle.std.specs.Option.{option_map}
 use Rattle.boogie_points.specs.Points.{Todo, settled, past, found_block}
-use Rattle.boogie_points.specs.Actions.{way_to, first_assertion, first_place, free_conditions}
+use Rattle.boogie_points.specs.Actions.{point_behind, first_assertion, first_place, free_conditions}
 use Rattle.boogie_points.proofs.ConditionLaws.{taken_less}
 use Rattle.boogie_places.specs.Places.{at_statement, parts_from, located}
 use Rattle.lowered_steps.specs.ProgramFrames.{frame_at, number_in}
@@ -193,10 +193,10 @@ goes_to t u n place exit labels loops after span id (k ∷ ks) old new e p h l =
     goto_added t n q whole body.procedure body.statements b loop id place under span k ks (map (label_or_exit labels exit) (k ∷ ks)) old new p (all_ways q whole body (k ∷ ks)) l
   where
     all_ways : (q : TypedProcedure) (whole : TypedBlock) → IsBody t n q whole exit labels → (js : List ℕ) → map (label_or_exit labels exit) js
-        ≡ map (λ j. place_number t n (way_to (found_block t.procs j whole false (first_assertion t.procs n) (first_place t n + length (free_conditions q.specs)) []))) js
+        ≡ map (λ j. place_number t n (point_behind (found_block t.procs j whole false (first_assertion t.procs n) (first_place t n + length (free_conditions q.specs)) []))) js
     all_ways q whole body [] = refl
-    all_ways q whole body (j ∷ js) = let f : label_or_exit labels exit j ≡ place_number t n (way_to (found_block t.procs j whole false (first_assertion t.procs n) (first_place t n + length (free_conditions q.specs)) [])) = body.ways j in
-        ap (λ (x : ℕ). x ∷ map (label_or_exit labels exit) js) f ∙ ap (λ (xs : List ℕ). place_number t n (way_to (found_block t.procs j whole false (first_assertion t.procs n) (first_place t n + length (free_conditions q.specs)) [])) ∷ xs) (all_ways q whole body js)
+    all_ways q whole body (j ∷ js) = let f : label_or_exit labels exit j ≡ place_number t n (point_behind (found_block t.procs j whole false (first_assertion t.procs n) (first_place t n + length (free_conditions q.specs)) [])) = body.ways j in
+        ap (λ (x : ℕ). x ∷ map (label_or_exit labels exit) js) f ∙ ap (λ (xs : List ℕ). place_number t n (point_behind (found_block t.procs j whole false (first_assertion t.procs n) (first_place t n + length (free_conditions q.specs)) [])) ∷ xs) (all_ways q whole body js)
 
 pub goes_out : (t : TypedProgram) (n place exit : ℕ) (labels loops : List ℕ) (after : ℕ) (span : Span) (id : ℕ) (ks : List ℕ) (old new : Walked) → old.program ≡ t → nat_eq (length ks) 0 ≡ true →
     Leads (skip_arcs n place [] exit) [] false false old new → StatementAdds t n exit labels loops after (Goto span ks) id place old new

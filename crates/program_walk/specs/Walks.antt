@@ -4,7 +4,7 @@ use Rattle.boogie_tree.specs.declared.span.Span.{Span}
 use Rattle.typed_tree.specs.TypedTree.{TypedGuard, TypedInvariant, TypedStatement, If, While, TypedBlock, TypedProcedure, TypedProgram}
 use Rattle.typing_rules.specs.Counts.{block_assertions, block_points, plain_invariants}
 use Rattle.boogie_points.specs.Points.{Todo, at_exit, settled, past, broken, found_block}
-use Rattle.boogie_points.specs.Actions.{way_to, first_assertion, first_place, free_conditions}
+use Rattle.boogie_points.specs.Actions.{point_behind, first_assertion, first_place, free_conditions}
 use Rattle.boogie_places.specs.Places.{at_statement, located, parts_from, points_in, points_of}
 use Rattle.lowered_graph.specs.Arcs.{place_number}
 use Rattle.lowered_parts.specs.Parts.{Walked, Adds}
@@ -23,7 +23,7 @@ pub record IsBody (t : TypedProgram) (n : ℕ) (q : TypedProcedure) (whole : Typ
   pub statements : q.body ≡ Some whole
   pub ends : exit ≡ place_number t n at_exit
   pub ways : (k : ℕ) → label_or_exit labels exit k
-      ≡ place_number t n (way_to (found_block t.procs k whole false (first_assertion t.procs n) (first_place t n + length (free_conditions q.specs)) []))
+      ≡ place_number t n (point_behind (found_block t.procs k whole false (first_assertion t.procs n) (first_place t n + length (free_conditions q.specs)) []))
 
 -- the places behind the loops around a block that stands over others
 abbrev pub AreLoops : TypedProgram → ℕ → List ℕ → ℕ → Bool → List Todo → Type 0

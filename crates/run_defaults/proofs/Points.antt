@@ -10,7 +10,7 @@ use Rattle.typing_rules.specs.Rules.{Context, meets, is_member, are_targets, is_
 use Rattle.typing_rules.specs.Shape.{block_labels}
 use Rattle.boogie_points.specs.Points as points
 use Rattle.boogie_points.specs.Points.{Todo, Stage, Point, at_exit, unless_ended, settled, found_block}
-use Rattle.boogie_points.specs.Actions.{plain_conditions, free_conditions, chosen_columns, way_to, ways_to, entry_point, first_assertion, first_place}
+use Rattle.boogie_points.specs.Actions.{plain_conditions, free_conditions, chosen_columns, point_behind, ways_to, entry_point, first_assertion, first_place}
 use Rattle.run_defaults.specs.Standing.{FindsLabel, call_parts, StatementStands, StageStands}
 use Rattle.run_defaults.proofs.Parts.{below_of, meets_some, some_and, not_empty}
 use Rattle.run_defaults.proofs.Searches.{label_found}
@@ -123,7 +123,7 @@ module _ (t : TypedProgram) (n : ℕ) (q : TypedProcedure) (body : TypedBlock) w
   settled_keeps [] h = exit_keeps
   settled_keeps (d ∷ ds) h = unless_keeps d.rest d.of_loop d.id d.at ds (settled ds) h.0 h.1 (settled_keeps ds h.1)
 
-  way_keeps : (o : Option (List Todo)) → IfSome o (AreNested t q body) → Keeps (way_to o) 0
+  way_keeps : (o : Option (List Todo)) → IfSome o (AreNested t q body) → Keeps (point_behind o) 0
   way_keeps None h = exit_keeps
   way_keeps (Some ds) h = settled_keeps ds h
 

@@ -12,9 +12,9 @@ ghost use Rattle.lowered_imports.specs.Imports as spec;
 ghost use Rattle.lowered_runs.specs.Choices.{call_choices};
 ghost use Rattle.told_choices.specs.Telling.{ChoicesFit};
 
-use crate::procedures::procedure_at;
 use crate::statements::ensured;
 use crate::values::value_at;
+use boogie_points::procedure_at;
 use boogie_tree::{Ty, VarInfo};
 use std::alloc::{AllocError, Global};
 use typing_rules::Typed;

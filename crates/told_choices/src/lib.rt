@@ -2,10 +2,10 @@
 #![tactic(auto)]
 
 mod columns;
+mod frames;
 mod imports;
 mod kinds;
 mod positions;
-mod procedures;
 mod statements;
 mod table;
 mod telling;

@@ -18,7 +18,7 @@ ghost use Rattle.told_choices.specs.Telling.{PositionFits};
 ghost use Rattle.told_choices.specs.Made.{columns_made, helpers_end};
 ghost use Rattle.told_choices.specs.Views.{plain_position, plain_positions};
 
-use crate::procedures::frame_at;
+use crate::frames::frame_at;
 use crate::values::{values_from, values_of};
 use boogie_tree::{Column, VarInfo};
 use letter_acts::{Act, Icfg};

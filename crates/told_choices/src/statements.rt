@@ -8,8 +8,8 @@ ghost use Rattle.told_choices.specs.Views.{plain_kind, plain_kinds};
 
 use crate::columns::{column_number, column_numbers};
 use crate::kinds::{Kind, add_silent};
-use crate::procedures::procedure_at;
 use boogie_points::counts::{demanded, granted};
+use boogie_points::procedure_at;
 use boogie_tree::{Column, VarInfo};
 use std::alloc::AllocError;
 use typed_tree::{TExpr, TGuard, TProc, TSpec, TStmt};

@@ -7,10 +7,11 @@ ghost use Rattle.told_choices.specs.Kinds.{place_kinds};
 ghost use Rattle.told_choices.specs.Walks as walks;
 ghost use Rattle.told_choices.specs.Views.{plain_kinds};
 
+use crate::frames::columns_of;
 use crate::kinds::{Kind, add_silent};
-use crate::procedures::{columns_of, procedure_at};
 use crate::statements::add_procedure;
 use boogie_points::counts::demanded;
+use boogie_points::procedure_at;
 use letter_acts::Icfg;
 use std::alloc::{AllocError, Global};
 use typing_rules::Typed;

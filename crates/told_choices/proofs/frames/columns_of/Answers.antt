@@ -5,7 +5,7 @@ use Rattle.letter_acts.specs.Frames.{Columns}
 use Rattle.letter_acts.specs.Invariant.{Graph}
 use Rattle.lowered_steps.specs.ProgramFrames.{frame_at}
 use Rattle.told_choices.proofs.Steps.{frame_there}
-use Rattle.told_choices.proofs.procedures.columns_of.Goals as goal
+use Rattle.told_choices.proofs.frames.columns_of.Goals as goal
 
 pub unreachable-requires : goal.unreachable-requires
 unreachable-requires c =

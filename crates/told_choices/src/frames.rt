@@ -1,8 +1,7 @@
-//! Procedures and frames by their numbers.
+//! Frames by their numbers.
 
-ghost use Rattle.std.specs.Prelude.{◌≡◌, ◌<◌, map, length, slice_get};
+ghost use Rattle.std.specs.Prelude.{◌≡◌, ◌<◌, length, slice_get};
 ghost use Rattle.std.specs.Option.{option_map};
-ghost use Rattle.typed_tree.specs.TypedView as view;
 ghost use Rattle.typing_rules.specs.TypedParts.{typed_program};
 ghost use Rattle.letter_acts.specs.Acts.{plain_frames, frame_of};
 ghost use Rattle.letter_acts.specs.Invariant.{alphabet_of};
@@ -11,15 +10,7 @@ ghost use Rattle.lowered_graph.specs.Lowered.{lowered};
 
 use boogie_tree::{Column, VarInfo};
 use letter_acts::{Frame, Icfg};
-use typed_tree::TProc;
 use typing_rules::Typed;
-
-/// The procedure of that number.
-pub(crate) fn procedure_at(procs: &[TProc], number: u32) -> Option<&TProc>
-    ensures { option_map (λ q. view.procedure q.now) result ≡ slice_get (map view.procedure procs.now) number }
-{
-    procs.get(number as usize)
-}
 
 fn frame_in(frames: &[Frame], number: usize) -> Option<&Frame>
     ensures { option_map (λ f. f.now.columns.items) result ≡ slice_get (plain_frames frames.now) number }
