@@ -3,6 +3,7 @@ use Rattle.std.proofs.Common.{◌≡◌, ◌<◌, ◌≤◌, ℕ, zero, suc, ℤ
 use Rattle.std.specs.List.{AllByRecursion, list_all}
 use Rattle.std.proofs.lemmas.Bool.{and_parts, false≢true}
 use Rattle.std.proofs.lemmas.Bool.Decides.{nat_tests}
+use Rattle.math_facts.specs.Optional.{or_zero}
 use Rattle.boogie_tree.specs.declared.tree.Column.{Column}
 use Rattle.boogie_tree.specs.declared.tree.Column.TheVariants as columns
 use Rattle.boogie_tree.specs.declared.tree.VarInfo.{VarInfo}
@@ -19,7 +20,7 @@ use Rattle.boogie_points.specs.Actions.{Action, action_at, first_assertion, firs
 use Rattle.boogie_points.specs.Starts.{point_of_procedure, point_of_call, unless_none, start_point_of, targets_at}
 use Rattle.boogie_run.specs.Configurations.{Frame, Config, state_of}
 use Rattle.boogie_run.specs.Needs.{need, is_taken, locals_at}
-use Rattle.boogie_run.specs.Steps.{Outcome, Went, Blocked, Failed, Ended, Refused, put, written, all_written, all_put, modifies_of, moved_to, kept_on, kept_to, passed_state, granted_state, finished, entered, left, results_of, is_true, went_if, act, number_of, with_global, with_local, next, step, start}
+use Rattle.boogie_run.specs.Steps.{Outcome, Went, Blocked, Failed, Ended, Refused, put, written, all_written, all_put, modifies_of, moved_to, kept_on, kept_to, passed_state, granted_state, finished, entered, left, results_of, is_true, went_if, act, with_global, with_local, next, step, start}
 use Rattle.boogie_run.specs.Runs.{then_goes_on, run}
 use Rattle.boogie_run.specs.Laws.{SameConstants}
 use Rattle.boogie_run.proofs.TypedPoints.{IsKept, AreKept, settled_kept, past_first_kept}
@@ -330,7 +331,7 @@ module _ (t : TypedProgram) (valid : IsTrue (is_valid t)) where
       (action_kept t s.top.procedure c.top.proc c.top.point (bodies_kept c.top.proc s.top.procedure s.top.found) s.top.found s.top.kept)))
 
   pub step_sound : (c : Config) (choice : Option ℤ) → Sound c → OutcomeSound (step t c choice)
-  step_sound c choice s = if_sound (is_taken (need t c) choice) (next t c (number_of choice)) Refused (next_sound c (number_of choice) s) tt
+  step_sound c choice s = if_sound (is_taken (need t c) choice) (next t c (or_zero choice)) Refused (next_sound c (or_zero choice) s) tt
 
   then_sound : (o : Outcome) (rest : Config → Outcome) → OutcomeSound o → ((d : Config) → Sound d → OutcomeSound (rest d)) → OutcomeSound (then_goes_on o rest)
   then_sound (Went c) rest h k = k c h

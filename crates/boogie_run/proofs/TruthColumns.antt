@@ -2,6 +2,7 @@
 use Rattle.std.proofs.Common.{◌≡◌, ◌⊎◌, inl, inr, ℕ, zero, suc, ◌+◌, ◌<◌, ℤ, pos, negsuc, Bool, true, false, nat_lt, List, [], ◌∷◌, ◌++◌, length, map, take, drop, refl, ap, sym, ◌∙◌, subst, Option, None, Some, slice_get, option_and_then, arith}
 use Rattle.std.proofs.lemmas.Bool.{and_parts, false≢true}
 use Rattle.std.proofs.lemmas.Bool.Decides.{nat_tests}
+use Rattle.math_facts.specs.Optional.{or_zero}
 use Rattle.boogie_tree.specs.declared.tree.Ty.{Ty}
 use Rattle.boogie_tree.specs.declared.tree.Ty.TheVariants as types
 use Rattle.boogie_tree.specs.declared.tree.Column.{Column}
@@ -19,7 +20,7 @@ use Rattle.boogie_points.specs.Actions.{results_from}
 use Rattle.boogie_run.specs.Configurations.{Config}
 use Rattle.boogie_run.specs.Needs as needs
 use Rattle.boogie_run.specs.Needs.{Need, need_of, need_of_type, need_of_column, is_taken}
-use Rattle.boogie_run.specs.Steps.{put, all_put, written, all_written, number_of}
+use Rattle.boogie_run.specs.Steps.{put, all_put, written, all_written}
 use Rattle.boogie_run.specs.Laws.{TruthsHold}
 
 -- ---- lists
@@ -254,7 +255,7 @@ truth_taken zero h = inl refl
 truth_taken (suc zero) h = inr refl
 truth_taken (suc (suc k)) h = let less : suc (suc k) < 2 = below_of (suc (suc k)) 2 h in absurd (omega arith)
 
-pub taken_holds : (n : Need) (choice : Option ℤ) → is_taken n choice ≡ true → NeedHolds n (number_of choice)
+pub taken_holds : (n : Need) (choice : Option ℤ) → is_taken n choice ≡ true → NeedHolds n (or_zero choice)
 taken_holds needs.Nothing choice h = tt
 taken_holds needs.Whole choice h = tt
 taken_holds (needs.Below n) choice h = tt

@@ -1,6 +1,7 @@
 -- In a run of a valid program boolean variables hold truth values.
 use Rattle.std.proofs.Common.{◌≡◌, ◌<◌, ◌≤◌, ℕ, zero, suc, ℤ, unsigned_abs, Bool, true, false, nat_lt, List, [], ◌∷◌, ◌++◌, length, take, drop, refl, ap, sym, ◌∙◌, subst, Option, None, Some, slice_get, IsTrue, if◌then◌else◌}
 use Rattle.std.specs.List.{AllByRecursion}
+use Rattle.math_facts.specs.Optional.{or_zero}
 use Rattle.boogie_tree.specs.declared.tree.Column.{Column}
 use Rattle.boogie_tree.specs.declared.tree.VarInfo.{VarInfo}
 use Rattle.typed_tree.specs.Scope.{body_scope}
@@ -14,7 +15,7 @@ use Rattle.boogie_points.specs.Actions.{Action, action_at, free_conditions, star
 use Rattle.boogie_points.specs.Starts.{point_of_procedure, point_of_call, unless_none, start_point_of, targets_at}
 use Rattle.boogie_run.specs.Configurations.{Frame, Config, state_of}
 use Rattle.boogie_run.specs.Needs.{need, need_of_action, is_taken, locals_at, locals_if_any}
-use Rattle.boogie_run.specs.Steps.{Outcome, Went, Blocked, Failed, Ended, Refused, values, written, all_written, all_put, modifies_of, moved_to, kept_on, kept_to, passed_state, granted_state, finished, left, results_of, results_if_any, is_true, went_if, act, number_of, with_global, with_local, next, step, start}
+use Rattle.boogie_run.specs.Steps.{Outcome, Went, Blocked, Failed, Ended, Refused, values, written, all_written, all_put, modifies_of, moved_to, kept_on, kept_to, passed_state, granted_state, finished, left, results_of, results_if_any, is_true, went_if, act, with_global, with_local, next, step, start}
 use Rattle.boogie_run.specs.Runs.{then_goes_on, run}
 use Rattle.boogie_run.specs.Laws.{TruthsHold, FrameHolds}
 use Rattle.boogie_run.proofs.NextLemmas.{need_global, need_local, need_action}
@@ -213,7 +214,7 @@ module _ (t : TypedProgram) (valid : IsTrue (is_valid t)) where
 
   step_true : (c : Config) (choice : Option ℤ) → Sound t valid c → RunTrue c → OutcomeTrue (step t c choice)
   step_true c choice s r =
-      step_test (is_taken (need t c) choice) (next t c (number_of choice)) (λ taken. next_true c (number_of choice) s r (taken_holds (need t c) choice taken))
+      step_test (is_taken (need t c) choice) (next t c (or_zero choice)) (λ taken. next_true c (or_zero choice) s r (taken_holds (need t c) choice taken))
 
   then_true : (o : Outcome) (rest : Config → Outcome) → OutcomeSound t valid o → OutcomeTrue o → ((d : Config) → Sound t valid d → RunTrue d → OutcomeTrue (rest d)) →
       OutcomeTrue (then_goes_on o rest)

@@ -1,6 +1,7 @@
 -- What a step answers, as contracts see it.
 use Rattle.std.specs.Prelude.{◌≡◌, ℕ, ℤ, pos, negsuc, Bool, true, false, nat_lt, List, Option, Result, Ok, Err}
 use Rattle.std.specs.Option.{option_map}
+use Rattle.math_facts.specs.Optional.{or_zero}
 use Rattle.typed_tree.specs.TypedTree.{TypedExpression, TypedProgram}
 use Rattle.typed_tree.specs.Values.{value}
 use Rattle.typing_rules.specs.TypedParts.{typed_program}
@@ -18,7 +19,7 @@ use Rattle.boogie_run.specs.declared.types.RunFault.TheVariants as faults
 use Rattle.boogie_run.specs.declared.configurations.Config.{Config}
 use Rattle.boogie_run.specs.Configurations as spec
 use Rattle.boogie_run.specs.Needs as needs
-use Rattle.boogie_run.specs.Steps.{Outcome, Went, Blocked, Failed, Ended, number_of, moved_to, all_written, granted_state, next}
+use Rattle.boogie_run.specs.Steps.{Outcome, Went, Blocked, Failed, Ended, moved_to, all_written, granted_state, next}
 use Rattle.boogie_run.specs.Fitting.{NextFits}
 use Rattle.boogie_run.specs.Evaluated.{IsCause}
 use Rattle.boogie_run.specs.RunView.{config_of}
@@ -50,7 +51,7 @@ IsMoved line c o m d = ⊥
 
 -- The choice is taken, and this is its number; or no choice is given where one is needed; or the need does not take the one that is given.
 abbrev pub IsChoice : needs.Need → Option ℤ → Result ℤ RunFault → Type 0
-IsChoice n choice (Ok v) = (needs.is_taken n choice ≡ true) × (v ≡ number_of choice)
+IsChoice n choice (Ok v) = (needs.is_taken n choice ≡ true) × (v ≡ or_zero choice)
 IsChoice n choice (Err faults.NeedsChoice) = needs.is_missing n choice ≡ true
 IsChoice n choice (Err faults.BadChoice) = needs.is_refused n choice ≡ true
 IsChoice n choice (Err faults.Number) = ⊥

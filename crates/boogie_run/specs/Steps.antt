@@ -1,5 +1,6 @@
 -- The step: what an action makes of a configuration.
 use Rattle.std.specs.Prelude.{ℕ, zero, suc, ℤ, pos, Bool, not, nat_lt, unsigned_abs, List, [], ◌∷◌, ◌++◌, map, length, take, drop, Option, None, Some, slice_get, if◌then◌else◌}
+use Rattle.math_facts.specs.Optional.{or_zero}
 use Rattle.boogie_tree.specs.declared.tree.Column.{Column}
 use Rattle.boogie_tree.specs.declared.tree.Column.TheVariants as columns
 use Rattle.typed_tree.specs.TypedTree.{TypedExpression, TypedProcedure, TypedProgram}
@@ -135,10 +136,6 @@ start t =
       below = [];
     }
 
-abbrev pub number_of : Option ℤ → ℤ
-number_of None = pos 0
-number_of (Some z) = z
-
 -- one more constant or global, which is one at the entry, too
 abbrev pub with_global : Config → ℤ → Config
 with_global c v = record c { globals = c.globals ++ v ∷ []; top = record c.top { entry = c.top.entry ++ v ∷ [] } }
@@ -156,4 +153,4 @@ next t c v =
 
 -- one step
 abbrev pub step : TypedProgram → Config → Option ℤ → Outcome
-step t c choice = if is_taken (need t c) choice then next t c (number_of choice) else Refused
+step t c choice = if is_taken (need t c) choice then next t c (or_zero choice) else Refused

@@ -3,6 +3,7 @@ use Rattle.std.proofs.Common.{◌≡◌, inl, inr, ℕ, zero, suc, ◌+◌, ◌-
 use Rattle.std.specs.List.{AllByRecursion}
 use Rattle.std.proofs.lemmas.Bool.{false≢true}
 use Rattle.std.proofs.lemmas.Bool.Decides.{nat_tests}
+use Rattle.math_facts.specs.Optional.{or_zero}
 use Rattle.boogie_tree.specs.declared.tree.Ty.{Ty}
 use Rattle.boogie_tree.specs.declared.tree.Ty.TheVariants as types
 use Rattle.boogie_tree.specs.declared.tree.Column.{Column}
@@ -17,7 +18,7 @@ use Rattle.boogie_points.specs.Actions.{Action, next_part, ensured_conditions, c
 use Rattle.boogie_points.specs.Starts.{targets_at}
 use Rattle.boogie_run.specs.Configurations.{Config}
 use Rattle.boogie_run.specs.Needs.{Truth, need_of_type, need_of, need_of_column, need_of_action, is_taken, locals_at}
-use Rattle.boogie_run.specs.Steps.{Outcome, Went, Blocked, Failed, Refused, written, all_written, moved_to, kept_on, kept_to, granted_state, finished, is_true, act, number_of, step, all_put, modifies_of}
+use Rattle.boogie_run.specs.Steps.{Outcome, Went, Blocked, Failed, Refused, written, all_written, moved_to, kept_on, kept_to, granted_state, finished, is_true, act, step, all_put, modifies_of}
 use Rattle.boogie_run.specs.Runs.{then_goes_on, run}
 use Rattle.lowered_steps.specs.Moves.{HasTypes}
 use Rattle.lowered_imports.specs.Imports.{IsModified, later, IsKnownImport, AreGlobalValues, keeping, none_for}
@@ -159,15 +160,15 @@ pub record IsFull (t : TypedProgram) (c : Config) : Type 0 where
 
 -- then a step is the action of the point, with a choice that it takes
 pub step_acts : (t : TypedProgram) (c : Config) (choice : Option ℤ) (a : Action) → IsFull t c → action_at t c.top.proc c.top.point ≡ a →
-    step t c choice ≡ (if is_taken (need_of_action t c.top.proc a) choice then act t c (number_of choice) a else Refused)
+    step t c choice ≡ (if is_taken (need_of_action t c.top.proc a) choice then act t c (or_zero choice) a else Refused)
 step_acts t c choice a f e =
     let g : nat_lt (length c.globals) (length t.globals) ≡ false = f.globals in
     let l : nat_lt (length c.top.locals) (length (locals_at t c.top.proc)) ≡ false = f.locals in
     rw (g, l, e) refl
 
 taken_step : (t : TypedProgram) (c d : Config) (choice : Option ℤ) (a : Action) → IsFull t c → action_at t c.top.proc c.top.point ≡ a →
-    is_taken (need_of_action t c.top.proc a) choice ≡ true → act t c (number_of choice) a ≡ Went d → step t c choice ≡ Went d
-taken_step t c d choice a f e h g = step_acts t c choice a f e ∙ ap (λ (b : Bool). if b then act t c (number_of choice) a else Refused) h ∙ g
+    is_taken (need_of_action t c.top.proc a) choice ≡ true → act t c (or_zero choice) a ≡ Went d → step t c choice ≡ Went d
+taken_step t c d choice a f e h g = step_acts t c choice a f e ∙ ap (λ (b : Bool). if b then act t c (or_zero choice) a else Refused) h ∙ g
 
 step_goes : (t : TypedProgram) (c d : Config) (choice : Option ℤ) (choices : List (Option ℤ)) → step t c choice ≡ Went d → run t c (choice ∷ choices) ≡ run t d choices
 step_goes t c d choice choices e = ap (λ (o : Outcome). then_goes_on o (λ x. run t x choices)) e
@@ -175,12 +176,12 @@ step_goes t c d choice choices e = ap (λ (o : Outcome). then_goes_on o (λ x. r
 -- where a run fails later on, its first choice is taken
 taken_back : (t : TypedProgram) (c : Config) (choice : Option ℤ) (choices : List (Option ℤ)) (a : Action) (i : ℕ) → IsFull t c → action_at t c.top.proc c.top.point ≡ a →
     run t c (choice ∷ choices) ≡ Failed i →
-    (is_taken (need_of_action t c.top.proc a) choice ≡ true) × (then_goes_on (act t c (number_of choice) a) (λ d. run t d choices) ≡ Failed i)
+    (is_taken (need_of_action t c.top.proc a) choice ≡ true) × (then_goes_on (act t c (or_zero choice) a) (λ d. run t d choices) ≡ Failed i)
 taken_back t c choice choices a i f e h =
     by_test (is_taken (need_of_action t c.top.proc a) choice) refl (sym (ap (λ (o : Outcome). then_goes_on o (λ x. run t x choices)) (step_acts t c choice a f e)) ∙ h)
   where
-    by_test : (b : Bool) → is_taken (need_of_action t c.top.proc a) choice ≡ b → then_goes_on (if b then act t c (number_of choice) a else Refused) (λ d. run t d choices) ≡ Failed i →
-        (is_taken (need_of_action t c.top.proc a) choice ≡ true) × (then_goes_on (act t c (number_of choice) a) (λ d. run t d choices) ≡ Failed i)
+    by_test : (b : Bool) → is_taken (need_of_action t c.top.proc a) choice ≡ b → then_goes_on (if b then act t c (or_zero choice) a else Refused) (λ d. run t d choices) ≡ Failed i →
+        (is_taken (need_of_action t c.top.proc a) choice ≡ true) × (then_goes_on (act t c (or_zero choice) a) (λ d. run t d choices) ≡ Failed i)
     by_test true e g = (e, g)
     by_test false e g = absurd (cc)
 
@@ -336,7 +337,7 @@ module _ (t : TypedProgram) (c : Config) (f : ℕ) (args : List TypedExpression)
       by_choice choice (λ z g. keeps_back cs (suc m) (ys ++ z ∷ []) choices i more g) r.0 r.1
     where
       by_choice : (choice : Option ℤ) → ((z : ℤ) → run t (phase c (suc m) (ys ++ z ∷ [])) choices ≡ Failed i → KeptBack cs (suc m) (ys ++ z ∷ []) choices i) → is_taken (need_of_column t.globals (locals_at t f) x) choice ≡ true →
-          run t (kept_to (phase c m ys) (number_of choice) (next_part (later c.top.point m))) choices ≡ Failed i → KeptBack (x ∷ cs) m ys (choice ∷ choices) i
+          run t (kept_to (phase c m ys) (or_zero choice) (next_part (later c.top.point m))) choices ≡ Failed i → KeptBack (x ∷ cs) m ys (choice ∷ choices) i
       by_choice None again e g = absurd (none_taken t.globals (locals_at t f) x e)
       by_choice (Some z) again e g =
           let r : KeptBack cs (suc m) (ys ++ z ∷ []) choices i = again z (ap (λ (x : Config). run t x choices) (sym (next_phase c m ys z)) ∙ g) in

@@ -12,7 +12,7 @@ use Rattle.boogie_points.specs.Actions.{Action, action_at}
 use Rattle.boogie_points.specs.Starts.{targets_at, point_of_call}
 use Rattle.boogie_run.specs.Configurations.{Frame, Config, state_of}
 use Rattle.boogie_run.specs.Needs.{need_of_action, is_taken, locals_at, locals_if_any}
-use Rattle.boogie_run.specs.Steps.{Outcome, Went, Failed, act, number_of, moved_to, all_written, values, entered, left}
+use Rattle.boogie_run.specs.Steps.{Outcome, Went, Failed, act, moved_to, all_written, values, entered, left}
 use Rattle.boogie_run.specs.Steps as steps
 use Rattle.lowered_steps.specs.ProgramFrames.{frame_at, shown}
 use Rattle.lowered_steps.specs.Edges.{Spot, At, Wrong, Edge, inside_edges, call_list, numbers_in}

@@ -3,6 +3,7 @@ use Rattle.std.proofs.Common.{◌≡◌, ℕ, zero, suc, ◌<◌, ◌≤◌, Boo
 use Rattle.std.specs.Prelude.{slice_get, nat_lt}
 use Rattle.std.proofs.lemmas.Bool.{cases_lt}
 use Rattle.std.proofs.lemmas.Bool.Decides.{nat_tests}
+use Rattle.math_facts.specs.Optional.{or_zero}
 use Rattle.boogie_tree.specs.declared.tree.VarInfo.{VarInfo}
 use Rattle.typed_tree.specs.TypedTree.{TypedProgram}
 use Rattle.letter_acts.specs.Frames.{IsValue}
@@ -10,7 +11,7 @@ use Rattle.boogie_points.specs.Actions.{action_at}
 use Rattle.boogie_points.specs.Starts.{start_point_of}
 use Rattle.boogie_run.specs.Configurations.{Config}
 use Rattle.boogie_run.specs.Needs.{need_of, need_of_action, is_taken, locals_at}
-use Rattle.boogie_run.specs.Steps.{Outcome, Went, Refused, Failed, act, number_of, with_global, with_local, step}
+use Rattle.boogie_run.specs.Steps.{Outcome, Went, Refused, Failed, act, with_global, with_local, step}
 use Rattle.boogie_run.specs.Runs.{then_goes_on, run}
 use Rattle.lowered_steps.specs.Moves.{HasTypes, filled}
 use Rattle.lowered_steps.proofs.FrameColumns.{types_length}
@@ -94,17 +95,17 @@ not_below : (a b : ℕ) → b ≤ a → nat_lt a b ≡ false
 not_below a b h = grind (arith, nat_tests)
 
 global_step : (t : TypedProgram) (c : Config) (choice : Option ℤ) → length c.globals < length t.globals →
-    step t c choice ≡ (if is_taken (need_of (slice_get t.globals (length c.globals))) choice then Went (with_global c (number_of choice)) else Refused)
+    step t c choice ≡ (if is_taken (need_of (slice_get t.globals (length c.globals))) choice then Went (with_global c (or_zero choice)) else Refused)
 global_step t c choice g = rw (below (length c.globals) (length t.globals) g)
 
 local_step : (t : TypedProgram) (c : Config) (choice : Option ℤ) → length t.globals ≤ length c.globals → length c.top.locals < length (locals_at t c.top.proc) →
-    step t c choice ≡ (if is_taken (need_of (slice_get (locals_at t c.top.proc) (length c.top.locals))) choice then Went (with_local c (number_of choice)) else Refused)
+    step t c choice ≡ (if is_taken (need_of (slice_get (locals_at t c.top.proc) (length c.top.locals))) choice then Went (with_local c (or_zero choice)) else Refused)
 local_step t c choice g l = rw (not_below (length c.globals) (length t.globals) g, below (length c.top.locals) (length (locals_at t c.top.proc)) l)
 
 -- where nothing is to be chosen before it, a step is the action
 pub action_step : (t : TypedProgram) (c : Config) (choice : Option ℤ) → length t.globals ≤ length c.globals → length (locals_at t c.top.proc) ≤ length c.top.locals →
     step t c choice ≡
-    (if is_taken (need_of_action t c.top.proc (action_at t c.top.proc c.top.point)) choice then act t c (number_of choice) (action_at t c.top.proc c.top.point) else Refused)
+    (if is_taken (need_of_action t c.top.proc (action_at t c.top.proc c.top.point)) choice then act t c (or_zero choice) (action_at t c.top.proc c.top.point) else Refused)
 action_step t c choice g l = rw (not_below (length c.globals) (length t.globals) g, not_below (length c.top.locals) (length (locals_at t c.top.proc)) l)
 
 pub if_true : (b : Bool) (x y : Outcome) → b ≡ true → (if b then x else y) ≡ x
@@ -155,10 +156,10 @@ none_to_fill t i choices c h f = record {
 one_to_fill : (t : TypedProgram) (i : ℕ) (ch : Option ℤ) (chs : List (Option ℤ)) (c : Config) (b : Bool) → TypesSoFar (locals_at t c.top.proc) c.top.locals →
     length c.top.locals < length (locals_at t c.top.proc) → is_taken (need_of (slice_get (locals_at t c.top.proc) (length c.top.locals))) ch ≡ b →
     ((d : Config) → d.globals ≡ c.globals → TypesSoFar (locals_at t d.top.proc) d.top.locals → run t d chs ≡ Failed i → Filled t i d chs) →
-    then_goes_on (if b then Went (with_local c (number_of ch)) else Refused) (λ d. run t d chs) ≡ Failed i → Filled t i c (ch ∷ chs)
+    then_goes_on (if b then Went (with_local c (or_zero ch)) else Refused) (λ d. run t d chs) ≡ Failed i → Filled t i c (ch ∷ chs)
 one_to_fill t i ch chs c true h less taken later f =
     let vs : List VarInfo = locals_at t c.top.proc in
-    let z : ℤ = number_of ch in
+    let z : ℤ = or_zero ch in
     let m : IsMember vs (length c.top.locals) = member_below vs (length c.top.locals) less in
     let val : IsValue m.info.ty z = taken_value m.info.ty ch (taken_by_need (slice_get vs (length c.top.locals)) m.info ch m.is taken) in
     let r : Filled t i (with_local c z) chs = later (with_local c z) refl (so_far_more vs c.top.locals m.info z h m.is val) f in
@@ -214,9 +215,9 @@ pub record Begun (t : TypedProgram) (i : ℕ) : Type 0 where
 
 one_to_begin : (t : TypedProgram) (i : ℕ) (ch : Option ℤ) (chs : List (Option ℤ)) (zs : List ℤ) (b : Bool) → TypesSoFar t.globals zs → length zs < length t.globals →
     is_taken (need_of (slice_get t.globals (length zs))) ch ≡ b → ((ys : List ℤ) → TypesSoFar t.globals ys → run t (begun t ys) chs ≡ Failed i → Begun t i) →
-    then_goes_on (if b then Went (begun t (zs ++ number_of ch ∷ [])) else Refused) (λ d. run t d chs) ≡ Failed i → Begun t i
+    then_goes_on (if b then Went (begun t (zs ++ or_zero ch ∷ [])) else Refused) (λ d. run t d chs) ≡ Failed i → Begun t i
 one_to_begin t i ch chs zs true h less taken later f =
-    let z : ℤ = number_of ch in
+    let z : ℤ = or_zero ch in
     let m : IsMember t.globals (length zs) = member_below t.globals (length zs) less in
     let val : IsValue m.info.ty z = taken_value m.info.ty ch (taken_by_need (slice_get t.globals (length zs)) m.info ch m.is taken) in
     later (zs ++ z ∷ []) (so_far_more t.globals zs m.info z h m.is val) f

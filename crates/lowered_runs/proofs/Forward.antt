@@ -2,6 +2,7 @@
 use Rattle.std.proofs.Common.{◌≡◌, ℕ, Bool, true, false, ℤ, pos, List, [], ◌∷◌, ◌++◌, take, Option, None, Some, inl, inr, ◌⊎◌, refl, sym, ap, subst, ◌∙◌, if◌then◌else◌}
 use Rattle.std.specs.Prelude.{slice_get, unsigned_abs}
 use Rattle.std.specs.List.{AllByRecursion}
+use Rattle.math_facts.specs.Optional.{or_zero}
 use Rattle.boogie_tree.specs.declared.tree.Column.{Column}
 use Rattle.typed_tree.specs.TypedTree.{TypedExpression, TypedProgram}
 use Rattle.typed_tree.specs.Values.{value}
@@ -12,7 +13,7 @@ use Rattle.boogie_points.specs.Starts.{targets_at}
 use Rattle.boogie_places.specs.Places.{onward}
 use Rattle.boogie_run.specs.Configurations.{Frame, Config, state_of}
 use Rattle.boogie_run.specs.Needs.{need_of_action, is_taken, locals_at}
-use Rattle.boogie_run.specs.Steps.{Outcome, Went, Blocked, Failed, Ended, Refused, act, number_of, is_true, moved_to, written, all_written, values, passed_state, entered, left}
+use Rattle.boogie_run.specs.Steps.{Outcome, Went, Blocked, Failed, Ended, Refused, act, is_true, moved_to, written, all_written, values, passed_state, entered, left}
 use Rattle.boogie_run.specs.Steps as steps
 use Rattle.lowered_steps.specs.ProgramFrames.{shown}
 use Rattle.lowered_steps.specs.Edges.{Wrong}
@@ -54,12 +55,12 @@ module _ (t : TypedProgram) (Known : ℕ → Point → Type 0) (know : KnowsPoin
 
   guess_follows : (c : Config) (x : Column) (choice : Option ℤ) (next : Point) → IsGood t Known c → action_at t c.top.proc c.top.point ≡ actions.Guess x next →
       IsTypedAction t c.top.proc (actions.Guess x next) → is_taken (need_of_action t c.top.proc (actions.Guess x next)) choice ≡ true → Known c.top.proc next →
-      Follows c (moved_to (written c x (number_of choice)) next)
+      Follows c (moved_to (written c x (or_zero choice)) next)
   guess_follows c x choice next g is typed taken k =
       let val = target_value t c.top.proc typed.0 x choice typed.1 taken in
       record {
-        step = guess_goes t c x typed.0 (number_of choice) next is g.top.keeps typed.1 val;
-        good = written_good t Known c (x ∷ []) (number_of choice ∷ []) next g.top.keeps g.below ((typed.0, typed.1, val), tt) k;
+        step = guess_goes t c x typed.0 (or_zero choice) next is g.top.keeps typed.1 val;
+        good = written_good t Known c (x ∷ []) (or_zero choice ∷ []) next g.top.keeps g.below ((typed.0, typed.1, val), tt) k;
       }
 
   leave_follows : (c mid : Config) (fs : List Frame) → c.below ≡ fs → IsGood t Known c → action_at t c.top.proc c.top.point ≡ actions.Leave → left t c fs ≡ Went mid → Follows c mid
@@ -81,7 +82,7 @@ module _ (t : TypedProgram) (Known : ℕ → Point → Type 0) (know : KnowsPoin
 
   -- an action of the frame itself
   pub own_follows : (c mid : Config) (choice : Option ℤ) (a : Action) → IsGood t Known c → action_at t c.top.proc c.top.point ≡ a → IsOwn a → IsTypedAction t c.top.proc a →
-      AllByRecursion (Known c.top.proc) (onward t.procs c.top.point a) → is_taken (need_of_action t c.top.proc a) choice ≡ true → act t c (number_of choice) a ≡ Went mid → Follows c mid
+      AllByRecursion (Known c.top.proc) (onward t.procs c.top.point a) → is_taken (need_of_action t c.top.proc a) choice ≡ true → act t c (or_zero choice) a ≡ Went mid → Follows c mid
   own_follows c mid choice (actions.Check id at e next) g is own typed leads taken went =
       let h = went_if_true (is_true (value (state_of c) e)) (moved_to c next) mid (Failed id) (λ x. cc) went in
       subst (Follows c) h.same (record { step = check_goes t c id at e next is g.top.keeps typed h.true_is; good = stays_good t Known c next g leads.0 })
@@ -95,7 +96,7 @@ module _ (t : TypedProgram) (Known : ℕ → Point → Type 0) (know : KnowsPoin
       let same : moved_to (all_written c cs (values (state_of c) es)) next ≡ mid = cc in
       subst (Follows c) same (write_follows c cs es next g is typed leads.0)
   own_follows c mid choice (actions.Guess x next) g is own typed leads taken went =
-      let same : moved_to (written c x (number_of choice)) next ≡ mid = cc in
+      let same : moved_to (written c x (or_zero choice)) next ≡ mid = cc in
       subst (Follows c) same (guess_follows c x choice next g is typed taken leads.0)
   own_follows c mid choice (actions.Test e hit miss) g is own typed leads taken went =
       let same : moved_to c (if is_true (value (state_of c) e) then hit else miss) ≡ mid = cc in
@@ -104,10 +105,10 @@ module _ (t : TypedProgram) (Known : ℕ → Point → Type 0) (know : KnowsPoin
         good = stays_good t Known c (if is_true (value (state_of c) e) then hit else miss) g (either_known (Known c.top.proc) (is_true (value (state_of c) e)) hit miss leads.0 leads.1.0);
       })
   own_follows c mid choice (actions.Pick ways) g is own typed leads taken went =
-      let h = went_way (slice_get ways (unsigned_abs (number_of choice))) c mid went in
+      let h = went_way (slice_get ways (unsigned_abs (or_zero choice))) c mid went in
       subst (Follows c) h.same (record {
-        step = pick_goes t c ways (unsigned_abs (number_of choice)) h.way is g.top.keeps h.is;
-        good = stays_good t Known c h.way g (all_at (Known c.top.proc) ways (unsigned_abs (number_of choice)) h.way leads h.is);
+        step = pick_goes t c ways (unsigned_abs (or_zero choice)) h.way is g.top.keeps h.is;
+        good = stays_good t Known c h.way g (all_at (Known c.top.proc) ways (unsigned_abs (or_zero choice)) h.way leads h.is);
       })
   own_follows c mid choice (actions.Jump next) g is own typed leads taken went =
       let same : moved_to c next ≡ mid = cc in
@@ -173,14 +174,14 @@ module _ (t : TypedProgram) (Known : ℕ → Point → Type 0) (know : KnowsPoin
 
   move_enters : (c d : Config) (f : ℕ) (args : List TypedExpression) → IsGood t Known c → action_at t c.top.proc c.top.point ≡ actions.Enter f args → IsMove t c d → Follows c d
   move_enters c d f args g is m =
-      let went : act t c (number_of m.choice) (actions.Enter f args) ≡ Went m.mid = subst (λ (a : Action). act t c (number_of m.choice) a ≡ Went m.mid) is m.went in
+      let went : act t c (or_zero m.choice) (actions.Enter f args) ≡ Went m.mid = subst (λ (a : Action). act t c (or_zero m.choice) a ≡ Went m.mid) is m.went in
       let mid_is : m.mid ≡ entered t c f (values (state_of c) args) = cc in
       let typed : HasTypes (locals_at t f) (values (state_of c) args ++ m.more) = subst (λ (x : Config). HasTypes (locals_at t x.top.proc) (x.top.locals ++ m.more)) mid_is m.typed in
       let done : d ≡ filled (entered t c f (values (state_of c) args)) m.more = m.done ∙ ap (λ (x : Config). filled x m.more) mid_is in
       subst (Follows c) (sym done) (enter_follows c f args m.more g is typed)
 
   pub move_own : (c : Config) (choice : Option ℤ) (mid : Config) → IsGood t Known c → IsOwn (action_at t c.top.proc c.top.point) →
-      is_taken (need_of_action t c.top.proc (action_at t c.top.proc c.top.point)) choice ≡ true → act t c (number_of choice) (action_at t c.top.proc c.top.point) ≡ Went mid → Follows c mid
+      is_taken (need_of_action t c.top.proc (action_at t c.top.proc c.top.point)) choice ≡ true → act t c (or_zero choice) (action_at t c.top.proc c.top.point) ≡ Went mid → Follows c mid
   move_own c choice mid g own taken went =
       own_follows c mid choice (action_at t c.top.proc c.top.point) g refl own (know.typed c.top.proc c.top.point g.top.known) (know.onward c.top.proc c.top.point g.top.known) taken went
 

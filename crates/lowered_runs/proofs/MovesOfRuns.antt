@@ -1,6 +1,7 @@
 -- A run from a configuration fails an assertion exactly where some moves lead to its failing.
 use Rattle.std.proofs.Common.{◌≡◌, ℕ, zero, suc, ◌<◌, ◌≤◌, Bool, true, false, ℤ, pos, List, [], ◌∷◌, ◌++◌, map, length, take, Option, None, Some, inl, inr, refl, sym, ap, subst, ◌∙◌, arith, if◌then◌else◌}
 use Rattle.std.specs.Prelude.{slice_get, unsigned_abs}
+use Rattle.math_facts.specs.Optional.{or_zero}
 use Rattle.boogie_tree.specs.declared.tree.VarInfo.{VarInfo}
 use Rattle.typed_tree.specs.TypedTree.{TypedExpression, TypedProgram}
 use Rattle.typed_tree.specs.Values.{State}
@@ -9,7 +10,7 @@ use Rattle.boogie_points.specs.Actions as actions
 use Rattle.boogie_points.specs.Actions.{Action, action_at}
 use Rattle.boogie_run.specs.Configurations.{Config, state_of}
 use Rattle.boogie_run.specs.Needs.{Need, Nothing, need_of_action, is_taken, locals_at, locals_if_any}
-use Rattle.boogie_run.specs.Steps.{Outcome, Went, Blocked, Failed, Ended, Refused, act, number_of, values, entered, went_if, step}
+use Rattle.boogie_run.specs.Steps.{Outcome, Went, Blocked, Failed, Ended, Refused, act, values, entered, went_if, step}
 use Rattle.boogie_run.specs.Runs.{then_goes_on, run}
 use Rattle.lowered_steps.specs.ProgramFrames.{frame_at}
 use Rattle.lowered_steps.specs.Moves.{HasTypes, FrameKeeps, AreArguments, IsGood, IsMove, IsNoImport, IsKnownCall, KnowsPoints, filled}
@@ -55,7 +56,7 @@ record HasPart (t : TypedProgram) (c : Config) : Type 0 where
 module _ (t : TypedProgram) (Known : ℕ → Point → Type 0) (know : KnowsPoints t Known) (Import : Config → Config → Type 0) (imports : ImportsAreSteps t Known Import) (i : ℕ) where
   pub ready : (c : Config) (choice : Option ℤ) → IsGood t Known c →
       step t c choice ≡
-      (if is_taken (need_of_action t c.top.proc (action_at t c.top.proc c.top.point)) choice then act t c (number_of choice) (action_at t c.top.proc c.top.point) else Refused)
+      (if is_taken (need_of_action t c.top.proc (action_at t c.top.proc c.top.point)) choice then act t c (or_zero choice) (action_at t c.top.proc c.top.point) else Refused)
   ready c choice g =
       let a : length c.globals ≡ length t.globals = types_length t.globals c.globals g.top.keeps.globals in
       let b : length c.top.locals ≡ length (locals_at t c.top.proc) = types_length (locals_at t c.top.proc) c.top.locals g.top.keeps.locals in
@@ -67,7 +68,7 @@ module _ (t : TypedProgram) (Known : ℕ → Point → Type 0) (know : KnowsPoin
   move_runs c d rest g h m =
       let a : Action = action_at t c.top.proc c.top.point in
       let stepped : step t c m.choice ≡ Went m.mid =
-      ready c m.choice g ∙ if_true (is_taken (need_of_action t c.top.proc a) m.choice) (act t c (number_of m.choice) a) Refused m.taken ∙ m.went in
+      ready c m.choice g ∙ if_true (is_taken (need_of_action t c.top.proc a) m.choice) (act t c (or_zero m.choice) a) Refused m.taken ∙ m.went in
       let same : d.globals ≡ m.mid.globals = ap (λ (x : Config). x.globals) m.done in
       ap (λ (o : Outcome). then_goes_on o (λ e. run t e (map Some m.more ++ rest))) stepped
       ∙ run_filled t m.mid m.more rest (subst (HasTypes t.globals) same h) m.typed
@@ -92,7 +93,7 @@ module _ (t : TypedProgram) (Known : ℕ → Point → Type 0) (know : KnowsPoin
   -- ---- from runs to moves
 
   action_part : (c : Config) (choice : Option ℤ) (mid : Config) → IsGood t Known c → IsNoImport (action_at t c.top.proc c.top.point) →
-      is_taken (need_of_action t c.top.proc (action_at t c.top.proc c.top.point)) choice ≡ true → act t c (number_of choice) (action_at t c.top.proc c.top.point) ≡ Went mid → HasPart t mid
+      is_taken (need_of_action t c.top.proc (action_at t c.top.proc c.top.point)) choice ≡ true → act t c (or_zero choice) (action_at t c.top.proc c.top.point) ≡ Went mid → HasPart t mid
   action_part c choice mid g plain taken went = elim (own_or_call t Known know (action_at t c.top.proc c.top.point) plain) [
     | inl own ↦ (let f : Follows t Known know c mid = move_own t Known know c choice mid g own taken went in
         record { globals = f.good.top.keeps.globals; locals = all_so_far (locals_at t mid.top.proc) mid.top.locals f.good.top.keeps.locals })
@@ -100,10 +101,10 @@ module _ (t : TypedProgram) (Known : ℕ → Point → Type 0) (know : KnowsPoin
   ]
     where
       entered_part : (c : Config) (choice : Option ℤ) (mid : Config) (f : ℕ) (args : List TypedExpression) → IsGood t Known c → action_at t c.top.proc c.top.point ≡ actions.Enter f args →
-          act t c (number_of choice) (action_at t c.top.proc c.top.point) ≡ Went mid → HasPart t mid
+          act t c (or_zero choice) (action_at t c.top.proc c.top.point) ≡ Went mid → HasPart t mid
       entered_part c choice mid f args g is went =
           let n : ℕ = c.top.proc in
-          let enters : Went (entered t c f (values (state_of c) args)) ≡ Went mid = sym (ap (act t c (number_of choice)) is) ∙ went in
+          let enters : Went (entered t c f (values (state_of c) args)) ≡ Went mid = sym (ap (act t c (or_zero choice)) is) ∙ went in
           let same : entered t c f (values (state_of c) args) ≡ mid = cc in
           let q : IsKnownCall t n c.top.point f args = know.calls n c.top.point f args g.top.known is in
           let params : List VarInfo = take q.procedure.params q.procedure.locals in
@@ -117,7 +118,7 @@ module _ (t : TypedProgram) (Known : ℕ → Point → Type 0) (know : KnowsPoin
   Later n = (d : Config) (choices : List (Option ℤ)) → length choices ≤ n → IsGood t Known d → run t d choices ≡ Failed i → (k : ℕ) × Breaks t Import i k d
 
   went_breaks : (n : ℕ) (c : Config) (ch : Option ℤ) (chs : List (Option ℤ)) (mid : Config) → length chs ≤ n → IsGood t Known c → IsNoImport (action_at t c.top.proc c.top.point) →
-      is_taken (need_of_action t c.top.proc (action_at t c.top.proc c.top.point)) ch ≡ true → act t c (number_of ch) (action_at t c.top.proc c.top.point) ≡ Went mid → Later n →
+      is_taken (need_of_action t c.top.proc (action_at t c.top.proc c.top.point)) ch ≡ true → act t c (or_zero ch) (action_at t c.top.proc c.top.point) ≡ Went mid → Later n →
       run t mid chs ≡ Failed i → (k : ℕ) × Breaks t Import i k c
   went_breaks n c ch chs mid l g plain taken went later fails =
       let p : HasPart t mid = action_part c ch mid g plain taken went in
@@ -129,19 +130,19 @@ module _ (t : TypedProgram) (Known : ℕ → Point → Type 0) (know : KnowsPoin
       (suc b.0, (filled mid r.more, inl m, b.1))
 
   act_breaks : (n : ℕ) (c : Config) (ch : Option ℤ) (chs : List (Option ℤ)) (o : Outcome) → length chs ≤ n → IsGood t Known c → IsNoImport (action_at t c.top.proc c.top.point) →
-      is_taken (need_of_action t c.top.proc (action_at t c.top.proc c.top.point)) ch ≡ true → act t c (number_of ch) (action_at t c.top.proc c.top.point) ≡ o → Later n →
+      is_taken (need_of_action t c.top.proc (action_at t c.top.proc c.top.point)) ch ≡ true → act t c (or_zero ch) (action_at t c.top.proc c.top.point) ≡ o → Later n →
       then_goes_on o (λ d. run t d chs) ≡ Failed i → (k : ℕ) × Breaks t Import i k c
   act_breaks n c ch chs (Went mid) l g plain taken went later fails = went_breaks n c ch chs mid l g plain taken went later fails
   act_breaks n c ch chs Blocked l g plain taken went later fails = absurd (cc)
   act_breaks n c ch chs (Failed j) l g plain taken went later fails =
-      (0, (failing_reads_none t c (number_of ch) (action_at t c.top.proc c.top.point) i (went ∙ fails)).0)
+      (0, (failing_reads_none t c (or_zero ch) (action_at t c.top.proc c.top.point) i (went ∙ fails)).0)
   act_breaks n c ch chs Ended l g plain taken went later fails = absurd (cc)
   act_breaks n c ch chs Refused l g plain taken went later fails = absurd (cc)
 
   step_breaks : (n : ℕ) (c : Config) (ch : Option ℤ) (chs : List (Option ℤ)) (b : Bool) → length chs ≤ n → IsGood t Known c → IsNoImport (action_at t c.top.proc c.top.point) →
       is_taken (need_of_action t c.top.proc (action_at t c.top.proc c.top.point)) ch ≡ b → Later n →
-      then_goes_on (if b then act t c (number_of ch) (action_at t c.top.proc c.top.point) else Refused) (λ d. run t d chs) ≡ Failed i → (k : ℕ) × Breaks t Import i k c
-  step_breaks n c ch chs true l g plain taken later fails = act_breaks n c ch chs (act t c (number_of ch) (action_at t c.top.proc c.top.point)) l g plain taken refl later fails
+      then_goes_on (if b then act t c (or_zero ch) (action_at t c.top.proc c.top.point) else Refused) (λ d. run t d chs) ≡ Failed i → (k : ℕ) × Breaks t Import i k c
+  step_breaks n c ch chs true l g plain taken later fails = act_breaks n c ch chs (act t c (or_zero ch) (action_at t c.top.proc c.top.point)) l g plain taken refl later fails
   step_breaks n c ch chs false l g plain taken later fails = absurd (cc)
 
   pub run_breaks : (n : ℕ) → Later n

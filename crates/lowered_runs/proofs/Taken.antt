@@ -3,6 +3,7 @@ use Rattle.std.proofs.Common.{◌≡◌, ℕ, zero, suc, Bool, true, false, ℤ,
 use Rattle.std.specs.Prelude.{slice_get, nat_lt}
 use Rattle.std.specs.List.{AllByRecursion}
 use Rattle.std.proofs.lemmas.Bool.Decides.{nat_tests}
+use Rattle.math_facts.specs.Optional.{or_zero}
 use Rattle.boogie_tree.specs.declared.tree.Ty.{Ty}
 use Rattle.boogie_tree.specs.declared.tree.Ty.TheVariants as types
 use Rattle.boogie_tree.specs.declared.tree.Column.{Column}
@@ -13,7 +14,7 @@ use Rattle.letter_acts.specs.Frames.{IsValue}
 use Rattle.boogie_points.specs.Points.{Point}
 use Rattle.boogie_run.specs.Configurations.{Config}
 use Rattle.boogie_run.specs.Needs.{need_of_type, need_of, need_of_column, is_taken, locals_at}
-use Rattle.boogie_run.specs.Steps.{Outcome, Went, number_of, moved_to, went_if}
+use Rattle.boogie_run.specs.Steps.{Outcome, Went, moved_to, went_if}
 use Rattle.lowered_steps.specs.Moves.{IsTarget}
 
 -- ---- outcomes
@@ -56,13 +57,13 @@ truth_taken (suc (suc n)) e = absurd (too_many n e)
     too_many n e = grind (arith, nat_tests)
 
 -- a choice that a type takes is a value of it
-pub taken_value : (ty : Ty) (choice : Option ℤ) → is_taken (need_of_type ty) choice ≡ true → IsValue ty (number_of choice)
+pub taken_value : (ty : Ty) (choice : Option ℤ) → is_taken (need_of_type ty) choice ≡ true → IsValue ty (or_zero choice)
 taken_value types.Int choice e = tt
 taken_value types.Bool None e = absurd (cc)
 taken_value types.Bool (Some (pos n)) e = truth_taken n e
 taken_value types.Bool (Some (negsuc n)) e = absurd (cc)
 
-pub some_taken : (ty : Ty) (choice : Option ℤ) → is_taken (need_of_type ty) choice ≡ true → choice ≡ Some (number_of choice)
+pub some_taken : (ty : Ty) (choice : Option ℤ) → is_taken (need_of_type ty) choice ≡ true → choice ≡ Some (or_zero choice)
 some_taken types.Int None e = absurd (cc)
 some_taken types.Int (Some z) e = refl
 some_taken types.Bool None e = absurd (cc)
@@ -72,9 +73,9 @@ pub taken_by_need : (o : Option VarInfo) (v : VarInfo) (choice : Option ℤ) →
 taken_by_need o v choice e h = sym (ap (λ (x : Option VarInfo). is_taken (need_of x) choice) e) ∙ h
 
 -- a choice for a target is a value of its type
-pub target_value : (t : TypedProgram) (n : ℕ) (ty : Ty) (x : Column) (choice : Option ℤ) → IsTarget t n ty x → is_taken (need_of_column t.globals (locals_at t n) x) choice ≡ true → IsValue ty (number_of choice)
+pub target_value : (t : TypedProgram) (n : ℕ) (ty : Ty) (x : Column) (choice : Option ℤ) → IsTarget t n ty x → is_taken (need_of_column t.globals (locals_at t n) x) choice ≡ true → IsValue ty (or_zero choice)
 target_value t n ty (columns.Global g) choice h e =
-    subst (λ (y : Ty). IsValue y (number_of choice)) h.type (taken_value h.info.ty choice (taken_by_need (slice_get t.globals g) h.info choice h.is e))
+    subst (λ (y : Ty). IsValue y (or_zero choice)) h.type (taken_value h.info.ty choice (taken_by_need (slice_get t.globals g) h.info choice h.is e))
 target_value t n ty (columns.Old g) choice h e = absurd h
 target_value t n ty (columns.Local l) choice h e =
-    subst (λ (y : Ty). IsValue y (number_of choice)) h.type (taken_value h.info.ty choice (taken_by_need (slice_get (locals_at t n) l) h.info choice h.is e))
+    subst (λ (y : Ty). IsValue y (or_zero choice)) h.type (taken_value h.info.ty choice (taken_by_need (slice_get (locals_at t n) l) h.info choice h.is e))

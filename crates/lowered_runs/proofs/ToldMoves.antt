@@ -21,7 +21,8 @@ use Rattle.boogie_points.specs.Actions.{Action, action_at}
 use Rattle.boogie_places.specs.Places.{number_of, onward}
 use Rattle.boogie_run.specs.Configurations.{Config, state_of}
 use Rattle.boogie_run.specs.Needs.{Need, Nothing, need_of_column, need_of_action, is_taken, locals_at}
-use Rattle.boogie_run.specs.Steps.{Went, act, number_of as number_chosen, put, moved_to, written, values, entered, went_if}
+use Rattle.math_facts.specs.Optional.{or_zero as number_chosen}
+use Rattle.boogie_run.specs.Steps.{Went, act, put, moved_to, written, values, entered, went_if}
 use Rattle.lowered_steps.specs.ProgramFrames.{frame_at, shown, variable_values, number_in, number_if_any}
 use Rattle.lowered_steps.specs.Edges.{Spot, At, columns_before_locals}
 use Rattle.lowered_steps.specs.Moves.{FrameKeeps, IsTarget, IsTypedAction, IsGood, IsMove, KnowsPoints, shown_stack, filled}

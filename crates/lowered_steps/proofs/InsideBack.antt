@@ -1,5 +1,6 @@
 -- The other way round: a step by an inside edge of an action is what the action does, with a choice that it takes.
 use Rattle.std.proofs.Common.{◌≡◌, ℕ, Bool, true, false, ℤ, pos, List, [], Option, None, inl, inr, ◌⊎◌, refl, ap, subst, if◌then◌else◌}
+use Rattle.math_facts.specs.Optional.{or_zero}
 use Rattle.boogie_tree.specs.declared.span.Span.{Span}
 use Rattle.typed_tree.specs.TypedTree.{TypedExpression, TypedProgram}
 use Rattle.typed_tree.specs.Values.{State, value, truth}
@@ -12,7 +13,7 @@ use Rattle.boogie_points.specs.Actions as actions
 use Rattle.boogie_points.specs.Actions.{Action}
 use Rattle.boogie_run.specs.Configurations.{Config, state_of}
 use Rattle.boogie_run.specs.Needs.{need_of_action, is_taken}
-use Rattle.boogie_run.specs.Steps.{Outcome, Went, Blocked, Failed, act, number_of, is_true, moved_to, passed_state}
+use Rattle.boogie_run.specs.Steps.{Outcome, Went, Blocked, Failed, act, is_true, moved_to, passed_state}
 use Rattle.lowered_steps.specs.ProgramFrames.{frame_at, shown}
 use Rattle.lowered_steps.specs.Edges.{Spot, At, Wrong, Edge, leads, inside_edges, passed_list}
 use Rattle.lowered_steps.specs.Stacks.{Stack, IsAmong}
@@ -26,7 +27,7 @@ pub record GoesTo (t : TypedProgram) (c : Config) (a : Action) (to : Spot) (afte
   pub choice : Option ℤ
   pub taken : is_taken (need_of_action t c.top.proc a) choice ≡ true
   pub next : Config
-  pub went : act t c (number_of choice) a ≡ Went next
+  pub went : act t c (or_zero choice) a ≡ Went next
   pub shown : (let x : Stack = record { proc = c.top.proc; spot = to; values = after; below = shown_below t c.top.entry c.below } in x) ≡ shown_stack t next
 
 pub record FailsAt (t : TypedProgram) (c : Config) (a : Action) (to : Spot) : Type 0 where

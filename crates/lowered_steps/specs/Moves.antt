@@ -1,6 +1,7 @@
 -- Runs by moves: one action, and then the choices of the locals that are missing. What a configuration keeps in a run of a typed program.
 use Rattle.std.specs.Prelude.{◌≡◌, ℕ, ◌+◌, ◌≤◌, ℤ, true, false, List, [], ◌∷◌, ◌++◌, length, take, drop, Option, Some, slice_get}
 use Rattle.std.specs.List.{AllByRecursion}
+use Rattle.math_facts.specs.Optional.{or_zero}
 use Rattle.boogie_tree.specs.declared.tree.Ty.{Ty}
 use Rattle.boogie_tree.specs.declared.tree.Ty.TheVariants as types
 use Rattle.boogie_tree.specs.declared.tree.Column.{Column}
@@ -20,7 +21,7 @@ use Rattle.boogie_points.specs.Actions as actions
 use Rattle.boogie_points.specs.Actions.{Action, action_at}
 use Rattle.boogie_run.specs.Configurations.{Frame, Config, state_of}
 use Rattle.boogie_run.specs.Needs.{locals_at, need_of_action, is_taken}
-use Rattle.boogie_run.specs.Steps.{Went, act, number_of, values}
+use Rattle.boogie_run.specs.Steps.{Went, act, values}
 use Rattle.typing_rules.specs.Rules.{results_of}
 use Rattle.lowered_steps.specs.ProgramFrames.{frame_at, shown}
 use Rattle.lowered_steps.specs.Stacks.{Pending, Stack}
@@ -194,7 +195,7 @@ pub record IsMove (t : TypedProgram) (c d : Config) : Type 0 where
   pub choice : Option ℤ
   pub taken : is_taken (need_of_action t c.top.proc (action_at t c.top.proc c.top.point)) choice ≡ true
   pub mid : Config
-  pub went : act t c (number_of choice) (action_at t c.top.proc c.top.point) ≡ Went mid
+  pub went : act t c (or_zero choice) (action_at t c.top.proc c.top.point) ≡ Went mid
   pub more : List ℤ
   pub typed : HasTypes (locals_at t mid.top.proc) (mid.top.locals ++ more)
   pub done : d ≡ filled mid more

@@ -2,6 +2,7 @@
 use Rattle.std.proofs.Common.{◌≡◌, ℕ, zero, suc, ◌+◌, ◌<◌, ◌≤◌, ℤ, unsigned_abs, Bool, true, false, nat_lt, IsTrue, List, [], ◌∷◌, ◌++◌, length, length-append, refl, ap, sym, ◌∙◌, subst, Option, Some, slice_get, if◌then◌else◌, arith}
 use Rattle.std.specs.List.{AllByRecursion}
 use Rattle.std.proofs.lemmas.List.{length-map}
+use Rattle.math_facts.specs.Optional.{or_zero}
 use Rattle.typed_tree.specs.Values.{value}
 use Rattle.typed_tree.specs.TypedTree.{TypedExpression, TypedBlock, TypedProcedure, TypedProgram}
 use Rattle.typing_rules.specs.ValidProgram.{is_valid}
@@ -11,7 +12,7 @@ use Rattle.boogie_points.specs.Actions.{Action, action_at, start_conditions}
 use Rattle.boogie_points.specs.Starts.{point_of_procedure, point_of_call, unless_none, start_point_of, targets_at}
 use Rattle.boogie_run.specs.Configurations.{Frame, Config, state_of}
 use Rattle.boogie_run.specs.Needs.{need, is_taken, locals_at, locals_if_any}
-use Rattle.boogie_run.specs.Steps.{Outcome, Went, Blocked, Failed, Ended, Refused, values, written, all_written, moved_to, kept_on, kept_to, passed_state, granted_state, finished, entered, left, results_of, is_true, went_if, act, number_of, with_global, with_local, next, step, start}
+use Rattle.boogie_run.specs.Steps.{Outcome, Went, Blocked, Failed, Ended, Refused, values, written, all_written, moved_to, kept_on, kept_to, passed_state, granted_state, finished, entered, left, results_of, is_true, went_if, act, with_global, with_local, next, step, start}
 use Rattle.boogie_run.specs.Runs.{then_goes_on, run}
 use Rattle.run_defaults.specs.Standing.{AtCall}
 use Rattle.run_defaults.proofs.Parts.{below_of, most_of}
@@ -216,7 +217,7 @@ module _ (t : TypedProgram) (valid : IsTrue (is_valid t)) where
       (most_of (length c.top.locals) (length (locals_at t c.top.proc)) whole) (top_known c r)))
 
   step_fits : (c : Config) (choice : Option ℤ) → Fits c → OutcomeFits (step t c choice)
-  step_fits c choice r = if_fits (is_taken (need t c) choice) (next t c (number_of choice)) Refused (next_fits c (number_of choice) r) tt
+  step_fits c choice r = if_fits (is_taken (need t c) choice) (next t c (or_zero choice)) Refused (next_fits c (or_zero choice) r) tt
 
   then_fits : (o : Outcome) (rest : Config → Outcome) → OutcomeFits o → ((d : Config) → Fits d → OutcomeFits (rest d)) → OutcomeFits (then_goes_on o rest)
   then_fits (Went c) rest h k = k c h

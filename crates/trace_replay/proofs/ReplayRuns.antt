@@ -2,10 +2,11 @@
 use Rattle.std.proofs.Common.{◌≡◌, ◌≢◌, ℕ, ◌+◌, ◌≤◌, ℤ, Bool, true, false, cond, List, [], ◌∷◌, ◌++◌, length, Option, None, Some, refl, sym, ap, ◌∙◌, subst, arith}
 use Rattle.std.specs.Option.{option_to_list}
 use Rattle.std.proofs.lemmas.Bool.{false≢true}
+use Rattle.math_facts.specs.Optional.{or_zero}
 use Rattle.typed_tree.specs.TypedTree.{TypedProgram}
 use Rattle.boogie_run.specs.Configurations.{Config}
 use Rattle.boogie_run.specs.Needs.{Need, Nothing, Whole, Truth, Below, need, is_taken}
-use Rattle.boogie_run.specs.Steps.{Outcome, Went, Blocked, Failed, Ended, Refused, start, step, next, number_of}
+use Rattle.boogie_run.specs.Steps.{Outcome, Went, Blocked, Failed, Ended, Refused, start, step, next}
 use Rattle.boogie_run.specs.Runs.{then_goes_on, run}
 use Rattle.trace_replay.specs.Replays.{choices_among, StepsFit}
 use Rattle.trace_replay.specs.ReplayCauses.{HasMade}
@@ -32,7 +33,7 @@ unless_refused false o p e h = absurd (h e)
 
 -- a step that is not refused takes its choice
 pub step_takes : (t : TypedProgram) (c : Config) (x : Option ℤ) (o : Outcome) → step t c x ≡ o → (Refused ≢ o) → is_taken (need t c) x ≡ true
-step_takes t c x o e h = unless_refused (is_taken (need t c) x) (next t c (number_of x)) o e h
+step_takes t c x o e h = unless_refused (is_taken (need t c) x) (next t c (or_zero x)) o e h
 
 pub refused_no_went : (d : Config) → Refused ≢ Went d
 refused_no_went d e = let no : ⊥ = cc in no
