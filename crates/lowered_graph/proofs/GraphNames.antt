@@ -1,24 +1,22 @@
 -- The names of procedures and columns differ and are spelled as names.
-use Rattle.std.proofs.Common.{◌≡◌, ◌∙◌, ◌⊎◌, ℕ, suc, ◌+◌, Bool, true, false, not, ◌&&◌, ◌||◌, List, [], ◌∷◌, ◌++◌, map, Some, inl, inr, refl, sym, ap, subst, arith, IsTrue}
-use Rattle.std.specs.Prelude.{slice_get, nat_eq, nat_le, drop}
+use Rattle.std.proofs.Common.{◌≡◌, ◌∙◌, ℕ, suc, ◌+◌, Bool, true, false, not, ◌&&◌, ◌||◌, List, [], ◌∷◌, ◌++◌, map, Some, inl, inr, refl, sym, ap, subst, arith, IsTrue}
+use Rattle.std.specs.Prelude.{slice_get}
 use Rattle.std.specs.List.{AllByRecursion, list_all, list_any}
 use Rattle.std.specs.Str.{bytes_eq}
-use Rattle.std.proofs.lemmas.Bool.{and_parts, false≢true, eqb-true}
+use Rattle.std.proofs.lemmas.Bool.{and_parts, false≢true}
 use Rattle.std.proofs.lemmas.Slice.Eq.{bytes_eq-Decides}
 use Rattle.boogie_tree.specs.declared.tree.Column.{Column}
 use Rattle.boogie_tree.specs.declared.tree.Column.TheVariants.{Old}
 use Rattle.boogie_tree.specs.declared.tree.VarInfo.{VarInfo}
+use Rattle.boogie_tree.specs.Names as names
 use Rattle.typed_tree.specs.TypedTree.{TypedProcedure, TypedProgram}
-use Rattle.typing_rules.specs.Names as rules
 use Rattle.typing_rules.specs.Rules.{all_differ, keeps_typing}
 use Rattle.typing_rules.specs.Shape.{are_names, are_locals, are_modified, is_body_shaped, is_procedure_shaped, has_shape}
 use Rattle.typing_rules.specs.Counts.{numbers_fit}
 use Rattle.typing_rules.specs.ValidProgram.{has_entry, is_typed, is_valid}
 use Rattle.typing_rules.proofs.ValidLaws.{all_member}
 use Rattle.nwa_base.specs.Members.{Member}
-use Rattle.nwa_base.proofs.LetterLemmas.{and_both}
 use Rattle.letter_acts.specs.Frames.{Columns, added, globals_from, old_columns, locals_from, is_global, is_local}
-use Rattle.letter_acts.specs.Names as names
 use Rattle.letter_acts.specs.Invariant.{AreDistinct, names_where, HasNames, AreNamed}
 use Rattle.boogie_run.specs.Needs.{locals_at, locals_if_any}
 use Rattle.lowered_steps.specs.ProgramFrames.{frame_at}
@@ -26,101 +24,11 @@ use Rattle.lowered_graph.specs.Lowered.{counted_procs, lowered}
 use Rattle.lowered_graph.proofs.Lists.{contained, not_both, or_right}
 use Rattle.letter_acts.proofs.ListLemmas.{all_append}
 
--- ---- how names are spelled
-
-or_either : (a b : Bool) → (a || b) ≡ true → (a ≡ true) ⊎ (b ≡ true)
-or_either true b e = inl refl
-or_either false b e = inr e
-
-or_first : (x y z : Bool) → x ≡ true → (x || y || z) ≡ true
-or_first true y z e = refl
-or_first false y z e = absurd (false≢true e)
-
-or_second : (x y z : Bool) → y ≡ true → (x || y || z) ≡ true
-or_second true true z e = refl
-or_second false true z e = refl
-or_second x false z e = absurd (false≢true e)
-
-or_third : (x y z : Bool) → z ≡ true → (x || y || z) ≡ true
-or_third true true true e = refl
-or_third true false true e = refl
-or_third false true true e = refl
-or_third false false true e = refl
-or_third x y false e = absurd (false≢true e)
+-- ---- lists of names
 
 or_left : (a b : Bool) → a ≡ true → (a || b) ≡ true
 or_left true b e = refl
 or_left false b e = absurd (false≢true e)
-
-any_member : (b : ℕ) (xs : List ℕ) → list_any (nat_eq b) xs ≡ true → Member xs b
-any_member b [] e = absurd (false≢true e)
-any_member b (x ∷ xs) e = elim (or_either (nat_eq b x) (list_any (nat_eq b) xs) e) [
-  | inl h ↦ inl (sym (eqb-true b x h))
-  | inr h ↦ inr (any_member b xs h)
-]
-
-marked : (b : ℕ) → Member (95 ∷ 46 ∷ 36 ∷ 35 ∷ 39 ∷ 96 ∷ 126 ∷ 94 ∷ 63 ∷ 92 ∷ []) b → names.is_name_mark b ≡ true
-marked b (inl e) = subst (λ (x : ℕ). names.is_name_mark x ≡ true) e refl
-marked b (inr (inl e)) = subst (λ (x : ℕ). names.is_name_mark x ≡ true) e refl
-marked b (inr (inr (inl e))) = subst (λ (x : ℕ). names.is_name_mark x ≡ true) e refl
-marked b (inr (inr (inr (inl e)))) = subst (λ (x : ℕ). names.is_name_mark x ≡ true) e refl
-marked b (inr (inr (inr (inr (inl e))))) = subst (λ (x : ℕ). names.is_name_mark x ≡ true) e refl
-marked b (inr (inr (inr (inr (inr (inl e)))))) = subst (λ (x : ℕ). names.is_name_mark x ≡ true) e refl
-marked b (inr (inr (inr (inr (inr (inr (inl e))))))) = subst (λ (x : ℕ). names.is_name_mark x ≡ true) e refl
-marked b (inr (inr (inr (inr (inr (inr (inr (inl e)))))))) = subst (λ (x : ℕ). names.is_name_mark x ≡ true) e refl
-marked b (inr (inr (inr (inr (inr (inr (inr (inr (inl e))))))))) = subst (λ (x : ℕ). names.is_name_mark x ≡ true) e refl
-marked b (inr (inr (inr (inr (inr (inr (inr (inr (inr (inl e)))))))))) = subst (λ (x : ℕ). names.is_name_mark x ≡ true) e refl
-marked b (inr (inr (inr (inr (inr (inr (inr (inr (inr (inr m)))))))))) = absurd m
-
-letter_so : (b : ℕ) → rules.is_letter b ≡ true → names.is_letter b ≡ true
-letter_so b e = elim (or_either (nat_le 65 b && nat_le b 90) (nat_le 97 b && nat_le b 122) e) [
-  | inl h ↦ or_right (nat_le 97 b && nat_le b 122) (nat_le 65 b && nat_le b 90) h
-  | inr h ↦ or_left (nat_le 97 b && nat_le b 122) (nat_le 65 b && nat_le b 90) h
-]
-
-byte_so : (b : ℕ) → rules.is_name_byte b ≡ true → names.is_name_byte b ≡ true
-byte_so b e = elim (or_either (rules.is_letter b) (rules.is_digit b || rules.is_sign b) e) [
-  | inl h ↦ or_first (names.is_letter b) (names.is_digit b) (names.is_name_mark b) (letter_so b h)
-  | inr h ↦ elim (or_either (rules.is_digit b) (rules.is_sign b) h) [
-    | inl d ↦ or_second (names.is_letter b) (names.is_digit b) (names.is_name_mark b) d
-    | inr s ↦ or_third (names.is_letter b) (names.is_digit b) (names.is_name_mark b) (marked b (any_member b (95 ∷ 46 ∷ 36 ∷ 35 ∷ 39 ∷ 96 ∷ 126 ∷ 94 ∷ 63 ∷ 92 ∷ []) s))
-  ]
-]
-
-bytes_so : (bs : List ℕ) → list_all rules.is_name_byte bs ≡ true → list_all names.is_name_byte bs ≡ true
-bytes_so [] e = refl
-bytes_so (b ∷ bs) e =
-    let parts = and_parts (rules.is_name_byte b) (list_all rules.is_name_byte bs) e in
-    and_both (names.is_name_byte b) (list_all names.is_name_byte bs) (byte_so b parts.0) (bytes_so bs parts.1)
-
-name_so : (bs : List ℕ) → rules.is_name bs ≡ true → names.is_plain_name bs ≡ true
-name_so [] e = e
-name_so (b ∷ bs) e =
-    let parts = and_parts (not (rules.is_digit b)) (list_all rules.is_name_byte (b ∷ bs)) e in
-    and_both (not (names.is_digit b)) (list_all names.is_name_byte (b ∷ bs)) parts.0 (bytes_so (b ∷ bs) parts.1)
-
-number_so : (bs : List ℕ) → rules.is_name_or_number bs ≡ true → (names.are_digits bs || names.is_plain_name bs) ≡ true
-number_so [] e = absurd (false≢true e)
-number_so (b ∷ bs) e = elim (or_either (list_all rules.is_digit (b ∷ bs)) (rules.is_name (b ∷ bs)) e) [
-  | inl h ↦ or_left (names.are_digits (b ∷ bs)) (names.is_plain_name (b ∷ bs)) h
-  | inr h ↦ or_right (names.are_digits (b ∷ bs)) (names.is_plain_name (b ∷ bs)) (name_so (b ∷ bs) h)
-]
-
-made_so : (bs : List ℕ) → rules.is_made bs ≡ true → (names.has_mark bs && (names.are_digits (drop 2 bs) || names.is_plain_name (drop 2 bs))) ≡ true
-made_so [] e = absurd (false≢true e)
-made_so (a ∷ []) e = absurd (false≢true e)
-made_so (a ∷ b ∷ bs) e =
-    let parts = and_parts (rules.is_mark a) (nat_eq b 58 && rules.is_name_or_number bs) e in
-    let rest = and_parts (nat_eq b 58) (rules.is_name_or_number bs) parts.1 in
-    and_both (names.has_mark (a ∷ b ∷ bs)) (names.are_digits bs || names.is_plain_name bs) (and_both (rules.is_mark a) (nat_eq b 58) parts.0 rest.0) (number_so bs rest.1)
-
-spelled_so : (bs : List ℕ) → rules.is_spelled bs ≡ true → names.is_spelled bs ≡ true
-spelled_so bs e = elim (or_either (rules.is_name bs) (rules.is_made bs) e) [
-  | inl h ↦ or_left (names.is_plain_name bs) (names.has_mark bs && (names.are_digits (drop 2 bs) || names.is_plain_name (drop 2 bs))) (name_so bs h)
-  | inr h ↦ or_right (names.is_plain_name bs) (names.has_mark bs && (names.are_digits (drop 2 bs) || names.is_plain_name (drop 2 bs))) (made_so bs h)
-]
-
--- ---- lists of names
 
 any_of : (x : List ℕ) (xs : List (List ℕ)) → Member xs x → list_any (bytes_eq x) xs ≡ true
 any_of x [] m = absurd m
@@ -138,15 +46,15 @@ pub record NamesAreRight (xs : List (List ℕ)) : Type 0 where
   pub differ : AreDistinct xs
   pub spelled : AllByRecursion (λ n. IsTrue (names.is_spelled n)) xs
 
-all_spelled : (xs : List (List ℕ)) → list_all rules.is_spelled xs ≡ true → AllByRecursion (λ n. IsTrue (names.is_spelled n)) xs
+all_spelled : (xs : List (List ℕ)) → list_all names.is_spelled xs ≡ true → AllByRecursion (λ n. IsTrue (names.is_spelled n)) xs
 all_spelled [] e = tt
 all_spelled (x ∷ xs) e =
-    let parts = and_parts (rules.is_spelled x) (list_all rules.is_spelled xs) e in
-    (spelled_so x parts.0, all_spelled xs parts.1)
+    let parts = and_parts (names.is_spelled x) (list_all names.is_spelled xs) e in
+    (parts.0, all_spelled xs parts.1)
 
 names_so : (xs : List (List ℕ)) → are_names xs ≡ true → NamesAreRight xs
 names_so xs e =
-    let parts = and_parts (list_all rules.is_spelled xs) (all_differ bytes_eq xs) e in
+    let parts = and_parts (list_all names.is_spelled xs) (all_differ bytes_eq xs) e in
     record { differ = differ_so xs parts.1; spelled = all_spelled xs parts.0 }
 
 -- ---- the names of a program

@@ -3,7 +3,8 @@ use Rattle.std.specs.Prelude.{ℕ, zero, suc, ◌+◌, Bool, true, false, not, �
 use Rattle.std.specs.List.{list_any}
 use Rattle.boogie_tree.specs.declared.span.Span.{Span}
 use Rattle.boogie_tree.specs.declared.tree.VarInfo.{VarInfo}
-use Rattle.typed_tree.specs.TypedTree.{TypedExpression, Lit, Truth, Var, Old, Not, Neg, Bin, TypedInvariant, TypedStatement, Assert, Assume, Havoc, Assign, Call, If, While, Break, Goto, Return, Label, TypedBlock, Empty, Then, TypedProcedure, TypedProgram}
+use Rattle.typed_tree.specs.TypedTree.{TypedExpression, TypedInvariant, TypedStatement, Assert, Assume, Havoc, Assign, Call, If, While, Break, Goto, Return, Label, TypedBlock, Empty, Then, TypedProcedure, TypedProgram}
+use Rattle.typed_tree.specs.BrokenRules.{expression_span}
 use Rattle.typing_rules.specs.Counts.{checked_at_call}
 use Rattle.letter_acts.specs.Frames.{Columns}
 use Rattle.cond_jumps.specs.Conjunctions.{Plan, is_wide, all_fit}
@@ -78,15 +79,6 @@ needed_at t p = needed_by t p.proc p.point (action_at t p.proc p.point)
 pub record Item : Type 0 where
   pub span : Span
   pub needed : List Needed
-
-abbrev pub expression_span : TypedExpression → Span
-expression_span (Lit at n) = at
-expression_span (Truth at b) = at
-expression_span (Var at c) = at
-expression_span (Old at e) = at
-expression_span (Not at e) = at
-expression_span (Neg at e) = at
-expression_span (Bin at op a b) = at
 
 abbrev pub statement_span : TypedStatement → Span
 statement_span (Assert at e) = at

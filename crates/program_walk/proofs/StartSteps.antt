@@ -12,6 +12,7 @@ use Rattle.boogie_tree.specs.declared.tree.VarInfo.{VarInfo}
 use Rattle.typed_tree.specs.declared.types.TExpr.{TExpr}
 use Rattle.typed_tree.specs.declared.types.TExprKind.{TExprKind}
 use Rattle.typed_tree.specs.declared.types.TExprKind.TheVariants as kinds
+use Rattle.typed_tree.specs.BrokenRules.{expression_span}
 use Rattle.typed_tree.specs.TypedView as view
 use Rattle.typed_tree.specs.TypedTree.{TypedExpression, TypedInvariant, TypedSpecification, TypedProcedure, TypedProgram}
 use Rattle.typing_rules.specs.Counts.{checked_at_call}
@@ -30,7 +31,7 @@ use Rattle.boogie_places.specs.Places.{parts_from, located}
 use Rattle.letter_table.specs.Letters.{inside_arc, with_arc}
 use Rattle.lowered_steps.specs.ProgramFrames.{frame_at}
 use Rattle.lowered_graph.specs.Arcs.{place_number, entering, entering_rows}
-use Rattle.lowered_graph.specs.Items.{path_needed, expression_span, condition_span, start_span}
+use Rattle.lowered_graph.specs.Items.{path_needed, condition_span, start_span}
 use Rattle.boogie_tree.specs.Apart.{nowhere}
 use Rattle.lowered_parts.specs.Parts.{Walked, Adds}
 use Rattle.lowered_parts.specs.Lists.{list_arcs}
