@@ -1,6 +1,6 @@
 //! The lists of calls of procedures without body.
 
-ghost use Rattle.std.specs.Prelude.{◌≡◌, ◌++◌, true, false, IfOk, IsOk, Err, [], ◌∷◌, map, take, drop};
+ghost use Rattle.std.specs.Prelude.{◌≡◌, ◌++◌, true, false, IfOk, IsOk, Err, [], ◌∷◌, map};
 ghost use Rattle.typed_tree.specs.TypedView.{expression, procedure, specification};
 ghost use Rattle.boogie_points.specs.Actions.{ensured_conditions};
 ghost use Rattle.cond_jumps.specs.Conjunctions.{joined, is_wide, all_fit};
@@ -21,6 +21,7 @@ use boogie_tree::VarInfo;
 use cond_jumps::{Conj, JumpFault};
 use letter_acts::Frame;
 use std::alloc::{AllocError, Global};
+use typed_tree::signatures::results;
 use typed_tree::{TExpr, TProc, TSpec};
 
 /// What a call of a procedure without body may do.
@@ -30,38 +31,6 @@ pub struct Import {
     pub written: Vec<u32>,
     /// Its conjunctions: over the frame, the written columns, and the helpers.
     pub conjs: Vec<Conj>,
-}
-
-/// The first ones, so many at most.
-fn front(all: &[VarInfo], count: usize) -> &[VarInfo]
-    ensures { result.now ≡ take count all.now }
-{
-    if count < all.len() {
-        &all[..count]
-    } else {
-        all
-    }
-}
-
-/// Those after the first ones, of which there are so many.
-fn after(all: &[VarInfo], count: usize) -> &[VarInfo]
-    ensures { result.now ≡ drop count all.now }
-{
-    if count < all.len() {
-        &all[count..]
-    } else {
-        &[]
-    }
-}
-
-/// The results of a procedure.
-fn results(callee: &TProc) -> &[VarInfo]
-    ensures { result.now ≡ take callee.now.results (drop callee.now.params callee.now.locals.items) }
-{
-    front(
-        after(&callee.locals, callee.params as usize),
-        callee.results as usize,
-    )
 }
 
 /// The result in the column that is written for its target.
