@@ -78,9 +78,6 @@ get_other [] x (suc i) n = refl
 get_other (y ∷ xs) x zero n = refl
 get_other (y ∷ xs) x (suc i) n = get_other xs x i (λ e. n (ap suc e))
 
-leader_last : (leaders : List ℕ) (h : ℕ) → leader_in (leaders ++ h ∷ []) (length leaders) ≡ h
-leader_last leaders h = ap (λ (o : Option ℕ). unwrap_or o (length leaders)) (get_last leaders h)
-
 leader_other : (leaders : List ℕ) (h e : ℕ) → e ≢ length leaders → leader_in (leaders ++ h ∷ []) e ≡ leader_in leaders e
 leader_other leaders h e n = ap (λ (o : Option ℕ). unwrap_or o e) (get_other leaders h e n)
 

@@ -76,12 +76,6 @@ order_whole b start reached ending kept new i l t n e h =
       );
     }
 
-pub index_none : (kept : List ℕ) (names : List (Option ℕ)) → names ≡ [] → IsIndex kept names
-index_none kept names e = record {
-  named = λ q x g. absurd (let f : None ≡ Some (Some x) = subst (λ (l : List (Option ℕ)). slice_get l q ≡ Some (Some x)) e g in cc);
-  unnamed = λ q g m. (let f : None ≡ Some None = subst (λ (l : List (Option ℕ)). ◌≡◌ {A = Option (Option ℕ)} (slice_get l q) (Some None)) e g in cc);
-}
-
 pub index_some : (kept : List ℕ) (names new : List (Option ℕ)) (q x : ℕ) → IsIndex kept names → length names ≡ q → slice_get kept x ≡ Some q →
     new ≡ names ++ Some x ∷ [] → IsIndex kept new
 index_some kept names new q x h l k e = record {

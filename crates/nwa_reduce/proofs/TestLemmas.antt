@@ -6,7 +6,7 @@ use Rattle.nwa_base.specs.declared.letters.Letter.{Letter}
 use Rattle.nwa_base.specs.Members.{Member}
 use Rattle.nwa_base.proofs.LetterLemmas.{and_left, and_right, and_both, eqb-refl, same_letter-refl, sameb-same_kind}
 use Rattle.nwa_base.proofs.EdgeLemmas.{letter_test}
-use Rattle.nwa_base.proofs.MemberLemmas.{any_member, member_any}
+use Rattle.nwa_base.proofs.MemberLemmas.{member_any}
 use Rattle.nwa_reduce.specs.declared.marking.Mark.{Mark}
 use Rattle.nwa_reduce.specs.declared.marking.Mark.TheVariants as marks
 use Rattle.nwa_reduce.specs.contracts.marking.MarkPartialEq.TheImpl.{eq-value}
@@ -66,10 +66,6 @@ same_mark (marks.Before p a r) (marks.Before q b s) h =
     let e : a ≡ b = letters_same _ _ (and_left _ _ (and_right _ _ h)) in
     let f : r ≡ s = eqb-true _ _ (and_right _ _ (and_right _ _ h)) in
     λ n. marks.Before (g n) (e n) (f n)
-
--- a mark that the test finds, and one that it does not
-pub mark_there : (keys : List Mark) (x : Mark) → list_any (mark_test x) keys ≡ true → Member keys x
-mark_there keys x h = any_member (λ (y z : Mark). mark_test z y) keys x (λ y e. sym (same_mark x y e)) h
 
 pub mark_absent : (keys : List Mark) (x : Mark) → list_any (mark_test x) keys ≡ false → Member keys x → ⊥
 mark_absent keys x h m =

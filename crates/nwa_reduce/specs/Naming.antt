@@ -40,13 +40,13 @@ pub record IsMerging (m : Automaton) (names : List (Option ℕ)) (count : ℕ) :
   pub whole : count ≡ m.states → (p q : ℕ) → p < m.states → q < m.states → AreTwins m p q → p ≡ q
 
 -- the state is the start, or stands in both sets
-abbrev pub IsKept : ℕ → List ℕ → List ℕ → ℕ → Type 0
-IsKept start reached ending q = (q ≡ start) ⊎ (Member reached q × Member ending q)
+abbrev pub KeepsState : ℕ → List ℕ → List ℕ → ℕ → Type 0
+KeepsState start reached ending q = (q ≡ start) ⊎ (Member reached q × Member ending q)
 
 -- the list has the states that are kept, each once
 pub record IsOrder (start : ℕ) (reached ending kept : List ℕ) : Type 0 where
   pub distinct : AreDistinct kept
-  pub has : (q : ℕ) → Member kept q ↔ IsKept start reached ending q
+  pub has : (q : ℕ) → Member kept q ↔ KeepsState start reached ending q
 
 -- the name of a state is its place in the list, if it has one
 pub record IsIndex (kept : List ℕ) (names : List (Option ℕ)) : Type 0 where
