@@ -253,14 +253,6 @@ no_labels t n (Some q) h = ap (λ (o : Option TypedBlock). labels_with t n q o) 
 pub without_body : (t : TypedProgram) (n : ℕ) → body_if_any t n ≡ None → label_numbers t n ≡ []
 without_body t n h = no_labels t n (slice_get t.procs n) h
 
--- nor without a procedure
-pub without_procedure : (t : TypedProgram) (n : ℕ) → option_map (λ r. marks_of t (n, r)) (slice_get t.procs n) ≡ None → label_numbers t n ≡ []
-without_procedure t n h = no_procedure (slice_get t.procs n) h
-  where
-    no_procedure : (o : Option TypedProcedure) → option_map (λ r. marks_of t (n, r)) o ≡ None → labels_if_any t n o ≡ []
-    no_procedure None e = refl
-    no_procedure (Some q) e = absurd (cc)
-
 -- with a body, by the numbers of the procedure
 pub with_marks : (t : TypedProgram) (n : ℕ) (b : TypedBlock) (m : Marks) → IsTrue (is_valid t) → body_if_any t n ≡ Some b → option_map (λ r. marks_of t (n, r)) (slice_get t.procs n) ≡ Some m →
     (m.exit ≡ m.body + block_points t.procs b) × (places_of t.procs b m.body m.exit ≡ label_numbers t n)

@@ -14,19 +14,6 @@ pub none_left : (xs : List TStmt) → are_labels (drop (length xs) xs) ≡ true
 none_left [] = refl
 none_left (x ∷ xs) = none_left xs
 
-pub one_label_more : (xs : List TStmt) (c : ℕ) (x : TStmt) → 0 < c → c ≤ length xs → x ≡ get_or xs (c - 1) x → is_label (view.statement x) ≡ true → are_labels (drop c xs) ≡ true → are_labels (drop (c - 1) xs) ≡ true
-one_label_more xs zero x p l e i h = absurd (omega arith)
-one_label_more xs (suc c) x p l e i h =
-    let f : suc c - 1 ≡ c = omega arith in
-    ap (λ (k : ℕ). are_labels (drop k xs)) f ∙ at_once xs c (omega arith) (e ∙ ap (λ (k : ℕ). get_or xs k x) f) h
-  where
-    at_once : (ys : List TStmt) (d : ℕ) → d < length ys → x ≡ get_or ys d x → are_labels (drop (suc d) ys) ≡ true → are_labels (drop d ys) ≡ true
-    at_once [] d m g k = absurd (omega arith)
-    at_once (y ∷ ys) zero m g k =
-        let one : is_label (view.statement y) ≡ true = ap (λ (z : TStmt). is_label (view.statement z)) (sym g) ∙ i in
-        ap (λ (b : Bool). b && are_labels ys) one ∙ k
-    at_once (y ∷ ys) (suc d) m g k = at_once ys d (omega arith) g k
-
 all_behind : (xs : List TStmt) (c k : ℕ) → are_labels (drop c xs) ≡ true → c ≤ k → are_labels (drop k xs) ≡ true
 all_behind [] c zero h l = refl
 all_behind [] c (suc k) h l = refl
