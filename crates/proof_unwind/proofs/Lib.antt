@@ -9,4 +9,5 @@ mod StageLaws
 mod OpenedLaws
 mod ImageLaws
 mod OrderLaws
+mod LinkLaws
 mod ListedEnds

@@ -1,5 +1,5 @@
 -- The order of nodes by their places gives each node a new number of its own.
-use Rattle.std.proofs.Common.{◌≡◌, ◌≢◌, ◌∙◌, ◌⊎◌, ℕ, zero, suc, ◌+◌, ◌<◌, ◌≤◌, Bool, true, false, eqb, List, [], ◌∷◌, ◌++◌, length, length-append, get_or, set, take, get_or-set_same, get_or-set_other, below_more, append_assoc, refl, sym, ap, subst, inl, inr, arith}
+use Rattle.std.proofs.Common.{◌≡◌, ◌≢◌, ◌∙◌, ◌⊎◌, ℕ, zero, suc, ◌+◌, ◌<◌, ◌≤◌, Bool, true, false, eqb, List, [], ◌∷◌, ◌++◌, length, length-append, get_or, set, take, get_or-set_same, get_or-set_other, below_more, refl, sym, ap, subst, inl, inr, arith}
 use Rattle.std.specs.Prelude.{Some, map, slice_get, slice_index}
 use Rattle.std.specs.List.{All, IsDistinct}
 use Rattle.std.specs.List.Sorted.{IsPermutation, IsNonDecreasingBy}
@@ -204,12 +204,6 @@ pub mapped_more : {X Y : Type 0} (f : X → Y) (xs : List X) (ys : List Y) (i : 
     ys ++ y ∷ [] ≡ map f (take (i + 1) xs)
 mapped_more {X} {Y} f xs ys i d y l e g =
     ap (λ (z : List Y). z ++ y ∷ []) e ∙ ap (λ (z : Y). map f (take i xs) ++ z ∷ []) g ∙ sym (map-append f (take i xs) (get_or xs i d ∷ [])) ∙ sym (ap (map f) (take_more xs i d l))
-
-pub joined_more : {X Y : Type 0} (f : X → Y) (first : List Y) (xs : List X) (i : ℕ) (d : X) → i < length xs →
-    (first ++ map f (take i xs)) ++ f (get_or xs i d) ∷ [] ≡ first ++ map f (take (i + 1) xs)
-joined_more {X} {Y} f first xs i d l =
-    append_assoc first (map f (take i xs)) (f (get_or xs i d) ∷ []) ∙
-    ap (λ (z : List Y). first ++ z) (mapped_more f xs (map f (take i xs)) i d (f (get_or xs i d)) l refl refl)
 
 pub spot_moved : (h : ℕ → ℕ) (x : Spot) (entry : ℕ) (preds : List ℕ) → entry ≡ h x.entry → preds ≡ x.preds.items →
     ◌≡◌ {A = Node} (record { place = x.place; entry = entry; preds = preds }) (renamed h (plain x))

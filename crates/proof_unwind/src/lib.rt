@@ -14,5 +14,5 @@ mod stepping;
 mod unwinding;
 
 pub use ordering::by_place;
-pub use spots::Spot;
+pub use spots::{Spot, spot_at};
 pub use unwinding::{Unwound, unwind};

@@ -1,12 +1,15 @@
 //! Nodes under new numbers, in the order of their places.
 
 ghost use Rattle.std.specs.Prelude.{◌≡◌, ◌≢◌, ◌+◌, ◌<◌, ◌^◌, ◌++◌, ℕ, IfOk, OnOk, length, map, slice_index, Some, slice_get};
-ghost use Rattle.nwa_base.specs.Automata.{Automaton};
+ghost use Rattle.std.specs.List.{AllByRecursion};
+ghost use Rattle.nwa_base.specs.declared.letters.Kind.TheVariants.{Inside, Call};
+ghost use Rattle.nwa_base.specs.Automata.{Automaton, IsAutomaton, IsEdge, IsBackEdge};
 ghost use Rattle.proof_unwind.specs.Unwindings.{node_at, place_of, bare};
 ghost use Rattle.proof_unwind.specs.Exploring.{IsExploring, AreOpened};
 ghost use Rattle.proof_unwind.specs.Renumbering.{renamed, moved, moved_back, IsMoved, PlacesAscend, pair_at, AreOthers, IsOrder, ArePlaced, AreRanks};
 ghost use Rattle.proof_unwind.specs.Spots.{nodes_of};
 
+use crate::search::added;
 use crate::spots::Spot;
 use crate::unwinding::Unwound;
 use nwa_base::{Letter, Nwa, empty};
@@ -91,12 +94,12 @@ fn move_insides(
     edges: &[(u32, Letter, u32)],
     ranks: &[u32],
 ) -> Result<(), AllocError>
+    requires edges { AllByRecursion (IsEdge steps.old.states Inside) edges.now }
+    requires within { (q : ℕ) → q < steps.old.states → slice_index ranks.now q < steps.old.states }
     ensures { OnOk result (steps.new ≡ record steps.old { insides = steps.old.insides ++ map (moved (slice_index ranks.now)) edges.now }) }
 {
     for &(from, letter, to) in edges {
-        let Ok(()) = steps.add_inside(rank(ranks, from), letter, rank(ranks, to)) else {
-            return Err(AllocError);
-        };
+        added(steps.add_inside(rank(ranks, from), letter, rank(ranks, to)))?;
     }
     Ok(())
 }
@@ -107,12 +110,12 @@ fn move_calls(
     edges: &[(u32, Letter, u32)],
     ranks: &[u32],
 ) -> Result<(), AllocError>
+    requires edges { AllByRecursion (IsEdge steps.old.states Call) edges.now }
+    requires within { (q : ℕ) → q < steps.old.states → slice_index ranks.now q < steps.old.states }
     ensures { OnOk result (steps.new ≡ record steps.old { calls = steps.old.calls ++ map (moved (slice_index ranks.now)) edges.now }) }
 {
     for &(from, letter, to) in edges {
-        let Ok(()) = steps.add_call(rank(ranks, from), letter, rank(ranks, to)) else {
-            return Err(AllocError);
-        };
+        added(steps.add_call(rank(ranks, from), letter, rank(ranks, to)))?;
     }
     Ok(())
 }
@@ -123,19 +126,22 @@ fn move_backs(
     edges: &[(u32, u32, Letter, u32)],
     ranks: &[u32],
 ) -> Result<(), AllocError>
+    requires edges { AllByRecursion (IsBackEdge steps.old.states) edges.now }
+    requires within { (q : ℕ) → q < steps.old.states → slice_index ranks.now q < steps.old.states }
     ensures { OnOk result (steps.new ≡ record steps.old { backs = steps.old.backs ++ map (moved_back (slice_index ranks.now)) edges.now }) }
 {
     for &(exit, before, letter, to) in edges {
         let exit = rank(ranks, exit);
-        let Ok(()) = steps.add_back(exit, rank(ranks, before), letter, rank(ranks, to)) else {
-            return Err(AllocError);
-        };
+        added(steps.add_back(exit, rank(ranks, before), letter, rank(ranks, to)))?;
     }
     Ok(())
 }
 
 /// Adds the steps and backs of an automaton, between the new numbers.
 fn move_steps(to: &mut Nwa, from: &Nwa, ranks: &[u32]) -> Result<(), AllocError>
+    requires automaton { IsAutomaton from.now }
+    requires states { to.old.states ≡ from.now.states }
+    requires within { (q : ℕ) → q < from.now.states → slice_index ranks.now q < from.now.states }
     ensures { OnOk result (to.new ≡ record to.old {
       insides = to.old.insides ++ map (moved (slice_index ranks.now)) from.now.insides;
       calls = to.old.calls ++ map (moved (slice_index ranks.now)) from.now.calls;
@@ -150,11 +156,10 @@ fn move_steps(to: &mut Nwa, from: &Nwa, ranks: &[u32]) -> Result<(), AllocError>
 
 /// The steps and backs between the new numbers.
 fn moved_steps(alloc: Global, steps: &Nwa, ranks: &[u32]) -> Result<Nwa, AllocError>
+    requires { (q : ℕ) → q < steps.now.states → slice_index ranks.now q < steps.now.states }
     ensures { IfOk result (λ t. IsMoved (slice_index ranks.now) steps.now t) }
 {
-    let Ok(mut moved) = empty(alloc, steps.states(), steps.start()) else {
-        return Err(AllocError);
-    };
+    let mut moved = added(empty(alloc, steps.states(), steps.start()))?;
     move_steps(&mut moved, steps, ranks)?;
     Ok(moved)
 }

@@ -1,13 +1,12 @@
 //! What is found while nodes and steps are searched, and how it grows.
 
-ghost use Rattle.std.specs.Prelude.{true, ◌≡◌, ◌<◌, ◌↔◌, ◌∷◌, [], IfOk, OnOk, IfSome, IsTrue, length, slice_get, nat_eq};
+ghost use Rattle.std.specs.Prelude.{true, ◌≡◌, ◌≢◌, ◌<◌, ◌↔◌, ◌∷◌, [], Ok, Err, IfOk, OnOk, IfSome, IsTrue, length, nat_eq};
 ghost use Rattle.std.specs.List.{list_all, list_any};
-ghost use Rattle.std.specs.Option.{option_map};
 ghost use Rattle.proof_unwind.specs.Spots.{plain, nodes_of, IsWeaker, IsEntryWith};
 
 use crate::candidates::Candidates;
-use crate::spots::Spot;
-use nwa_base::{Letter, Nwa};
+use crate::spots::{Spot, spot_at};
+use nwa_base::{Letter, Nwa, NwaFault};
 use std::alloc::{AllocError, Global};
 
 /// Nodes, the steps between them, and where a node may be found again.
@@ -16,13 +15,6 @@ pub(crate) struct Search {
     pub(crate) candidates: Candidates,
     pub(crate) spots: Vec<Spot>,
     pub(crate) steps: Nwa,
-}
-
-/// The node with this number.
-fn spot_at(spots: &[Spot], number: u32) -> Option<&Spot>
-    ensures { option_map (λ s. plain s.now) result ≡ slice_get (nodes_of spots.now) number }
-{
-    spots.get(number as usize)
 }
 
 /// Whether each of the first numbers is among the others.
@@ -83,7 +75,22 @@ pub(crate) fn entry_with(
     None
 }
 
+/// What an automaton answers where its states are there and each letter has its kind.
+pub(crate) fn added<T: Drop>(answer: Result<T, NwaFault>) -> Result<T, AllocError>
+    requires state { answer ≢ Err NwaFault.BadState }
+    requires letter { answer ≢ Err NwaFault.BadLetter }
+    ensures { IfOk result (λ value. answer ≡ Ok value) }
+{
+    match answer {
+        Ok(value) => Ok(value),
+        Err(NwaFault::Memory) => Err(AllocError),
+        Err(NwaFault::BadState | NwaFault::BadLetter) => unreachable!(),
+    }
+}
+
 impl Search {
+    ghost use Rattle.nwa_base.specs.declared.letters.Kind.TheVariants.{Inside, Call};
+    ghost use Rattle.nwa_base.specs.Automata.{IsEdge, IsBackEdge};
     ghost use Rattle.proof_check.specs.Steps.{IsOpen};
     ghost use Rattle.proof_unwind.specs.Unwindings.{node_at, place_of, entry_of};
     ghost use Rattle.proof_unwind.specs.Exploring.{with_node, linked_inside, linked_call, linked_back};
@@ -124,32 +131,30 @@ impl Search {
         Ok(number)
     }
 
-    /// Adds a step by an inside letter.
+    /// Adds a step by an inside letter between nodes.
     pub(crate) fn link_inside(
         &mut self,
         from: u32,
         letter: Letter,
         to: u32,
     ) -> Result<(), AllocError>
+        requires { IsEdge self.old.steps.states Inside (from, letter, to) }
         ensures { OnOk result (stage_of self.new ≡ linked_inside (stage_of self.old) (from, letter, to)) }
     {
-        match self.steps.add_inside(from, letter, to) {
-            Ok(()) => Ok(()),
-            Err(_fault) => Err(AllocError),
-        }
+        added(self.steps.add_inside(from, letter, to))?;
+        Ok(())
     }
 
-    /// Adds a step by a call letter.
+    /// Adds a step by a call letter between nodes.
     pub(crate) fn link_call(&mut self, from: u32, letter: Letter, to: u32) -> Result<(), AllocError>
+        requires { IsEdge self.old.steps.states Call (from, letter, to) }
         ensures { OnOk result (stage_of self.new ≡ linked_call (stage_of self.old) (from, letter, to)) }
     {
-        match self.steps.add_call(from, letter, to) {
-            Ok(()) => Ok(()),
-            Err(_fault) => Err(AllocError),
-        }
+        added(self.steps.add_call(from, letter, to))?;
+        Ok(())
     }
 
-    /// Adds a back.
+    /// Adds a back between nodes.
     pub(crate) fn link_back(
         &mut self,
         exit: u32,
@@ -157,11 +162,10 @@ impl Search {
         letter: Letter,
         to: u32,
     ) -> Result<(), AllocError>
+        requires { IsBackEdge self.old.steps.states (exit, before, letter, to) }
         ensures { OnOk result (stage_of self.new ≡ linked_back (stage_of self.old) (exit, before, letter, to)) }
     {
-        match self.steps.add_back(exit, before, letter, to) {
-            Ok(()) => Ok(()),
-            Err(_fault) => Err(AllocError),
-        }
+        added(self.steps.add_back(exit, before, letter, to))?;
+        Ok(())
     }
 }

@@ -9,7 +9,7 @@ ghost use Rattle.proof_unwind.specs.Searches.{stage_of};
 use crate::candidates::Candidates;
 use crate::exits::Exits;
 use crate::opening::open;
-use crate::search::Search;
+use crate::search::{Search, added};
 use crate::spots::Spot;
 use nwa_base::{Nwa, empty};
 use std::alloc::{AllocError, Global};
@@ -26,9 +26,7 @@ fn begin(alloc: Global) -> Result<Search, AllocError>
     ensures nodes { IfOk result (λ s. (stage_of s).nodes ≡ bare ∷ []) }
     ensures steps { IfOk result (λ s. s.steps ≡ record { states = 1; start = 0; finals = []; insides = []; calls = []; backs = [] }) }
 {
-    let Ok(steps) = empty(alloc, 1, 0) else {
-        return Err(AllocError);
-    };
+    let steps = added(empty(alloc, 1, 0))?;
     let mut spots = Vec::new(alloc);
     spots.push(Spot {
         place: 0,

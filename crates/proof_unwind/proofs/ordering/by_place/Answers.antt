@@ -1,11 +1,13 @@
-use Rattle.std.proofs.Common.{◌≡◌, List, Some, subst, sym}
-use Rattle.std.specs.Prelude.{slice_get}
+use Rattle.std.proofs.Common.{◌≡◌, ◌<◌, ℕ, List, Some, subst, sym}
+use Rattle.std.specs.Prelude.{slice_get, slice_index}
 use Rattle.proof_names.specs.Outlines.{Node}
 use Rattle.proof_unwind.specs.declared.spots.Spot.{Spot}
 use Rattle.proof_unwind.specs.Unwindings.{bare}
+use Rattle.proof_unwind.specs.Renumbering.{ArePlaced, AreRanks}
 use Rattle.proof_unwind.specs.Spots.{nodes_of}
 use Rattle.proof_unwind.proofs.ImageLaws.{exploring_renumbered, opened_renumbered}
 use Rattle.proof_unwind.proofs.OrderLaws.{IsOrdered, ordered, place_first}
+use Rattle.proof_unwind.proofs.LinkLaws.{ranks_below}
 use Rattle.proof_unwind.proofs.ordering.by_place.Goals as goal
 
 pub placed-requires-clause-first : goal.placed-requires-clause-first
@@ -40,3 +42,11 @@ returns-clause-ascend c =
     ordered c.args.found.now.nodes.items c.deref.result.now c.deref-3.result.now c.in_ok-order.order.items c.deref-2.result.now c.deref-4.result.now c.in_ok-ranks.ranks.items
     c.deref-5.result.now c.deref-6.result.now new c.args.found.now.steps c.in_ok-steps.steps c.deref.ensures.value c.deref-2.ensures.value c.deref-3.ensures.value c.deref-4.ensures.value
     c.deref-5.ensures.value c.deref-6.ensures.value c.in_ok-order.ensures c.in_ok-ranks.ensures c.in_ok-nodes.ensures c.in_ok-steps.ensures c.requires.first in o.ascend
+
+pub moved_steps-requires : goal.moved_steps-requires
+moved_steps-requires c =
+    let nodes : List Node = nodes_of c.args.found.now.nodes.items in
+    let placed : ArePlaced nodes c.in_ok-order.order.items = subst (λ (l : List Spot). ArePlaced (nodes_of l) c.in_ok-order.order.items) c.deref.ensures.value c.in_ok-order.ensures in
+    let ranks : AreRanks c.in_ok-order.order.items c.in_ok-ranks.ranks.items = subst (λ (l : List (ℕ × ℕ)). AreRanks l c.in_ok-ranks.ranks.items) c.deref-2.ensures.value c.in_ok-ranks.ensures in
+    subst (λ (l : List ℕ). (n : ℕ) → n < c.args.found.now.steps.states → slice_index l n < c.args.found.now.steps.states) (sym c.deref-6.ensures.value)
+    (ranks_below nodes c.in_ok-order.order.items c.in_ok-ranks.ranks.items c.args.found.now.steps.states c.requires.states placed ranks)

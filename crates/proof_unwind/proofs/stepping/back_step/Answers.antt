@@ -7,6 +7,7 @@ use Rattle.proof_unwind.specs.Spots.{plain, nodes_of, IsWeaker}
 use Rattle.proof_unwind.specs.Searches.{stage_of}
 use Rattle.proof_unwind.proofs.SpotLaws.{spot_there}
 use Rattle.proof_unwind.proofs.SteppingLaws.{back_to, back_new, then_at, then_new}
+use Rattle.proof_unwind.proofs.LinkLaws as links
 use Rattle.proof_unwind.proofs.stepping.back_step.Goals as goal
 
 pub returns-in-Some : goal.returns-in-Some
@@ -44,3 +45,15 @@ returns c =
     (back_new c.args.graph.now c.args.union.now s.nodes s.steps c.args.exit c.args.before c.args.call c.args.letter x c.requires.exploring c.requires.exit c.requires.before
     c.requires.open_exit c.requires.open_before c.requires.call_kind c.requires.kind c.requires.called c.requires.names c.requires.edge (sym (ap (λ (y : Node). y.entry) at)) f)
     c.link_back-2.ensures
+
+pub link_back-requires : goal.link_back-requires
+link_back-requires c =
+    let s : Stage = stage_of c.args.search.now in
+    let w : IsWeaker s.nodes c.args.place c.index-caller.result.now.entry c.deref-4.result.now c.in-Some.to =
+    subst (λ (l : List Spot). IsWeaker (nodes_of l) c.args.place c.index-caller.result.now.entry c.deref-4.result.now c.in-Some.to) c.deref-3.ensures.value c.in-Some.ensures in
+    links.back_there s c.args.exit c.args.before c.in-Some.to c.args.letter c.requires.exploring.states c.requires.exit c.requires.before w.there c.requires.kind
+
+pub link_back-requires-2 : goal.link_back-requires-2
+link_back-requires-2 c =
+    links.back_new (stage_of c.args.search.now) (stage_of c.add.new.self) _ c.args.exit c.args.before c.in_ok-to.to c.args.letter c.in_ok-to.ensures.stage c.in_ok-to.ensures.number
+    c.requires.exploring.states c.requires.exit c.requires.before c.requires.kind

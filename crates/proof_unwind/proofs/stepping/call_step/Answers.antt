@@ -7,6 +7,8 @@ use Rattle.proof_unwind.specs.Spots.{plain, nodes_of, IsEntryWith}
 use Rattle.proof_unwind.specs.Searches.{stage_of}
 use Rattle.proof_unwind.proofs.SpotLaws.{spot_there}
 use Rattle.proof_unwind.proofs.SteppingLaws.{call_to, call_new, then_at, then_new}
+use Rattle.nwa_base.specs.declared.letters.Kind.TheVariants.{Call}
+use Rattle.proof_unwind.proofs.LinkLaws.{edge_there, edge_new}
 use Rattle.proof_unwind.proofs.stepping.call_step.Goals as goal
 
 pub returns-in-Some : goal.returns-in-Some
@@ -34,3 +36,15 @@ returns c =
     (stage_of c.add.new.self) (stage_of c.link_call-2.new.self) x c.in_ok-to.to c.in_ok-to.ensures.stage c.in_ok-to.ensures.number c.requires.exploring.states
     (call_new c.args.graph.now c.args.union.now s.nodes s.steps c.args.from c.args.letter x c.requires.exploring c.requires.there c.requires.opens c.requires.kind c.requires.edge
     (c.states-entry.ensures.value ∙ c.requires.exploring.states) f) c.link_call-2.ensures
+
+pub link_call-requires : goal.link_call-requires
+link_call-requires c =
+    let s : Stage = stage_of c.args.search.now in
+    let w : IsEntryWith s.nodes c.args.place c.deref-3.result.now c.in-Some.to =
+    subst (λ (l : List Spot). IsEntryWith (nodes_of l) c.args.place c.deref-3.result.now c.in-Some.to) c.deref-2.ensures.value c.in-Some.ensures in
+    edge_there s Call c.args.from c.in-Some.to c.args.letter c.requires.exploring.states c.requires.there w.there c.requires.kind
+
+pub link_call-requires-2 : goal.link_call-requires-2
+link_call-requires-2 c =
+    edge_new (stage_of c.args.search.now) (stage_of c.add.new.self) _ Call c.args.from c.in_ok-to.to c.args.letter c.in_ok-to.ensures.stage c.in_ok-to.ensures.number
+    c.requires.exploring.states c.requires.there c.requires.kind
