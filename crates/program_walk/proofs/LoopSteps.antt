@@ -21,8 +21,8 @@ use Rattle.lowered_parts.specs.Lists.{skip_arcs}
 use Rattle.lowered_parts.specs.Making.{MakesItem}
 use Rattle.lowered_parts.specs.Items.{checked_sites, checked_arcs, checked_needed, ways_arcs}
 use Rattle.lowered_parts.proofs.Joining.{both_lead, no_more}
-use Rattle.lowered_parts.proofs.Numbers.{part_added, no_parts}
-use Rattle.lowered_parts.proofs.Statements.{havoc_added, invariant_added, break_added, return_added, goto_added, no_goto_added}
+use Rattle.lowered_parts.proofs.Numbers.{part_added}
+use Rattle.lowered_parts.proofs.Statements.{havoc_added, invariant_added, break_added, return_added, goto_added}
 use Rattle.program_layout.specs.Layouts.{StandsIn}
 use Rattle.program_walk.specs.Bounds.{IsAssertion, HasNumbers}
 use Rattle.program_walk.specs.Walks.{label_or_exit, behind_loop, IsBody, InvariantsAdd, PlainlyAdds, StatementAdds}
@@ -48,9 +48,6 @@ stands_at t u n cs i c e h r = subst (λ (x : TypedProgram). StandsIn (frame_at 
 abbrev pub HavocDone : TypedProgram → ℕ → List Column → ℕ → ℕ → ℕ → Walked → Walked → Type 0
 HavocDone t n cs at after i old new = (span : Span) (id : ℕ) (q : TypedProcedure) (whole b : TypedBlock) (loop : Bool) (under : List Todo) → slice_get t.procs n ≡ Some q → q.body ≡ Some whole →
     after ≡ place_number t n (settled (past t.procs (Havoc span cs) b loop id at ∷ under)) → Adds (located n (parts_from (at_statement (Havoc span cs) b loop id at under) 0 i)) old new
-
-pub havoc_begins : (t : TypedProgram) (n : ℕ) (cs : List Column) (at after : ℕ) (w : Walked) → HavocDone t n cs at after 0 w w
-havoc_begins t n cs at after w = λ span id q whole b loop under e k l. no_parts n (at_statement (Havoc span cs) b loop id at under) w
 
 to_next : (i m to at after : ℕ) → to ≡ (if nat_lt (i + 1) m then at + i + 1 else after) → i + 1 < m → to ≡ at + (i + 1)
 to_next i m to at after e h = grind (arith, nat_tests)
@@ -79,9 +76,6 @@ havoc_step t u n cs at after i to c old mid new e p r d done h = λ span id q wh
 abbrev pub InvariantsDone : TypedProgram → ℕ → List TypedInvariant → ℕ → ℕ → ℕ → Walked → Walked → Type 0
 InvariantsDone t n is id at i old new = (span : Span) (g : TypedGuard) (x b : TypedBlock) (loop : Bool) (under : List Todo) (q : TypedProcedure) (whole : TypedBlock) →
     slice_get t.procs n ≡ Some q → q.body ≡ Some whole → Adds (located n (parts_from (at_statement (While span g is x) b loop id at under) 0 i)) old new
-
-pub invariants_begin : (t : TypedProgram) (n : ℕ) (is : List TypedInvariant) (id at : ℕ) (w : Walked) → InvariantsDone t n is id at 0 w w
-invariants_begin t n is id at w = λ span g x b loop under q whole e k. no_parts n (at_statement (While span g is x) b loop id at under) w
 
 pub plain_more : (is : List TypedInvariant) (i : ℕ) (inv : TypedInvariant) → slice_get is i ≡ Some inv → plain_invariants (take (i + 1) is) ≡ plain_invariants (take i is) + one_if (not inv.free)
 plain_more [] i inv e = cc
@@ -197,12 +191,6 @@ goes_to t u n place exit labels loops after span id (k ∷ ks) old new e p h l =
     all_ways q whole body [] = refl
     all_ways q whole body (j ∷ js) = let f : label_or_exit labels exit j ≡ place_number t n (point_behind (found_block t.procs j whole false (first_assertion t.procs n) (first_place t n + length (free_conditions q.specs)) [])) = body.ways j in
         ap (λ (x : ℕ). x ∷ map (label_or_exit labels exit) js) f ∙ ap (λ (xs : List ℕ). place_number t n (point_behind (found_block t.procs j whole false (first_assertion t.procs n) (first_place t n + length (free_conditions q.specs)) [])) ∷ xs) (all_ways q whole body js)
-
-pub goes_out : (t : TypedProgram) (n place exit : ℕ) (labels loops : List ℕ) (after : ℕ) (span : Span) (id : ℕ) (ks : List ℕ) (old new : Walked) → old.program ≡ t → nat_eq (length ks) 0 ≡ true →
-    Leads (skip_arcs n place [] exit) [] false false old new → StatementAdds t n exit labels loops after (Goto span ks) id place old new
-goes_out t n place exit labels loops after span id [] old new p h l = λ q whole b loop under body behind looped.
-    no_goto_added t n q whole body.procedure body.statements b loop id place under span exit old new p body.ends l
-goes_out t n place exit labels loops after span id (k ∷ ks) old new p h l = absurd (grind (arith, nat_tests))
 
 pub breaks : (t : TypedProgram) (n place exit : ℕ) (labels loops : List ℕ) (after : ℕ) (span : Span) (id k : ℕ) (old new : Walked) → old.program ≡ t →
     Leads (skip_arcs n place [] (behind_loop loops exit k)) [] false false old new → StatementAdds t n exit labels loops after (Break span k) id place old new

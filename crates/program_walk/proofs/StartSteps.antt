@@ -8,7 +8,6 @@ use Rattle.std.proofs.lemmas.Bool.Decides.{nat_tests}
 use Rattle.boogie_tree.specs.declared.span.Span.{Span}
 use Rattle.boogie_tree.specs.declared.tree.Column.{Column}
 use Rattle.boogie_tree.specs.declared.tree.Column.TheVariants as columns
-use Rattle.boogie_tree.specs.declared.tree.VarInfo.{VarInfo}
 use Rattle.typed_tree.specs.declared.types.TExpr.{TExpr}
 use Rattle.typed_tree.specs.declared.types.TExprKind.{TExprKind}
 use Rattle.typed_tree.specs.declared.types.TExprKind.TheVariants as kinds
@@ -21,7 +20,7 @@ use Rattle.lin_rows.specs.Rows.{LinearRow}
 use Rattle.lin_rows.specs.Sums.{row_of}
 use Rattle.lin_rows.specs.declared.types.RowKind.TheVariants.{Eq}
 use Rattle.letter_acts.specs.Acts.{PlainAct}
-use Rattle.letter_acts.specs.Frames.{Columns, old_at, olds_from}
+use Rattle.letter_acts.specs.Frames.{Columns, old_at}
 use Rattle.cond_jumps.specs.Lists.{path_list}
 use Rattle.boogie_points.specs.Points.{Point}
 use Rattle.boogie_points.specs.Actions.{plain_conditions, start_conditions}
@@ -36,7 +35,6 @@ use Rattle.boogie_tree.specs.Apart.{nowhere}
 use Rattle.lowered_parts.specs.Parts.{Walked, Adds}
 use Rattle.lowered_parts.specs.Lists.{list_arcs}
 use Rattle.lowered_parts.specs.Making.{MakesItem}
-use Rattle.lowered_parts.proofs.Joining.{nothing}
 use Rattle.lowered_parts.proofs.Numbers.{both_added, part_added}
 use Rattle.lowered_parts.proofs.Bodies.{start_added, starts_at}
 use Rattle.program_walk.specs.Conditions.{starting, IsStart, StartAdds, AllStart, OneStarts, SaidStarts, Begins}
@@ -150,14 +148,7 @@ axioms_end t index xs old new d h k done =
     let e : index ≡ length t.axioms = omega arith in
     subst (λ (m : ℕ). StartAdds t 0 m old new) e done
 
-pub none_starts : (t : TypedProgram) (first : ℕ) (w : Walked) → StartAdds t first 0 w w
-none_starts t first w = λ q whole found body. nothing w
-
 -- ---- requires
-
-pub said_none : (t : TypedProgram) (number : ℕ) (said rest : List TypedInvariant) (w : Walked) → said ≡ [] → SaidStarts t number said rest w w
-said_none t number said rest w e =
-    subst (λ (l : List TypedInvariant). SaidStarts t number l rest w w) (sym e) (λ q whole found body before split count. nothing w)
 
 pub said_one : (t : TypedProgram) (number : ℕ) (i : TypedInvariant) (said rest : List TypedInvariant) (old new : Walked) → said ≡ i ∷ [] → OneStarts t number i.cond i.span old new → SaidStarts t number said rest old new
 said_one t number i said rest old new e one =
@@ -287,14 +278,6 @@ old_first : (c : Column) (n : ℕ) (rest : List (ℕ × ℕ)) → old_at c n res
 old_first (columns.Global g) n rest = refl
 old_first (columns.Old g) n rest = refl
 old_first (columns.Local l) n rest = refl
-
-pub old_more : (cs left more : Columns) (c : Column × VarInfo) (k : ℕ) (whole found next : List (ℕ × ℕ)) → left ≡ c ∷ more → next ≡ found ++ old_at c.0 k [] → found ++ olds_from k left ≡ whole →
-    next ++ olds_from (k + 1) more ≡ whole
-old_more cs left more c k whole found next e d h =
-    let s : k + 1 ≡ suc k = omega arith in
-    ap (λ (l : List (ℕ × ℕ)). l ++ olds_from (k + 1) more) d ∙ append_assoc found (old_at c.0 k []) (olds_from (k + 1) more)
-    ∙ ap (λ (l : List (ℕ × ℕ)). found ++ l) (ap (λ (m : ℕ). old_at c.0 k [] ++ olds_from m more) s ∙ sym (old_first c.0 k (olds_from (suc k) more)))
-    ∙ ap (λ (l : Columns). found ++ olds_from k l) (sym e) ∙ h
 
 pub rows_more : (left more : List (ℕ × ℕ)) (o : ℕ × ℕ) (k after : ℕ) (row : LinearRow) (whole rows next : List LinearRow) → left ≡ o ∷ more → after ≡ k + 1 →
     row ≡ row_of ((o.1, negsuc 0) ∷ (k, pos 1) ∷ []) Eq (pos 0) → next ≡ rows ++ row ∷ [] → rows ++ entering_rows k left ≡ whole → next ++ entering_rows after more ≡ whole

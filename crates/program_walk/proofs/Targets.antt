@@ -19,7 +19,7 @@ use Rattle.typing_rules.specs.ValidProgram.{is_valid}
 use Rattle.typing_rules.proofs.ValidLaws as valid
 use Rattle.letter_acts.specs.Frames.{Columns, globals_from, old_columns, locals_from}
 use Rattle.cond_jumps.specs.Frames as column
-use Rattle.cond_jumps.specs.Frames.{place_from, place}
+use Rattle.cond_jumps.specs.Frames.{place_from}
 use Rattle.boogie_run.specs.Needs.{locals_at, locals_if_any}
 use Rattle.lowered_steps.specs.ProgramFrames.{frame_at}
 use Rattle.program_layout.specs.Layouts.{StandsIn}

@@ -85,9 +85,6 @@ BlockLeft t n exit labels loops after b id at rest i j old mid = (q : TypedProce
     after ≡ place_number t n (settled under) → AreLoops t n loops exit loop under → (w : Walked) → Adds (located n (points_of t.procs rest loop i j under)) mid w →
     Adds (located n (points_of t.procs b loop id at under)) old w
 
-pub block_begins : (t : TypedProgram) (n exit : ℕ) (labels loops : List ℕ) (after : ℕ) (b : TypedBlock) (id at : ℕ) (old : Walked) → BlockLeft t n exit labels loops after b id at b id at old old
-block_begins t n exit labels loops after b id at old = λ q whole loop under h k l w m. m
-
 pub block_ends : (t : TypedProgram) (n exit : ℕ) (labels loops : List ℕ) (after : ℕ) (b : TypedBlock) (id at : ℕ) (xs : List TStmt) (k i j : ℕ) (old mid : Walked) → length xs ≤ k →
     BlockLeft t n exit labels loops after b id at (view.statements (drop k xs)) i j old mid → BlockAdds t n exit labels loops after b id at old mid
 block_ends t n exit labels loops after b id at xs k i j old mid h left = λ q whole loop under body behind looped.

@@ -22,7 +22,7 @@ use crate::items::assume;
 use boogie_tree::{Column, Span};
 use letter_acts::Frame;
 use letter_table::InsideStep;
-use lin_rows::{Row, RowKind, row};
+use lin_rows::{Row, RowFault, RowKind, row};
 use place_edges::{Here, Lowering};
 use program_layout::Layout;
 use std::alloc::{AllocError, Global};
@@ -100,10 +100,10 @@ fn old_columns(alloc: Global, frame: &Frame) -> Result<Vec<(u32, u32)>, AllocErr
 fn entering_row(alloc: Global, global: u32, written: u32) -> Result<Row, AllocError>
     ensures { IfOk result (λ made. made ≡ row_of ((global, negsuc 0) ∷ (written, pos 1) ∷ []) Eq (pos 0)) }
 {
-    // These numbers fit, so that a row that is not made wants memory.
     match row(alloc, &[(global, -1), (written, 1)], RowKind::Eq, 0) {
         Ok(made) => Ok(made),
-        Err(_) => Err(AllocError),
+        Err(RowFault::Memory) => Err(AllocError),
+        Err(RowFault::Past) => unreachable!(),
     }
 }
 
