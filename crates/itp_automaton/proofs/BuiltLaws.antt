@@ -1,5 +1,5 @@
 -- Automata to which the edges of proofs are added.
-use Rattle.std.proofs.Common.{◌≡◌, ◌∙◌, ℕ, zero, suc, ◌+◌, ◌<◌, true, false, List, [], ◌∷◌, ◌++◌, length, None, Some, refl, sym, ap, subst, inl, inr, arith}
+use Rattle.std.proofs.Common.{◌≡◌, ◌∙◌, ℕ, zero, suc, ◌+◌, ◌<◌, true, false, List, [], ◌∷◌, ◌++◌, length, None, Some, Result, Ok, IfOk, refl, sym, ap, subst, inl, inr, arith}
 use Rattle.std.specs.Prelude.{Bool, MatchBool, slice_get}
 use Rattle.std.specs.List.{AllByRecursion}
 use Rattle.nwa_base.specs.declared.letters.Letter.{Letter}
@@ -19,7 +19,7 @@ use Rattle.triple_rows.specs.Predicates.{formula_of}
 use Rattle.triple_rows.specs.Triples.{Agrees, HasTarget, IsValid, truth_of}
 use Rattle.triple_rows.specs.Proofs.{PlainProof}
 use Rattle.triple_rows.proofs.ValidLaws.{refuted_valid}
-use Rattle.itp_automaton.specs.Certified.{IsTruthAt, IsProved, IsCertified}
+use Rattle.itp_automaton.specs.Certified.{IsTruthAt, ProvesTriple, IsCertified}
 use Rattle.itp_automaton.specs.Making.{HasEdge}
 use Rattle.itp_automaton.specs.Edges.{IsFalseAt, MarksFalse, IsMarkedBelow, IsBegun, IsInsideOf, IsCallOf, IsBackOf, IsBuilt, AddsInside, AddsCall, AddsBack, AddsEdge}
 
@@ -126,10 +126,10 @@ some_place g h lt e =
 pub place_exists : (g : Graph) (p : ℕ) → IsGraph g → slice_get g.place_procs 0 ≡ Some p → p < length g.frames
 place_exists g p h e = all_at (λ q. q < length g.frames) g.place_procs 0 p h.procedures.procs_exist e
 
-pub marked_none : (start : ℕ) (preds : List Scoped) (m : Automaton) → m ≡ record { states = length preds; start = start; finals = []; insides = []; calls = []; backs = [] } →
-    IsMarkedBelow 0 start preds m
-marked_none start preds m e = record {
-  states = ap (λ (x : Automaton). x.states) e;
+pub marked_none : {E : Type 0} (n start : ℕ) (preds : List Scoped) (r : Result Automaton E) (m : Automaton) → n ≡ length preds → r ≡ Ok m →
+    IfOk r (λ x. x ≡ record { states = n; start = start; finals = []; insides = []; calls = []; backs = [] }) → IsMarkedBelow 0 start preds m
+marked_none {E} n start preds r m k made is = let e = subst (λ (z : Result Automaton E). IfOk z (λ x. x ≡ record { states = n; start = start; finals = []; insides = []; calls = []; backs = [] })) made is in record {
+  states = ap (λ (x : Automaton). x.states) e ∙ k;
   begins = ap (λ (x : Automaton). x.start) e;
   falses = λ q h. absurd (subst (λ (x : Automaton). Member x.finals q) e h);
   finals = λ q lt h. absurd (omega arith);
@@ -367,7 +367,7 @@ pub built_named : (g : Graph) (preds : List Scoped) (proofs : List PlainProof) (
 built_named g preds proofs m h = all_of (λ p. NamesStates preds p.triple) proofs (λ p k. edge_named (alphabet_of g) preds m p.triple (h.has p k))
 
 proved_by : (g : Graph) (preds : List Scoped) (proofs : List PlainProof) (m : Automaton) (p : PlainProof) (t : Triple) → IsGraph g → AllByRecursion (IsProofFor (alphabet_of g)) proofs →
-    IsBuilt g preds proofs m → Member proofs p → p.triple ≡ t → IsProved (alphabet_of g) proofs t
+    IsBuilt g preds proofs m → Member proofs p → p.triple ≡ t → ProvesTriple (alphabet_of g) proofs t
 proved_by g preds proofs m p t k f h listed is =
     let its = all_member (IsProofFor (alphabet_of g)) proofs p f listed in
     record {

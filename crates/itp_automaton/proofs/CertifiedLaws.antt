@@ -1,5 +1,5 @@
 -- A run of the stack machine of a certified automaton stays in the predicates of its states.
-use Rattle.std.proofs.Common.{◌≡◌, ◌∙◌, ℕ, List, [], ◌∷◌, Option, None, Some, refl, sym, subst}
+use Rattle.std.proofs.Common.{◌≡◌, ◌∙◌, ℕ, List, [], ◌∷◌, Option, None, Some, sym, subst}
 use Rattle.std.specs.Prelude.{Bool, true, false, slice_get, if◌then◌else◌}
 use Rattle.nwa_base.specs.declared.letters.Kind.{Kind}
 use Rattle.nwa_base.specs.declared.letters.Kind.TheVariants as kinds
@@ -15,7 +15,7 @@ use Rattle.letter_acts.specs.Feasible.{IsFeasible, machine}
 use Rattle.letter_acts.proofs.MachineLemmas.{machine_runs}
 use Rattle.triple_rows.specs.declared.triples.Scoped.{Scoped}
 use Rattle.triple_rows.specs.declared.triples.Triple.TheVariants as triples
-use Rattle.triple_rows.specs.Predicates.{Formula, truth, formula_of, FormulaHolds}
+use Rattle.triple_rows.specs.Predicates.{Formula, formula_of, FormulaHolds}
 use Rattle.triple_rows.specs.Triples.{ScopedHolds, InsideAgrees, CallAgrees, ReturnAgrees, BackAgrees}
 use Rattle.itp_automaton.specs.Certified.{Certificate, IsTruthAt, IsCertified}
 

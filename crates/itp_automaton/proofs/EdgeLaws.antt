@@ -1,8 +1,7 @@
 -- Edges that are added one by one.
-use Rattle.std.proofs.Common.{◌≡◌, ℕ, zero, suc, ◌<◌, List, [], ◌∷◌, length, Option, None, Some, refl, inl, inr, arith}
+use Rattle.std.proofs.Common.{◌≡◌, ℕ, zero, suc, ◌<◌, List, [], ◌∷◌, length, Option, None, Some, refl, arith}
 use Rattle.std.specs.Prelude.{slice_get}
 use Rattle.nwa_base.specs.declared.letters.Kind.TheVariants as kinds
-use Rattle.nwa_base.specs.Automata.{IsOutside, IsOutsideBack}
 use Rattle.letter_acts.specs.Acts.{PlainAct, inside_act, call_act, back_act, Alphabet, kind_of}
 use Rattle.triple_rows.specs.declared.triples.Scoped.{Scoped}
 use Rattle.triple_rows.specs.declared.triples.Triple.TheVariants as triples
@@ -13,13 +12,6 @@ pub place_below : {X : Type 0} (xs : List X) (n : ℕ) (x : X) → slice_get xs 
 place_below [] n x e = absurd cc
 place_below (y ∷ xs) zero x e = omega arith
 place_below (y ∷ xs) (suc n) x e = let h = place_below xs n x e in omega arith
-
-pub not_outside : (states q e : ℕ) → q < states → e < states → IsOutside states q e → ⊥
-not_outside states q e h k (inl x) = omega arith
-not_outside states q e h k (inr x) = omega arith
-
-pub not_outside_back : (states q p e : ℕ) → q < states → p < states → e < states → IsOutsideBack states q p e → ⊥
-not_outside_back states q p e h j k o = elim o [ inl x ↦ omega arith | inr r ↦ elim r [ inl y ↦ omega arith | inr z ↦ omega arith ] ]
 
 -- ---- acts of letters
 

@@ -1,7 +1,6 @@
 -- Triples that are tried one after another until all are settled.
-use Rattle.std.proofs.Common.{◌≡◌, ◌∙◌, ℕ, ◌+◌, List, [], ◌∷◌, ◌++◌, length, Option, None, Some, Result, Ok, Err, append_assoc, refl, sym, ap, subst, inl, inr}
+use Rattle.std.proofs.Common.{◌≡◌, ◌∙◌, ℕ, ◌+◌, List, [], ◌∷◌, ◌++◌, length, Option, None, Some, append_assoc, refl, sym, ap, subst, inl, inr}
 use Rattle.std.proofs.lemmas.List.{append-nil}
-use Rattle.std.specs.Prelude.{OnOk}
 use Rattle.std.specs.List.{AllByRecursion, AllZip, filter_map}
 use Rattle.nwa_base.specs.Members.{Member}
 use Rattle.nwa_base.proofs.MemberLemmas.{member_front, member_rest, member_split}
@@ -14,7 +13,7 @@ use Rattle.hoare_check.specs.Decided.{MayProve}
 use Rattle.itp_automaton.specs.declared.settling.Work.{Work}
 use Rattle.itp_automaton.specs.declared.sources.Source.{Source}
 use Rattle.itp_automaton.specs.declared.sources.Source.TheVariants.{Inside, Call, Back}
-use Rattle.itp_automaton.specs.Settling.{IsListed, AddsWaiting, IsSettled, NamesStates, IsGrounded, letter_in, IsWithin, triple_from, AgreesTo, AreSources, AreTriplesFrom, Adds, SettledBelow, IsDue, MayWait, GoesOn, DueFrom, DueBy, DueBelow}
+use Rattle.itp_automaton.specs.Settling.{IsListed, AddsWaiting, SettlesTriple, NamesStates, IsGrounded, letter_in, IsWithin, triple_from, AgreesTo, AreSources, AreTriplesFrom, Adds, SettledBelow, IsDue, MayWait, GoesOn, DueFrom, DueBy, DueBelow}
 use Rattle.itp_automaton.proofs.StateLaws.{below_or_last}
 use Rattle.itp_automaton.proofs.BuiltLaws.{all_member, all_push}
 use Rattle.itp_automaton.proofs.SourceLaws.{state_listed}
@@ -42,27 +41,27 @@ kept_none xs (Some p) old now n h = absurd (n p refl)
 
 -- ---- triples that were tried
 
-pub settled_later : (al : Alphabet) (old new : List PlainProof) (t : Triple) → ((p : PlainProof) → Member old p → Member new p) → IsSettled al old t → IsSettled al new t
+pub settled_later : (al : Alphabet) (old new : List PlainProof) (t : Triple) → ((p : PlainProof) → Member old p → Member new p) → SettlesTriple al old t → SettlesTriple al new t
 settled_later al old new t more s a r = let h = s a r in (h.0, more h.0 h.1, h.2)
 
 pub all_later : {X : Type 0} (P Q : X → Type 0) (xs : List X) → ((x : X) → P x → Q x) → AllByRecursion P xs → AllByRecursion Q xs
 all_later P Q [] f h = tt
 all_later P Q (x ∷ xs) f h = (f x h.0, all_later P Q xs f h.1)
 
-tried_settled : (al : Alphabet) (ts : List Triple) (os : List (Option PlainProof)) → AllZip (MayProve al) ts os → AllByRecursion (IsSettled al (proofs_in os)) ts
+tried_settled : (al : Alphabet) (ts : List Triple) (os : List (Option PlainProof)) → AllZip (MayProve al) ts os → AllByRecursion (SettlesTriple al (proofs_in os)) ts
 tried_settled al [] [] h = tt
 tried_settled al [] (o ∷ os) h = absurd h
 tried_settled al (t ∷ ts) [] h = absurd h
 tried_settled al (t ∷ ts) (None ∷ os) h = (λ a r. absurd (h.0 r), tried_settled al ts os h.1)
 tried_settled al (t ∷ ts) (Some p ∷ os) h = (
   λ a r. (p, inl refl, h.0.0),
-  all_later (IsSettled al (proofs_in os)) (IsSettled al (p ∷ proofs_in os)) ts (λ s k. settled_later al (proofs_in os) (p ∷ proofs_in os) s (λ q m. inr m) k) (tried_settled al ts os h.1),
+  all_later (SettlesTriple al (proofs_in os)) (SettlesTriple al (p ∷ proofs_in os)) ts (λ s k. settled_later al (proofs_in os) (p ∷ proofs_in os) s (λ q m. inr m) k) (tried_settled al ts os h.1),
 )
 
 kept_settled : (al : Alphabet) (ts : List Triple) (os : List (Option PlainProof)) (old new : List PlainProof) → AllZip (MayProve al) ts os → new ≡ old ++ proofs_in os →
-    AllByRecursion (IsSettled al new) ts
-kept_settled al ts os old new h e = subst (λ (l : List PlainProof). AllByRecursion (IsSettled al l) ts) (sym e)
-    (all_later (IsSettled al (proofs_in os)) (IsSettled al (old ++ proofs_in os)) ts (λ s k. settled_later al (proofs_in os) (old ++ proofs_in os) s (λ q m. member_rest old (proofs_in os) q m) k) (tried_settled al ts os h))
+    AllByRecursion (SettlesTriple al new) ts
+kept_settled al ts os old new h e = subst (λ (l : List PlainProof). AllByRecursion (SettlesTriple al l) ts) (sym e)
+    (all_later (SettlesTriple al (proofs_in os)) (SettlesTriple al (old ++ proofs_in os)) ts (λ s k. settled_later al (proofs_in os) (old ++ proofs_in os) s (λ q m. member_rest old (proofs_in os) q m) k) (tried_settled al ts os h))
 
 tried_grounded : (al : Alphabet) (states : List Scoped) (ts : List Triple) (os : List (Option PlainProof)) → AllZip (MayProve al) ts os → AllByRecursion (Agrees al) ts → AllByRecursion (NamesStates states) ts →
     AllByRecursion (IsGrounded al states) (proofs_in os)
@@ -124,7 +123,7 @@ tried_goes al old new os h e none states may =
       waiting = subst (λ (l : List Triple). AllByRecursion (MayWait al states) l) (sym none) tt;
       due = λ t d. elim d [
         | inl s ↦ inl (settled_later al old.proofs.items new.proofs.items t adds.kept s)
-        | inr m ↦ inl (all_member (IsSettled al new.proofs.items) ts t settled m)
+        | inr m ↦ inl (all_member (SettlesTriple al new.proofs.items) ts t settled m)
       ];
     }
 
@@ -139,10 +138,6 @@ goes_more al states old now new a b = record {
 }
 
 -- ---- triples that wait
-
--- none more
-pub waits_none : (proofs : List PlainProof) (old : List Triple) → AddsWaiting proofs old [] old
-waits_none proofs old = record { kept = λ t m. m; added = λ t m. absurd m; only = λ t m. inl m }
 
 module _ (proofs : List PlainProof) (old ts now new : List Triple) (t : Triple) (h : AddsWaiting proofs old ts now) where
   -- one more that is listed
@@ -185,13 +180,13 @@ more_wait al states old new ts w same h k = record {
     | inr n ↦ all_member (MayWait al states) ts t k n
   ]);
   due = λ t d. elim d [
-    | inl s ↦ inl (subst (λ (l : List PlainProof). IsSettled al l t) (sym same) s)
+    | inl s ↦ inl (subst (λ (l : List PlainProof). SettlesTriple al l t) (sym same) s)
     | inr m ↦ inr (w.kept t m)
   ];
 }
 
 -- with none that waits all is settled
-pub none_waits : (al : Alphabet) (w : Work) (t : Triple) → w.waiting.items ≡ [] → IsDue al w t → IsSettled al w.proofs.items t
+pub none_waits : (al : Alphabet) (w : Work) (t : Triple) → w.waiting.items ≡ [] → IsDue al w t → SettlesTriple al w.proofs.items t
 none_waits al w t e (inl s) = s
 none_waits al w t e (inr m) = absurd (subst (λ (l : List Triple). Member l t) e m)
 
@@ -273,7 +268,3 @@ due_more al states old new n g h k t lt m a = elim (below_or_last (letter_in t) 
 pub all_settled : (al : Alphabet) (states : List Scoped) (old new : Work) (n : ℕ) → GoesOn al states old new → DueBelow al states old n → new.waiting.items ≡ [] →
     SettledBelow al states new.proofs.items n
 all_settled al states old new n g h e t lt m a r = none_waits al new t e (g.due t (h t lt m a)) a r
-
-pub on_so : {T E : Type 0} (r : Result T E) (P Q : Type 0) → OnOk r P → (P → Q) → OnOk r Q
-on_so (Ok v) P Q h f = f h
-on_so (Err e) P Q h f = tt

@@ -75,14 +75,6 @@ there_already old s n e = record {
 
 -- ---- true and false of each procedure
 
-pub no_states : AreStates 0 [] []
-no_states = record {
-  once = tt;
-  truths = λ p b lt. absurd (omega arith);
-  given = λ s m. m;
-  only = λ s m. absurd m;
-}
-
 le_or_gt : (n p : ℕ) → (n ≤ p) ⊎ (p < n)
 le_or_gt zero p = inl (omega arith)
 le_or_gt (suc n) zero = inr (omega arith)

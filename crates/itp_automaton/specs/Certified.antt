@@ -25,7 +25,7 @@ abbrev pub IsTruthAt : List Scoped → ℕ → Bool → Type 0
 IsTruthAt preds q b = (p : Scoped) × (slice_get preds q ≡ Some p) × (formula_of p.pred ≡ truth b)
 
 -- The triple agrees with its letter, is valid, and one of the proofs is of it, with each cut at a column of the triple's system.
-pub record IsProved (al : Alphabet) (proofs : List PlainProof) (triple : Triple) : Type 0 where
+pub record ProvesTriple (al : Alphabet) (proofs : List PlainProof) (triple : Triple) : Type 0 where
   pub agrees : Agrees al triple
   pub valid : IsValid al triple
   pub proof : PlainProof
@@ -40,7 +40,7 @@ pub record InsideIsProved (al : Alphabet) (c : Certificate) (q : ℕ) (a : Lette
   pub after : Scoped
   pub source : slice_get c.preds q ≡ Some before
   pub target : slice_get c.preds e ≡ Some after
-  pub proved : IsProved al c.proofs (triples.Inside before a.id after)
+  pub proved : ProvesTriple al c.proofs (triples.Inside before a.id after)
 
 -- that by a call letter
 pub record CallIsProved (al : Alphabet) (c : Certificate) (q : ℕ) (a : Letter) (e : ℕ) : Type 0 where
@@ -48,7 +48,7 @@ pub record CallIsProved (al : Alphabet) (c : Certificate) (q : ℕ) (a : Letter)
   pub after : Scoped
   pub source : slice_get c.preds q ≡ Some before
   pub target : slice_get c.preds e ≡ Some after
-  pub proved : IsProved al c.proofs (triples.Call before a.id after)
+  pub proved : ProvesTriple al c.proofs (triples.Call before a.id after)
 
 -- that from state q at the exit, with state p before the call, by a return letter to state e
 pub record BackIsProved (al : Alphabet) (c : Certificate) (q p : ℕ) (a : Letter) (e : ℕ) : Type 0 where
@@ -58,7 +58,7 @@ pub record BackIsProved (al : Alphabet) (c : Certificate) (q p : ℕ) (a : Lette
   pub source : slice_get c.preds q ≡ Some exit
   pub caller : slice_get c.preds p ≡ Some before
   pub target : slice_get c.preds e ≡ Some after
-  pub proved : IsProved al c.proofs (triples.Back exit before a.id after)
+  pub proved : ProvesTriple al c.proofs (triples.Back exit before a.id after)
 
 -- Certified: the states are the predicates, the proofs are for the alphabet, the start is true, the final states are false, and each edge is a
 -- proved triple.

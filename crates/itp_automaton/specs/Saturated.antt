@@ -1,5 +1,5 @@
 -- Saturated automata: each triple over their predicates that Decide refutes without cuts is an edge.
-use Rattle.std.specs.Prelude.{◌≡◌, ℕ, ◌<◌, Bool, true, false, List, length, Some, slice_get}
+use Rattle.std.specs.Prelude.{◌≡◌, ℕ, ◌<◌, Bool, List, length, Some, slice_get}
 use Rattle.nwa_base.specs.Members.{Member}
 use Rattle.letter_acts.specs.Acts.{PlainAct, Alphabet, letter_of}
 use Rattle.triple_rows.specs.declared.triples.Scoped.{Scoped}

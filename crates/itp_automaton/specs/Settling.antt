@@ -19,8 +19,8 @@ abbrev pub IsListed : List PlainProof → Triple → Type 0
 IsListed proofs t = (p : PlainProof) × Member proofs p × (p.triple ≡ t)
 
 -- where kinds and scopes agree and Decide without cuts refutes the triple's system, one of the proofs is of it
-abbrev pub IsSettled : Alphabet → List PlainProof → Triple → Type 0
-IsSettled al proofs t = Agrees al t → RefutesUncut al t → IsListed proofs t
+abbrev pub SettlesTriple : Alphabet → List PlainProof → Triple → Type 0
+SettlesTriple al proofs t = Agrees al t → RefutesUncut al t → IsListed proofs t
 
 -- the predicates that the triple names are states
 abbrev pub NamesStates : List Scoped → Triple → Type 0
@@ -107,7 +107,7 @@ pub record Adds (al : Alphabet) (states : List Scoped) (old new : List PlainProo
 
 -- all triples over the states by letters below n are settled
 abbrev pub SettledBelow : Alphabet → List Scoped → List PlainProof → ℕ → Type 0
-SettledBelow al states proofs n = (t : Triple) → letter_in t < n → NamesStates states t → IsSettled al proofs t
+SettledBelow al states proofs n = (t : Triple) → letter_in t < n → NamesStates states t → SettlesTriple al proofs t
 
 -- the triples from a source by a letter to those of the targets that are in the scope of the procedure
 pub record AreTriplesFrom (al : Alphabet) (states : List Scoped) (letter proc : ℕ) (source : Source) (targets : List Scoped) (found : List Triple) : Type 0 where
@@ -119,7 +119,7 @@ pub record AreTriplesFrom (al : Alphabet) (states : List Scoped) (letter proc : 
 
 -- settled, or waiting to be tried
 abbrev pub IsDue : Alphabet → Work → Triple → Type 0
-IsDue al w t = IsSettled al w.proofs.items t ⊎ Member w.waiting.items t
+IsDue al w t = SettlesTriple al w.proofs.items t ⊎ Member w.waiting.items t
 
 -- the triple agrees with its letter and is over the states
 pub record MayWait (al : Alphabet) (states : List Scoped) (t : Triple) : Type 0 where

@@ -13,10 +13,10 @@ ghost use Rattle.itp_automaton.specs.Certified.{IsCertified};
 ghost use Rattle.itp_automaton.specs.Edges.{MarksFalse, IsBuilt};
 
 use crate::automata::Certified;
-use crate::edges::add_edge;
+use crate::edges::{add_edge, added};
 use crate::states::{state_number, truth};
 use letter_acts::Icfg;
-use nwa_base::{Nwa, NwaFault, empty};
+use nwa_base::{Nwa, empty};
 use std::alloc::{AllocError, Global};
 use triple_rows::{PredNode, Proof, Scoped};
 
@@ -51,11 +51,8 @@ fn mark(nwa: &mut Nwa, q: u32, state: &Scoped) -> Result<(), AllocError>
     if !is_false(state) {
         return Ok(());
     }
-    match nwa.set_final(q) {
-        Ok(()) => Ok(()),
-        Err(NwaFault::Memory) => Err(AllocError),
-        Err(NwaFault::BadState | NwaFault::BadLetter) => unreachable!(),
-    }
+    added(nwa.set_final(q))?;
+    Ok(())
 }
 
 /// The automaton of the states, with its start and final states, without edges.
@@ -68,9 +65,7 @@ fn begun(alloc: Global, icfg: &Icfg, states: &[Scoped]) -> Result<Nwa, AllocErro
     let Ok(count) = u32::try_from(states.len()) else {
         return Err(AllocError);
     };
-    let Ok(mut nwa) = empty(alloc, count, start) else {
-        return Err(AllocError);
-    };
+    let mut nwa = added(empty(alloc, count, start))?;
     for q in 0..count {
         mark(&mut nwa, q, &states[q as usize])?;
     }

@@ -14,14 +14,14 @@ use nwa_base::{Nwa, NwaFault};
 use std::alloc::AllocError;
 use triple_rows::{Scoped, Triple};
 
-/// What an automaton answers to an edge whose states it has and whose letter has its kind.
-fn added(answer: Result<(), NwaFault>) -> Result<bool, AllocError>
+/// What an automaton answers where its states are there and each letter has its kind.
+pub(crate) fn added<T: Drop>(answer: Result<T, NwaFault>) -> Result<T, AllocError>
     requires state { answer ≡ Err NwaFault.BadState → ⊥ }
     requires letter { answer ≡ Err NwaFault.BadLetter → ⊥ }
-    ensures { IfOk result (λ found. (found ≡ true) × (answer ≡ Ok tt)) }
+    ensures { IfOk result (λ value. answer ≡ Ok value) }
 {
     match answer {
-        Ok(()) => Ok(true),
+        Ok(value) => Ok(value),
         Err(NwaFault::Memory) => Err(AllocError),
         Err(NwaFault::BadState | NwaFault::BadLetter) => unreachable!(),
     }
@@ -48,7 +48,8 @@ fn add_inside(
     let Some(e) = state_number(states, after)? else {
         return Ok(false);
     };
-    added(nwa.add_inside(q, letter_at(icfg, letter), e))
+    added(nwa.add_inside(q, letter_at(icfg, letter), e))?;
+    Ok(true)
 }
 
 /// Adds the edge of a call triple; false where it names a predicate that is no state.
@@ -72,7 +73,8 @@ fn add_call(
     let Some(e) = state_number(states, after)? else {
         return Ok(false);
     };
-    added(nwa.add_call(q, letter_at(icfg, letter), e))
+    added(nwa.add_call(q, letter_at(icfg, letter), e))?;
+    Ok(true)
 }
 
 /// Adds the edge of a return triple; false where it names a predicate that is no state.
@@ -100,7 +102,8 @@ fn add_back(
     let Some(e) = state_number(states, after)? else {
         return Ok(false);
     };
-    added(nwa.add_back(q, p, letter_at(icfg, letter), e))
+    added(nwa.add_back(q, p, letter_at(icfg, letter), e))?;
+    Ok(true)
 }
 
 /// Adds the edge of a triple that agrees with its letter; false where it names a predicate that is no state.

@@ -1,6 +1,6 @@
 //! The states: predicates, each once.
 
-ghost use Rattle.std.specs.Prelude.{◌≡◌, Some, [], IfOk, OnOk, MatchOption, slice_get};
+ghost use Rattle.std.specs.Prelude.{◌≡◌, ◌<◌, ◌^◌, Some, [], IfOk, OnOk, OnErr, MatchOption, length, slice_get};
 ghost use Rattle.nwa_base.specs.Members.{Member};
 ghost use Rattle.triple_rows.specs.Predicates.{SpellsPredicate};
 ghost use Rattle.itp_automaton.specs.Making.{AreStates};
@@ -23,9 +23,10 @@ pub fn state_of(states: &[Scoped], pred: &Scoped) -> Option<usize>
     None
 }
 
-/// The number of that state.
+/// The number of that state. No memory is left for it only where there are more states than 32 bits count.
 pub(crate) fn state_number(states: &[Scoped], pred: &Scoped) -> Result<Option<u32>, AllocError>
-    ensures { IfOk result (λ o. MatchOption o (Member states.now pred.now → ⊥) (λ q. (slice_get states.now q ≡ Some pred.now) × SpellsPredicate pred.now.pred)) }
+    ensures number { IfOk result (λ o. MatchOption o (Member states.now pred.now → ⊥) (λ q. (slice_get states.now q ≡ Some pred.now) × SpellsPredicate pred.now.pred)) }
+    ensures many { OnErr result (2 ^ 32 < length states.now) }
 {
     match state_of(states, pred) {
         None => Ok(None),

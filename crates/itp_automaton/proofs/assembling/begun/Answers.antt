@@ -1,8 +1,13 @@
 use Rattle.std.proofs.Common.{◌≡◌, ℕ, ◌<◌, length, subst, arith}
 use Rattle.itp_automaton.specs.Edges.{IsMarkedBelow}
 use Rattle.itp_automaton.proofs.StateLaws.{got_at}
-use Rattle.itp_automaton.proofs.BuiltLaws.{marked_more, marked_built}
+use Rattle.itp_automaton.proofs.BuiltLaws.{marked_none, marked_more, marked_built}
 use Rattle.itp_automaton.proofs.assembling.begun.Goals as goal
+
+pub loop-q-init : goal.loop-q-init
+loop-q-init c =
+    let many : c.in-Ok.count ≡ length c.args.states.now = omega arith in
+    marked_none c.in-Ok.count c.in_ok-start.start c.args.states.now c.empty.result c.in_ok-nwa.nwa many c.in_ok-nwa.ensures c.empty.ensures.value
 
 pub loop-q-preserved : goal.loop-q-preserved
 loop-q-preserved c =

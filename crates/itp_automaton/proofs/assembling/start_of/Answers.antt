@@ -29,5 +29,5 @@ unreachable-requires-in-None c =
     let k : IsGraph g = c.place_procs.ensures.valid in
     let first : slice_get g.place_procs 0 ≡ Some c.in-Some.proc.now = ap (λ l. slice_get l 0) (sym c.place_procs.ensures.value) ∙ sym c.in-Some.ensures.value in
     let there = c.requires c.in-Some.proc.now true (place_exists g c.in-Some.proc.now k first) in
-    let none = rw c.in-None.is at c.in_ok-q.ensures in
+    let none = rw c.in-None.is at c.in_ok-q.ensures.number in
     none (subst (λ (s : Scoped). Member c.args.states.now s) (sym c.in_ok-truth.ensures) there)
