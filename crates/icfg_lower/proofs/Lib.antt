@@ -1,3 +1,4 @@
 pub mod SiteCounts
 pub mod PlaceOwners
 pub mod BodyEnds
+mod AutomatonParts

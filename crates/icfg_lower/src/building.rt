@@ -1,10 +1,15 @@
 //! The graph of what has been lowered.
 
-ghost use Rattle.std.specs.Prelude.{◌≡◌, ◌+◌, ◌<◌, ◌++◌, map, length, replicate, IfOk, OnOk};
+ghost use Rattle.std.specs.Prelude.{◌≡◌, ◌≢◌, ◌+◌, ◌<◌, ◌++◌, Ok, Err, map, length, replicate, IsErr, IfOk, OnOk};
+ghost use Rattle.std.specs.List.{AllByRecursion};
 ghost use Rattle.std.specs.Option.{option_map};
 ghost use Rattle.typed_tree.specs.TypedView as view;
 ghost use Rattle.typing_rules.specs.TypedParts.{typed_program};
-ghost use Rattle.letter_acts.specs.Invariant.{site_places};
+ghost use Rattle.nwa_base.specs.declared.letters.Kind.TheVariants.{Inside, Call};
+ghost use Rattle.nwa_base.specs.Automata.{IsAutomaton, IsEdge, IsBackEdge};
+ghost use Rattle.letter_acts.specs.Invariant.{IsGraph, alphabet_of, site_places};
+ghost use Rattle.letter_acts.specs.Parts as parts;
+ghost use Rattle.letter_acts.specs.Widths.{ActsFit};
 ghost use Rattle.letter_table.specs.Letters as letters;
 ghost use Rattle.lowered_graph.specs.Arcs.{program_arcs};
 ghost use Rattle.lowered_graph.specs.Lowered.{counted_procs, entry_of, exit_of, place_owners, program_sites, lowered};
@@ -13,55 +18,73 @@ ghost use Rattle.icfg_lower.specs.Owners.{owners_from, site_owners_from};
 ghost use Rattle.icfg_lower.specs.Built.{plain_lettered};
 
 use boogie_tree::Text;
-use letter_acts::{Icfg, Site, icfg};
+use letter_acts::{Act, Frame, Icfg, Site, icfg};
 use letter_table::Lettered;
 use nwa_base::{Letter, Nwa, NwaFault, empty};
 use program_layout::{Layout, Marks};
 use std::alloc::{AllocError, Global};
 use typed_tree::TProc;
 
+/// What an automaton answers where its states are there and each letter has its kind.
+fn added<T: Drop>(answer: Result<T, NwaFault>) -> Result<T, AllocError>
+    requires state { answer ≢ Err NwaFault.BadState }
+    requires letter { answer ≢ Err NwaFault.BadLetter }
+    ensures { IfOk result (λ value. answer ≡ Ok value) }
+{
+    match answer {
+        Ok(value) => Ok(value),
+        Err(NwaFault::Memory) => Err(AllocError),
+        Err(NwaFault::BadState | NwaFault::BadLetter) => unreachable!(),
+    }
+}
+
 /// Makes the places where assertions fail final.
-fn set_finals(nwa: &mut Nwa, sites: &[Site]) -> Result<(), NwaFault>
+fn set_finals(nwa: &mut Nwa, sites: &[Site]) -> Result<(), AllocError>
+    requires { AllByRecursion (λ s. s.place < nwa.old.states) sites.now }
     ensures { OnOk result (nwa.new ≡ record nwa.old { finals = nwa.old.finals ++ site_places sites.now }) }
 {
     for site in sites {
-        nwa.set_final(site.place)?;
+        added(nwa.set_final(site.place))?;
     }
     Ok(())
 }
 
 /// Adds edges by inside letters.
-fn add_insides(nwa: &mut Nwa, edges: &[(u32, Letter, u32)]) -> Result<(), NwaFault>
+fn add_insides(nwa: &mut Nwa, edges: &[(u32, Letter, u32)]) -> Result<(), AllocError>
+    requires { AllByRecursion (IsEdge nwa.old.states Inside) edges.now }
     ensures { OnOk result (nwa.new ≡ record nwa.old { insides = nwa.old.insides ++ edges.now }) }
 {
     for (from, letter, to) in edges {
-        nwa.add_inside(*from, *letter, *to)?;
+        added(nwa.add_inside(*from, *letter, *to))?;
     }
     Ok(())
 }
 
 /// Adds edges by call letters.
-fn add_calls(nwa: &mut Nwa, edges: &[(u32, Letter, u32)]) -> Result<(), NwaFault>
+fn add_calls(nwa: &mut Nwa, edges: &[(u32, Letter, u32)]) -> Result<(), AllocError>
+    requires { AllByRecursion (IsEdge nwa.old.states Call) edges.now }
     ensures { OnOk result (nwa.new ≡ record nwa.old { calls = nwa.old.calls ++ edges.now }) }
 {
     for (from, letter, to) in edges {
-        nwa.add_call(*from, *letter, *to)?;
+        added(nwa.add_call(*from, *letter, *to))?;
     }
     Ok(())
 }
 
 /// Adds edges by returns.
-fn add_backs(nwa: &mut Nwa, edges: &[(u32, u32, Letter, u32)]) -> Result<(), NwaFault>
+fn add_backs(nwa: &mut Nwa, edges: &[(u32, u32, Letter, u32)]) -> Result<(), AllocError>
+    requires { AllByRecursion (IsBackEdge nwa.old.states) edges.now }
     ensures { OnOk result (nwa.new ≡ record nwa.old { backs = nwa.old.backs ++ edges.now }) }
 {
     for (from, before, letter, to) in edges {
-        nwa.add_back(*from, *before, *letter, *to)?;
+        added(nwa.add_back(*from, *before, *letter, *to))?;
     }
     Ok(())
 }
 
 /// Adds these edges, and makes the places where assertions fail final.
-fn fill(nwa: &mut Nwa, sites: &[Site], lettered: &Lettered) -> Result<(), NwaFault>
+fn fill(nwa: &mut Nwa, sites: &[Site], lettered: &Lettered) -> Result<(), AllocError>
+    requires { IsAutomaton (record nwa.old { finals = site_places sites.now; insides = lettered.now.insides.items; calls = lettered.now.calls.items; backs = lettered.now.backs.items }) }
     ensures { OnOk result (nwa.new ≡ record nwa.old { finals = nwa.old.finals ++ site_places sites.now; insides = nwa.old.insides ++ lettered.now.insides.items; calls = nwa.old.calls ++ lettered.now.calls.items; backs = nwa.old.backs ++ lettered.now.backs.items }) }
 {
     set_finals(nwa, sites)?;
@@ -76,10 +99,11 @@ fn automaton(
     states: u32,
     sites: &[Site],
     lettered: &Lettered,
-) -> Result<Nwa, NwaFault>
+) -> Result<Nwa, AllocError>
+    requires { IsAutomaton (record { states = states; start = 0; finals = site_places sites.now; insides = lettered.now.insides.items; calls = lettered.now.calls.items; backs = lettered.now.backs.items }) }
     ensures { IfOk result (λ m. m ≡ record { states = states; start = 0; finals = site_places sites.now; insides = lettered.now.insides.items; calls = lettered.now.calls.items; backs = lettered.now.backs.items }) }
 {
-    let mut nwa = empty(alloc, states, 0)?;
+    let mut nwa = added(empty(alloc, states, 0))?;
     fill(&mut nwa, sites, lettered)?;
     Ok(nwa)
 }
@@ -244,25 +268,19 @@ fn procedure_lists(alloc: Global, layout: &Layout<'_>) -> Result<ProcedureLists,
     })
 }
 
-/// The graph of a program whose edges and assertions these are. That of a typed program keeps the invariant of graphs wherever the
-/// numbers of the columns of its acts have 32 bits (`lowered_graph::laws::lowered_programs_are_graphs`). So it is refused only where
-/// such a number passes 32 bits, and this is answered as want of memory.
-pub(crate) fn graph(
-    alloc: Global,
-    layout: Layout<'_>,
+/// The graph of parts that keep the invariant of graphs wherever the numbers of the columns of its acts have 32 bits. It is refused only
+/// where such a number passes 32 bits, and this is answered as want of memory.
+fn joined(
+    nwa: Nwa,
+    acts: Vec<Act>,
+    frames: Vec<Frame>,
+    lists: ProcedureLists,
     sites: Vec<Site>,
-    lettered: Lettered,
 ) -> Result<Icfg, AllocError>
-    requires sites { sites.items ≡ map (λ s. s.1) (program_sites (typed_program layout)) }
-    requires lettered { plain_lettered lettered ≡ letters.lettered (program_arcs (typed_program layout)) }
-    ensures { IfOk result (λ i. i ≡ lowered (typed_program layout.entry)) }
+    requires { ActsFit (alphabet_of (parts.graph nwa acts.items frames.items lists.names.items lists.owners.items lists.entries.items lists.exits.items sites.items)) → IsGraph (parts.graph nwa acts.items frames.items lists.names.items lists.owners.items lists.entries.items lists.exits.items sites.items) }
+    ensures value { IfOk result (λ i. i ≡ parts.graph nwa acts.items frames.items lists.names.items lists.owners.items lists.entries.items lists.exits.items sites.items) }
+    ensures wide { IsErr result → ActsFit (alphabet_of (parts.graph nwa acts.items frames.items lists.names.items lists.owners.items lists.entries.items lists.exits.items sites.items)) → ⊥ }
 {
-    let lists = procedure_lists(alloc, &layout)?;
-    let Ok(nwa) = automaton(alloc, layout.places(), &sites, &lettered) else {
-        return Err(AllocError);
-    };
-    let frames = layout.into_frames();
-    let acts = lettered.acts;
     let ProcedureLists {
         names,
         owners,
@@ -273,4 +291,23 @@ pub(crate) fn graph(
         Some(found) => Ok(found),
         None => Err(AllocError),
     }
+}
+
+/// The graph of a program whose edges and assertions these are. That of a typed program has an automaton, and it keeps the invariant of
+/// graphs wherever the numbers of the columns of its acts have 32 bits.
+pub(crate) fn graph(
+    alloc: Global,
+    layout: Layout<'_>,
+    sites: Vec<Site>,
+    lettered: Lettered,
+) -> Result<Icfg, AllocError>
+    requires sites { sites.items ≡ map (λ s. s.1) (program_sites (typed_program layout)) }
+    requires lettered { plain_lettered lettered ≡ letters.lettered (program_arcs (typed_program layout)) }
+    requires automaton { IsAutomaton (lowered (typed_program layout)).automaton }
+    requires kept { ActsFit (alphabet_of (lowered (typed_program layout))) → IsGraph (lowered (typed_program layout)) }
+    ensures { IfOk result (λ i. i ≡ lowered (typed_program layout.entry)) }
+{
+    let lists = procedure_lists(alloc, &layout)?;
+    let nwa = automaton(alloc, layout.places(), &sites, &lettered)?;
+    joined(nwa, lettered.acts, layout.into_frames(), lists, sites)
 }

@@ -3,6 +3,9 @@
 ghost use Rattle.std.specs.Prelude.{◌≡◌, map, None, Some, Err, IsOk, IfOk};
 ghost use Rattle.boogie_tree.specs.declared.span.Span.{Span};
 ghost use Rattle.typing_rules.specs.TypedParts.{typed_program};
+ghost use Rattle.nwa_base.specs.Automata.{IsAutomaton};
+ghost use Rattle.letter_acts.specs.Invariant.{IsGraph, alphabet_of};
+ghost use Rattle.letter_acts.specs.Widths.{ActsFit};
 ghost use Rattle.letter_table.specs.Letters as letters;
 ghost use Rattle.lowered_graph.specs.Arcs.{program_arcs};
 ghost use Rattle.lowered_graph.specs.Items as items;
@@ -13,7 +16,9 @@ ghost use Rattle.place_edges.specs.Faults.{plain_faults};
 use crate::building::graph;
 use crate::faults::LowerFault;
 use letter_acts::Icfg;
-use lowered_graph::laws::lowering_is_faithful;
+use lowered_graph::laws::{
+    lowered_programs_are_graphs, lowered_programs_have_automata, lowering_is_faithful,
+};
 use place_edges::{ItemFault, Lowered};
 use program_layout::{Layout, lay_out};
 use program_walk::walk;
@@ -25,6 +30,16 @@ fn is_faithful(program: &Typed)
     ensures { IsFaithful (typed_program program.now) (lowered (typed_program program.now)) }
 {
     lowering_is_faithful();
+    let _globals = program.globals();
+}
+
+/// What the graph of a typed program keeps.
+fn is_graph(program: &Typed)
+    ensures automaton { IsAutomaton (lowered (typed_program program.now)).automaton }
+    ensures kept { ActsFit (alphabet_of (lowered (typed_program program.now))) → IsGraph (lowered (typed_program program.now)) }
+{
+    lowered_programs_have_automata();
+    lowered_programs_are_graphs();
     let _globals = program.globals();
 }
 
@@ -48,6 +63,7 @@ pub fn lower(alloc: Global, program: &Typed) -> Result<Icfg, LowerFault>
     ensures faithful { IfOk result (λ i. IsFaithful (typed_program program.now) i) }
 {
     is_faithful(program);
+    is_graph(program);
     let layout = lay_out(alloc, program)?;
     let Lowered {
         table,

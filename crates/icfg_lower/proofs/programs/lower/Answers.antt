@@ -1,9 +1,14 @@
 use Rattle.std.proofs.Common.{◌≡◌, ◌∙◌, ap, sym, subst}
 use Rattle.typing_rules.specs.TypedParts.{TypedParts, typed_program}
-use Rattle.letter_acts.specs.Invariant.{Graph}
+use Rattle.letter_acts.specs.Invariant.{Graph, IsGraph, alphabet_of}
+use Rattle.letter_acts.specs.Widths.{ActsFit}
 use Rattle.lowered_graph.specs.Laws.{IsFaithful}
 use Rattle.lowered_graph.specs.Lowered.{lowered}
 use Rattle.icfg_lower.proofs.programs.lower.Goals as goal
+
+pub graph-requires-clause-kept : goal.graph-requires-clause-kept
+graph-requires-clause-kept c =
+    subst (λ (p : TypedParts). ActsFit (alphabet_of (lowered (typed_program p))) → IsGraph (lowered (typed_program p))) (sym c.in_ok-layout.ensures) c.is_graph.ensures.kept
 
 pub returns-clause-faithful : goal.returns-clause-faithful
 returns-clause-faithful c =

@@ -1,0 +1,52 @@
+-- The parts of a program's graph, once they are lowered.
+use Rattle.std.proofs.Common.{◌≡◌, ℕ, ◌+◌, ◌<◌, List, [], ◌∷◌, map, length, Option, Result, Ok, IfOk, sym, subst, arith}
+use Rattle.std.specs.List.{AllByRecursion}
+use Rattle.std.proofs.lemmas.List.{length-map}
+use Rattle.typed_tree.specs.TypedTree.{TypedProgram}
+use Rattle.nwa_base.specs.declared.letters.Kind.{Kind}
+use Rattle.nwa_base.specs.declared.letters.Letter.{Letter}
+use Rattle.nwa_base.specs.Automata.{Automaton, IsEdge, IsBackEdge}
+use Rattle.letter_acts.specs.declared.sites.Site.{Site}
+use Rattle.letter_acts.specs.Acts.{PlainAct}
+use Rattle.letter_acts.specs.Frames.{Columns}
+use Rattle.letter_acts.specs.Invariant.{Graph, site_places}
+use Rattle.letter_table.specs.Letters.{Lettered, lettered}
+use Rattle.lowered_graph.specs.Arcs.{first_error, program_arcs}
+use Rattle.lowered_graph.specs.Lowered.{program_sites, lowered}
+
+pub made_ok : {A E : Type 0} (r : Result A E) (x : A) (P : A → Type 0) → r ≡ Ok x → IfOk r P → P x
+made_ok {A} {E} r x P e h = subst (λ (z : Result A E). IfOk z P) e h
+
+pub if_ok_so : {A E : Type 0} (P Q : A → Type 0) (r : Result A E) → ((x : A) → P x → Q x) → IfOk r P → IfOk r Q
+if_ok_so P Q (Ok x) f h = f x h
+if_ok_so P Q r f h = h
+
+-- ---- places and edges
+
+pub places_below : (n : ℕ) (sites : List Site) → AllByRecursion (λ (q : ℕ). q < n) (site_places sites) → AllByRecursion (λ (s : Site). s.place < n) sites
+places_below n [] h = tt
+places_below n (s ∷ sites) h = (h.0, places_below n sites h.1)
+
+pub edges_of : (n m : ℕ) (kind : Kind) (es xs : List (ℕ × Letter × ℕ)) → n ≡ m → xs ≡ es → AllByRecursion (IsEdge m kind) es → AllByRecursion (IsEdge n kind) xs
+edges_of n m kind es xs e f h = subst (λ (k : ℕ). AllByRecursion (IsEdge k kind) xs) (sym e) (subst (AllByRecursion (IsEdge m kind)) (sym f) h)
+
+pub backs_of : (n m : ℕ) (es xs : List (ℕ × ℕ × Letter × ℕ)) → n ≡ m → xs ≡ es → AllByRecursion (IsBackEdge m) es → AllByRecursion (IsBackEdge n) xs
+backs_of n m es xs e f h = subst (λ (k : ℕ). AllByRecursion (IsBackEdge k) xs) (sym e) (subst (AllByRecursion (IsBackEdge m)) (sym f) h)
+
+-- ---- the graph
+
+-- the automaton of these sites and letters is that of the program
+pub automaton_is : (t : TypedProgram) (states : ℕ) (sites : List Site) (d : Lettered) → states ≡ first_error t + length (program_sites t) →
+    sites ≡ map (λ s. s.1) (program_sites t) → d ≡ lettered (program_arcs t) →
+    ◌≡◌ {A = Automaton} (record { states = states; start = 0; finals = site_places sites; insides = d.insides; calls = d.calls; backs = d.backs }) (lowered t).automaton
+automaton_is t states sites d n e f =
+    let long : length (map (λ (s : ℕ × Site). s.1) (program_sites t)) ≡ length (program_sites t) = length-map (program_sites t) (λ (s : ℕ × Site). s.1) in
+    let all : states ≡ first_error t + length (map (λ (s : ℕ × Site). s.1) (program_sites t)) = omega arith in
+    λ i. record { states = all i; start = 0; finals = site_places (e i); insides = (f i).insides; calls = (f i).calls; backs = (f i).backs }
+
+pub graph_is : (t : TypedProgram) (nwa : Automaton) (acts : List PlainAct) (frames : List Columns) (names : List (List ℕ)) (owners : List ℕ) (entries exits : List (Option ℕ)) (sites : List Site) →
+    nwa ≡ (lowered t).automaton → acts ≡ (lowered t).acts → frames ≡ (lowered t).frames → names ≡ (lowered t).names → owners ≡ (lowered t).place_procs →
+    entries ≡ (lowered t).entries → exits ≡ (lowered t).exits → sites ≡ (lowered t).sites →
+    ◌≡◌ {A = Graph} (record { automaton = nwa; acts = acts; frames = frames; names = names; place_procs = owners; entries = entries; exits = exits; sites = sites }) (lowered t)
+graph_is t nwa acts frames names owners entries exits sites a b c d e f g h =
+    λ i. record { automaton = a i; acts = b i; frames = c i; names = d i; place_procs = e i; entries = f i; exits = g i; sites = h i }
