@@ -1,8 +1,8 @@
 -- What steps need is noted, predicate by predicate and step by step.
-use Rattle.std.proofs.Common.{◌≡◌, ◌∙◌, ℕ, zero, suc, Option, None, Some, ap, ◌+◌, ◌<◌, ◌≤◌, Bool, true, false, ◌⊎◌, ◌↔◌, List, [], ◌∷◌, length, take, get_or, refl, sym, subst, inl, inr}
+use Rattle.std.proofs.Common.{◌≡◌, ◌∙◌, ℕ, zero, suc, Option, None, Some, ap, ◌+◌, ◌<◌, Bool, true, false, ◌⊎◌, ◌↔◌, List, [], ◌∷◌, length, take, get_or, refl, sym, subst, inl, inr}
 use Rattle.std.specs.Prelude.{IsTrue, MatchOption, slice_get}
 use Rattle.std.proofs.lemmas.Bool.{false≢true}
-use Rattle.std.proofs.lemmas.List.{take_more, take_all}
+use Rattle.std.proofs.lemmas.List.{take_more}
 use Rattle.nwa_base.specs.declared.letters.Letter.{Letter}
 use Rattle.nwa_base.specs.Members.{Member}
 use Rattle.nwa_base.specs.Automata.{Automaton}
@@ -59,10 +59,6 @@ not_so b P h e p = false≢true (sym e ∙ h.1 p)
 
 pub none_more : (E : ℕ → Type 0) (xs : List ℕ) (i : ℕ) → i < length xs → ((q : ℕ) → Member (take i xs) q → E q → ⊥) → (E (get_or xs i 0) → ⊥) → (q : ℕ) → Member (take (i + 1) xs) q → E q → ⊥
 none_more E xs i l f g q m e = elim (next_is xs i 0 q l m) [ inl k ↦ f q k e | inr k ↦ g (subst E (sym k) e) ]
-
-pub none_among : (E : ℕ → Type 0) (xs : List ℕ) (i : ℕ) → length xs ≤ i → ((q : ℕ) → Member (take i xs) q → E q → ⊥) → (E 0 → ⊥) → (q : ℕ) → E q → IsAmong xs q → ⊥
-none_among E xs i l f g q e (inl z) = g (subst E z e)
-none_among E xs i l f g q e (inr m) = f q (subst (λ (ys : List ℕ). Member ys q) (sym (take_all i xs l)) m) e
 
 pub item_among : (xs : List ℕ) (i : ℕ) → i < length xs → IsAmong xs (get_or xs i 0)
 item_among xs i l = inr (member_at xs i 0 l)

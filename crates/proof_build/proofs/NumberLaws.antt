@@ -4,13 +4,13 @@ use Rattle.std.specs.Prelude.{slice_get, is_some, Result, Ok, Err, OnOk}
 use Rattle.std.specs.declared.alloc.AllocError.{AllocError}
 use Rattle.nwa_base.specs.Members.{Member}
 use Rattle.std.specs.List.{AllByRecursion}
-use Rattle.letter_acts.specs.Acts.{PlainAct, inside_act, call_act, back_act, frame_of}
+use Rattle.letter_acts.specs.Acts.{frame_of}
 use Rattle.letter_acts.specs.Invariant.{Graph, alphabet_of}
 use Rattle.triple_rows.specs.declared.predicates.PredNode.{PredNode}
 use Rattle.triple_rows.specs.declared.predicates.PredNode.TheVariants.{Truth}
 use Rattle.triple_rows.specs.declared.triples.Scoped.{Scoped}
 use Rattle.triple_rows.specs.Predicates.{Formula, truth, atom, and_of, or_of, formula_of, IsTruth, IsOver}
-use Rattle.triple_rows.specs.Triples.{IsScoped, InsideAgrees, CallAgrees, ReturnAgrees, BackAgrees, truth_of}
+use Rattle.triple_rows.specs.Triples.{truth_of}
 use Rattle.triple_rows.specs.Proofs.{PlainProof}
 use Rattle.triple_rows.proofs.ListLaws.{within}
 use Rattle.itp_automaton.specs.Certified.{Certificate}
@@ -84,9 +84,6 @@ lists_one g preds s o new l v b e n t is =
 pub numbered_last : (g : Graph) (preds : List Scoped) (s : Scoped) (new : List Scoped) → new ≡ preds ++ s ∷ [] → IsNumbered g new s
 numbered_last g preds s new is = λ b. (suc (suc (length preds)), subst (λ (x : List Scoped). slice_get x (length preds) ≡ Some s) (sym is) (got_last preds s))
 
-pub number_has : (g : Graph) (preds : List Scoped) (s : Scoped) (o : Option ℕ) (k : ℕ) → o ≡ Some k → IsNumber preds s o → IsNumbered g preds s
-number_has g preds s o k e n = λ b. (k, subst (λ (x : Option ℕ). IsNumber preds s x) e n)
-
 -- ---- more and more predicates
 
 pub no_more : (g : Graph) (preds : List Scoped) → AreListed g preds → ListsMore g preds preds
@@ -154,37 +151,6 @@ proofs_stay g old new ps m h =
 
 pub certificates_stay : (g : Graph) (old new : List Scoped) (cs : List Certificate) → ListsMore g old new → AreAllNumbered g old cs → AreAllNumbered g new cs
 certificates_stay g old new cs m h = all_mapped (λ c. AreNumbered g old c.proofs) (λ c. AreNumbered g new c.proofs) cs (λ c n. proofs_stay g old new c.proofs m n) h
-
--- of a triple that agrees with its letter, all predicates are over their frames
-abbrev IsOverFrame : Graph → Scoped → Type 0
-IsOverFrame g s = IsOver (length (frame_of (alphabet_of g) s.proc)) (formula_of s.pred)
-
-scoped_over : (g : Graph) (p : ℕ) (s : Scoped) → IsScoped (alphabet_of g) p s → IsOverFrame g s
-scoped_over g p s h = subst (λ (q : ℕ). IsOver (length (frame_of (alphabet_of g) q)) (formula_of s.pred)) (sym h.proc) h.over
-
-pub inside_over : (g : Graph) (o : Option PlainAct) (before after : Scoped) → InsideAgrees (alphabet_of g) o before after → IsOverFrame g before × IsOverFrame g after
-inside_over g None before after h = absurd h
-inside_over g (Some (inside_act p written helpers rows)) before after h = (scoped_over g p before h.0, scoped_over g p after h.1)
-inside_over g (Some (call_act caller callee helpers rows)) before after h = absurd h
-inside_over g (Some (back_act c targets)) before after h = absurd h
-
-pub call_over : (g : Graph) (o : Option PlainAct) (before after : Scoped) → CallAgrees (alphabet_of g) o before after → IsOverFrame g before × IsOverFrame g after
-call_over g None before after h = absurd h
-call_over g (Some (inside_act p written helpers rows)) before after h = absurd h
-call_over g (Some (call_act caller callee helpers rows)) before after h = (scoped_over g caller before h.0, scoped_over g callee after h.1)
-call_over g (Some (back_act c targets)) before after h = absurd h
-
-return_over : (g : Graph) (o : Option PlainAct) (exit before after : Scoped) → ReturnAgrees (alphabet_of g) o exit before after → IsOverFrame g exit × IsOverFrame g before × IsOverFrame g after
-return_over g None exit before after h = absurd h
-return_over g (Some (inside_act p written helpers rows)) exit before after h = absurd h
-return_over g (Some (call_act caller callee helpers rows)) exit before after h = (scoped_over g callee exit h.0, scoped_over g caller before h.1, scoped_over g caller after h.2)
-return_over g (Some (back_act c targets)) exit before after h = absurd h
-
-pub back_over : (g : Graph) (o : Option PlainAct) (exit before after : Scoped) → BackAgrees (alphabet_of g) o exit before after → IsOverFrame g exit × IsOverFrame g before × IsOverFrame g after
-back_over g None exit before after h = absurd h
-back_over g (Some (inside_act p written helpers rows)) exit before after h = absurd h
-back_over g (Some (call_act caller callee helpers rows)) exit before after h = absurd h
-back_over g (Some (back_act c targets)) exit before after h = return_over g (slice_get g.acts c) exit before after h
 
 pub two_numbered : (g : Graph) (mid new : List Scoped) (a b : Scoped) (named : List Scoped) (r : Result (Unit {0}) AllocError) → IsNumbered g mid a → OnOk r (ListsMore g mid new) →
     OnOk r (IsNumbered g new b) → named ≡ a ∷ b ∷ [] → OnOk r (Members g new named)

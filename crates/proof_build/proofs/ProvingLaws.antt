@@ -29,7 +29,7 @@ use Rattle.proof_spell.specs.Drafts.{PlainShown, MayBeShown}
 use Rattle.proof_spell.specs.Spelled.{IsOutlined, Outlines}
 use Rattle.proof_check.specs.Steps.{IsNode, IsOpen, Lists, InsideIsSound, CallIsSound, BackIsSound, StepIsSound, ReturnIsSound, IsSound, BacksTo, HasSteps, HasBacks}
 use Rattle.proof_check.specs.Proves.{IsRefutedBy, IsShown, HasStart, HasStartIn, ErrorIsFalse, Proves}
-use Rattle.proof_unwind.specs.Unwindings.{node_at, place_of, entry_of, bare}
+use Rattle.proof_unwind.specs.Unwindings.{node_at, node_place_in, entry_of, bare}
 use Rattle.proof_build.specs.Unwindings.{Unwinding, step_of, back_of, steps_of, draft_of, HasTriple}
 use Rattle.proof_build.specs.Unwound.{AreCovering, IsUnwound}
 use Rattle.proof_build.proofs.WordLaws.{node_is, node_there, error_has_false}
@@ -116,7 +116,7 @@ module _ (g : Graph) (bs : List Automaton) (u : Unwinding) (i : IsGraph g) (m : 
   errors : AreCovering g.automaton bs → (n : ℕ) (x : Node) → IsNode s n x → ErrorIsFalse g.automaton x
   errors c n x e =
       let k = node_of n x e in
-      let z : place_of u.nodes 0 ≡ 0 = ap (λ (y : Node). y.place) (first_is g bs u i m h) in
+      let z : node_place_in u.nodes 0 ≡ 0 = ap (λ (y : Node). y.place) (first_is g bs u i m h) in
       subst (λ (y : Node). ErrorIsFalse g.automaton y) k.1
       (λ f. error_has_false g.automaton h.tree u.nodes u.steps bs n (entry_of u.nodes n) i.procedures.start z h.along h.part h.spread c (h.reached n k.0) f)
 
@@ -126,8 +126,8 @@ module _ (g : Graph) (bs : List Automaton) (u : Unwinding) (i : IsGraph g) (m : 
       StepIsSound g s a.id before k to (slice_get g.acts a.id)
   inside_sound n a k e before to p q =
       let d = h.along.insides n a k e in
-      let w = inside_edge_known g i (place_of u.nodes n) (place_of u.nodes k) a d.edge in
-      let kind : a.kind ≡ kinds.Inside = (all_of_member (IsEdge g.automaton.states kinds.Inside) g.automaton.insides (place_of u.nodes n, a, place_of u.nodes k) m.insides d.edge).letter in
+      let w = inside_edge_known g i (node_place_in u.nodes n) (node_place_in u.nodes k) a d.edge in
+      let kind : a.kind ≡ kinds.Inside = (all_of_member (IsEdge g.automaton.states kinds.Inside) g.automaton.insides (node_place_in u.nodes n, a, node_place_in u.nodes k) m.insides d.edge).letter in
       let l : letter_of a.id (inside_act w.proc w.written w.helpers w.rows) ≡ a = letter_is a kinds.Inside 0 kind w.call in
       let one : InsideIsSound g s a (node_at u.nodes n) (node_at u.nodes k) = record {
         edge = d.edge;
@@ -142,8 +142,8 @@ module _ (g : Graph) (bs : List Automaton) (u : Unwinding) (i : IsGraph g) (m : 
       StepIsSound g s a.id before k to (slice_get g.acts a.id)
   call_sound n a k e before to p q =
       let d = h.along.calls n a k e in
-      let w = call_edge_known g i (place_of u.nodes n) (place_of u.nodes k) a d.edge in
-      let kind : a.kind ≡ kinds.Call = (all_of_member (IsEdge g.automaton.states kinds.Call) g.automaton.calls (place_of u.nodes n, a, place_of u.nodes k) m.calls d.edge).letter in
+      let w = call_edge_known g i (node_place_in u.nodes n) (node_place_in u.nodes k) a d.edge in
+      let kind : a.kind ≡ kinds.Call = (all_of_member (IsEdge g.automaton.states kinds.Call) g.automaton.calls (node_place_in u.nodes n, a, node_place_in u.nodes k) m.calls d.edge).letter in
       let l : letter_of a.id (call_act w.caller w.callee w.helpers w.rows) ≡ a = letter_is a kinds.Call 0 kind w.call in
       let one : CallIsSound g s a (node_at u.nodes n) k (node_at u.nodes k) = record {
         edge = d.edge;
@@ -158,8 +158,8 @@ module _ (g : Graph) (bs : List Automaton) (u : Unwinding) (i : IsGraph g) (m : 
       ReturnIsSound g s r.id exit c before to (slice_get g.acts r.id)
   back_sound x c r k e exit before to p q v =
       let d = h.along.backs x c r k e in
-      let kind : r.kind ≡ kinds.Back = back_kind g.automaton (place_of u.nodes x) (place_of u.nodes c) (place_of u.nodes k) r m d.edge in
-      let w = back_edge_known g i (place_of u.nodes x) (place_of u.nodes c) (place_of u.nodes k) r kind d.edge in
+      let kind : r.kind ≡ kinds.Back = back_kind g.automaton (node_place_in u.nodes x) (node_place_in u.nodes c) (node_place_in u.nodes k) r m d.edge in
+      let w = back_edge_known g i (node_place_in u.nodes x) (node_place_in u.nodes c) (node_place_in u.nodes k) r kind d.edge in
       let l : letter_of r.id (back_act r.call w.targets) ≡ r = letter_is r kinds.Back r.call kind refl in
       let n : d.letter.id ≡ r.call = sym d.names in
       let one : BackIsSound g s r (node_at u.nodes x) c (node_at u.nodes c) (node_at u.nodes k) = record {
@@ -211,7 +211,7 @@ module _ (g : Graph) (bs : List Automaton) (u : Unwinding) (i : IsGraph g) (m : 
     | inl a ↦ let f = member_from_map step_of u.steps.insides (steps.Step c l e) a in
         let q = same_steps f.0.0 c f.0.1.id l f.0.2 e f.2 in
         let d = h.along.insides f.0.0 f.0.1 f.0.2 f.1 in
-        let w = inside_edge_known g i (place_of u.nodes f.0.0) (place_of u.nodes f.0.2) f.0.1 d.edge in
+        let w = inside_edge_known g i (node_place_in u.nodes f.0.0) (node_place_in u.nodes f.0.2) f.0.1 d.edge in
         let v : slice_get g.acts f.0.1.id ≡ Some (call_act caller callee helpers rows) = ap (slice_get g.acts) q.1 ∙ act in
         let y : Some (inside_act w.proc w.written w.helpers w.rows) ≡ Some (call_act caller callee helpers rows) = sym w.act ∙ v in
         absurd (cc)
@@ -224,10 +224,10 @@ module _ (g : Graph) (bs : List Automaton) (u : Unwinding) (i : IsGraph g) (m : 
   ]
 
   has_backs : (x : ℕ) → x < length u.nodes → IsOpen (node_at u.nodes x) → (c : ℕ) → c < length u.nodes → IsOpen (node_at u.nodes c) → (r : Letter) (e : ℕ) →
-      Member g.automaton.backs (place_of u.nodes x, place_of u.nodes c, r, e) → Member s.steps (steps.Step c r.call (entry_of u.nodes x)) → BacksTo s x c r.id e
+      Member g.automaton.backs (node_place_in u.nodes x, node_place_in u.nodes c, r, e) → Member s.steps (steps.Step c r.call (entry_of u.nodes x)) → BacksTo s x c r.id e
   has_backs x l f c k q r e b j =
-      let kind : r.kind ≡ kinds.Back = back_kind g.automaton (place_of u.nodes x) (place_of u.nodes c) e r m b in
-      let w = back_edge_known g i (place_of u.nodes x) (place_of u.nodes c) e r kind b in
+      let kind : r.kind ≡ kinds.Back = back_kind g.automaton (node_place_in u.nodes x) (node_place_in u.nodes c) e r m b in
+      let w = back_edge_known g i (node_place_in u.nodes x) (node_place_in u.nodes c) e r kind b in
       let t = call_step c r.call (entry_of u.nodes x) w.caller w.callee w.helpers w.rows w.call (subst (λ (y : List NamedStep). Member y (steps.Step c r.call (entry_of u.nodes x))) o.steps j) in
       let v = h.closed.backs x c l k f q t.0 t.1 r e b t.2 in
       record { number = v.number; end = node_at u.nodes v.number; stands = is_node v.number (h.along.backs x c r v.number v.back).to; at = v.at; back = back_member x c r v.number v.back }
@@ -237,7 +237,7 @@ module _ (g : Graph) (bs : List Automaton) (u : Unwinding) (i : IsGraph g) (m : 
       let k = node_of n x e in
       subst (λ (y : Node). IsOpen y → HasBacks g s n y) k.1 (λ f c before p q r d b j.
       let v = node_of c before p in
-      has_backs n k.0 f c v.0 (subst (λ (y : Node). IsOpen y) (sym v.1) q) r d (subst (λ (y : Node). Member g.automaton.backs (place_of u.nodes n, y.place, r, d)) (sym v.1) b) j)
+      has_backs n k.0 f c v.0 (subst (λ (y : Node). IsOpen y) (sym v.1) q) r d (subst (λ (y : Node). Member g.automaton.backs (node_place_in u.nodes n, y.place, r, d)) (sym v.1) b) j)
 
   pub proves : AreCovering g.automaton bs → (a : Content) → Names g a s → Proves g a
   proves c a n = record {

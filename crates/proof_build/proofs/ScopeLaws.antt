@@ -23,9 +23,9 @@ use Rattle.proof_names.specs.declared.outlines.NamedStep.{NamedStep}
 use Rattle.proof_names.specs.Naming.{scoped_at, triple_at, IsPredOf, MayBegin, IsNodeIn, StepIsIn, ReturnIsIn, BackIsIn, IsInScope}
 use Rattle.proof_names.specs.Outlines.{Node}
 use Rattle.proof_spell.specs.Drafts as drafts
-use Rattle.proof_spell.specs.Drafts.{PlainShown, MayBeShown, MayStand, IsEntryOf, MayBeSpelled, AscendFrom}
+use Rattle.proof_spell.specs.Drafts.{PlainShown, MayBeShown, MayStand, MayBeSpelled}
 use Rattle.proof_check.proofs.NamedLaws.{inside_two, call_two, back_three}
-use Rattle.proof_unwind.specs.Unwindings.{node_at, place_of, entry_of, bare}
+use Rattle.proof_unwind.specs.Unwindings.{node_at, node_place_in, entry_of, bare}
 use Rattle.proof_build.specs.Unwindings.{Unwinding, step_of, back_of, steps_of, draft_of}
 use Rattle.proof_build.specs.Unwound.{IsUnwound}
 use Rattle.proof_build.proofs.WordLaws.{node_is, node_there, kept_everywhere}
@@ -120,18 +120,18 @@ back_target g preds q b r l c caller callee helpers targets rows t act call m e 
 -- the node's place and that of its entry node are of one procedure, of which its predicates are
 record Stands (g : Graph) (preds : List Scoped) (nodes : List Node) (n : ℕ) : Type 0 where
   proc : ℕ
-  exists : IsPlaceOf g.place_procs proc (place_of nodes n)
+  exists : IsPlaceOf g.place_procs proc (node_place_in nodes n)
   scoped : AllByRecursion (IsPredOf (slice_get preds) proc) (node_at nodes n).preds
   there : entry_of nodes n < length nodes
   itself : entry_of nodes (entry_of nodes n) ≡ entry_of nodes n
-  belongs : IsPlaceOf g.place_procs proc (place_of nodes (entry_of nodes n))
-  begins : MayBegin g proc (place_of nodes (entry_of nodes n))
+  belongs : IsPlaceOf g.place_procs proc (node_place_in nodes (entry_of nodes n))
+  begins : MayBegin g proc (node_place_in nodes (entry_of nodes n))
 
 -- a node with the entry node of another one of its procedure
-with_entry : (g : Graph) (preds : List Scoped) (nodes : List Node) (n k p : ℕ) → Stands g preds nodes n → entry_of nodes k ≡ entry_of nodes n → IsPlaceOf g.place_procs p (place_of nodes n) →
-    IsPlaceOf g.place_procs p (place_of nodes k) → AllByRecursion (IsPredOf (slice_get preds) p) (node_at nodes k).preds → Stands g preds nodes k
+with_entry : (g : Graph) (preds : List Scoped) (nodes : List Node) (n k p : ℕ) → Stands g preds nodes n → entry_of nodes k ≡ entry_of nodes n → IsPlaceOf g.place_procs p (node_place_in nodes n) →
+    IsPlaceOf g.place_procs p (node_place_in nodes k) → AllByRecursion (IsPredOf (slice_get preds) p) (node_at nodes k).preds → Stands g preds nodes k
 with_entry g preds nodes n k p s e a b c =
-    let q : s.proc ≡ p = same_proc g.place_procs s.proc p (place_of nodes n) s.exists a in
+    let q : s.proc ≡ p = same_proc g.place_procs s.proc p (node_place_in nodes n) s.exists a in
     let f : entry_of nodes n ≡ entry_of nodes k = sym e in
     record {
       proc = p;
@@ -139,8 +139,8 @@ with_entry g preds nodes n k p s e a b c =
       scoped = c;
       there = subst (λ (x : ℕ). x < length nodes) f s.there;
       itself = subst (λ (x : ℕ). entry_of nodes x ≡ x) f s.itself;
-      belongs = subst (λ (x : ℕ). IsPlaceOf g.place_procs p (place_of nodes x)) f (subst (λ (x : ℕ). IsPlaceOf g.place_procs x (place_of nodes (entry_of nodes n))) q s.belongs);
-      begins = subst (λ (x : ℕ). MayBegin g p (place_of nodes x)) f (subst (λ (x : ℕ). MayBegin g x (place_of nodes (entry_of nodes n))) q s.begins);
+      belongs = subst (λ (x : ℕ). IsPlaceOf g.place_procs p (node_place_in nodes x)) f (subst (λ (x : ℕ). IsPlaceOf g.place_procs x (node_place_in nodes (entry_of nodes n))) q s.belongs);
+      begins = subst (λ (x : ℕ). MayBegin g p (node_place_in nodes x)) f (subst (λ (x : ℕ). MayBegin g x (node_place_in nodes (entry_of nodes n))) q s.begins);
     }
 
 all_scoped : (preds : List Scoped) (p : ℕ) (rs : List ℕ) → ((r : ℕ) → Member rs r → IsPredOf (slice_get preds) p r) → AllByRecursion (IsPredOf (slice_get preds) p) rs
@@ -153,15 +153,15 @@ module _ (g : Graph) (bs : List Automaton) (u : Unwinding) (i : IsGraph g) (m : 
   inside_stands : (n : ℕ) (a : Letter) (k : ℕ) → Member u.steps.insides (n, a, k) → Stands g u.preds u.nodes n → Stands g u.preds u.nodes k
   inside_stands n a k e s =
       let d = h.along.insides n a k e in
-      let w = inside_edge_known g i (place_of u.nodes n) (place_of u.nodes k) a d.edge in
+      let w = inside_edge_known g i (node_place_in u.nodes n) (node_place_in u.nodes k) a d.edge in
       with_entry g u.preds u.nodes n k w.proc s d.entry w.starts w.ends (all_scoped u.preds w.proc (node_at u.nodes k).preds
       (λ r f. let q = h.shown.insides n a k e r f in inside_target g u.preds q.0 r a.id w.proc w.written w.helpers w.rows q.1.0 w.act (shown_of q.1.0 q.1.1) q.1.2))
 
   call_stands : (n : ℕ) (a : Letter) (k : ℕ) → Member u.steps.calls (n, a, k) → Stands g u.preds u.nodes k
   call_stands n a k e =
       let d = h.along.calls n a k e in
-      let w = call_edge_known g i (place_of u.nodes n) (place_of u.nodes k) a d.edge in
-      let b : IsPlaceOf g.place_procs w.callee (place_of u.nodes k) = call_ends g (place_of u.nodes n) (place_of u.nodes k) a i w in
+      let w = call_edge_known g i (node_place_in u.nodes n) (node_place_in u.nodes k) a d.edge in
+      let b : IsPlaceOf g.place_procs w.callee (node_place_in u.nodes k) = call_ends g (node_place_in u.nodes n) (node_place_in u.nodes k) a i w in
       let f : k ≡ entry_of u.nodes k = sym d.entry in
       record {
         proc = w.callee;
@@ -170,14 +170,14 @@ module _ (g : Graph) (bs : List Automaton) (u : Unwinding) (i : IsGraph g) (m : 
             (λ r f. let q = h.shown.calls n a k e r f in call_target g u.preds q.0 r a.id w.caller w.callee w.helpers w.rows q.1.0 w.act (shown_of q.1.0 q.1.1) q.1.2);
         there = subst (λ (x : ℕ). x < length u.nodes) f d.to;
         itself = ap (entry_of u.nodes) d.entry;
-        belongs = subst (λ (x : ℕ). IsPlaceOf g.place_procs w.callee (place_of u.nodes x)) f b;
-        begins = subst (λ (x : ℕ). MayBegin g w.callee (place_of u.nodes x)) f (inr w.enters);
+        belongs = subst (λ (x : ℕ). IsPlaceOf g.place_procs w.callee (node_place_in u.nodes x)) f b;
+        begins = subst (λ (x : ℕ). MayBegin g w.callee (node_place_in u.nodes x)) f (inr w.enters);
       }
 
   back_stands : (x c : ℕ) (r : Letter) (k : ℕ) → Member u.steps.backs (x, c, r, k) → Stands g u.preds u.nodes c → Stands g u.preds u.nodes k
   back_stands x c r k e s =
       let d = h.along.backs x c r k e in
-      let w = back_edge_known g i (place_of u.nodes x) (place_of u.nodes c) (place_of u.nodes k) r (back_kind g.automaton (place_of u.nodes x) (place_of u.nodes c) (place_of u.nodes k) r m d.edge) d.edge in
+      let w = back_edge_known g i (node_place_in u.nodes x) (node_place_in u.nodes c) (node_place_in u.nodes k) r (back_kind g.automaton (node_place_in u.nodes x) (node_place_in u.nodes c) (node_place_in u.nodes k) r m d.edge) d.edge in
       with_entry g u.preds u.nodes c k w.caller s d.entry w.before w.ends (all_scoped u.preds w.caller (node_at u.nodes k).preds
       (λ t f. let q = h.shown.backs x c r k e t f in
       back_target g u.preds q.0 q.1 t r.id r.call w.caller w.callee w.helpers w.targets w.rows q.2.0 w.act w.call (shown_of q.2.0 q.2.1) q.2.2))
@@ -189,18 +189,18 @@ module _ (g : Graph) (bs : List Automaton) (u : Unwinding) (i : IsGraph g) (m : 
   first_stands =
       let l : 0 < length g.place_procs = (let a = m.start in let b = i.procedures.start in let c = i.procedures.place_procs in omega arith) in
       let p = something_at g.place_procs 0 l in
-      let z : place_of u.nodes 0 ≡ 0 = ap (λ (x : Node). x.place) first_is in
+      let z : node_place_in u.nodes 0 ≡ 0 = ap (λ (x : Node). x.place) first_is in
       let f : entry_of u.nodes 0 ≡ 0 = ap (λ (x : Node). x.entry) first_is in
       let y : 0 ≡ entry_of u.nodes 0 = sym f in
-      let b : IsPlaceOf g.place_procs p.0 (place_of u.nodes 0) = subst (λ (x : ℕ). IsPlaceOf g.place_procs p.0 x) (sym z) p.1 in
+      let b : IsPlaceOf g.place_procs p.0 (node_place_in u.nodes 0) = subst (λ (x : ℕ). IsPlaceOf g.place_procs p.0 x) (sym z) p.1 in
       record {
         proc = p.0;
         exists = b;
         scoped = subst (λ (x : Node). AllByRecursion (IsPredOf (slice_get u.preds) p.0) x.preds) (sym first_is) tt;
         there = subst (λ (x : ℕ). x < length u.nodes) y (within u.nodes 0 bare h.start);
         itself = ap (entry_of u.nodes) f;
-        belongs = subst (λ (x : ℕ). IsPlaceOf g.place_procs p.0 (place_of u.nodes x)) y b;
-        begins = subst (λ (x : ℕ). MayBegin g p.0 (place_of u.nodes x)) y (inl z);
+        belongs = subst (λ (x : ℕ). IsPlaceOf g.place_procs p.0 (node_place_in u.nodes x)) y b;
+        begins = subst (λ (x : ℕ). MayBegin g p.0 (node_place_in u.nodes x)) y (inl z);
       }
 
   stands : (n : ℕ) → n < length u.nodes → Stands g u.preds u.nodes n
@@ -221,36 +221,36 @@ module _ (g : Graph) (bs : List Automaton) (u : Unwinding) (i : IsGraph g) (m : 
         ascend = h.ascend n l;
         scoped = s.scoped;
         entry = record { node = node_at u.nodes (entry_of u.nodes n); stands = node_there u.nodes (entry_of u.nodes n) s.there; itself = s.itself; belongs = s.belongs };
-        begins = λ f. subst (λ (y : ℕ). MayBegin g s.proc (place_of u.nodes y)) f s.begins;
+        begins = λ f. subst (λ (y : ℕ). MayBegin g s.proc (node_place_in u.nodes y)) f s.begins;
       })
 
   -- ---- steps
 
-  node_in : (p n : ℕ) → n < length u.nodes → IsPlaceOf g.place_procs p (place_of u.nodes n) → IsNodeIn g (drafts.place_of u.nodes) p n
+  node_in : (p n : ℕ) → n < length u.nodes → IsPlaceOf g.place_procs p (node_place_in u.nodes n) → IsNodeIn g (drafts.place_of u.nodes) p n
   node_in p n l b =
-      let e : drafts.place_of u.nodes n ≡ Some (place_of u.nodes n) = ap (option_map (λ (x : Node). x.place)) (node_there u.nodes n l) in
+      let e : drafts.place_of u.nodes n ≡ Some (node_place_in u.nodes n) = ap (option_map (λ (x : Node). x.place)) (node_there u.nodes n l) in
       subst (λ (o : Option ℕ). IsSomeAnd o (IsPlaceOf g.place_procs p)) (sym e) b
 
   inside_in_scope : (n : ℕ) (a : Letter) (k : ℕ) → Member u.steps.insides (n, a, k) → IsInScope g (drafts.place_of u.nodes) (step_of (n, a, k))
   inside_in_scope n a k e =
       let d = h.along.insides n a k e in
-      let w = inside_edge_known g i (place_of u.nodes n) (place_of u.nodes k) a d.edge in
+      let w = inside_edge_known g i (node_place_in u.nodes n) (node_place_in u.nodes k) a d.edge in
       subst (λ (o : Option PlainAct). StepIsIn g (drafts.place_of u.nodes) n k o) (sym w.act) (node_in w.proc n d.from w.starts, node_in w.proc k d.to w.ends)
 
   call_in_scope : (n : ℕ) (a : Letter) (k : ℕ) → Member u.steps.calls (n, a, k) → IsInScope g (drafts.place_of u.nodes) (step_of (n, a, k))
   call_in_scope n a k e =
       let d = h.along.calls n a k e in
-      let w = call_edge_known g i (place_of u.nodes n) (place_of u.nodes k) a d.edge in
+      let w = call_edge_known g i (node_place_in u.nodes n) (node_place_in u.nodes k) a d.edge in
       subst (λ (o : Option PlainAct). StepIsIn g (drafts.place_of u.nodes) n k o) (sym w.act)
-      (node_in w.caller n d.from w.starts, node_in w.callee k d.to (call_ends g (place_of u.nodes n) (place_of u.nodes k) a i w))
+      (node_in w.caller n d.from w.starts, node_in w.callee k d.to (call_ends g (node_place_in u.nodes n) (node_place_in u.nodes k) a i w))
 
   back_in_scope : (x c : ℕ) (r : Letter) (k : ℕ) → Member u.steps.backs (x, c, r, k) → IsInScope g (drafts.place_of u.nodes) (back_of (x, c, r, k))
   back_in_scope x c r k e =
       let d = h.along.backs x c r k e in
-      let w = back_edge_known g i (place_of u.nodes x) (place_of u.nodes c) (place_of u.nodes k) r (back_kind g.automaton (place_of u.nodes x) (place_of u.nodes c) (place_of u.nodes k) r m d.edge) d.edge in
+      let w = back_edge_known g i (node_place_in u.nodes x) (node_place_in u.nodes c) (node_place_in u.nodes k) r (back_kind g.automaton (node_place_in u.nodes x) (node_place_in u.nodes c) (node_place_in u.nodes k) r m d.edge) d.edge in
       subst (λ (o : Option PlainAct). BackIsIn g (drafts.place_of u.nodes) x c k o) (sym w.act)
       (subst (λ (o : Option PlainAct). ReturnIsIn g (drafts.place_of u.nodes) x c k o) (sym w.call)
-      (node_in w.callee x d.exit (back_leaves g (place_of u.nodes x) (place_of u.nodes c) (place_of u.nodes k) r i w), node_in w.caller c d.before w.before, node_in w.caller k d.to w.ends))
+      (node_in w.callee x d.exit (back_leaves g (node_place_in u.nodes x) (node_place_in u.nodes c) (node_place_in u.nodes k) r i w), node_in w.caller c d.before w.before, node_in w.caller k d.to w.ends))
 
   step_in_scope : (t : NamedStep) → Member (steps_of u.steps) t → IsInScope g (drafts.place_of u.nodes) t
   step_in_scope t e = elim (member_split (map step_of u.steps.insides) (map step_of u.steps.calls ++ map back_of u.steps.backs) t e) [

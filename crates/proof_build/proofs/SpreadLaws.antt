@@ -23,7 +23,7 @@ use Rattle.proof_names.specs.Columns.{has_entry}
 use Rattle.proof_names.specs.Outlines.{Node}
 use Rattle.proof_spell.specs.Drafts.{PlainShown}
 use Rattle.proof_check.specs.Steps.{IsOf}
-use Rattle.proof_unwind.specs.Unwindings.{node_at, place_of, entry_of, bare, Claims, Spreads}
+use Rattle.proof_unwind.specs.Unwindings.{node_at, node_place_in, entry_of, bare, Claims, Spreads}
 use Rattle.proof_unwind.specs.Exploring.{IsExploring}
 use Rattle.proof_build.specs.Unwindings.{HasTriple, IsShown}
 use Rattle.proof_build.specs.Numbering.{HasBody, StartHasBody, IsNumberOf, IsNumber, AreNumbers, AreListed, IsNumbered, AreNumbered, AreAllNumbered}
@@ -78,7 +78,7 @@ some_place procs a l s e = omega arith
 
 -- the place of the node belongs to a procedure with a body
 abbrev HasPlace : Graph → List Node → ℕ → Type 0
-HasPlace g nodes n = (p : ℕ) × IsPlaceOf g.place_procs p (place_of nodes n) × HasBody g p
+HasPlace g nodes n = (p : ℕ) × IsPlaceOf g.place_procs p (node_place_in nodes n) × HasBody g p
 
 abbrev number_in : (ℕ → Option ℕ) → ℕ → ℕ
 number_in number q = unwrap_or (number q) 0
@@ -89,30 +89,30 @@ is_in number q k e = ap (λ (o : Option ℕ). unwrap_or o 0) e
 module _ (g : Graph) (preds : List Scoped) (cs : List Certificate) (union : Automaton) (nodes : List Node) (steps : Automaton) (i : IsGraph g) (m : IsAutomaton g.automaton)
     (certified : AllByRecursion (IsCertified (alphabet_of g)) cs) (body : StartHasBody g) (listed : AreListed g preds) (numbered : AreAllNumbered g preds cs) (united : IsUnionOf preds cs union)
     (exploring : IsExploring g.automaton union nodes steps) where
-  body_of : (n p : ℕ) → HasPlace g nodes n → IsPlaceOf g.place_procs p (place_of nodes n) → HasBody g p
-  body_of n p h b = subst (λ (x : ℕ). HasBody g x) (same_proc g.place_procs h.0 p (place_of nodes n) h.1 b) h.2
+  body_of : (n p : ℕ) → HasPlace g nodes n → IsPlaceOf g.place_procs p (node_place_in nodes n) → HasBody g p
+  body_of n p h b = subst (λ (x : ℕ). HasBody g x) (same_proc g.place_procs h.0 p (node_place_in nodes n) h.1 b) h.2
 
   first_has : HasPlace g nodes 0
   first_has =
       let p = something_at g.place_procs 0 (some_place g.place_procs g.automaton m.start i.procedures.start i.procedures.place_procs) in
       let f : node_at nodes 0 ≡ bare = node_is nodes 0 bare exploring.first in
-      let z : place_of nodes 0 ≡ 0 = ap (λ (x : Node). x.place) f in
+      let z : node_place_in nodes 0 ≡ 0 = ap (λ (x : Node). x.place) f in
       (p.0, subst (λ (x : ℕ). IsPlaceOf g.place_procs p.0 x) (sym z) p.1, body p.0 p.1)
 
   inside_has : (n : ℕ) (a : Letter) (k : ℕ) → Member steps.insides (n, a, k) → HasPlace g nodes n → HasPlace g nodes k
   inside_has n a k e h =
-      let w = inside_edge_known g i (place_of nodes n) (place_of nodes k) a (exploring.along.insides n a k e).edge in
+      let w = inside_edge_known g i (node_place_in nodes n) (node_place_in nodes k) a (exploring.along.insides n a k e).edge in
       (w.proc, w.ends, body_of n w.proc h w.starts)
 
   call_has : (n : ℕ) (a : Letter) (k : ℕ) → Member steps.calls (n, a, k) → HasPlace g nodes k
   call_has n a k e =
-      let w = call_edge_known g i (place_of nodes n) (place_of nodes k) a (exploring.along.calls n a k e).edge in
-      (w.callee, call_ends g (place_of nodes n) (place_of nodes k) a i w, entered (slice_get g.entries w.callee) (place_of nodes k) w.enters)
+      let w = call_edge_known g i (node_place_in nodes n) (node_place_in nodes k) a (exploring.along.calls n a k e).edge in
+      (w.callee, call_ends g (node_place_in nodes n) (node_place_in nodes k) a i w, entered (slice_get g.entries w.callee) (node_place_in nodes k) w.enters)
 
   back_has : (x c : ℕ) (r : Letter) (k : ℕ) → Member steps.backs (x, c, r, k) → HasPlace g nodes c → HasPlace g nodes k
   back_has x c r k e h =
       let d = (exploring.along.backs x c r k e).edge in
-      let w = back_edge_known g i (place_of nodes x) (place_of nodes c) (place_of nodes k) r (back_kind g.automaton (place_of nodes x) (place_of nodes c) (place_of nodes k) r m d) d in
+      let w = back_edge_known g i (node_place_in nodes x) (node_place_in nodes c) (node_place_in nodes k) r (back_kind g.automaton (node_place_in nodes x) (node_place_in nodes c) (node_place_in nodes k) r m d) d in
       (w.caller, w.ends, body_of c w.caller h w.before)
 
   -- the place of each node belongs to a procedure with a body
@@ -140,7 +140,7 @@ module _ (g : Graph) (preds : List Scoped) (cs : List Certificate) (union : Auto
       Member c.automaton.insides (x, a, y) → IsOf (number_in h.number x) (node_at nodes n) → Claims (node_at nodes k) (number_in h.number y)
   inside_spreads c mc h n a k e x y edge o =
       let d = exploring.along.insides n a k (exploring.part.insides n a k e) in
-      let w = inside_edge_known g i (place_of nodes n) (place_of nodes k) a d.edge in
+      let w = inside_edge_known g i (node_place_in nodes n) (node_place_in nodes k) a d.edge in
       let b : HasBody g w.proc = body_of n w.proc (each_has n d.from) w.starts in
       let t = (cert_of c mc).insides x y a edge in
       let p = inside_procs g (slice_get g.acts a.id) t.before t.after w.proc w.written w.helpers w.rows w.act t.proved.agrees in
@@ -154,13 +154,13 @@ module _ (g : Graph) (preds : List Scoped) (cs : List Certificate) (union : Auto
       Member c.automaton.calls (x, a, y) → IsOf (number_in h.number x) (node_at nodes n) → Claims (node_at nodes k) (number_in h.number y)
   call_spreads c mc h n a k e x y edge o =
       let d = exploring.along.calls n a k (exploring.part.calls n a k e) in
-      let w = call_edge_known g i (place_of nodes n) (place_of nodes k) a d.edge in
+      let w = call_edge_known g i (node_place_in nodes n) (node_place_in nodes k) a d.edge in
       let b : HasBody g w.caller = body_of n w.caller (each_has n d.from) w.starts in
       let t = (cert_of c mc).calls x y a edge in
       let p = call_procs g (slice_get g.acts a.id) t.before t.after w.caller w.callee w.helpers w.rows w.act t.proved.agrees in
       let ns = numbers_in g preds c.proofs t.proved.proof (triples.Call t.before a.id t.after) (numbered_of c mc) t.proved.listed t.proved.is in
       let q = state_has c h.number x t.before h.numbers t.source ns.0 (of_body g t.before w.caller p.0 b) in
-      let r = state_has c h.number y t.after h.numbers t.target ns.1.0 (of_body g t.after w.callee p.1 (entered (slice_get g.entries w.callee) (place_of nodes k) w.enters)) in
+      let r = state_has c h.number y t.after h.numbers t.target ns.1.0 (of_body g t.after w.callee p.1 (entered (slice_get g.entries w.callee) (node_place_in nodes k) w.enters)) in
       let o2 : IsOf q.0 (node_at nodes n) = subst (λ (z : ℕ). IsOf z (node_at nodes n)) (is_in h.number x q.0 q.1) o in
       subst (λ (z : ℕ). Claims (node_at nodes k) z) (sym (is_in h.number y r.0 r.1)) ((exploring.spread.calls n a k e).1 q.0 r.0 (h.calls x y q.0 r.0 a edge q.1 r.1) o2)
 
@@ -168,9 +168,9 @@ module _ (g : Graph) (preds : List Scoped) (cs : List Certificate) (union : Auto
       Member c.automaton.backs (x, z, a, y) → IsOf (number_in h.number x) (node_at nodes v) → IsOf (number_in h.number z) (node_at nodes n) → Claims (node_at nodes k) (number_in h.number y)
   back_spreads c mc h v n a k e x z y edge o u =
       let d = exploring.along.backs v n a k (exploring.part.backs v n a k e) in
-      let w = back_edge_known g i (place_of nodes v) (place_of nodes n) (place_of nodes k) a (back_kind g.automaton (place_of nodes v) (place_of nodes n) (place_of nodes k) a m d.edge) d.edge in
+      let w = back_edge_known g i (node_place_in nodes v) (node_place_in nodes n) (node_place_in nodes k) a (back_kind g.automaton (node_place_in nodes v) (node_place_in nodes n) (node_place_in nodes k) a m d.edge) d.edge in
       let b : HasBody g w.caller = body_of n w.caller (each_has n d.before) w.before in
-      let f : HasBody g w.callee = body_of v w.callee (each_has v d.exit) (back_leaves g (place_of nodes v) (place_of nodes n) (place_of nodes k) a i w) in
+      let f : HasBody g w.callee = body_of v w.callee (each_has v d.exit) (back_leaves g (node_place_in nodes v) (node_place_in nodes n) (node_place_in nodes k) a i w) in
       let t = (cert_of c mc).backs x z y a edge in
       let p = back_procs g (slice_get g.acts a.id) t.exit t.before t.after a.call w.targets w.caller w.callee w.helpers w.rows w.act w.call t.proved.agrees in
       let ns = numbers_in g preds c.proofs t.proved.proof (triples.Back t.exit t.before a.id t.after) (numbered_of c mc) t.proved.listed t.proved.is in

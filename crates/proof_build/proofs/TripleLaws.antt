@@ -1,7 +1,6 @@
 -- The triples of proofs, by number: lines can show them, and none is shown by two numbers.
-use Rattle.std.proofs.Common.{◌≡◌, ◌∙◌, ◌⊎◌, ℕ, List, [], ◌∷◌, ◌++◌, Option, None, Some, refl, sym, ap, subst, inl, inr, append_assoc}
-use Rattle.std.specs.Prelude.{Bool, true, false, Result, Ok, Err, IfOk, slice_get}
-use Rattle.std.specs.declared.alloc.AllocError.{AllocError}
+use Rattle.std.proofs.Common.{◌≡◌, ◌∙◌, ℕ, List, [], ◌∷◌, ◌++◌, Option, None, Some, refl, sym, ap, subst, inl, inr, append_assoc}
+use Rattle.std.specs.Prelude.{Bool, true, false, slice_get}
 use Rattle.std.proofs.lemmas.List.{append-nil}
 use Rattle.std.specs.List.{AllByRecursion}
 use Rattle.std.specs.Option.{option_map}
@@ -20,7 +19,6 @@ use Rattle.triple_rows.specs.Triples.{Agrees, InsideAgrees, CallAgrees, ReturnAg
 use Rattle.triple_rows.specs.Proofs.{PlainProof}
 use Rattle.hoare_check.specs.Decided.{IsProofFor}
 use Rattle.triple_rows.specs.Cuts.{inside_columns, call_columns, back_columns, columns_of, IsCutWithin}
-use Rattle.letter_acts.specs.Widths.{back_width}
 use Rattle.itp_automaton.specs.Certified.{Certificate}
 use Rattle.itp_automaton.proofs.StateLaws.{distinct_more}
 use Rattle.proof_names.specs.declared.outlines.Listed.{Listed}
@@ -30,7 +28,6 @@ use Rattle.proof_names.specs.Naming.{scoped_at, inside_at, call_at, return_at, b
 use Rattle.proof_spell.specs.Drafts.{PlainShown, IsWithin, MayBeShown}
 use Rattle.proof_build.specs.Unwindings.{HasTriple}
 use Rattle.proof_build.specs.Numbering.{IsNumberOf, AreListed}
-use Rattle.proof_build.specs.Noted.{IsInserted}
 use Rattle.proof_build.specs.Listing.{IsListedAs, AreItsNumbers, IsOneOf, IsListedIn, Shows, AreTriplesOf, listed_in, IsFirst, AreNumbersOf, AreNeededOnce}
 use Rattle.proof_build.proofs.ListLaws.{map_joined}
 use Rattle.proof_build.proofs.NumberLaws.{one_number}
@@ -204,26 +201,6 @@ listed_there g preds needed shown p t n d i e h k =
 abbrev Lacks : List Scoped → Scoped → Type 0
 Lacks preds s = (k : ℕ) → IsNumberOf preds s k → ⊥
 
-pub inside_lacks : (preds : List Scoped) (l : ℕ) (before after : Scoped) → (Lacks preds before ⊎ Lacks preds after) → (n : Listed) → IsListedAs preds (triples.Inside before l after) n → ⊥
-inside_lacks preds l before after (inl f) (Inside q k r) h = f q h.0
-inside_lacks preds l before after (inr f) (Inside q k r) h = f r h.2
-inside_lacks preds l before after f (Call q k r) h = h
-inside_lacks preds l before after f (Back q p k r) h = h
-
-pub call_lacks : (preds : List Scoped) (l : ℕ) (before after : Scoped) → (Lacks preds before ⊎ Lacks preds after) → (n : Listed) → IsListedAs preds (triples.Call before l after) n → ⊥
-call_lacks preds l before after f (Inside q k r) h = h
-call_lacks preds l before after (inl f) (Call q k r) h = f q h.0
-call_lacks preds l before after (inr f) (Call q k r) h = f r h.2
-call_lacks preds l before after f (Back q p k r) h = h
-
-pub back_lacks : (preds : List Scoped) (l : ℕ) (exit before after : Scoped) → (Lacks preds exit ⊎ (Lacks preds before ⊎ Lacks preds after)) → (n : Listed) →
-    IsListedAs preds (triples.Back exit before l after) n → ⊥
-back_lacks preds l exit before after f (Inside q k r) h = h
-back_lacks preds l exit before after f (Call q k r) h = h
-back_lacks preds l exit before after (inl f) (Back q p k r) h = f q h.0
-back_lacks preds l exit before after (inr (inl f)) (Back q p k r) h = f p h.1
-back_lacks preds l exit before after (inr (inr f)) (Back q p k r) h = f r h.3
-
 -- ---- triples that are added one by one
 
 pub shows_none : (preds : List Scoped) (needed : List Listed) (old : List PlainShown) → Shows preds needed [] old old
@@ -308,11 +285,6 @@ no_triples preds needed = record { each = λ t m. absurd m; all = λ c m. absurd
 
 -- ---- each once
 
-pub first_inserted : (needed old new : List Listed) (t : Listed) (r : Result Bool AllocError) → Member needed t → IfOk r (λ b. IsInserted old t b new) → IfOk r (λ b. IsFirst needed old t b new)
-first_inserted needed old new t (Ok true) m h = (m, h.0, h.1)
-first_inserted needed old new t (Ok false) m h = (λ k. h.0, h.1)
-first_inserted needed old new t (Err e) m h = tt
-
 there_seen : (needed seen : List Listed) (shown : List PlainShown) (n : Listed) → AreNumbersOf needed seen shown → Member seen n → HasTriple shown n
 there_seen needed seen shown n h m = member_from_map (λ (t : PlainShown). t.listed) shown n (subst (λ (l : List Listed). Member l n) (sym h.are) m)
 
@@ -323,12 +295,6 @@ not_first needed seen new shown o t b h f e is n i m =
     let k : IsFirst needed seen t false new = subst (λ (x : Bool). IsFirst needed seen t x new) e f in
     let j : t ≡ n = cc in
     there_seen needed seen shown n h (subst (λ (x : Listed). Member seen x) j (k.0 (subst (λ (x : Listed). Member needed x) (sym j) m)))
-
-pub numbers_kept : (needed seen new : List Listed) (shown : List PlainShown) (t : Listed) (b : Bool) → AreNumbersOf needed seen shown → IsFirst needed seen t b new → b ≡ false →
-    AreNumbersOf needed new shown
-numbers_kept needed seen new shown t b h f e =
-    let k : IsFirst needed seen t false new = subst (λ (x : Bool). IsFirst needed seen t x new) e f in
-    subst (λ (l : List Listed). AreNumbersOf needed l shown) (sym k.1) h
 
 pub numbers_more : (needed seen new : List Listed) (shown more : List PlainShown) (t : PlainShown) (b : Bool) → AreNumbersOf needed seen shown → IsFirst needed seen t.listed b new → b ≡ true →
     more ≡ shown ++ t ∷ [] → AreNumbersOf needed new more

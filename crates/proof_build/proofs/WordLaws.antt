@@ -12,7 +12,7 @@ use Rattle.nwa_base.proofs.WayLemmas.{moves_join, moves_below}
 use Rattle.proof_names.specs.Outlines.{Node}
 use Rattle.proof_spell.specs.Correspond.{Correspond}
 use Rattle.proof_check.specs.Steps.{IsOf, IsOpen}
-use Rattle.proof_unwind.specs.Unwindings.{node_at, place_of, IsAlong, IsReached, IsPart, Claims, Spreads}
+use Rattle.proof_unwind.specs.Unwindings.{node_at, node_place_in, IsAlong, IsReached, IsPart, Claims, Spreads}
 use Rattle.proof_build.specs.Unwound.{AreCovering}
 
 -- ---- nodes by number
@@ -63,10 +63,10 @@ whole_way t entry n r =
 -- ---- places
 
 abbrev places : List Node → List ℕ → List ℕ
-places nodes stack = map (place_of nodes) stack
+places nodes stack = map (node_place_in nodes) stack
 
 place_step : (m t : Automaton) (nodes : List Node) (s : Automaton) (k : Kind) (a : Letter) (before : List ℕ) (n r : ℕ) (R S : List ℕ → Type 0) → IsAlong m nodes s → IsPart t s →
-    ((stack : List ℕ) → R stack → S (places nodes stack)) → Follows t k a before n r R → Follows m k a (places nodes before) (place_of nodes n) (place_of nodes r) S
+    ((stack : List ℕ) → R stack → S (places nodes stack)) → Follows t k a before n r R → Follows m k a (places nodes before) (node_place_in nodes n) (node_place_in nodes r) S
 place_step m t nodes s kinds.Inside a before n r R S al p g f = ((al.insides n a r (p.insides n a r f.0)).edge, g before f.1)
 place_step m t nodes s kinds.Call a before n r R S al p g f = ((al.calls n a r (p.calls n a r f.0)).edge, g (n ∷ before) f.1)
 place_step m t nodes s kinds.Back a [] n r R S al p g f = absurd f
@@ -74,11 +74,11 @@ place_step m t nodes s kinds.Back a (c ∷ before) n r R S al p g f = ((al.backs
 
 -- a word to a node at a final place is accepted
 pub places_accept : (m t : Automaton) (nodes : List Node) (s : Automaton) (w : List Letter) (before after : List ℕ) (n e : ℕ) → IsAlong m nodes s → IsPart t s →
-    Moves t before n w after e → Member m.finals (place_of nodes e) → AcceptsFrom m (places nodes before) (place_of nodes n) w
-places_accept m t nodes s [] before after n e al p v f = subst (λ (q : ℕ). Member m.finals (place_of nodes q)) (sym v.1) f
+    Moves t before n w after e → Member m.finals (node_place_in nodes e) → AcceptsFrom m (places nodes before) (node_place_in nodes n) w
+places_accept m t nodes s [] before after n e al p v f = subst (λ (q : ℕ). Member m.finals (node_place_in nodes q)) (sym v.1) f
 places_accept m t nodes s (a ∷ w) before after n e al p v f = (
-  place_of nodes v.0,
-  place_step m t nodes s a.kind a before n v.0 (λ stack. Moves t stack v.0 w after e) (λ stack. AcceptsFrom m stack (place_of nodes v.0) w) al p
+  node_place_in nodes v.0,
+  place_step m t nodes s a.kind a before n v.0 (λ stack. Moves t stack v.0 w after e) (λ stack. AcceptsFrom m stack (node_place_in nodes v.0) w) al p
       (λ stack h. places_accept m t nodes s w stack after v.0 e al p h f) v.1,
 )
 
@@ -121,12 +121,12 @@ claimed_along b t nodes number (l ∷ w) before after states n e q h c p m a =
     claimed_along b t nodes number w s.0 after s.1 m.0 e a.0 h s.2 s.3 s.4 s.5
 
 -- each node at a final place has false
-pub error_has_false : (m t : Automaton) (nodes : List Node) (s : Automaton) (bs : List Automaton) (n entry : ℕ) → m.start ≡ 0 → place_of nodes 0 ≡ 0 → IsAlong m nodes s → IsPart t s →
-    ((b : Automaton) → Member bs b → (number : ℕ → ℕ) × Spreads b t nodes number) → AreCovering m bs → IsReached t entry n → Member m.finals (place_of nodes n) →
+pub error_has_false : (m t : Automaton) (nodes : List Node) (s : Automaton) (bs : List Automaton) (n entry : ℕ) → m.start ≡ 0 → node_place_in nodes 0 ≡ 0 → IsAlong m nodes s → IsPart t s →
+    ((b : Automaton) → Member bs b → (number : ℕ → ℕ) × Spreads b t nodes number) → AreCovering m bs → IsReached t entry n → Member m.finals (node_place_in nodes n) →
     Member (node_at nodes n).preds 1
 error_has_false m t nodes s bs n entry st z al p sp co r f =
     let w = whole_way t entry n r in
-    let a : AcceptsFrom m [] (place_of nodes 0) w.0 = places_accept m t nodes s w.0 [] w.1 0 n al p w.2 f in
+    let a : AcceptsFrom m [] (node_place_in nodes 0) w.0 = places_accept m t nodes s w.0 [] w.1 0 n al p w.2 f in
     let ac : Accepts m w.0 = subst (λ (q : ℕ). AcceptsFrom m [] q w.0) (z ∙ sym st) a in
     let b = co w.0 ac in
     let h = sp b.0 b.1 in

@@ -7,7 +7,7 @@ use Rattle.nwa_base.specs.Automata.{Automaton}
 use Rattle.nwa_base.specs.Acceptance.{Accepts}
 use Rattle.letter_acts.specs.Invariant.{Graph}
 use Rattle.proof_spell.specs.Drafts.{MayBeNamed, MayBeShown, AscendFrom}
-use Rattle.proof_unwind.specs.Unwindings.{node_at, entry_of, bare, IsAlong, IsClosed, IsReached, IsPart, Spreads}
+use Rattle.proof_unwind.specs.Unwindings.{node_at, entry_of, bare, IsAlong, ClosesUnwinding, IsReached, IsPart, Spreads}
 use Rattle.proof_build.specs.Unwindings.{Unwinding, IsShown}
 
 -- each word that the automaton accepts is accepted by one of these
@@ -19,7 +19,7 @@ AreCovering m bs = (w : List Letter) → Accepts m w → (b : Automaton) × Memb
 pub record IsUnwound (g : Graph) (bs : List Automaton) (u : Unwinding) : Type 0 where
   pub start : slice_get u.nodes 0 ≡ Some bare
   pub along : IsAlong g.automaton u.nodes u.steps
-  pub closed : IsClosed g.automaton u.nodes u.steps
+  pub closed : ClosesUnwinding g.automaton u.nodes u.steps
   pub shown : IsShown u.triples u.nodes u.steps
   pub tree : Automaton
   pub part : IsPart tree u.steps

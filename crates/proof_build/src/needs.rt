@@ -1,24 +1,16 @@
 //! The triples that the steps of an unwinding need: for each predicate of the end of a step one.
 
-ghost use Rattle.std.specs.Prelude.{◌≡◌, ℕ, ◌↔◌, IsTrue, IfOk, OnOk, MatchOption, slice_get};
-ghost use Rattle.std.specs.Option.{option_map};
+ghost use Rattle.std.specs.Prelude.{◌≡◌, ℕ, ◌↔◌, IsTrue, IfOk, OnOk, MatchOption};
 ghost use Rattle.nwa_base.specs.Members.{Member};
 ghost use Rattle.proof_unwind.specs.Unwindings.{node_at};
-ghost use Rattle.proof_unwind.specs.Spots.{plain, nodes_of};
+ghost use Rattle.proof_unwind.specs.Spots.{nodes_of};
 ghost use Rattle.proof_build.specs.Needs.{inside_numbers, call_numbers, IsAmong, Leads, BackLeads, NotesAll, NotesBacks, NotesSteps, NotesBackSteps, AreNeeded};
 
 use crate::noted::Noted;
 use nwa_base::{Letter, Nwa};
 use proof_names::Listed;
-use proof_unwind::{Spot, Unwound};
+use proof_unwind::{Spot, Unwound, spot_at};
 use std::alloc::{AllocError, Global};
-
-/// The node with this number.
-fn spot_at(nodes: &[Spot], number: u32) -> Option<&Spot>
-    ensures { option_map (λ s. plain s.now) result ≡ slice_get (nodes_of nodes.now) number }
-{
-    nodes.get(number as usize)
-}
 
 /// The predicates of a node.
 fn preds_at(nodes: &[Spot], number: u32) -> &[u32]

@@ -1,6 +1,6 @@
 //! The numbers of predicates.
 
-ghost use Rattle.std.specs.Prelude.{◌≡◌, ◌+◌, ◌<◌, ℕ, Bool, Some, [], ◌∷◌, IfOk, MatchOption, length};
+ghost use Rattle.std.specs.Prelude.{◌≡◌, ◌+◌, ◌<◌, ◌^◌, ℕ, Bool, Some, [], ◌∷◌, IfOk, OnErr, MatchOption, length};
 ghost use Rattle.triple_rows.specs.declared.predicates.PredNode.TheVariants.{Truth};
 ghost use Rattle.triple_rows.specs.Predicates.{truth, formula_of};
 ghost use Rattle.proof_build.specs.Numbering.{IsNumber, truth_number, AreNumbers, number_at};
@@ -20,10 +20,11 @@ fn number_of_truth(pred: &Pred) -> Option<u32>
     }
 }
 
-/// The number of a predicate, if it has one.
+/// The number of a predicate, if it has one. No memory is left for it only where 32 bits do not count the predicates.
 pub(crate) fn number_of(preds: &[Scoped], scoped: &Scoped) -> Result<Option<u32>, AllocError>
     ensures number { IfOk result (IsNumber preds.now scoped.now) }
     ensures truths { IfOk result (λ o. (b : Bool) → formula_of scoped.now.pred ≡ truth b → o ≡ Some (truth_number b)) }
+    ensures many { OnErr result (2 ^ 32 < 2 + length preds.now) }
 {
     if let Some(number) = number_of_truth(&scoped.pred) {
         return Ok(Some(number));

@@ -12,14 +12,14 @@ use nwa_base::{Letter, Nwa, NwaFault, empty};
 use std::alloc::{AllocError, Global};
 use triple_rows::Scoped;
 
-/// What an automaton answers to an edge whose states it has and whose letter has its kind.
-fn added(answer: Result<(), NwaFault>) -> Result<(), AllocError>
+/// What an automaton answers where its states are there and each letter has its kind.
+fn added<T: Drop>(answer: Result<T, NwaFault>) -> Result<T, AllocError>
     requires state { answer ≢ Err NwaFault.BadState }
     requires letter { answer ≢ Err NwaFault.BadLetter }
-    ensures { OnOk result (answer ≡ Ok tt) }
+    ensures { IfOk result (λ value. answer ≡ Ok value) }
 {
     match answer {
-        Ok(()) => Ok(()),
+        Ok(value) => Ok(value),
         Err(NwaFault::Memory) => Err(AllocError),
         Err(NwaFault::BadState | NwaFault::BadLetter) => unreachable!(),
     }
@@ -119,9 +119,7 @@ fn begun(alloc: Global, preds: &[Scoped]) -> Result<Nwa, AllocError>
         Ok(count) if count < u32::MAX - 1 => count + 2,
         _ => return Err(AllocError),
     };
-    let Ok(mut union) = empty(alloc, states, 0) else {
-        return Err(AllocError);
-    };
+    let mut union = added(empty(alloc, states, 0))?;
     added(union.set_final(1))?;
     Ok(union)
 }

@@ -9,7 +9,7 @@ use Rattle.nwa_base.proofs.MemberLemmas.{member_front, member_rest}
 use Rattle.proof_names.specs.Outlines.{Node}
 use Rattle.proof_spell.specs.Drafts.{AscendFrom}
 use Rattle.proof_check.specs.Steps.{IsOf, IsOpen}
-use Rattle.proof_unwind.specs.Unwindings.{node_at, place_of, entry_of, IsInsideStep, IsCallStep, IsBackStep, IsAlong, IsReached, IsPart, Claims, Spreads, bare}
+use Rattle.proof_unwind.specs.Unwindings.{node_at, node_place_in, entry_of, IsInsideStep, IsCallStep, IsBackStep, IsAlong, IsReached, IsPart, Claims, Spreads, bare}
 use Rattle.proof_unwind.specs.Exploring.{InsideFollows, CallFollows, BackFollows, AreFollowing, AreShown, IsExploring, IsStarting, with_inside, with_call, with_back, with_state}
 use Rattle.proof_unwind.proofs.GrowingLaws.{more_at, last_at, more_long, longer, along_more, shown_more, spread_more, step_more, back_step_more, along_inside, along_call, along_back, reached_more, reached_inside, reached_call, reached_back}
 
@@ -200,7 +200,7 @@ old_reached : (nodes : List Node) (x : Node) (t u : Automaton) (n : ℕ) → n <
 old_reached nodes x t u n l p r = subst (λ (y : Node). IsReached u y.entry n) (sym (more_at nodes x n l)) (reached_more t u (entry_of nodes n) n p r)
 
 pub fresh_inside : (m b : Automaton) (nodes : List Node) (s : Automaton) (n : ℕ) (a : Letter) (x : Node) → IsExploring m b nodes s → n < length nodes → IsOpen (node_at nodes n) →
-    a.kind ≡ kinds.Inside → Member m.insides (place_of nodes n, a, x.place) → x.entry ≡ entry_of nodes n → AreFollowing (InsideFollows b a (node_at nodes n)) x.preds →
+    a.kind ≡ kinds.Inside → Member m.insides (node_place_in nodes n, a, x.place) → x.entry ≡ entry_of nodes n → AreFollowing (InsideFollows b a (node_at nodes n)) x.preds →
     IsExploring m b (nodes ++ x ∷ []) (with_inside (with_state s) (n, a, length nodes))
 fresh_inside m b nodes s n a x h l o kind e en f =
     let K : ℕ = length nodes in
@@ -211,7 +211,7 @@ fresh_inside m b nodes s n a x h l o kind e en f =
     let d : IsInsideStep m new n a K = record {
       «from» = longer nodes x n l;
       to = let q = more_long nodes x in omega (arith, q);
-      edge = subst (λ (y : Node). Member m.insides (y.place, a, place_of new K)) (sym old) (subst (λ (y : Node). Member m.insides (place_of nodes n, a, y.place)) (sym last) e);
+      edge = subst (λ (y : Node). Member m.insides (y.place, a, node_place_in new K)) (sym old) (subst (λ (y : Node). Member m.insides (node_place_in nodes n, a, y.place)) (sym last) e);
       entry = ap (λ (y : Node). y.entry) last ∙ en ∙ ap (λ (y : Node). y.entry) (sym old);
     } in
     let follows : AreFollowing (InsideFollows b a (node_at new n)) x.preds = subst (λ (y : Node). AreFollowing (InsideFollows b a y) x.preds) (sym old) f in
@@ -262,7 +262,7 @@ state_along m nodes s h = record {
 }
 
 pub fresh_call : (m b : Automaton) (nodes : List Node) (s : Automaton) (n : ℕ) (a : Letter) (x : Node) → IsExploring m b nodes s → n < length nodes → IsOpen (node_at nodes n) →
-    a.kind ≡ kinds.Call → Member m.calls (place_of nodes n, a, x.place) → x.entry ≡ length nodes → AreFollowing (CallFollows b a (node_at nodes n)) x.preds →
+    a.kind ≡ kinds.Call → Member m.calls (node_place_in nodes n, a, x.place) → x.entry ≡ length nodes → AreFollowing (CallFollows b a (node_at nodes n)) x.preds →
     IsExploring m b (nodes ++ x ∷ []) (with_call (with_state s) (n, a, length nodes))
 fresh_call m b nodes s n a x h l o kind e en f =
     let K : ℕ = length nodes in
@@ -274,7 +274,7 @@ fresh_call m b nodes s n a x h l o kind e en f =
     let d : IsCallStep m new n a K = record {
       «from» = longer nodes x n l;
       to = let q = more_long nodes x in omega (arith, q);
-      edge = subst (λ (y : Node). Member m.calls (y.place, a, place_of new K)) (sym old) (subst (λ (y : Node). Member m.calls (place_of nodes n, a, y.place)) (sym last) e);
+      edge = subst (λ (y : Node). Member m.calls (y.place, a, node_place_in new K)) (sym old) (subst (λ (y : Node). Member m.calls (node_place_in nodes n, a, y.place)) (sym last) e);
       entry = own;
     } in
     let follows : AreFollowing (CallFollows b a (node_at new n)) x.preds = subst (λ (y : Node). AreFollowing (CallFollows b a y) x.preds) (sym old) f in
@@ -305,7 +305,7 @@ fresh_call m b nodes s n a x h l o kind e en f =
 
 pub fresh_back : (m b : Automaton) (nodes : List Node) (s : Automaton) (y c : ℕ) (a r : Letter) (x : Node) → IsExploring m b nodes s → y < length nodes → c < length nodes →
     IsOpen (node_at nodes y) → IsOpen (node_at nodes c) → a.kind ≡ kinds.Call → r.kind ≡ kinds.Back → Member s.calls (c, a, entry_of nodes y) → r.call ≡ a.id →
-    Member m.backs (place_of nodes y, place_of nodes c, r, x.place) → x.entry ≡ entry_of nodes c → AreFollowing (BackFollows b r (node_at nodes y) (node_at nodes c)) x.preds →
+    Member m.backs (node_place_in nodes y, node_place_in nodes c, r, x.place) → x.entry ≡ entry_of nodes c → AreFollowing (BackFollows b r (node_at nodes y) (node_at nodes c)) x.preds →
     IsExploring m b (nodes ++ x ∷ []) (with_back (with_state s) (y, c, r, length nodes))
 fresh_back m b nodes s y c a r x h l k o p ka kr j id e en f =
     let K : ℕ = length nodes in
@@ -318,9 +318,9 @@ fresh_back m b nodes s y c a r x h l k o p ka kr j id e en f =
       exit = longer nodes x y l;
       before = longer nodes x c k;
       to = let q = more_long nodes x in omega (arith, q);
-      edge = subst (λ (v : Node). Member m.backs (v.place, place_of new c, r, place_of new K)) (sym olds)
-          (subst (λ (v : Node). Member m.backs (place_of nodes y, v.place, r, place_of new K)) (sym oldc)
-          (subst (λ (v : Node). Member m.backs (place_of nodes y, place_of nodes c, r, v.place)) (sym last) e));
+      edge = subst (λ (v : Node). Member m.backs (v.place, node_place_in new c, r, node_place_in new K)) (sym olds)
+          (subst (λ (v : Node). Member m.backs (node_place_in nodes y, v.place, r, node_place_in new K)) (sym oldc)
+          (subst (λ (v : Node). Member m.backs (node_place_in nodes y, node_place_in nodes c, r, v.place)) (sym last) e));
       entry = ap (λ (v : Node). v.entry) last ∙ en ∙ ap (λ (v : Node). v.entry) (sym oldc);
       letter = a;
       joined = subst (λ (v : Node). Member s.calls (c, a, v.entry)) (sym olds) j;

@@ -11,7 +11,7 @@ use Rattle.nwa_base.proofs.MemberLemmas.{member_map, member_from_map}
 use Rattle.proof_names.specs.Outlines.{Node}
 use Rattle.proof_spell.specs.Drafts.{AscendFrom}
 use Rattle.proof_check.specs.Steps.{IsOf, IsOpen}
-use Rattle.proof_unwind.specs.Unwindings.{node_at, place_of, entry_of, IsInsideStep, IsCallStep, IsBackStep, IsAlong, HasStep, HasBack, IsReached, IsPart, Claims, Spreads, bare}
+use Rattle.proof_unwind.specs.Unwindings.{node_at, node_place_in, entry_of, IsInsideStep, IsCallStep, IsBackStep, IsAlong, HasStep, HasBack, IsReached, IsPart, Claims, Spreads, bare}
 use Rattle.proof_unwind.specs.Exploring.{InsideFollows, CallFollows, BackFollows, AreShown, IsExploring, AreOpened}
 use Rattle.proof_unwind.specs.Renumbering.{renamed, moved, moved_back, IsMoved, IsRenumbering}
 
@@ -82,7 +82,7 @@ module _ (nodes new : List Node) (h : ℕ → ℕ) (r : IsRenumbering nodes new 
   all_numbers : (P : ℕ → Type 0) → ((n : ℕ) → n < length nodes → P (h n)) → (j : ℕ) → j < length new → P j
   all_numbers P f j l = let e = r.long in let o = r.onto j (omega (arith, e, l)) in subst P o.2 (f o.0 o.1)
 
-  place_same : (n : ℕ) → n < length nodes → place_of new (h n) ≡ place_of nodes n
+  place_same : (n : ℕ) → n < length nodes → node_place_in new (h n) ≡ node_place_in nodes n
   place_same n l = ap (λ (x : Node). x.place) (r.at n l)
 
   entry_moved : (n : ℕ) → n < length nodes → entry_of new (h n) ≡ h (entry_of nodes n)
@@ -97,10 +97,10 @@ module _ (nodes new : List Node) (h : ℕ → ℕ) (r : IsRenumbering nodes new 
   to_old : (P : List ℕ → Type 0) (n : ℕ) → n < length nodes → P (node_at new (h n)).preds → P (node_at nodes n).preds
   to_old P n l p = subst P (preds_same n l) p
 
-  edge_moved : (edges : List (ℕ × Letter × ℕ)) (n : ℕ) (a : Letter) (k : ℕ) → n < length nodes → k < length nodes → Member edges (place_of nodes n, a, place_of nodes k) →
-      Member edges (place_of new (h n), a, place_of new (h k))
+  edge_moved : (edges : List (ℕ × Letter × ℕ)) (n : ℕ) (a : Letter) (k : ℕ) → n < length nodes → k < length nodes → Member edges (node_place_in nodes n, a, node_place_in nodes k) →
+      Member edges (node_place_in new (h n), a, node_place_in new (h k))
   edge_moved edges n a k l o i =
-      subst (λ (p : ℕ). Member edges (p, a, place_of new (h k))) (sym (place_same n l)) (subst (λ (p : ℕ). Member edges (place_of nodes n, a, p)) (sym (place_same k o)) i)
+      subst (λ (p : ℕ). Member edges (p, a, node_place_in new (h k))) (sym (place_same n l)) (subst (λ (p : ℕ). Member edges (node_place_in nodes n, a, p)) (sym (place_same k o)) i)
 
   inside_moved : (m : Automaton) (n : ℕ) (a : Letter) (k : ℕ) → IsInsideStep m nodes n a k → IsInsideStep m new (h n) a (h k)
   inside_moved m n a k d = record {
@@ -123,9 +123,9 @@ module _ (nodes new : List Node) (h : ℕ → ℕ) (r : IsRenumbering nodes new 
     exit = there x d.exit;
     before = there c d.before;
     to = there k d.to;
-    edge = subst (λ (p : ℕ). Member m.backs (p, place_of new (h c), a, place_of new (h k))) (sym (place_same x d.exit))
-        (subst (λ (p : ℕ). Member m.backs (place_of nodes x, p, a, place_of new (h k))) (sym (place_same c d.before))
-        (subst (λ (p : ℕ). Member m.backs (place_of nodes x, place_of nodes c, a, p)) (sym (place_same k d.to)) d.edge));
+    edge = subst (λ (p : ℕ). Member m.backs (p, node_place_in new (h c), a, node_place_in new (h k))) (sym (place_same x d.exit))
+        (subst (λ (p : ℕ). Member m.backs (node_place_in nodes x, p, a, node_place_in new (h k))) (sym (place_same c d.before))
+        (subst (λ (p : ℕ). Member m.backs (node_place_in nodes x, node_place_in nodes c, a, p)) (sym (place_same k d.to)) d.edge));
     entry = entry_moved k d.to ∙ ap h d.entry ∙ sym (entry_moved c d.before);
     letter = d.letter;
     joined = subst (λ (p : ℕ). Member (image h s).calls (h c, d.letter, p)) (sym (entry_moved x d.exit)) (to_moved h s.calls c d.letter (entry_of nodes x) d.joined);
@@ -232,10 +232,10 @@ module _ (nodes new : List Node) (h : ℕ → ℕ) (r : IsRenumbering nodes new 
   pub opened_moved : (m s : Automaton) → IsAlong m nodes s → ((n : ℕ) → n < length nodes → entry_of nodes n < length nodes) → AreOpened m nodes s (length nodes) →
       AreOpened m new (image h s) (length new)
   opened_moved m s al en f = record {
-    insides = all_numbers (λ j. IsOpen (node_at new j) → (a : Letter) (e : ℕ) → Member m.insides (place_of new j, a, e) → HasStep (image h s).insides new j a e)
+    insides = all_numbers (λ j. IsOpen (node_at new j) → (a : Letter) (e : ℕ) → Member m.insides (node_place_in new j, a, e) → HasStep (image h s).insides new j a e)
         (λ n l o a e i. step_there s.insides n a e (λ k z. (al.insides n a k z).to)
         (f.insides n l (to_old (λ p. Member p 1 → ⊥) n l o) a e (subst (λ (p : ℕ). Member m.insides (p, a, e)) (place_same n l) i)));
-    calls = all_numbers (λ j. IsOpen (node_at new j) → (a : Letter) (e : ℕ) → Member m.calls (place_of new j, a, e) → HasStep (image h s).calls new j a e)
+    calls = all_numbers (λ j. IsOpen (node_at new j) → (a : Letter) (e : ℕ) → Member m.calls (node_place_in new j, a, e) → HasStep (image h s).calls new j a e)
         (λ n l o a e i. step_there s.calls n a e (λ k z. (al.calls n a k z).to)
         (f.calls n l (to_old (λ p. Member p 1 → ⊥) n l o) a e (subst (λ (p : ℕ). Member m.calls (p, a, e)) (place_same n l) i)));
     backs = λ x c i j. all_numbers (λ x. (c : ℕ) → c < length new → Due x c)
@@ -245,7 +245,7 @@ module _ (nodes new : List Node) (h : ℕ → ℕ) (r : IsRenumbering nodes new 
     where
       Due : ℕ → ℕ → Type 0
       Due x c = IsOpen (node_at new x) → IsOpen (node_at new c) → (a : Letter) → Member (image h s).calls (c, a, entry_of new x) →
-          (t : Letter) (e : ℕ) → Member m.backs (place_of new x, place_of new c, t, e) → t.call ≡ a.id → HasBack (image h s).backs new x c t e
+          (t : Letter) (e : ℕ) → Member m.backs (node_place_in new x, node_place_in new c, t, e) → t.call ≡ a.id → HasBack (image h s).backs new x c t e
 
       due : (x c : ℕ) → x < length nodes → c < length nodes → Due (h x) (h c)
       due x c l o p q a i t e w id =
@@ -253,7 +253,7 @@ module _ (nodes new : List Node) (h : ℕ → ℕ) (r : IsRenumbering nodes new 
           (f.backs x c l o (to_old (λ v. Member v 1 → ⊥) x l p) (to_old (λ v. Member v 1 → ⊥) c o q) a
           (call_back s.calls c (entry_of nodes x) a o (en x l) (λ d b k z. ((al.calls d b k z).from, (al.calls d b k z).to))
           (subst (λ (k : ℕ). Member (image h s).calls (h c, a, k)) (entry_moved x l) i)) t e
-          (subst (λ (k : ℕ). Member m.backs (k, place_of nodes c, t, e)) (place_same x l) (subst (λ (k : ℕ). Member m.backs (place_of new (h x), k, t, e)) (place_same c o) w)) id)
+          (subst (λ (k : ℕ). Member m.backs (k, node_place_in nodes c, t, e)) (place_same x l) (subst (λ (k : ℕ). Member m.backs (node_place_in new (h x), k, t, e)) (place_same c o) w)) id)
 
 -- ---- entry nodes are there
 

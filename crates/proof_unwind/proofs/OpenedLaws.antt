@@ -9,7 +9,7 @@ use Rattle.nwa_base.specs.Edges.{backs_leaving}
 use Rattle.nwa_base.proofs.MemberLemmas.{member_front, member_rest, member_split}
 use Rattle.proof_names.specs.Outlines.{Node}
 use Rattle.proof_check.specs.Steps.{IsOpen}
-use Rattle.proof_unwind.specs.Unwindings.{node_at, place_of, entry_of, IsAlong, bare}
+use Rattle.proof_unwind.specs.Unwindings.{node_at, node_place_in, entry_of, IsAlong, bare}
 use Rattle.proof_unwind.specs.Exploring.{IsOverPreds, IsExploring, Stage, Explores, GoesOn, GoesOnFrom, HasInsides, HasCalls, IsReturned, AreReturned, AreOpened, IsExit, AreExits}
 use Rattle.proof_unwind.proofs.OpeningLaws.{IsOpened, below_or_last, opened_more, grows_not, grows_on, none_opened}
 use Rattle.proof_unwind.proofs.ExploringLaws.{nothing_explored}
@@ -44,10 +44,10 @@ forward m b n s t u l f g = (
 )
 
 -- no return leads from the node
-pub none_returned : (m b : Automaton) (s t : Stage) (n place : ℕ) → GoesOn m b s t → n < length s.nodes → place ≡ place_of s.nodes n → backs_leaving place m.backs ≡ [] → IsReturned m s t n
+pub none_returned : (m b : Automaton) (s t : Stage) (n place : ℕ) → GoesOn m b s t → n < length s.nodes → place ≡ node_place_in s.nodes n → backs_leaving place m.backs ≡ [] → IsReturned m s t n
 none_returned m b s t n place g l e none c a i k d j id =
-    absurd (none_leave place m.backs (place_of t.nodes c) k d none
-    (subst (λ (p : ℕ). Member m.backs (p, place_of t.nodes c, k, d)) (sym (e ∙ sym (ap (λ (x : Node). x.place) (at_stays s t n g.grows l)))) j))
+    absurd (none_leave place m.backs (node_place_in t.nodes c) k d none
+    (subst (λ (p : ℕ). Member m.backs (p, node_place_in t.nodes c, k, d)) (sym (e ∙ sym (ap (λ (x : Node). x.place) (at_stays s t n g.grows l)))) j))
 
 pub returned_on : (m b : Automaton) (exits : ℕ → List ℕ) (n : ℕ) (s t u : Stage) → IsAutomaton m → Explores m b s → n < length s.nodes → GoesOn m b s t × IsReturned m s t n →
     GoesOn m b t u × AreReturned m exits t u n → GoesOn m b s u × IsReturned m s u n × AreReturned m exits s u n
@@ -67,11 +67,11 @@ exits_stay m s t r exits g l h = record {
 }
 
 -- the node has false, or no return leads from it
-pub exits_same : (m : Automaton) (nodes : List Node) (r : ℕ) (exits : ℕ → List ℕ) → (IsOpen (node_at nodes r) → (c : ℕ) (a : Letter) (e : ℕ) → Member m.backs (place_of nodes r, c, a, e) → ⊥) →
+pub exits_same : (m : Automaton) (nodes : List Node) (r : ℕ) (exits : ℕ → List ℕ) → (IsOpen (node_at nodes r) → (c : ℕ) (a : Letter) (e : ℕ) → Member m.backs (node_place_in nodes r, c, a, e) → ⊥) →
     AreExits m nodes r exits → AreExits m nodes (r + 1) exits
 exits_same m nodes r exits none h = record {
   sound = h.sound;
-  complete = λ x l. below_or_last (λ n. IsOpen (node_at nodes n) → (c : ℕ) (a : Letter) (e : ℕ) → Member m.backs (place_of nodes n, c, a, e) → Member (exits (entry_of nodes n)) n) r x l
+  complete = λ x l. below_or_last (λ n. IsOpen (node_at nodes n) → (c : ℕ) (a : Letter) (e : ℕ) → Member m.backs (node_place_in nodes n, c, a, e) → Member (exits (entry_of nodes n)) n) r x l
       h.complete (λ o c a e i. absurd (none o c a e i));
 }
 
@@ -80,7 +80,7 @@ pub exits_more : (m : Automaton) (nodes : List Node) (r entry : ℕ) (exits new 
     ((k : ℕ) → new k ≡ cond (eqb entry k) (exits k ++ r ∷ []) (exits k)) → AreExits m nodes r exits → AreExits m nodes (r + 1) new
 exits_more m nodes r entry exits new l o e f h = record {
   sound = λ k x i. sound k x (eqb entry k) refl (subst (λ (z : List ℕ). Member z x) (f k) i);
-  complete = λ x i. below_or_last (λ n. IsOpen (node_at nodes n) → (c : ℕ) (a : Letter) (j : ℕ) → Member m.backs (place_of nodes n, c, a, j) → Member (new (entry_of nodes n)) n) r x i
+  complete = λ x i. below_or_last (λ n. IsOpen (node_at nodes n) → (c : ℕ) (a : Letter) (j : ℕ) → Member m.backs (node_place_in nodes n, c, a, j) → Member (new (entry_of nodes n)) n) r x i
       (λ n j p c a d q. subst (λ (z : List ℕ). Member z n) (sym (f (entry_of nodes n)))
       (kept (exits (entry_of nodes n)) n (eqb entry (entry_of nodes n)) (h.complete n j p c a d q)))
       (λ p c a d q. subst (λ (z : List ℕ). Member z r) (sym (f (entry_of nodes r))) (last (exits (entry_of nodes r)) (eqb entry (entry_of nodes r)) (eq-eqb entry (entry_of nodes r) e)));
@@ -125,7 +125,7 @@ node_opened m b exits n s t u l h f i c g r q =
       exits = λ d j o p a k. r d a (subst (λ (x : Node). Member t.steps.calls (d, a, x.entry)) (at_stays t u n g.grows there)
           (subst (λ (z : List (ℕ × Letter × ℕ)). Member z (d, a, entry_of u.nodes n)) g.calls k));
       returns = λ x j o p a k v e w. q a (entry_of u.nodes x) (subst (λ (z : List (ℕ × Letter × ℕ)). Member z (n, a, entry_of u.nodes x)) g.calls k) x
-          ((exits_stay m s u n exits grown (omega (arith, l)) h).complete x j o (place_of u.nodes n) v e w) v e w;
+          ((exits_stay m s u n exits grown (omega (arith, l)) h).complete x j o (node_place_in u.nodes n) v e w) v e w;
     }
 
 pub opened_on : (m b : Automaton) (exits : ℕ → List ℕ) (n : ℕ) (s t u : Stage) → Explores m b s → n < length s.nodes → AreExits m s.nodes n exits → AreOpened m s.nodes s.steps n →

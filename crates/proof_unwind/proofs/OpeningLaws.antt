@@ -6,7 +6,7 @@ use Rattle.nwa_base.specs.Automata.{Automaton}
 use Rattle.std.proofs.lemmas.List.{append-nil}
 use Rattle.proof_names.specs.Outlines.{Node}
 use Rattle.proof_check.specs.Steps.{IsOpen}
-use Rattle.proof_unwind.specs.Unwindings.{node_at, place_of, entry_of, IsAlong, IsClosed, HasStep, HasBack}
+use Rattle.proof_unwind.specs.Unwindings.{node_at, node_place_in, entry_of, IsAlong, ClosesUnwinding, HasStep, HasBack}
 use Rattle.proof_unwind.specs.Exploring.{Grows, AreOpened}
 
 -- ---- growing
@@ -71,12 +71,12 @@ back_stays m nodes s new t x c a e al g h = record {
 
 -- a node has its steps, and the backs that join it with nodes up to it
 pub record IsOpened (m : Automaton) (nodes : List Node) (s : Automaton) (n : ℕ) : Type 0 where
-  pub insides : IsOpen (node_at nodes n) → (a : Letter) (e : ℕ) → Member m.insides (place_of nodes n, a, e) → HasStep s.insides nodes n a e
-  pub calls : IsOpen (node_at nodes n) → (a : Letter) (e : ℕ) → Member m.calls (place_of nodes n, a, e) → HasStep s.calls nodes n a e
+  pub insides : IsOpen (node_at nodes n) → (a : Letter) (e : ℕ) → Member m.insides (node_place_in nodes n, a, e) → HasStep s.insides nodes n a e
+  pub calls : IsOpen (node_at nodes n) → (a : Letter) (e : ℕ) → Member m.calls (node_place_in nodes n, a, e) → HasStep s.calls nodes n a e
   pub exits : (c : ℕ) → c ≤ n → IsOpen (node_at nodes n) → IsOpen (node_at nodes c) → (a : Letter) → Member s.calls (c, a, entry_of nodes n) →
-      (t : Letter) (e : ℕ) → Member m.backs (place_of nodes n, place_of nodes c, t, e) → t.call ≡ a.id → HasBack s.backs nodes n c t e
+      (t : Letter) (e : ℕ) → Member m.backs (node_place_in nodes n, node_place_in nodes c, t, e) → t.call ≡ a.id → HasBack s.backs nodes n c t e
   pub returns : (x : ℕ) → x < n → IsOpen (node_at nodes x) → IsOpen (node_at nodes n) → (a : Letter) → Member s.calls (n, a, entry_of nodes x) →
-      (t : Letter) (e : ℕ) → Member m.backs (place_of nodes x, place_of nodes n, t, e) → t.call ≡ a.id → HasBack s.backs nodes x n t e
+      (t : Letter) (e : ℕ) → Member m.backs (node_place_in nodes x, node_place_in nodes n, t, e) → t.call ≡ a.id → HasBack s.backs nodes x n t e
 
 pub below_or_last : (P : ℕ → Type 0) (r n : ℕ) → n < r + 1 → ((k : ℕ) → k < r → P k) → P r → P n
 below_or_last P r n l h p = elim (cases n r) [
@@ -92,15 +92,15 @@ below_or_last P r n l h p = elim (cases n r) [
 -- the exit x and node c before the call have their backs
 abbrev Joined : Automaton → List Node → Automaton → ℕ → ℕ → Type 0
 Joined m nodes s c x = IsOpen (node_at nodes x) → IsOpen (node_at nodes c) → (a : Letter) → Member s.calls (c, a, entry_of nodes x) →
-    (t : Letter) (e : ℕ) → Member m.backs (place_of nodes x, place_of nodes c, t, e) → t.call ≡ a.id → HasBack s.backs nodes x c t e
+    (t : Letter) (e : ℕ) → Member m.backs (node_place_in nodes x, node_place_in nodes c, t, e) → t.call ≡ a.id → HasBack s.backs nodes x c t e
 
 pub opened_more : (m : Automaton) (nodes : List Node) (s : Automaton) (new : List Node) (t : Automaton) (r : ℕ) → r < length nodes → IsAlong m nodes s → AreOpened m nodes s r → Grows nodes s new t →
     ((c : ℕ) (a : Letter) (k : ℕ) → Member t.calls (c, a, k) → Member s.calls (c, a, k) ⊎ (c ≡ r)) → IsOpened m new t r → AreOpened m new t (r + 1)
 opened_more m nodes s new t r l al h g d o = record {
-  insides = λ n i. below_or_last (λ k. IsOpen (node_at new k) → (a : Letter) (e : ℕ) → Member m.insides (place_of new k, a, e) → HasStep t.insides new k a e) r n i
+  insides = λ n i. below_or_last (λ k. IsOpen (node_at new k) → (a : Letter) (e : ℕ) → Member m.insides (node_place_in new k, a, e) → HasStep t.insides new k a e) r n i
       (λ k j. subst (λ (x : Node). IsOpen x → (a : Letter) (e : ℕ) → Member m.insides (x.place, a, e) → HasStep t.insides new k a e)
       (sym (grown_at nodes s new t k g (omega (arith, j, l)))) (λ op a e q. step_stays m nodes s new t k a e al g (h.insides k j op a e q))) o.insides;
-  calls = λ n i. below_or_last (λ k. IsOpen (node_at new k) → (a : Letter) (e : ℕ) → Member m.calls (place_of new k, a, e) → HasStep t.calls new k a e) r n i
+  calls = λ n i. below_or_last (λ k. IsOpen (node_at new k) → (a : Letter) (e : ℕ) → Member m.calls (node_place_in new k, a, e) → HasStep t.calls new k a e) r n i
       (λ k j. subst (λ (x : Node). IsOpen x → (a : Letter) (e : ℕ) → Member m.calls (x.place, a, e) → HasStep t.calls new k a e)
       (sym (grown_at nodes s new t k g (omega (arith, j, l)))) (λ op a e q. call_stays m nodes s new t k a e al g (h.calls k j op a e q))) o.calls;
   backs = λ x c i j. below_or_last (Joined m new t c) r x i
@@ -115,8 +115,8 @@ opened_more m nodes s new t r l al h g d o = record {
         let ec : node_at new c ≡ node_at nodes c = grown_at nodes s new t c g (omega (arith, v, l)) in
         λ p q a w z e i id.
         let w2 : Member t.calls (c, a, entry_of nodes x) = subst (λ (y : Node). Member t.calls (c, a, y.entry)) ex w in
-        let i2 : Member m.backs (place_of nodes x, place_of nodes c, z, e) =
-        subst (λ (y : Node). Member m.backs (y.place, place_of nodes c, z, e)) ex (subst (λ (y : Node). Member m.backs (place_of new x, y.place, z, e)) ec i) in
+        let i2 : Member m.backs (node_place_in nodes x, node_place_in nodes c, z, e) =
+        subst (λ (y : Node). Member m.backs (y.place, node_place_in nodes c, z, e)) ex (subst (λ (y : Node). Member m.backs (node_place_in new x, y.place, z, e)) ec i) in
         elim (d c a (entry_of nodes x) w2) [
           | inl k ↦ back_stays m nodes s new t x c z e al g
               (h.backs x c u v (subst (λ (y : Node). IsOpen y) ex p) (subst (λ (y : Node). IsOpen y) ec q) a k z e i2 id)
@@ -124,7 +124,7 @@ opened_more m nodes s new t r l al h g d o = record {
         ]
 
 -- once all nodes are opened, nothing is due
-pub all_opened : (m : Automaton) (nodes : List Node) (s : Automaton) (r : ℕ) → length nodes ≤ r → AreOpened m nodes s r → IsClosed m nodes s
+pub all_opened : (m : Automaton) (nodes : List Node) (s : Automaton) (r : ℕ) → length nodes ≤ r → AreOpened m nodes s r → ClosesUnwinding m nodes s
 all_opened m nodes s r l h = record {
   insides = λ n i. h.insides n (omega (arith, i, l));
   calls = λ n i. h.calls n (omega (arith, i, l));

@@ -10,7 +10,7 @@ use Rattle.std.proofs.lemmas.Map.Keys.{IsDistinct-IsPermutation, IsDistinct-from
 use Rattle.proof_names.specs.Outlines.{Node}
 use Rattle.nwa_base.specs.Automata.{Automaton}
 use Rattle.proof_unwind.specs.declared.spots.Spot.{Spot}
-use Rattle.proof_unwind.specs.Unwindings.{node_at, place_of, bare}
+use Rattle.proof_unwind.specs.Unwindings.{node_at, node_place_in, bare}
 use Rattle.proof_unwind.specs.Spots.{plain, nodes_of}
 use Rattle.proof_unwind.specs.Renumbering.{renamed, IsMoved, IsRenumbering, PlacesAscend, pair_at, AreOthers, IsOrder, ArePlaced, AreRanks}
 
@@ -51,15 +51,15 @@ module _ (nodes new : List Node) (order : List (ℕ × ℕ)) (ranks : List ℕ) 
         (node_moved v.place v.within ∙ ap (λ (z : ℕ). renamed (slice_index ranks) (node_at nodes z)) v.is);
   }
 
-  place_moved : (j : ℕ) → j < length order → place_of new j ≡ (pair_at order j).0
+  place_moved : (j : ℕ) → j < length order → node_place_in new j ≡ (pair_at order j).0
   place_moved j l = ap (λ (x : Node). x.place) (node_moved j l) ∙ sym (p.places j l)
 
   pub places_ascend : PlacesAscend new
   places_ascend n k l o =
       let long : length new ≡ length order = ap (λ (z : List Node). length z) e ∙ length-map order (λ (x : ℕ × ℕ). renamed (slice_index ranks) (node_at nodes x.1)) in
       let i : k < length order = omega (arith, long, o) in
-      let a : place_of new n ≡ (pair_at order n).0 = place_moved n (omega (arith, l, i)) in
-      let b : place_of new k ≡ (pair_at order k).0 = place_moved k i in
+      let a : node_place_in new n ≡ (pair_at order n).0 = place_moved n (omega (arith, l, i)) in
+      let b : node_place_in new k ≡ (pair_at order k).0 = place_moved k i in
       let c : (pair_at order n).0 ≤ (pair_at order k).0 = p.ascend n k l i in
       omega (arith, a, b, c)
 
@@ -83,11 +83,11 @@ flips x y = by_case (eqb x y) refl
 record IsPairOf (nodes : List Node) (x : ℕ × ℕ) : Type 0 where
   above : 0 < x.1
   there : x.1 < length nodes
-  place : x.0 ≡ place_of nodes x.1
+  place : x.0 ≡ node_place_in nodes x.1
 
 module _ (nodes : List Node) (pairs sorted : List (ℕ × ℕ)) (o : AreOthers nodes pairs) (q : IsPermutation pairs sorted) (up : IsNonDecreasingBy (λ (x : ℕ × ℕ). x.0) sorted)
-    (some : 0 < length nodes) (start : place_of nodes 0 ≡ 0) where
-  at_any : (k : ℕ) (d : ℕ × ℕ) → k < length pairs → get_or pairs k d ≡ (place_of nodes (k + 1), k + 1)
+    (some : 0 < length nodes) (start : node_place_in nodes 0 ≡ 0) where
+  at_any : (k : ℕ) (d : ℕ × ℕ) → k < length pairs → get_or pairs k d ≡ (node_place_in nodes (k + 1), k + 1)
   at_any k d l = same pairs k d l ∙ o.at k l
     where
       same : (xs : List (ℕ × ℕ)) (i : ℕ) (c : ℕ × ℕ) → i < length xs → get_or xs i c ≡ pair_at xs i
@@ -129,7 +129,7 @@ module _ (nodes : List Node) (pairs sorted : List (ℕ × ℕ)) (o : AreOthers n
   apart zero (suc j) l m f = let a = all_sorted j (0, 0) (omega arith) in let b = a.above in absurd (omega (arith, b, f))
   apart (suc i) (suc j) l m f = sorted_apart i j (omega arith) (omega arith) f
 
-  places : (j : ℕ) → j < length sorted + 1 → (pair_at ((0, 0) ∷ sorted) j).0 ≡ place_of nodes (pair_at ((0, 0) ∷ sorted) j).1
+  places : (j : ℕ) → j < length sorted + 1 → (pair_at ((0, 0) ∷ sorted) j).0 ≡ node_place_in nodes (pair_at ((0, 0) ∷ sorted) j).1
   places zero l = sym start
   places (suc j) l = (all_sorted j (0, 0) (omega arith)).place
 
@@ -142,7 +142,7 @@ module _ (nodes : List Node) (pairs sorted : List (ℕ × ℕ)) (o : AreOthers n
   all zero l = (0, omega arith, refl)
   all (suc n) l =
       let k = o.long in let i : n < length pairs = omega (arith, k, l) in
-      let x : ℕ × ℕ = (place_of nodes (n + 1), n + 1) in
+      let x : ℕ × ℕ = (node_place_in nodes (n + 1), n + 1) in
       let c = Contains-permutation pairs sorted x q (n, i, at_any n x i) in
       (c.0 + 1, (let b = c.1 in omega (arith, b)), found sorted c.0 x c.2 c.1 ∙ (let z : n + 1 ≡ suc n = omega arith in z))
     where
@@ -183,13 +183,13 @@ pushed (x ∷ xs) y (suc k) l = elim (pushed xs y k (omega arith)) [
 ]
 
 pub others_more : (nodes : List Node) (pairs : List (ℕ × ℕ)) (number : ℕ) (y : ℕ × ℕ) → length pairs + 1 ≡ number →
-    ((k : ℕ) → k < length pairs → pair_at pairs k ≡ (place_of nodes (k + 1), k + 1)) → y ≡ (place_of nodes number, number) →
-    (k : ℕ) → k < length (pairs ++ y ∷ []) → pair_at (pairs ++ y ∷ []) k ≡ (place_of nodes (k + 1), k + 1)
+    ((k : ℕ) → k < length pairs → pair_at pairs k ≡ (node_place_in nodes (k + 1), k + 1)) → y ≡ (node_place_in nodes number, number) →
+    (k : ℕ) → k < length (pairs ++ y ∷ []) → pair_at (pairs ++ y ∷ []) k ≡ (node_place_in nodes (k + 1), k + 1)
 others_more nodes pairs number y n h e k l =
     let long : length (pairs ++ y ∷ []) ≡ length pairs + 1 = length-append pairs (y ∷ []) in
     elim (pushed pairs y k (omega (arith, long, l))) [
       | inl v ↦ v.1 ∙ h k v.0
-      | inr v ↦ (let z : number ≡ k + 1 = (let w = v.0 in omega (arith, w, n)) in v.1 ∙ e ∙ ap (λ (j : ℕ). (place_of nodes j, j)) z)
+      | inr v ↦ (let z : number ≡ k + 1 = (let w = v.0 in omega (arith, w, n)) in v.1 ∙ e ∙ ap (λ (j : ℕ). (node_place_in nodes j, j)) z)
     ]
 
 pub ranks_more : (order : List (ℕ × ℕ)) (ranks : List ℕ) (i : ℕ) → IsOrder order → i < length order → length ranks ≡ length order →
@@ -221,7 +221,7 @@ some_first : (nodes : List Node) → slice_get nodes 0 ≡ Some bare → 0 < len
 some_first [] e = absurd (cc)
 some_first (x ∷ nodes) e = omega arith
 
-pub place_first : (nodes : List Node) → slice_get nodes 0 ≡ Some bare → place_of nodes 0 ≡ 0
+pub place_first : (nodes : List Node) → slice_get nodes 0 ≡ Some bare → node_place_in nodes 0 ≡ 0
 place_first [] e = absurd (cc)
 place_first (x ∷ nodes) e = let i : x ≡ bare = cc in ap (λ (y : Node). y.place) i
 

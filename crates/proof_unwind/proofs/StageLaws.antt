@@ -7,7 +7,7 @@ use Rattle.nwa_base.specs.Automata.{Automaton, IsAutomaton, IsEdge, IsBackEdge}
 use Rattle.nwa_base.specs.Edges.{leaving, backs_between}
 use Rattle.proof_names.specs.Outlines.{Node}
 use Rattle.proof_check.specs.Steps.{IsOpen}
-use Rattle.proof_unwind.specs.Unwindings.{node_at, place_of, entry_of, HasStep, HasBack}
+use Rattle.proof_unwind.specs.Unwindings.{node_at, node_place_in, entry_of, HasStep, HasBack}
 use Rattle.proof_unwind.specs.Exploring.{Grows, Stage, Explores, GoesOn, GoesOnFrom, HasBacks, IsExit}
 use Rattle.proof_unwind.proofs.OpeningLaws.{grown_at, grown_long, grows_not, grows_on, step_stays, call_stays, back_stays}
 use Rattle.proof_unwind.proofs.LoopLaws.{Each, item_leaving, item_between, does_leave, does_go_between, of_all}
@@ -55,7 +55,7 @@ at_stays s t n g l = grown_at s.nodes s.steps t.nodes t.steps n g l
 pub open_stays : (s t : Stage) (n : ℕ) → Grown s t → n < length s.nodes → IsOpen (node_at s.nodes n) → IsOpen (node_at t.nodes n)
 open_stays s t n g l o = subst (λ (x : Node). IsOpen x) (sym (at_stays s t n g l)) o
 
-place_stays : (s t : Stage) (n place : ℕ) → Grown s t → n < length s.nodes → place ≡ place_of s.nodes n → place ≡ place_of t.nodes n
+place_stays : (s t : Stage) (n place : ℕ) → Grown s t → n < length s.nodes → place ≡ node_place_in s.nodes n → place ≡ node_place_in t.nodes n
 place_stays s t n place g l e = e ∙ sym (ap (λ (x : Node). x.place) (at_stays s t n g l))
 
 pub exit_stays : (s t : Stage) (k x : ℕ) → Grown s t → IsExit s.nodes k x → IsExit t.nodes k x
@@ -67,31 +67,31 @@ exit_stays s t k x g h = record {
 
 -- ---- edges from the place of a node
 
-pub edge_from : (items edges : List (ℕ × Letter × ℕ)) (s t : Stage) (n place i : ℕ) (d : ℕ × Letter × ℕ) → Grown s t → n < length s.nodes → place ≡ place_of s.nodes n →
-    items ≡ leaving place edges → i < length items → Member edges (place_of t.nodes n, (get_or items i d).1, (get_or items i d).2)
+pub edge_from : (items edges : List (ℕ × Letter × ℕ)) (s t : Stage) (n place i : ℕ) (d : ℕ × Letter × ℕ) → Grown s t → n < length s.nodes → place ≡ node_place_in s.nodes n →
+    items ≡ leaving place edges → i < length items → Member edges (node_place_in t.nodes n, (get_or items i d).1, (get_or items i d).2)
 edge_from items edges s t n place i d g l e f k =
     subst (λ (p : ℕ). Member edges (p, (get_or items i d).1, (get_or items i d).2)) (place_stays s t n place g l e) (item_leaving items edges place i d f k)
 
-pub each_from : (items edges : List (ℕ × Letter × ℕ)) (s t : Stage) (n place : ℕ) (P : ℕ × Letter × ℕ → Type 0) → Grown s t → n < length s.nodes → place ≡ place_of s.nodes n →
-    items ≡ leaving place edges → Each items P → (a : Letter) (e : ℕ) → Member edges (place_of t.nodes n, a, e) → P (place, a, e)
+pub each_from : (items edges : List (ℕ × Letter × ℕ)) (s t : Stage) (n place : ℕ) (P : ℕ × Letter × ℕ → Type 0) → Grown s t → n < length s.nodes → place ≡ node_place_in s.nodes n →
+    items ≡ leaving place edges → Each items P → (a : Letter) (e : ℕ) → Member edges (node_place_in t.nodes n, a, e) → P (place, a, e)
 each_from items edges s t n place P g l e f h a k m =
     h (place, a, k) (subst (λ (z : List (ℕ × Letter × ℕ)). Member z (place, a, k)) (sym f)
     (does_leave place edges a k (subst (λ (p : ℕ). Member edges (p, a, k)) (sym (place_stays s t n place g l e)) m)))
 
 pub edge_between : (items edges : List (ℕ × ℕ × Letter × ℕ)) (s t : Stage) (x c place outer i : ℕ) (d : ℕ × ℕ × Letter × ℕ) → Grown s t → x < length s.nodes → c < length s.nodes →
-    place ≡ place_of s.nodes x → outer ≡ place_of s.nodes c → items ≡ backs_between place outer edges → i < length items →
-    Member edges (place_of t.nodes x, place_of t.nodes c, (get_or items i d).2, (get_or items i d).3)
+    place ≡ node_place_in s.nodes x → outer ≡ node_place_in s.nodes c → items ≡ backs_between place outer edges → i < length items →
+    Member edges (node_place_in t.nodes x, node_place_in t.nodes c, (get_or items i d).2, (get_or items i d).3)
 edge_between items edges s t x c place outer i d g l o e u f k =
-    subst (λ (p : ℕ). Member edges (p, place_of t.nodes c, (get_or items i d).2, (get_or items i d).3)) (place_stays s t x place g l e)
+    subst (λ (p : ℕ). Member edges (p, node_place_in t.nodes c, (get_or items i d).2, (get_or items i d).3)) (place_stays s t x place g l e)
     (subst (λ (p : ℕ). Member edges (place, p, (get_or items i d).2, (get_or items i d).3)) (place_stays s t c outer g o u) (item_between items edges place outer i d f k))
 
 pub each_between : (items edges : List (ℕ × ℕ × Letter × ℕ)) (s t : Stage) (x c place outer : ℕ) (P : ℕ × ℕ × Letter × ℕ → Type 0) → Grown s t → x < length s.nodes → c < length s.nodes →
-    place ≡ place_of s.nodes x → outer ≡ place_of s.nodes c → items ≡ backs_between place outer edges → Each items P → (a : Letter) (e : ℕ) →
-    Member edges (place_of t.nodes x, place_of t.nodes c, a, e) → P (place, outer, a, e)
+    place ≡ node_place_in s.nodes x → outer ≡ node_place_in s.nodes c → items ≡ backs_between place outer edges → Each items P → (a : Letter) (e : ℕ) →
+    Member edges (node_place_in t.nodes x, node_place_in t.nodes c, a, e) → P (place, outer, a, e)
 each_between items edges s t x c place outer P g l o e u f h a k m =
     h (place, outer, a, k) (subst (λ (z : List (ℕ × ℕ × Letter × ℕ)). Member z (place, outer, a, k)) (sym f)
     (does_go_between place outer edges a k (subst (λ (p : ℕ). Member edges (p, outer, a, k)) (sym (place_stays s t x place g l e))
-    (subst (λ (p : ℕ). Member edges (place_of t.nodes x, p, a, k)) (sym (place_stays s t c outer g o u)) m))))
+    (subst (λ (p : ℕ). Member edges (node_place_in t.nodes x, p, a, k)) (sym (place_stays s t c outer g o u)) m))))
 
 -- ---- letters of edges
 
@@ -128,8 +128,8 @@ joined_stays m b s t x c a h g j = record {
   exit = there_stays s t x g j.exit;
   before = there_stays s t c g j.before;
   backs = λ l e i id. returned_stays m b s t x c l e h g
-      (j.backs l e (subst (λ (y : Node). Member m.backs (y.place, place_of s.nodes c, l, e)) (at_stays s t x g j.exit)
-      (subst (λ (y : Node). Member m.backs (place_of t.nodes x, y.place, l, e)) (at_stays s t c g j.before) i)) id);
+      (j.backs l e (subst (λ (y : Node). Member m.backs (y.place, node_place_in s.nodes c, l, e)) (at_stays s t x g j.exit)
+      (subst (λ (y : Node). Member m.backs (node_place_in t.nodes x, y.place, l, e)) (at_stays s t c g j.before) i)) id);
 }
 
 -- the node from which a call leads
@@ -142,7 +142,7 @@ pub caller : (m b : Automaton) (s : Stage) (c : ℕ) (a : Letter) (k : ℕ) → 
 caller m b s c a k v h i = let d = h.along.calls c a k i in record {
   there = d.from;
   opens = (h.spread.calls c a k (h.all_calls c a k i)).0;
-  kind = call_kind m (place_of s.nodes c) a (place_of s.nodes k) v d.edge;
+  kind = call_kind m (node_place_in s.nodes c) a (node_place_in s.nodes k) v d.edge;
 }
 
 -- a call to the entry node of an exit stays one

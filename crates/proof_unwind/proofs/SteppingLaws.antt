@@ -8,7 +8,7 @@ use Rattle.nwa_base.specs.Automata.{Automaton}
 use Rattle.nwa_base.proofs.MemberLemmas.{member_front, member_rest, member_split}
 use Rattle.proof_names.specs.Outlines.{Node}
 use Rattle.proof_check.specs.Steps.{IsOpen}
-use Rattle.proof_unwind.specs.Unwindings.{node_at, place_of, entry_of}
+use Rattle.proof_unwind.specs.Unwindings.{node_at, node_place_in, entry_of}
 use Rattle.proof_unwind.specs.Exploring.{InsideFollows, CallFollows, BackFollows, AreFollowing, IsExploring, Grows, Stage, Stepped, Called, Returned, with_inside, with_call, with_back, with_state, with_node, linked_inside, linked_call, linked_back}
 use Rattle.proof_unwind.specs.Spots.{IsWeaker, IsEntryWith}
 use Rattle.proof_unwind.proofs.GrowingLaws.{last_at}
@@ -68,14 +68,14 @@ stage nodes s = record { nodes = nodes; steps = s }
 -- ---- inside steps
 
 pub inside_to : (m b : Automaton) (nodes : List Node) (s : Automaton) (n : ℕ) (a : Letter) (e : ℕ) (preds : List ℕ) (k : ℕ) → IsExploring m b nodes s → n < length nodes →
-    Member m.insides (place_of nodes n, a, e) → AreFollowing (InsideFollows b a (node_at nodes n)) preds → IsWeaker nodes e (entry_of nodes n) preds k →
+    Member m.insides (node_place_in nodes n, a, e) → AreFollowing (InsideFollows b a (node_at nodes n)) preds → IsWeaker nodes e (entry_of nodes n) preds k →
     Stepped m b n a e (stage nodes s) (linked_inside (stage nodes s) (n, a, k))
 inside_to m b nodes s n a e preds k h l i f w = record {
   goes = record {
     exploring = covered_inside m b nodes s n a k h (record {
       «from» = l;
       to = w.there;
-      edge = subst (λ (p : ℕ). Member m.insides (place_of nodes n, a, p)) (sym w.at) i;
+      edge = subst (λ (p : ℕ). Member m.insides (node_place_in nodes n, a, p)) (sym w.at) i;
       entry = w.under;
     }) (λ r q. f.sound r (w.among r q));
     grows = no_node nodes s (with_inside s (n, a, k)) (grown_inside nodes [] s (with_inside s (n, a, k)) (n, a, k) refl refl refl);
@@ -85,7 +85,7 @@ inside_to m b nodes s n a e preds k h l i f w = record {
 }
 
 pub inside_new : (m b : Automaton) (nodes : List Node) (s : Automaton) (n : ℕ) (a : Letter) (x : Node) → IsExploring m b nodes s → n < length nodes → IsOpen (node_at nodes n) →
-    a.kind ≡ kinds.Inside → Member m.insides (place_of nodes n, a, x.place) → x.entry ≡ entry_of nodes n → AreFollowing (InsideFollows b a (node_at nodes n)) x.preds →
+    a.kind ≡ kinds.Inside → Member m.insides (node_place_in nodes n, a, x.place) → x.entry ≡ entry_of nodes n → AreFollowing (InsideFollows b a (node_at nodes n)) x.preds →
     Stepped m b n a x.place (stage nodes s) (linked_inside (with_node (stage nodes s) x) (n, a, length nodes))
 inside_new m b nodes s n a x h l o k i e f = record {
   goes = record {
@@ -103,14 +103,14 @@ inside_new m b nodes s n a x h l o k i e f = record {
 -- ---- calls
 
 pub call_to : (m b : Automaton) (nodes : List Node) (s : Automaton) (n : ℕ) (a : Letter) (e : ℕ) (preds : List ℕ) (k : ℕ) → IsExploring m b nodes s → n < length nodes → IsOpen (node_at nodes n) →
-    Member m.calls (place_of nodes n, a, e) → AreFollowing (CallFollows b a (node_at nodes n)) preds → IsEntryWith nodes e preds k →
+    Member m.calls (node_place_in nodes n, a, e) → AreFollowing (CallFollows b a (node_at nodes n)) preds → IsEntryWith nodes e preds k →
     Called m b n a e (stage nodes s) (linked_call (stage nodes s) (n, a, k))
 call_to m b nodes s n a e preds k h l o i f w = record {
   goes = record {
     exploring = covered_call m b nodes s n a k h (record {
       «from» = l;
       to = w.there;
-      edge = subst (λ (p : ℕ). Member m.calls (place_of nodes n, a, p)) (sym w.at) i;
+      edge = subst (λ (p : ℕ). Member m.calls (node_place_in nodes n, a, p)) (sym w.at) i;
       entry = w.itself;
     }) o (subst (λ (q : List ℕ). AreFollowing (CallFollows b a (node_at nodes n)) q) (sym w.same) f);
     grows = no_node nodes s (with_call s (n, a, k)) (grown_call nodes [] s (with_call s (n, a, k)) (n, a, k) refl refl refl);
@@ -120,7 +120,7 @@ call_to m b nodes s n a e preds k h l o i f w = record {
 }
 
 pub call_new : (m b : Automaton) (nodes : List Node) (s : Automaton) (n : ℕ) (a : Letter) (x : Node) → IsExploring m b nodes s → n < length nodes → IsOpen (node_at nodes n) →
-    a.kind ≡ kinds.Call → Member m.calls (place_of nodes n, a, x.place) → x.entry ≡ length nodes → AreFollowing (CallFollows b a (node_at nodes n)) x.preds →
+    a.kind ≡ kinds.Call → Member m.calls (node_place_in nodes n, a, x.place) → x.entry ≡ length nodes → AreFollowing (CallFollows b a (node_at nodes n)) x.preds →
     Called m b n a x.place (stage nodes s) (linked_call (with_node (stage nodes s) x) (n, a, length nodes))
 call_new m b nodes s n a x h l o k i e f = record {
   goes = record {
@@ -138,7 +138,7 @@ call_new m b nodes s n a x h l o k i e f = record {
 -- ---- backs
 
 pub back_to : (m b : Automaton) (nodes : List Node) (s : Automaton) (x c : ℕ) (a r : Letter) (e : ℕ) (preds : List ℕ) (k : ℕ) → IsExploring m b nodes s → x < length nodes → c < length nodes →
-    Member s.calls (c, a, entry_of nodes x) → r.call ≡ a.id → Member m.backs (place_of nodes x, place_of nodes c, r, e) →
+    Member s.calls (c, a, entry_of nodes x) → r.call ≡ a.id → Member m.backs (node_place_in nodes x, node_place_in nodes c, r, e) →
     AreFollowing (BackFollows b r (node_at nodes x) (node_at nodes c)) preds → IsWeaker nodes e (entry_of nodes c) preds k →
     Returned m b x c r e (stage nodes s) (linked_back (stage nodes s) (x, c, r, k))
 back_to m b nodes s x c a r e preds k h l o j id i f w = record {
@@ -147,7 +147,7 @@ back_to m b nodes s x c a r e preds k h l o j id i f w = record {
       exit = l;
       before = o;
       to = w.there;
-      edge = subst (λ (p : ℕ). Member m.backs (place_of nodes x, place_of nodes c, r, p)) (sym w.at) i;
+      edge = subst (λ (p : ℕ). Member m.backs (node_place_in nodes x, node_place_in nodes c, r, p)) (sym w.at) i;
       entry = w.under;
       letter = a;
       joined = j;
@@ -161,7 +161,7 @@ back_to m b nodes s x c a r e preds k h l o j id i f w = record {
 
 pub back_new : (m b : Automaton) (nodes : List Node) (s : Automaton) (y c : ℕ) (a r : Letter) (x : Node) → IsExploring m b nodes s → y < length nodes → c < length nodes →
     IsOpen (node_at nodes y) → IsOpen (node_at nodes c) → a.kind ≡ kinds.Call → r.kind ≡ kinds.Back → Member s.calls (c, a, entry_of nodes y) → r.call ≡ a.id →
-    Member m.backs (place_of nodes y, place_of nodes c, r, x.place) → x.entry ≡ entry_of nodes c → AreFollowing (BackFollows b r (node_at nodes y) (node_at nodes c)) x.preds →
+    Member m.backs (node_place_in nodes y, node_place_in nodes c, r, x.place) → x.entry ≡ entry_of nodes c → AreFollowing (BackFollows b r (node_at nodes y) (node_at nodes c)) x.preds →
     Returned m b y c r x.place (stage nodes s) (linked_back (with_node (stage nodes s) x) (y, c, r, length nodes))
 back_new m b nodes s y c a r x h l o p q ka kr j id i e f = record {
   goes = record {

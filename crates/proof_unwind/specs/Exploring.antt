@@ -6,7 +6,7 @@ use Rattle.nwa_base.specs.Automata.{Automaton}
 use Rattle.proof_names.specs.Outlines.{Node}
 use Rattle.proof_spell.specs.Drafts.{AscendFrom}
 use Rattle.proof_check.specs.Steps.{IsOf, IsOpen}
-use Rattle.proof_unwind.specs.Unwindings.{node_at, place_of, entry_of, IsAlong, HasStep, HasBack, IsReached, IsPart, Spreads, bare}
+use Rattle.proof_unwind.specs.Unwindings.{node_at, node_place_in, entry_of, IsAlong, HasStep, HasBack, IsReached, IsPart, Spreads, bare}
 
 -- ---- automata of predicates
 
@@ -92,10 +92,10 @@ pub record Grows (nodes : List Node) (s : Automaton) (new : List Node) (t : Auto
 
 -- those below r, and the backs that join them
 pub record AreOpened (m : Automaton) (nodes : List Node) (s : Automaton) (r : ℕ) : Type 0 where
-  pub insides : (n : ℕ) → n < r → IsOpen (node_at nodes n) → (a : Letter) (e : ℕ) → Member m.insides (place_of nodes n, a, e) → HasStep s.insides nodes n a e
-  pub calls : (n : ℕ) → n < r → IsOpen (node_at nodes n) → (a : Letter) (e : ℕ) → Member m.calls (place_of nodes n, a, e) → HasStep s.calls nodes n a e
+  pub insides : (n : ℕ) → n < r → IsOpen (node_at nodes n) → (a : Letter) (e : ℕ) → Member m.insides (node_place_in nodes n, a, e) → HasStep s.insides nodes n a e
+  pub calls : (n : ℕ) → n < r → IsOpen (node_at nodes n) → (a : Letter) (e : ℕ) → Member m.calls (node_place_in nodes n, a, e) → HasStep s.calls nodes n a e
   pub backs : (x c : ℕ) → x < r → c < r → IsOpen (node_at nodes x) → IsOpen (node_at nodes c) → (a : Letter) → Member s.calls (c, a, entry_of nodes x) →
-      (t : Letter) (e : ℕ) → Member m.backs (place_of nodes x, place_of nodes c, t, e) → t.call ≡ a.id → HasBack s.backs nodes x c t e
+      (t : Letter) (e : ℕ) → Member m.backs (node_place_in nodes x, node_place_in nodes c, t, e) → t.call ≡ a.id → HasBack s.backs nodes x c t e
   -- and calls lead from them alone
   pub callers : (c : ℕ) (a : Letter) (k : ℕ) → Member s.calls (c, a, k) → c < r
 
@@ -151,14 +151,14 @@ pub record Returned (m b : Automaton) (x c : ℕ) (r : Letter) (e : ℕ) (s t : 
 -- ---- all that is due from a node
 
 abbrev pub HasInsides : Automaton → Stage → ℕ → Type 0
-HasInsides m s n = (a : Letter) (e : ℕ) → Member m.insides (place_of s.nodes n, a, e) → HasStep s.steps.insides s.nodes n a e
+HasInsides m s n = (a : Letter) (e : ℕ) → Member m.insides (node_place_in s.nodes n, a, e) → HasStep s.steps.insides s.nodes n a e
 
 abbrev pub HasCalls : Automaton → Stage → ℕ → Type 0
-HasCalls m s n = (a : Letter) (e : ℕ) → Member m.calls (place_of s.nodes n, a, e) → HasStep s.steps.calls s.nodes n a e
+HasCalls m s n = (a : Letter) (e : ℕ) → Member m.calls (node_place_in s.nodes n, a, e) → HasStep s.steps.calls s.nodes n a e
 
 -- the exit x and the node c before the call by the letter have a back for each return edge
 abbrev pub HasBacks : Automaton → Stage → ℕ → ℕ → Letter → Type 0
-HasBacks m s x c a = (t : Letter) (e : ℕ) → Member m.backs (place_of s.nodes x, place_of s.nodes c, t, e) → t.call ≡ a.id → HasBack s.steps.backs s.nodes x c t e
+HasBacks m s x c a = (t : Letter) (e : ℕ) → Member m.backs (node_place_in s.nodes x, node_place_in s.nodes c, t, e) → t.call ≡ a.id → HasBack s.steps.backs s.nodes x c t e
 
 -- the exit has its backs with each node from which a call leads to its entry node
 abbrev pub IsReturned : Automaton → Stage → Stage → ℕ → Type 0
@@ -179,4 +179,4 @@ pub record IsExit (nodes : List Node) (entry x : ℕ) : Type 0 where
 -- of each entry node these are exits, and all below r from which return edges lead are among them
 pub record AreExits (m : Automaton) (nodes : List Node) (r : ℕ) (exits : ℕ → List ℕ) : Type 0 where
   pub sound : (k x : ℕ) → Member (exits k) x → IsExit nodes k x
-  pub complete : (x : ℕ) → x < r → IsOpen (node_at nodes x) → (c : ℕ) (t : Letter) (e : ℕ) → Member m.backs (place_of nodes x, c, t, e) → Member (exits (entry_of nodes x)) x
+  pub complete : (x : ℕ) → x < r → IsOpen (node_at nodes x) → (c : ℕ) (t : Letter) (e : ℕ) → Member m.backs (node_place_in nodes x, c, t, e) → Member (exits (entry_of nodes x)) x

@@ -3,7 +3,7 @@ use Rattle.std.specs.Prelude.{◌≡◌, ◌≢◌, ℕ, ◌+◌, ◌<◌, ◌�
 use Rattle.nwa_base.specs.declared.letters.Letter.{Letter}
 use Rattle.nwa_base.specs.Automata.{Automaton}
 use Rattle.proof_names.specs.Outlines.{Node}
-use Rattle.proof_unwind.specs.Unwindings.{node_at, place_of}
+use Rattle.proof_unwind.specs.Unwindings.{node_at, node_place_in}
 
 -- the node with the new number of its entry node
 abbrev pub renamed : (ℕ → ℕ) → Node → Node
@@ -34,7 +34,7 @@ pub record IsRenumbering (nodes new : List Node) (h : ℕ → ℕ) : Type 0 wher
 
 -- the places of the nodes ascend
 abbrev pub PlacesAscend : List Node → Type 0
-PlacesAscend nodes = (n k : ℕ) → n < k → k < length nodes → place_of nodes n ≤ place_of nodes k
+PlacesAscend nodes = (n k : ℕ) → n < k → k < length nodes → node_place_in nodes n ≤ node_place_in nodes k
 
 -- ---- the order
 
@@ -45,7 +45,7 @@ pair_at pairs j = slice_index_or pairs j (0, 0)
 -- the place and the number of each node but the first
 pub record AreOthers (nodes : List Node) (pairs : List (ℕ × ℕ)) : Type 0 where
   pub long : length pairs + 1 ≡ length nodes
-  pub at : (k : ℕ) → k < length pairs → pair_at pairs k ≡ (place_of nodes (k + 1), k + 1)
+  pub at : (k : ℕ) → k < length pairs → pair_at pairs k ≡ (node_place_in nodes (k + 1), k + 1)
 
 -- the numbers of the pairs are below the length of the list, and differ
 pub record IsOrder (order : List (ℕ × ℕ)) : Type 0 where
@@ -58,7 +58,7 @@ pub record ArePlaced (nodes : List Node) (order : List (ℕ × ℕ)) : Type 0 wh
   pub long : length order ≡ length nodes
   pub first : (pair_at order 0).1 ≡ 0
   pub all : (n : ℕ) → n < length nodes → (j : ℕ) × (j < length order) × ((pair_at order j).1 ≡ n)
-  pub places : (j : ℕ) → j < length order → (pair_at order j).0 ≡ place_of nodes (pair_at order j).1
+  pub places : (j : ℕ) → j < length order → (pair_at order j).0 ≡ node_place_in nodes (pair_at order j).1
   pub ascend : (i j : ℕ) → i < j → j < length order → (pair_at order i).0 ≤ (pair_at order j).0
 
 -- at each node's number its place in the order

@@ -3,7 +3,7 @@ use Rattle.std.specs.Prelude.{◌≡◌, ℕ, ◌<◌, List, map, length}
 use Rattle.nwa_base.specs.Members.{Member}
 use Rattle.proof_names.specs.Outlines.{Node}
 use Rattle.proof_unwind.specs.declared.spots.Spot.{Spot}
-use Rattle.proof_unwind.specs.Unwindings.{node_at, place_of, entry_of}
+use Rattle.proof_unwind.specs.Unwindings.{node_at, node_place_in, entry_of}
 
 abbrev pub plain : Spot → Node
 plain s = record { place = s.place; entry = s.entry; preds = s.preds.items }
@@ -14,13 +14,13 @@ nodes_of spots = map plain spots
 -- the node is at the place, under the entry node, and its predicates are among these
 pub record IsWeaker (nodes : List Node) (place entry : ℕ) (preds : List ℕ) (k : ℕ) : Type 0 where
   pub there : k < length nodes
-  pub at : place_of nodes k ≡ place
+  pub at : node_place_in nodes k ≡ place
   pub under : entry_of nodes k ≡ entry
   pub among : (r : ℕ) → Member (node_at nodes k).preds r → Member preds r
 
 -- the node is an entry node at the place with these predicates
 pub record IsEntryWith (nodes : List Node) (place : ℕ) (preds : List ℕ) (k : ℕ) : Type 0 where
   pub there : k < length nodes
-  pub at : place_of nodes k ≡ place
+  pub at : node_place_in nodes k ≡ place
   pub itself : entry_of nodes k ≡ k
   pub same : (node_at nodes k).preds ≡ preds

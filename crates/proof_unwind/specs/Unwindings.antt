@@ -13,8 +13,8 @@ node_at [] n = record { place = 0; entry = 0; preds = [] }
 node_at (x ∷ xs) zero = x
 node_at (x ∷ xs) (suc n) = node_at xs n
 
-abbrev pub place_of : List Node → ℕ → ℕ
-place_of nodes n = (node_at nodes n).place
+abbrev pub node_place_in : List Node → ℕ → ℕ
+node_place_in nodes n = (node_at nodes n).place
 
 abbrev pub entry_of : List Node → ℕ → ℕ
 entry_of nodes n = (node_at nodes n).entry
@@ -29,14 +29,14 @@ bare = record { place = 0; entry = 0; preds = [] }
 pub record IsInsideStep (m : Automaton) (nodes : List Node) (n : ℕ) (a : Letter) (k : ℕ) : Type 0 where
   pub «from» : n < length nodes
   pub to : k < length nodes
-  pub edge : Member m.insides (place_of nodes n, a, place_of nodes k)
+  pub edge : Member m.insides (node_place_in nodes n, a, node_place_in nodes k)
   pub entry : entry_of nodes k ≡ entry_of nodes n
 
 -- likewise, to an entry node
 pub record IsCallStep (m : Automaton) (nodes : List Node) (n : ℕ) (a : Letter) (k : ℕ) : Type 0 where
   pub «from» : n < length nodes
   pub to : k < length nodes
-  pub edge : Member m.calls (place_of nodes n, a, place_of nodes k)
+  pub edge : Member m.calls (node_place_in nodes n, a, node_place_in nodes k)
   pub entry : entry_of nodes k ≡ k
 
 -- likewise from the exit x with node c before the call: a step leads from c by the call letter to the entry node of x, and the end has
@@ -45,7 +45,7 @@ pub record IsBackStep (m : Automaton) (nodes : List Node) (s : Automaton) (x c :
   pub exit : x < length nodes
   pub before : c < length nodes
   pub to : k < length nodes
-  pub edge : Member m.backs (place_of nodes x, place_of nodes c, r, place_of nodes k)
+  pub edge : Member m.backs (node_place_in nodes x, node_place_in nodes c, r, node_place_in nodes k)
   pub entry : entry_of nodes k ≡ entry_of nodes c
   pub letter : Letter
   pub joined : Member s.calls (c, letter, entry_of nodes x)
@@ -62,21 +62,21 @@ pub record IsAlong (m : Automaton) (nodes : List Node) (s : Automaton) : Type 0 
 pub record HasStep (edges : List (ℕ × Letter × ℕ)) (nodes : List Node) (n : ℕ) (a : Letter) (place : ℕ) : Type 0 where
   pub number : ℕ
   pub step : Member edges (n, a, number)
-  pub at : place_of nodes number ≡ place
+  pub at : node_place_in nodes number ≡ place
 
 -- a back leads from the exit x, with node c before the call, by the letter to a node at the place
 pub record HasBack (edges : List (ℕ × ℕ × Letter × ℕ)) (nodes : List Node) (x c : ℕ) (r : Letter) (place : ℕ) : Type 0 where
   pub number : ℕ
   pub back : Member edges (x, c, r, number)
-  pub at : place_of nodes number ≡ place
+  pub at : node_place_in nodes number ≡ place
 
 -- each node without false has a step for each edge from its place, and with each node without false from which a step leads to its entry
 -- node a back for each return edge
-pub record IsClosed (m : Automaton) (nodes : List Node) (s : Automaton) : Type 0 where
-  pub insides : (n : ℕ) → n < length nodes → IsOpen (node_at nodes n) → (a : Letter) (e : ℕ) → Member m.insides (place_of nodes n, a, e) → HasStep s.insides nodes n a e
-  pub calls : (n : ℕ) → n < length nodes → IsOpen (node_at nodes n) → (a : Letter) (e : ℕ) → Member m.calls (place_of nodes n, a, e) → HasStep s.calls nodes n a e
+pub record ClosesUnwinding (m : Automaton) (nodes : List Node) (s : Automaton) : Type 0 where
+  pub insides : (n : ℕ) → n < length nodes → IsOpen (node_at nodes n) → (a : Letter) (e : ℕ) → Member m.insides (node_place_in nodes n, a, e) → HasStep s.insides nodes n a e
+  pub calls : (n : ℕ) → n < length nodes → IsOpen (node_at nodes n) → (a : Letter) (e : ℕ) → Member m.calls (node_place_in nodes n, a, e) → HasStep s.calls nodes n a e
   pub backs : (x c : ℕ) → x < length nodes → c < length nodes → IsOpen (node_at nodes x) → IsOpen (node_at nodes c) → (a : Letter) → Member s.calls (c, a, entry_of nodes x) →
-      (r : Letter) (e : ℕ) → Member m.backs (place_of nodes x, place_of nodes c, r, e) → r.call ≡ a.id → HasBack s.backs nodes x c r e
+      (r : Letter) (e : ℕ) → Member m.backs (node_place_in nodes x, node_place_in nodes c, r, e) → r.call ≡ a.id → HasBack s.backs nodes x c r e
 
 -- ---- nodes are reached
 

@@ -4,7 +4,7 @@ ghost use Rattle.std.specs.Prelude.{◌≡◌, ◌≢◌, ◌+◌, ◌<◌, ◌^
 ghost use Rattle.std.specs.List.{AllByRecursion};
 ghost use Rattle.nwa_base.specs.declared.letters.Kind.TheVariants.{Inside, Call};
 ghost use Rattle.nwa_base.specs.Automata.{Automaton, IsAutomaton, IsEdge, IsBackEdge};
-ghost use Rattle.proof_unwind.specs.Unwindings.{node_at, place_of, bare};
+ghost use Rattle.proof_unwind.specs.Unwindings.{node_at, node_place_in, bare};
 ghost use Rattle.proof_unwind.specs.Exploring.{IsExploring, AreOpened};
 ghost use Rattle.proof_unwind.specs.Renumbering.{renamed, moved, moved_back, IsMoved, PlacesAscend, pair_at, AreOthers, IsOrder, ArePlaced, AreRanks};
 ghost use Rattle.proof_unwind.specs.Spots.{nodes_of};
@@ -32,7 +32,7 @@ fn other_pairs(alloc: Global, spots: &[Spot]) -> Result<Vec<(u32, u32)>, AllocEr
 fn placed(alloc: Global, spots: &[Spot]) -> Result<Vec<(u32, u32)>, AllocError>
     requires some { 0 < length spots.now }
     requires fits { length spots.now < 2 ^ 32 }
-    requires first { place_of (nodes_of spots.now) 0 ≡ 0 }
+    requires first { node_place_in (nodes_of spots.now) 0 ≡ 0 }
     ensures { IfOk result (λ v. ArePlaced (nodes_of spots.now) v.items) }
 {
     let mut others = other_pairs(alloc, spots)?;

@@ -92,14 +92,14 @@ impl Search {
     ghost use Rattle.nwa_base.specs.declared.letters.Kind.TheVariants.{Inside, Call};
     ghost use Rattle.nwa_base.specs.Automata.{IsEdge, IsBackEdge};
     ghost use Rattle.proof_check.specs.Steps.{IsOpen};
-    ghost use Rattle.proof_unwind.specs.Unwindings.{node_at, place_of, entry_of};
+    ghost use Rattle.proof_unwind.specs.Unwindings.{node_at, node_place_in, entry_of};
     ghost use Rattle.proof_unwind.specs.Exploring.{with_node, linked_inside, linked_call, linked_back};
     ghost use Rattle.proof_unwind.specs.Searches.{stage_of};
 
     /// The place of a node.
     pub(crate) fn place(&self, number: u32) -> u32
         requires { number < length (stage_of self.now).nodes }
-        ensures { result ≡ place_of (stage_of self.now).nodes number }
+        ensures { result ≡ node_place_in (stage_of self.now).nodes number }
     {
         self.spots[number as usize].place
     }

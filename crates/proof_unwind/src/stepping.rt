@@ -4,7 +4,7 @@ ghost use Rattle.std.specs.Prelude.{◌≡◌, ◌<◌, OnOk, length};
 ghost use Rattle.nwa_base.specs.Members.{Member};
 ghost use Rattle.nwa_base.specs.declared.letters.Kind.TheVariants as kinds;
 ghost use Rattle.proof_check.specs.Steps.{IsOpen};
-ghost use Rattle.proof_unwind.specs.Unwindings.{node_at, place_of, entry_of};
+ghost use Rattle.proof_unwind.specs.Unwindings.{node_at, node_place_in, entry_of};
 ghost use Rattle.proof_unwind.specs.Exploring.{Explores, Stepped, Called, Returned};
 ghost use Rattle.proof_unwind.specs.Searches.{stage_of};
 
@@ -27,7 +27,7 @@ pub(crate) fn inside_step(
     requires exploring { Explores graph.now union.now (stage_of search.old) }
     requires there { from < length (stage_of search.old).nodes }
     requires opens { IsOpen (node_at (stage_of search.old).nodes from) }
-    requires edge { Member graph.now.insides (place_of (stage_of search.old).nodes from, letter, place) }
+    requires edge { Member graph.now.insides (node_place_in (stage_of search.old).nodes from, letter, place) }
     requires kind { letter.kind ≡ kinds.Inside }
     ensures { OnOk result (Stepped graph.now union.now from letter place (stage_of search.old) (stage_of search.new)) }
 {
@@ -59,7 +59,7 @@ pub(crate) fn call_step(
     requires exploring { Explores graph.now union.now (stage_of search.old) }
     requires there { from < length (stage_of search.old).nodes }
     requires opens { IsOpen (node_at (stage_of search.old).nodes from) }
-    requires edge { Member graph.now.calls (place_of (stage_of search.old).nodes from, letter, place) }
+    requires edge { Member graph.now.calls (node_place_in (stage_of search.old).nodes from, letter, place) }
     requires kind { letter.kind ≡ kinds.Call }
     ensures { OnOk result (Called graph.now union.now from letter place (stage_of search.old) (stage_of search.new)) }
 {
@@ -97,7 +97,7 @@ pub(crate) fn back_step(
     requires open_before { IsOpen (node_at (stage_of search.old).nodes before) }
     requires called { Member search.old.steps.calls (before, call, entry_of (stage_of search.old).nodes exit) }
     requires names { letter.call ≡ call.id }
-    requires edge { Member graph.now.backs (place_of (stage_of search.old).nodes exit, place_of (stage_of search.old).nodes before, letter, place) }
+    requires edge { Member graph.now.backs (node_place_in (stage_of search.old).nodes exit, node_place_in (stage_of search.old).nodes before, letter, place) }
     requires call_kind { call.kind ≡ kinds.Call }
     requires kind { letter.kind ≡ kinds.Back }
     ensures { OnOk result (Returned graph.now union.now exit before letter place (stage_of search.old) (stage_of search.new)) }

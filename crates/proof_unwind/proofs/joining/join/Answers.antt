@@ -1,6 +1,6 @@
 use Rattle.std.proofs.Common.{◌≡◌, ◌+◌, take, sym, subst, arith}
 use Rattle.proof_unwind.specs.declared.search.Search.{Search}
-use Rattle.proof_unwind.specs.Unwindings.{HasBack, place_of, entry_of}
+use Rattle.proof_unwind.specs.Unwindings.{HasBack, node_place_in, entry_of}
 use Rattle.proof_unwind.specs.Exploring.{Stage, GoesOn}
 use Rattle.proof_unwind.specs.Searches.{stage_of}
 use Rattle.proof_unwind.proofs.LoopLaws.{Followed, followed_none, followed_more, followed_all}
@@ -55,7 +55,7 @@ back_step-requires-clause-kind c =
     let t : Stage = stage_of c.loop-letter.search in
     let p : IsCaller c.args.graph.now s c.args.before c.args.call =
     caller c.args.graph.now c.args.union.now s c.args.before c.args.call (entry_of s.nodes c.args.exit) c.requires.graph c.requires.exploring c.requires.called in
-    back_kind c.args.graph.now (place_of t.nodes c.args.exit) (place_of t.nodes c.args.before) _ _ c.requires.graph
+    back_kind c.args.graph.now (node_place_in t.nodes c.args.exit) (node_place_in t.nodes c.args.before) _ _ c.requires.graph
     (edge_between c.backs_between-letter-items.result.now c.args.graph.now.backs s t c.args.exit c.args.before c.place-place.result c.place-outer.result
     c.loop-letter.letter-index _ c.loop-letter.invariant.goes.grows c.requires.there p.there c.place-place.ensures c.place-outer.ensures c.backs_between-letter-items.ensures
     c.loop-letter-test.true)

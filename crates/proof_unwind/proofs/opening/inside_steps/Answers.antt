@@ -1,5 +1,5 @@
 use Rattle.std.proofs.Common.{arith}
-use Rattle.proof_unwind.specs.Unwindings.{HasStep, place_of}
+use Rattle.proof_unwind.specs.Unwindings.{HasStep, node_place_in}
 use Rattle.proof_unwind.specs.Exploring.{Stage, GoesOn}
 use Rattle.proof_unwind.specs.Searches.{stage_of}
 use Rattle.proof_unwind.proofs.LoopLaws.{followed_none, followed_more, followed_all}
@@ -22,7 +22,7 @@ inside_step-requires-clause-edge c =
 
 pub inside_step-requires-clause-kind : goal.inside_step-requires-clause-kind
 inside_step-requires-clause-kind c =
-    inside_kind c.args.graph.now (place_of (stage_of c.loop-letter.search).nodes c.args.from) _ _ c.requires.graph
+    inside_kind c.args.graph.now (node_place_in (stage_of c.loop-letter.search).nodes c.args.from) _ _ c.requires.graph
     (edge_from c.insides_leaving-letter-items.result.now c.args.graph.now.insides (stage_of c.args.search.now) (stage_of c.loop-letter.search) c.args.from c.place-place.result
     c.loop-letter.letter-index _ c.loop-letter.invariant.goes.grows c.requires.there c.place-place.ensures c.insides_leaving-letter-items.ensures c.loop-letter-test.true)
 

@@ -1,6 +1,6 @@
 use Rattle.std.proofs.Common.{◌≡◌, ◌+◌, ◌∷◌, [], ◌++◌, ℕ, cond, eqb, ◌∙◌, ap}
 use Rattle.nwa_base.specs.Edges.{backs_leaving}
-use Rattle.proof_unwind.specs.Unwindings.{place_of}
+use Rattle.proof_unwind.specs.Unwindings.{node_place_in}
 use Rattle.proof_unwind.specs.Exploring.{Stage, AreExits}
 use Rattle.proof_unwind.specs.Searches.{stage_of, exits_of}
 use Rattle.proof_unwind.proofs.LoopLaws.{none_leave}
@@ -10,11 +10,11 @@ use Rattle.proof_unwind.proofs.opening.note_exit.Goals as goal
 pub returns-then-is_empty : goal.returns-then-is_empty
 returns-then-is_empty c =
     let s : Stage = stage_of c.args.search.now in
-    let none : backs_leaving (place_of s.nodes c.args.number) c.args.graph.now.backs ≡ [] =
-    none_found c.backs_leaving.result.now (backs_leaving (place_of s.nodes c.args.number) c.args.graph.now.backs) c.is_empty.result
+    let none : backs_leaving (node_place_in s.nodes c.args.number) c.args.graph.now.backs ≡ [] =
+    none_found c.backs_leaving.result.now (backs_leaving (node_place_in s.nodes c.args.number) c.args.graph.now.backs) c.is_empty.result
     (c.backs_leaving.ensures ∙ ap (λ (p : ℕ). backs_leaving p c.args.graph.now.backs) c.place.ensures) c.is_empty.ensures c.if-is_empty.true in
     exits_same c.args.graph.now s.nodes c.args.number (exits_of c.args.exits.now)
-    (λ o p a e i. none_leave (place_of s.nodes c.args.number) c.args.graph.now.backs p a e none i) c.requires.exits
+    (λ o p a e i. none_leave (node_place_in s.nodes c.args.number) c.args.graph.now.backs p a e none i) c.requires.exits
 
 pub returns : goal.returns
 returns c =

@@ -2,7 +2,7 @@ use Rattle.std.proofs.Common.{◌≡◌, ◌∙◌, get_or, ◌+◌, ◌<◌, �
 use Rattle.std.proofs.lemmas.List.{length-map}
 use Rattle.proof_names.specs.Outlines.{Node}
 use Rattle.proof_unwind.specs.declared.spots.Spot.{Spot}
-use Rattle.proof_unwind.specs.Unwindings.{node_at, place_of}
+use Rattle.proof_unwind.specs.Unwindings.{node_at, node_place_in}
 use Rattle.proof_unwind.specs.Renumbering.{pair_at}
 use Rattle.proof_unwind.specs.Spots.{plain, nodes_of}
 use Rattle.proof_unwind.proofs.SpotLaws.{spot_there}
@@ -23,7 +23,7 @@ loop-number-preserved c =
     let is : length c.push.new.self.items ≡ length (pairs ++ (x.place, number) ∷ []) = ap (λ (z : List (ℕ × ℕ)). length z) c.in_ok-push.ensures.items in
     record {
       long = let l = c.loop-number.invariant.long in omega (arith, l, more, is);
-      at = λ k l. subst (λ (z : List (ℕ × ℕ)). pair_at z k ≡ (place_of nodes (k + 1), k + 1)) (sym c.in_ok-push.ensures.items)
+      at = λ k l. subst (λ (z : List (ℕ × ℕ)). pair_at z k ≡ (node_place_in nodes (k + 1), k + 1)) (sym c.in_ok-push.ensures.items)
           (others_more nodes pairs number (x.place, number) c.loop-number.invariant.long c.loop-number.invariant.at (ap (λ (z : ℕ). (z, number)) (sym (ap (λ (y : Node). y.place) at))) k
           (subst (λ (z : List (ℕ × ℕ)). k < length z) c.in_ok-push.ensures.items l));
     }

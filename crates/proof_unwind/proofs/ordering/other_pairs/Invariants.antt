@@ -1,5 +1,5 @@
 use Rattle.std.proofs.Common.{◌≡◌, ◌+◌, ◌<◌, ℕ, length}
-use Rattle.proof_unwind.specs.Unwindings.{place_of}
+use Rattle.proof_unwind.specs.Unwindings.{node_place_in}
 use Rattle.proof_unwind.specs.Renumbering.{pair_at}
 use Rattle.proof_unwind.specs.Spots.{nodes_of}
 use Rattle.proof_unwind.proofs.ordering.other_pairs.Given as goal
@@ -7,5 +7,5 @@ use Rattle.proof_unwind.proofs.ordering.other_pairs.Given as goal
 abbrev pub invariant-loop-number : goal.invariant-loop-number
 invariant-loop-number l = record {
   long : length l.pairs.items + 1 ≡ l.number;
-  at : (k : ℕ) → k < length l.pairs.items → pair_at l.pairs.items k ≡ (place_of (nodes_of l.spots) (k + 1), k + 1);
+  at : (k : ℕ) → k < length l.pairs.items → pair_at l.pairs.items k ≡ (node_place_in (nodes_of l.spots) (k + 1), k + 1);
 }
