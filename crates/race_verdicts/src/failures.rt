@@ -10,7 +10,7 @@ ghost use Rattle.race_verdicts.specs.Verdicts.{IsFailureBy};
 
 use boogie_run::Choice;
 use std::alloc::{AllocError, Global};
-use trace_replay::{Failure, Trail, replay};
+use trace_replay::{Failure, ReplayFault, Trail, replay};
 use typing_rules::Typed;
 
 /// The values as choices.
@@ -40,6 +40,7 @@ pub(crate) fn failure_of(
     let trail = Trail { steps, choices };
     match replay(alloc, program, &trail) {
         Ok(id) => Ok(Failure { rounds, id, trail }),
-        Err(_) => Err(AllocError),
+        Err(ReplayFault::Memory) => Err(AllocError),
+        Err(ReplayFault::At { .. }) => unreachable!(),
     }
 }
