@@ -11,9 +11,9 @@ use Rattle.race_core.specs.declared.events.Event.TheVariants.{Read, Publish, Fin
 use Rattle.race_core.specs.declared.events.Why.{Why}
 use Rattle.race_core.specs.declared.events.Why.TheVariants.{Ended, Full, Stale}
 use Rattle.race_core.specs.Histories.{Removed, Keeps, IsNext, IsFair, IsInfeasible, IsLegal}
-use Rattle.race_core.specs.Races.{Race, IsSound}
+use Rattle.race_core.specs.Races.{Race, RaceIsSound}
 use Rattle.race_core.specs.Steps.{staleness, publish_refusal, finish_refusal, published, finished, after, IsFairEvent}
-use Rattle.race_core.specs.Interleavings.{after_all, IsProved, AreFair}
+use Rattle.race_core.specs.Interleavings.{after_all, HasInfeasibleEvidence, AreFair}
 use Rattle.race_core.proofs.Legality.{removed_last, removed_more, fair_next, fair_keeps, legal_more}
 
 -- a publication is taken exactly where no end is set, the version is below the limit, and the base is the version
@@ -70,8 +70,8 @@ module _ {E : Type 0} (automaton : E → Automaton) where
     -- a next entry keeps the state sound; the conditions are said of a state that is equal
     pub sound_added : (q r : Race E) (entry : Entry E) (kept : Automaton) → q ≡ r → length r.history < r.limit →
         IsNext automaton r.program r.history entry → Keeps automaton r.program (r.history ++ entry ∷ []) kept →
-        IsInfeasible automaton feasible entry.evidence → IsSound automaton feasible q →
-        IsSound automaton feasible (record q { history = q.history ++ entry ∷ []; kept = kept })
+        IsInfeasible automaton feasible entry.evidence → RaceIsSound automaton feasible q →
+        RaceIsSound automaton feasible (record q { history = q.history ++ entry ∷ []; kept = kept })
     sound_added q r entry kept e room next keeps i s =
         let N : Race E → Type 0 = λ x. IsNext automaton x.program x.history entry in
         let K : Race E → Type 0 = λ x. Keeps automaton x.program (x.history ++ entry ∷ []) kept in
@@ -87,8 +87,8 @@ module _ {E : Type 0} (automaton : E → Automaton) where
     sound_published : (o : Option Why) (r : Race E) (base : ℕ) (entry : Entry E) (kept : Automaton) →
         (o ≡ None → (length r.history < r.limit) × (base ≡ length r.history)) →
         (base ≤ length r.history → IsFair automaton r.program r.history base entry kept) →
-        IsInfeasible automaton feasible entry.evidence → IsSound automaton feasible r →
-        IsSound automaton feasible (published o r entry kept)
+        IsInfeasible automaton feasible entry.evidence → RaceIsSound automaton feasible r →
+        RaceIsSound automaton feasible (published o r entry kept)
     sound_published (Some why) r base entry kept taken fair i s = s
     sound_published None r base entry kept taken fair i s =
         let t = taken refl in
@@ -97,14 +97,14 @@ module _ {E : Type 0} (automaton : E → Automaton) where
         sound_added r r entry kept refl t.0 (fair_next automaton r.program r.history base entry kept le f)
         (fair_keeps automaton r.program r.history base entry kept le f) i s
 
-    sound_finished : (o : Option Why) (r : Race E) (end : End) → IsSound automaton feasible r →
-        IsSound automaton feasible (finished o r end)
+    sound_finished : (o : Option Why) (r : Race E) (end : End) → RaceIsSound automaton feasible r →
+        RaceIsSound automaton feasible (finished o r end)
     sound_finished None r end s = record { legal = s.legal; keeps = s.keeps; room = s.room }
     sound_finished (Some why) r end s = s
 
     -- one event keeps the state sound
-    pub sound_after : (r : Race E) (x : Event E) → IsFairEvent automaton r x → IsProved automaton feasible x →
-        IsSound automaton feasible r → IsSound automaton feasible (after r x)
+    pub sound_after : (r : Race E) (x : Event E) → IsFairEvent automaton r x → HasInfeasibleEvidence automaton feasible x →
+        RaceIsSound automaton feasible r → RaceIsSound automaton feasible (after r x)
     sound_after r (Read worker) f p s = s
     sound_after r (Publish worker base entry kept) f p s =
         sound_published (publish_refusal r.end (length r.history) r.limit base) r base entry (arc_value kept)
@@ -113,6 +113,6 @@ module _ {E : Type 0} (automaton : E → Automaton) where
 
     -- every list of events does
     pub sound_after_all : (r : Race E) (xs : List (Event E)) → AreFair automaton feasible r xs →
-        IsSound automaton feasible r → IsSound automaton feasible (after_all r xs)
+        RaceIsSound automaton feasible r → RaceIsSound automaton feasible (after_all r xs)
     sound_after_all r [] f s = s
     sound_after_all r (x ∷ xs) f s = sound_after_all (after r x) xs f.2 (sound_after r x f.0 f.1 s)

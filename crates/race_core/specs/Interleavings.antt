@@ -15,13 +15,13 @@ module _ {E : Type 0} where
   after_all r (x ∷ xs) = after_all (after r x) xs
 
   -- the evidence of a publication meets the law of evidence
-  abbrev pub IsProved : (E → Automaton) → (E → List Letter → Type 0) → Event E → Type 0
-  IsProved automaton feasible (Read worker) = Unit {0}
-  IsProved automaton feasible (Publish worker base entry kept) = IsInfeasible automaton feasible entry.evidence
-  IsProved automaton feasible (Finish worker base end) = Unit {0}
+  abbrev pub HasInfeasibleEvidence : (E → Automaton) → (E → List Letter → Type 0) → Event E → Type 0
+  HasInfeasibleEvidence automaton feasible (Read worker) = Unit {0}
+  HasInfeasibleEvidence automaton feasible (Publish worker base entry kept) = IsInfeasible automaton feasible entry.evidence
+  HasInfeasibleEvidence automaton feasible (Finish worker base end) = Unit {0}
 
   -- each event meets its condition at the state that it comes to
   abbrev pub AreFair : (E → Automaton) → (E → List Letter → Type 0) → Race E → List (Event E) → Type 0
   AreFair automaton feasible r [] = Unit {0}
   AreFair automaton feasible r (x ∷ xs) =
-      IsFairEvent automaton r x × IsProved automaton feasible x × AreFair automaton feasible (after r x) xs
+      IsFairEvent automaton r x × HasInfeasibleEvidence automaton feasible x × AreFair automaton feasible (after r x) xs

@@ -16,7 +16,7 @@ pub record Race (E : Type 0) : Type 0 where
   pub end : Option End
 
 -- what every state keeps
-pub record IsSound {E : Type 0} (automaton : E → Automaton) (feasible : E → List Letter → Type 0) (r : Race E) : Type 0 where
+pub record RaceIsSound {E : Type 0} (automaton : E → Automaton) (feasible : E → List Letter → Type 0) (r : Race E) : Type 0 where
   pub legal : IsLegal automaton feasible r.program r.history
   pub keeps : Keeps automaton r.program r.history r.kept
   pub room : length r.history ≤ r.limit

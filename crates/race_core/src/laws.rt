@@ -9,7 +9,7 @@ ghost use Rattle.race_core.specs.declared.ends.End.{End};
 ghost use Rattle.race_core.specs.declared.events.Entry.{Entry};
 ghost use Rattle.race_core.specs.declared.events.Event.{Event};
 ghost use Rattle.race_core.specs.Histories.{Keeps, IsFair};
-ghost use Rattle.race_core.specs.Races.{Race, IsSound};
+ghost use Rattle.race_core.specs.Races.{Race, RaceIsSound};
 ghost use Rattle.race_core.specs.Steps.{publish_refusal, finish_refusal, published, finished};
 ghost use Rattle.race_core.specs.Interleavings.{after_all, AreFair};
 
@@ -19,7 +19,7 @@ use crate::evidence::Evidence;
 /// program's words that no published automaton accepts, and the history stays within its limit.
 pub fn every_interleaving<E: Evidence>()
     ensures { (r : Race E) (events : List (Event E)) → AreFair E.automaton E.feasible r events →
-        IsSound E.automaton E.feasible r → IsSound E.automaton E.feasible (after_all r events) }
+        RaceIsSound E.automaton E.feasible r → RaceIsSound E.automaton E.feasible (after_all r events) }
 {}
 
 /// A publication that is taken removes its own word, which was kept before, and keeps no word that was not.

@@ -22,13 +22,13 @@ pub struct Shared<E: Evidence> {
 impl<E: Evidence> Model for Shared<E> {
     ghost use Rattle.std.specs.Prelude.{◌≤◌, vec_capacity};
     ghost use Rattle.std.specs.Arc.{arc_value};
-    ghost use Rattle.race_core.specs.Races.{Race, IsSound};
+    ghost use Rattle.race_core.specs.Races.{Race, RaceIsSound};
 
     ghost Value = { Race E };
 
     ghost view = { λ s. record { program = arc_value s.program; limit = s.limit; history = s.history.items; kept = arc_value s.kept; end = s.end } };
 
-    ghost invariant = { λ s. IsSound E.automaton E.feasible (record { program = arc_value s.program; limit = s.limit; history = s.history.items; kept = arc_value s.kept; end = s.end }) × (s.limit ≤ vec_capacity s.history) };
+    ghost invariant = { λ s. RaceIsSound E.automaton E.feasible (record { program = arc_value s.program; limit = s.limit; history = s.history.items; kept = arc_value s.kept; end = s.end }) × (s.limit ≤ vec_capacity s.history) };
 }
 
 impl<E: Evidence> Shared<E> {
