@@ -11,7 +11,7 @@ use Rattle.atomic_table.specs.Table.{Me, opening}
 use Rattle.version_cell.specs.declared.board.Sight.{Sight}
 use Rattle.version_cell.specs.Counts.{once_below}
 use Rattle.version_cell.specs.Plays.{IsIdle}
-use Rattle.version_cell.specs.Rule.{IsLive, Fits, IsKept}
+use Rattle.version_cell.specs.Rule.{IsLive, Fits, RuleIsKept}
 use Rattle.version_cell.specs.Views.{first_sight}
 use Rattle.version_cell.specs.Passes.{known, IsTable, IsValid}
 use Rattle.version_cell.proofs.Sums.{none_some}
@@ -47,9 +47,9 @@ module _ {E : Type 0} (program : Automaton) (limit all : ℕ) where
   -- the rule holds at the beginning
   pub opened : (m : Automaton) (c : Race E) (slots : List (Option (Race E))) → 0 < all → m ≡ program → slots ≡ Some c ∷ [] →
       c ≡ record { program = m; limit = limit; history = []; kept = m; end = None } →
-      IsKept program limit all (opening (0 ∷ 0 ∷ []) slots (first_sight program limit all))
+      RuleIsKept program limit all (opening (0 ∷ 0 ∷ []) slots (first_sight program limit all))
   opened m c slots some same home is =
-      subst (λ (xs : List (Option (Race E))). IsKept program limit all (opening (0 ∷ 0 ∷ []) xs (first_sight program limit all))) (sym home)
+      subst (λ (xs : List (Option (Race E))). RuleIsKept program limit all (opening (0 ∷ 0 ∷ []) xs (first_sight program limit all))) (sym home)
       (record {
         history = [];
         end = None;

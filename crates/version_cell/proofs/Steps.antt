@@ -14,7 +14,7 @@ use Rattle.atomic_table.proofs.Lists.{set_again}
 use Rattle.version_cell.specs.declared.board.Sight.{Sight}
 use Rattle.version_cell.specs.Counts.{times, once_below, count}
 use Rattle.version_cell.specs.Views.{nobody, held_of, holding, with_entry, informed, with_end, lessened, part_of, both_of}
-use Rattle.version_cell.specs.Rule.{IsLive, Views, IsAt, Slot, IsKept}
+use Rattle.version_cell.specs.Rule.{IsLive, Views, IsAt, Slot, RuleIsKept}
 use Rattle.version_cell.specs.Plays.{IsIdle, GoesOn, Holds, Grows, Closes, won, bumped, released, finished, looked}
 use Rattle.atomic_table.specs.Seated.{TableId}
 use Rattle.version_cell.specs.Passes.{known, IsClosed}
@@ -37,14 +37,14 @@ module _ {E : Type 0} (program : Automaton) (limit all : ℕ) where
       List ℕ → List (maybe.Option (Option (Race E))) → List (Sight E) → Type 0
   Goes m i f then id ws hs vs =
       (w : Sight E) × (a : Act (Option (Race E))) × Valid hs m.1 a
-      × IsKept program limit all (record { words = slice_set ws i (f (slice_index ws i)); homes = homes_after hs m.1 a; views = slice_set vs id w })
+      × RuleIsKept program limit all (record { words = slice_set ws i (f (slice_index ws i)); homes = homes_after hs m.1 a; views = slice_set vs id w })
       × then (slice_index ws i) (w, carried_after m.1 a)
 
   allows : (slots id : ℕ) (m : Me (Option (Race E)) (Sight E)) (i : ℕ) (f : ℕ → ℕ) (then : ℕ → Me (Option (Race E)) (Sight E) → Type 0) →
       ((turn : ℕ) (h : List (Entry E)) (e : Option End) (hs : List (maybe.Option (Option (Race E)))) (vs : List (Sight E)) →
       Views program limit all h e turn vs → Slot program limit all turn h e hs → get_elem? vs id ≡ maybe.some m.0 →
       Goes m i f then id (turn ∷ length h ∷ []) hs vs) →
-      Allows (IsKept program limit all) slots id m i f then
+      Allows (RuleIsKept program limit all) slots id m i f then
   allows slots id m i f then go s k len at fits =
       let P : List ℕ → Type 0 = λ ws. Goes m i f then id ws s.homes s.views in
       subst P (sym k.words) (go k.turn k.history k.end s.homes s.views k.views k.slot at)
@@ -100,9 +100,9 @@ module _ {E : Type 0} (program : Automaton) (limit all : ℕ) where
   won_turn st id v some free (suc (suc n)) h e hs vs k slot at = absurd slot
 
   pub wins : (st : Step (Option (Race E))) (slots id : ℕ) (m : Me (Option (Race E)) (Sight E)) → IsIdle m →
-      Allows (IsKept program limit all) slots id m 0 (λ n. either (n == 0) 1 n) (won st m)
+      Allows (RuleIsKept program limit all) slots id m 0 (λ n. either (n == 0) 1 n) (won st m)
   wins st slots id m idle =
-      let P : List (ℕ × Option (Race E)) → Type 0 = λ x. Allows (IsKept program limit all) slots id (m.0, x) 0 (λ n. either (n == 0) 1 n) (won st (m.0, x)) in
+      let P : List (ℕ × Option (Race E)) → Type 0 = λ x. Allows (RuleIsKept program limit all) slots id (m.0, x) 0 (λ n. either (n == 0) 1 n) (won st (m.0, x)) in
       subst P (sym idle.carries)
       (allows slots id (m.0, []) 0 (λ n. either (n == 0) 1 n) (won st (m.0, [])) (won_turn st id m.0 idle.shares idle.free))
 
@@ -145,9 +145,9 @@ module _ {E : Type 0} (program : Automaton) (limit all : ℕ) where
 
   pub releases : (st : Step (Option (Race E))) (slots id : ℕ) (m : Me (Option (Race E)) (Sight E)) (v : Sight E) (c : Race E) →
       m ≡ (v, (0, Some c) ∷ []) → Holds v c →
-      Allows (IsKept program limit all) slots id m 0 (λ n. 0) (λ n. released st m 0)
+      Allows (RuleIsKept program limit all) slots id m 0 (λ n. 0) (λ n. released st m 0)
   releases st slots id m v c is holds =
-      let P : Me (Option (Race E)) (Sight E) → Type 0 = λ x. Allows (IsKept program limit all) slots id x 0 (λ n. 0) (λ n. released st x 0) in
+      let P : Me (Option (Race E)) (Sight E) → Type 0 = λ x. Allows (RuleIsKept program limit all) slots id x 0 (λ n. 0) (λ n. released st x 0) in
       subst P (sym is)
       (allows slots id (v, (0, Some c) ∷ []) 0 (λ n. 0) (λ n. released st (v, (0, Some c) ∷ []) 0) (released_turn st id v c holds))
 
@@ -197,9 +197,9 @@ module _ {E : Type 0} (program : Automaton) (limit all : ℕ) where
 
   pub finishes : (st : Step (Option (Race E))) (slots id : ℕ) (m : Me (Option (Race E)) (Sight E)) (v : Sight E) (c : Race E) →
       m ≡ (v, (0, Some c) ∷ []) → Closes v c →
-      Allows (IsKept program limit all) slots id m 0 (λ n. 0) (λ n. finished st m 0)
+      Allows (RuleIsKept program limit all) slots id m 0 (λ n. 0) (λ n. finished st m 0)
   finishes st slots id m v c is closes =
-      let P : Me (Option (Race E)) (Sight E) → Type 0 = λ x. Allows (IsKept program limit all) slots id x 0 (λ n. 0) (λ n. finished st x 0) in
+      let P : Me (Option (Race E)) (Sight E) → Type 0 = λ x. Allows (RuleIsKept program limit all) slots id x 0 (λ n. 0) (λ n. finished st x 0) in
       subst P (sym is)
       (allows slots id (v, (0, Some c) ∷ []) 0 (λ n. 0) (λ n. finished st (v, (0, Some c) ∷ []) 0) (finished_turn st id v c closes))
 
@@ -238,9 +238,9 @@ module _ {E : Type 0} (program : Automaton) (limit all : ℕ) where
 
   pub bumps : (st : Step (Option (Race E))) (slots id : ℕ) (m : Me (Option (Race E)) (Sight E)) (v : Sight E) (c : Race E) →
       m ≡ (v, (0, Some c) ∷ []) → Grows v c → length c.history < 2 ^ 64 →
-      Allows (IsKept program limit all) slots id m 1 (λ n. (n + 1) % 2 ^ 64) (bumped st m)
+      Allows (RuleIsKept program limit all) slots id m 1 (λ n. (n + 1) % 2 ^ 64) (bumped st m)
   bumps st slots id m v c is grows small =
-      let P : Me (Option (Race E)) (Sight E) → Type 0 = λ x. Allows (IsKept program limit all) slots id x 1 (λ n. (n + 1) % 2 ^ 64) (bumped st x) in
+      let P : Me (Option (Race E)) (Sight E) → Type 0 = λ x. Allows (RuleIsKept program limit all) slots id x 1 (λ n. (n + 1) % 2 ^ 64) (bumped st x) in
       subst P (sym is)
       (allows slots id (v, (0, Some c) ∷ []) 1 (λ n. (n + 1) % 2 ^ 64) (bumped st (v, (0, Some c) ∷ [])) (bumped_turn st id v c grows small))
 
@@ -273,11 +273,11 @@ module _ {E : Type 0} (program : Automaton) (limit all : ℕ) where
       )
 
   pub looks : (st : Step (Option (Race E))) (slots id : ℕ) (m : Me (Option (Race E)) (Sight E)) → 0 < m.0.shares →
-      Allows (IsKept program limit all) slots id m 0 (λ n. n) (looked st m)
+      Allows (RuleIsKept program limit all) slots id m 0 (λ n. n) (looked st m)
   looks st slots id m some = allows slots id m 0 (λ n. n) (looked st m) (looked_turn st id m some)
 
   pub splits : (id : ℕ) (v : Sight E) → 1 < v.shares → v.held ≡ None →
-      Splits (IsKept program limit all) id v (lessened v) (part_of v)
+      Splits (RuleIsKept program limit all) id v (lessened v) (part_of v)
   splits id v some free s k at =
       record {
         history = k.history;
@@ -289,7 +289,7 @@ module _ {E : Type 0} (program : Automaton) (limit all : ℕ) where
       }
 
   pub joins : (id other : ℕ) (v w : Sight E) → 0 < v.shares → 0 < w.shares → v.held ≡ None → w.held ≡ None →
-      Joins (IsKept program limit all) id v other w (both_of v w) nobody
+      Joins (RuleIsKept program limit all) id v other w (both_of v w) nobody
   joins id other v w some some' free free' s k at differ there =
       record {
         history = k.history;
@@ -327,7 +327,7 @@ module _ {E : Type 0} (program : Automaton) (limit all : ℕ) where
         },
       )
 
-  pub closes : (z : TableId) (s : State (Option (Race E)) (Sight E)) (id : ℕ) (v : Sight E) → IsKept program limit all s →
+  pub closes : (z : TableId) (s : State (Option (Race E)) (Sight E)) (id : ℕ) (v : Sight E) → RuleIsKept program limit all s →
       get_elem? s.views id ≡ maybe.some v → 0 < v.shares → v.held ≡ None → v.shares ≡ v.total →
       (c : Race E) × (get_elem? s.homes 0 ≡ maybe.some (maybe.some (Some c))) × IsClosed (known z v) c
   closes z s id v k at some free whole =

@@ -57,7 +57,7 @@ module _ {E : Type 0} (program : Automaton) (limit all : ℕ) where
   Slot (suc (suc n)) history end homes = ⊥
 
   -- The rule: word 0 is the turn, word 1 the version, which is the length of the history.
-  pub record IsKept (s : State (Option (Race E)) (Sight E)) : Type 0 where
+  pub record RuleIsKept (s : State (Option (Race E)) (Sight E)) : Type 0 where
     pub history : List (Entry E)
     pub end : Option End
     pub turn : ℕ

@@ -60,10 +60,10 @@ pub struct Turns<E> {
 }
 
 impl<E: Evidence> TableRule<Option<Shared<E>>, Sight<E>, Terms> for Turns<E> {
-    ghost use Rattle.version_cell.specs.Rule.{IsKept};
+    ghost use Rattle.version_cell.specs.Rule.{RuleIsKept};
     ghost use Rattle.version_cell.specs.Views.{first_sight};
 
-    ghost holds = { λ key. IsKept key.program.value key.limit key.total };
+    ghost holds = { λ key. RuleIsKept key.program.value key.limit key.total };
 
     ghost first = { λ key. first_sight key.program.value key.limit key.total };
 }
