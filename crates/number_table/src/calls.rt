@@ -5,6 +5,7 @@ use crate::showing::{show_row_fault, show_text};
 use crate::{decisions, fractions, refutations, rows};
 use lin_rows::System;
 use std::alloc::{AllocError, Global};
+use table_reading::{first_word, number, parted};
 
 /// A function, and the texts of up to three arguments, which are empty where there are fewer.
 #[derive(Clone, Copy)]
@@ -15,17 +16,17 @@ pub(crate) struct Call<'a> {
     pub(crate) third: &'a str,
 }
 
-/// What stands before the first semicolon, and behind it.
-fn parted(arguments: &str) -> (&str, &str) {
-    let (first, others) = arguments.split_once(';').unwrap_or((arguments, ""));
+/// The first argument, up to a semicolon, and the others.
+fn first_argument(arguments: &str) -> (&str, &str) {
+    let (first, others) = parted(arguments, ";");
     (first.trim(), others.trim())
 }
 
 /// The call of a text: the function, a blank, and the arguments with semicolons between them.
 fn call_of(text: &str) -> Call<'_> {
-    let (function, arguments) = text.split_once(' ').unwrap_or((text, ""));
-    let (first, others) = parted(arguments);
-    let (second, third) = parted(others);
+    let (function, arguments) = first_word(text);
+    let (first, others) = first_argument(arguments);
+    let (second, third) = first_argument(others);
     Call {
         function,
         first,
@@ -37,7 +38,7 @@ fn call_of(text: &str) -> Call<'_> {
 /// Writes the words behind a number, so many times.
 fn push_repeated(whole: &mut String, repeated: &str) -> Result<(), AllocError> {
     let (times, words) = repeated.split_once(' ').unwrap_or(("1", repeated));
-    for _time in 0..times.parse::<u32>().unwrap_or(0) {
+    for _time in 0..number(times) {
         write!(whole, "{words} ")?;
     }
     Ok(())
@@ -88,7 +89,7 @@ fn show_call(rt: &HostRuntime, owner: &str, call: &Call<'_>) {
 }
 
 fn show_expanded(rt: &HostRuntime, whole: &str) {
-    let (owner, text) = whole.split_once("::").unwrap_or((whole, ""));
+    let (owner, text) = parted(whole, "::");
     show_text(rt, " => ");
     show_call(rt, owner, &call_of(text));
 }

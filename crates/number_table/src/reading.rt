@@ -4,10 +4,7 @@ use farkas_check::Node;
 use frac::{Frac, Past, of};
 use lin_rows::{Col, Row, RowFault, RowKind, System, row, system};
 use std::alloc::{AllocError, Global};
-
-fn digits(word: &str) -> i128 {
-    word.parse::<i128>().unwrap_or(0)
-}
+use table_reading::value;
 
 /// A count, a column, or the number of a row.
 pub(crate) fn small_number(word: &str) -> u32 {
@@ -22,15 +19,15 @@ pub(crate) fn number(word: &str) -> i128 {
     } else if let Some(power) = bare.strip_prefix("2^") {
         above_power(power, '-').wrapping_neg()
     } else {
-        digits(bare)
+        value(bare)
     }
 }
 
 /// The number `-2^k+n`, where the text is k, or k, the sign and n.
 fn above_power(text: &str, sign: char) -> i128 {
     let (exponent, above) = text.split_once(sign).unwrap_or((text, "0"));
-    let exponent = exponent.parse::<u32>().unwrap_or(0).min(127);
-    (i128::MIN >> (127 - exponent)).wrapping_add(digits(above))
+    let exponent = table_reading::number(exponent).min(127);
+    (i128::MIN >> (127 - exponent)).wrapping_add(value(above))
 }
 
 /// The fraction of a text: a numerator, and a denominator behind a slash if it is not 1.
@@ -41,11 +38,6 @@ pub(crate) fn fraction(text: &str) -> Result<Frac, Past> {
         return Err(Past);
     }
     of(number(numerator), denominator)
-}
-
-/// The values of a point, one for each column from 0 on.
-pub(crate) fn point_of(alloc: Global, text: &str) -> Result<Vec<i128>, AllocError> {
-    text.split_whitespace().map(number).collect(alloc)
 }
 
 /// What is read of a system: the systems that are open, the outermost first, and the terms and the kind of a row whose bound is not read.

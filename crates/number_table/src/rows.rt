@@ -4,7 +4,7 @@ ghost use Rattle.std.specs.Prelude.{IsTrue};
 ghost use Rattle.math_facts.specs.Terms.{IsBelow};
 
 use crate::calls::Call;
-use crate::reading::{number, point_of, system_of};
+use crate::reading::{number, system_of};
 use crate::showing::{
     show_number, show_past, show_row, show_row_fault, show_system, show_text, show_truth,
 };
@@ -133,9 +133,14 @@ fn show_holds(rt: &HostRuntime, row: &Row, point: &[i128]) {
     }
 }
 
-fn show_held(rt: &HostRuntime, row: &Row, point: &str) {
-    match point_of(rt.alloc(), point) {
-        Ok(point) => show_holds(rt, row, &point),
+/// The same of the point of a text, which has a value for each column from 0 on.
+fn show_held(rt: &HostRuntime, row: &Row, text: &str) {
+    let point: Result<Vec<i128>, AllocError> = text
+        .split_whitespace()
+        .map(number)
+        .collect(rt.alloc());
+    match &point {
+        Ok(point) => show_holds(rt, row, point),
         Err(AllocError) => show_text(rt, "no memory"),
     }
 }
