@@ -11,13 +11,13 @@ mod texts;
 mod words;
 
 use crate::answers::{show_no_memory, show_text};
-use crate::texts::first_of;
 use nwa_base::{Nwa, empty};
 use std::io::{self, Read};
+use table_reading::first_word;
 
 /// The answer to a line.
 fn show_line(rt: &HostRuntime, nwa: &mut Nwa, line: &str) {
-    let (call, said) = first_of(line);
+    let (call, said) = first_word(line);
     match call {
         "#" => {
             show_text(rt, line);

@@ -1,11 +1,12 @@
 //! The calls that make an automaton, or another of it.
 
 use crate::answers::{show, show_no_memory, show_number};
-use crate::texts::{Part, first_of, number, read_part};
+use crate::texts::{Part, read_part};
 use nwa_base::{Nwa, NwaFault, empty};
 use nwa_difference::difference;
 use nwa_reduce::reduce;
 use std::alloc::AllocError;
+use table_reading::{first_word, number};
 
 fn add(nwa: &mut Nwa, part: Part) -> Result<(), NwaFault> {
     match part {
@@ -44,8 +45,8 @@ fn show_begun(rt: &HostRuntime, nwa: &mut Nwa, states: &str, start: &str) {
 
 /// The automaton of so many states, with a start and with parts.
 fn show_made(rt: &HostRuntime, nwa: &mut Nwa, said: &str) {
-    let (states, said) = first_of(said);
-    let (start, parts) = first_of(said);
+    let (states, said) = first_word(said);
+    let (start, parts) = first_word(said);
     show_begun(rt, nwa, states, start);
     show_parts(rt, nwa, parts);
 }

@@ -6,7 +6,6 @@ ghost use Rattle.race_core.specs.Samples.{empty_word, no_word};
 ghost use Rattle.race_core.specs.Steps.{IsFairEvent};
 
 use crate::answers::{show, show_no_memory, show_number, show_text};
-use crate::texts::{first_of, number};
 use crate::words::shared;
 use nwa_base::{Nwa, NwaFault, Word, empty, word};
 use race_core::{
@@ -14,6 +13,7 @@ use race_core::{
 };
 use std::alloc::Global;
 use std::sync::Arc;
+use table_reading::{first_word, number};
 
 /// An automaton, of which the words that it does not accept are taken for feasible.
 #[derive(Drop)]
@@ -239,7 +239,7 @@ fn show_events(rt: &HostRuntime, state: &mut Shared<Sample>, events: &str)
 
 /// The events of a race of so many entries at most.
 pub(crate) fn show_race(rt: &HostRuntime, said: &str) {
-    let (limit, events) = first_of(said);
+    let (limit, events) = first_word(said);
     match race(rt.alloc(), u64::from(number(limit)).clamp(1, 100_000)) {
         Ok(mut state) => {
             shared(&state);

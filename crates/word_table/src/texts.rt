@@ -28,15 +28,6 @@ pub(crate) const R: Letter = Letter {
     call: 2,
 };
 
-/// The text up to the first blank, and the text behind it.
-pub(crate) fn first_of(said: &str) -> (&str, &str) {
-    said.split_once(' ').unwrap_or((said, ""))
-}
-
-pub(crate) fn number(digits: &str) -> u32 {
-    digits.parse::<u32>().unwrap_or(0)
-}
-
 /// A state, which is one digit.
 pub(crate) fn state(digit: u8) -> u32 {
     u32::from(digit.saturating_sub(b'0'))

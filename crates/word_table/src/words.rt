@@ -4,10 +4,11 @@ use crate::answers::{
     show, show_letters, show_no_memory, show_number, show_states, show_text, show_whether,
 };
 use crate::sets::{show_set, show_steps};
-use crate::texts::{C, R, first_of, number, spelled};
+use crate::texts::{C, R, spelled};
 use nwa_base::{Letter, Nwa, Word, accepts, run_of, word};
 use nwa_emptiness::{Found, find};
 use std::alloc::{AllocError, Global};
+use table_reading::{first_word, number};
 
 /// A value that threads may share.
 pub(crate) fn shared<T: Send + Sync>(value: &T) -> &T {
@@ -85,7 +86,7 @@ fn nested(alloc: Global, calls: u32, returns: u32) -> Result<Option<Word>, Alloc
 
 /// How many states the run over so many calls and so many returns has.
 pub(crate) fn show_nested(rt: &HostRuntime, nwa: &Nwa, said: &str) {
-    let (calls, returns) = first_of(said);
+    let (calls, returns) = first_word(said);
     match nested(rt.alloc(), number(calls), number(returns)) {
         Ok(Some(word)) => show_run(rt, nwa, said, &word, true),
         Ok(None) => show(rt, said, "no word"),
@@ -104,7 +105,7 @@ fn show_found(rt: &HostRuntime, nwa: &Nwa, text: &str, order: &str) {
 
 /// A word to the state, which is made final in a copy of the automaton, searched in this order.
 pub(crate) fn show_search(rt: &HostRuntime, nwa: &Nwa, said: &str) {
-    let (last, order) = first_of(said);
+    let (last, order) = first_word(said);
     match nwa.copy() {
         Ok(mut ended) => {
             if ended.set_final(number(last)).is_ok() {
