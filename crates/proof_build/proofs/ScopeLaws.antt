@@ -226,41 +226,41 @@ module _ (g : Graph) (bs : List Automaton) (u : Unwinding) (i : IsGraph g) (m : 
 
   -- ---- steps
 
-  node_in : (p n : ℕ) → n < length u.nodes → IsPlaceOf g.place_procs p (node_place_in u.nodes n) → IsNodeIn g (drafts.place_of u.nodes) p n
+  node_in : (p n : ℕ) → n < length u.nodes → IsPlaceOf g.place_procs p (node_place_in u.nodes n) → IsNodeIn g (drafts.node_place u.nodes) p n
   node_in p n l b =
-      let e : drafts.place_of u.nodes n ≡ Some (node_place_in u.nodes n) = ap (option_map (λ (x : Node). x.place)) (node_there u.nodes n l) in
+      let e : drafts.node_place u.nodes n ≡ Some (node_place_in u.nodes n) = ap (option_map (λ (x : Node). x.place)) (node_there u.nodes n l) in
       subst (λ (o : Option ℕ). IsSomeAnd o (IsPlaceOf g.place_procs p)) (sym e) b
 
-  inside_in_scope : (n : ℕ) (a : Letter) (k : ℕ) → Member u.steps.insides (n, a, k) → IsInScope g (drafts.place_of u.nodes) (step_of (n, a, k))
+  inside_in_scope : (n : ℕ) (a : Letter) (k : ℕ) → Member u.steps.insides (n, a, k) → IsInScope g (drafts.node_place u.nodes) (step_of (n, a, k))
   inside_in_scope n a k e =
       let d = h.along.insides n a k e in
       let w = inside_edge_known g i (node_place_in u.nodes n) (node_place_in u.nodes k) a d.edge in
-      subst (λ (o : Option PlainAct). StepIsIn g (drafts.place_of u.nodes) n k o) (sym w.act) (node_in w.proc n d.from w.starts, node_in w.proc k d.to w.ends)
+      subst (λ (o : Option PlainAct). StepIsIn g (drafts.node_place u.nodes) n k o) (sym w.act) (node_in w.proc n d.from w.starts, node_in w.proc k d.to w.ends)
 
-  call_in_scope : (n : ℕ) (a : Letter) (k : ℕ) → Member u.steps.calls (n, a, k) → IsInScope g (drafts.place_of u.nodes) (step_of (n, a, k))
+  call_in_scope : (n : ℕ) (a : Letter) (k : ℕ) → Member u.steps.calls (n, a, k) → IsInScope g (drafts.node_place u.nodes) (step_of (n, a, k))
   call_in_scope n a k e =
       let d = h.along.calls n a k e in
       let w = call_edge_known g i (node_place_in u.nodes n) (node_place_in u.nodes k) a d.edge in
-      subst (λ (o : Option PlainAct). StepIsIn g (drafts.place_of u.nodes) n k o) (sym w.act)
+      subst (λ (o : Option PlainAct). StepIsIn g (drafts.node_place u.nodes) n k o) (sym w.act)
       (node_in w.caller n d.from w.starts, node_in w.callee k d.to (call_ends g (node_place_in u.nodes n) (node_place_in u.nodes k) a i w))
 
-  back_in_scope : (x c : ℕ) (r : Letter) (k : ℕ) → Member u.steps.backs (x, c, r, k) → IsInScope g (drafts.place_of u.nodes) (back_of (x, c, r, k))
+  back_in_scope : (x c : ℕ) (r : Letter) (k : ℕ) → Member u.steps.backs (x, c, r, k) → IsInScope g (drafts.node_place u.nodes) (back_of (x, c, r, k))
   back_in_scope x c r k e =
       let d = h.along.backs x c r k e in
       let w = back_edge_known g i (node_place_in u.nodes x) (node_place_in u.nodes c) (node_place_in u.nodes k) r (back_kind g.automaton (node_place_in u.nodes x) (node_place_in u.nodes c) (node_place_in u.nodes k) r m d.edge) d.edge in
-      subst (λ (o : Option PlainAct). BackIsIn g (drafts.place_of u.nodes) x c k o) (sym w.act)
-      (subst (λ (o : Option PlainAct). ReturnIsIn g (drafts.place_of u.nodes) x c k o) (sym w.call)
+      subst (λ (o : Option PlainAct). BackIsIn g (drafts.node_place u.nodes) x c k o) (sym w.act)
+      (subst (λ (o : Option PlainAct). ReturnIsIn g (drafts.node_place u.nodes) x c k o) (sym w.call)
       (node_in w.callee x d.exit (back_leaves g (node_place_in u.nodes x) (node_place_in u.nodes c) (node_place_in u.nodes k) r i w), node_in w.caller c d.before w.before, node_in w.caller k d.to w.ends))
 
-  step_in_scope : (t : NamedStep) → Member (steps_of u.steps) t → IsInScope g (drafts.place_of u.nodes) t
+  step_in_scope : (t : NamedStep) → Member (steps_of u.steps) t → IsInScope g (drafts.node_place u.nodes) t
   step_in_scope t e = elim (member_split (map step_of u.steps.insides) (map step_of u.steps.calls ++ map back_of u.steps.backs) t e) [
     | inl a ↦ let f = member_from_map step_of u.steps.insides t a in
-        subst (λ (x : NamedStep). IsInScope g (drafts.place_of u.nodes) x) f.2 (inside_in_scope f.0.0 f.0.1 f.0.2 f.1)
+        subst (λ (x : NamedStep). IsInScope g (drafts.node_place u.nodes) x) f.2 (inside_in_scope f.0.0 f.0.1 f.0.2 f.1)
     | inr b ↦ elim (member_split (map step_of u.steps.calls) (map back_of u.steps.backs) t b) [
       | inl a ↦ let f = member_from_map step_of u.steps.calls t a in
-          subst (λ (x : NamedStep). IsInScope g (drafts.place_of u.nodes) x) f.2 (call_in_scope f.0.0 f.0.1 f.0.2 f.1)
+          subst (λ (x : NamedStep). IsInScope g (drafts.node_place u.nodes) x) f.2 (call_in_scope f.0.0 f.0.1 f.0.2 f.1)
       | inr a ↦ let f = member_from_map back_of u.steps.backs t a in
-          subst (λ (x : NamedStep). IsInScope g (drafts.place_of u.nodes) x) f.2 (back_in_scope f.0.0 f.0.1 f.0.2 f.0.3 f.1)
+          subst (λ (x : NamedStep). IsInScope g (drafts.node_place u.nodes) x) f.2 (back_in_scope f.0.0 f.0.1 f.0.2 f.0.3 f.1)
     ]
   ]
 
@@ -270,5 +270,5 @@ module _ (g : Graph) (bs : List Automaton) (u : Unwinding) (i : IsGraph g) (m : 
     preds = h.preds;
     triples = h.triples;
     nodes = node_stands;
-    steps = all_from_members (IsInScope g (drafts.place_of u.nodes)) (steps_of u.steps) step_in_scope;
+    steps = all_from_members (IsInScope g (drafts.node_place u.nodes)) (steps_of u.steps) step_in_scope;
   }
