@@ -24,21 +24,25 @@ use Rattle.race_core.specs.declared.events.Entry.{Entry}
 use Rattle.race_core.specs.Histories.{Removed, IsLegal}
 use Rattle.race_core.specs.Races.{Race}
 use Rattle.itp_automaton.specs.Certified.{Certificate, IsCertified, IsFeasibleFor}
-use Rattle.race_rounds.specs.Ends.{Options, IsKept, EndMeets, no_word, one_word}
+use Rattle.race_rounds.specs.declared.limits.Limits.{Limits}
+use Rattle.race_rounds.specs.Ends.{WordIsKept, EndMeets, no_word, one_word}
 use Rattle.race_rounds.specs.Rounds.{automaton_in, IsOwn, IsRaceOf}
 use Rattle.race_verdicts.specs.declared.verdicts.Verdict.{Verdict}
 use Rattle.race_verdicts.specs.declared.verdicts.Verdict.TheVariants.{Safe, Unsafe, Unknown}
 use Rattle.race_verdicts.specs.Verdicts.{IsVerdict}
-use Rattle.automizer_top.specs.Report.{Answer, verdict_answer, ReportsVerdict}
+use Rattle.automizer_top.specs.ReportTexts.{Answer, verdict_answer}
+use Rattle.automizer_top.specs.Report.{ReportsVerdict}
+use Rattle.automizer_top.specs.ReportClaims.{PrintsFailure}
 use Rattle.automizer_top.proofs.SafetyLaws.{faithful_is_safe}
+use Rattle.automizer_top.proofs.ConfirmedLaws.{unsafe_of}
 
 -- no word that a certified automaton accepts is feasible
 abbrev pub CertifiedIsInfeasible : Type 0
 CertifiedIsInfeasible = (al : Alphabet) (c : Certificate) → IsCertified al c → (w : List Letter) → Accepts c.automaton w → IsFeasible al w → ⊥
 
 -- an end that the race has is met
-met : (t : TypedProgram) (o : Options) (r : Race Certificate) (e : End) → IsRaceOf t o r → r.end ≡ Some e → EndMeets automaton_in t o r.history e
-met t o r e race is = subst (λ (x : Option End). IfSome x (EndMeets automaton_in t o r.history)) is race.end
+met : (t : TypedProgram) (limits : Limits) (r : Race Certificate) (e : End) → IsRaceOf t limits r → r.end ≡ Some e → EndMeets automaton_in t limits r.history e
+met t limits r e race is = subst (λ (x : Option End). IfSome x (EndMeets automaton_in t limits r.history)) is race.end
 
 -- ---- safe and unsafe
 
@@ -48,58 +52,55 @@ removed_is_infeasible law t [] w own f r = r
 removed_is_infeasible law t (e ∷ h) w own f (inl a) = law (alphabet_of (lowered t)) e.evidence own.0.certified w a f
 removed_is_infeasible law t (e ∷ h) w own f (inr r) = removed_is_infeasible law t h w own.1 f r
 
-none_kept : (t : TypedProgram) (o : Options) (h : List (Entry Certificate)) → EndMeets automaton_in t o h ends.Safe → (w : List Letter) →
-    IsKept automaton_in (lowered t).automaton h w → ⊥
-none_kept t o h (no_word e n) w k = n w k
-none_kept t o h (one_word v k s) w x = absurd s
+none_kept : (t : TypedProgram) (limits : Limits) (h : List (Entry Certificate)) → EndMeets automaton_in t limits h ends.Safe → (w : List Letter) →
+    WordIsKept automaton_in (lowered t).automaton h w → ⊥
+none_kept t limits h (no_word e n) w k = n w k
+none_kept t limits h (one_word v k s) w x = absurd s
 
 record IsErrorWord (t : TypedProgram) (w : List Letter) : Type 0 where
   pub accepted : Accepts (lowered t).automaton w
   pub feasible : IsFeasible (alphabet_of (lowered t)) w
 
-error_word : (t : TypedProgram) (o : Options) (h : List (Entry Certificate)) (w : List Letter) (steps : ℕ) (choices : Vec ℤ Global) →
-    EndMeets automaton_in t o h (ends.Unsafe w steps choices) → (v : List Letter) × IsErrorWord t v
-error_word t o h w steps choices (no_word e n) = absurd (cc)
-error_word t o h w steps choices (one_word v k s) = (v, record { accepted = k.error; feasible = s.1 })
+error_word : (t : TypedProgram) (limits : Limits) (h : List (Entry Certificate)) (w : List Letter) (steps : ℕ) (choices : Vec ℤ Global) →
+    EndMeets automaton_in t limits h (ends.Unsafe w steps choices) → (v : List Letter) × IsErrorWord t v
+error_word t limits h w steps choices (no_word e n) = absurd (cc)
+error_word t limits h w steps choices (one_word v k s) = (v, record { accepted = k.error; feasible = s.1 })
 
 ends_safe : (t : TypedProgram) (r : Race Certificate) (v : Verdict) (a : Answer) → IsVerdict t r v → a ≡ verdict_answer r v → a.status ≡ 0 → r.end ≡ Some ends.Safe
 ends_safe t r (Safe w) a h is z = h.0
 ends_safe t r (Unsafe f) a h is z = absurd (let e : 1 ≡ 0 = sym (ap (λ (b : Answer). b.status) is) ∙ z in omega arith)
 ends_safe t r (Unknown cause w) a h is z = absurd (let e : 2 ≡ 0 = sym (ap (λ (b : Answer). b.status) is) ∙ z in omega arith)
 
-fails_at : (t : TypedProgram) (o : Options) (r : Race Certificate) (v : Verdict) (a : Answer) → IsRaceOf t o r → IsVerdict t r v → a ≡ verdict_answer r v → a.status ≡ 1 →
+fails_at : (t : TypedProgram) (limits : Limits) (r : Race Certificate) (v : Verdict) (a : Answer) → IsRaceOf t limits r → IsVerdict t r v → a ≡ verdict_answer r v → a.status ≡ 1 →
     (w : List Letter) × IsErrorWord t w
-fails_at t o r (Safe w) a race h is z = absurd (let e : 0 ≡ 1 = sym (ap (λ (b : Answer). b.status) is) ∙ z in omega arith)
-fails_at t o r (Unsafe f) a race h is z = error_word t o r.history h.word f.trail.steps h.choices (met t o r (ends.Unsafe h.word f.trail.steps h.choices) race h.end)
-fails_at t o r (Unknown cause w) a race h is z = absurd (let e : 2 ≡ 1 = sym (ap (λ (b : Answer). b.status) is) ∙ z in omega arith)
+fails_at t limits r (Safe w) a race h is z = absurd (let e : 0 ≡ 1 = sym (ap (λ (b : Answer). b.status) is) ∙ z in omega arith)
+fails_at t limits r (Unsafe f) a race h is z = error_word t limits r.history h.word f.trail.steps h.choices (met t limits r (ends.Unsafe h.word f.trail.steps h.choices) race h.end)
+fails_at t limits r (Unknown cause w) a race h is z = absurd (let e : 2 ≡ 1 = sym (ap (λ (b : Answer). b.status) is) ∙ z in omega arith)
 
-pub never_both : CertifiedIsInfeasible → (o p : Options) (t : TypedProgram) (a b : Answer) → ReportsVerdict o t a → ReportsVerdict p t b → a.status ≡ 0 → b.status ≡ 1 → ⊥
-never_both law o p t a b v u z s =
-    let safe = met t o v.race ends.Safe v.closed.race (ends_safe t v.race v.verdict a v.of_end v.is z) in
+pub never_both : CertifiedIsInfeasible → (limits p : Limits) (t : TypedProgram) (a b : Answer) → ReportsVerdict limits t a → ReportsVerdict p t b → a.status ≡ 0 → b.status ≡ 1 → ⊥
+never_both law limits p t a b v u z s =
+    let safe = met t limits v.race ends.Safe v.closed.race (ends_safe t v.race v.verdict a v.of_end v.is z) in
     let e = fails_at t p u.race u.verdict b u.closed.race u.of_end u.is s in
-    none_kept t o v.race.history safe e.0
+    none_kept t limits v.race.history safe e.0
     (record { error = e.1.accepted; left = λ r. removed_is_infeasible law t v.race.history e.0 v.closed.race.own e.1.feasible r })
 
 -- ---- what a verdict says is so
 
-pub safe_is_true : CertifiedIsInfeasible → LoweringIsFaithful → (o : Options) (t : TypedProgram) (a : Answer) → IsTrue (is_valid t) → ReportsVerdict o t a → a.status ≡ 0 → IsSafe t
-safe_is_true law faithful o t a valid v z =
-    let safe = met t o v.race ends.Safe v.closed.race (ends_safe t v.race v.verdict a v.of_end v.is z) in
+pub safe_is_true : CertifiedIsInfeasible → LoweringIsFaithful → (limits : Limits) (t : TypedProgram) (a : Answer) → IsTrue (is_valid t) → ReportsVerdict limits t a → a.status ≡ 0 → IsSafe t
+safe_is_true law faithful limits t a valid v z =
+    let safe = met t limits v.race ends.Safe v.closed.race (ends_safe t v.race v.verdict a v.of_end v.is z) in
     faithful_is_safe t (lowered t) refl (faithful t valid)
-    (λ w accepted feasible. none_kept t o v.race.history safe w
+    (λ w accepted feasible. none_kept t limits v.race.history safe w
     (record { error = accepted; left = λ r. removed_is_infeasible law t v.race.history w v.closed.race.own feasible r }))
 
 -- what replays is a run that fails
 abbrev pub WhatReplaysFails : Type 0
 WhatReplaysFails = (t : TypedProgram) (n : ℕ) (choices : List ℤ) (i : ℕ) → Replays t n choices i → Fails t i
 
-failing_run : WhatReplaysFails → (t : TypedProgram) (r : Race Certificate) (v : Verdict) (a : Answer) → IsVerdict t r v → a ≡ verdict_answer r v → a.status ≡ 1 → (i : ℕ) × Fails t i
-failing_run law t r (Safe w) a h is z = absurd (let e : 0 ≡ 1 = sym (ap (λ (b : Answer). b.status) is) ∙ z in omega arith)
-failing_run law t r (Unsafe f) a h is z = (f.id.number, law t f.trail.steps h.choices.items f.id.number h.failure.replays.replays)
-failing_run law t r (Unknown cause w) a h is z = absurd (let e : 2 ≡ 1 = sym (ap (λ (b : Answer). b.status) is) ∙ z in omega arith)
-
-pub unsafe_is_true : WhatReplaysFails → (o : Options) (t : TypedProgram) (a : Answer) → ReportsVerdict o t a → a.status ≡ 1 → (i : ℕ) × Fails t i
-unsafe_is_true law o t a v z = failing_run law t v.race v.verdict a v.of_end v.is z
+pub unsafe_is_true : WhatReplaysFails → (limits : Limits) (t : TypedProgram) (a : Answer) → ReportsVerdict limits t a → a.status ≡ 1 → PrintsFailure t a
+unsafe_is_true law limits t a v z =
+    let u = unsafe_of t v.race v.verdict a v.of_end v.is z in
+    (u.failure, u.id, law t u.failure.steps u.failure.choices u.id.number u.replays.replays, u.read, u.replays)
 
 -- ---- no error word
 
@@ -110,19 +111,19 @@ no_entry : (t : TypedProgram) (p : Automaton) (h : List (Entry Certificate)) →
 no_entry t p [] is none l = refl
 no_entry t p (e ∷ h) is none l = absurd (none e.word (subst (λ (m : Automaton). Accepts m e.word) is l.0.error))
 
-only_safe : (t : TypedProgram) (o : Options) (h : List (Entry Certificate)) (e : End) → HasNoWord t → EndMeets automaton_in t o h e → e ≡ ends.Safe
-only_safe t o h e none (no_word is n) = is
-only_safe t o h e none (one_word w k s) = absurd (none w k.error)
+only_safe : (t : TypedProgram) (limits : Limits) (h : List (Entry Certificate)) (e : End) → HasNoWord t → EndMeets automaton_in t limits h e → e ≡ ends.Safe
+only_safe t limits h e none (no_word is n) = is
+only_safe t limits h e none (one_word w k s) = absurd (none w k.error)
 
-safe_at_once : (t : TypedProgram) (o : Options) (r : Race Certificate) (v : Verdict) (a : Answer) → HasNoWord t → IsRaceOf t o r → r.history ≡ [] → IsVerdict t r v →
+safe_at_once : (t : TypedProgram) (limits : Limits) (r : Race Certificate) (v : Verdict) (a : Answer) → HasNoWord t → IsRaceOf t limits r → r.history ≡ [] → IsVerdict t r v →
     a ≡ verdict_answer r v → (w : Content) × (a.bytes ≡ safe_text 0 w) × (a.status ≡ 0)
-safe_at_once t o r (Safe w) a none race empty h is =
+safe_at_once t limits r (Safe w) a none race empty h is =
     (w, ap (λ (b : Answer). b.bytes) is ∙ ap (λ (x : List (Entry Certificate)). safe_text (length x) w) empty, ap (λ (b : Answer). b.status) is)
-safe_at_once t o r (Unsafe f) a none race empty h is =
-    absurd (let e = only_safe t o r.history (ends.Unsafe h.word f.trail.steps h.choices) none (met t o r (ends.Unsafe h.word f.trail.steps h.choices) race h.end) in let no : ⊥ = cc in no)
-safe_at_once t o r (Unknown cause w) a none race empty h is =
-    absurd (let e = only_safe t o r.history (ends.Unknown cause w) none (met t o r (ends.Unknown cause w) race h) in let no : ⊥ = cc in no)
+safe_at_once t limits r (Unsafe f) a none race empty h is =
+    absurd (let e = only_safe t limits r.history (ends.Unsafe h.word f.trail.steps h.choices) none (met t limits r (ends.Unsafe h.word f.trail.steps h.choices) race h.end) in let no : ⊥ = cc in no)
+safe_at_once t limits r (Unknown cause w) a none race empty h is =
+    absurd (let e = only_safe t limits r.history (ends.Unknown cause w) none (met t limits r (ends.Unknown cause w) race h) in let no : ⊥ = cc in no)
 
-pub without_error_words : (o : Options) (t : TypedProgram) (a : Answer) → ReportsVerdict o t a → HasNoWord t → (w : Content) × (a.bytes ≡ safe_text 0 w) × (a.status ≡ 0)
-without_error_words o t a v none =
-    safe_at_once t o v.race v.verdict a none v.closed.race (no_entry t v.race.program v.race.history v.closed.race.program none v.closed.legal) v.of_end v.is
+pub without_error_words : (limits : Limits) (t : TypedProgram) (a : Answer) → ReportsVerdict limits t a → HasNoWord t → (w : Content) × (a.bytes ≡ safe_text 0 w) × (a.status ≡ 0)
+without_error_words limits t a v none =
+    safe_at_once t limits v.race v.verdict a none v.closed.race (no_entry t v.race.program v.race.history v.closed.race.program none v.closed.legal) v.of_end v.is

@@ -5,7 +5,9 @@ use Rattle.std.proofs.lemmas.Bool.{false≢true}
 use Rattle.outer_io.specs.Texts.{GainsFront}
 use Rattle.race_core.specs.Races.{Race}
 use Rattle.itp_automaton.specs.Certified.{Certificate}
-use Rattle.automizer_top.specs.Report.{Answer, Reports, Answers, Closes, ClosesAtFront, WhereTold, TookFront}
+use Rattle.automizer_top.specs.ReportTexts.{Answer}
+use Rattle.automizer_top.specs.Report.{Reports}
+use Rattle.automizer_top.specs.ReportClaims.{Closes, ClosesAtFront, WhereTold, TookFront}
 
 -- what holds where a call gave no fault
 pub where_ok : {S F : Type 0} (P : Type 0) (r : Result S F) → false ≡ is_err r → OnOk r P → P
@@ -13,11 +15,6 @@ where_ok P (Ok x) e h = h
 where_ok P (Err x) e h = absurd (false≢true e)
 
 module _ (words : List (List ℕ)) (a : Answer) where
-  pub answers_given : (texts : Option (List (List ℕ × List ℕ))) (old new : Option (List ℕ)) (status : ℕ) → IfSome texts (λ shown. Reports words shown a) → status ≡ a.status →
-      IfSome old (λ before. new ≡ Some (before ++ a.bytes)) → IfSome texts (λ shown. (x : Answer) × Answers words shown old new status x)
-  answers_given None old new status r s t = tt
-  answers_given (Some shown) old new status r s t = (a, record { reported = r; status_is = s; taken = t })
-
   pub closes_given : (texts : Option (List (List ℕ × List ℕ))) (old new : Option (List ℕ)) (status : ℕ) (before after : List (Race Certificate)) →
       IfSome texts (λ shown. Reports words shown a) → status ≡ a.status → IfSome old (λ bytes. new ≡ Some (bytes ++ a.bytes)) → after ≡ before ++ a.races →
       IfSome texts (λ shown. Closes words shown old new status before after)

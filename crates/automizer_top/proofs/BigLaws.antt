@@ -14,7 +14,7 @@ use Rattle.proof_check.specs.Proves.{Proves}
 use Rattle.race_core.specs.Histories.{Keeps, IsLegal}
 use Rattle.race_core.specs.Races.{Race}
 use Rattle.itp_automaton.specs.Certified.{Certificate, IsFeasibleFor}
-use Rattle.race_rounds.specs.Ends.{Options}
+use Rattle.race_rounds.specs.declared.limits.Limits.{Limits}
 use Rattle.race_rounds.specs.Rounds.{automaton_in, IsRaceOf}
 use Rattle.race_verdicts.specs.declared.verdicts.Verdict.{Verdict}
 use Rattle.race_verdicts.specs.declared.verdicts.Verdict.TheVariants.{Safe, Unsafe, Unknown}
@@ -28,18 +28,19 @@ use Rattle.automizer_top.specs.declared.reporting.Halt.{Halt}
 use Rattle.automizer_top.specs.declared.words.Mode.{Mode}
 use Rattle.automizer_top.specs.declared.words.Mode.TheVariants as modes
 use Rattle.automizer_top.specs.declared.words.Options as read
-use Rattle.automizer_top.specs.CommandLine.{Task, Check, Replay, Print, Verify, Big, Settings, limits_of}
-use Rattle.automizer_top.specs.Answers.{answered, Asks, IsGraphOf, HasNoErrorWord, IsProved, CheckedIsSafe, VerifiedIsSafe, BuiltIsSafe}
+use Rattle.automizer_top.specs.CommandLine.{Task, Check, Replay, Print, Verify, Big, Settings}
+use Rattle.automizer_top.specs.Answers.{answered, Asks, IsGraphOf, HasNoErrorWord, VerdictProves, CheckedIsSafe, VerifiedIsSafe, BuiltIsSafe}
 use Rattle.automizer_top.specs.Asked.{settings}
-use Rattle.automizer_top.specs.Report.{Answer, Ask, Reports, generating, ReportsBig, ReportsVerdict, RefusesLowering, verdict_answer}
+use Rattle.automizer_top.specs.ReportTexts.{Answer, verdict_answer, summary_answer}
+use Rattle.automizer_top.specs.Report.{Ask, Reports, generating, ReportsBig, ReportsVerdict, RefusesLowering}
 use Rattle.automizer_top.proofs.RequestLaws.{same_task, only_one}
 use Rattle.automizer_top.proofs.SafetyLaws.{graph_is_safe}
 
-pub summary_reported : (o : Options) (count : ℕ) (t : TypedProgram) (r : Race Certificate) (v : Verdict) (text : List ℕ) (left : ℕ) →
-    resolved_program (generated count) (codes "main") ≡ Some t → first_fault t ≡ None → IsRaceOf t o r → IsVerdict t r v →
+pub summary_reported : (limits : Limits) (count : ℕ) (t : TypedProgram) (r : Race Certificate) (v : Verdict) (text : List ℕ) (left : ℕ) →
+    resolved_program (generated count) (codes "main") ≡ Some t → first_fault t ≡ None → IsRaceOf t limits r → IsVerdict t r v →
     IsLegal automaton_in IsFeasibleFor r.program r.history → Keeps automaton_in r.program r.history r.kept → left + length r.history ≡ r.limit → text ≡ summary_text count v →
-    ReportsBig o count (record { bytes = text; status = verdict_status v; races = r ∷ [] })
-summary_reported o count t r v text left typed lowers race of_end legal kept room same_text = record {
+    ReportsBig limits count (record { bytes = text; status = verdict_status v; races = r ∷ [] })
+summary_reported limits count t r v text left typed lowers race of_end legal kept room same_text = record {
   program = t;
   typed = typed;
   lowers = lowers;
@@ -51,7 +52,7 @@ summary_reported o count t r v text left typed lowers race of_end legal kept roo
 }
 
 -- a verdict's annotation proves the graph of the program
-pub verdict_is_proved : (t : TypedProgram) (g : Graph) (r : Race Certificate) (v : Verdict) → IsGraphOf t g → IsVerdict t r v → IsProved g v
+pub verdict_is_proved : (t : TypedProgram) (g : Graph) (r : Race Certificate) (v : Verdict) → IsGraphOf t g → IsVerdict t r v → VerdictProves g v
 verdict_is_proved t g r (Safe a) h of_end = subst (λ (x : Graph). Proves x a) (sym h.value) of_end.1
 verdict_is_proved t g r (Unsafe f) h of_end = tt
 verdict_is_proved t g r (Unknown cause w) h of_end = tt
@@ -82,10 +83,10 @@ pub big_is_safe : (count : ℕ) (t : TypedProgram) (g : Graph) → resolved_prog
 big_is_safe count t g typed h none u other = subst IsSafe (one_program count t u typed other) (graph_is_safe t g h none)
 
 -- a summary is of a verdict that could be told
-pub summary_is_verdict : (o : Options) (count : ℕ) (a : Answer) → ReportsBig o count a →
-    (t : TypedProgram) × (r : Race Certificate) × (v : Verdict) × (resolved_program (generated count) (codes "main") ≡ Some t) × ReportsVerdict o t (verdict_answer r v)
-    × (a ≡ record { bytes = summary_text count v; status = verdict_status v; races = r ∷ [] })
-summary_is_verdict o count a big = (
+pub summary_is_verdict : (l : Limits) (count : ℕ) (a : Answer) → ReportsBig l count a →
+    (t : TypedProgram) × (r : Race Certificate) × (v : Verdict) × (resolved_program (generated count) (codes "main") ≡ Some t) × ReportsVerdict l t (verdict_answer r v)
+    × (a ≡ summary_answer count r v)
+summary_is_verdict l count a big = (
   big.program,
   big.race,
   big.verdict,
@@ -99,7 +100,7 @@ summary_is_verdict o count a big = (
 abbrev Texts : Type 0
 Texts = List (List ℕ × List ℕ)
 
-pub big_reported : (words : List (List ℕ)) (s : Settings) (count : ℕ) (a : Answer) (texts : Option Texts) → Ask words s (Big count) → ReportsBig (limits_of s) count a →
+pub big_reported : (words : List (List ℕ)) (s : Settings) (count : ℕ) (a : Answer) (texts : Option Texts) → Ask words s (Big count) → ReportsBig s.limits count a →
     IfSome texts (λ shown. Reports words shown a)
 big_reported words s count a None asked big = tt
 big_reported words s count a (Some shown) asked big = generating s count asked big

@@ -12,7 +12,8 @@ use Rattle.race_core.specs.declared.ends.End.TheVariants as ends
 use Rattle.race_core.specs.Histories.{IsLegal}
 use Rattle.race_core.specs.Races.{Race}
 use Rattle.itp_automaton.specs.Certified.{Certificate, IsFeasibleFor}
-use Rattle.race_rounds.specs.Ends.{Options, EndMeets, no_word, one_word}
+use Rattle.race_rounds.specs.declared.limits.Limits.{Limits}
+use Rattle.race_rounds.specs.Ends.{EndMeets, no_word, one_word}
 use Rattle.race_rounds.specs.Rounds.{automaton_in, IsRaceOf}
 use Rattle.race_completeness.specs.Words.{HasWordsAmong}
 use Rattle.race_completeness.specs.Laws.{RoundsAreEnough}
@@ -20,7 +21,8 @@ use Rattle.race_verdicts.specs.declared.verdicts.Verdict.{Verdict}
 use Rattle.race_verdicts.specs.declared.verdicts.Verdict.TheVariants.{Safe, Unsafe, Unknown}
 use Rattle.race_verdicts.specs.Verdicts.{IsVerdict}
 use Rattle.race_verdicts.specs.Texts.{verdict_text, unknown_text}
-use Rattle.automizer_top.specs.Report.{Answer, verdict_answer, ReportsVerdict}
+use Rattle.automizer_top.specs.ReportTexts.{Answer, verdict_answer}
+use Rattle.automizer_top.specs.Report.{ReportsVerdict}
 use Rattle.automizer_top.specs.Completeness.{HasDifferenceRows, SaysUnknown}
 
 -- ---- which cause a text says
@@ -67,14 +69,14 @@ of_text cause m n w (Unknown other u) e =
 
 -- ---- the end behind it
 
-record EndsUnknown (t : TypedProgram) (o : Options) (cause : Cause) : Type 0 where
+record EndsUnknown (t : TypedProgram) (limits : Limits) (cause : Cause) : Type 0 where
   race : Race Certificate
   word : List Letter
   legal : IsLegal automaton_in IsFeasibleFor (lowered t).automaton race.history
-  meets : EndMeets automaton_in t o race.history (ends.Unknown cause word)
+  meets : EndMeets automaton_in t limits race.history (ends.Unknown cause word)
 
-ends_so : (o : Options) (t : TypedProgram) (a : Answer) (cause : Cause) → ReportsVerdict o t a → SaysUnknown cause a → EndsUnknown t o cause
-ends_so o t a cause v s =
+ends_so : (limits : Limits) (t : TypedProgram) (a : Answer) (cause : Cause) → ReportsVerdict limits t a → SaysUnknown cause a → EndsUnknown t limits cause
+ends_so limits t a cause v s =
     let text : verdict_text (length v.race.history) v.verdict ≡ unknown_text cause s.0 s.1 = sym (ap (λ (b : Answer). b.bytes) v.is) ∙ s.2 in
     let k = of_text cause (length v.race.history) s.0 s.1 v.verdict text in
     let end : v.race.end ≡ Some (ends.Unknown cause k.0) = subst (IsVerdict t v.race) k.1 v.of_end in
@@ -82,18 +84,18 @@ ends_so o t a cause v s =
       race = v.race;
       word = k.0;
       legal = subst (λ (m : Automaton). IsLegal automaton_in IsFeasibleFor m v.race.history) v.closed.race.program v.closed.legal;
-      meets = subst (λ (x : Option End). IfSome x (EndMeets automaton_in t o v.race.history)) end v.closed.race.end;
+      meets = subst (λ (x : Option End). IfSome x (EndMeets automaton_in t limits v.race.history)) end v.closed.race.end;
     }
 
-pub never_rounds : RoundsAreEnough → (o : Options) (t : TypedProgram) (a : Answer) (ws : List (List Letter)) → ReportsVerdict o t a → HasWordsAmong (lowered t).automaton ws →
-    length ws ≤ o.rounds → SaysUnknown Rounds a → ⊥
-never_rounds law o t a ws v f le s =
-    let e = ends_so o t a Rounds v s in
-    law t o e.race.history e.word ws f le e.legal e.meets
+pub never_rounds : RoundsAreEnough → (limits : Limits) (t : TypedProgram) (a : Answer) (ws : List (List Letter)) → ReportsVerdict limits t a → HasWordsAmong (lowered t).automaton ws →
+    length ws ≤ limits.rounds → SaysUnknown Rounds a → ⊥
+never_rounds law limits t a ws v f le s =
+    let e = ends_so limits t a Rounds v s in
+    law t limits e.race.history e.word ws f le e.legal e.meets
 
-gap_of : (o : Options) (t : TypedProgram) (e : EndsUnknown t o Whole) → HasDifferenceRows t → EndMeets automaton_in t o e.race.history (ends.Unknown Whole e.word) → ⊥
-gap_of o t e d (no_word is n) = let no : ⊥ = cc in no
-gap_of o t e d (one_word w k s) = s.1.others (d w k.error)
+gap_of : (limits : Limits) (t : TypedProgram) (e : EndsUnknown t limits Whole) → HasDifferenceRows t → EndMeets automaton_in t limits e.race.history (ends.Unknown Whole e.word) → ⊥
+gap_of limits t e d (no_word is n) = let no : ⊥ = cc in no
+gap_of limits t e d (one_word w k s) = s.1.others (d w k.error)
 
-pub never_whole : (o : Options) (t : TypedProgram) (a : Answer) → ReportsVerdict o t a → HasDifferenceRows t → SaysUnknown Whole a → ⊥
-never_whole o t a v d s = let e = ends_so o t a Whole v s in gap_of o t e d e.meets
+pub never_whole : (limits : Limits) (t : TypedProgram) (a : Answer) → ReportsVerdict limits t a → HasDifferenceRows t → SaysUnknown Whole a → ⊥
+never_whole limits t a v d s = let e = ends_so limits t a Whole v s in gap_of limits t e d e.meets

@@ -17,10 +17,12 @@ use Rattle.race_verdicts.specs.declared.verdicts.Verdict.{Verdict}
 use Rattle.race_verdicts.specs.declared.verdicts.Verdict.TheVariants.{Safe, Unsafe, Unknown}
 use Rattle.race_verdicts.specs.Verdicts.{IsVerdict, IsFailureOf}
 use Rattle.automizer_top.specs.Verdicts.{verdict_status}
-use Rattle.automizer_top.specs.Report.{Answer, answer, second_limit, accepted_answer, replayed_answer, verdict_answer, IsTypedText, IsSafeText, IsFailureText, ReportsProof, accepted, ReportsFailure, replayed, ReportsCheck, of_lowered, ReportsReplay, of_typed, ReportsVerdict, ReportsVerify, refused_verify, unlowered, decided, Ask, Reports, usage, printing, checked, replaying, verifying, generating, IsHandedOver}
+use Rattle.automizer_top.specs.ReportTexts.{Answer, answer, accepted_answer, replayed_answer, verdict_answer}
+use Rattle.automizer_top.specs.Report.{second_limit, Ask, IsTypedText, refused, of_typed, unlowered, of_lowered, of_second, IsSafeText, ReportsProof, accepted, IsFailureText, replayed, ReportsVerdict, ReportsVerify, Reports, usage, printing, checking, replaying, verifying, generating}
+use Rattle.automizer_top.specs.ReportClaims.{IsVerdictOn, IsHandedOver}
 use Rattle.automizer_top.specs.TypeRefusals.{type_refusal}
 use Rattle.automizer_top.proofs.ReportLaws.{typed_is_three, lowering_is_three}
-use Rattle.automizer_top.specs.CommandLine.{Check, Replay, Print, Verify, Big, Settings, limits_of}
+use Rattle.automizer_top.specs.CommandLine.{Check, Replay, Print, Verify, Big, Settings}
 use Rattle.automizer_top.proofs.RequestLaws.{program_of, same_task, same_settings, only_one, nothing_asked, rounds_fit}
 use Rattle.automizer_top.proofs.ReportUnique.{AreOne, report_once}
 
@@ -35,7 +37,7 @@ record IsVerdictOf (s : Settings) (program : List ℕ) (texts : Texts) (a : Answ
   pub found : text_named program texts ≡ Some text
   pub typed : IsTypedText s.entry text meant
   pub lowers : first_fault meant ≡ None
-  pub verdict : ReportsVerdict (limits_of s) meant a
+  pub verdict : ReportsVerdict s.limits meant a
   pub short : length a.bytes ≤ second_limit
 
 not_three : (n : ℕ) → n ≡ 3 → n < 3 → ⊥
@@ -44,24 +46,32 @@ not_three n e l = omega arith
 not_four : (n : ℕ) → n ≡ 4 → n < 3 → ⊥
 not_four n e l = omega arith
 
-of_text : (s : Settings) (program text : List ℕ) (texts : Texts) (a : Answer) → text_named program texts ≡ Some text → ReportsVerify s.entry (limits_of s) text a → a.status < 3 →
+of_text : (s : Settings) (program text : List ℕ) (texts : Texts) (a : Answer) → text_named program texts ≡ Some text → ReportsVerify s.entry s.limits text a → a.status < 3 →
     IsVerdictOf s program texts a
-of_text s program text texts a found (refused_verify r) l = absurd (not_three a.status (typed_is_three s.entry text a r) l)
-of_text s program text texts a found (unlowered t w r) l = absurd (not_three a.status (lowering_is_three t a r) l)
-of_text s program text texts a found (decided t w none v few) l = record { text = text; meant = t; found = found; typed = w; lowers = none; verdict = v; short = few }
+of_text s program text texts a found (refused r) l = absurd (not_three a.status (typed_is_three s.entry text a r) l)
+of_text s program text texts a found (of_typed t w (unlowered r)) l = absurd (not_three a.status (lowering_is_three t a r) l)
+of_text s program text texts a found (of_typed t w (of_lowered none (v, few))) l =
+    record { text = text; meant = t; found = found; typed = w; lowers = none; verdict = v; short = few }
 
 verdict_of : (words : List (List ℕ)) (s : Settings) (program : List ℕ) (texts : Texts) (a : Answer) → Ask words s (Verify program) → Reports words texts a → a.status < 3 →
     IsVerdictOf s program texts a
 verdict_of words s program texts a ask (usage none is) l = absurd (nothing_asked words s (Verify program) none ask)
 verdict_of words s program texts a ask (printing u p t asked found print) l = absurd (only_one words s u (Verify program) (Print p) ask asked (λ (e : 3 ≡ 2). omega arith))
-verdict_of words s program texts a ask (checked u p x t asked found check) l = absurd (only_one words s u (Verify program) (Check p x) ask asked (λ (e : 3 ≡ 0). omega arith))
+verdict_of words s program texts a ask (checking u p x t asked found check) l = absurd (only_one words s u (Verify program) (Check p x) ask asked (λ (e : 3 ≡ 0). omega arith))
 verdict_of words s program texts a ask (replaying u p x t asked found replay) l = absurd (only_one words s u (Verify program) (Replay p x) ask asked (λ (e : 3 ≡ 1). omega arith))
 verdict_of words s program texts a ask (generating u count asked big) l = absurd (only_one words s u (Verify program) (Big count) ask asked (λ (e : 3 ≡ 4). omega arith))
 verdict_of words s program texts a ask (verifying u p t asked found verify) l =
     let name : p ≡ program = ap program_of (same_task words u s (Verify p) (Verify program) asked ask) in
     let settings : u ≡ s = same_settings words u s (Verify p) (Verify program) asked ask in
     of_text s program t texts a (subst (λ (n : List ℕ). text_named n texts ≡ Some t) name found)
-    (subst (λ (v : Settings). ReportsVerify v.entry (limits_of v) t a) settings verify) l
+    (subst (λ (v : Settings). ReportsVerify v.entry v.limits t a) settings verify) l
+
+-- so it is one on the program of the text
+pub verdict_told : (words : List (List ℕ)) (texts : Texts) (s : Settings) (program : List ℕ) (a : Answer) → Ask words s (Verify program) → Reports words texts a → a.status < 3 →
+    (t : TypedProgram) × IsVerdictOn words texts t a
+verdict_told words texts s program a ask given l =
+    let d = verdict_of words s program texts a ask given l in
+    (d.meant, (s, program, d.text, ask, d.found, d.typed, d.verdict))
 
 -- ---- `safe`
 
@@ -77,21 +87,21 @@ safe_of t r (Safe w) a h is z = record { annotation = w; spelled = ap (λ (b : A
 safe_of t r (Unsafe f) a h is z = absurd (let e : 1 ≡ 0 = sym (ap (λ (b : Answer). b.status) is) ∙ z in omega arith)
 safe_of t r (Unknown cause w) a h is z = absurd (let e : 2 ≡ 0 = sym (ap (λ (b : Answer). b.status) is) ∙ z in omega arith)
 
-proof_of : (s : Settings) (t : TypedProgram) (a : Answer) → s.rounds ≤ 100000 → ReportsVerdict (limits_of s) t a → a.status ≡ 0 → length a.bytes ≤ second_limit →
-    ReportsProof (lowered t) (Some a.bytes) accepted_answer
-proof_of s t a few v z short =
+proof_of : (s : Settings) (t : TypedProgram) (a : Answer) → s.limits.rounds ≤ 100000 → ReportsVerdict s.limits t a → a.status ≡ 0 →
+    ReportsProof (lowered t) a.bytes accepted_answer
+proof_of s t a few v z =
     let f = safe_of t v.race v.verdict a v.of_end v.is z in
-    let within : length v.race.history ≤ s.rounds = v.closed.within in
+    let within : length v.race.history ≤ s.limits.rounds = v.closed.within in
     let small : length v.race.history < 2 ^ 64 = omega (arith, within, few) in
     let text : IsSafeText a.bytes f.annotation = record { rounds = length v.race.history; small = small; lines = f.lines; spelled = f.spelled } in
-    accepted a.bytes f.annotation refl short text f.proves refl
+    accepted f.annotation text f.proves refl
 
-check_answer : (again : List (List ℕ)) (r s : Settings) (program second : List ℕ) (before after : Texts) (a : Answer) → Ask again s (Check program second) → r.rounds ≤ 100000 →
+check_answer : (again : List (List ℕ)) (r s : Settings) (program second : List ℕ) (before after : Texts) (a : Answer) → Ask again s (Check program second) → r.limits.rounds ≤ 100000 →
     IsVerdictOf r program before a → a.status ≡ 0 → IsHandedOver program second r s before after a → Reports again after accepted_answer
 check_answer again r s program second before after a ask few d z h =
-    checked s program second d.text ask (h.same ∙ d.found)
-    (of_lowered d.meant (subst (λ (e : List ℕ). IsTypedText e d.text d.meant) (sym h.entry) d.typed) d.lowers
-    (subst (λ o. ReportsProof (lowered d.meant) o accepted_answer) (sym h.given) (proof_of r d.meant a few d.verdict z d.short)))
+    checking s program second d.text ask (h.same ∙ d.found)
+    (of_typed d.meant (subst (λ (e : List ℕ). IsTypedText e d.text d.meant) (sym h.entry) d.typed)
+    (of_lowered d.lowers (of_second a.bytes h.given d.short (proof_of r d.meant a few d.verdict z))))
 
 -- words that ask for a check have no two verdicts, and an answer of status 0 is no typing refusal
 one_of_check : (words : List (List ℕ)) (s : Settings) (program second : List ℕ) (texts : Texts) (a b : Answer) → Ask words s (Check program second) → a.status ≡ 0 →
@@ -113,7 +123,7 @@ check_accepts words again r s program second before after a b ask asked given z 
 -- ---- `unsafe`
 
 -- the bytes are the text of a failure that replays
-record IsUnsafeOf (t : TypedProgram) (a : Answer) : Type 0 where
+pub record IsUnsafeOf (t : TypedProgram) (a : Answer) : Type 0 where
   pub failure : PlainFailure
   pub id : AssertId
   pub read : IsFailureText a.bytes failure
@@ -127,7 +137,7 @@ failing t r f a h is = record {
   replays = subst (λ (zs : List ℤ). IsReplayed t f.trail.steps zs f.id) (sym h.failure.values_are) h.failure.replays;
 }
 
-unsafe_of : (t : TypedProgram) (r : Race Certificate) (v : Verdict) (a : Answer) → IsVerdict t r v → a ≡ verdict_answer r v → a.status ≡ 1 → IsUnsafeOf t a
+pub unsafe_of : (t : TypedProgram) (r : Race Certificate) (v : Verdict) (a : Answer) → IsVerdict t r v → a ≡ verdict_answer r v → a.status ≡ 1 → IsUnsafeOf t a
 unsafe_of t r (Safe w) a h is z = absurd (let e : 0 ≡ 1 = sym (ap (λ (b : Answer). b.status) is) ∙ z in omega arith)
 unsafe_of t r (Unsafe f) a h is z = failing t r f a h is
 unsafe_of t r (Unknown cause w) a h is z = absurd (let e : 2 ≡ 1 = sym (ap (λ (b : Answer). b.status) is) ∙ z in omega arith)
@@ -137,7 +147,7 @@ replay_answer : (again : List (List ℕ)) (r s : Settings) (program second : Lis
 replay_answer again r s program second before after a ask d u h =
     replaying s program second d.text ask (h.same ∙ d.found)
     (of_typed d.meant (subst (λ (e : List ℕ). IsTypedText e d.text d.meant) (sym h.entry) d.typed)
-    (subst (λ o. ReportsFailure d.meant o (replayed_answer u.id)) (sym h.given) (replayed a.bytes u.failure u.id refl d.short u.read u.replays refl)))
+    (of_second a.bytes h.given d.short (replayed u.failure u.id u.read u.replays refl)))
 
 one_of_replay : (words : List (List ℕ)) (s : Settings) (program second : List ℕ) (texts : Texts) (a b : Answer) → Ask words s (Replay program second) → a.status ≡ 0 →
     AreOne words texts a b → b ≡ a

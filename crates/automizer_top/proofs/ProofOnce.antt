@@ -1,5 +1,5 @@
 -- What is answered to an annotation: its cases exclude each other.
-use Rattle.std.proofs.Common.{◌≡◌, ℕ, zero, suc, ◌+◌, ◌^◌, ◌<◌, ◌≤◌, List, [], ◌∷◌, length, Option, Some, inl, inr, ap, refl, sym, ◌∙◌, subst, arith}
+use Rattle.std.proofs.Common.{◌≡◌, ℕ, zero, suc, ◌+◌, ◌^◌, ◌<◌, ◌≤◌, List, [], ◌∷◌, length, inl, inr, ap, refl, sym, ◌∙◌, subst, arith}
 use Rattle.outer_io.specs.Lines.{lines_of}
 use Rattle.letter_acts.specs.Invariant.{Graph}
 use Rattle.proof_form.specs.Annotations.{Content, safe_text}
@@ -13,7 +13,8 @@ use Rattle.proof_check.specs.declared.rejects.RejectCause.TheVariants.{BadTriple
 use Rattle.proof_check.specs.Proves.{Proves}
 use Rattle.proof_check.specs.Checks.{turn, IsFirst}
 use Rattle.proof_check.proofs.UniqueLaws.{proved_no_first}
-use Rattle.automizer_top.specs.Report.{Answer, second_limit, syntax_answer, rejected_answer, IsSafeText, ReportsProof, proof_too_long, no_annotation, accepted, rejected}
+use Rattle.automizer_top.specs.ReportTexts.{Answer, syntax_answer, rejected_answer}
+use Rattle.automizer_top.specs.Report.{second_limit, IsSafeText, ReportsProof, no_annotation, accepted, rejected}
 
 -- ---- the first wrong line
 
@@ -86,54 +87,35 @@ first_once g w i j c d h k =
 
 -- ---- one answer
 
-same_second : (a b : List ℕ) (o : Option (List ℕ)) → o ≡ Some a → o ≡ Some b → a ≡ b
-same_second a b o h k = unwrapped a b (sym h ∙ k)
-  where
-    unwrapped : (a b : List ℕ) → Some a ≡ Some b → a ≡ b
-    unwrapped a b e = cc
-
-too_long_or_not : (x y : List ℕ) (o : Option (List ℕ)) → o ≡ Some x → o ≡ Some y → second_limit < length x → length y ≤ second_limit → ⊥
-too_long_or_not x y o e d past l = let lengths : length x ≡ length y = ap (λ (bytes : List ℕ). length bytes) (same_second x y o e d) in omega arith
-
 fits_in_memory : (x : List ℕ) (v : Content) (s : IsSafeText x v) → length x ≤ second_limit → length (safe_text s.rounds v) < 2 ^ 64
 fits_in_memory x v s l = let same : length x ≡ length (safe_text s.rounds v) = ap (λ (bytes : List ℕ). length bytes) s.spelled in omega arith
 
 -- a text is the `safe` text of one annotation at most
-one_content : (x y : List ℕ) (o : Option (List ℕ)) (v w : Content) → o ≡ Some x → o ≡ Some y → length x ≤ second_limit → IsSafeText x v → IsSafeText y w → v ≡ w
-one_content x y o v w e d l s r =
-    (one_annotation s.rounds r.rounds v w s.small r.small s.lines r.lines (fits_in_memory x v s l) (sym s.spelled ∙ same_second x y o e d ∙ r.spelled)).1
+one_content : (x : List ℕ) (v w : Content) → length x ≤ second_limit → IsSafeText x v → IsSafeText x w → v ≡ w
+one_content x v w l s r =
+    (one_annotation s.rounds r.rounds v w s.small r.small s.lines r.lines (fits_in_memory x v s l) (sym s.spelled ∙ r.spelled)).1
 
 -- and has no wrong line
-wrong_or_not : (x y : List ℕ) (o : Option (List ℕ)) (line : ℕ) (v : Content) → o ≡ Some x → o ≡ Some y → length x ≤ second_limit → IsSafeText x v → FirstWrongOfText (lines_of y) line → ⊥
-wrong_or_not x y o line v e d l s wrong =
+wrong_or_not : (x : List ℕ) (line : ℕ) (v : Content) → length x ≤ second_limit → IsSafeText x v → FirstWrongOfText (lines_of x) line → ⊥
+wrong_or_not x line v l s wrong =
     let text : List ℕ = safe_text s.rounds v in
-    let same : y ≡ text = same_second y x o d e ∙ s.spelled in
     spelled_not_wrong text (body_text v) s.rounds line v s.small (spelled_header s.rounds v s.small)
     (spelled_completes v s.lines (body_fits text s.rounds v (length text) refl refl (fits_in_memory x v s l)))
-    (subst (λ (bytes : List ℕ). FirstWrongOfText (lines_of bytes) line) same wrong)
+    (subst (λ (bytes : List ℕ). FirstWrongOfText (lines_of bytes) line) s.spelled wrong)
 
-proved_or_not : (g : Graph) (x y : List ℕ) (o : Option (List ℕ)) (v w : Content) (item : ℕ) (cause : RejectCause) → o ≡ Some x → o ≡ Some y → length x ≤ second_limit →
-    IsSafeText x v → IsSafeText y w → Proves g v → IsFirst g w item cause → ⊥
-proved_or_not g x y o v w item cause e d l s r p f = proved_no_first g w item cause (subst (λ (c : Content). Proves g c) (one_content x y o v w e d l s r) p) f
+proved_or_not : (g : Graph) (x : List ℕ) (v w : Content) (item : ℕ) (cause : RejectCause) → length x ≤ second_limit → IsSafeText x v → IsSafeText x w → Proves g v →
+    IsFirst g w item cause → ⊥
+proved_or_not g x v w item cause l s r p f = proved_no_first g w item cause (subst (λ (c : Content). Proves g c) (one_content x v w l s r) p) f
 
-pub proof_once : (g : Graph) (second : Option (List ℕ)) (a b : Answer) → ReportsProof g second a → ReportsProof g second b → a ≡ b
-proof_once g second a b (proof_too_long x e past is) (proof_too_long y d past' is') = is ∙ sym is'
-proof_once g second a b (proof_too_long x e past is) (no_annotation y line d l wrong is') = absurd (too_long_or_not x y second e d past l)
-proof_once g second a b (proof_too_long x e past is) (accepted y w d l s p is') = absurd (too_long_or_not x y second e d past l)
-proof_once g second a b (proof_too_long x e past is) (rejected y w item cause d l s f is') = absurd (too_long_or_not x y second e d past l)
-proof_once g second a b (no_annotation x line e l wrong is) (proof_too_long y d past is') = absurd (too_long_or_not y x second d e past l)
-proof_once g second a b (no_annotation x line e l wrong is) (no_annotation y other d l' wrong' is') =
-    let mine : FirstWrongOfText (lines_of x) other = subst (λ (bytes : List ℕ). FirstWrongOfText (lines_of bytes) other) (same_second y x second d e) wrong' in
-    is ∙ ap syntax_answer (one_first_wrong (lines_of x) line other wrong mine) ∙ sym is'
-proof_once g second a b (no_annotation x line e l wrong is) (accepted y w d l' s p is') = absurd (wrong_or_not y x second line w d e l' s wrong)
-proof_once g second a b (no_annotation x line e l wrong is) (rejected y w item cause d l' s f is') = absurd (wrong_or_not y x second line w d e l' s wrong)
-proof_once g second a b (accepted x v e l s p is) (proof_too_long y d past is') = absurd (too_long_or_not y x second d e past l)
-proof_once g second a b (accepted x v e l s p is) (no_annotation y line d l' wrong is') = absurd (wrong_or_not x y second line v e d l s wrong)
-proof_once g second a b (accepted x v e l s p is) (accepted y w d l' r q is') = is ∙ sym is'
-proof_once g second a b (accepted x v e l s p is) (rejected y w item cause d l' r f is') = absurd (proved_or_not g x y second v w item cause e d l s r p f)
-proof_once g second a b (rejected x v item cause e l s f is) (proof_too_long y d past is') = absurd (too_long_or_not y x second d e past l)
-proof_once g second a b (rejected x v item cause e l s f is) (no_annotation y line d l' wrong is') = absurd (wrong_or_not x y second line v e d l s wrong)
-proof_once g second a b (rejected x v item cause e l s f is) (accepted y w d l' r p is') = absurd (proved_or_not g y x second w v item cause d e l' r s p f)
-proof_once g second a b (rejected x v item cause e l s f is) (rejected y w other reason d l' r k is') =
-    let mine : IsFirst g v other reason = subst (λ (c : Content). IsFirst g c other reason) (sym (one_content x y second v w e d l s r)) k in
+pub proof_once : (g : Graph) (x : List ℕ) (a b : Answer) → length x ≤ second_limit → ReportsProof g x a → ReportsProof g x b → a ≡ b
+proof_once g x a b l (no_annotation line wrong is) (no_annotation other wrong' is') = is ∙ ap syntax_answer (one_first_wrong (lines_of x) line other wrong wrong') ∙ sym is'
+proof_once g x a b l (no_annotation line wrong is) (accepted w s p is') = absurd (wrong_or_not x line w l s wrong)
+proof_once g x a b l (no_annotation line wrong is) (rejected w item cause s f is') = absurd (wrong_or_not x line w l s wrong)
+proof_once g x a b l (accepted v s p is) (no_annotation line wrong is') = absurd (wrong_or_not x line v l s wrong)
+proof_once g x a b l (accepted v s p is) (accepted w r q is') = is ∙ sym is'
+proof_once g x a b l (accepted v s p is) (rejected w item cause r f is') = absurd (proved_or_not g x v w item cause l s r p f)
+proof_once g x a b l (rejected v item cause s f is) (no_annotation line wrong is') = absurd (wrong_or_not x line v l s wrong)
+proof_once g x a b l (rejected v item cause s f is) (accepted w r p is') = absurd (proved_or_not g x w v item cause l r s p f)
+proof_once g x a b l (rejected v item cause s f is) (rejected w other reason r k is') =
+    let mine : IsFirst g v other reason = subst (λ (c : Content). IsFirst g c other reason) (sym (one_content x v w l s r)) k in
     is ∙ first_once g v item other cause reason f mine ∙ sym is'

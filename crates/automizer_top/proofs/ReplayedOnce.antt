@@ -1,5 +1,5 @@
 -- What is answered to a failure: its cases exclude each other.
-use Rattle.std.proofs.Common.{◌≡◌, ℕ, ◌<◌, ◌≤◌, ℤ, List, [], ◌∷◌, ◌++◌, length, Option, Some, refl, sym, ap, ◌∙◌, subst, arith}
+use Rattle.std.proofs.Common.{◌≡◌, ℕ, ℤ, List, [], ◌∷◌, ◌++◌, length, Option, refl, sym, ap, ◌∙◌, subst, arith}
 use Rattle.std.specs.Prelude.{codes}
 use Rattle.std.specs.Fmt.{decimal}
 use Rattle.std.specs.Option.{option_to_list}
@@ -18,7 +18,8 @@ use Rattle.trace_replay.proofs.FailureLaws.{failure_text_injective, no_failure_t
 use Rattle.trace_replay.proofs.ReplayRuns.{GoesBy, made_by}
 use Rattle.trace_replay.proofs.ReplayTurns.{Replayed, IsTurn, fails_turn, one_end}
 use Rattle.trace_replay.proofs.ReplayLaws.{choices_among-append, choices_among-one, front_fits, back_fits, one_assertion_replays, replays_and_stops, one_cause}
-use Rattle.automizer_top.specs.Report.{Answer, answer, syntax_answer, replayed_answer, stopped_answer, second_limit, IsFailureText, ReportsFailure, failure_too_long, no_failure, replayed, stopped}
+use Rattle.automizer_top.specs.ReportTexts.{Answer, answer, syntax_answer, replayed_answer, stopped_answer}
+use Rattle.automizer_top.specs.Report.{IsFailureText, ReportsFailure, no_failure, replayed, stopped}
 
 -- ---- where a failure fails
 
@@ -67,48 +68,28 @@ one_replay t n choices a b p q =
 
 -- ---- one answer
 
-same_second : (a b : List ℕ) (o : Option (List ℕ)) → o ≡ Some a → o ≡ Some b → a ≡ b
-same_second a b o h k = unwrapped a b (sym h ∙ k)
-  where
-    unwrapped : (a b : List ℕ) → Some a ≡ Some b → a ≡ b
-    unwrapped a b e = cc
+one_failure : (x : List ℕ) (f g : PlainFailure) → IsFailureText x f → IsFailureText x g → g ≡ f
+one_failure x f g h k = failure_text_injective g f k.bounds h.bounds (sym k.spelled ∙ h.spelled)
 
-too_long_or_not : (x y : List ℕ) (o : Option (List ℕ)) → o ≡ Some x → o ≡ Some y → second_limit < length x → length y ≤ second_limit → ⊥
-too_long_or_not x y o e d past l = let lengths : length x ≡ length y = ap (λ (bytes : List ℕ). length bytes) (same_second x y o e d) in omega arith
-
-one_failure : (x y : List ℕ) (o : Option (List ℕ)) (f g : PlainFailure) → o ≡ Some x → o ≡ Some y → IsFailureText x f → IsFailureText y g → g ≡ f
-one_failure x y o f g e d h k = failure_text_injective g f k.bounds h.bounds (sym k.spelled ∙ sym (same_second x y o e d) ∙ h.spelled)
-
-faulty_or_not : (x y : List ℕ) (o : Option (List ℕ)) (line : ℕ) (f : PlainFailure) → o ≡ Some x → o ≡ Some y → IsFirstFault x line → IsFailureText y f → ⊥
-faulty_or_not x y o line f e d fault k = no_failure_text x line fault f k.bounds (same_second x y o e d ∙ k.spelled)
+faulty_or_not : (x : List ℕ) (line : ℕ) (f : PlainFailure) → IsFirstFault x line → IsFailureText x f → ⊥
+faulty_or_not x line f fault k = no_failure_text x line fault f k.bounds k.spelled
 
 replays_or_stops : (t : TypedProgram) (f g : PlainFailure) (id : AssertId) (step : ℕ) (cause : ReplayCause) → g ≡ f → IsReplayed t f.steps f.choices id → StopsAt t g.steps g.choices step cause → ⊥
 replays_or_stops t f g id step cause same r s =
     replays_and_stops t f.steps f.choices id.number step cause r.replays (subst (λ (h : PlainFailure). StopsAt t h.steps h.choices step cause) same s)
 
-pub failure_once : (t : TypedProgram) (second : Option (List ℕ)) (a b : Answer) → ReportsFailure t second a → ReportsFailure t second b → a ≡ b
-failure_once t second a b (failure_too_long x e past is) (failure_too_long y d past' is') = is ∙ sym is'
-failure_once t second a b (failure_too_long x e past is) (no_failure y line d l fault is') = absurd (too_long_or_not x y second e d past l)
-failure_once t second a b (failure_too_long x e past is) (replayed y g id d l k r is') = absurd (too_long_or_not x y second e d past l)
-failure_once t second a b (failure_too_long x e past is) (stopped y g step cause d l k s is') = absurd (too_long_or_not x y second e d past l)
-failure_once t second a b (no_failure x line e l fault is) (failure_too_long y d past is') = absurd (too_long_or_not y x second d e past l)
-failure_once t second a b (no_failure x line e l fault is) (no_failure y line' d l' fault' is') =
-    let mine : IsFirstFault x line' = subst (λ (bytes : List ℕ). IsFirstFault bytes line') (sym (same_second x y second e d)) fault' in
-    is ∙ ap syntax_answer (one_first_fault x line line' fault mine) ∙ sym is'
-failure_once t second a b (no_failure x line e l fault is) (replayed y g id d l' k r is') = absurd (faulty_or_not x y second line g e d fault k)
-failure_once t second a b (no_failure x line e l fault is) (stopped y g step cause d l' k s is') = absurd (faulty_or_not x y second line g e d fault k)
-failure_once t second a b (replayed x f id e l h r is) (failure_too_long y d past is') = absurd (too_long_or_not y x second d e past l)
-failure_once t second a b (replayed x f id e l h r is) (no_failure y line d l' fault is') = absurd (faulty_or_not y x second line f d e fault h)
-failure_once t second a b (replayed x f id e l h r is) (replayed y g jd d l' k s is') =
-    let same : g ≡ f = one_failure x y second f g e d h k in
-    let mine : IsReplayed t f.steps f.choices jd = subst (λ (u : PlainFailure). IsReplayed t u.steps u.choices jd) same s in
+pub failure_once : (t : TypedProgram) (x : List ℕ) (a b : Answer) → ReportsFailure t x a → ReportsFailure t x b → a ≡ b
+failure_once t x a b (no_failure line fault is) (no_failure other fault' is') = is ∙ ap syntax_answer (one_first_fault x line other fault fault') ∙ sym is'
+failure_once t x a b (no_failure line fault is) (replayed g id k r is') = absurd (faulty_or_not x line g fault k)
+failure_once t x a b (no_failure line fault is) (stopped g step cause k s is') = absurd (faulty_or_not x line g fault k)
+failure_once t x a b (replayed f id h r is) (no_failure line fault is') = absurd (faulty_or_not x line f fault h)
+failure_once t x a b (replayed f id h r is) (replayed g jd k s is') =
+    let mine : IsReplayed t f.steps f.choices jd = subst (λ (u : PlainFailure). IsReplayed t u.steps u.choices jd) (one_failure x f g h k) s in
     is ∙ one_replay t f.steps f.choices id jd r mine ∙ sym is'
-failure_once t second a b (replayed x f id e l h r is) (stopped y g step cause d l' k s is') = absurd (replays_or_stops t f g id step cause (one_failure x y second f g e d h k) r s)
-failure_once t second a b (stopped x f step cause e l h s is) (failure_too_long y d past is') = absurd (too_long_or_not y x second d e past l)
-failure_once t second a b (stopped x f step cause e l h s is) (no_failure y line d l' fault is') = absurd (faulty_or_not y x second line f d e fault h)
-failure_once t second a b (stopped x f step cause e l h s is) (replayed y g id d l' k r is') = absurd (replays_or_stops t g f id step cause (one_failure y x second g f d e k h) r s)
-failure_once t second a b (stopped x f step cause e l h s is) (stopped y g step' cause' d l' k s' is') =
-    let same : g ≡ f = one_failure x y second f g e d h k in
-    let mine : StopsAt t f.steps f.choices step' cause' = subst (λ (u : PlainFailure). StopsAt t u.steps u.choices step' cause') same s' in
+failure_once t x a b (replayed f id h r is) (stopped g step cause k s is') = absurd (replays_or_stops t f g id step cause (one_failure x f g h k) r s)
+failure_once t x a b (stopped f step cause h s is) (no_failure line fault is') = absurd (faulty_or_not x line f fault h)
+failure_once t x a b (stopped f step cause h s is) (replayed g id k r is') = absurd (replays_or_stops t g f id step cause (one_failure x g f k h) r s)
+failure_once t x a b (stopped f step cause h s is) (stopped g step' cause' k s' is') =
+    let mine : StopsAt t f.steps f.choices step' cause' = subst (λ (u : PlainFailure). StopsAt t u.steps u.choices step' cause') (one_failure x f g h k) s' in
     let both = one_cause t f.steps f.choices step step' cause cause' s mine in
     is ∙ (λ i. stopped_answer (both.0 i) (both.1 i)) ∙ sym is'

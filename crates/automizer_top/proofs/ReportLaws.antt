@@ -17,19 +17,21 @@ use Rattle.typed_tree.specs.declared.fault.TypeFault.TheVariants as type_faults
 use Rattle.letter_acts.specs.Invariant.{Graph}
 use Rattle.lowered_graph.specs.Items.{ItemFault, TooWide, TooBig}
 use Rattle.lowered_graph.specs.Lowered.{lowered}
-use Rattle.race_rounds.specs.Ends as race
+use Rattle.race_rounds.specs.declared.limits.Limits.{Limits}
 use Rattle.automizer_top.specs.declared.answer.Answer as code
 use Rattle.automizer_top.specs.declared.reporting.Halt.{Halt}
 use Rattle.automizer_top.specs.declared.words.Mode.{Mode}
 use Rattle.automizer_top.specs.declared.words.Mode.TheVariants as modes
 use Rattle.automizer_top.specs.declared.words.Options.{Options}
-use Rattle.automizer_top.specs.CommandLine.{Task, Check, Replay, Print, Verify, Big, Settings, limits_of, requested}
+use Rattle.automizer_top.specs.CommandLine.{Task, Check, Replay, Print, Verify, Big, Settings, requested}
 use Rattle.automizer_top.specs.Asked.{of_texts, settings, program_name}
 use Rattle.automizer_top.specs.Refusals.{refusal}
 use Rattle.automizer_top.specs.TypeRefusals.{type_refusal}
 use Rattle.automizer_top.specs.LoweringRefusals.{lowering_refusal}
 use Rattle.automizer_top.specs.Answers.{answered, Asks, IsGraphOf, HasNoErrorWord, TextIsSafe, CheckedIsSafe, VerifiedIsSafe, BuiltIsSafe}
-use Rattle.automizer_top.specs.Report.{Answer, answer, program_limit, second_limit, accepted_answer, RefusesProgram, too_long, no_program, ReportsPrint, refused_print, printed, RefusesTyped, refused_text, ill_typed, RefusesLowering, ReportsProof, proof_too_long, no_annotation, accepted, rejected, ReportsCheck, refused_check, not_lowered, of_lowered, IsTypedText, ReportsFailure, failure_too_long, no_failure, replayed, stopped, ReportsReplay, refused_replay, of_typed, Ask, ReportsVerdict, ReportsVerify, refused_verify, unlowered, decided, Reports, usage, printing, checked, replaying, verifying, generating, ReportsBig, GeneratedIsSafe, PrintsProgram, AsksForCheck, AsksForVerdict, ProgramIsSafe, ProgramFails, WhereTold}
+use Rattle.automizer_top.specs.ReportTexts.{Answer, answer, too_long_answer, accepted_answer}
+use Rattle.automizer_top.specs.Report.{program_limit, second_limit, Ask, RefusesProgram, too_long, no_program, ReportsPrint, refused_print, printed, RefusesTyped, refused_text, ill_typed, IsTypedText, refused, of_typed, RefusesLowering, unlowered, of_lowered, ReportsSecond, second_too_long, of_second, ReportsProof, no_annotation, accepted, rejected, ReportsCheck, ReportsFailure, no_failure, replayed, stopped, ReportsReplay, ReportsVerify, Reports, usage, printing, checking, replaying, verifying, generating}
+use Rattle.automizer_top.specs.ReportClaims.{GeneratedIsSafe, PrintsProgram, AsksForCheck, AsksForVerdict, ProgramIsSafe, ProgramFails, WhereTold}
 use Rattle.automizer_top.proofs.PrintedTexts.{begins_otherwise}
 use Rattle.automizer_top.proofs.VerdictTexts.{verdict_begins}
 use Rattle.automizer_top.proofs.SafetyLaws.{graph_is_safe}
@@ -60,89 +62,84 @@ fault_answered text f (Err e) l read is no_memory = tt
 pub program_printed : (text out : List ℕ) (ds : List Declaration) → length text ≤ program_limit → IsProgram text ds → out ≡ program_text ds → ReportsPrint text (answer out 0)
 program_printed text out ds l w is = printed ds l w (ap (λ (bytes : List ℕ). answer bytes 0) is)
 
+-- ---- what is answered to a second text
+
+-- it is past its limit
+pub second_refused : (name : List ℕ) (to_text : List ℕ → Answer → Type 0) (texts : Option Texts) →
+    IfSome texts (λ shown. IsSome (text_named name shown) × IfSome (text_named name shown) (λ text. second_limit < length text)) →
+    IfSome texts (λ shown. ReportsSecond (text_named name shown) to_text too_long_answer)
+second_refused name to_text None h = tt
+second_refused name to_text (Some shown) h = by_text (text_named name shown) refl h.0 h.1
+  where
+    by_text : (found : Option (List ℕ)) → text_named name shown ≡ found → IsSome found → IfSome found (λ text. second_limit < length text) →
+        ReportsSecond (text_named name shown) to_text too_long_answer
+    by_text None e some past = cc
+    by_text (Some text) e some past = second_too_long text e past refl
+
+-- it is read, and gets this answer
+pub second_answered : (name text : List ℕ) (to_text : List ℕ → Answer → Type 0) (a : Answer) (texts : Option Texts) →
+    IfSome texts (λ shown. (text_named name shown ≡ Some text) × (length text ≤ second_limit)) → to_text text a →
+    IfSome texts (λ shown. ReportsSecond (text_named name shown) to_text a)
+second_answered name text to_text a None h r = tt
+second_answered name text to_text a (Some shown) h r = of_second text h.0 h.1 r
+
 -- ---- what is answered to a program text and to an annotation
 
 -- the program is refused, whatever the second text
 pub refused_reported : (entry : List ℕ) (program name : List ℕ) (a : Answer) (texts : Option Texts) → RefusesTyped entry program a → IfSome texts (λ shown. ReportsCheck entry program (text_named name shown) a)
-refused_reported entry program name a texts h = told (λ shown. ReportsCheck entry program (text_named name shown) a) texts (λ shown. refused_check h)
+refused_reported entry program name a texts h = told (λ shown. ReportsCheck entry program (text_named name shown) a) texts (λ shown. refused h)
 
 -- it cannot be lowered
 pub lowering_reported : (entry : List ℕ) (program name : List ℕ) (t : TypedProgram) (a : Answer) (texts : Option Texts) → IsTypedText entry program t → RefusesLowering t a →
     IfSome texts (λ shown. ReportsCheck entry program (text_named name shown) a)
-lowering_reported entry program name t a texts w h = told (λ shown. ReportsCheck entry program (text_named name shown) a) texts (λ shown. not_lowered t w h)
+lowering_reported entry program name t a texts w h = told (λ shown. ReportsCheck entry program (text_named name shown) a) texts (λ shown. of_typed t w (unlowered h))
 
-of_graph : (entry : List ℕ) (program : List ℕ) (second : Option (List ℕ)) (t : TypedProgram) (g : Graph) (a : Answer) → IsTypedText entry program t → IsGraphOf t g → ReportsProof g second a →
-    ReportsCheck entry program second a
-of_graph entry program second t g a w h r = of_lowered t w h.fits (subst (λ (x : Graph). ReportsProof x second a) h.value r)
+of_graph : (entry : List ℕ) (program : List ℕ) (second : Option (List ℕ)) (t : TypedProgram) (g : Graph) (a : Answer) → IsTypedText entry program t → IsGraphOf t g →
+    ReportsSecond second (ReportsProof g) a → ReportsCheck entry program second a
+of_graph entry program second t g a w h r = of_typed t w (of_lowered h.fits (subst (λ (x : Graph). ReportsSecond second (ReportsProof x) a) h.value r))
 
--- the second text is past its limit
-pub second_reported : (entry : List ℕ) (program name : List ℕ) (t : TypedProgram) (g : Graph) (texts : Option Texts) → IsTypedText entry program t → IsGraphOf t g →
-    IfSome texts (λ shown. IsSome (text_named name shown) × IfSome (text_named name shown) (λ text. second_limit < length text)) →
-    IfSome texts (λ shown. ReportsCheck entry program (text_named name shown) (answer (codes "refused TooLong\n") 3))
-second_reported entry program name t g None w k h = tt
-second_reported entry program name t g (Some shown) w k h = by_text (text_named name shown) refl h.0 h.1
-  where
-    by_text : (found : Option (List ℕ)) → text_named name shown ≡ found → IsSome found → IfSome found (λ text. second_limit < length text) →
-        ReportsCheck entry program (text_named name shown) (answer (codes "refused TooLong\n") 3)
-    by_text None e some past = cc
-    by_text (Some text) e some past = of_graph entry program (text_named name shown) t g (answer (codes "refused TooLong\n") 3) w k (proof_too_long text e past refl)
-
--- the second text is read, and gets this answer
-pub proof_reported : (entry : List ℕ) (program name text : List ℕ) (t : TypedProgram) (g : Graph) (a : Answer) (texts : Option Texts) → IsTypedText entry program t → IsGraphOf t g →
-    IfSome texts (λ shown. (text_named name shown ≡ Some text) × (length text ≤ second_limit)) → ReportsProof g (Some text) a →
-    IfSome texts (λ shown. ReportsCheck entry program (text_named name shown) a)
-proof_reported entry program name text t g a None w k h r = tt
-proof_reported entry program name text t g a (Some shown) w k h r =
-    of_graph entry program (text_named name shown) t g a w k (subst (λ (o : Option (List ℕ)). ReportsProof g o a) (sym h.0) r)
+-- it has a graph, and this is answered to that and to the second text
+pub graph_reported : (entry program name : List ℕ) (t : TypedProgram) (g : Graph) (r : Result code.Answer Halt) (texts : Option Texts) → IsTypedText entry program t → IsGraphOf t g →
+    IfOk r (λ a. IfSome texts (λ shown. ReportsSecond (text_named name shown) (ReportsProof g) (answered a))) →
+    IfOk r (λ a. IfSome texts (λ shown. ReportsCheck entry program (text_named name shown) (answered a)))
+graph_reported entry program name t g (Err e) texts w k r = tt
+graph_reported entry program name t g (Ok a) None w k r = tt
+graph_reported entry program name t g (Ok a) (Some shown) w k r = of_graph entry program (text_named name shown) t g (answered a) w k r
 
 -- ---- what is answered to a program text and to a failure
 
 -- the program is refused, whatever the second text
 pub refused_replayed : (entry : List ℕ) (program name : List ℕ) (a : Answer) (texts : Option Texts) → RefusesTyped entry program a → IfSome texts (λ shown. ReportsReplay entry program (text_named name shown) a)
-refused_replayed entry program name a texts h = told (λ shown. ReportsReplay entry program (text_named name shown) a) texts (λ shown. refused_replay h)
+refused_replayed entry program name a texts h = told (λ shown. ReportsReplay entry program (text_named name shown) a) texts (λ shown. refused h)
 
--- the failure is past its limit
-pub failure_refused : (entry : List ℕ) (program name : List ℕ) (t : TypedProgram) (texts : Option Texts) → IsTypedText entry program t →
-    IfSome texts (λ shown. IsSome (text_named name shown) × IfSome (text_named name shown) (λ text. second_limit < length text)) →
-    IfSome texts (λ shown. ReportsReplay entry program (text_named name shown) (answer (codes "refused TooLong\n") 3))
-failure_refused entry program name t None w h = tt
-failure_refused entry program name t (Some shown) w h = by_text (text_named name shown) refl h.0 h.1
-  where
-    by_text : (found : Option (List ℕ)) → text_named name shown ≡ found → IsSome found → IfSome found (λ text. second_limit < length text) →
-        ReportsReplay entry program (text_named name shown) (answer (codes "refused TooLong\n") 3)
-    by_text None d some past = cc
-    by_text (Some text) d some past = of_typed t w (failure_too_long text d past refl)
-
--- the second text has this outcome
-pub outcome_reported : (entry : List ℕ) (program name text : List ℕ) (t : TypedProgram) (a : Answer) (texts : Option Texts) → IsTypedText entry program t →
-    IfSome texts (λ shown. (text_named name shown ≡ Some text) × (length text ≤ second_limit)) → ReportsFailure t (Some text) a →
-    IfSome texts (λ shown. ReportsReplay entry program (text_named name shown) a)
-outcome_reported entry program name text t a None w h r = tt
-outcome_reported entry program name text t a (Some shown) w h r =
-    of_typed t w (subst (λ (o : Option (List ℕ)). ReportsFailure t o a) (sym h.0) r)
+-- it is typed, and this is answered to that and to the second text
+pub typed_replayed : (entry program name : List ℕ) (t : TypedProgram) (a : Answer) (texts : Option Texts) → IsTypedText entry program t →
+    IfSome texts (λ shown. ReportsSecond (text_named name shown) (ReportsFailure t) a) → IfSome texts (λ shown. ReportsReplay entry program (text_named name shown) a)
+typed_replayed entry program name t a None w r = tt
+typed_replayed entry program name t a (Some shown) w r = of_typed t w r
 
 -- ---- what is answered to words
 
 -- a program text that is past its limit is refused, whatever the words ask for
 too_long_asked : (words : List (List ℕ)) (mode : Mode) (o : Options) (text : List ℕ) (shown : List (List ℕ × List ℕ)) → Asks words mode o →
-    text_named (program_name mode) shown ≡ Some text → program_limit < length text → Reports words shown (answer (codes "refused TooLong\n") 3)
+    text_named (program_name mode) shown ≡ Some text → program_limit < length text → Reports words shown too_long_answer
 too_long_asked words (modes.Check program second) o text shown ask e past =
-    checked (settings o) program.now second.now text ask e (refused_check (refused_text (too_long past refl)))
+    checking (settings o) program.now second.now text ask e (refused (refused_text (too_long past refl)))
 too_long_asked words (modes.Replay program second) o text shown ask e past =
-    replaying (settings o) program.now second.now text ask e (refused_replay (refused_text (too_long past refl)))
+    replaying (settings o) program.now second.now text ask e (refused (refused_text (too_long past refl)))
 too_long_asked words (modes.Print program) o text shown ask e past = printing (settings o) program.now text ask e (refused_print (too_long past refl))
 too_long_asked words (modes.Verify program) o text shown ask e past =
-    verifying (settings o) program.now text ask e (refused_verify (refused_text (too_long past refl)))
+    verifying (settings o) program.now text ask e (refused (refused_text (too_long past refl)))
 
 -- the program text is past its limit
 pub program_reported : (words : List (List ℕ)) (mode : Mode) (o : Options) (name : List ℕ) (texts : Option (List (List ℕ × List ℕ))) → Asks words mode o → name ≡ program_name mode →
     IfSome texts (λ shown. IsSome (text_named name shown) × IfSome (text_named name shown) (λ text. program_limit < length text)) →
-    IfSome texts (λ shown. Reports words shown (answer (codes "refused TooLong\n") 3))
+    IfSome texts (λ shown. Reports words shown too_long_answer)
 program_reported words mode o name None ask same h = tt
 program_reported words mode o name (Some shown) ask same h = by_text (text_named name shown) refl h.0 h.1
   where
     by_text : (found : Option (List ℕ)) → text_named name shown ≡ found → IsSome found → IfSome found (λ text. program_limit < length text) →
-        Reports words shown (answer (codes "refused TooLong\n") 3)
+        Reports words shown too_long_answer
     by_text None e some past = cc
     by_text (Some text) e some past =
         too_long_asked words mode o text shown ask (ap (λ (n : List ℕ). text_named n shown) (sym same) ∙ e) past
@@ -163,7 +160,7 @@ check_reported : (words : List (List ℕ)) (mode : Mode) (o : Options) (program 
     IfSome texts (λ shown. ReportsCheck o.entry.now text (text_named second.now shown) a) → IfSome texts (λ shown. Reports words shown a)
 check_reported words mode o program second name text a None ask is same h r = tt
 check_reported words mode o program second name text a (Some shown) ask is same h r =
-    checked (settings o) program.now second.now text (asks_for words mode (modes.Check program second) o ask is)
+    checking (settings o) program.now second.now text (asks_for words mode (modes.Check program second) o ask is)
     (text_of mode (modes.Check program second) name text shown is same h.0) r
 
 -- and this is what the code answered
@@ -206,7 +203,7 @@ print_reported words mode o program name text a (Some shown) ask is same h r =
 pub verify_reported : (words : List (List ℕ)) (mode : Mode) (o : Options) (program : Bor (List ℕ)) (name text : List ℕ) (a : Answer) (texts : Option (List (List ℕ × List ℕ))) →
     Asks words mode o → mode ≡ modes.Verify program → name ≡ program_name mode →
     IfSome texts (λ shown. (text_named name shown ≡ Some text) × (length text ≤ program_limit)) →
-    ReportsVerify o.entry.now (limits_of (settings o)) text a → IfSome texts (λ shown. Reports words shown a)
+    ReportsVerify o.entry.now o.limits text a → IfSome texts (λ shown. Reports words shown a)
 verify_reported words mode o program name text a None ask is same h r = tt
 verify_reported words mode o program name text a (Some shown) ask is same h r =
     verifying (settings o) program.now text (asks_for words mode (modes.Verify program) o ask is) (text_of mode (modes.Verify program) name text shown is same h.0) r
@@ -245,34 +242,38 @@ pub record IsAccepted (entry text : List ℕ) (a : Answer) : Type 0 where
   pub typed : IsTypedText entry text meant
   pub is : a ≡ accepted_answer
 
-proof_zero : (g : Graph) (second : Option (List ℕ)) (a : Answer) → ReportsProof g second a → a.status ≡ 0 → a ≡ accepted_answer
-proof_zero g second a (proof_too_long x e past is) z = absurd (three_is_not_zero a.status (ap (λ (b : Answer). b.status) is) z)
-proof_zero g second a (no_annotation x line e l wrong is) z = absurd (let d : 1 ≡ 0 = sym (ap (λ (b : Answer). b.status) is) ∙ z in omega arith)
-proof_zero g second a (accepted x w e l s p is) z = is
-proof_zero g second a (rejected x w item cause e l s first is) z = absurd (let d : 1 ≡ 0 = sym (ap (λ (b : Answer). b.status) is) ∙ z in omega arith)
+proof_zero : (g : Graph) (text : List ℕ) (a : Answer) → ReportsProof g text a → a.status ≡ 0 → a ≡ accepted_answer
+proof_zero g text a (no_annotation line wrong is) z = absurd (let d : 1 ≡ 0 = sym (ap (λ (b : Answer). b.status) is) ∙ z in omega arith)
+proof_zero g text a (accepted w s p is) z = is
+proof_zero g text a (rejected w item cause s first is) z = absurd (let d : 1 ≡ 0 = sym (ap (λ (b : Answer). b.status) is) ∙ z in omega arith)
+
+too_long_is_not_zero : (a : Answer) → a ≡ too_long_answer → a.status ≡ 0 → ⊥
+too_long_is_not_zero a is z = three_is_not_zero a.status (ap (λ (b : Answer). b.status) is) z
 
 check_zero : (entry : List ℕ) (text : List ℕ) (second : Option (List ℕ)) (a : Answer) → ReportsCheck entry text second a → a.status ≡ 0 → IsAccepted entry text a
-check_zero entry text second a (refused_check r) z = absurd (typed_is_not_zero entry text a r z)
-check_zero entry text second a (not_lowered t w r) z = absurd (lowering_is_not_zero t a r z)
-check_zero entry text second a (of_lowered t w none r) z = record { meant = t; typed = w; is = proof_zero (lowered t) second a r z }
+check_zero entry text second a (refused r) z = absurd (typed_is_not_zero entry text a r z)
+check_zero entry text second a (of_typed t w (unlowered r)) z = absurd (lowering_is_not_zero t a r z)
+check_zero entry text second a (of_typed t w (of_lowered none (second_too_long x e past is))) z = absurd (too_long_is_not_zero a is z)
+check_zero entry text second a (of_typed t w (of_lowered none (of_second x e l r))) z = record { meant = t; typed = w; is = proof_zero (lowered t) x a r z }
 
 printed_by : (words : List (List ℕ)) (texts : List (List ℕ × List ℕ)) (s : Settings) (program text : List ℕ) (a : Answer) → Ask words s (Print program) →
     text_named program texts ≡ Some text → ReportsPrint text a → a.status ≡ 0 → PrintsProgram words texts
 printed_by words texts s program text a asked found (refused_print r) zero_status = absurd (refused_is_not_zero text a r zero_status)
 printed_by words texts s program text a asked found (printed ds l w is) zero_status = (s, program, text, ds, asked, found, w)
 
-fails_by : (words : List (List ℕ)) (texts : List (List ℕ × List ℕ)) (s : Settings) (program second text : List ℕ) (t : TypedProgram) (a : Answer) → Ask words s (Replay program second) →
-    text_named program texts ≡ Some text → IsTypedText s.entry text t → ReportsFailure t (text_named second texts) a → a.status ≡ 0 → ProgramFails words texts
-fails_by words texts s program second text t a asked found typed (failure_too_long x e past is) zero_status = absurd (let e : 3 ≡ 0 = sym (ap (λ (b : Answer). b.status) is) ∙ zero_status in omega arith)
-fails_by words texts s program second text t a asked found typed (no_failure x line e l fault is) zero_status = absurd (let e : 1 ≡ 0 = sym (ap (λ (b : Answer). b.status) is) ∙ zero_status in omega arith)
-fails_by words texts s program second text t a asked found typed (replayed x f id e l h r is) zero_status =
+fails_by : (words : List (List ℕ)) (texts : List (List ℕ × List ℕ)) (s : Settings) (program second text x : List ℕ) (t : TypedProgram) (a : Answer) → Ask words s (Replay program second) →
+    text_named program texts ≡ Some text → IsTypedText s.entry text t → text_named second texts ≡ Some x → ReportsFailure t x a → a.status ≡ 0 → ProgramFails words texts
+fails_by words texts s program second text x t a asked found typed e (no_failure line fault is) zero_status = absurd (let e : 1 ≡ 0 = sym (ap (λ (b : Answer). b.status) is) ∙ zero_status in omega arith)
+fails_by words texts s program second text x t a asked found typed e (replayed f id h r is) zero_status =
     (program, second, text, x, t, f, id, record { settings = s; asked = asked; found = found; typed = typed; told = e; read = h; replays = r })
-fails_by words texts s program second text t a asked found typed (stopped x f step cause e l h k is) zero_status = absurd (let e : 1 ≡ 0 = sym (ap (λ (b : Answer). b.status) is) ∙ zero_status in omega arith)
+fails_by words texts s program second text x t a asked found typed e (stopped f step cause h k is) zero_status = absurd (let e : 1 ≡ 0 = sym (ap (λ (b : Answer). b.status) is) ∙ zero_status in omega arith)
 
 replayed_by : (words : List (List ℕ)) (texts : List (List ℕ × List ℕ)) (s : Settings) (program second text : List ℕ) (a : Answer) → Ask words s (Replay program second) →
     text_named program texts ≡ Some text → ReportsReplay s.entry text (text_named second texts) a → a.status ≡ 0 → ProgramFails words texts
-replayed_by words texts s program second text a asked found (refused_replay r) zero_status = absurd (typed_is_not_zero s.entry text a r zero_status)
-replayed_by words texts s program second text a asked found (of_typed t h of) zero_status = fails_by words texts s program second text t a asked found h of zero_status
+replayed_by words texts s program second text a asked found (refused r) zero_status = absurd (typed_is_not_zero s.entry text a r zero_status)
+replayed_by words texts s program second text a asked found (of_typed t h (second_too_long x e past is)) zero_status = absurd (too_long_is_not_zero a is zero_status)
+replayed_by words texts s program second text a asked found (of_typed t h (of_second x e l r)) zero_status =
+    fails_by words texts s program second text x t a asked found h e r zero_status
 
 -- what is accepted is safe, where that is so of the program whose check is asked for
 accepted_is_safe : (words : List (List ℕ)) (texts : Texts) (s : Settings) (program second text : List ℕ) (a : Answer) → Ask words s (Check program second) → text_named program texts ≡ Some text →
@@ -283,10 +284,10 @@ accepted_is_safe words texts s program second text a asked found h safe =
 
 -- a verdict of status 0 is asked for a program that is safe, where that is so of the program whose verdict is asked for
 verified_is_safe : (words : List (List ℕ)) (texts : Texts) (s : Settings) (program text : List ℕ) (a : Answer) → Ask words s (Verify program) → text_named program texts ≡ Some text →
-    ReportsVerify s.entry (limits_of s) text a → a.status ≡ 0 → VerifiedIsSafe words texts → ProgramIsSafe words texts
-verified_is_safe words texts s program text a asked found (refused_verify r) z safe = absurd (typed_is_not_zero s.entry text a r z)
-verified_is_safe words texts s program text a asked found (unlowered t w r) z safe = absurd (lowering_is_not_zero t a r z)
-verified_is_safe words texts s program text a asked found (decided t w none v few) z safe =
+    ReportsVerify s.entry s.limits text a → a.status ≡ 0 → VerifiedIsSafe words texts → ProgramIsSafe words texts
+verified_is_safe words texts s program text a asked found (refused r) z safe = absurd (typed_is_not_zero s.entry text a r z)
+verified_is_safe words texts s program text a asked found (of_typed t w (unlowered r)) z safe = absurd (lowering_is_not_zero t a r z)
+verified_is_safe words texts s program text a asked found (of_typed t w (of_lowered none v)) z safe =
     let asks : AsksForVerdict words texts t = record { settings = s; program = program; asked = asked; text = text; found = found; typed = w } in
     (t, inr asks, safe t asks)
 
@@ -296,7 +297,7 @@ reports_safe : (words : List (List ℕ)) (texts : Texts) (a : Answer) → Report
     PrintsProgram words texts ⊎ (ProgramIsSafe words texts ⊎ (ProgramFails words texts ⊎ GeneratedIsSafe words))
 reports_safe words texts a (usage none is) safe verified built z = absurd (let e : 4 ≡ 0 = sym (ap (λ (b : Answer). b.status) is) ∙ z in omega arith)
 reports_safe words texts a (printing s program text asked found print) safe verified built z = inl (printed_by words texts s program text a asked found print z)
-reports_safe words texts a (checked s program second text asked found check) safe verified built z =
+reports_safe words texts a (checking s program second text asked found check) safe verified built z =
     inr (inl (accepted_is_safe words texts s program second text a asked found (check_zero s.entry text (text_named second texts) a check z) safe))
 reports_safe words texts a (replaying s program second text asked found replay) safe verified built z =
     inr (inr (inl (replayed_by words texts s program second text a asked found replay z)))
@@ -346,45 +347,48 @@ lowering_begins t a h begin = by_fault h.fault (sym (ap second_of h.is) ∙ begi
     by_fault (TooWide at) b = omega arith
     by_fault (TooBig at) b = omega arith
 
-proof_begins : (g : Graph) (second : Option (List ℕ)) (a : Answer) → ReportsProof g second a → second_of a ≡ 99 → a ≡ accepted_answer
-proof_begins g second a (proof_too_long x e past is) begin = absurd (let same : 101 ≡ 99 = sym (ap second_of is) ∙ begin in omega arith)
-proof_begins g second a (no_annotation x line e l wrong is) begin = absurd (let same : 101 ≡ 99 = sym (ap second_of is) ∙ begin in omega arith)
-proof_begins g second a (accepted x w e l s p is) begin = is
-proof_begins g second a (rejected x w item cause e l s first is) begin = absurd (let same : 101 ≡ 99 = sym (ap second_of is) ∙ begin in omega arith)
+too_long_begins : (a : Answer) → a ≡ too_long_answer → second_of a ≡ 99 → ⊥
+too_long_begins a is begin = e_is_not_c (second_of a) (ap second_of is) begin
+
+proof_begins : (g : Graph) (text : List ℕ) (a : Answer) → ReportsProof g text a → second_of a ≡ 99 → a ≡ accepted_answer
+proof_begins g text a (no_annotation line wrong is) begin = absurd (let same : 101 ≡ 99 = sym (ap second_of is) ∙ begin in omega arith)
+proof_begins g text a (accepted w s p is) begin = is
+proof_begins g text a (rejected w item cause s first is) begin = absurd (let same : 101 ≡ 99 = sym (ap second_of is) ∙ begin in omega arith)
 
 check_begins : (entry : List ℕ) (text : List ℕ) (second : Option (List ℕ)) (a : Answer) → ReportsCheck entry text second a → second_of a ≡ 99 → IsAccepted entry text a
-check_begins entry text second a (refused_check r) begin = absurd (typed_begins entry text a r begin)
-check_begins entry text second a (not_lowered t w r) begin = absurd (lowering_begins t a r begin)
-check_begins entry text second a (of_lowered t w none r) begin = record { meant = t; typed = w; is = proof_begins (lowered t) second a r begin }
+check_begins entry text second a (refused r) begin = absurd (typed_begins entry text a r begin)
+check_begins entry text second a (of_typed t w (unlowered r)) begin = absurd (lowering_begins t a r begin)
+check_begins entry text second a (of_typed t w (of_lowered none (second_too_long x e past is))) begin = absurd (too_long_begins a is begin)
+check_begins entry text second a (of_typed t w (of_lowered none (of_second x e l r))) begin = record { meant = t; typed = w; is = proof_begins (lowered t) x a r begin }
 
 print_begins : (text : List ℕ) (a : Answer) → ReportsPrint text a → second_of a ≡ 99 → ⊥
 print_begins text a (refused_print r) begin = refused_begins text a r begin
 print_begins text a (printed ds l w is) begin = begins_otherwise ds (sym (ap second_of is) ∙ begin)
 
-failure_begins : (t : TypedProgram) (second : Option (List ℕ)) (a : Answer) → ReportsFailure t second a → second_of a ≡ 99 → ⊥
-failure_begins t second a (failure_too_long x e past is) begin = absurd (let same : 101 ≡ 99 = sym (ap second_of is) ∙ begin in omega arith)
-failure_begins t second a (no_failure x line e l fault is) begin = absurd (let same : 101 ≡ 99 = sym (ap second_of is) ∙ begin in omega arith)
-failure_begins t second a (replayed x f id e l h r is) begin = absurd (let same : 101 ≡ 99 = sym (ap second_of is) ∙ begin in omega arith)
-failure_begins t second a (stopped x f step cause e l h s is) begin = absurd (let same : 101 ≡ 99 = sym (ap second_of is) ∙ begin in omega arith)
+failure_begins : (t : TypedProgram) (text : List ℕ) (a : Answer) → ReportsFailure t text a → second_of a ≡ 99 → ⊥
+failure_begins t text a (no_failure line fault is) begin = absurd (let same : 101 ≡ 99 = sym (ap second_of is) ∙ begin in omega arith)
+failure_begins t text a (replayed f id h r is) begin = absurd (let same : 101 ≡ 99 = sym (ap second_of is) ∙ begin in omega arith)
+failure_begins t text a (stopped f step cause h s is) begin = absurd (let same : 101 ≡ 99 = sym (ap second_of is) ∙ begin in omega arith)
 
 replay_begins : (entry : List ℕ) (text : List ℕ) (second : Option (List ℕ)) (a : Answer) → ReportsReplay entry text second a → second_of a ≡ 99 → ⊥
-replay_begins entry text second a (refused_replay r) begin = typed_begins entry text a r begin
-replay_begins entry text second a (of_typed t h of) begin = failure_begins t second a of begin
+replay_begins entry text second a (refused r) begin = typed_begins entry text a r begin
+replay_begins entry text second a (of_typed t h (second_too_long x e past is)) begin = too_long_begins a is begin
+replay_begins entry text second a (of_typed t h (of_second x e l r)) begin = failure_begins t x a r begin
 
-verify_begins : (entry : List ℕ) (o : race.Options) (text : List ℕ) (a : Answer) → ReportsVerify entry o text a → second_of a ≡ 99 → ⊥
-verify_begins entry o text a (refused_verify r) begin = typed_begins entry text a r begin
-verify_begins entry o text a (unlowered t w r) begin = lowering_begins t a r begin
-verify_begins entry o text a (decided t w none v few) begin = verdict_begins (length v.race.history) v.verdict (sym (ap second_of v.is) ∙ begin)
+verify_begins : (entry : List ℕ) (l : Limits) (text : List ℕ) (a : Answer) → ReportsVerify entry l text a → second_of a ≡ 99 → ⊥
+verify_begins entry l text a (refused r) begin = typed_begins entry text a r begin
+verify_begins entry l text a (of_typed t w (unlowered r)) begin = lowering_begins t a r begin
+verify_begins entry l text a (of_typed t w (of_lowered none (v, few))) begin = verdict_begins (length v.race.history) v.verdict (sym (ap second_of v.is) ∙ begin)
 
 -- an answer that begins as `accepted` does is safe
 reports_begin : (words : List (List ℕ)) (texts : Texts) (a : Answer) → Reports words texts a → (a ≡ accepted_answer → CheckedIsSafe words texts) → second_of a ≡ 99 → ProgramIsSafe words texts
 reports_begin words texts a (usage none is) safe begin = absurd (let e : 115 ≡ 99 = sym (ap second_of is) ∙ begin in omega arith)
 reports_begin words texts a (printing s program text asked found print) safe begin = absurd (print_begins text a print begin)
-reports_begin words texts a (checked s program second text asked found check) safe begin =
+reports_begin words texts a (checking s program second text asked found check) safe begin =
     accepted_is_safe words texts s program second text a asked found (check_begins s.entry text (text_named second texts) a check begin) safe
 reports_begin words texts a (replaying s program second text asked found replay) safe begin = absurd (replay_begins s.entry text (text_named second texts) a replay begin)
 reports_begin words texts a (generating s count asked big) safe begin = absurd (let e : 105 ≡ 99 = sym (ap second_of big.is) ∙ begin in omega arith)
-reports_begin words texts a (verifying s program text asked found verify) safe begin = absurd (verify_begins s.entry (limits_of s) text a verify begin)
+reports_begin words texts a (verifying s program text asked found verify) safe begin = absurd (verify_begins s.entry s.limits text a verify begin)
 
 seam : (b xs : List ℕ) → get_or (b ++ xs) (suc (length b)) 0 ≡ get_or xs 1 0
 seam [] xs = refl

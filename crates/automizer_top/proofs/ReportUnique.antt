@@ -1,7 +1,6 @@
 -- The report allows one answer at most: its cases exclude each other.
-use Rattle.std.proofs.Common.{◌≡◌, ℕ, ◌≤◌, List, [], ◌∷◌, length, Option, None, Some, Ok, Err, inl, inr, ◌⊎◌, ap, sym, ◌∙◌, subst, arith}
-use Rattle.std.specs.Prelude.{codes}
-use Rattle.std.proofs.lemmas.Option.{none-some}
+use Rattle.std.proofs.Common.{◌≡◌, ℕ, ◌<◌, ◌≤◌, List, [], ◌∷◌, length, Option, None, Some, Ok, Err, inl, inr, ◌⊎◌, ap, sym, ◌∙◌, subst, arith}
+use Rattle.std.proofs.lemmas.Option.{none-some, same_Some}
 use Rattle.outer_io.specs.Texts.{text_named}
 use Rattle.boogie_tree.specs.Tree.{Declaration}
 use Rattle.boogie_tree.specs.Printing.{program_text}
@@ -13,13 +12,16 @@ use Rattle.typed_tree.specs.TypedTree.{TypedProgram}
 use Rattle.typing_rules.proofs.BrokenLaws.{program_refuted}
 use Rattle.boogie_types.specs.Resolved.{resolved_program}
 use Rattle.boogie_types.proofs.Excluded.{type_faults_exclude}
+use Rattle.letter_acts.specs.Invariant.{Graph}
 use Rattle.lowered_graph.specs.Items.{ItemFault, first_fault}
 use Rattle.lowered_graph.specs.Lowered.{lowered}
 use Rattle.automizer_top.specs.Refusals.{refusal}
 use Rattle.automizer_top.specs.LoweringRefusals.{lowering_refusal}
-use Rattle.automizer_top.specs.Report.{Answer, answer, program_limit, RefusesProgram, too_long, no_program, ReportsPrint, refused_print, printed, RefusesTyped, refused_text, ill_typed, RefusesLowering, ReportsProof, ReportsCheck, refused_check, not_lowered, of_lowered, IsTypingRefusal, IsTypedText, ReportsFailure, ReportsReplay, refused_replay, of_typed, Ask, ReportsVerdict, ReportsVerify, refused_verify, unlowered, decided, Reports, usage, printing, checked, replaying, verifying, generating, ReportsBig, IsVerdictOn}
-use Rattle.race_rounds.specs.Ends.{Options}
-use Rattle.automizer_top.specs.CommandLine.{Check, Replay, Print, Verify, Big, Settings, limits_of, requested}
+use Rattle.automizer_top.specs.ReportTexts.{Answer, answer}
+use Rattle.automizer_top.specs.Report.{program_limit, second_limit, Ask, RefusesProgram, too_long, no_program, ReportsPrint, refused_print, printed, RefusesTyped, refused_text, ill_typed, IsTypedText, ReportsTyped, refused, of_typed, RefusesLowering, ReportsLowered, unlowered, of_lowered, ReportsSecond, second_too_long, of_second, ReportsProof, ReportsCheck, ReportsFailure, ReportsReplay, ReportsVerdict, ReportsVerify, ReportsBig, Reports, usage, printing, checking, replaying, verifying, generating}
+use Rattle.automizer_top.specs.ReportClaims.{IsTypingRefusal, IsVerdictOn}
+use Rattle.race_rounds.specs.declared.limits.Limits.{Limits}
+use Rattle.automizer_top.specs.CommandLine.{Check, Replay, Print, Verify, Big, Settings, requested}
 use Rattle.automizer_top.proofs.RequestLaws.{program_of, second_of, same_task, same_settings, only_one, nothing_asked}
 use Rattle.automizer_top.proofs.TypedTexts.{one_typed}
 use Rattle.automizer_top.proofs.ProofOnce.{proof_once}
@@ -70,76 +72,94 @@ typed_not_refused entry text t a h (ill_typed ds f l w broken is) =
     let typed : resolved_program ds entry ≡ Some t = ap (λ (es : List Declaration). resolved_program es entry) (one_program text ds h.tree w h.spelled) ∙ h.typed in
     none-some t (sym (type_faults_exclude ds entry f program_refuted broken.1 broken.0) ∙ typed)
 
--- ---- checks
+-- two answers to a program text, where X holds of two answers to its typed program
+typed_once : (entry text : List ℕ) (to_typed : TypedProgram → Answer → Type 0) (X : Type 0) (a b : Answer) →
+    ((t : TypedProgram) → IsTypedText entry text t → to_typed t a → to_typed t b → X) → ReportsTyped entry text to_typed a → ReportsTyped entry text to_typed b →
+    X ⊎ ((a ≡ b) ⊎ BothIllTyped a b)
+typed_once entry text to_typed X a b once (refused r) (refused s) = inr (typed_refused_once entry text a b r s)
+typed_once entry text to_typed X a b once (refused r) (of_typed t w s) = absurd (typed_not_refused entry text t a w r)
+typed_once entry text to_typed X a b once (of_typed t w r) (refused s) = absurd (typed_not_refused entry text t b w s)
+typed_once entry text to_typed X a b once (of_typed t w r) (of_typed u v s) =
+    inl (once t w r (subst (λ (x : TypedProgram). to_typed x b) (one_typed entry text t u w v) s))
 
-lowering_once : (t u : TypedProgram) (a b : Answer) → u ≡ t → RefusesLowering t a → RefusesLowering u b → a ≡ b
-lowering_once t u a b same h k =
-    let faults : Some h.fault ≡ Some k.fault = sym h.first ∙ ap first_fault (sym same) ∙ k.first in
-    h.is ∙ ap (λ (f : ItemFault). answer (lowering_refusal f) 3) (unwrapped h.fault k.fault faults) ∙ sym k.is
-  where
-    unwrapped : (f g : ItemFault) → Some f ≡ Some g → f ≡ g
-    unwrapped f g e = cc
+-- ---- programs that are lowered
+
+lowering_once : (t : TypedProgram) (a b : Answer) → RefusesLowering t a → RefusesLowering t b → a ≡ b
+lowering_once t a b h k = h.is ∙ ap (λ (f : ItemFault). answer (lowering_refusal f) 3) (same_Some h.fault k.fault (sym h.first ∙ k.first)) ∙ sym k.is
 
 -- a program that can be lowered is not refused so
-lowered_not_refused : (t u : TypedProgram) (a : Answer) → u ≡ t → first_fault t ≡ None → RefusesLowering u a → ⊥
-lowered_not_refused t u a same none h = none-some h.fault (sym none ∙ ap first_fault (sym same) ∙ h.first)
+lowered_not_refused : (t : TypedProgram) (a : Answer) → first_fault t ≡ None → RefusesLowering t a → ⊥
+lowered_not_refused t a none h = none-some h.fault (sym none ∙ h.first)
 
-check_once : (entry : List ℕ) (text : List ℕ) (second : Option (List ℕ)) (a b : Answer) → ReportsCheck entry text second a → ReportsCheck entry text second b → (a ≡ b) ⊎ BothIllTyped a b
-check_once entry text second a b (refused_check r) (refused_check s) = typed_refused_once entry text a b r s
-check_once entry text second a b (refused_check r) (not_lowered t w s) = absurd (typed_not_refused entry text t a w r)
-check_once entry text second a b (refused_check r) (of_lowered t w none s) = absurd (typed_not_refused entry text t a w r)
-check_once entry text second a b (not_lowered t w r) (refused_check s) = absurd (typed_not_refused entry text t b w s)
-check_once entry text second a b (not_lowered t w r) (not_lowered u v s) = inl (lowering_once t u a b (one_typed entry text t u w v) r s)
-check_once entry text second a b (not_lowered t w r) (of_lowered u v none s) = absurd (lowered_not_refused u t a (one_typed entry text u t v w) none r)
-check_once entry text second a b (of_lowered t w none r) (refused_check s) = absurd (typed_not_refused entry text t b w s)
-check_once entry text second a b (of_lowered t w none r) (not_lowered u v s) = absurd (lowered_not_refused t u b (one_typed entry text t u w v) none s)
-check_once entry text second a b (of_lowered t w none r) (of_lowered u v none' s) =
-    inl (proof_once (lowered t) second a b r (subst (λ (x : TypedProgram). ReportsProof (lowered x) second b) (one_typed entry text t u w v) s))
+-- two answers to a typed program, where X holds of two answers to its graph
+lowered_once : (t : TypedProgram) (to_graph : Graph → Answer → Type 0) (X : Type 0) (a b : Answer) → (to_graph (lowered t) a → to_graph (lowered t) b → X) →
+    ReportsLowered t to_graph a → ReportsLowered t to_graph b → (a ≡ b) ⊎ X
+lowered_once t to_graph X a b once (unlowered r) (unlowered s) = inl (lowering_once t a b r s)
+lowered_once t to_graph X a b once (unlowered r) (of_lowered none s) = absurd (lowered_not_refused t a none r)
+lowered_once t to_graph X a b once (of_lowered none r) (unlowered s) = absurd (lowered_not_refused t b none s)
+lowered_once t to_graph X a b once (of_lowered none r) (of_lowered none' s) = inr (once r s)
 
--- ---- replays
+-- ---- second texts
 
-replay_once : (entry : List ℕ) (text : List ℕ) (second : Option (List ℕ)) (a b : Answer) → ReportsReplay entry text second a → ReportsReplay entry text second b → (a ≡ b) ⊎ BothIllTyped a b
-replay_once entry text second a b (refused_replay r) (refused_replay s) = typed_refused_once entry text a b r s
-replay_once entry text second a b (refused_replay r) (of_typed t h of) = absurd (typed_not_refused entry text t a h r)
-replay_once entry text second a b (of_typed t h of) (refused_replay r) = absurd (typed_not_refused entry text t b h r)
-replay_once entry text second a b (of_typed t h of) (of_typed u k of') =
-    inl (failure_once t second a b of (subst (λ (v : TypedProgram). ReportsFailure v second b) (one_typed entry text t u h k) of'))
+too_long_or_not : (x y : List ℕ) (second : Option (List ℕ)) → second ≡ Some x → second ≡ Some y → second_limit < length x → length y ≤ second_limit → ⊥
+too_long_or_not x y second e d past l = let lengths : length x ≡ length y = ap (λ (bytes : List ℕ). length bytes) (same_text x y second e d) in omega arith
 
--- ---- verdicts
+second_once : (second : Option (List ℕ)) (to_text : List ℕ → Answer → Type 0) (a b : Answer) →
+    ((x : List ℕ) → length x ≤ second_limit → to_text x a → to_text x b → a ≡ b) → ReportsSecond second to_text a → ReportsSecond second to_text b → a ≡ b
+second_once second to_text a b once (second_too_long x e past is) (second_too_long y d past' is') = is ∙ sym is'
+second_once second to_text a b once (second_too_long x e past is) (of_second y d l s) = absurd (too_long_or_not x y second e d past l)
+second_once second to_text a b once (of_second x e l r) (second_too_long y d past is) = absurd (too_long_or_not y x second d e past l)
+second_once second to_text a b once (of_second x e l r) (of_second y d l' s) = once x l r (subst (λ (z : List ℕ). to_text z b) (same_text y x second d e) s)
+
+-- ---- checks, replays and verdicts
+
+one_of_two : (a b : Answer) → (a ≡ b) ⊎ (a ≡ b) → a ≡ b
+one_of_two a b (inl e) = e
+one_of_two a b (inr e) = e
+
+one_of_three : (a b : Answer) → (a ≡ b) ⊎ ((a ≡ b) ⊎ BothIllTyped a b) → (a ≡ b) ⊎ BothIllTyped a b
+one_of_three a b (inl e) = inl e
+one_of_three a b (inr h) = h
+
+check_once : (entry text : List ℕ) (second : Option (List ℕ)) (a b : Answer) → ReportsCheck entry text second a → ReportsCheck entry text second b → (a ≡ b) ⊎ BothIllTyped a b
+check_once entry text second a b r s =
+    one_of_three a b (typed_once entry text (λ t. ReportsLowered t (λ g. ReportsSecond second (ReportsProof g))) (a ≡ b) a b
+    (λ t w h k. one_of_two a b (lowered_once t (λ g. ReportsSecond second (ReportsProof g)) (a ≡ b) a b
+    (second_once second (ReportsProof (lowered t)) a b (λ x. proof_once (lowered t) x a b)) h k)) r s)
+
+replay_once : (entry text : List ℕ) (second : Option (List ℕ)) (a b : Answer) → ReportsReplay entry text second a → ReportsReplay entry text second b → (a ≡ b) ⊎ BothIllTyped a b
+replay_once entry text second a b r s =
+    one_of_three a b (typed_once entry text (λ t. ReportsSecond second (ReportsFailure t)) (a ≡ b) a b
+    (λ t w. second_once second (ReportsFailure t) a b (λ x l. failure_once t x a b)) r s)
 
 -- both are verdicts on the program of the text
-abbrev BothVerdicts : List ℕ → Options → List ℕ → Answer → Answer → Type 0
-BothVerdicts entry o text a b = (t : TypedProgram) × IsTypedText entry text t × ReportsVerdict o t a × ReportsVerdict o t b
+abbrev BothVerdicts : List ℕ → Limits → List ℕ → Answer → Answer → Type 0
+BothVerdicts entry l text a b = (t : TypedProgram) × IsTypedText entry text t × ReportsVerdict l t a × ReportsVerdict l t b
 
-verify_once : (entry : List ℕ) (o : Options) (text : List ℕ) (a b : Answer) → ReportsVerify entry o text a → ReportsVerify entry o text b →
-    (a ≡ b) ⊎ (BothIllTyped a b ⊎ BothVerdicts entry o text a b)
-verify_once entry o text a b (refused_verify r) (refused_verify s) = wider (typed_refused_once entry text a b r s)
+verify_once : (entry : List ℕ) (l : Limits) (text : List ℕ) (a b : Answer) → ReportsVerify entry l text a → ReportsVerify entry l text b →
+    (a ≡ b) ⊎ (BothIllTyped a b ⊎ BothVerdicts entry l text a b)
+verify_once entry l text a b r s =
+    ordered (typed_once entry text (λ t. ReportsLowered t (λ g c. ReportsVerdict l t c × (length c.bytes ≤ second_limit))) ((a ≡ b) ⊎ BothVerdicts entry l text a b) a b
+    (λ t w. lowered_once t (λ g c. ReportsVerdict l t c × (length c.bytes ≤ second_limit)) (BothVerdicts entry l text a b) a b (λ v u. (t, w, v.0, u.0))) r s)
   where
-    wider : (a ≡ b) ⊎ BothIllTyped a b → (a ≡ b) ⊎ (BothIllTyped a b ⊎ BothVerdicts entry o text a b)
-    wider (inl e) = inl e
-    wider (inr h) = inr (inl h)
-verify_once entry o text a b (refused_verify r) (unlowered t w s) = absurd (typed_not_refused entry text t a w r)
-verify_once entry o text a b (refused_verify r) (decided t w none v few) = absurd (typed_not_refused entry text t a w r)
-verify_once entry o text a b (unlowered t w r) (refused_verify s) = absurd (typed_not_refused entry text t b w s)
-verify_once entry o text a b (unlowered t w r) (unlowered u v s) = inl (lowering_once t u a b (one_typed entry text t u w v) r s)
-verify_once entry o text a b (unlowered t w r) (decided u v none s few) = absurd (lowered_not_refused u t a (one_typed entry text u t v w) none r)
-verify_once entry o text a b (decided t w none r few) (refused_verify s) = absurd (typed_not_refused entry text t b w s)
-verify_once entry o text a b (decided t w none r few) (unlowered u v s) = absurd (lowered_not_refused t u b (one_typed entry text t u w v) none s)
-verify_once entry o text a b (decided t w none r few) (decided u v none' s few') =
-    inr (inr (t, w, r, subst (λ (x : TypedProgram). ReportsVerdict o x b) (one_typed entry text t u w v) s))
+    ordered : ((a ≡ b) ⊎ BothVerdicts entry l text a b) ⊎ ((a ≡ b) ⊎ BothIllTyped a b) → (a ≡ b) ⊎ (BothIllTyped a b ⊎ BothVerdicts entry l text a b)
+    ordered (inl (inl e)) = inl e
+    ordered (inl (inr v)) = inr (inr v)
+    ordered (inr (inl e)) = inl e
+    ordered (inr (inr h)) = inr (inl h)
 
 -- ---- the report
 
 -- one answer; or two broken typing rules; or two verdicts on one program; or two summaries of one generated program
 abbrev pub AreOne : List (List ℕ) → List (List ℕ × List ℕ) → Answer → Answer → Type 0
-AreOne words texts a b = (a ≡ b) ⊎ (BothIllTyped a b ⊎ (((t : TypedProgram) × IsVerdictOn words texts t a × IsVerdictOn words texts t b) ⊎ ((s : Settings) × (count : ℕ) × Ask words s (Big count) × ReportsBig (limits_of s) count a × ReportsBig (limits_of s) count b)))
+AreOne words texts a b = (a ≡ b) ⊎ (BothIllTyped a b ⊎ (((t : TypedProgram) × IsVerdictOn words texts t a × IsVerdictOn words texts t b) ⊎ ((s : Settings) × (count : ℕ) × Ask words s (Big count) × ReportsBig s.limits count a × ReportsBig s.limits count b)))
 
 wider : (words : List (List ℕ)) (texts : List (List ℕ × List ℕ)) (a b : Answer) → (a ≡ b) ⊎ BothIllTyped a b → AreOne words texts a b
 wider words texts a b (inl e) = inl e
 wider words texts a b (inr h) = inr (inl h)
 
 both : (words : List (List ℕ)) (texts : List (List ℕ × List ℕ)) (s : Settings) (p text : List ℕ) (a b : Answer) → Ask words s (Verify p) → text_named p texts ≡ Some text →
-    (a ≡ b) ⊎ (BothIllTyped a b ⊎ BothVerdicts s.entry (limits_of s) text a b) → AreOne words texts a b
+    (a ≡ b) ⊎ (BothIllTyped a b ⊎ BothVerdicts s.entry s.limits text a b) → AreOne words texts a b
 both words texts s p text a b asked found (inl e) = inl e
 both words texts s p text a b asked found (inr (inl h)) = inr (inl h)
 both words texts s p text a b asked found (inr (inr h)) = inr (inr (inl (h.0, (s, p, text, asked, found, h.1, h.2), (s, p, text, asked, found, h.1, h.3))))
@@ -159,7 +179,7 @@ one_count m n e = cc
 pub report_once : (words : List (List ℕ)) (texts : List (List ℕ × List ℕ)) (a b : Answer) → Reports words texts a → Reports words texts b → AreOne words texts a b
 report_once words texts a b (usage none is) (usage none' is') = inl (is ∙ sym is')
 report_once words texts a b (usage none is) (printing s p t asked found print) = absurd (nothing_asked words s (Print p) none asked)
-report_once words texts a b (usage none is) (checked s p x t asked found check) = absurd (nothing_asked words s (Check p x) none asked)
+report_once words texts a b (usage none is) (checking s p x t asked found check) = absurd (nothing_asked words s (Check p x) none asked)
 report_once words texts a b (usage none is) (replaying s p x t asked found replay) = absurd (nothing_asked words s (Replay p x) none asked)
 report_once words texts a b (usage none is) (verifying s p t asked found verify) = absurd (nothing_asked words s (Verify p) none asked)
 report_once words texts a b (printing s p t asked found print) (usage none is) = absurd (nothing_asked words s (Print p) none asked)
@@ -167,20 +187,20 @@ report_once words texts a b (printing s p t asked found print) (printing s' q u 
     let same = same_task words s s' (Print p) (Print q) asked asked' in
     let text : u ≡ t = same_found texts p q t u (ap program_of same) found found' in
     inl (print_once t a b print (subst (λ (x : List ℕ). ReportsPrint x b) text print'))
-report_once words texts a b (printing s p t asked found print) (checked s' q x u asked' found' check) =
+report_once words texts a b (printing s p t asked found print) (checking s' q x u asked' found' check) =
     absurd (only_one words s s' (Print p) (Check q x) asked asked' (λ (e : 2 ≡ 0). omega arith))
 report_once words texts a b (printing s p t asked found print) (replaying s' q x u asked' found' replay) =
     absurd (only_one words s s' (Print p) (Replay q x) asked asked' (λ (e : 2 ≡ 1). omega arith))
 report_once words texts a b (printing s p t asked found print) (verifying s' q u asked' found' verify) =
     absurd (only_one words s s' (Print p) (Verify q) asked asked' (λ (e : 2 ≡ 3). omega arith))
-report_once words texts a b (checked s p x t asked found check) (usage none is) = absurd (nothing_asked words s (Check p x) none asked)
-report_once words texts a b (checked s p x t asked found check) (printing s' q u asked' found' print) =
+report_once words texts a b (checking s p x t asked found check) (usage none is) = absurd (nothing_asked words s (Check p x) none asked)
+report_once words texts a b (checking s p x t asked found check) (printing s' q u asked' found' print) =
     absurd (only_one words s s' (Check p x) (Print q) asked asked' (λ (e : 0 ≡ 2). omega arith))
-report_once words texts a b (checked s p x t asked found check) (replaying s' q y u asked' found' replay) =
+report_once words texts a b (checking s p x t asked found check) (replaying s' q y u asked' found' replay) =
     absurd (only_one words s s' (Check p x) (Replay q y) asked asked' (λ (e : 0 ≡ 1). omega arith))
-report_once words texts a b (checked s p x t asked found check) (verifying s' q u asked' found' verify) =
+report_once words texts a b (checking s p x t asked found check) (verifying s' q u asked' found' verify) =
     absurd (only_one words s s' (Check p x) (Verify q) asked asked' (λ (e : 0 ≡ 3). omega arith))
-report_once words texts a b (checked s p x t asked found check) (checked s' q y u asked' found' check') =
+report_once words texts a b (checking s p x t asked found check) (checking s' q y u asked' found' check') =
     let same = same_task words s s' (Check p x) (Check q y) asked asked' in
     let entries : s'.entry ≡ s.entry = same_entry s s' (same_settings words s s' (Check p x) (Check q y) asked asked') in
     let text : u ≡ t = same_found texts p q t u (ap program_of same) found found' in
@@ -191,7 +211,7 @@ report_once words texts a b (checked s p x t asked found check) (checked s' q y 
 report_once words texts a b (replaying s p x t asked found replay) (usage none is) = absurd (nothing_asked words s (Replay p x) none asked)
 report_once words texts a b (replaying s p x t asked found replay) (printing s' q u asked' found' print) =
     absurd (only_one words s s' (Replay p x) (Print q) asked asked' (λ (e : 1 ≡ 2). omega arith))
-report_once words texts a b (replaying s p x t asked found replay) (checked s' q y u asked' found' check) =
+report_once words texts a b (replaying s p x t asked found replay) (checking s' q y u asked' found' check) =
     absurd (only_one words s s' (Replay p x) (Check q y) asked asked' (λ (e : 1 ≡ 0). omega arith))
 report_once words texts a b (replaying s p x t asked found replay) (verifying s' q u asked' found' verify) =
     absurd (only_one words s s' (Replay p x) (Verify q) asked asked' (λ (e : 1 ≡ 3). omega arith))
@@ -206,7 +226,7 @@ report_once words texts a b (replaying s p x t asked found replay) (replaying s'
 report_once words texts a b (verifying s p t asked found verify) (usage none is) = absurd (nothing_asked words s (Verify p) none asked)
 report_once words texts a b (verifying s p t asked found verify) (printing s' q u asked' found' print) =
     absurd (only_one words s s' (Verify p) (Print q) asked asked' (λ (e : 3 ≡ 2). omega arith))
-report_once words texts a b (verifying s p t asked found verify) (checked s' q y u asked' found' check) =
+report_once words texts a b (verifying s p t asked found verify) (checking s' q y u asked' found' check) =
     absurd (only_one words s s' (Verify p) (Check q y) asked asked' (λ (e : 3 ≡ 0). omega arith))
 report_once words texts a b (verifying s p t asked found verify) (replaying s' q y u asked' found' replay) =
     absurd (only_one words s s' (Verify p) (Replay q y) asked asked' (λ (e : 3 ≡ 1). omega arith))
@@ -214,20 +234,20 @@ report_once words texts a b (verifying s p t asked found verify) (verifying s' q
     let same = same_task words s s' (Verify p) (Verify q) asked asked' in
     let settings : s' ≡ s = sym (same_settings words s s' (Verify p) (Verify q) asked asked') in
     let text : u ≡ t = same_found texts p q t u (ap program_of same) found found' in
-    both words texts s p t a b asked found (verify_once s.entry (limits_of s) t a b verify
-    (subst (λ (v : Settings). ReportsVerify v.entry (limits_of v) t b) settings
-    (subst (λ (z : List ℕ). ReportsVerify s'.entry (limits_of s') z b) text verify')))
+    both words texts s p t a b asked found (verify_once s.entry s.limits t a b verify
+    (subst (λ (v : Settings). ReportsVerify v.entry v.limits t b) settings
+    (subst (λ (z : List ℕ). ReportsVerify s'.entry s'.limits z b) text verify')))
 report_once words texts a b (usage none is) (generating s count asked big) = absurd (nothing_asked words s (Big count) none asked)
 report_once words texts a b (printing s p t asked found print) (generating s' count asked' big) = absurd (only_one words s s' (Print p) (Big count) asked asked' (λ (e : 2 ≡ 4). omega arith))
-report_once words texts a b (checked s p x t asked found check) (generating s' count asked' big) = absurd (only_one words s s' (Check p x) (Big count) asked asked' (λ (e : 0 ≡ 4). omega arith))
+report_once words texts a b (checking s p x t asked found check) (generating s' count asked' big) = absurd (only_one words s s' (Check p x) (Big count) asked asked' (λ (e : 0 ≡ 4). omega arith))
 report_once words texts a b (replaying s p x t asked found replay) (generating s' count asked' big) = absurd (only_one words s s' (Replay p x) (Big count) asked asked' (λ (e : 1 ≡ 4). omega arith))
 report_once words texts a b (verifying s p t asked found verify) (generating s' count asked' big) = absurd (only_one words s s' (Verify p) (Big count) asked asked' (λ (e : 3 ≡ 4). omega arith))
 report_once words texts a b (generating s count asked big) (usage none is) = absurd (nothing_asked words s (Big count) none asked)
 report_once words texts a b (generating s count asked big) (printing s' p t asked' found' print) = absurd (only_one words s s' (Big count) (Print p) asked asked' (λ (e : 4 ≡ 2). omega arith))
-report_once words texts a b (generating s count asked big) (checked s' p x t asked' found' check) = absurd (only_one words s s' (Big count) (Check p x) asked asked' (λ (e : 4 ≡ 0). omega arith))
+report_once words texts a b (generating s count asked big) (checking s' p x t asked' found' check) = absurd (only_one words s s' (Big count) (Check p x) asked asked' (λ (e : 4 ≡ 0). omega arith))
 report_once words texts a b (generating s count asked big) (replaying s' p x t asked' found' replay) = absurd (only_one words s s' (Big count) (Replay p x) asked asked' (λ (e : 4 ≡ 1). omega arith))
 report_once words texts a b (generating s count asked big) (verifying s' p t asked' found' verify) = absurd (only_one words s s' (Big count) (Verify p) asked asked' (λ (e : 4 ≡ 3). omega arith))
 report_once words texts a b (generating s count asked big) (generating s' count' asked' big') =
     let same : count' ≡ count = sym (one_count count count' (same_task words s s' (Big count) (Big count') asked asked')) in
     let settings : s' ≡ s = sym (same_settings words s s' (Big count) (Big count') asked asked') in
-    inr (inr (inr (s, count, asked, big, subst (λ (u : Settings). ReportsBig (limits_of u) count b) settings (subst (λ (n : ℕ). ReportsBig (limits_of s') n b) same big'))))
+    inr (inr (inr (s, count, asked, big, subst (λ (u : Settings). ReportsBig u.limits count b) settings (subst (λ (n : ℕ). ReportsBig s'.limits n b) same big'))))

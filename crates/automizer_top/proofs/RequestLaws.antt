@@ -74,13 +74,13 @@ settings_by (Some s) t r e =
     ap (λ (q : Request). Some q.settings) m.2
 
 rounds_by : (entry : Option (List ℕ)) (rounds workers depth : Option ℕ) (s : Settings) →
-    option_and_then (λ e. option_and_then (λ n. option_and_then (λ w. option_map (λ d. record { entry = e; rounds = n; workers = w; depth = d }) depth) workers) rounds) entry ≡ Some s →
-    rounds ≡ Some s.rounds
+    option_and_then (λ e. option_and_then (λ n. option_and_then (λ w. option_map (λ d. record { entry = e; limits = record { rounds = n; workers = w; depth = d } }) depth) workers) rounds) entry ≡ Some s →
+    rounds ≡ Some s.limits.rounds
 rounds_by None rounds workers depth s e = absurd (none-some s e)
 rounds_by (Some x) None workers depth s e = absurd (none-some s e)
 rounds_by (Some x) (Some n) None depth s e = absurd (none-some s e)
 rounds_by (Some x) (Some n) (Some w) None s e = absurd (none-some s e)
-rounds_by (Some x) (Some n) (Some w) (Some d) s e = ap (λ (u : Settings). Some u.rounds) (same_Some (record { entry = x; rounds = n; workers = w; depth = d }) s e)
+rounds_by (Some x) (Some n) (Some w) (Some d) s e = ap (λ (u : Settings). Some u.limits.rounds) (same_Some (record { entry = x; limits = record { rounds = n; workers = w; depth = d } }) s e)
 
 number_by : (text : Option (List ℕ)) (n : ℕ) → option_and_then (number_in 1 100000) text ≡ Some n → n ≤ 100000
 number_by None n e = absurd (none-some n e)
@@ -89,16 +89,16 @@ number_by (Some text) n e = number_within 1 100000 text n e
 abbrev number_at : ℕ → ℕ → List ℕ → List Row → Option ℕ
 number_at least most id rows = option_and_then (number_in least most) (first_of id rows)
 
-request_rounds : (rows : List Row) (r : Request) → request_of rows ≡ Some r → r.settings.rounds ≤ 100000
+request_rounds : (rows : List Row) (r : Request) → request_of rows ≡ Some r → r.settings.limits.rounds ≤ 100000
 request_rounds rows r e =
-    number_by (first_of (codes "rounds") rows) r.settings.rounds
+    number_by (first_of (codes "rounds") rows) r.settings.limits.rounds
     (rounds_by (first_of (codes "entry") rows) (number_at 1 100000 (codes "rounds") rows) (number_at 1 64 (codes "workers") rows) (number_at 0 64 (codes "depth") rows)
     r.settings (settings_by (settings_of rows) (task_of rows) r e))
 
-taken_request : (faults : Kinds) (rows : List Row) (r : Request) → request_by faults rows ≡ Some r → r.settings.rounds ≤ 100000
+taken_request : (faults : Kinds) (rows : List Row) (r : Request) → request_by faults rows ≡ Some r → r.settings.limits.rounds ≤ 100000
 taken_request [] rows r e = request_rounds rows r e
 taken_request (k ∷ ks) rows r e = absurd (none-some r e)
 
-pub rounds_fit : (words : List (List ℕ)) (r : Request) → requested words ≡ Some r → r.settings.rounds ≤ 100000
+pub rounds_fit : (words : List (List ℕ)) (r : Request) → requested words ≡ Some r → r.settings.limits.rounds ≤ 100000
 unfolding requested
 rounds_fit words r e = taken_request (faults words) (values words) r e

@@ -4,7 +4,7 @@ use Rattle.std.specs.Prelude.{◌≢◌, Result, IfOk, option_map}
 use Rattle.std.proofs.lemmas.Option.{none-some}
 use Rattle.typed_tree.specs.TypedTree.{TypedProgram}
 use Rattle.letter_acts.specs.Invariant.{Graph}
-use Rattle.race_rounds.specs.Ends.{Options}
+use Rattle.race_rounds.specs.declared.limits.Limits.{Limits}
 use Rattle.race_verdicts.specs.declared.verdicts.Verdict.{Verdict}
 use Rattle.race_verdicts.specs.declared.verdicts.Verdict.TheVariants.{Safe, Unsafe, Unknown}
 use Rattle.automizer_top.specs.declared.answer.Answer as code
@@ -17,7 +17,8 @@ use Rattle.automizer_top.specs.CommandLine.{Request, Big, requested}
 use Rattle.automizer_top.specs.Asked.{asked, task, settings}
 use Rattle.automizer_top.specs.Answers.{answered, Asks}
 use Rattle.automizer_top.specs.Verdicts.{verdict_status}
-use Rattle.automizer_top.specs.Report.{Answer, Ask, RefusesProgram, too_long, no_program, ReportsPrint, refused_print, printed, RefusesTyped, RefusesLowering, ReportsProof, proof_too_long, no_annotation, accepted, rejected, ReportsFailure, failure_too_long, no_failure, replayed, stopped, ReportsVerify, refused_verify, unlowered, decided, ReportsBig}
+use Rattle.automizer_top.specs.ReportTexts.{Answer}
+use Rattle.automizer_top.specs.Report.{Ask, RefusesProgram, too_long, no_program, ReportsPrint, refused_print, printed, RefusesTyped, refused, of_typed, RefusesLowering, unlowered, of_lowered, ReportsProof, no_annotation, accepted, rejected, ReportsFailure, no_failure, replayed, stopped, ReportsVerify, ReportsBig}
 use Rattle.automizer_top.proofs.ReportLaws.{typed_is_three, lowering_is_three}
 
 -- an answer of another status does not have the status 4
@@ -47,27 +48,25 @@ typed_not_four entry text a r = not_three a.status (typed_is_three entry text a 
 pub lowering_not_four : (t : TypedProgram) (a : Answer) → RefusesLowering t a → a.status ≢ 4
 lowering_not_four t a r = not_three a.status (lowering_is_three t a r)
 
-pub proof_not_four : (g : Graph) (second : Option (List ℕ)) (a : Answer) → ReportsProof g second a → a.status ≢ 4
-proof_not_four g second a (proof_too_long x e past is) = not_three a.status (ap status_of is)
-proof_not_four g second a (no_annotation x line e l wrong is) = not_one a.status (ap status_of is)
-proof_not_four g second a (accepted x w e l s p is) = not_zero a.status (ap status_of is)
-proof_not_four g second a (rejected x w item cause e l s first is) = not_one a.status (ap status_of is)
+pub proof_not_four : (g : Graph) (text : List ℕ) (a : Answer) → ReportsProof g text a → a.status ≢ 4
+proof_not_four g text a (no_annotation line wrong is) = not_one a.status (ap status_of is)
+proof_not_four g text a (accepted w s p is) = not_zero a.status (ap status_of is)
+proof_not_four g text a (rejected w item cause s first is) = not_one a.status (ap status_of is)
 
-pub failure_not_four : (t : TypedProgram) (second : Option (List ℕ)) (a : Answer) → ReportsFailure t second a → a.status ≢ 4
-failure_not_four t second a (failure_too_long x e past is) = not_three a.status (ap status_of is)
-failure_not_four t second a (no_failure x line e l fault is) = not_one a.status (ap status_of is)
-failure_not_four t second a (replayed x f id e l h r is) = not_zero a.status (ap status_of is)
-failure_not_four t second a (stopped x f step cause e l h s is) = not_one a.status (ap status_of is)
+pub failure_not_four : (t : TypedProgram) (text : List ℕ) (a : Answer) → ReportsFailure t text a → a.status ≢ 4
+failure_not_four t text a (no_failure line fault is) = not_one a.status (ap status_of is)
+failure_not_four t text a (replayed f id h r is) = not_zero a.status (ap status_of is)
+failure_not_four t text a (stopped f step cause h s is) = not_one a.status (ap status_of is)
 
 verdict_not_four : (v : Verdict) → verdict_status v ≢ 4
 verdict_not_four (Safe a) = λ e. omega (arith, e)
 verdict_not_four (Unsafe f) = λ e. omega (arith, e)
 verdict_not_four (Unknown cause w) = λ e. omega (arith, e)
 
-pub verify_not_four : (entry : List ℕ) (o : Options) (text : List ℕ) (a : Answer) → ReportsVerify entry o text a → a.status ≢ 4
-verify_not_four entry o text a (refused_verify r) = typed_not_four entry text a r
-verify_not_four entry o text a (unlowered t w r) = lowering_not_four t a r
-verify_not_four entry o text a (decided t w none v few) = λ e. verdict_not_four v.verdict (sym (ap status_of v.is) ∙ e)
+pub verify_not_four : (entry : List ℕ) (l : Limits) (text : List ℕ) (a : Answer) → ReportsVerify entry l text a → a.status ≢ 4
+verify_not_four entry l text a (refused r) = typed_not_four entry text a r
+verify_not_four entry l text a (of_typed t w (unlowered r)) = lowering_not_four t a r
+verify_not_four entry l text a (of_typed t w (of_lowered none (v, few))) = λ e. verdict_not_four v.verdict (sym (ap status_of v.is) ∙ e)
 
 -- what was read of the words is what they ask for
 pub asks_by : (words : List (List ℕ)) (o : Option read.Request) (q : read.Request) → o ≡ Some q → option_map asked o ≡ requested words → requested words ≡ Some (asked q)
@@ -88,12 +87,12 @@ used_by_code words q (Err e) ask other = tt
 pub used_by_print : (words : List (List ℕ)) (q : Request) (text : List ℕ) (a : Answer) → requested words ≡ Some q → ReportsPrint text a → IsUsage words a.status
 used_by_print words q text a ask r = used words q a.status ask (print_not_four text a r)
 
-pub used_by_verify : (words : List (List ℕ)) (q : Request) (entry : List ℕ) (o : Options) (text : List ℕ) (a : Answer) → requested words ≡ Some q →
-    ReportsVerify entry o text a → IsUsage words a.status
-used_by_verify words q entry o text a ask r = used words q a.status ask (verify_not_four entry o text a r)
+pub used_by_verify : (words : List (List ℕ)) (q : Request) (entry : List ℕ) (l : Limits) (text : List ℕ) (a : Answer) → requested words ≡ Some q →
+    ReportsVerify entry l text a → IsUsage words a.status
+used_by_verify words q entry l text a ask r = used words q a.status ask (verify_not_four entry l text a r)
 
-pub used_by_summary : (words : List (List ℕ)) (q : Request) (o : Options) (count : ℕ) (a : Answer) → requested words ≡ Some q → ReportsBig o count a → IsUsage words a.status
-used_by_summary words q o count a ask r = used words q a.status ask (λ e. verdict_not_four r.verdict (sym (ap status_of r.is) ∙ e))
+pub used_by_summary : (words : List (List ℕ)) (q : Request) (l : Limits) (count : ℕ) (a : Answer) → requested words ≡ Some q → ReportsBig l count a → IsUsage words a.status
+used_by_summary words q l count a ask r = used words q a.status ask (λ e. verdict_not_four r.verdict (sym (ap status_of r.is) ∙ e))
 
 -- ---- what was read of the words, by its task
 

@@ -16,14 +16,15 @@ use Rattle.race_core.specs.Histories.{IsLegal}
 use Rattle.race_core.specs.Histories as histories
 use Rattle.race_core.specs.Races.{Race}
 use Rattle.itp_automaton.specs.Certified.{Certificate, IsFeasibleFor}
-use Rattle.race_rounds.specs.Ends.{Options}
+use Rattle.race_rounds.specs.declared.limits.Limits.{Limits}
 use Rattle.race_rounds.specs.Rounds.{automaton_in, IsRaceOf}
 use Rattle.race_verdicts.specs.declared.verdicts.Verdict.{Verdict}
 use Rattle.race_verdicts.specs.declared.verdicts.Verdict.TheVariants.{Safe, Unsafe, Unknown}
 use Rattle.race_verdicts.specs.Verdicts.{IsVerdict}
 use Rattle.race_verdicts.specs.Texts.{verdict_text, ChoicesFit}
 use Rattle.automizer_top.specs.Verdicts.{IsClosedRace, verdict_status}
-use Rattle.automizer_top.specs.Report.{Answer, second_limit, verdict_answer, IsTypedText, ReportsVerdict, ReportsVerify, decided}
+use Rattle.automizer_top.specs.ReportTexts.{Answer, verdict_answer}
+use Rattle.automizer_top.specs.Report.{second_limit, IsTypedText, ReportsVerdict, ReportsVerify, of_typed, of_lowered}
 use Rattle.automizer_top.specs.Answers.{answered, IsGraphOf, HasNoErrorWord, TextIsSafe}
 use Rattle.automizer_top.specs.declared.answer.Answer as code
 use Rattle.automizer_top.proofs.ReportLaws.{text_is_safe}
@@ -38,10 +39,10 @@ fits t r (Safe a) h = tt
 fits t r (Unsafe f) h = h.failure.bounds.choices
 fits t r (Unknown cause w) h = tt
 
-pub reports : (o : Options) (t : TypedProgram) (r : Race Certificate) (v : Verdict) (text : List ℕ) (left rounds : ℕ) → IsRaceOf t o r → IsVerdict t r v →
+pub reports : (limits : Limits) (t : TypedProgram) (r : Race Certificate) (v : Verdict) (text : List ℕ) (left rounds : ℕ) → IsRaceOf t limits r → IsVerdict t r v →
     IsLegal automaton_in IsFeasibleFor r.program r.history → histories.Keeps automaton_in r.program r.history r.kept → left + length r.history ≡ r.limit → rounds ≡ length r.history → text ≡ verdict_text rounds v →
-    ReportsVerdict o t (record { bytes = text; status = verdict_status v; races = r ∷ [] })
-reports o t r v text left rounds race of_end legal kept room n same_text = record {
+    ReportsVerdict limits t (record { bytes = text; status = verdict_status v; races = r ∷ [] })
+reports limits t r v text left rounds race of_end legal kept room n same_text = record {
   race = r;
   verdict = v;
   closed = record { race = race; legal = legal; kept = kept; within = let l = race.limit in omega (arith, room, l) };
@@ -57,10 +58,10 @@ safe_is_infeasible t g r (Unknown cause w) h k s z = absurd (omega arith)
 
 -- ---- what was decided, of a text
 
-pub decided_reported : (entry : List ℕ) (o : Options) (text : List ℕ) (t : TypedProgram) (g : Graph) (r : Result code.Answer AllocError) → IsTypedText entry text t → IsGraphOf t g →
-    IfOk r (λ a. ReportsVerdict o t (answered a)) → IfOk r (λ a. length (answered a).bytes ≤ second_limit) → IfOk r (λ a. ReportsVerify entry o text (answered a))
-decided_reported entry o text t g (Ok a) w h v few = decided t w h.fits v few
-decided_reported entry o text t g (Err e) w h v few = tt
+pub decided_reported : (entry : List ℕ) (l : Limits) (text : List ℕ) (t : TypedProgram) (g : Graph) (r : Result code.Answer AllocError) → IsTypedText entry text t → IsGraphOf t g →
+    IfOk r (λ a. ReportsVerdict l t (answered a)) → IfOk r (λ a. length (answered a).bytes ≤ second_limit) → IfOk r (λ a. ReportsVerify entry l text (answered a))
+decided_reported entry l text t g (Ok a) w h v few = of_typed t w (of_lowered h.fits (v, few))
+decided_reported entry l text t g (Err e) w h v few = tt
 
 pub decided_is_safe : (entry text : List ℕ) (t : TypedProgram) (g : Graph) (r : Result code.Answer AllocError) → IsTypedText entry text t → IsGraphOf t g →
     IfOk r (λ a. (answered a).status ≡ 0 → HasNoErrorWord g) → IfOk r (λ a. (answered a).status ≡ 0 → TextIsSafe entry text)

@@ -25,21 +25,23 @@ use Rattle.automizer_top.specs.Verdicts.{verdict_status}
 use Rattle.boogie_types.specs.Resolved.{resolved_program}
 use Rattle.generated_program.specs.Generated.{generated}
 use Rattle.automizer_top.specs.CommandLine.{Settings, Big}
+use Rattle.automizer_top.specs.ReportTexts as written
 use Rattle.automizer_top.specs.Report as report
+use Rattle.automizer_top.specs.ReportClaims as claims
 
-abbrev pub answered : Answer → report.Answer
-answered Usage = report.answer report.usage_line 4
-answered TooLong = report.answer (codes "refused TooLong\n") 3
-answered (Refused f) = report.answer (refusal f) 3
-answered (IllTyped f) = report.answer (type_refusal f) 3
-answered (TooWide at) = report.answer (lowering_refusal (items.TooWide at)) 3
-answered (TooBig at) = report.answer (lowering_refusal (items.TooBig at)) 3
-answered (Printed text) = report.answer text.items 0
-answered (Syntax line) = report.syntax_answer line
-answered Accepted = report.accepted_answer
-answered (Rejected item cause) = report.rejected_answer item cause
-answered (Replayed id) = report.replayed_answer id
-answered (Stopped step cause) = report.stopped_answer step cause
+abbrev pub answered : Answer → written.Answer
+answered Usage = written.answer written.usage_line 4
+answered TooLong = written.too_long_answer
+answered (Refused f) = written.answer (refusal f) 3
+answered (IllTyped f) = written.answer (type_refusal f) 3
+answered (TooWide at) = written.answer (lowering_refusal (items.TooWide at)) 3
+answered (TooBig at) = written.answer (lowering_refusal (items.TooBig at)) 3
+answered (Printed text) = written.answer text.items 0
+answered (Syntax line) = written.syntax_answer line
+answered Accepted = written.accepted_answer
+answered (Rejected item cause) = written.rejected_answer item cause
+answered (Replayed id) = written.replayed_answer id
+answered (Stopped step cause) = written.stopped_answer step cause
 answered (Decided text verdict race) = record { bytes = text.items; status = verdict_status verdict; races = race ∷ [] }
 
 -- the words ask for this, with these options
@@ -57,10 +59,10 @@ abbrev pub HasNoErrorWord : Graph → Type 0
 HasNoErrorWord g = (w : List Letter) → Accepts g.automaton w → IsFeasible (alphabet_of g) w → ⊥
 
 -- the annotation of a verdict proves the graph, if the verdict has one
-abbrev pub IsProved : Graph → Verdict → Type 0
-IsProved g (Safe annotation) = Proves g annotation
-IsProved g (Unsafe failure) = Unit {0}
-IsProved g (Unknown cause word) = Unit {0}
+abbrev pub VerdictProves : Graph → Verdict → Type 0
+VerdictProves g (Safe annotation) = Proves g annotation
+VerdictProves g (Unsafe failure) = Unit {0}
+VerdictProves g (Unknown cause word) = Unit {0}
 
 -- the program of the text is safe, if it keeps the typing rules, where runs begin at the procedure `entry`
 abbrev pub TextIsSafe : List ℕ → List ℕ → Type 0
@@ -68,7 +70,7 @@ TextIsSafe entry text = (t : TypedProgram) → report.IsTypedText entry text t �
 
 -- the program whose verdict the words ask for is safe
 abbrev pub VerifiedIsSafe : List (List ℕ) → List (List ℕ × List ℕ) → Type 0
-VerifiedIsSafe words texts = (t : TypedProgram) → report.AsksForVerdict words texts t → IsSafe t
+VerifiedIsSafe words texts = (t : TypedProgram) → claims.AsksForVerdict words texts t → IsSafe t
 
 -- the generated program that the words ask for is safe
 abbrev pub BuiltIsSafe : List (List ℕ) → Type 0
@@ -76,4 +78,4 @@ BuiltIsSafe words = (s : Settings) (count : ℕ) (t : TypedProgram) → report.A
 
 -- the program whose check the words ask for is safe
 abbrev pub CheckedIsSafe : List (List ℕ) → List (List ℕ × List ℕ) → Type 0
-CheckedIsSafe words texts = (t : TypedProgram) → report.AsksForCheck words texts t → IsSafe t
+CheckedIsSafe words texts = (t : TypedProgram) → claims.AsksForCheck words texts t → IsSafe t

@@ -24,7 +24,7 @@ IsCounted (Texts mode) = Unit {0}
 IsCounted (Generated count) = (1 ≤ count) × (count ≤ 200)
 
 abbrev pub settings : Options → line.Settings
-settings o = record { entry = o.entry.now; rounds = o.rounds; workers = o.workers; depth = o.depth }
+settings o = record { entry = o.entry.now; limits = o.limits }
 
 abbrev pub asked : Request → line.Request
 asked r = record { task = task r.task; settings = settings r.options }

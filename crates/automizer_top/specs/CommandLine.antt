@@ -7,7 +7,7 @@ use Rattle.clap.specs.Walk.{Row, Rule, first_of}
 use Rattle.clap.specs.Simple.{App, new_rule, new_shape, matches_of}
 use Rattle.clap.specs.Faults.{fault_of}
 use Rattle.clap.specs.Kinds.{Kinds}
-use Rattle.race_rounds.specs.Ends.{Options}
+use Rattle.race_rounds.specs.declared.limits.Limits.{Limits}
 
 -- ---- the command
 
@@ -53,16 +53,10 @@ pub data Task : Type 0 where
   Verify : List ℕ → Task
   Big : ℕ → Task
 
--- the name of the procedure at which runs begin, how many rounds a race has at most, how many workers it has, and how many cuts a branch
--- of a refutation has at most
+-- the name of the procedure at which runs begin, and the limits of a race
 pub record Settings : Type 0 where
   pub entry : List ℕ
-  pub rounds : ℕ
-  pub workers : ℕ
-  pub depth : ℕ
-
-abbrev pub limits_of : Settings → Options
-limits_of s = record { rounds = s.rounds; depth = s.depth }
+  pub limits : Limits
 
 pub record Request : Type 0 where
   pub task : Task
@@ -103,7 +97,7 @@ task_of rows = option_and_then (λ mode. option_and_then (λ program. task_by mo
 -- the settings that they name, each number in its range
 abbrev pub settings_of : List Row → Option Settings
 settings_of rows = option_and_then (λ entry. option_and_then (λ rounds. option_and_then (λ workers. option_map
-    (λ depth. record { entry = entry; rounds = rounds; workers = workers; depth = depth })
+    (λ depth. record { entry = entry; limits = record { rounds = rounds; workers = workers; depth = depth } })
     (option_and_then (number_in 0 64) (first_of (codes "depth") rows)))
     (option_and_then (number_in 1 64) (first_of (codes "workers") rows)))
     (option_and_then (number_in 1 100000) (first_of (codes "rounds") rows)))

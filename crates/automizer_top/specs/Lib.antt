@@ -5,6 +5,8 @@ pub mod CommandLine
 pub mod Asked
 pub mod Verdicts
 pub mod Summary
+pub mod ReportTexts
 pub mod Report
+pub mod ReportClaims
 pub mod Answers
 pub mod Completeness

@@ -4,18 +4,18 @@ use Rattle.typed_tree.specs.TypedTree.{TypedProgram}
 use Rattle.race_core.specs.Histories.{Keeps, IsLegal}
 use Rattle.race_core.specs.Races.{Race}
 use Rattle.itp_automaton.specs.Certified.{Certificate, IsFeasibleFor}
-use Rattle.race_rounds.specs.Ends.{Options}
+use Rattle.race_rounds.specs.declared.limits.Limits.{Limits}
 use Rattle.race_rounds.specs.Rounds.{automaton_in, IsRaceOf}
 use Rattle.race_verdicts.specs.declared.verdicts.Verdict.{Verdict}
 use Rattle.race_verdicts.specs.declared.verdicts.Verdict.TheVariants.{Safe, Unsafe, Unknown}
 
 -- A race over the program: its history is legal and within the rounds, its automata are certified and saturated for the program, what it keeps
 -- are the words of the program that none of them accepts, and it has met its end.
-pub record IsClosedRace (t : TypedProgram) (o : Options) (r : Race Certificate) : Type 0 where
-  pub race : IsRaceOf t o r
+pub record IsClosedRace (t : TypedProgram) (l : Limits) (r : Race Certificate) : Type 0 where
+  pub race : IsRaceOf t l r
   pub legal : IsLegal automaton_in IsFeasibleFor r.program r.history
   pub kept : Keeps automaton_in r.program r.history r.kept
-  pub within : length r.history ≤ o.rounds
+  pub within : length r.history ≤ l.rounds
 
 abbrev pub verdict_status : Verdict → ℕ
 verdict_status (Safe annotation) = 0

@@ -4,7 +4,7 @@ ghost use Rattle.std.specs.String.{string_bytes};
 ghost use Rattle.automizer_top.specs.Answers.{answered};
 ghost use Rattle.automizer_top.specs.Verdicts.{verdict_status};
 ghost use Rattle.automizer_top.specs.Refusals.{what_name, which_name, refusal};
-ghost use Rattle.automizer_top.specs.Report.{cause_name, reject_name, rejected_answer, replayed_answer};
+ghost use Rattle.automizer_top.specs.ReportTexts.{stop_name, reject_name, rejected_answer, replayed_answer};
 ghost use Rattle.automizer_top.specs.TypeRefusals.{rule_line, type_refusal};
 
 use boogie_parse::{Fault, What, Which};
@@ -84,7 +84,7 @@ impl Answer {
             Answer::Rejected { item, cause } => rejected_text(alloc, item, cause)?,
             Answer::Replayed(id) => replayed_text(alloc, id)?,
             Answer::Stopped { step, cause } => {
-                let name = cause_name(cause);
+                let name = stop_name(cause);
                 format!(in alloc; "rejected {step} {name}\n")?
             }
             Answer::Decided {
@@ -224,8 +224,8 @@ fn rejected_text(alloc: Global, item: u64, cause: RejectCause) -> Result<String,
 }
 
 /// The name of why a replay stops.
-fn cause_name(cause: ReplayCause) -> &'static str
-    ensures { result.now ≡ cause_name cause }
+fn stop_name(cause: ReplayCause) -> &'static str
+    ensures { result.now ≡ stop_name cause }
 {
     match cause {
         ReplayCause::Blocked => "Blocked",

@@ -7,25 +7,23 @@ ghost use Rattle.typed_tree.specs.declared.fault.TypeFault.TheVariants.{Memory};
 ghost use Rattle.typing_rules.specs.TypedParts.{typed_program};
 ghost use Rattle.boogie_types.specs.Resolved.{resolved_program};
 ghost use Rattle.proof_check.specs.Proves.{Proves};
-ghost use Rattle.race_rounds.specs.Ends.{Options as RaceOptions};
+ghost use Rattle.race_rounds.specs.Limits.{AreInRange};
 ghost use Rattle.generated_program.specs.Generated.{generated};
-ghost use Rattle.automizer_top.specs.Answers.{answered, IsGraphOf, HasNoErrorWord, IsProved};
-ghost use Rattle.automizer_top.specs.Asked.{settings};
-ghost use Rattle.automizer_top.specs.CommandLine.{limits_of};
+ghost use Rattle.automizer_top.specs.Answers.{answered, IsGraphOf, HasNoErrorWord, VerdictProves};
 ghost use Rattle.automizer_top.specs.Report.{ReportsBig};
 ghost use Rattle.automizer_top.specs.Verdicts.{verdict_status};
 
 use crate::answer::Answer;
 use crate::reporting::graph;
 use crate::summary::summary;
-use crate::words::Options;
 use boogie_types::{TypeFault, Typed, resolve};
 use generated_program::{generated, generated_programs_are_lowered, generated_programs_are_typed};
 use letter_acts::Icfg;
 use proof_check::{Reject, check};
 use proof_form::Annotation;
+use race_rounds::Limits;
 use race_verdicts::{Verdict, verdict_of};
-use race_workers::{Gate, Limits, race};
+use race_workers::{Gate, race};
 use std::alloc::{AllocError, Global};
 use std::sync::Wait;
 use std::thread::Threads;
@@ -82,7 +80,7 @@ fn accept(alloc: Global, icfg: &Icfg, annotation: &Annotation) -> Result<(), All
 
 /// Checks the annotation of a verdict that has one.
 fn confirm(alloc: Global, icfg: &Icfg, verdict: &Verdict) -> Result<(), AllocError>
-    requires { IsProved icfg.now verdict.now }
+    requires { VerdictProves icfg.now verdict.now }
     ensures { IfOk result (λ _. verdict_status verdict.now ≡ 0 → HasNoErrorWord icfg.now) }
 {
     match verdict {
@@ -99,23 +97,16 @@ fn decided<R: Threads + Wait + Sync, G: Gate + Sync>(
     count: u32,
     program: &Typed,
     icfg: &Icfg,
-    options: &Options<'_>,
+    limits: Limits,
     gate: &G,
 ) -> Result<Answer, AllocError>
     requires count { count ≤ 200 }
     requires program { resolved_program (generated count) (codes "main") ≡ Some (typed_program program.now) }
     requires graph { IsGraphOf (typed_program program.now) icfg.now }
-    requires rounds { (1 ≤ options.now.rounds) × (options.now.rounds ≤ 100000) }
-    requires workers { (1 ≤ options.now.workers) × (options.now.workers ≤ 64) }
-    requires depth { options.now.depth ≤ 64 }
-    ensures reported { IfOk result (λ a. (o : RaceOptions) → o.rounds ≡ options.now.rounds → o.depth ≡ options.now.depth → ReportsBig o count (answered a)) }
+    requires limits { AreInRange limits }
+    ensures reported { IfOk result (λ a. ReportsBig limits count (answered a)) }
     ensures safe { IfOk result (λ a. (answered a).status ≡ 0 → HasNoErrorWord icfg.now) }
 {
-    let limits = Limits {
-        rounds: u64::from(options.rounds),
-        workers: options.workers,
-        depth: options.depth,
-    };
     let race = race(rt, alloc, program, icfg, limits, gate)?;
     let verdict = verdict_of(alloc, program, icfg, &race)?;
     confirm(alloc, icfg, &verdict)?;
@@ -134,17 +125,15 @@ pub(crate) fn summed<R: Threads + Wait + Sync, G: Gate + Sync>(
     rt: &R,
     alloc: Global,
     count: u32,
-    options: &Options<'_>,
+    limits: Limits,
     gate: &G,
 ) -> Result<Answer, AllocError>
     requires count { (1 ≤ count) × (count ≤ 200) }
-    requires rounds { (1 ≤ options.now.rounds) × (options.now.rounds ≤ 100000) }
-    requires workers { (1 ≤ options.now.workers) × (options.now.workers ≤ 64) }
-    requires depth { options.now.depth ≤ 64 }
-    ensures reported { IfOk result (λ a. ReportsBig (limits_of (settings options.now)) count (answered a)) }
+    requires limits { AreInRange limits }
+    ensures reported { IfOk result (λ a. ReportsBig limits count (answered a)) }
     ensures safe { IfOk result (λ a. (answered a).status ≡ 0 → (t : TypedProgram) → resolved_program (generated count) (codes "main") ≡ Some t → IsSafe t) }
 {
     let program = program_of(alloc, count)?;
     let icfg = graph_of(alloc, count, &program)?;
-    decided(rt, alloc, count, &program, &icfg, options, gate)
+    decided(rt, alloc, count, &program, &icfg, limits, gate)
 }

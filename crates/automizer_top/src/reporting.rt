@@ -7,12 +7,12 @@ ghost use Rattle.typed_tree.specs.declared.fault.TypeFault.TheVariants as TypeFa
 ghost use Rattle.typing_rules.specs.TypedParts.{typed_program};
 ghost use Rattle.automizer_top.specs.declared.reporting.Halt.TheVariants.{Fault, Memory};
 ghost use Rattle.automizer_top.specs.Answers.{answered, Asks, IsGraphOf, HasNoErrorWord, TextIsSafe, CheckedIsSafe, VerifiedIsSafe, BuiltIsSafe};
-ghost use Rattle.race_rounds.specs.Ends.{Options as RaceOptions};
-ghost use Rattle.automizer_top.specs.Asked.{settings};
-ghost use Rattle.automizer_top.specs.CommandLine.{limits_of, requested};
+ghost use Rattle.race_rounds.specs.Limits.{AreInRange};
+ghost use Rattle.automizer_top.specs.CommandLine.{requested};
 ghost use Rattle.automizer_top.specs.Refusals.{refusal};
 ghost use Rattle.automizer_top.specs.TypeRefusals.{type_refusal};
-ghost use Rattle.automizer_top.specs.Report.{answer, accepted_answer, IsTypedText, RefusesTyped, RefusesLowering, Reports, ReportsPrint, ReportsProof, ReportsCheck, ReportsReplay, ReportsFailure, ReportsVerdict, ReportsVerify};
+ghost use Rattle.automizer_top.specs.ReportTexts.{answer, accepted_answer};
+ghost use Rattle.automizer_top.specs.Report.{IsTypedText, RefusesTyped, RefusesLowering, Reports, ReportsPrint, ReportsSecond, ReportsProof, ReportsCheck, ReportsReplay, ReportsFailure, ReportsVerdict, ReportsVerify};
 
 use crate::answer::Answer;
 use crate::generated::summed;
@@ -25,8 +25,9 @@ use letter_acts::Icfg;
 use outer_io::{ReadFault, Shelf, read_all};
 use proof_check::{Reject, check};
 use proof_form::{ProofFault, read_safe};
+use race_rounds::Limits;
 use race_verdicts::{verdict_of, verdict_text};
-use race_workers::{Gate, Limits, race};
+use race_workers::{Gate, race};
 use std::alloc::{AllocError, Global};
 use std::sync::Wait;
 use std::thread::Threads;
@@ -146,7 +147,7 @@ pub(crate) fn graph(alloc: Global, program: &Typed) -> Result<Result<Icfg, Answe
 /// What is answered to a graph and to the text of an annotation.
 fn judged(alloc: Global, icfg: &Icfg, text: &[u8]) -> Result<Answer, AllocError>
     requires { length text.now ≤ SECOND_LIMIT }
-    ensures reported { IfOk result (λ a. ReportsProof icfg.now (Some text.now) (answered a)) }
+    ensures reported { IfOk result (λ a. ReportsProof icfg.now text.now (answered a)) }
     ensures accepted { IfOk result (λ a. answered a ≡ accepted_answer → HasNoErrorWord icfg.now) }
 {
     let proof = match read_safe(alloc, text) {
@@ -175,7 +176,7 @@ fn lowered_text(alloc: Global, text: &[u8], entry: &str) -> Result<Result<Icfg, 
     }
 }
 
-/// What is answered to the graph of the program of a text and to the annotation in the text of that name.
+/// What is answered to a graph and to the annotation in the text of that name.
 fn judged_within<H: Shelf>(
     alloc: Global,
     shelf: &mut H,
@@ -183,8 +184,8 @@ fn judged_within<H: Shelf>(
     second: &str,
 ) -> Result<Answer, Halt>
     ensures texts { H.texts shelf.new ≡ H.texts shelf.old }
-    ensures reported { (entry program : List ℕ) (t : TypedProgram) → IsTypedText entry program t → IsGraphOf t icfg.now →
-        IfOk result (λ a. IfSome (H.texts shelf.old) (λ shown. ReportsCheck entry program (text_named second.now shown) (answered a))) }
+    ensures reported { IfOk result (λ a. IfSome (H.texts shelf.old) (λ shown.
+        ReportsSecond (text_named second.now shown) (ReportsProof icfg.now) (answered a))) }
     ensures accepted { IfOk result (λ a. answered a ≡ accepted_answer → HasNoErrorWord icfg.now) }
     ensures no_usage { IfOk result (λ a. (answered a).status ≢ 4) }
     ensures fault { result ≡ Err Halt.Fault → Rose (H.faults shelf.old) (H.faults shelf.new) }
@@ -228,22 +229,15 @@ fn decided<R: Threads + Wait + Sync, G: Gate + Sync>(
     alloc: Global,
     program: &Typed,
     icfg: &Icfg,
-    options: &Options<'_>,
+    limits: Limits,
     gate: &G,
 ) -> Result<Answer, AllocError>
     requires graph { IsGraphOf (typed_program program.now) icfg.now }
-    requires rounds { (1 ≤ options.now.rounds) × (options.now.rounds ≤ 100000) }
-    requires workers { (1 ≤ options.now.workers) × (options.now.workers ≤ 64) }
-    requires depth { options.now.depth ≤ 64 }
-    ensures reported { IfOk result (λ a. (o : RaceOptions) → o.rounds ≡ options.now.rounds → o.depth ≡ options.now.depth → ReportsVerdict o (typed_program program.now) (answered a)) }
+    requires limits { AreInRange limits }
+    ensures reported { IfOk result (λ a. ReportsVerdict limits (typed_program program.now) (answered a)) }
     ensures short { IfOk result (λ a. length (answered a).bytes ≤ SECOND_LIMIT) }
     ensures safe { IfOk result (λ a. (answered a).status ≡ 0 → HasNoErrorWord icfg.now) }
 {
-    let limits = Limits {
-        rounds: u64::from(options.rounds),
-        workers: options.workers,
-        depth: options.depth,
-    };
     let race = race(rt, alloc, program, icfg, limits, gate)?;
     let verdict = verdict_of(alloc, program, icfg, &race)?;
     let text = verdict_text(alloc, race.version(), &verdict)?;
@@ -266,10 +260,8 @@ fn verified<R: Threads + Wait + Sync, G: Gate + Sync>(
     gate: &G,
 ) -> Result<Answer, AllocError>
     requires text { length text.now ≤ PROGRAM_LIMIT }
-    requires rounds { (1 ≤ options.now.rounds) × (options.now.rounds ≤ 100000) }
-    requires workers { (1 ≤ options.now.workers) × (options.now.workers ≤ 64) }
-    requires depth { options.now.depth ≤ 64 }
-    ensures reported { IfOk result (λ a. ReportsVerify options.now.entry.now (limits_of (settings options.now)) text.now (answered a)) }
+    requires limits { AreInRange options.now.limits }
+    ensures reported { IfOk result (λ a. ReportsVerify options.now.entry.now options.now.limits text.now (answered a)) }
     ensures safe { IfOk result (λ a. (answered a).status ≡ 0 → TextIsSafe options.now.entry.now text.now) }
 {
     let program = match typed(alloc, text, options.entry)? {
@@ -280,13 +272,13 @@ fn verified<R: Threads + Wait + Sync, G: Gate + Sync>(
         Ok(icfg) => icfg,
         Err(answer) => return Ok(answer),
     };
-    decided(rt, alloc, &program, &icfg, options, gate)
+    decided(rt, alloc, &program, &icfg, options.limits, gate)
 }
 
 /// What is answered to a program and to the text of a failure.
 fn outcome(alloc: Global, program: &Typed, text: &[u8]) -> Result<Answer, AllocError>
     requires { length text.now ≤ SECOND_LIMIT }
-    ensures { IfOk result (λ a. ReportsFailure (typed_program program.now) (Some text.now) (answered a)) }
+    ensures { IfOk result (λ a. ReportsFailure (typed_program program.now) text.now (answered a)) }
 {
     let failure = match read_failure(alloc, text) {
         Ok(failure) => failure,
@@ -328,7 +320,7 @@ fn replayed<H: Shelf>(
 }
 
 /// What is answered where something with texts of the shelf is asked for.
-fn told<R: Threads + Wait + Sync, H: Shelf, G: Gate + Sync>(
+fn reported_on_texts<R: Threads + Wait + Sync, H: Shelf, G: Gate + Sync>(
     rt: &R,
     alloc: Global,
     mode: &Mode<'_>,
@@ -336,9 +328,7 @@ fn told<R: Threads + Wait + Sync, H: Shelf, G: Gate + Sync>(
     shelf: &mut H,
     gate: &G,
 ) -> Result<Answer, Halt>
-    requires rounds { (1 ≤ options.now.rounds) × (options.now.rounds ≤ 100000) }
-    requires workers { (1 ≤ options.now.workers) × (options.now.workers ≤ 64) }
-    requires depth { options.now.depth ≤ 64 }
+    requires limits { AreInRange options.now.limits }
     ensures texts { H.texts shelf.new ≡ H.texts shelf.old }
     ensures reported { (words : List (List ℕ)) → Asks words mode.now options.now →
         IfOk result (λ a. IfSome (H.texts shelf.old) (λ shown. Reports words shown (answered a))) }
@@ -390,7 +380,7 @@ pub(crate) fn reported<R: Threads + Wait + Sync, H: Shelf, G: Gate + Sync>(
         return Ok(Answer::Usage);
     };
     match request.task {
-        Task::Texts(mode) => told(rt, alloc, &mode, &request.options, shelf, gate),
-        Task::Generated(count) => Ok(summed(rt, alloc, count, &request.options, gate)?),
+        Task::Texts(mode) => reported_on_texts(rt, alloc, &mode, &request.options, shelf, gate),
+        Task::Generated(count) => Ok(summed(rt, alloc, count, request.options.limits, gate)?),
     }
 }

@@ -1,4 +1,4 @@
-ghost use Rattle.std.specs.Prelude.{◌≡◌, ◌≢◌, ◌<◌, ◌≤◌, [], ◌∷◌, ◌++◌, ℕ, List, ◌⊎◌, Some, None, length, map, codes, IsTrue, IfSome, OnOk, OnErr};
+ghost use Rattle.std.specs.Prelude.{◌≡◌, ◌≢◌, ◌<◌, ◌≤◌, ◌++◌, ℕ, List, ◌⊎◌, Option, Some, None, length, map, codes, IsTrue, IfSome, OnOk, OnErr};
 ghost use Rattle.std.specs.Option.{option_to_list};
 ghost use Rattle.std.specs.String.{string_bytes};
 ghost use Rattle.outer_io.specs.Faults.{Rose};
@@ -15,15 +15,15 @@ ghost use Rattle.race_core.specs.Races.{Race};
 ghost use Rattle.itp_automaton.specs.Certified.{Certificate};
 ghost use Rattle.race_verdicts.specs.declared.verdicts.Verdict.{Verdict};
 ghost use Rattle.typing_rules.specs.ValidProgram.{is_valid};
-ghost use Rattle.boogie_run.specs.Runs.{Fails, IsSafe};
-ghost use Rattle.automizer_top.specs.Summary.{summary_text};
-ghost use Rattle.automizer_top.specs.Verdicts.{verdict_status};
-ghost use Rattle.race_rounds.specs.Ends.{Options};
+ghost use Rattle.boogie_run.specs.Runs.{IsSafe};
+ghost use Rattle.race_rounds.specs.declared.limits.Limits.{Limits};
 ghost use Rattle.race_completeness.specs.Words.{HasWordsAmong};
 ghost use Rattle.automizer_top.specs.Completeness.{HasDifferenceRows, SaysUnknown};
 ghost use Rattle.automizer_top.specs.CommandLine as line;
-ghost use Rattle.automizer_top.specs.CommandLine.{Settings, limits_of, requested};
-ghost use Rattle.automizer_top.specs.Report.{Answer, Answers, Ask, Reports, verdict_answer, accepted_answer, replayed_answer, ReportsVerdict, IsHandedOver, WhereTold, TookFront, Closes, ClosesAtFront, PrintsProgram, ProgramIsSafe, ProgramFails, IsTypingRefusal, IsVerdictOn, ReportsBig, GeneratedIsSafe};
+ghost use Rattle.automizer_top.specs.CommandLine.{Settings, requested};
+ghost use Rattle.automizer_top.specs.ReportTexts.{Answer, verdict_answer, summary_answer, accepted_answer, replayed_answer};
+ghost use Rattle.automizer_top.specs.Report.{Ask, Reports, ReportsVerdict, ReportsBig};
+ghost use Rattle.automizer_top.specs.ReportClaims.{Answers, IsHandedOver, WhereTold, TookFront, Closes, ClosesAtFront, PrintsProgram, ProgramIsSafe, ProgramFails, IsTypingRefusal, IsVerdictOn, PrintsFailure, GeneratedIsSafe};
 
 use crate::reporting::{Halt, reported};
 use itp_automaton::Certified;
@@ -70,13 +70,9 @@ pub fn run<R: Threads + Wait + Sync, H: Shelf, K: Sink, G: Gate + Sync>(
     gate: &G,
     closed: &mut Vec<Shared<Certified>>,
 ) -> u8
-    // Where no call on the outside failed and memory did not run out, the status is that of the report, and so are the bytes.
+    // Where no call on the outside failed and memory did not run out, the status is that of the report, and so are the bytes; and `closed` gains the
+    // race of a verdict, and nothing else.
     ensures report { (Rose (H.faults shelf.old) (H.faults shelf.new) → ⊥) → (Rose (K.faults sink.old) (K.faults sink.new) → ⊥) → result ≢ 6 →
-        IfSome (H.texts shelf.old) (λ shown. (a : Answer) ×
-        Answers (map string_bytes words.now) shown (K.taken sink.old) (K.taken sink.new) result a) }
-
-    // `closed` then gains the race of a verdict, and nothing else.
-    ensures closed { (Rose (H.faults shelf.old) (H.faults shelf.new) → ⊥) → (Rose (K.faults sink.old) (K.faults sink.new) → ⊥) → result ≢ 6 →
         IfSome (H.texts shelf.old) (λ shown. Closes (map string_bytes words.now) shown (K.taken sink.old) (K.taken sink.new) result closed.old.items closed.new.items) }
 
     // Status 4 comes exactly where the words ask for nothing, if no call on the outside failed and memory did not run out.
@@ -125,12 +121,18 @@ pub fn run<R: Threads + Wait + Sync, H: Shelf, K: Sink, G: Gate + Sync>(
     }
 }
 
+/// What `run` reports is an answer, without the races that are closed: the report allows it, the status is its own, and all its bytes were taken.
+pub fn reports_are_answers()
+    ensures { (words : List (List ℕ)) (texts : List (List ℕ × List ℕ)) (before after : Option (List ℕ)) (status : ℕ) (old new : List (Race Certificate)) →
+        Closes words texts before after status old new → (a : Answer) × Answers words texts before after status a }
+{}
+
 /// The report allows one answer at most, so each output comes exactly where its case holds; but of several typing rules that a
 /// program breaks any may be named, and of several verdicts on one program, or on the generated one, any may be told.
 pub fn one_report()
     ensures { (words : List (List ℕ)) (texts : List (List ℕ × List ℕ)) (a b : Answer) → Reports words texts a → Reports words texts b →
         (a ≡ b) ⊎ ((IsTypingRefusal a × IsTypingRefusal b) ⊎ (((t : TypedProgram) × IsVerdictOn words texts t a × IsVerdictOn words texts t b)
-        ⊎ ((s : Settings) × (count : ℕ) × Ask words s (line.Big count) × ReportsBig (limits_of s) count a × ReportsBig (limits_of s) count b))) }
+        ⊎ ((s : Settings) × (count : ℕ) × Ask words s (line.Big count) × ReportsBig s.limits count a × ReportsBig s.limits count b))) }
 {}
 
 /// What `verify` writes is confirmed where its bytes are handed over with the same program and the same entry: `check` accepts each `safe`,
@@ -144,22 +146,25 @@ pub fn verdicts_are_confirmed()
         IsHandedOver program second r s before after a → Reports again after b → (id : AssertId) × (b ≡ replayed_answer id) }
 {}
 
-/// What a verdict on a typed program says is so, whatever the options: status 0, that no run of it, of any length and any call stack, fails an
-/// assertion; and status 1, that a run fails one.
+/// What `verify` says is so, whatever the limits. Its statuses 0, 1 and 2 are those of a verdict on the typed program of the text. Status 0 is
+/// answered only where no run of that program, of any length and any call stack, fails an assertion; and status 1 only where a run fails one, with
+/// values that replay it.
 pub fn verdicts_are_true()
-    ensures safe { (o : Options) (t : TypedProgram) (a : Answer) → IsTrue (is_valid t) → ReportsVerdict o t a → a.status ≡ 0 → IsSafe t }
-    ensures fails { (o : Options) (t : TypedProgram) (a : Answer) → ReportsVerdict o t a → a.status ≡ 1 → (i : ℕ) × Fails t i }
+    ensures told { (words : List (List ℕ)) (texts : List (List ℕ × List ℕ)) (s : Settings) (program : List ℕ) (a : Answer) →
+        Ask words s (line.Verify program) → Reports words texts a → a.status < 3 → (t : TypedProgram) × IsVerdictOn words texts t a }
+    ensures safe { (l : Limits) (t : TypedProgram) (a : Answer) → IsTrue (is_valid t) → ReportsVerdict l t a → a.status ≡ 0 → IsSafe t }
+    ensures fails { (l : Limits) (t : TypedProgram) (a : Answer) → ReportsVerdict l t a → a.status ≡ 1 → PrintsFailure t a }
 {
     certified_words_are_infeasible();
     lowering_is_faithful();
     what_replays_fails();
 }
 
-/// Of two verdicts on one program, whatever the options, not one is `safe` and the other `unsafe`; and where the program has no error
+/// Of two verdicts on one program, whatever the limits, not one is `safe` and the other `unsafe`; and where the program has no error
 /// word, the verdict is `safe` after no round.
 pub fn verdicts_agree()
-    ensures one { (o p : Options) (t : TypedProgram) (a b : Answer) → ReportsVerdict o t a → ReportsVerdict p t b → a.status ≡ 0 → b.status ≡ 1 → ⊥ }
-    ensures at_once { (o : Options) (t : TypedProgram) (a : Answer) → ReportsVerdict o t a → ((w : List Letter) → Accepts (lowered t).automaton w → ⊥) →
+    ensures one { (l m : Limits) (t : TypedProgram) (a b : Answer) → ReportsVerdict l t a → ReportsVerdict m t b → a.status ≡ 0 → b.status ≡ 1 → ⊥ }
+    ensures at_once { (l : Limits) (t : TypedProgram) (a : Answer) → ReportsVerdict l t a → ((w : List Letter) → Accepts (lowered t).automaton w → ⊥) →
         (w : Content) × (a.bytes ≡ safe_text 0 w) × (a.status ≡ 0) }
 {
     certified_words_are_infeasible();
@@ -168,17 +173,17 @@ pub fn verdicts_agree()
 /// What no verdict says: that the rounds are over, where the program has no more error words than rounds; and that Decide has neither
 /// a refutation nor a whole point, where the rows of each error word bound a column or the difference of two.
 pub fn verdicts_are_complete()
-    ensures rounds { (o : Options) (t : TypedProgram) (a : Answer) (ws : List (List Letter)) → ReportsVerdict o t a → HasWordsAmong (lowered t).automaton ws → length ws ≤ o.rounds →
+    ensures rounds { (l : Limits) (t : TypedProgram) (a : Answer) (ws : List (List Letter)) → ReportsVerdict l t a → HasWordsAmong (lowered t).automaton ws → length ws ≤ l.rounds →
         SaysUnknown Cause.Rounds a → ⊥ }
-    ensures whole { (o : Options) (t : TypedProgram) (a : Answer) → ReportsVerdict o t a → HasDifferenceRows t → SaysUnknown Cause.Whole a → ⊥ }
+    ensures whole { (l : Limits) (t : TypedProgram) (a : Answer) → ReportsVerdict l t a → HasDifferenceRows t → SaysUnknown Cause.Whole a → ⊥ }
 {
     rounds_are_enough();
 }
 
-/// A summary is of a verdict on the generated program that `verify` could tell, with the same options: it says that verdict's word, and the status
+/// A summary is of a verdict on the generated program that `verify` could tell, with the same limits: it says that verdict's word, and the status
 /// and the race are those of the verdict.
 pub fn summaries_are_verdicts()
-    ensures { (o : Options) (count : ℕ) (a : Answer) → ReportsBig o count a →
-        (t : TypedProgram) × (r : Race Certificate) × (v : Verdict) × (resolved_program (generated count) (codes "main") ≡ Some t) × ReportsVerdict o t (verdict_answer r v)
-        × (a ≡ record { bytes = summary_text count v; status = verdict_status v; races = r ∷ [] }) }
+    ensures { (l : Limits) (count : ℕ) (a : Answer) → ReportsBig l count a →
+        (t : TypedProgram) × (r : Race Certificate) × (v : Verdict) × (resolved_program (generated count) (codes "main") ≡ Some t) × ReportsVerdict l t (verdict_answer r v)
+        × (a ≡ summary_answer count r v) }
 {}

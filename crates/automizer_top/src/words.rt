@@ -4,11 +4,13 @@ ghost use Rattle.clap.specs.Matches.{found_of};
 ghost use Rattle.clap.specs.Walk.{first_of, rows_of, rule_of};
 ghost use Rattle.clap.specs.Simple.{app_of};
 ghost use Rattle.clap.specs.Kinds.{FailsBy};
+ghost use Rattle.race_rounds.specs.Limits.{AreInRange};
 ghost use Rattle.automizer_top.specs.Asked.{asked, task, settings, program_name, IsCounted};
 ghost use Rattle.automizer_top.specs.CommandLine as line;
 
 use clap::error::ErrorKind;
 use clap::{Arg, ArgMatches, Command, Error};
+use race_rounds::Limits;
 use std::alloc::{AllocError, Global};
 
 /// What is to be done with texts of these names.
@@ -52,12 +54,8 @@ pub(crate) enum Task<'a> {
 pub(crate) struct Options<'a> {
     /// The name of the procedure at which runs begin.
     pub entry: &'a str,
-    /// How many rounds a race has at most.
-    pub rounds: u32,
-    /// How many workers a race has.
-    pub workers: u32,
-    /// How many cuts a branch of a refutation has at most.
-    pub depth: u32,
+    /// The limits of a race.
+    pub limits: Limits,
 }
 
 /// What the words ask for.
@@ -213,28 +211,24 @@ fn task_of<'a>(matches: &ArgMatches<'a>) -> Option<Task<'a>>
 /// The values of the options, each number in its range.
 fn options_of<'a>(matches: &ArgMatches<'a>) -> Option<Options<'a>>
     ensures value { line.settings_of (rows_of (found_of matches.now)) ≡ option_map settings result }
-    ensures rounds { IfSome result (λ o. (1 ≤ o.rounds) × (o.rounds ≤ 100000)) }
-    ensures workers { IfSome result (λ o. (1 ≤ o.workers) × (o.workers ≤ 64)) }
-    ensures depth { IfSome result (λ o. o.depth ≤ 64) }
+    ensures limits { IfSome result (λ o. AreInRange o.limits) }
 {
     let entry = value(matches, "entry")?;
     let rounds = number(value(matches, "rounds")?, 1, 100_000)?;
     let workers = number(value(matches, "workers")?, 1, 64)?;
     let depth = number(value(matches, "depth")?, 0, 64)?;
-    Some(Options {
-        entry,
-        rounds,
+    let limits = Limits {
+        rounds: u64::from(rounds),
         workers,
         depth,
-    })
+    };
+    Some(Options { entry, limits })
 }
 
 /// What the values of the arguments ask for.
 fn request_of<'a>(matches: &ArgMatches<'a>) -> Option<Request<'a>>
     ensures value { line.request_of (rows_of (found_of matches.now)) ≡ option_map asked result }
-    ensures rounds { IfSome result (λ r. (1 ≤ r.options.rounds) × (r.options.rounds ≤ 100000)) }
-    ensures workers { IfSome result (λ r. (1 ≤ r.options.workers) × (r.options.workers ≤ 64)) }
-    ensures depth { IfSome result (λ r. r.options.depth ≤ 64) }
+    ensures limits { IfSome result (λ r. AreInRange r.options.limits) }
     ensures counted { IfSome result (λ r. IsCounted r.task) }
 {
     let options = options_of(matches)?;
@@ -248,9 +242,7 @@ pub(crate) fn read_words<'a>(
     words: &'a [String],
 ) -> Result<Option<Request<'a>>, AllocError>
     ensures value { IfOk result (λ r. option_map asked r ≡ line.requested (map string_bytes words.now)) }
-    ensures rounds { IfOk result (λ r. IfSome r (λ q. (1 ≤ q.options.rounds) × (q.options.rounds ≤ 100000))) }
-    ensures workers { IfOk result (λ r. IfSome r (λ q. (1 ≤ q.options.workers) × (q.options.workers ≤ 64))) }
-    ensures depth { IfOk result (λ r. IfSome r (λ q. q.options.depth ≤ 64)) }
+    ensures limits { IfOk result (λ r. IfSome r (λ q. AreInRange q.options.limits)) }
     ensures counted { IfOk result (λ r. IfSome r (λ q. IsCounted q.task)) }
 {
     let Some(matches) = matched(alloc, words)? else {

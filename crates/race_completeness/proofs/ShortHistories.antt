@@ -14,7 +14,8 @@ use Rattle.race_core.specs.declared.events.Entry.{Entry}
 use Rattle.race_core.specs.Histories.{Removed, IsLegalAfter, IsLegal}
 use Rattle.race_core.specs.Races.{Race}
 use Rattle.itp_automaton.specs.Certified.{Certificate}
-use Rattle.race_rounds.specs.Ends.{Options, IsKept, EndMeets, no_word, one_word}
+use Rattle.race_rounds.specs.declared.limits.Limits.{Limits}
+use Rattle.race_rounds.specs.Ends.{WordIsKept, EndMeets, no_word, one_word}
 use Rattle.race_rounds.specs.Rounds.{automaton_in, IsRaceOf}
 use Rattle.race_completeness.specs.Words.{HasWordsAmong}
 
@@ -76,26 +77,26 @@ module _ {E : Type 0} (automaton : E → Automaton) where
         let k = one_less e.word ws m in
         omega arith
 
-    pub shorter : (program : Automaton) (h : List (Entry E)) (w : List Letter) (ws : List (List Letter)) → IsLegal automaton feasible program h → IsKept automaton program h w →
+    pub shorter : (program : Automaton) (h : List (Entry E)) (w : List Letter) (ws : List (List Letter)) → IsLegal automaton feasible program h → WordIsKept automaton program h w →
         HasWordsAmong program ws → length h < length ws
     shorter program h w ws l k f = shorter_after program [] h w ws l k.error k.left (λ v a n. f v a)
 
-    pub never_over : (t : TypedProgram) (o : Options) (h : List (Entry E)) (w : List Letter) (ws : List (List Letter)) → HasWordsAmong (lowered t).automaton ws → length ws ≤ o.rounds →
-        IsLegal automaton feasible (lowered t).automaton h → EndMeets automaton t o h (Unknown Rounds w) → ⊥
-    never_over t o h w ws f le l (no_word e n) = absurd (let no : ⊥ = cc in no)
-    never_over t o h w ws f le l (one_word v k s) =
+    pub never_over : (t : TypedProgram) (limits : Limits) (h : List (Entry E)) (w : List Letter) (ws : List (List Letter)) → HasWordsAmong (lowered t).automaton ws → length ws ≤ limits.rounds →
+        IsLegal automaton feasible (lowered t).automaton h → EndMeets automaton t limits h (Unknown Rounds w) → ⊥
+    never_over t limits h w ws f le l (no_word e n) = absurd (let no : ⊥ = cc in no)
+    never_over t limits h w ws f le l (one_word v k s) =
         let lt = shorter (lowered t).automaton h v ws l k f in
-        let over : o.rounds ≤ length h = s.1.0 in
+        let over : limits.rounds ≤ length h = s.1.0 in
         let no : ⊥ = omega arith in no
 
 -- ---- the rounds that are over
 
-over : (t : TypedProgram) (o : Options) (h : List (Entry Certificate)) (w : List Letter) → EndMeets automaton_in t o h (Unknown Rounds w) → o.rounds ≤ length h
-over t o h w (no_word e n) = absurd (let no : ⊥ = cc in no)
-over t o h w (one_word v k s) = s.1.0
+over : (t : TypedProgram) (limits : Limits) (h : List (Entry Certificate)) (w : List Letter) → EndMeets automaton_in t limits h (Unknown Rounds w) → limits.rounds ≤ length h
+over t limits h w (no_word e n) = absurd (let no : ⊥ = cc in no)
+over t limits h w (one_word v k s) = s.1.0
 
-pub all_used : (t : TypedProgram) (o : Options) (r : Race Certificate) (w : List Letter) → IsRaceOf t o r → r.end ≡ Some (Unknown Rounds w) → length r.history ≡ o.rounds
-all_used t o r w race e =
-    let least = over t o r.history w (subst (λ (x : Option End). IfSome x (EndMeets automaton_in t o r.history)) e race.end) in
+pub all_used : (t : TypedProgram) (limits : Limits) (r : Race Certificate) (w : List Letter) → IsRaceOf t limits r → r.end ≡ Some (Unknown Rounds w) → length r.history ≡ limits.rounds
+all_used t limits r w race e =
+    let least = over t limits r.history w (subst (λ (x : Option End). IfSome x (EndMeets automaton_in t limits r.history)) e race.end) in
     let most = race.within in
     omega (arith, least, most)

@@ -1,5 +1,5 @@
 -- What is found of a word by way of its graph, said of the program.
-use Rattle.std.proofs.Common.{◌≡◌, ◌≤◌, ℕ, ℤ, List, refl, sym, subst}
+use Rattle.std.proofs.Common.{◌≡◌, ◌≤◌, ℕ, ℤ, List, refl, subst}
 use Rattle.lin_rows.specs.Points.{point_of}
 use Rattle.farkas_check.specs.Nodes.{PlainNode}
 use Rattle.int_decide.specs.Decisions.{refuted, whole}
@@ -7,7 +7,7 @@ use Rattle.nwa_base.specs.declared.letters.Letter.{Letter}
 use Rattle.letter_acts.specs.Invariant.{Graph}
 use Rattle.typed_tree.specs.TypedTree.{TypedProgram}
 use Rattle.lowered_graph.specs.Lowered.{lowered}
-use Rattle.path_decide.specs.Decided.{RefutesPath, path_decision, PathFits}
+use Rattle.path_decide.specs.Decided.{RefutesPath, path_decision}
 use Rattle.trace_replay.specs.ToldRuns.{ToldPasses, IsToldFault}
 use Rattle.trace_replay.specs.declared.causes.ReplayCause.{ReplayCause}
 use Rattle.trace_replay.specs.declared.causes.ReplayCause.TheVariants as causes
@@ -15,21 +15,17 @@ use Rattle.trace_replay.specs.declared.causes.ReplayFault.TheVariants.{At}
 use Rattle.race_core.specs.declared.ends.Cause.TheVariants.{Rounds}
 use Rattle.race_core.specs.declared.ends.End.TheVariants.{Unknown}
 use Rattle.nested_refutations.specs.Numbers.{NumbersFit}
-use Rattle.race_rounds.specs.Ends.{Options, PredicatesFit, NumberPasses, of_decide, of_predicates, of_run, SaysOfWord}
+use Rattle.race_rounds.specs.declared.limits.Limits.{Limits}
+use Rattle.race_rounds.specs.Ends.{PredicatesFit, NumberPasses, of_predicates, of_run, SaysOfWord}
 use Rattle.race_rounds.proofs.DecideCuts.{decided_cuts}
 
-pub decide_passes : (t : TypedProgram) (g : Graph) (d depth : ℕ) (w : List Letter) → g ≡ lowered t → d ≡ depth → (PathFits g depth w → ⊥) → NumberPasses t d w
-decide_passes t g d depth w e s n =
-    of_decide (subst (λ (x : ℕ). PathFits (lowered t) x w → ⊥) (sym s) (subst (λ (x : Graph). PathFits x depth w → ⊥) e n))
-
-pub predicates_pass : (t : TypedProgram) (g : Graph) (d depth : ℕ) (w : List Letter) (nodes : List PlainNode) → g ≡ lowered t → d ≡ depth →
-    path_decision g depth w ≡ refuted nodes → (NumbersFit g w nodes → ⊥) → NumberPasses t d w
-predicates_pass t g d depth w nodes e s p n =
-    let decided : path_decision (lowered t) d w ≡ refuted nodes =
-    subst (λ (x : ℕ). path_decision (lowered t) x w ≡ refuted nodes) (sym s) (subst (λ (x : Graph). path_decision x depth w ≡ refuted nodes) e p) in
+pub predicates_pass : (t : TypedProgram) (g : Graph) (depth : ℕ) (w : List Letter) (nodes : List PlainNode) → g ≡ lowered t →
+    path_decision g depth w ≡ refuted nodes → (NumbersFit g w nodes → ⊥) → NumberPasses t depth w
+predicates_pass t g depth w nodes e p n =
+    let decided : path_decision (lowered t) depth w ≡ refuted nodes = subst (λ (x : Graph). path_decision x depth w ≡ refuted nodes) e p in
     let none : NumbersFit (lowered t) w nodes → ⊥ = subst (λ (x : Graph). NumbersFit x w nodes → ⊥) e n in
     of_predicates nodes decided (λ (f : PredicatesFit (lowered t) w nodes). none (record {
-      cuts = decided_cuts (lowered t) d w nodes decided;
+      cuts = decided_cuts (lowered t) depth w nodes decided;
       sums = f.sums;
       steps = f.steps;
     }))
@@ -41,12 +37,11 @@ told_passes t point w step causes.Short h = absurd h
 told_passes t point w step causes.Number h = h
 told_passes t point w step causes.BadChoice h = absurd h
 
-pub run_passes : (t : TypedProgram) (g : Graph) (d depth : ℕ) (w : List Letter) (values : List ℤ) (step : ℕ) → g ≡ lowered t → d ≡ depth →
-    path_decision g depth w ≡ whole values → ToldPasses t (point_of values) w step → NumberPasses t d w
-run_passes t g d depth w values step e s p h =
-    of_run values step (subst (λ (x : ℕ). path_decision (lowered t) x w ≡ whole values) (sym s) (subst (λ (x : Graph). path_decision x depth w ≡ whole values) e p)) h
+pub run_passes : (t : TypedProgram) (g : Graph) (depth : ℕ) (w : List Letter) (values : List ℤ) (step : ℕ) → g ≡ lowered t →
+    path_decision g depth w ≡ whole values → ToldPasses t (point_of values) w step → NumberPasses t depth w
+run_passes t g depth w values step e p h = of_run values step (subst (λ (x : Graph). path_decision x depth w ≡ whole values) e p) h
 
-pub rounds_say : (t : TypedProgram) (g : Graph) (o : Options) (n : ℕ) (v w : List Letter) (nodes : List PlainNode) → g ≡ lowered t → v ≡ w → o.rounds ≤ n →
-    RefutesPath g v nodes → SaysOfWord t o n w (Unknown Rounds w)
-rounds_say t g o n v w nodes e s r h =
+pub rounds_say : (t : TypedProgram) (g : Graph) (l : Limits) (n : ℕ) (v w : List Letter) (nodes : List PlainNode) → g ≡ lowered t → v ≡ w → l.rounds ≤ n →
+    RefutesPath g v nodes → SaysOfWord t l n w (Unknown Rounds w)
+rounds_say t g l n v w nodes e s r h =
     (refl, (r, (nodes, subst (λ (x : List Letter). RefutesPath (lowered t) x nodes) s (subst (λ (x : Graph). RefutesPath x v nodes) e h))))

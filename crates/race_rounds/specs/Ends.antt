@@ -1,4 +1,4 @@
--- What an end of a race has to meet, over the program, the options and the history.
+-- What an end of a race has to meet, over the program, the limits and the history.
 use Rattle.std.specs.Prelude.{◌≡◌, ◌≤◌, ℕ, ℤ, List, length}
 use Rattle.std.specs.List.{AllByRecursion}
 use Rattle.math_facts.specs.Fits.{Fits}
@@ -28,11 +28,7 @@ use Rattle.race_core.specs.declared.ends.End.{End}
 use Rattle.race_core.specs.declared.ends.End.TheVariants.{Safe, Unsafe, Unknown}
 use Rattle.race_core.specs.declared.events.Entry.{Entry}
 use Rattle.race_core.specs.Histories.{Removed}
-
--- how long the history may be, and how many cuts a branch of Decide may have
-pub record Options : Type 0 where
-  pub rounds : ℕ
-  pub depth : ℕ
+use Rattle.race_rounds.specs.declared.limits.Limits.{Limits}
 
 -- ---- what is known of a word
 
@@ -59,26 +55,26 @@ pub data NumberPasses (t : TypedProgram) (depth : ℕ) (w : List Letter) : Type 
       NumberPasses t depth w
 
 -- why nothing is known of a word, where the history has n entries
-abbrev pub CauseMeets : TypedProgram → Options → ℕ → Cause → List Letter → Type 0
-CauseMeets t o n Rounds w = (o.rounds ≤ n) × ((nodes : List PlainNode) × RefutesPath (lowered t) w nodes)
-CauseMeets t o n Whole w = IsGap (lowered t) o.depth w
-CauseMeets t o n Number w = NumberPasses t o.depth w
+abbrev pub CauseMeets : TypedProgram → Limits → ℕ → Cause → List Letter → Type 0
+CauseMeets t l n Rounds w = (l.rounds ≤ n) × ((nodes : List PlainNode) × RefutesPath (lowered t) w nodes)
+CauseMeets t l n Whole w = IsGap (lowered t) l.depth w
+CauseMeets t l n Number w = NumberPasses t l.depth w
 
 -- what an end says of its word: it is feasible, and a run fails; or why nothing is known of it
-abbrev pub SaysOfWord : TypedProgram → Options → ℕ → List Letter → End → Type 0
-SaysOfWord t o n w Safe = ⊥
-SaysOfWord t o n w (Unsafe v steps choices) = (v ≡ w) × IsFeasible (alphabet_of (lowered t)) w × FailsAfter t w steps choices.items
-SaysOfWord t o n w (Unknown cause v) = (v ≡ w) × CauseMeets t o n cause w
+abbrev pub SaysOfWord : TypedProgram → Limits → ℕ → List Letter → End → Type 0
+SaysOfWord t l n w Safe = ⊥
+SaysOfWord t l n w (Unsafe v steps choices) = (v ≡ w) × IsFeasible (alphabet_of (lowered t)) w × FailsAfter t w steps choices.items
+SaysOfWord t l n w (Unknown cause v) = (v ≡ w) × CauseMeets t l n cause w
 
 -- ---- over a history
 
 module _ {E : Type 0} (automaton : E → Automaton) where
   -- the word is one of the program, and no automaton of the history accepts it
-  pub record IsKept (program : Automaton) (h : List (Entry E)) (w : List Letter) : Type 0 where
+  pub record WordIsKept (program : Automaton) (h : List (Entry E)) (w : List Letter) : Type 0 where
     pub error : Accepts program w
     pub left : Removed automaton h w → ⊥
 
   -- What an end has to meet: where it is Safe no word is kept; otherwise its word is, and the end says so much of it.
-  pub data EndMeets (t : TypedProgram) (o : Options) (h : List (Entry E)) (e : End) : Type 0 where
-    no_word : e ≡ Safe → ((w : List Letter) → IsKept (lowered t).automaton h w → ⊥) → EndMeets t o h e
-    one_word : (w : List Letter) → IsKept (lowered t).automaton h w → SaysOfWord t o (length h) w e → EndMeets t o h e
+  pub data EndMeets (t : TypedProgram) (l : Limits) (h : List (Entry E)) (e : End) : Type 0 where
+    no_word : e ≡ Safe → ((w : List Letter) → WordIsKept (lowered t).automaton h w → ⊥) → EndMeets t l h e
+    one_word : (w : List Letter) → WordIsKept (lowered t).automaton h w → SaysOfWord t l (length h) w e → EndMeets t l h e

@@ -11,7 +11,8 @@ use Rattle.race_core.specs.declared.events.Entry.{Entry}
 use Rattle.race_core.specs.Races.{Race}
 use Rattle.itp_automaton.specs.Certified.{Certificate, IsCertified}
 use Rattle.itp_automaton.specs.Saturated.{IsSaturated}
-use Rattle.race_rounds.specs.Ends.{Options, CauseMeets, SaysOfWord, EndMeets}
+use Rattle.race_rounds.specs.declared.limits.Limits.{Limits}
+use Rattle.race_rounds.specs.Ends.{CauseMeets, SaysOfWord, EndMeets}
 use Rattle.race_rounds.specs.declared.refining.Refined.{Refined}
 use Rattle.race_rounds.specs.declared.refining.Refined.TheVariants as refined
 use Rattle.race_rounds.specs.declared.settling.Settled.{Settled}
@@ -27,23 +28,23 @@ abbrev pub automaton_in : Certificate → Automaton
 automaton_in c = c.automaton
 
 -- what is made of a word whose rows are refuted
-abbrev pub IsRefined : TypedProgram → Options → ℕ → List Letter → Refined → Type 0
-IsRefined t o n w (refined.Evidence c) = IsEvidence (lowered t) w c
-IsRefined t o n w (refined.Unknown cause) = CauseMeets t o n cause w
+abbrev pub IsRefined : TypedProgram → Limits → ℕ → List Letter → Refined → Type 0
+IsRefined t l n w (refined.Evidence c) = IsEvidence (lowered t) w c
+IsRefined t l n w (refined.Unknown cause) = CauseMeets t l n cause w
 
 -- what is made of a kept word, where the history has n entries: an entry that may be added, or an end
-abbrev pub IsSettled : TypedProgram → Options → ℕ → List Letter → Settled → Type 0
-IsSettled t o n w (settled.Removed entry) = (n < o.rounds) × (entry.word ≡ w) × IsEvidence (lowered t) w entry.evidence
-IsSettled t o n w (settled.Ended end) = SaysOfWord t o n w end
+abbrev pub SettlesWord : TypedProgram → Limits → ℕ → List Letter → Settled → Type 0
+SettlesWord t l n w (settled.Removed entry) = (n < l.rounds) × (entry.word ≡ w) × IsEvidence (lowered t) w entry.evidence
+SettlesWord t l n w (settled.Ended end) = SaysOfWord t l n w end
 
 -- the entry's automaton is one of the program, certified, saturated, and accepts its word
 abbrev pub IsOwn : TypedProgram → Entry Certificate → Type 0
 IsOwn t e = IsEvidence (lowered t) e.word e.evidence
 
 -- what the workers keep: the race is one of the program, within the rounds, each entry is one of the program, and an end is met
-pub record IsRaceOf (t : TypedProgram) (o : Options) (r : Race Certificate) : Type 0 where
+pub record IsRaceOf (t : TypedProgram) (l : Limits) (r : Race Certificate) : Type 0 where
   pub program : r.program ≡ (lowered t).automaton
-  pub limit : r.limit ≡ o.rounds
-  pub within : length r.history ≤ o.rounds
+  pub limit : r.limit ≡ l.rounds
+  pub within : length r.history ≤ l.rounds
   pub own : AllByRecursion (IsOwn t) r.history
-  pub end : IfSome r.end (EndMeets automaton_in t o r.history)
+  pub end : IfSome r.end (EndMeets automaton_in t l r.history)

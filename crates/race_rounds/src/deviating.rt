@@ -1,5 +1,6 @@
 //! Kept words that leave the way of another, so that workers take different words.
 
+use crate::limits::Round;
 use nwa_base::{Kind, Letter, Nwa, NwaFault, Word, empty, run_of};
 use nwa_emptiness::{Found, find};
 use std::alloc::{AllocError, Global};
@@ -138,14 +139,14 @@ fn leave_more(
 }
 
 /// A word that goes other ways than the given one, at as many forks as the number of the worker says, where there are so many; `None`
-/// where there is no fork, or for worker 0. `version` varies which forks.
+/// where there is no fork, or for worker 0. The version varies which forks.
 pub(crate) fn deviating(
     alloc: Global,
     kept: &Nwa,
     word: &Word,
-    version: u64,
-    worker: u32,
+    round: Round,
 ) -> Result<Option<Word>, AllocError> {
+    let Round { version, worker } = round;
     if worker == 0 {
         return Ok(None);
     }

@@ -9,8 +9,9 @@ ghost use Rattle.typing_rules.specs.TypedParts.{typed_program};
 ghost use Rattle.lowered_graph.specs.Lowered.{lowered};
 ghost use Rattle.path_decide.specs.Decided.{IsWholePoint};
 ghost use Rattle.trace_replay.specs.FailureText.{numbers};
-ghost use Rattle.race_rounds.specs.Ends.{Options, SaysOfWord};
+ghost use Rattle.race_rounds.specs.Ends.{SaysOfWord};
 
+use crate::limits::Limits;
 use boogie_run::Choice;
 use letter_acts::Icfg;
 use nwa_base::Word;
@@ -35,17 +36,18 @@ pub(crate) fn failing(
     alloc: Global,
     program: &Typed,
     icfg: &Icfg,
-    depth: u32,
+    limits: Limits,
     word: Word,
     point: &[i128],
 ) -> Result<End, AllocError>
     requires lowered { icfg.now ≡ lowered (typed_program program.now) }
     requires accepted { Accepts icfg.now.automaton word }
     requires feasible { IsFeasible (alphabet_of icfg.now) word }
-    requires whole { IsWholePoint icfg.now depth word point.now }
-    ensures { (o : Options) (n : ℕ) → o.depth ≡ depth → IfOk result (SaysOfWord (typed_program program.now) o n word) }
+    requires whole { IsWholePoint icfg.now limits.depth word point.now }
+    ensures { (n : ℕ) → IfOk result (SaysOfWord (typed_program program.now) limits n word) }
 {
-    let _depth = depth;
+    // Contracts alone speak of them.
+    let _limits = limits;
     match choices_of(alloc, program, icfg, &word, point) {
         Ok(trail) => Ok(End::Unsafe {
             word,

@@ -5,10 +5,12 @@
 mod choosing;
 mod deviating;
 mod failing;
+mod limits;
 mod plans;
 mod refining;
 mod seeking;
 mod settling;
 
+pub use limits::{Limits, Round};
 pub use seeking::{Seeker, kept_word};
 pub use settling::{Settled, settle};

@@ -1,5 +1,7 @@
 //! What a worker does in a round.
 
+use crate::limits::Round;
+
 /// How many letters a walker tries before the first round, in about 20 milliseconds.
 const FIRST_MOVES: u64 = 40_000;
 
@@ -31,9 +33,10 @@ pub(crate) struct Plan {
     pub(crate) choice: Choice,
 }
 
-/// The plan of a worker where there are so many entries. Each choice solves programs that the others do not, so they take turns;
+/// The plan of a round. Each choice solves programs that the others do not, so they take turns;
 /// but in the first rounds, which are enough for most programs, worker 0 keeps to late rows, which cost least.
-pub(crate) fn plan_of(worker: u32, version: u64) -> Plan {
+pub(crate) fn plan_of(round: Round) -> Plan {
+    let Round { version, worker } = round;
     let moves = if version == 0 {
         FIRST_MOVES
     } else {

@@ -7,16 +7,17 @@ ghost use Rattle.path_rows.specs.Paths.{IsPathOf};
 ghost use Rattle.path_decide.specs.Decided.{IsRefutation};
 ghost use Rattle.nested_predicates.specs.Interpolants.{RefutesRows, HasCutsUpTo};
 ghost use Rattle.nested_refutations.specs.Numbers.{NumbersFit};
-ghost use Rattle.race_rounds.specs.Ends.{Options};
 ghost use Rattle.race_rounds.specs.Rounds.{IsEvidence, IsRefined};
 
 use crate::choosing::chosen;
+use crate::limits::Limits;
 use crate::plans::Choice;
 use farkas_check::Refutation;
+use int_decide::{Answer, DecideFault};
 use itp_automaton::{BuildFault, Certified, build};
 use letter_acts::Icfg;
 use nested_itp::{ItpFault, interpolants};
-use path_decide::{Finding, plain_path};
+use path_decide::plain_path;
 use path_rows::PathSystem;
 use race_core::Cause;
 use std::alloc::{AllocError, Global};
@@ -84,27 +85,29 @@ pub(crate) fn refine<R: Threads + Sync>(
     icfg: &Icfg,
     path: &PathSystem,
     refutation: &Refutation,
-    depth: u32,
+    limits: Limits,
     choice: Choice,
 ) -> Result<Refined, AllocError>
     requires path { IsPathOf icfg.now path.now }
-    requires refutation { IsRefutation icfg.now depth path.now.word refutation.now }
-    requires depth { depth ≤ 64 }
-    ensures { (t : TypedProgram) (o : Options) → icfg.now ≡ lowered t → o.depth ≡ depth → IfOk result (λ r. (n : ℕ) → IsRefined t o n path.now.word r) }
+    requires refutation { IsRefutation icfg.now limits.depth path.now.word refutation.now }
+    requires depth { limits.depth ≤ 64 }
+    ensures { (t : TypedProgram) → icfg.now ≡ lowered t → IfOk result (λ r. (n : ℕ) → IsRefined t limits n path.now.word r) }
 {
+    let depth = limits.depth;
     if let Some(automaton) = automaton_chosen(rt, alloc, icfg, path, refutation, depth, choice)? {
         return Ok(Refined::Evidence(automaton));
     }
     if let Some(automaton) = automaton_under(rt, alloc, icfg, path, refutation)? {
         return Ok(Refined::Evidence(automaton));
     }
-    match plain_path(alloc, path, depth)? {
-        Finding::Refuted(own) => match automaton_under(rt, alloc, icfg, path, &own)? {
+    match plain_path(alloc, path, depth) {
+        Ok(Answer::Refuted(own)) => match automaton_under(rt, alloc, icfg, path, &own)? {
             Some(automaton) => Ok(Refined::Evidence(automaton)),
             None => Ok(Refined::Unknown(Cause::Number)),
         },
-        Finding::Gap => Ok(Refined::Unknown(Cause::Whole)),
-        Finding::Past => Ok(Refined::Unknown(Cause::Number)),
-        Finding::Whole(_) => unreachable!(),
+        Ok(Answer::Whole(_)) => unreachable!(),
+        Err(DecideFault::Gap) => Ok(Refined::Unknown(Cause::Whole)),
+        Err(DecideFault::Past) => Ok(Refined::Unknown(Cause::Number)),
+        Err(DecideFault::Memory) => Err(AllocError),
     }
 }

@@ -5,6 +5,7 @@ ghost use Rattle.nwa_base.specs.Acceptance.{Accepts};
 ghost use Rattle.nwa_emptiness.specs.Found.{IsFound};
 
 use crate::deviating::deviating;
+use crate::limits::Round;
 use crate::plans::{Plan, plan_of};
 use concrete_walks::Walker;
 use letter_acts::Icfg;
@@ -62,28 +63,27 @@ fn if_kept(alloc: Global, kept: &Nwa, word: Option<Word>) -> Result<Option<Word>
     }
 }
 
-/// A kept word: one that the seeker proposes, else one that is found, or that no word is kept. `version` is how many entries there
-/// are. Workers with different numbers look for different words.
+/// A kept word: one that the seeker proposes, else one that is found, or that no word is kept. Workers with
+/// different numbers look for different words.
 pub fn kept_word(
     alloc: Global,
     icfg: &Icfg,
     kept: &Nwa,
-    version: u64,
-    worker: u32,
+    round: Round,
     seeker: &mut Seeker,
 ) -> Result<Found, AllocError>
     ensures { IfOk result (IsFound kept.now) }
 {
-    let Plan { moves, .. } = plan_of(worker, version);
+    let Plan { moves, .. } = plan_of(round);
     let walked = seeker.walked(alloc, icfg, moves)?;
     if let Some(word) = if_kept(alloc, kept, walked)? {
         return Ok(Found::Word(word));
     }
-    let word = match find(alloc, kept, worker)? {
+    let word = match find(alloc, kept, round.worker)? {
         Found::Word(word) => word,
         Found::Empty => return Ok(Found::Empty),
     };
-    let other = deviating(alloc, kept, &word, version, worker)?;
+    let other = deviating(alloc, kept, &word, round)?;
     match if_kept(alloc, kept, other)? {
         Some(other) => Ok(Found::Word(other)),
         None => Ok(Found::Word(word)),

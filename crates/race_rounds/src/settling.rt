@@ -11,17 +11,18 @@ ghost use Rattle.typing_rules.specs.TypedParts.{typed_program};
 ghost use Rattle.lowered_graph.specs.Lowered.{lowered};
 ghost use Rattle.path_rows.specs.Paths.{IsPathOf};
 ghost use Rattle.path_decide.specs.Decided.{IsRefutation};
-ghost use Rattle.race_rounds.specs.Ends.{Options};
-ghost use Rattle.race_rounds.specs.Rounds.{IsSettled};
+ghost use Rattle.race_rounds.specs.Rounds.{SettlesWord};
 
 use crate::failing::failing;
+use crate::limits::{Limits, Round};
 use crate::plans::{Plan, plan_of};
 use crate::refining::{Refined, refine};
 use farkas_check::Refutation;
+use int_decide::{Answer, DecideFault};
 use itp_automaton::Certified;
 use letter_acts::Icfg;
 use nwa_base::Word;
-use path_decide::{Finding, decide_path};
+use path_decide::decide_path;
 use path_rows::{PathSystem, rows_of};
 use race_core::{Cause, End, Entry};
 use std::alloc::{AllocError, Global};
@@ -37,28 +38,23 @@ pub enum Settled {
     Ended(End),
 }
 
-/// What is made of a kept word: an entry with it, or an end. `version` is how many entries there are. Workers with different numbers
-/// make different automata.
+/// What is made of a kept word: an entry with it, or an end. Workers with different numbers make different automata.
 pub fn settle<R: Threads + Sync>(
     rt: &R,
     alloc: Global,
     program: &Typed,
     icfg: &Icfg,
-    rounds: u64,
-    depth: u32,
-    version: u64,
-    worker: u32,
+    limits: Limits,
+    round: Round,
     word: Word,
 ) -> Result<Settled, AllocError>
     requires lowered { icfg.now ≡ lowered (typed_program program.now) }
     requires accepted { Accepts icfg.now.automaton word }
-    requires depth { depth ≤ 64 }
-    ensures { (o : Options) → o.rounds ≡ rounds → o.depth ≡ depth → IfOk result (IsSettled (typed_program program.now) o version word) }
+    requires depth { limits.depth ≤ 64 }
+    ensures { IfOk result (SettlesWord (typed_program program.now) limits round.version word) }
 {
     let path = rows_of(alloc, icfg, &word)?;
-    settle_rows(
-        rt, alloc, program, icfg, rounds, depth, version, worker, word, &path,
-    )
+    settle_rows(rt, alloc, program, icfg, limits, round, word, &path)
 }
 
 /// What is made of a kept word, by its rows.
@@ -67,10 +63,8 @@ fn settle_rows<R: Threads + Sync>(
     alloc: Global,
     program: &Typed,
     icfg: &Icfg,
-    rounds: u64,
-    depth: u32,
-    version: u64,
-    worker: u32,
+    limits: Limits,
+    round: Round,
     word: Word,
     path: &PathSystem,
 ) -> Result<Settled, AllocError>
@@ -79,55 +73,45 @@ fn settle_rows<R: Threads + Sync>(
     requires path { IsPathOf icfg.now path.now }
     requires exact { (point : ℕ → ℤ) → AllByRecursion (Holds point) path.now.rows → IsFeasible (alphabet_of icfg.now) word }
     requires word { path.now.word ≡ word }
-    requires depth { depth ≤ 64 }
-    ensures { (o : Options) → o.rounds ≡ rounds → o.depth ≡ depth → IfOk result (IsSettled (typed_program program.now) o version word) }
+    requires depth { limits.depth ≤ 64 }
+    ensures { IfOk result (SettlesWord (typed_program program.now) limits round.version word) }
 {
-    match decide_path(alloc, path, depth)? {
-        Finding::Refuted(refutation) => refuted(
-            rt,
-            alloc,
-            icfg,
-            rounds,
-            depth,
-            version,
-            worker,
-            word,
-            path,
-            &refutation,
-        ),
-        Finding::Whole(point) => {
-            let end = failing(alloc, program, icfg, depth, word, &point)?;
+    match decide_path(alloc, path, limits.depth) {
+        Ok(Answer::Refuted(refutation)) => {
+            refuted(rt, alloc, icfg, limits, round, word, path, &refutation)
+        }
+        Ok(Answer::Whole(point)) => {
+            let end = failing(alloc, program, icfg, limits, word, &point)?;
             Ok(Settled::Ended(end))
         }
-        Finding::Gap => Ok(unknown(Cause::Whole, word)),
-        Finding::Past => Ok(unknown(Cause::Number, word)),
+        Err(DecideFault::Gap) => Ok(unknown(Cause::Whole, word)),
+        Err(DecideFault::Past) => Ok(unknown(Cause::Number, word)),
+        Err(DecideFault::Memory) => Err(AllocError),
     }
 }
 
-/// What is made of a kept word whose rows are refuted: an entry only where there are fewer than `rounds`.
+/// What is made of a kept word whose rows are refuted: an entry only where there are fewer than the rounds.
 fn refuted<R: Threads + Sync>(
     rt: &R,
     alloc: Global,
     icfg: &Icfg,
-    rounds: u64,
-    depth: u32,
-    version: u64,
-    worker: u32,
+    limits: Limits,
+    round: Round,
     word: Word,
     path: &PathSystem,
     refutation: &Refutation,
 ) -> Result<Settled, AllocError>
     requires path { IsPathOf icfg.now path.now }
     requires word { path.now.word ≡ word }
-    requires refutation { IsRefutation icfg.now depth path.now.word refutation.now }
-    requires depth { depth ≤ 64 }
-    ensures { (t : TypedProgram) (o : Options) → icfg.now ≡ lowered t → o.rounds ≡ rounds → o.depth ≡ depth → IfOk result (IsSettled t o version word) }
+    requires refutation { IsRefutation icfg.now limits.depth path.now.word refutation.now }
+    requires depth { limits.depth ≤ 64 }
+    ensures { (t : TypedProgram) → icfg.now ≡ lowered t → IfOk result (SettlesWord t limits round.version word) }
 {
-    if version >= rounds {
+    if round.version >= limits.rounds {
         return Ok(unknown(Cause::Rounds, word));
     }
-    let Plan { choice, .. } = plan_of(worker, version);
-    match refine(rt, alloc, icfg, path, refutation, depth, choice)? {
+    let Plan { choice, .. } = plan_of(round);
+    match refine(rt, alloc, icfg, path, refutation, limits, choice)? {
         Refined::Evidence(evidence) => Ok(Settled::Removed(Entry { word, evidence })),
         Refined::Unknown(cause) => Ok(unknown(cause, word)),
     }

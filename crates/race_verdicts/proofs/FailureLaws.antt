@@ -14,31 +14,32 @@ use Rattle.race_core.specs.declared.ends.End.TheVariants.{Safe, Unsafe}
 use Rattle.race_core.specs.declared.events.Entry.{Entry}
 use Rattle.race_core.specs.Races.{Race}
 use Rattle.itp_automaton.specs.Certified.{Certificate}
-use Rattle.race_rounds.specs.Ends.{Options, FailsAfter, EndMeets, no_word, one_word}
+use Rattle.race_rounds.specs.declared.limits.Limits.{Limits}
+use Rattle.race_rounds.specs.Ends.{FailsAfter, EndMeets, no_word, one_word}
 use Rattle.race_rounds.specs.Rounds.{automaton_in, IsRaceOf}
 use Rattle.race_verdicts.specs.Verdicts.{IsFailureBy, IsFailureOf}
 
-said : (t : TypedProgram) (o : Options) (h : List (Entry Certificate)) (w : List Letter) (steps : ℕ) (choices : Vec ℤ Global) →
-    EndMeets automaton_in t o h (Unsafe w steps choices) → (v : List Letter) × FailsAfter t v steps choices.items
-said t o h w steps choices (no_word e n) = absurd (cc)
-said t o h w steps choices (one_word v k s) = (v, s.2)
+said : (t : TypedProgram) (limits : Limits) (h : List (Entry Certificate)) (w : List Letter) (steps : ℕ) (choices : Vec ℤ Global) →
+    EndMeets automaton_in t limits h (Unsafe w steps choices) → (v : List Letter) × FailsAfter t v steps choices.items
+said t limits h w steps choices (no_word e n) = absurd (cc)
+said t limits h w steps choices (one_word v k s) = (v, s.2)
 
-fails : (t : TypedProgram) (o : Options) (r : Race Certificate) (w : List Letter) (steps : ℕ) (choices : Vec ℤ Global) → IsRaceOf t o r →
+fails : (t : TypedProgram) (limits : Limits) (r : Race Certificate) (w : List Letter) (steps : ℕ) (choices : Vec ℤ Global) → IsRaceOf t limits r →
     r.end ≡ Some (Unsafe w steps choices) → (v : List Letter) × FailsAfter t v steps choices.items
-fails t o r w steps choices race e =
-    said t o r.history w steps choices (subst (λ (x : Option End). IfSome x (EndMeets automaton_in t o r.history)) e race.end)
+fails t limits r w steps choices race e =
+    said t limits r.history w steps choices (subst (λ (x : Option End). IfSome x (EndMeets automaton_in t limits r.history)) e race.end)
 
-pub replays : (t : TypedProgram) (o : Options) (r : Race Certificate) (w : List Letter) (steps : ℕ) (choices : Vec ℤ Global) → IsRaceOf t o r →
+pub replays : (t : TypedProgram) (limits : Limits) (r : Race Certificate) (w : List Letter) (steps : ℕ) (choices : Vec ℤ Global) → IsRaceOf t limits r →
     r.end ≡ Some (Unsafe w steps choices) → (i : ℕ) × Replays t steps choices.items i
-replays t o r w steps choices race e = let f = fails t o r w steps choices race e in (f.1.told.site.id.number, f.1.told.trail.replays)
+replays t limits r w steps choices race e = let f = fails t limits r w steps choices race e in (f.1.told.site.id.number, f.1.told.trail.replays)
 
-pub values_fit : (t : TypedProgram) (o : Options) (r : Race Certificate) (w : List Letter) (steps : ℕ) (choices : Vec ℤ Global) → IsRaceOf t o r →
+pub values_fit : (t : TypedProgram) (limits : Limits) (r : Race Certificate) (w : List Letter) (steps : ℕ) (choices : Vec ℤ Global) → IsRaceOf t limits r →
     r.end ≡ Some (Unsafe w steps choices) → AllByRecursion Fits choices.items
-values_fit t o r w steps choices race e = (fails t o r w steps choices race e).1.fit
+values_fit t limits r w steps choices race e = (fails t limits r w steps choices race e).1.fit
 
-pub failure : (t : TypedProgram) (o : Options) (r : Race Certificate) (w : List Letter) (rounds steps : ℕ) (choices : Vec ℤ Global) (f : Failure) → IsRaceOf t o r →
+pub failure : (t : TypedProgram) (limits : Limits) (r : Race Certificate) (w : List Letter) (rounds steps : ℕ) (choices : Vec ℤ Global) (f : Failure) → IsRaceOf t limits r →
     r.end ≡ Some (Unsafe w steps choices) → rounds ≡ length r.history → IsFailureBy t rounds steps choices.items f → IsFailureOf t r f
-failure t o r w rounds steps choices f race e n b = record {
+failure t limits r w rounds steps choices f race e n b = record {
   word = w;
   choices = choices;
   end = e ∙ subst (λ (s : ℕ). Some (Unsafe w steps choices) ≡ Some (Unsafe w s choices)) (sym b.steps_are) refl;

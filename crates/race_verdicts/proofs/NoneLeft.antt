@@ -17,7 +17,8 @@ use Rattle.race_core.specs.Histories.{Removed}
 use Rattle.race_core.specs.Races.{Race}
 use Rattle.itp_automaton.specs.Certified.{Certificate, IsCertified}
 use Rattle.proof_build.specs.Unwound.{AreCovering}
-use Rattle.race_rounds.specs.Ends.{Options, IsKept, EndMeets, no_word, one_word, SaysOfWord}
+use Rattle.race_rounds.specs.declared.limits.Limits.{Limits}
+use Rattle.race_rounds.specs.Ends.{WordIsKept, EndMeets, no_word, one_word, SaysOfWord}
 use Rattle.race_rounds.specs.Rounds.{automaton_in, IsOwn, IsRaceOf}
 use Rattle.race_verdicts.proofs.Accepted.{IsDecided, accepted_or_not}
 
@@ -47,9 +48,9 @@ removing (e ∷ h) w (inr r) = let x = removing h w r in (x.0, inr x.1, x.2)
 
 -- ---- a race that ended so
 
-none_left : (t : TypedProgram) (o : Options) (h : List (Entry Certificate)) → EndMeets automaton_in t o h Safe → (w : List Letter) → IsKept automaton_in (lowered t).automaton h w → ⊥
-none_left t o h (no_word e n) w k = n w k
-none_left t o h (one_word v k s) w x = absurd s
+none_left : (t : TypedProgram) (limits : Limits) (h : List (Entry Certificate)) → EndMeets automaton_in t limits h Safe → (w : List Letter) → WordIsKept automaton_in (lowered t).automaton h w → ⊥
+none_left t limits h (no_word e n) w k = n w k
+none_left t limits h (one_word v k s) w x = absurd s
 
 abbrev AreCertified : Graph → List Certificate → Type 0
 AreCertified g cs = AllByRecursion (IsCertified (alphabet_of g)) cs
@@ -58,24 +59,24 @@ all_certified : (t : TypedProgram) (h : List (Entry Certificate)) → AllByRecur
 all_certified t [] a = tt
 all_certified t (e ∷ h) a = (a.0.certified, all_certified t h a.1)
 
-pub certified : (g : Graph) (t : TypedProgram) (o : Options) (r : Race Certificate) (cs : List Certificate) → g ≡ lowered t → IsRaceOf t o r →
+pub certified : (g : Graph) (t : TypedProgram) (limits : Limits) (r : Race Certificate) (cs : List Certificate) → g ≡ lowered t → IsRaceOf t limits r →
     cs ≡ map evidence r.history → AreCertified g cs
-certified g t o r cs e race s =
+certified g t limits r cs e race s =
     subst (λ (x : Graph). AreCertified x cs) (sym e) (subst (λ (x : List Certificate). AreCertified (lowered t) x) (sym s) (all_certified t r.history race.own))
 
-all_covered : (t : TypedProgram) (o : Options) (r : Race Certificate) → IsRaceOf t o r → r.end ≡ Some Safe →
+all_covered : (t : TypedProgram) (limits : Limits) (r : Race Certificate) → IsRaceOf t limits r → r.end ≡ Some Safe →
     AreCovering (lowered t).automaton (map (λ c. c.automaton) (map evidence r.history))
-all_covered t o r race end = λ w a.
-    let met : EndMeets automaton_in t o r.history Safe = subst (λ (x : Option End). IfSome x (EndMeets automaton_in t o r.history)) end race.end in
-    removing r.history w (either (Removed automaton_in r.history w) (removed_or_not r.history w) (λ n. none_left t o r.history met w (record { error = a; left = n })))
+all_covered t limits r race end = λ w a.
+    let met : EndMeets automaton_in t limits r.history Safe = subst (λ (x : Option End). IfSome x (EndMeets automaton_in t limits r.history)) end race.end in
+    removing r.history w (either (Removed automaton_in r.history w) (removed_or_not r.history w) (λ n. none_left t limits r.history met w (record { error = a; left = n })))
 
 automata_are : (xs : List (Bor Certificate)) → map (λ c. c.now.automaton) xs ≡ map (λ c. c.automaton) (map (λ c. c.now) xs)
 automata_are [] = refl
 automata_are (x ∷ xs) = ap (λ (ys : List Automaton). x.now.automaton ∷ ys) (automata_are xs)
 
-pub covered : (g : Graph) (t : TypedProgram) (o : Options) (r : Race Certificate) (xs : List (Bor Certificate)) → g ≡ lowered t → IsRaceOf t o r → r.end ≡ Some Safe →
+pub covered : (g : Graph) (t : TypedProgram) (limits : Limits) (r : Race Certificate) (xs : List (Bor Certificate)) → g ≡ lowered t → IsRaceOf t limits r → r.end ≡ Some Safe →
     map (λ c. c.now) xs ≡ map evidence r.history → AreCovering g.automaton (map (λ c. c.now.automaton) xs)
-covered g t o r xs e race end s =
+covered g t limits r xs e race end s =
     subst (λ (x : Graph). AreCovering x.automaton (map (λ c. c.now.automaton) xs)) (sym e)
     (subst (λ (bs : List Automaton). AreCovering (lowered t).automaton bs) (sym (automata_are xs ∙ ap (λ (cs : List Certificate). map (λ c. c.automaton) cs) s))
-    (all_covered t o r race end))
+    (all_covered t limits r race end))

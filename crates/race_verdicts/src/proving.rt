@@ -6,7 +6,7 @@ ghost use Rattle.lowered_graph.specs.Lowered.{lowered};
 ghost use Rattle.proof_form.specs.Annotations.{is_annotation};
 ghost use Rattle.proof_check.specs.Proves.{Proves};
 ghost use Rattle.race_core.specs.declared.ends.End.TheVariants.{Safe};
-ghost use Rattle.race_rounds.specs.Ends.{Options};
+ghost use Rattle.race_rounds.specs.declared.limits.Limits.{Limits};
 ghost use Rattle.race_rounds.specs.Rounds.{IsRaceOf};
 
 use itp_automaton::Certified;
@@ -40,7 +40,7 @@ pub(crate) fn annotation_of(
     race: &Shared<Certified>,
 ) -> Result<Annotation, AllocError>
     requires lowered { icfg.now ≡ lowered (typed_program program.now) }
-    requires race { (o : Options) × IsRaceOf (typed_program program.now) o race.now }
+    requires race { (l : Limits) × IsRaceOf (typed_program program.now) l race.now }
     requires safe { race.now.end ≡ Some Safe }
     ensures proves { IfOk result (Proves icfg.now) }
     ensures lines { IfOk result (λ a. IsTrue (is_annotation a)) }

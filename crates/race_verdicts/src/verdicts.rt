@@ -3,7 +3,7 @@
 ghost use Rattle.std.specs.Prelude.{◌≡◌, IfOk, IsSome};
 ghost use Rattle.typing_rules.specs.TypedParts.{typed_program};
 ghost use Rattle.lowered_graph.specs.Lowered.{lowered};
-ghost use Rattle.race_rounds.specs.Ends.{Options};
+ghost use Rattle.race_rounds.specs.declared.limits.Limits.{Limits};
 ghost use Rattle.race_rounds.specs.Rounds.{IsRaceOf};
 ghost use Rattle.race_verdicts.specs.Verdicts.{IsVerdict};
 
@@ -42,7 +42,7 @@ pub fn verdict_of(
     race: &Shared<Certified>,
 ) -> Result<Verdict, AllocError>
     requires lowered { icfg.now ≡ lowered (typed_program program.now) }
-    requires race { (o : Options) × IsRaceOf (typed_program program.now) o race.now }
+    requires race { (l : Limits) × IsRaceOf (typed_program program.now) l race.now }
     requires ended { IsSome race.now.end }
     ensures { IfOk result (IsVerdict (typed_program program.now) race.now) }
 {

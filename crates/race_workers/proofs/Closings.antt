@@ -1,12 +1,6 @@
 -- The end of a race.
-use Rattle.std.proofs.Common.{◌≡◌, Result, Ok, Err, sym}
+use Rattle.std.proofs.Common.{◌≡◌, Result, Ok, Err}
 use Rattle.std.specs.Prelude.{IfOk}
-use Rattle.race_rounds.specs.Ends.{Options}
-use Rattle.race_workers.specs.declared.limits.Limits.{Limits}
-use Rattle.race_workers.specs.Parts.{options}
-
-pub same_options : (l : Limits) (o : Options) → o.rounds ≡ l.rounds → o.depth ≡ l.depth → options l ≡ o
-same_options l o r d = λ i. record { rounds = sym r i; depth = sym d i }
 
 pub ok_then : {A B : Type 0} (r : Result A B) (x : A) (P : Type 0) → r ≡ Ok x → IfOk r (λ y. P) → P
 ok_then (Ok y) x P e h = h

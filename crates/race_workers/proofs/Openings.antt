@@ -3,7 +3,7 @@ use Rattle.std.proofs.Common.{◌≡◌, ℕ, List, [], ◌∷◌, refl, ap, ◌
 use Rattle.std.specs.List.{AllByRecursion}
 use Rattle.typed_tree.specs.TypedTree.{TypedProgram}
 use Rattle.itp_automaton.specs.Certified.{Certificate}
-use Rattle.race_rounds.specs.Ends.{Options}
+use Rattle.race_rounds.specs.declared.limits.Limits.{Limits}
 use Rattle.version_cell.specs.Passes.{Cell, Known, IsPassOf, newcomer}
 use Rattle.race_workers.specs.Parts.{IsPassAt, IsFresh}
 use Rattle.race_workers.proofs.Parts.{fresh}
@@ -16,10 +16,10 @@ first_fresh c n p s of_cell e = record {
   end = ap (λ (k : Known Certificate). k.finish) s;
 }
 
-pub all_fresh : (c : Cell) (t : TypedProgram) (o : Options) (n : ℕ) (l : List (Known Certificate)) → AllByRecursion (IsFresh c n) l →
-    AllByRecursion (IsPassAt c t o n) l
-all_fresh c t o n [] h = tt
-all_fresh c t o n (p ∷ l) h = (fresh c t o n p h.0, all_fresh c t o n l h.1)
+pub all_fresh : (c : Cell) (t : TypedProgram) (limits : Limits) (n : ℕ) (l : List (Known Certificate)) → AllByRecursion (IsFresh c n) l →
+    AllByRecursion (IsPassAt c t limits n) l
+all_fresh c t limits n [] h = tt
+all_fresh c t limits n (p ∷ l) h = (fresh c t limits n p h.0, all_fresh c t limits n l h.1)
 
 pub fresh_own : (c : Cell) (n : ℕ) (p : Known Certificate) → IsFresh c n p → IsFresh c p.shares p
 fresh_own c n p f = record { of_cell = f.of_cell; shares = refl; entries = f.entries; end = f.end }

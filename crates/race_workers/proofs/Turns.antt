@@ -15,12 +15,12 @@ use Rattle.race_core.specs.declared.events.Why.TheVariants.{Ended, Full, Stale}
 use Rattle.race_core.specs.Histories.{Removed, Keeps}
 use Rattle.race_core.specs.Steps.{publish_refusal, finish_refusal}
 use Rattle.itp_automaton.specs.Certified.{Certificate}
-use Rattle.race_rounds.specs.Ends.{IsKept}
+use Rattle.race_rounds.specs.Ends.{WordIsKept}
 use Rattle.race_rounds.specs.Rounds.{automaton_in, IsOwn}
 use Rattle.version_cell.specs.Counts.{Begins}
 use Rattle.version_cell.specs.Passes.{Cell, Known, IsPassOf, WasAt, shown, owning, Names}
 use Rattle.version_cell.proofs.Beginnings.{begins_length}
-use Rattle.race_workers.specs.declared.limits.Limits.{Limits}
+use Rattle.race_rounds.specs.declared.limits.Limits.{Limits}
 use Rattle.race_workers.specs.declared.rounds.Turn.{Turn}
 use Rattle.race_workers.specs.declared.rounds.Turn.TheVariants as turns
 use Rattle.race_workers.specs.Parts.{IsJob, IsAsSeen, turn_after, IsStillKept, Offers, Seeks, Pursues}
@@ -106,7 +106,7 @@ removed_front (x ∷ h) more w (inr r) = inr (removed_front h more w r)
 
 -- a word that is not kept is not kept later
 pub gone : (program left : Automaton) (h k : List (Entry Certificate)) (w : List Letter) → Keeps automaton_in program h left → Begins h k → (Accepts left w → ⊥) →
-    IsKept automaton_in program k w → ⊥
+    WordIsKept automaton_in program k w → ⊥
 gone program left h k w keeps s none x =
     none ((keeps w).1 (x.error, λ r. x.left (subst (λ (l : List (Entry Certificate)). Removed automaton_in l w) (sym s.1) (removed_front h s.0 w r))))
 
@@ -171,6 +171,6 @@ ended t p q (Some e) (inr o) = o.1
 
 -- ---- an entry that was made for a kept word
 
-pub made : (t : TypedProgram) (p : Known Certificate) (w : List Letter) (e : Entry Certificate) → IsKept automaton_in (lowered t).automaton p.seen w → IsOwn t e → e.word ≡ w →
+pub made : (t : TypedProgram) (p : Known Certificate) (w : List Letter) (e : Entry Certificate) → WordIsKept automaton_in (lowered t).automaton p.seen w → IsOwn t e → e.word ≡ w →
     Seeks t p p (turns.Again (Some e))
-made t p w e kept own same = (own, subst (λ (v : List Letter). IsKept automaton_in (lowered t).automaton p.seen v) (sym same) kept)
+made t p w e kept own same = (own, subst (λ (v : List Letter). WordIsKept automaton_in (lowered t).automaton p.seen v) (sym same) kept)

@@ -12,16 +12,13 @@ use Rattle.race_core.specs.declared.events.Why.TheVariants.{Ended, Full, Stale}
 use Rattle.race_core.specs.Ends.{kind_of}
 use Rattle.race_core.specs.Histories.{Keeps}
 use Rattle.itp_automaton.specs.Certified.{Certificate}
-use Rattle.race_rounds.specs.Ends.{Options, IsKept, EndMeets}
+use Rattle.race_rounds.specs.declared.limits.Limits.{Limits}
+use Rattle.race_rounds.specs.Ends.{WordIsKept, EndMeets}
 use Rattle.race_rounds.specs.Rounds.{automaton_in, IsOwn}
 use Rattle.version_cell.specs.Counts.{times}
 use Rattle.version_cell.specs.Passes.{Cell, Known, IsPassOf}
-use Rattle.race_workers.specs.declared.limits.Limits.{Limits}
 use Rattle.race_workers.specs.declared.rounds.Turn.{Turn}
 use Rattle.race_workers.specs.declared.rounds.Turn.TheVariants as turns
-
-abbrev pub options : Limits → Options
-options l = record { rounds = l.rounds; depth = l.depth }
 
 -- the graph is that of the program, and the cell was opened with its automaton
 pub record IsJob (t : TypedProgram) (g : Graph) (l : Limits) (c : Cell) : Type 0 where
@@ -34,15 +31,15 @@ abbrev pub OwnsEntries : TypedProgram → Known Certificate → Type 0
 OwnsEntries t p = (place : ℕ) → 0 < times place p.own → (e : Entry Certificate) × (slice_get p.seen place ≡ Some e) × IsOwn t e
 
 -- an end that the pass has set is met over the history that it has seen, and it has seen that end
-abbrev pub OwnsEnd : TypedProgram → Options → Known Certificate → Type 0
-OwnsEnd t o p = (e : End) → p.finish ≡ Some e → (p.ended ≡ Some (kind_of e)) × EndMeets automaton_in t o p.seen e
+abbrev pub OwnsEnd : TypedProgram → Limits → Known Certificate → Type 0
+OwnsEnd t l p = (e : End) → p.finish ≡ Some e → (p.ended ≡ Some (kind_of e)) × EndMeets automaton_in t l p.seen e
 
 -- A pass of the cell with n shares, of which each own entry is one of the program, and an own end is met.
-pub record IsPassAt (c : Cell) (t : TypedProgram) (o : Options) (n : ℕ) (p : Known Certificate) : Type 0 where
+pub record IsPassAt (c : Cell) (t : TypedProgram) (l : Limits) (n : ℕ) (p : Known Certificate) : Type 0 where
   pub of_cell : IsPassOf c p
   pub shares : p.shares ≡ n
   pub entries : OwnsEntries t p
-  pub end : OwnsEnd t o p
+  pub end : OwnsEnd t l p
 
 -- a pass of the cell with n shares that has added nothing
 pub record IsFresh (c : Cell) (n : ℕ) (p : Known Certificate) : Type 0 where
@@ -83,11 +80,11 @@ Offers p q e turns.Over = IsSome q.ended
 -- seen an end.
 abbrev pub Seeks : TypedProgram → Known Certificate → Known Certificate → Turn → Type 0
 Seeks t p q (turns.Again None) = length p.seen < length q.seen
-Seeks t p q (turns.Again (Some e)) = IsOwn t e × IsKept automaton_in (lowered t).automaton q.seen e.word
+Seeks t p q (turns.Again (Some e)) = IsOwn t e × WordIsKept automaton_in (lowered t).automaton q.seen e.word
 Seeks t p q turns.Over = IsSome q.ended
 
 -- What comes of a round: the entry that is carried is offered, or its word is no longer kept; where there is none, or its word is not kept, a kept
 -- word is taken.
 abbrev pub Pursues : TypedProgram → Known Certificate → Known Certificate → Option (Entry Certificate) → Turn → Type 0
 Pursues t p q None turn = Seeks t p q turn
-Pursues t p q (Some e) turn = Offers p q e turn ⊎ ((IsKept automaton_in (lowered t).automaton q.seen e.word → ⊥) × Seeks t p q turn)
+Pursues t p q (Some e) turn = Offers p q e turn ⊎ ((WordIsKept automaton_in (lowered t).automaton q.seen e.word → ⊥) × Seeks t p q turn)

@@ -5,7 +5,7 @@ ghost use Rattle.typing_rules.specs.TypedParts.{typed_program};
 ghost use Rattle.race_rounds.specs.Ends.{EndMeets};
 ghost use Rattle.race_rounds.specs.Rounds.{automaton_in};
 ghost use Rattle.version_cell.specs.Counts.{Begins};
-ghost use Rattle.race_workers.specs.Parts.{options, IsJob, IsPassAt, Seeks};
+ghost use Rattle.race_workers.specs.Parts.{IsJob, IsPassAt, Seeks};
 
 use crate::gates::{Gate, Moment};
 use crate::jobs::Job;
@@ -25,10 +25,10 @@ pub(crate) fn finish<G: Gate + Sync, R: Wait>(
     end: End,
 ) -> Turn
     requires job { IsJob (typed_program job.now.program.now) job.now.icfg.now job.now.limits job.now.cell.now }
-    requires pass { IsPassAt job.now.cell.now (typed_program job.now.program.now) (options job.now.limits) pass.old.shares pass.old }
+    requires pass { IsPassAt job.now.cell.now (typed_program job.now.program.now) job.now.limits pass.old.shares pass.old }
     requires version { version ≡ length pass.old.seen }
-    requires end { EndMeets automaton_in (typed_program job.now.program.now) (options job.now.limits) pass.old.seen end }
-    ensures pass { IsPassAt job.now.cell.now (typed_program job.now.program.now) (options job.now.limits) pass.old.shares pass.new }
+    requires end { EndMeets automaton_in (typed_program job.now.program.now) job.now.limits pass.old.seen end }
+    ensures pass { IsPassAt job.now.cell.now (typed_program job.now.program.now) job.now.limits pass.old.shares pass.new }
     ensures grows { Begins pass.old.seen pass.new.seen }
     ensures turn { Seeks (typed_program job.now.program.now) pass.old pass.new result }
 {

@@ -1,6 +1,6 @@
-use crate::limits::Limits;
 use itp_automaton::Certified;
 use letter_acts::Icfg;
+use race_rounds::Limits;
 use typing_rules::Typed;
 use version_cell::VersionCell;
 

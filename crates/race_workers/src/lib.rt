@@ -6,7 +6,6 @@
 mod finishing;
 mod gates;
 mod jobs;
-mod limits;
 mod offering;
 mod racing;
 mod rounds;
@@ -14,5 +13,4 @@ mod splitting;
 mod working;
 
 pub use gates::{Gate, Moment, NoGate};
-pub use limits::Limits;
 pub use racing::race;

@@ -8,7 +8,7 @@ ghost use Rattle.typing_rules.specs.TypedParts.{typed_program};
 ghost use Rattle.race_core.specs.Histories.{IsFair};
 ghost use Rattle.kept_words.specs.Without.{IsWithout};
 ghost use Rattle.race_rounds.specs.Rounds.{automaton_in, IsOwn};
-ghost use Rattle.race_workers.specs.Parts.{options, IsJob, IsPassAt, IsAsSeen, turn_after, Offers};
+ghost use Rattle.race_workers.specs.Parts.{IsJob, IsPassAt, IsAsSeen, turn_after, Offers};
 
 use crate::gates::{Gate, Moment};
 use crate::jobs::Job;
@@ -57,12 +57,12 @@ fn publish<G: Gate + Sync, R: Wait>(
     kept: Arc<Nwa>,
 ) -> Turn
     requires job { IsJob (typed_program job.now.program.now) job.now.icfg.now job.now.limits job.now.cell.now }
-    requires pass { IsPassAt job.now.cell.now (typed_program job.now.program.now) (options job.now.limits) pass.old.shares pass.old }
+    requires pass { IsPassAt job.now.cell.now (typed_program job.now.program.now) job.now.limits pass.old.shares pass.old }
     requires base { base ≡ length pass.old.seen }
     requires fair { IsFair automaton_in pass.old.program pass.old.seen base entry (arc_value kept) }
     requires lean { IsLean (arc_value kept) }
     requires own { IsOwn (typed_program job.now.program.now) entry }
-    ensures pass { IsPassAt job.now.cell.now (typed_program job.now.program.now) (options job.now.limits) pass.old.shares pass.new }
+    ensures pass { IsPassAt job.now.cell.now (typed_program job.now.program.now) job.now.limits pass.old.shares pass.new }
     ensures turn { Offers pass.old pass.new entry result }
 {
     job.gate.at(number, Moment::Publishing);
@@ -86,11 +86,11 @@ pub(crate) fn offer<G: Gate + Sync, R: Wait>(
     entry: Entry<Certified>,
 ) -> Result<Turn, AllocError>
     requires job { IsJob (typed_program job.now.program.now) job.now.icfg.now job.now.limits job.now.cell.now }
-    requires pass { IsPassAt job.now.cell.now (typed_program job.now.program.now) (options job.now.limits) pass.old.shares pass.old }
+    requires pass { IsPassAt job.now.cell.now (typed_program job.now.program.now) job.now.limits pass.old.shares pass.old }
     requires seen { IsAsSeen pass.old snapshot.now.version (arc_value snapshot.now.kept) }
     requires kept { Accepts (arc_value snapshot.now.kept) entry.word }
     requires own { IsOwn (typed_program job.now.program.now) entry }
-    ensures pass { IsPassAt job.now.cell.now (typed_program job.now.program.now) (options job.now.limits) pass.old.shares pass.new }
+    ensures pass { IsPassAt job.now.cell.now (typed_program job.now.program.now) job.now.limits pass.old.shares pass.new }
     ensures turn { IfOk result (Offers pass.old pass.new entry) }
 {
     let kept = kept_behind(alloc, &snapshot.kept, &entry)?;

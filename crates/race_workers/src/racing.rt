@@ -3,18 +3,18 @@
 ghost use Rattle.std.specs.Prelude.{◌≡◌, ◌≤◌, ◌+◌, IfOk, IsSome};
 ghost use Rattle.typing_rules.specs.TypedParts.{typed_program};
 ghost use Rattle.lowered_graph.specs.Lowered.{lowered};
-ghost use Rattle.race_rounds.specs.Ends.{Options};
+ghost use Rattle.race_rounds.specs.Limits.{AreInRange};
 ghost use Rattle.race_rounds.specs.Rounds.{IsRaceOf};
-ghost use Rattle.race_workers.specs.Parts.{options, IsJob, IsPassAt, IsFresh};
+ghost use Rattle.race_workers.specs.Parts.{IsJob, IsPassAt, IsFresh};
 
 use crate::gates::Gate;
 use crate::jobs::Job;
-use crate::limits::Limits;
 use crate::splitting::split_all;
 use crate::working::run_all;
 use itp_automaton::Certified;
 use letter_acts::Icfg;
 use race_core::Shared;
+use race_rounds::Limits;
 use std::alloc::{AllocError, Global};
 use std::sync::{Arc, Wait};
 use std::thread::Threads;
@@ -31,7 +31,7 @@ fn run<G: Gate + Sync, R: Threads + Wait + Sync>(
     requires job { IsJob (typed_program job.now.program.now) job.now.icfg.now job.now.limits job.now.cell.now }
     requires workers { (1 ≤ job.now.limits.workers) × (job.now.limits.workers ≤ 64) }
     requires fresh { IsFresh job.now.cell.now (job.now.limits.workers + 1) pass }
-    ensures pass { IfOk result (IsPassAt job.now.cell.now (typed_program job.now.program.now) (options job.now.limits) (job.now.limits.workers + 1)) }
+    ensures pass { IfOk result (IsPassAt job.now.cell.now (typed_program job.now.program.now) job.now.limits (job.now.limits.workers + 1)) }
     ensures ended { IfOk result (λ p. IsSome p.ended) }
 {
     let mut pass = pass;
@@ -54,10 +54,8 @@ pub fn race<G: Gate + Sync, R: Threads + Wait + Sync>(
     gate: &G,
 ) -> Result<Shared<Certified>, AllocError>
     requires lowered { icfg.now ≡ lowered (typed_program program.now) }
-    requires rounds { (1 ≤ limits.rounds) × (limits.rounds ≤ 100000) }
-    requires workers { (1 ≤ limits.workers) × (limits.workers ≤ 64) }
-    requires depth { limits.depth ≤ 64 }
-    ensures race { IfOk result (λ r. (o : Options) → o.rounds ≡ limits.rounds → o.depth ≡ limits.depth → IsRaceOf (typed_program program.now) o r) }
+    requires limits { AreInRange limits }
+    ensures race { IfOk result (IsRaceOf (typed_program program.now) limits) }
     ensures ended { IfOk result (λ r. IsSome r.end) }
 {
     let automaton = Arc::new(alloc, icfg.nwa().copy()?)?;

@@ -5,18 +5,17 @@ ghost use Rattle.std.specs.Arc.{arc_value};
 ghost use Rattle.typing_rules.specs.TypedParts.{typed_program};
 ghost use Rattle.race_rounds.specs.Rounds.{IsOwn};
 ghost use Rattle.version_cell.specs.Counts.{Begins};
-ghost use Rattle.race_workers.specs.Parts.{options, IsJob, IsPassAt, IsAsSeen, IsStillKept, Seeks, Pursues};
+ghost use Rattle.race_workers.specs.Parts.{IsJob, IsPassAt, IsAsSeen, IsStillKept, Seeks, Pursues};
 
 use crate::finishing::finish;
 use crate::gates::{Gate, Moment};
 use crate::jobs::Job;
-use crate::limits::Limits;
 use crate::offering::offer;
 use itp_automaton::Certified;
 use nwa_base::{Nwa, accepts};
 use nwa_emptiness::Found;
 use race_core::{End, Entry};
-use race_rounds::{Seeker, Settled, kept_word, settle};
+use race_rounds::{Round, Seeker, Settled, kept_word, settle};
 use std::alloc::{AllocError, Global};
 use std::sync::Wait;
 use std::thread::Threads;
@@ -61,27 +60,28 @@ fn seek<G: Gate + Sync, R: Threads + Wait + Sync>(
     snapshot: &Snapshot,
 ) -> Result<Turn, AllocError>
     requires job { IsJob (typed_program job.now.program.now) job.now.icfg.now job.now.limits job.now.cell.now }
-    requires pass { IsPassAt job.now.cell.now (typed_program job.now.program.now) (options job.now.limits) pass.old.shares pass.old }
+    requires pass { IsPassAt job.now.cell.now (typed_program job.now.program.now) job.now.limits pass.old.shares pass.old }
     requires seen { IsAsSeen pass.old snapshot.now.version (arc_value snapshot.now.kept) }
-    ensures pass { IsPassAt job.now.cell.now (typed_program job.now.program.now) (options job.now.limits) pass.old.shares pass.new }
+    ensures pass { IsPassAt job.now.cell.now (typed_program job.now.program.now) job.now.limits pass.old.shares pass.new }
     ensures grows { IfOk result (λ turn. Begins pass.old.seen pass.new.seen) }
     ensures turn { IfOk result (Seeks (typed_program job.now.program.now) pass.old pass.new) }
 {
     let version = snapshot.version;
-    let word = match kept_word(alloc, job.icfg, &snapshot.kept, version, number, seeker)? {
+    let this_round = Round {
+        version,
+        worker: number,
+    };
+    let word = match kept_word(alloc, job.icfg, &snapshot.kept, this_round, seeker)? {
         Found::Word(word) => word,
         Found::Empty => return Ok(finish(rt, job, number, pass, version, End::Safe)),
     };
-    let Limits { rounds, depth, .. } = job.limits;
     match settle(
         rt,
         alloc,
         job.program,
         job.icfg,
-        rounds,
-        depth,
-        version,
-        number,
+        job.limits,
+        this_round,
         word,
     )? {
         Settled::Ended(end) => Ok(finish(rt, job, number, pass, version, end)),
@@ -101,10 +101,10 @@ fn pursue<G: Gate + Sync, R: Threads + Wait + Sync>(
     carried: Option<Entry<Certified>>,
 ) -> Result<Turn, AllocError>
     requires job { IsJob (typed_program job.now.program.now) job.now.icfg.now job.now.limits job.now.cell.now }
-    requires pass { IsPassAt job.now.cell.now (typed_program job.now.program.now) (options job.now.limits) pass.old.shares pass.old }
+    requires pass { IsPassAt job.now.cell.now (typed_program job.now.program.now) job.now.limits pass.old.shares pass.old }
     requires seen { IsAsSeen pass.old snapshot.now.version (arc_value snapshot.now.kept) }
     requires carried { IfSome carried (IsOwn (typed_program job.now.program.now)) }
-    ensures pass { IsPassAt job.now.cell.now (typed_program job.now.program.now) (options job.now.limits) pass.old.shares pass.new }
+    ensures pass { IsPassAt job.now.cell.now (typed_program job.now.program.now) job.now.limits pass.old.shares pass.new }
     ensures turn { IfOk result (Pursues (typed_program job.now.program.now) pass.old pass.new carried) }
 {
     match still_kept(alloc, &snapshot.kept, carried)? {
@@ -125,9 +125,9 @@ pub(crate) fn round<G: Gate + Sync, R: Threads + Wait + Sync>(
     carried: Option<Entry<Certified>>,
 ) -> Result<Turn, AllocError>
     requires job { IsJob (typed_program job.now.program.now) job.now.icfg.now job.now.limits job.now.cell.now }
-    requires pass { IsPassAt job.now.cell.now (typed_program job.now.program.now) (options job.now.limits) pass.old.shares pass.old }
+    requires pass { IsPassAt job.now.cell.now (typed_program job.now.program.now) job.now.limits pass.old.shares pass.old }
     requires carried { IfSome carried (IsOwn (typed_program job.now.program.now)) }
-    ensures pass { IsPassAt job.now.cell.now (typed_program job.now.program.now) (options job.now.limits) pass.old.shares pass.new }
+    ensures pass { IsPassAt job.now.cell.now (typed_program job.now.program.now) job.now.limits pass.old.shares pass.new }
     ensures turn { IfOk result (Pursues (typed_program job.now.program.now) pass.old pass.new carried) }
 {
     job.gate.at(number, Moment::Reading);

@@ -4,7 +4,7 @@ ghost use Rattle.std.specs.Prelude.{◌≡◌, ◌+◌, ◌<◌, ◌≤◌, leng
 ghost use Rattle.std.specs.List.{AllByRecursion};
 ghost use Rattle.std.specs.Thread.{IsSync};
 ghost use Rattle.typing_rules.specs.TypedParts.{typed_program};
-ghost use Rattle.race_workers.specs.Parts.{options, IsJob, IsPassAt};
+ghost use Rattle.race_workers.specs.Parts.{IsJob, IsPassAt};
 
 use crate::gates::Gate;
 use crate::jobs::Job;
@@ -25,8 +25,8 @@ fn take_rounds<G: Gate + Sync, R: Threads + Wait + Sync>(
     pass: &mut Pass<Certified>,
 ) -> Result<(), AllocError>
     requires job { IsJob (typed_program job.now.program.now) job.now.icfg.now job.now.limits job.now.cell.now }
-    requires pass { IsPassAt job.now.cell.now (typed_program job.now.program.now) (options job.now.limits) pass.old.shares pass.old }
-    ensures pass { IsPassAt job.now.cell.now (typed_program job.now.program.now) (options job.now.limits) pass.old.shares pass.new }
+    requires pass { IsPassAt job.now.cell.now (typed_program job.now.program.now) job.now.limits pass.old.shares pass.old }
+    ensures pass { IsPassAt job.now.cell.now (typed_program job.now.program.now) job.now.limits pass.old.shares pass.new }
     ensures ended { OnOk result (IsSome pass.new.ended) }
 {
     let mut seeker = Seeker::new(alloc, job.icfg, number)?;
@@ -49,8 +49,8 @@ pub(crate) fn work<G: Gate + Sync, R: Threads + Wait + Sync>(
     pass: Pass<Certified>,
 ) -> (Result<(), AllocError>, Pass<Certified>)
     requires job { IsJob (typed_program job.now.program.now) job.now.icfg.now job.now.limits job.now.cell.now }
-    requires pass { IsPassAt job.now.cell.now (typed_program job.now.program.now) (options job.now.limits) 1 pass }
-    ensures pass { IsPassAt job.now.cell.now (typed_program job.now.program.now) (options job.now.limits) 1 result.1 }
+    requires pass { IsPassAt job.now.cell.now (typed_program job.now.program.now) job.now.limits 1 pass }
+    ensures pass { IsPassAt job.now.cell.now (typed_program job.now.program.now) job.now.limits 1 result.1 }
     ensures ended { IfOk result.0 (λ _. IsSome result.1.ended) }
 {
     let mut pass = pass;
@@ -67,10 +67,10 @@ pub(crate) fn run_all<G: Gate + Sync, R: Threads + Wait + Sync>(
     passes: Vec<Pass<Certified>>,
 ) -> (Result<(), AllocError>, Pass<Certified>)
     requires job { IsJob (typed_program job.now.program.now) job.now.icfg.now job.now.limits job.now.cell.now }
-    requires passes { AllByRecursion (IsPassAt job.now.cell.now (typed_program job.now.program.now) (options job.now.limits) 1) passes.items }
+    requires passes { AllByRecursion (IsPassAt job.now.cell.now (typed_program job.now.program.now) job.now.limits 1) passes.items }
     requires some { 0 < length passes.items }
     requires numbers { first + length passes.items ≤ 64 }
-    ensures pass { IsPassAt job.now.cell.now (typed_program job.now.program.now) (options job.now.limits) (length passes.items) result.1 }
+    ensures pass { IsPassAt job.now.cell.now (typed_program job.now.program.now) job.now.limits (length passes.items) result.1 }
     ensures ended { IfOk result.0 (λ _. IsSome result.1.ended) }
 {
     let mut passes = passes;
@@ -86,8 +86,8 @@ pub(crate) fn run_all<G: Gate + Sync, R: Threads + Wait + Sync>(
     let (one, others) = join(
         rt,
         move || -> (Result<(), AllocError>, Pass<Certified>)
-            requires { IsSync R.row × IsSync G.row × IsJob (typed_program program.now) icfg.now limits cell.now × IsPassAt cell.now (typed_program program.now) (options limits) 1 pass }
-            ensures { IsPassAt cell.entry.now (typed_program program.entry.now) (options limits) 1 result.1 × IfOk result.0 (λ _. IsSome result.1.ended) }
+            requires { IsSync R.row × IsSync G.row × IsJob (typed_program program.now) icfg.now limits cell.now × IsPassAt cell.now (typed_program program.now) limits 1 pass }
+            ensures { IsPassAt cell.entry.now (typed_program program.entry.now) limits 1 result.1 × IfOk result.0 (λ _. IsSome result.1.ended) }
         {
             let job = Job {
                 program,
@@ -99,8 +99,8 @@ pub(crate) fn run_all<G: Gate + Sync, R: Threads + Wait + Sync>(
             work(rt, alloc, &job, first, pass)
         },
         move || -> (Result<(), AllocError>, Pass<Certified>)
-            requires { IsSync R.row × IsSync G.row × IsJob (typed_program program.now) icfg.now limits cell.now × AllByRecursion (IsPassAt cell.now (typed_program program.now) (options limits) 1) passes.items × (0 < length passes.items) × (first + 1 + length passes.items ≤ 64) }
-            ensures { IsPassAt cell.entry.now (typed_program program.entry.now) (options limits) (length passes.items) result.1 × IfOk result.0 (λ _. IsSome result.1.ended) }
+            requires { IsSync R.row × IsSync G.row × IsJob (typed_program program.now) icfg.now limits cell.now × AllByRecursion (IsPassAt cell.now (typed_program program.now) limits 1) passes.items × (0 < length passes.items) × (first + 1 + length passes.items ≤ 64) }
+            ensures { IsPassAt cell.entry.now (typed_program program.entry.now) limits (length passes.items) result.1 × IfOk result.0 (λ _. IsSome result.1.ended) }
         {
             let job = Job {
                 program,

@@ -1,15 +1,14 @@
-use Rattle.std.proofs.Common.{◌∙◌, refl, sym}
 use Rattle.typing_rules.specs.TypedParts.{typed_program}
 use Rattle.automizer_top.proofs.BigLaws.{summary_reported, verdict_is_proved}
 use Rattle.automizer_top.proofs.generated.decided.Goals as goal
 
 pub verdict_of-requires-clause-race : goal.verdict_of-requires-clause-race
-verdict_of-requires-clause-race g c = (record { rounds = c.args.options.now.rounds; depth = c.args.options.now.depth }, c.in_ok-race.ensures.race (record { rounds = c.args.options.now.rounds; depth = c.args.options.now.depth }) (sym c.from.ensures) refl)
+verdict_of-requires-clause-race g c = (c.args.limits, c.in_ok-race.ensures.race)
 
 pub confirm-requires : goal.confirm-requires
 confirm-requires g c = verdict_is_proved (typed_program c.args.program.now) c.args.icfg.now c.in_ok-race.race c.in_ok-verdict.verdict c.requires.graph c.in_ok-verdict.ensures
 
 pub returns-clause-reported : goal.returns-clause-reported
-returns-clause-reported g c = λ o n d.
-    summary_reported o c.args.count (typed_program c.args.program.now) c.in_ok-race.race c.in_ok-verdict.verdict c.in_ok-text.text.items c.sized-room.result
-    c.requires.program c.requires.graph.fits (c.in_ok-race.ensures.race o (n ∙ sym c.from.ensures) d) c.in_ok-verdict.ensures c.history-history.ensures.legal c.kept-kept.ensures.keeps c.sized-room.ensures c.in_ok-text.ensures
+returns-clause-reported g c =
+    summary_reported c.args.limits c.args.count (typed_program c.args.program.now) c.in_ok-race.race c.in_ok-verdict.verdict c.in_ok-text.text.items c.sized-room.result
+    c.requires.program c.requires.graph.fits c.in_ok-race.ensures.race c.in_ok-verdict.ensures c.history-history.ensures.legal c.kept-kept.ensures.keeps c.sized-room.ensures c.in_ok-text.ensures

@@ -1,13 +1,7 @@
-use Rattle.std.proofs.Common.{refl}
 use Rattle.std.proofs.lemmas.Result.{IfOk-weaker}
-use Rattle.automizer_top.specs.Asked.{settings}
-use Rattle.automizer_top.specs.CommandLine.{limits_of}
 use Rattle.typing_rules.specs.TypedParts.{typed_program}
 use Rattle.automizer_top.proofs.BigLaws.{big_is_safe}
 use Rattle.automizer_top.proofs.generated.summed.Goals as goal
-
-pub returns-clause-reported : goal.returns-clause-reported
-returns-clause-reported g c = IfOk-weaker c.decided.result _ _ (λ a h. h (limits_of (settings c.args.options.now)) refl refl) c.decided.ensures.reported
 
 pub returns-clause-safe : goal.returns-clause-safe
 returns-clause-safe g c =

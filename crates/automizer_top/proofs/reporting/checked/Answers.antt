@@ -5,8 +5,9 @@ use Rattle.outer_io.specs.Texts.{text_named}
 use Rattle.typed_tree.specs.TypedTree.{TypedProgram}
 use Rattle.letter_acts.specs.Invariant.{Graph}
 use Rattle.automizer_top.specs.Answers.{answered, IsGraphOf}
-use Rattle.automizer_top.specs.Report.{Answer, ReportsCheck, IsTypedText}
-use Rattle.automizer_top.proofs.ReportLaws.{text_is_safe}
+use Rattle.automizer_top.specs.ReportTexts.{Answer}
+use Rattle.automizer_top.specs.Report.{ReportsCheck, IsTypedText}
+use Rattle.automizer_top.proofs.ReportLaws.{graph_reported, text_is_safe}
 use Rattle.automizer_top.proofs.reporting.checked.Goals as goal
 
 -- the graph is that of the program of the text
@@ -37,7 +38,8 @@ returns-in-Err-clause-no_usage g c = λ e.
 pub returns-clause-reported : goal.returns-clause-reported
 returns-clause-reported g c =
     let lowered : IsLowered c.args.entry.now c.args.text.now c.in-Ok.icfg = rw c.in-Ok.is at c.in_ok-icfg.ensures in
-    c.judged_within.ensures.reported c.args.entry.now c.args.text.now lowered.0 lowered.1 lowered.2
+    graph_reported c.args.entry.now c.args.text.now c.args.second.now lowered.0 c.in-Ok.icfg c.judged_within.result (g.H.Shelf.texts c.args.shelf.now) lowered.1 lowered.2
+    c.judged_within.ensures.reported
 
 pub returns-clause-accepted : goal.returns-clause-accepted
 returns-clause-accepted g c =

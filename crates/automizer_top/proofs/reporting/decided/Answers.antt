@@ -1,19 +1,17 @@
-use Rattle.std.proofs.Common.{◌≡◌, ◌∙◌, refl, sym}
 use Rattle.typing_rules.specs.TypedParts.{typed_program}
-use Rattle.race_rounds.specs.Ends.{Options}
 use Rattle.automizer_top.proofs.VerdictLaws.{fits, reports, safe_is_infeasible}
 use Rattle.automizer_top.proofs.reporting.decided.Goals as goal
 
 pub verdict_of-requires-clause-race : goal.verdict_of-requires-clause-race
-verdict_of-requires-clause-race g c = (record { rounds = c.args.options.now.rounds; depth = c.args.options.now.depth }, c.in_ok-race.ensures.race (record { rounds = c.args.options.now.rounds; depth = c.args.options.now.depth }) (sym c.from.ensures) refl)
+verdict_of-requires-clause-race g c = (c.args.limits, c.in_ok-race.ensures.race)
 
 pub verdict_text-requires : goal.verdict_text-requires
 verdict_text-requires g c = fits (typed_program c.args.program.now) c.in_ok-race.race c.in_ok-verdict.verdict c.in_ok-verdict.ensures
 
 pub returns-clause-reported : goal.returns-clause-reported
-returns-clause-reported g c = λ o n d.
-    reports o (typed_program c.args.program.now) c.in_ok-race.race c.in_ok-verdict.verdict c.in_ok-text.text.items c.sized-room.result c.version.result
-    (c.in_ok-race.ensures.race o (n ∙ sym c.from.ensures) d) c.in_ok-verdict.ensures c.history-history.ensures.legal c.kept-kept.ensures.keeps c.sized-room.ensures c.version.ensures c.in_ok-text.ensures
+returns-clause-reported g c =
+    reports c.args.limits (typed_program c.args.program.now) c.in_ok-race.race c.in_ok-verdict.verdict c.in_ok-text.text.items c.sized-room.result c.version.result
+    c.in_ok-race.ensures.race c.in_ok-verdict.ensures c.history-history.ensures.legal c.kept-kept.ensures.keeps c.sized-room.ensures c.version.ensures c.in_ok-text.ensures
 
 pub returns-clause-safe : goal.returns-clause-safe
 returns-clause-safe g c =

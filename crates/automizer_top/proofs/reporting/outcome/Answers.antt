@@ -4,16 +4,16 @@ use Rattle.automizer_top.specs.Report.{IsFailureText, no_failure, replayed, stop
 use Rattle.automizer_top.proofs.reporting.outcome.Goals as goal
 
 pub returns-in-Err-Syntax : goal.returns-in-Err-Syntax
-returns-in-Err-Syntax c = no_failure c.args.text.now c.in-Err-Syntax.line refl c.requires (rw c.in-Err-Syntax.field-0-is at c.in-Err-Syntax.ensures.fault) (rw c.in-Err-Syntax.line-is refl)
+returns-in-Err-Syntax c = no_failure c.in-Err-Syntax.line (rw c.in-Err-Syntax.field-0-is at c.in-Err-Syntax.ensures.fault) (rw c.in-Err-Syntax.line-is refl)
 
 pub returns-in-Ok-replay : goal.returns-in-Ok-replay
 returns-in-Ok-replay c =
     let read = c.in-Ok.ensures.found in
     let text : IsFailureText c.args.text.now (plain c.in-Ok.failure) = record { bounds = read.0; spelled = read.1 } in
-    replayed c.args.text.now (plain c.in-Ok.failure) c.in-Ok-replay.id refl c.requires text c.in-Ok-replay.ensures.found refl
+    replayed (plain c.in-Ok.failure) c.in-Ok-replay.id text c.in-Ok-replay.ensures.found refl
 
 pub returns-in-Err-At : goal.returns-in-Err-At
 returns-in-Err-At c =
     let read = c.in-Ok.ensures.found in
     let text : IsFailureText c.args.text.now (plain c.in-Ok.failure) = record { bounds = read.0; spelled = read.1 } in
-    stopped c.args.text.now (plain c.in-Ok.failure) c.in-Err-At.step c.in-Err-At.cause refl c.requires text (rw c.in-Err-At.field-0-is at c.in-Err-At.ensures.stopped) refl
+    stopped (plain c.in-Ok.failure) c.in-Err-At.step c.in-Err-At.cause text (rw c.in-Err-At.field-0-is at c.in-Err-At.ensures.stopped) refl

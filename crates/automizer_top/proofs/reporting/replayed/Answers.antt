@@ -1,8 +1,8 @@
-use Rattle.std.proofs.Common.{Some}
 use Rattle.typing_rules.specs.TypedParts.{typed_program}
 use Rattle.automizer_top.specs.Answers.{answered}
-use Rattle.automizer_top.specs.Report.{IsTypedText, RefusesTyped}
-use Rattle.automizer_top.proofs.ReportLaws.{refused_replayed, failure_refused, outcome_reported}
+use Rattle.automizer_top.specs.ReportTexts.{too_long_answer}
+use Rattle.automizer_top.specs.Report.{IsTypedText, RefusesTyped, ReportsFailure}
+use Rattle.automizer_top.proofs.ReportLaws.{refused_replayed, typed_replayed, second_refused, second_answered}
 use Rattle.automizer_top.proofs.UsageLaws.{typed_not_four, failure_not_four}
 use Rattle.automizer_top.proofs.reporting.replayed.Goals as goal
 
@@ -13,16 +13,19 @@ returns-in-Err-clause-reported g c =
 
 pub returns-in_default-clause-reported : goal.returns-in_default-clause-reported
 returns-in_default-clause-reported g c =
-    let typed : IsTypedText c.args.entry.now c.args.text.now (typed_program c.in-Ok.program) = rw c.in-Ok.is at c.in_ok-program.ensures in
-    failure_refused c.args.entry.now c.args.text.now c.args.second.now (typed_program c.in-Ok.program) (g.H.Shelf.texts c.args.shelf.now) typed
-    (rw c.in_default.is at c.in_ok-failure.ensures.found)
+    let t = typed_program c.in-Ok.program in
+    let typed : IsTypedText c.args.entry.now c.args.text.now t = rw c.in-Ok.is at c.in_ok-program.ensures in
+    typed_replayed c.args.entry.now c.args.text.now c.args.second.now t too_long_answer (g.H.Shelf.texts c.args.shelf.now) typed
+    (second_refused c.args.second.now (ReportsFailure t) (g.H.Shelf.texts c.args.shelf.now) (rw c.in_default.is at c.in_ok-failure.ensures.found))
 
 pub returns-clause-reported : goal.returns-clause-reported
 returns-clause-reported g c =
-    let typed : IsTypedText c.args.entry.now c.args.text.now (typed_program c.in-Ok.program) = rw c.in-Ok.is at c.in_ok-program.ensures in
-    outcome_reported c.args.entry.now c.args.text.now c.args.second.now c.in-Some.failure.items (typed_program c.in-Ok.program) (answered c.in_ok-outcome.field-0) (g.H.Shelf.texts c.args.shelf.now) typed
+    let t = typed_program c.in-Ok.program in
+    let typed : IsTypedText c.args.entry.now c.args.text.now t = rw c.in-Ok.is at c.in_ok-program.ensures in
+    typed_replayed c.args.entry.now c.args.text.now c.args.second.now t (answered c.in_ok-outcome.field-0) (g.H.Shelf.texts c.args.shelf.now) typed
+    (second_answered c.args.second.now c.in-Some.failure.items (ReportsFailure t) (answered c.in_ok-outcome.field-0) (g.H.Shelf.texts c.args.shelf.now)
     (rw c.in-Some.is at c.in_ok-failure.ensures.found)
-    (rw (← c.deref.ensures.value) c.in_ok-outcome.ensures)
+    (rw (← c.deref.ensures.value) c.in_ok-outcome.ensures))
 
 pub returns-in-Err-clause-no_usage : goal.returns-in-Err-clause-no_usage
 returns-in-Err-clause-no_usage g c =
@@ -30,4 +33,4 @@ returns-in-Err-clause-no_usage g c =
     typed_not_four c.args.entry.now c.args.text.now (answered c.in-Err.answer) refused
 
 pub returns-clause-no_usage : goal.returns-clause-no_usage
-returns-clause-no_usage g c = failure_not_four (typed_program c.in-Ok.program) (Some c.deref.result.now) (answered c.in_ok-outcome.field-0) c.in_ok-outcome.ensures
+returns-clause-no_usage g c = failure_not_four (typed_program c.in-Ok.program) c.deref.result.now (answered c.in_ok-outcome.field-0) c.in_ok-outcome.ensures

@@ -1,9 +1,10 @@
 use Rattle.std.proofs.Common.{◌≡◌, map, Some, ap, arith}
 use Rattle.std.specs.String.{string_bytes}
-use Rattle.automizer_top.specs.CommandLine.{Big, limits_of, requested}
+use Rattle.automizer_top.specs.CommandLine.{Big, requested}
 use Rattle.automizer_top.specs.Asked.{asked, settings}
 use Rattle.automizer_top.specs.Answers.{Asks, answered}
-use Rattle.automizer_top.specs.Report.{Answer, Ask}
+use Rattle.automizer_top.specs.ReportTexts.{Answer}
+use Rattle.automizer_top.specs.Report.{Ask}
 use Rattle.automizer_top.proofs.UsageLaws.{asks_by, asks_texts, asks_big, used_by_code, used_by_summary}
 use Rattle.automizer_top.proofs.BigLaws.{big_reported, big_built, no_check, no_verdict, unbuilt}
 use Rattle.automizer_top.proofs.reporting.reported.Goals as goal
@@ -13,34 +14,34 @@ returns-in-Texts-clause-reported g c =
     let ask : requested (map string_bytes c.args.words.now) ≡ Some (asked c.in-Some.request) =
     asks_by (map string_bytes c.args.words.now) c.in_ok-request.field-0 c.in-Some.request c.in-Some.is c.in_ok-request.ensures.value in
     let texts : Asks (map string_bytes c.args.words.now) c.in-Texts.mode c.in-Some.request.options = asks_texts (map string_bytes c.args.words.now) c.in-Some.request c.in-Texts.mode c.in-Texts.is ask in
-    c.told.ensures.reported (map string_bytes c.args.words.now) texts
+    c.reported_on_texts.ensures.reported (map string_bytes c.args.words.now) texts
 
 pub returns-in-Texts-clause-accepted : goal.returns-in-Texts-clause-accepted
 returns-in-Texts-clause-accepted g c =
     let ask : requested (map string_bytes c.args.words.now) ≡ Some (asked c.in-Some.request) =
     asks_by (map string_bytes c.args.words.now) c.in_ok-request.field-0 c.in-Some.request c.in-Some.is c.in_ok-request.ensures.value in
     let texts : Asks (map string_bytes c.args.words.now) c.in-Texts.mode c.in-Some.request.options = asks_texts (map string_bytes c.args.words.now) c.in-Some.request c.in-Texts.mode c.in-Texts.is ask in
-    c.told.ensures.accepted (map string_bytes c.args.words.now) texts
+    c.reported_on_texts.ensures.accepted (map string_bytes c.args.words.now) texts
 
 pub returns-in-Texts-clause-verified : goal.returns-in-Texts-clause-verified
 returns-in-Texts-clause-verified g c =
     let ask : requested (map string_bytes c.args.words.now) ≡ Some (asked c.in-Some.request) =
     asks_by (map string_bytes c.args.words.now) c.in_ok-request.field-0 c.in-Some.request c.in-Some.is c.in_ok-request.ensures.value in
     let texts : Asks (map string_bytes c.args.words.now) c.in-Texts.mode c.in-Some.request.options = asks_texts (map string_bytes c.args.words.now) c.in-Some.request c.in-Texts.mode c.in-Texts.is ask in
-    c.told.ensures.verified (map string_bytes c.args.words.now) texts
+    c.reported_on_texts.ensures.verified (map string_bytes c.args.words.now) texts
 
 pub returns-in-Texts-clause-built : goal.returns-in-Texts-clause-built
 returns-in-Texts-clause-built g c =
     let ask : requested (map string_bytes c.args.words.now) ≡ Some (asked c.in-Some.request) =
     asks_by (map string_bytes c.args.words.now) c.in_ok-request.field-0 c.in-Some.request c.in-Some.is c.in_ok-request.ensures.value in
     let texts : Asks (map string_bytes c.args.words.now) c.in-Texts.mode c.in-Some.request.options = asks_texts (map string_bytes c.args.words.now) c.in-Some.request c.in-Texts.mode c.in-Texts.is ask in
-    unbuilt (map string_bytes c.args.words.now) c.in-Texts.mode c.in-Some.request.options c.told.result texts
+    unbuilt (map string_bytes c.args.words.now) c.in-Texts.mode c.in-Some.request.options c.reported_on_texts.result texts
 
 pub returns-in-Texts-clause-usage : goal.returns-in-Texts-clause-usage
 returns-in-Texts-clause-usage g c =
     let ask : requested (map string_bytes c.args.words.now) ≡ Some (asked c.in-Some.request) =
     asks_by (map string_bytes c.args.words.now) c.in_ok-request.field-0 c.in-Some.request c.in-Some.is c.in_ok-request.ensures.value in
-    used_by_code (map string_bytes c.args.words.now) (asked c.in-Some.request) c.told.result ask c.told.ensures.no_usage
+    used_by_code (map string_bytes c.args.words.now) (asked c.in-Some.request) c.reported_on_texts.result ask c.reported_on_texts.ensures.no_usage
 
 pub returns-in_ok-summed-in-Generated-clause-reported : goal.returns-in_ok-summed-in-Generated-clause-reported
 returns-in_ok-summed-in-Generated-clause-reported g c =
@@ -74,7 +75,7 @@ pub returns-in_ok-summed-in-Generated-clause-usage : goal.returns-in_ok-summed-i
 returns-in_ok-summed-in-Generated-clause-usage g c =
     let ask : requested (map string_bytes c.args.words.now) ≡ Some (asked c.in-Some.request) =
     asks_by (map string_bytes c.args.words.now) c.in_ok-request.field-0 c.in-Some.request c.in-Some.is c.in_ok-request.ensures.value in
-    used_by_summary (map string_bytes c.args.words.now) (asked c.in-Some.request) (limits_of (settings c.in-Some.request.options)) c.in-Generated.count (answered c.in_ok-summed-in-Generated.field-0) ask c.in_ok-summed-in-Generated.ensures.reported
+    used_by_summary (map string_bytes c.args.words.now) (asked c.in-Some.request) c.in-Some.request.options.limits c.in-Generated.count (answered c.in_ok-summed-in-Generated.field-0) ask c.in_ok-summed-in-Generated.ensures.reported
 
 -- the usage line says nothing else
 

@@ -1,12 +1,10 @@
 use Rattle.std.proofs.Common.{◌≡◌, map, Ok, ap, sym, subst, arith}
 use Rattle.automizer_top.specs.declared.words.Mode.{Mode}
-use Rattle.automizer_top.specs.CommandLine.{limits_of}
-use Rattle.automizer_top.specs.Asked.{settings}
 use Rattle.automizer_top.specs.Answers.{answered}
-use Rattle.automizer_top.specs.Report.{Answer}
+use Rattle.automizer_top.specs.ReportTexts.{Answer}
 use Rattle.automizer_top.proofs.ReportLaws.{program_reported, check_answered, check_is_safe, replay_answered, print_reported, IsNoVerify, unverified, IsNoCheck, unchecked, verify_reported, verify_is_safe}
 use Rattle.automizer_top.proofs.UsageLaws.{print_not_four, verify_not_four}
-use Rattle.automizer_top.proofs.reporting.told.Goals as goal
+use Rattle.automizer_top.proofs.reporting.reported_on_texts.Goals as goal
 
 pub returns-in_default-clause-reported : goal.returns-in_default-clause-reported
 returns-in_default-clause-reported g c = λ words ask.
@@ -53,7 +51,7 @@ returns-in-Verify-clause-reported g c = λ words ask.
 
 pub returns-in-Verify-clause-no_usage : goal.returns-in-Verify-clause-no_usage
 returns-in-Verify-clause-no_usage g c =
-    verify_not_four c.args.options.now.entry.now (limits_of (settings c.args.options.now)) c.deref-in-Verify.result.now (answered c.in_ok-verified-in-Verify.field-0) c.in_ok-verified-in-Verify.ensures.reported
+    verify_not_four c.args.options.now.entry.now c.args.options.now.limits c.deref-in-Verify.result.now (answered c.in_ok-verified-in-Verify.field-0) c.in_ok-verified-in-Verify.ensures.reported
 
 pub returns-in-Verify-clause-verified : goal.returns-in-Verify-clause-verified
 returns-in-Verify-clause-verified g c = λ words ask.

@@ -5,7 +5,7 @@ use Rattle.outer_io.specs.Texts.{GainsFront}
 use Rattle.race_core.specs.Races.{Race}
 use Rattle.itp_automaton.specs.Certified.{Certificate}
 use Rattle.automizer_top.specs.Answers.{answered}
-use Rattle.automizer_top.proofs.AnsweringLaws.{where_ok, answers_given, closes_given, took_front, closes_at_front}
+use Rattle.automizer_top.proofs.AnsweringLaws.{where_ok, closes_given, took_front, closes_at_front}
 use Rattle.automizer_top.proofs.ClosedLaws.{is_not_five, is_not_six}
 use Rattle.automizer_top.proofs.ReportLaws.{nothing_is_safe, front_is_safe, whole_is_safe, zero_is_safe}
 use Rattle.automizer_top.proofs.running.run.Goals as goal
@@ -65,13 +65,6 @@ returns-in-Ok-write_all-clause-usage g c = (
 
 pub returns-in-Ok-write_all-clause-report : goal.returns-in-Ok-write_all-clause-report
 returns-in-Ok-write_all-clause-report g c = λ s k z.
-    let bytes : c.deref.result.now ≡ (answered c.in-Ok.answer).bytes = c.deref.ensures.value ∙ c.in-Ok-output.ensures.text in
-    answers_given (map string_bytes c.args.words.now) (answered c.in-Ok.answer) (g.H.Shelf.texts c.args.shelf.now) (g.K.Sink.taken c.args.sink.now) (g.K.Sink.taken c.write_all.new.sink)
-    c.status-status.result c.in-Ok.ensures.reported c.status-status.ensures
-    (subst (λ (bs : List ℕ). IfSome (g.K.Sink.taken c.args.sink.now) (λ before. g.K.Sink.taken c.write_all.new.sink ≡ Some (before ++ bs))) bytes c.in-Ok-write_all.ensures.whole)
-
-pub returns-in-Ok-write_all-clause-closed : goal.returns-in-Ok-write_all-clause-closed
-returns-in-Ok-write_all-clause-closed g c = λ s k z.
     let bytes : c.deref.result.now ≡ (answered c.in-Ok.answer).bytes = c.deref.ensures.value ∙ c.in-Ok-output.ensures.text in
     closes_given (map string_bytes c.args.words.now) (answered c.in-Ok.answer) (g.H.Shelf.texts c.args.shelf.now) (g.K.Sink.taken c.args.sink.now) (g.K.Sink.taken c.write_all.new.sink)
     c.status-status.result c.args.closed.now.items c.close.new.closed.items c.in-Ok.ensures.reported c.status-status.ensures

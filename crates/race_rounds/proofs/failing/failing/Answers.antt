@@ -7,9 +7,9 @@ use Rattle.race_rounds.proofs.Says.{told_passes, run_passes}
 use Rattle.race_rounds.proofs.failing.failing.Goals as goal
 
 pub returns-in-Err-At : goal.returns-in-Err-At
-returns-in-Err-At c = λ o n d.
+returns-in-Err-At c = λ n.
     let h = subst (λ (f : ReplayFault). IsToldFault (typed_program c.args.program.now) (point_of c.args.point.now) c.args.word f) c.in-Err-At.field-0-is c.in-Err-At.ensures.number in (
       refl,
-      run_passes (typed_program c.args.program.now) c.args.icfg.now o.depth c.args.depth c.args.word c.args.point.now c.in-Err-At.field-0-0 c.requires.lowered d c.requires.whole.decided
+      run_passes (typed_program c.args.program.now) c.args.icfg.now c.args.limits.depth c.args.word c.args.point.now c.in-Err-At.field-0-0 c.requires.lowered c.requires.whole.decided
           (told_passes (typed_program c.args.program.now) (point_of c.args.point.now) c.args.word c.in-Err-At.field-0-0 c.in-Err-At.field-0-1 h),
     )

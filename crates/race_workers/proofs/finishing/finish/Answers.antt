@@ -2,7 +2,6 @@ use Rattle.std.proofs.Common.{ap}
 use Rattle.typing_rules.specs.TypedParts.{typed_program}
 use Rattle.itp_automaton.specs.Certified.{Certificate}
 use Rattle.version_cell.specs.Passes.{Known}
-use Rattle.race_workers.specs.Parts.{options}
 use Rattle.race_workers.proofs.Parts.{ends, shows, ended_by_ending, ended_by_name}
 use Rattle.race_workers.proofs.Turns.{begins_shown, finish_grows, not_ended}
 use Rattle.race_workers.proofs.finishing.finish.Goals as goal
@@ -13,7 +12,7 @@ finish-requires-clause-cell g c κs within = c.requires.pass.of_cell
 pub returns-in-Ok-clause-pass : goal.returns-in-Ok-clause-pass
 returns-in-Ok-clause-pass g c =
     let m = c.in-Ok.ensures.moment in
-    ends c.args.job.now.cell.now (typed_program c.args.job.now.program.now) (options c.args.job.now.limits) c.args.pass.now.shares c.args.pass.now
+    ends c.args.job.now.cell.now (typed_program c.args.job.now.program.now) c.args.job.now.limits c.args.pass.now.shares c.args.pass.now
     c.finish.new.pass m.0 m.1 c.args.version c.args.end c.requires.pass m.2 m.3.1 c.requires.version m.3.2 c.requires.end c.finish.ensures.of_cell
 
 pub returns-in-Ok-clause-turn : goal.returns-in-Ok-clause-turn
@@ -33,7 +32,7 @@ returns-in-Ended-clause-grows g c =
 pub returns-in-Ended-clause-pass : goal.returns-in-Ended-clause-pass
 returns-in-Ended-clause-pass g c =
     let m = c.in-Err.ensures.moment in
-    shows c.args.job.now.cell.now (typed_program c.args.job.now.program.now) (options c.args.job.now.limits) c.args.pass.now.shares c.args.pass.now
+    shows c.args.job.now.cell.now (typed_program c.args.job.now.program.now) c.args.job.now.limits c.args.pass.now.shares c.args.pass.now
     c.finish.new.pass m.0 m.1 c.requires.pass m.2 m.3.2 c.finish.ensures.of_cell
 
 pub returns-in-Ended-clause-turn : goal.returns-in-Ended-clause-turn
@@ -43,7 +42,7 @@ pub returns : goal.returns
 returns g c =
     let m = c.in-Err.ensures.moment in
     record {
-      pass = shows c.args.job.now.cell.now (typed_program c.args.job.now.program.now) (options c.args.job.now.limits) c.args.pass.now.shares
+      pass = shows c.args.job.now.cell.now (typed_program c.args.job.now.program.now) c.args.job.now.limits c.args.pass.now.shares
           c.args.pass.now c.finish.new.pass m.0 m.1 c.requires.pass m.2 m.3.2 c.finish.ensures.of_cell;
       grows = begins_shown c.args.pass.now c.finish.new.pass m.0 m.2.0 (ap (λ (k : Known Certificate). k.seen) m.3.2);
       turn = finish_grows c.args.pass.now c.finish.new.pass m.0 m.1 c.args.version c.in-Err.refused.why m.2 c.requires.version m.3.0 m.3.2

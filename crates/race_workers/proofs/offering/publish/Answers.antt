@@ -1,6 +1,5 @@
 use Rattle.std.proofs.Common.{arith}
 use Rattle.typing_rules.specs.TypedParts.{typed_program}
-use Rattle.race_workers.specs.Parts.{options}
 use Rattle.race_workers.proofs.Parts.{owns, shows}
 use Rattle.race_workers.proofs.Turns.{added, refused}
 use Rattle.race_workers.proofs.offering.publish.Goals as goal
@@ -17,14 +16,14 @@ publish-requires-clause-fair g c κs within = c.requires.fair
 pub returns-in-Ok-clause-pass : goal.returns-in-Ok-clause-pass
 returns-in-Ok-clause-pass g c =
     let m = c.in-Ok.ensures.moment in
-    owns c.args.job.now.cell.now (typed_program c.args.job.now.program.now) (options c.args.job.now.limits) c.args.pass.now.shares c.args.pass.now
+    owns c.args.job.now.cell.now (typed_program c.args.job.now.program.now) c.args.job.now.limits c.args.pass.now.shares c.args.pass.now
     c.publish.new.pass m.0 m.1 c.args.pass.now.limit c.args.base c.args.entry c.requires.pass m.2 m.3.0 m.3.2 m.3.3 c.requires.own
     c.publish.ensures.of_cell
 
 pub returns-in-Err-clause-pass : goal.returns-in-Err-clause-pass
 returns-in-Err-clause-pass g c =
     let m = c.in-Err.ensures.moment in
-    shows c.args.job.now.cell.now (typed_program c.args.job.now.program.now) (options c.args.job.now.limits) c.args.pass.now.shares c.args.pass.now
+    shows c.args.job.now.cell.now (typed_program c.args.job.now.program.now) c.args.job.now.limits c.args.pass.now.shares c.args.pass.now
     c.publish.new.pass m.0 m.1 c.requires.pass m.2 m.3.3 c.publish.ensures.of_cell
 
 pub returns-in-Ok-clause-turn : goal.returns-in-Ok-clause-turn

@@ -2,7 +2,6 @@ use Rattle.std.proofs.Common.{rules, subst, Option}
 use Rattle.std.specs.Prelude.{IsSome}
 use Rattle.race_core.specs.declared.ends.EndKind.{EndKind}
 use Rattle.typing_rules.specs.TypedParts.{typed_program}
-use Rattle.race_workers.specs.Parts.{options}
 use Rattle.race_workers.proofs.Parts.{reads, own_shares, with_shares}
 use Rattle.race_workers.proofs.Turns.{over, pursues_before}
 use Rattle.race_workers.proofs.rounds.round.Goals as goal
@@ -12,12 +11,12 @@ read-requires-clause-cell g c κs within = c.requires.pass.of_cell
 
 pub returns-in_err-snapshot-clause-pass : goal.returns-in_err-snapshot-clause-pass
 returns-in_err-snapshot-clause-pass g c =
-    reads c.args.job.now.cell.now (typed_program c.args.job.now.program.now) (options c.args.job.now.limits) c.args.pass.now.shares c.args.pass.now c.read.new.pass
+    reads c.args.job.now.cell.now (typed_program c.args.job.now.program.now) c.args.job.now.limits c.args.pass.now.shares c.args.pass.now c.read.new.pass
     c.requires.pass c.read.ensures.of_cell c.read.ensures.moment
 
 pub returns-then-is_some-clause-pass : goal.returns-then-is_some-clause-pass
 returns-then-is_some-clause-pass g c =
-    reads c.args.job.now.cell.now (typed_program c.args.job.now.program.now) (options c.args.job.now.limits) c.args.pass.now.shares c.args.pass.now c.read.new.pass
+    reads c.args.job.now.cell.now (typed_program c.args.job.now.program.now) c.args.job.now.limits c.args.pass.now.shares c.args.pass.now c.read.new.pass
     c.requires.pass c.read.ensures.of_cell c.read.ensures.moment
 
 pub returns-then-is_some-clause-turn : goal.returns-then-is_some-clause-turn
@@ -30,8 +29,8 @@ pursue-requires-clause-job g c κs within = c.requires.job
 
 pub pursue-requires-clause-pass : goal.pursue-requires-clause-pass
 pursue-requires-clause-pass g c κs within =
-    own_shares c.args.job.now.cell.now (typed_program c.args.job.now.program.now) (options c.args.job.now.limits) c.args.pass.now.shares c.read.new.pass
-    (reads c.args.job.now.cell.now (typed_program c.args.job.now.program.now) (options c.args.job.now.limits) c.args.pass.now.shares c.args.pass.now c.read.new.pass
+    own_shares c.args.job.now.cell.now (typed_program c.args.job.now.program.now) c.args.job.now.limits c.args.pass.now.shares c.read.new.pass
+    (reads c.args.job.now.cell.now (typed_program c.args.job.now.program.now) c.args.job.now.limits c.args.pass.now.shares c.args.pass.now c.read.new.pass
     c.requires.pass c.read.ensures.of_cell c.read.ensures.moment)
 
 pub pursue-requires-clause-seen : goal.pursue-requires-clause-seen
@@ -42,9 +41,9 @@ pursue-requires-clause-carried g c κs within = c.requires.carried
 
 pub returns-clause-pass : goal.returns-clause-pass
 returns-clause-pass g c =
-    with_shares c.args.job.now.cell.now (typed_program c.args.job.now.program.now) (options c.args.job.now.limits) c.read.new.pass.shares c.args.pass.now.shares c.pursue.new.pass
+    with_shares c.args.job.now.cell.now (typed_program c.args.job.now.program.now) c.args.job.now.limits c.read.new.pass.shares c.args.pass.now.shares c.pursue.new.pass
     c.pursue.ensures.pass
-    (reads c.args.job.now.cell.now (typed_program c.args.job.now.program.now) (options c.args.job.now.limits) c.args.pass.now.shares c.args.pass.now c.read.new.pass
+    (reads c.args.job.now.cell.now (typed_program c.args.job.now.program.now) c.args.job.now.limits c.args.pass.now.shares c.args.pass.now c.read.new.pass
     c.requires.pass c.read.ensures.of_cell c.read.ensures.moment).shares
 
 pub returns-clause-turn : goal.returns-clause-turn

@@ -6,9 +6,8 @@ use Rattle.nwa_emptiness.specs.declared.finding.Found.{Found}
 use Rattle.nwa_emptiness.specs.Found.{IsFound}
 use Rattle.typing_rules.specs.TypedParts.{typed_program}
 use Rattle.race_rounds.specs.declared.settling.Settled.{Settled}
-use Rattle.race_rounds.specs.Rounds.{IsSettled}
+use Rattle.race_rounds.specs.Rounds.{SettlesWord}
 use Rattle.version_cell.proofs.Beginnings.{begins_same}
-use Rattle.race_workers.specs.Parts.{options}
 use Rattle.race_workers.proofs.Parts.{safe, says, error_word, kept, settled_own}
 use Rattle.race_workers.proofs.Turns.{made}
 use Rattle.race_workers.proofs.rounds.seek.Goals as goal
@@ -28,7 +27,7 @@ finish-requires-clause-version g c κs within = c.requires.seen.0
 pub finish-requires-clause-end : goal.finish-requires-clause-end
 finish-requires-clause-end g c κs within =
     let f = subst (λ (x : Found). IsFound c.deref.result.now x) c.in-Empty.is c.in_ok-word.ensures in
-    safe (typed_program c.args.job.now.program.now) c.args.job.now.icfg.now c.args.job.now.limits (options c.args.job.now.limits) c.args.job.now.cell.now c.args.pass.now c.args.snapshot.now.version (arc_value c.args.snapshot.now.kept)
+    safe (typed_program c.args.job.now.program.now) c.args.job.now.icfg.now c.args.job.now.limits c.args.job.now.cell.now c.args.pass.now c.args.snapshot.now.version (arc_value c.args.snapshot.now.kept)
     c.requires.job c.requires.pass.of_cell c.requires.seen (λ w a. f w (subst (λ (m : Automaton). Accepts m w) (sym c.deref.ensures) a))
 
 pub returns-in-Empty-clause-pass : goal.returns-in-Empty-clause-pass
@@ -64,9 +63,8 @@ finish-requires-in-Ended-clause-version g c κs within = c.requires.seen.0
 pub finish-requires-in-Ended-clause-end : goal.finish-requires-in-Ended-clause-end
 finish-requires-in-Ended-clause-end g c κs within =
     let t = typed_program c.args.job.now.program.now in
-    let o = options c.args.job.now.limits in
-    let s = subst (λ (s : Settled). IsSettled t o c.args.snapshot.now.version c.in-Word.word s) c.in-Ended.is (c.in_ok-end.ensures o refl refl) in
-    says (typed_program c.args.job.now.program.now) c.args.job.now.icfg.now c.args.job.now.limits o c.args.job.now.cell.now c.args.pass.now c.args.snapshot.now.version (arc_value c.args.snapshot.now.kept) c.in-Word.word c.in-Ended.end
+    let s = subst (λ (s : Settled). SettlesWord t c.args.job.now.limits c.args.snapshot.now.version c.in-Word.word s) c.in-Ended.is c.in_ok-end.ensures in
+    says (typed_program c.args.job.now.program.now) c.args.job.now.icfg.now c.args.job.now.limits c.args.job.now.cell.now c.args.pass.now c.args.snapshot.now.version (arc_value c.args.snapshot.now.kept) c.in-Word.word c.in-Ended.end
     c.requires.job c.requires.pass.of_cell c.requires.seen (subst (λ (m : Automaton). Accepts m c.in-Word.word) c.deref.ensures
     (subst (λ (x : Found). IsFound c.deref.result.now x) c.in-Word.is c.in_ok-word.ensures)) s
 
@@ -91,9 +89,8 @@ returns-in-Removed-clause-grows g c = begins_same c.args.pass.now.seen c.args.pa
 pub returns-in-Removed-clause-turn : goal.returns-in-Removed-clause-turn
 returns-in-Removed-clause-turn g c =
     let t = typed_program c.args.job.now.program.now in
-    let o = options c.args.job.now.limits in
-    let s = subst (λ (s : Settled). IsSettled t o c.args.snapshot.now.version c.in-Word.word s) c.in-Removed.is (c.in_ok-end.ensures o refl refl) in
+    let s = subst (λ (s : Settled). SettlesWord t c.args.job.now.limits c.args.snapshot.now.version c.in-Word.word s) c.in-Removed.is c.in_ok-end.ensures in
     let k = kept t c.args.job.now.icfg.now c.args.job.now.limits c.args.job.now.cell.now c.args.pass.now c.args.snapshot.now.version (arc_value c.args.snapshot.now.kept) c.in-Word.word
     c.requires.job c.requires.pass.of_cell c.requires.seen (subst (λ (m : Automaton). Accepts m c.in-Word.word) c.deref.ensures
     (subst (λ (x : Found). IsFound c.deref.result.now x) c.in-Word.is c.in_ok-word.ensures)) in
-    made t c.args.pass.now c.in-Word.word c.in-Removed.entry k (settled_own t o c.args.snapshot.now.version c.in-Word.word c.in-Removed.entry s) s.1
+    made t c.args.pass.now c.in-Word.word c.in-Removed.entry k (settled_own t c.args.job.now.limits c.args.snapshot.now.version c.in-Word.word c.in-Removed.entry s) s.1

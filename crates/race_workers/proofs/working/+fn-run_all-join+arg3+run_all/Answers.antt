@@ -11,8 +11,8 @@ use Rattle.letter_acts.proofs.graphs.Icfg.TheSendSync as graph
 use Rattle.itp_automaton.proofs.automata.Certified.TheSendSync as certified
 use Rattle.version_cell.proofs.cells.VersionCell.TheSendSync as cell
 use Rattle.version_cell.proofs.passes.Pass.TheSendSync as pass
-use Rattle.race_workers.specs.Parts.{options, IsPassAt}
-use Rattle.race_workers.proofs.limits.Limits.TheSendSync as limits
+use Rattle.race_workers.specs.Parts.{IsPassAt}
+use Rattle.race_rounds.proofs.limits.Limits.TheSendSync as limits
 use Rattle.race_workers.proofs.Crossing.{typed_sync, closure_send}
 use Rattle.race_workers.proofs.Lists.{popped, popped_length}
 use Rattle.race_workers.proofs.Parts.{joins, still_ended, with_shares}
@@ -22,14 +22,14 @@ use Rattle.race_workers.proofs.working.+fn-run_all-join+arg3+run_all.Goals as go
 
 pub work-requires-clause-pass : goal.work-requires-clause-pass
 work-requires-clause-pass g t c κs within =
-    (popped (IsPassAt c.args.job.now.cell.now (typed_program c.args.job.now.program.now) (options c.args.job.now.limits) 1) c.args.passes.items
+    (popped (IsPassAt c.args.job.now.cell.now (typed_program c.args.job.now.program.now) c.args.job.now.limits 1) c.args.passes.items
     c.pop.new.self.items c.in-Some.pass c.in-Some.ensures.items c.requires.passes).1
 
 pub returns-then-is_empty-clause-pass : goal.returns-then-is_empty-clause-pass
 returns-then-is_empty-clause-pass g t c =
     let n = popped_length c.args.passes.items c.pop.new.self.items c.in-Some.pass c.in-Some.ensures.items in
     let z : length c.pop.new.self.items ≡ 0 = search rules in
-    with_shares c.args.job.now.cell.now (typed_program c.args.job.now.program.now) (options c.args.job.now.limits) 1 (length c.args.passes.items) c.work.result.1
+    with_shares c.args.job.now.cell.now (typed_program c.args.job.now.program.now) c.args.job.now.limits 1 (length c.args.passes.items) c.work.result.1
     c.work.ensures.pass (omega (arith, n, z))
 
 pub join-requires-clause-cell : goal.join-requires-clause-cell
@@ -38,15 +38,15 @@ join-requires-clause-cell g t c κs = (c.join-one.ensures.first.0.of_cell, c.joi
 pub returns-in-Ok-clause-pass : goal.returns-in-Ok-clause-pass
 returns-in-Ok-clause-pass g t c =
     let n = popped_length c.args.passes.items c.pop.new.self.items c.in-Some.pass c.in-Some.ensures.items in
-    with_shares c.args.job.now.cell.now (typed_program c.args.job.now.program.now) (options c.args.job.now.limits) (1 + length c.pop.new.self.items) (length c.args.passes.items) c.join.new.pass
-    (joins c.args.job.now.cell.now (typed_program c.args.job.now.program.now) (options c.args.job.now.limits) 1 (length c.pop.new.self.items) c.join-one.result.0.1 c.join-one.result.1.1
+    with_shares c.args.job.now.cell.now (typed_program c.args.job.now.program.now) c.args.job.now.limits (1 + length c.pop.new.self.items) (length c.args.passes.items) c.join.new.pass
+    (joins c.args.job.now.cell.now (typed_program c.args.job.now.program.now) c.args.job.now.limits 1 (length c.pop.new.self.items) c.join-one.result.0.1 c.join-one.result.1.1
     c.join.new.pass c.join-one.ensures.first.0 c.join-one.ensures.second.0 c.join.ensures.both c.join.ensures.first c.join.ensures.second c.join.ensures.of_cell) (omega (arith, n))
 
 pub returns-in-Err-clause-pass : goal.returns-in-Err-clause-pass
 returns-in-Err-clause-pass g t c =
     let n = popped_length c.args.passes.items c.pop.new.self.items c.in-Some.pass c.in-Some.ensures.items in
-    with_shares c.args.job.now.cell.now (typed_program c.args.job.now.program.now) (options c.args.job.now.limits) (1 + length c.pop.new.self.items) (length c.args.passes.items) c.join.new.pass
-    (joins c.args.job.now.cell.now (typed_program c.args.job.now.program.now) (options c.args.job.now.limits) 1 (length c.pop.new.self.items) c.join-one.result.0.1 c.join-one.result.1.1
+    with_shares c.args.job.now.cell.now (typed_program c.args.job.now.program.now) c.args.job.now.limits (1 + length c.pop.new.self.items) (length c.args.passes.items) c.join.new.pass
+    (joins c.args.job.now.cell.now (typed_program c.args.job.now.program.now) c.args.job.now.limits 1 (length c.pop.new.self.items) c.join-one.result.0.1 c.join-one.result.1.1
     c.join.new.pass c.join-one.ensures.first.0 c.join-one.ensures.second.0 c.join.ensures.both c.join.ensures.first c.join.ensures.second c.join.ensures.of_cell) (omega (arith, n))
 
 pub returns-in-Ok-clause-ended : goal.returns-in-Ok-clause-ended

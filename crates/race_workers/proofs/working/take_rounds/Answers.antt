@@ -1,7 +1,7 @@
 use Rattle.std.proofs.Common.{rules, subst}
 use Rattle.typing_rules.specs.TypedParts.{typed_program}
 use Rattle.race_workers.specs.declared.rounds.Turn.{Turn}
-use Rattle.race_workers.specs.Parts.{options, Pursues}
+use Rattle.race_workers.specs.Parts.{Pursues}
 use Rattle.race_workers.proofs.Parts.{own_shares, with_shares}
 use Rattle.race_workers.proofs.Turns.{carried_on, ended}
 use Rattle.race_workers.proofs.working.take_rounds.Goals as goal
@@ -11,19 +11,19 @@ round-requires-clause-job g c κs within = c.requires.job
 
 pub round-requires-clause-pass : goal.round-requires-clause-pass
 round-requires-clause-pass g c κs within =
-    own_shares c.args.job.now.cell.now (typed_program c.args.job.now.program.now) (options c.args.job.now.limits) c.args.pass.now.shares c.loop.pass c.loop.invariant.2
+    own_shares c.args.job.now.cell.now (typed_program c.args.job.now.program.now) c.args.job.now.limits c.args.pass.now.shares c.loop.pass c.loop.invariant.2
 
 pub round-requires-clause-carried : goal.round-requires-clause-carried
 round-requires-clause-carried g c κs within = c.loop.invariant.3
 
 pub returns-in_err-entry-clause-pass : goal.returns-in_err-entry-clause-pass
 returns-in_err-entry-clause-pass g c =
-    with_shares c.args.job.now.cell.now (typed_program c.args.job.now.program.now) (options c.args.job.now.limits) c.loop.pass.shares c.args.pass.now.shares c.round.new.pass
+    with_shares c.args.job.now.cell.now (typed_program c.args.job.now.program.now) c.args.job.now.limits c.loop.pass.shares c.args.pass.now.shares c.round.new.pass
     c.round.ensures.pass c.loop.invariant.2.shares
 
 pub returns-in-Over-clause-pass : goal.returns-in-Over-clause-pass
 returns-in-Over-clause-pass g c =
-    with_shares c.args.job.now.cell.now (typed_program c.args.job.now.program.now) (options c.args.job.now.limits) c.loop.pass.shares c.args.pass.now.shares c.round.new.pass
+    with_shares c.args.job.now.cell.now (typed_program c.args.job.now.program.now) c.args.job.now.limits c.loop.pass.shares c.args.pass.now.shares c.round.new.pass
     c.round.ensures.pass c.loop.invariant.2.shares
 
 pub returns-in-Over-clause-ended : goal.returns-in-Over-clause-ended
@@ -36,7 +36,7 @@ pub loop-preserved : goal.loop-preserved
 loop-preserved g c = (
   search rules,
   search rules,
-  with_shares c.args.job.now.cell.now (typed_program c.args.job.now.program.now) (options c.args.job.now.limits) c.loop.pass.shares c.args.pass.now.shares c.round.new.pass
+  with_shares c.args.job.now.cell.now (typed_program c.args.job.now.program.now) c.args.job.now.limits c.loop.pass.shares c.args.pass.now.shares c.round.new.pass
       c.round.ensures.pass c.loop.invariant.2.shares,
   let t = typed_program c.args.job.now.program.now in
       carried_on t c.loop.pass c.round.new.pass c.loop.carried c.in-Again.entry c.loop.invariant.3
