@@ -1,7 +1,10 @@
 //! Questions, and who answers them.
 
+ghost use Rattle.path_rows.specs.Paths.{IsPathOf};
+
 use crate::annotations::{show_annotation, show_cuts, show_line};
 use crate::automata::{show_accepted, show_certified, show_edge};
+use crate::building::show_built;
 use crate::failures::show_failure;
 use crate::finding::show_finding;
 use crate::given::Given;
@@ -10,48 +13,67 @@ use crate::interpolating::show_interpolants;
 use crate::lists::show_lists;
 use crate::predicates::{show_holding, show_predicate};
 use crate::replays::show_replay;
+use crate::rows::{put_line, put_nothing};
 use crate::stepping::show_steps;
-use crate::texts::repeated;
+use crate::texts::push_repeated;
 use crate::triples::{show_agreement, show_proof, show_proving, show_system, triple_of};
 use crate::words::{path_of, show_path};
 use letter_acts::Icfg;
-use std::io::{self, ErrorKind};
+use path_rows::PathSystem;
 use std::thread::Threads;
+use triple_rows::Triple;
+
+/// Answers what is asked of the rows of a word.
+fn answer_path<R: Threads + Sync>(
+    threads: &R,
+    rt: &HostRuntime,
+    graph: &Icfg,
+    parts: &str,
+    asked: &str,
+    path: &PathSystem,
+)
+    requires { IsPathOf graph.now path.now }
+{
+    match asked {
+        "rows" => show_path(rt, path),
+        "finding" => show_finding(rt, graph, path),
+        "interpolants" => show_interpolants(rt, graph, path, parts),
+        "built" => show_built(threads, rt, graph, path, parts),
+        _ => show_steps(rt, graph, path),
+    }
+}
 
 /// Answers what is asked of the rows of a word, whose letters are said.
-fn answer_word(
+fn answer_word<R: Threads + Sync>(
+    threads: &R,
     rt: &HostRuntime,
     graph: &Icfg,
     parts: &str,
     asked: &str,
     said: &str,
-) -> io::Result<()> {
-    let path = path_of(rt.alloc(), graph, said)?;
+) {
+    match path_of(rt.alloc(), graph, said) {
+        Some(path) => answer_path(threads, rt, graph, parts, asked, &path),
+        None => put_nothing(rt),
+    }
+}
+
+/// Answers what is asked of a triple.
+fn answer_of_triple(rt: &HostRuntime, graph: &Icfg, parts: &str, asked: &str, triple: Triple) {
     match asked {
-        "rows" => show_path(rt, &path),
-        "finding" => show_finding(rt, graph, &path),
-        "interpolants" => show_interpolants(rt, graph, &path, parts),
-        "steps" => show_steps(rt, graph, &path),
-        _ => Err(ErrorKind::InvalidData.into()),
+        "system" => show_system(rt, graph, &triple),
+        "agrees" => show_agreement(rt, graph, &triple),
+        "proof" => show_proof(rt, graph, triple, parts),
+        "prove" => show_proving(rt, graph, triple),
+        _ => show_certified(rt, graph, parts, triple),
     }
 }
 
 /// Answers what is asked of the triple that is said.
-fn answer_triple(
-    rt: &HostRuntime,
-    graph: &Icfg,
-    parts: &str,
-    asked: &str,
-    said: &str,
-) -> io::Result<()> {
-    let triple = triple_of(rt.alloc(), said)?;
-    match asked {
-        "system" => show_system(rt, graph, &triple),
-        "agrees" => show_agreement(rt, graph, &triple),
-        "proof" => show_proof(rt, graph, &triple, parts),
-        "prove" => show_proving(rt, graph, &triple),
-        "certified" => show_certified(rt, graph, parts, &triple),
-        _ => Err(ErrorKind::InvalidData.into()),
+fn answer_triple(rt: &HostRuntime, graph: &Icfg, parts: &str, asked: &str, said: &str) {
+    match triple_of(rt.alloc(), said) {
+        Some(triple) => answer_of_triple(rt, graph, parts, asked, triple),
+        None => put_nothing(rt),
     }
 }
 
@@ -63,14 +85,14 @@ fn answer_of<R: Threads + Sync>(
     parts: &str,
     asked: &str,
     said: &str,
-) -> io::Result<()> {
+) {
     match asked {
-        "system" | "agrees" | "proof" | "prove" | "certified" => {
-            answer_triple(rt, graph, parts, asked, said)
-        }
         "edge" => show_edge(threads, rt, graph, parts, said),
         "accepts" => show_accepted(threads, rt, graph, parts, said),
-        _ => answer_word(rt, graph, parts, asked, said),
+        "rows" | "finding" | "interpolants" | "built" | "steps" => {
+            answer_word(threads, rt, graph, parts, asked, said)
+        }
+        _ => answer_triple(rt, graph, parts, asked, said),
     }
 }
 
@@ -81,18 +103,15 @@ fn answer_graph<R: Threads + Sync>(
     given: &Given,
     asked: &str,
     said: &str,
-) -> io::Result<()> {
-    let graph = graph_of(rt.alloc(), &given.text)?;
-    answer_of(threads, rt, &graph, &given.parts, asked, said)
+) {
+    match graph_of(rt.alloc(), &given.text) {
+        Some(graph) => answer_of(threads, rt, &graph, &given.parts, asked, said),
+        None => put_nothing(rt),
+    }
 }
 
 /// Answers a question.
-fn answer<R: Threads + Sync>(
-    threads: &R,
-    rt: &HostRuntime,
-    given: &Given,
-    question: &str,
-) -> io::Result<()> {
+fn answer<R: Threads + Sync>(threads: &R, rt: &HostRuntime, given: &Given, question: &str) {
     let (asked, said) = question.split_once(' ').unwrap_or((question, ""));
     match asked {
         "predicate" => show_predicate(rt, said),
@@ -113,9 +132,12 @@ fn answer_repeated<R: Threads + Sync>(
     rt: &HostRuntime,
     given: &Given,
     question: &str,
-) -> io::Result<()> {
-    let whole = repeated(rt.alloc(), question)?;
-    answer(threads, rt, given, &whole)
+) {
+    let mut whole = String::new(rt.alloc());
+    match push_repeated(&mut whole, question) {
+        Ok(()) => answer(threads, rt, given, &whole),
+        Err(_) => put_nothing(rt),
+    }
 }
 
 /// Reads a line; a question is answered.
@@ -124,20 +146,14 @@ pub(crate) fn read_line<R: Threads + Sync>(
     rt: &HostRuntime,
     given: &mut Given,
     line: &str,
-) -> io::Result<()> {
+) {
     if line.starts_with('#') {
-        println!(rt; "{line}")?;
-        return Ok(());
+        put_line(rt, line);
+    } else if let Some(question) = line.strip_prefix("? ") {
+        put_line(rt, line);
+        given.asked = true;
+        answer_repeated(threads, rt, given, question);
+    } else if given.push(line).is_err() {
+        put_nothing(rt);
     }
-    if let Some(part) = line.strip_prefix("! ") {
-        given.push_part(part)?;
-        return Ok(());
-    }
-    let Some(question) = line.strip_prefix("? ") else {
-        given.push_text(line)?;
-        return Ok(());
-    };
-    println!(rt; "{line}")?;
-    given.asked = true;
-    answer_repeated(threads, rt, given, question)
 }

@@ -1,6 +1,7 @@
 //! What stands before a question.
 
 use std::alloc::{AllocError, Global};
+use table_reading::push_line;
 
 /// What was read before a question.
 #[derive(Drop)]
@@ -11,12 +12,6 @@ pub(crate) struct Given {
     pub(crate) parts: String,
     /// They stood before a question.
     pub(crate) asked: bool,
-}
-
-/// Puts a line behind a text.
-fn push_line(text: &mut String, line: &str) -> Result<(), AllocError> {
-    text.push_str(line)?;
-    text.push('\n')
 }
 
 impl Given {
@@ -30,7 +25,7 @@ impl Given {
     }
 
     /// Adds a line of a text, which is a new one behind a question.
-    pub(crate) fn push_text(&mut self, line: &str) -> Result<(), AllocError> {
+    fn push_text(&mut self, line: &str) -> Result<(), AllocError> {
         if self.asked {
             self.text.clear();
             self.parts.clear();
@@ -40,11 +35,19 @@ impl Given {
     }
 
     /// Adds a part of what is asked; behind a question it is the first of others.
-    pub(crate) fn push_part(&mut self, line: &str) -> Result<(), AllocError> {
+    fn push_part(&mut self, line: &str) -> Result<(), AllocError> {
         if self.asked {
             self.parts.clear();
             self.asked = false;
         }
         push_line(&mut self.parts, line)
+    }
+
+    /// Adds a line, which is a part of what is asked behind `!`.
+    pub(crate) fn push(&mut self, line: &str) -> Result<(), AllocError> {
+        match line.strip_prefix("! ") {
+            Some(part) => self.push_part(part),
+            None => self.push_text(line),
+        }
     }
 }

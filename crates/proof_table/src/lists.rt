@@ -1,13 +1,13 @@
 //! Annotations that are made of lists.
 
-use crate::reading::number;
+use crate::rows::{put, put_line, put_nothing, put_number};
 use boogie_tree::Text;
 use proof_form::{
     Annotation, NodeLine, Numeral, PNode, PredLine, RNode, StepLine, TripleLine, annotation,
     write_safe,
 };
 use std::alloc::{AllocError, Global};
-use std::io::{self, ErrorKind};
+use table_reading::{number, parted};
 
 /// The lists of an annotation.
 #[derive(Drop)]
@@ -29,26 +29,33 @@ fn numeral(alloc: Global, digits: &str) -> Result<Numeral, AllocError> {
     })
 }
 
-fn push_term(
-    terms: &mut Vec<(Numeral, Text)>,
-    coefficient: &str,
-    column: &str,
-) -> Result<(), AllocError> {
-    let alloc = *terms.allocator();
+/// A coefficient and its column.
+fn term(alloc: Global, coefficient: &str, column: &str) -> Result<(Numeral, Text), AllocError> {
     let coefficient = numeral(alloc, coefficient)?;
-    let column = text_of(alloc, column)?;
-    terms.push((coefficient, column))?;
+    match text_of(alloc, column) {
+        Ok(column) => Ok((coefficient, column)),
+        Err(fault) => Err(fault),
+    }
+}
+
+/// Adds a coefficient and its column to an atom.
+fn push_term(nodes: &mut Vec<PNode>, coefficient: &str, column: &str) -> Result<(), AllocError> {
+    let alloc = *nodes.allocator();
+    if let Some(PNode::Atom { terms, .. }) = nodes.last_mut() {
+        terms.push(term(alloc, coefficient, column)?)?;
+    }
     Ok(())
 }
 
 /// Adds the atom that says that the column times the coefficient is 0 or less.
 fn push_atom(nodes: &mut Vec<PNode>, coefficient: &str, column: &str) -> Result<(), AllocError> {
     let alloc = *nodes.allocator();
-    let mut terms = Vec::new(alloc);
-    push_term(&mut terms, coefficient, column)?;
     let bound = numeral(alloc, "0")?;
-    nodes.push(PNode::Atom { bound, terms })?;
-    Ok(())
+    nodes.push(PNode::Atom {
+        bound,
+        terms: Vec::new(alloc),
+    })?;
+    push_term(nodes, coefficient, column)
 }
 
 /// Adds `and` of two, and so many atoms.
@@ -72,40 +79,77 @@ fn push_pred(
     atoms: u32,
 ) -> Result<(), AllocError> {
     let alloc = *preds.allocator();
-    let mut nodes = Vec::new(alloc);
-    push_nodes(&mut nodes, coefficient, column, atoms)?;
     let proc = text_of(alloc, "p")?;
-    preds.push(PredLine { proc, nodes })?;
+    preds.push(PredLine {
+        proc,
+        nodes: Vec::new(alloc),
+    })?;
+    match preds.last_mut() {
+        Some(pred) => push_nodes(&mut pred.nodes, coefficient, column, atoms),
+        None => Ok(()),
+    }
+}
+
+/// Two numerals.
+#[derive(Drop)]
+struct Ends {
+    from: Numeral,
+    to: Numeral,
+}
+
+fn two_ends(alloc: Global, from: &str, to: &str) -> Result<Ends, AllocError> {
+    let from = numeral(alloc, from)?;
+    match numeral(alloc, to) {
+        Ok(to) => Ok(Ends { from, to }),
+        Err(fault) => Err(fault),
+    }
+}
+
+/// A step by a letter.
+fn step(alloc: Global, letter: &str, to: &str) -> Result<StepLine, AllocError> {
+    let letter = numeral(alloc, letter)?;
+    match two_ends(alloc, "0", to) {
+        Ok(Ends { from, to }) => Ok(StepLine::Step { from, letter, to }),
+        Err(fault) => Err(fault),
+    }
+}
+
+fn push_step(steps: &mut Vec<StepLine>) -> Result<(), AllocError> {
+    let alloc = *steps.allocator();
+    steps.push(step(alloc, "5", "0")?)?;
     Ok(())
+}
+
+/// An inside triple, without a proof.
+fn triple(alloc: Global, letter: &str) -> Result<TripleLine, AllocError> {
+    let letter = numeral(alloc, letter)?;
+    match two_ends(alloc, "0", "2") {
+        Ok(Ends { from, to }) => Ok(TripleLine::Inside {
+            from,
+            letter,
+            to,
+            proof: Vec::new(alloc),
+        }),
+        Err(fault) => Err(fault),
+    }
 }
 
 fn push_triple(triples: &mut Vec<TripleLine>) -> Result<(), AllocError> {
     let alloc = *triples.allocator();
-    triples.push(TripleLine::Inside {
-        from: numeral(alloc, "0")?,
-        letter: numeral(alloc, "3")?,
-        to: numeral(alloc, "2")?,
-        proof: vec![in alloc; RNode::Cases(0)]?,
-    })?;
+    triples.push(triple(alloc, "3")?)?;
+    if let Some(TripleLine::Inside { proof, .. }) = triples.last_mut() {
+        proof.push(RNode::Cases(0))?;
+    }
     Ok(())
 }
 
 fn push_node(nodes: &mut Vec<NodeLine>) -> Result<(), AllocError> {
     let alloc = *nodes.allocator();
+    let Ends { from, to } = two_ends(alloc, "4", "0")?;
     nodes.push(NodeLine {
-        place: numeral(alloc, "4")?,
-        entry: numeral(alloc, "0")?,
+        place: from,
+        entry: to,
         preds: Vec::new(alloc),
-    })?;
-    Ok(())
-}
-
-fn push_step(steps: &mut Vec<StepLine>) -> Result<(), AllocError> {
-    let alloc = *steps.allocator();
-    steps.push(StepLine::Step {
-        from: numeral(alloc, "0")?,
-        letter: numeral(alloc, "5")?,
-        to: numeral(alloc, "0")?,
     })?;
     Ok(())
 }
@@ -131,36 +175,37 @@ fn made(lists: Lists) -> Result<Option<Annotation>, AllocError> {
     annotation(lists.preds, lists.triples, lists.nodes, lists.steps)
 }
 
-/// Prints an annotation, and how many predicates, triples, nodes and steps it has.
-fn show_made(rt: &HostRuntime, made: &Annotation) -> io::Result<()> {
-    let written = write_safe(rt.alloc(), 3, made)?;
-    let text = str::from_utf8(&written).unwrap_or("?");
-    print!(rt; "{text}")?;
-    let preds = made.preds().len();
-    let triples = made.triples().len();
-    let nodes = made.nodes().len();
-    let steps = made.steps().len();
-    println!(rt; "predicates {preds} triples {triples} nodes {nodes} steps {steps}")?;
-    Ok(())
+fn show_written(rt: &HostRuntime, made: &Annotation) {
+    match write_safe(rt.alloc(), 3, made) {
+        Ok(written) => put(rt, str::from_utf8(&written).unwrap_or("?")),
+        Err(_) => put_nothing(rt),
+    }
 }
 
-fn show_found(rt: &HostRuntime, found: &Option<Annotation>) -> io::Result<()> {
+/// Prints an annotation, and how many predicates, triples, nodes and steps it has.
+fn show_made(rt: &HostRuntime, made: &Annotation) {
+    show_written(rt, made);
+    put_number(rt, "predicates ", made.preds().len() as u64, "");
+    put_number(rt, " triples ", made.triples().len() as u64, "");
+    put_number(rt, " nodes ", made.nodes().len() as u64, "");
+    put_number(rt, " steps ", made.steps().len() as u64, "\n");
+}
+
+fn show_found(rt: &HostRuntime, found: &Result<Option<Annotation>, AllocError>) {
     match found {
-        Some(annotation) => show_made(rt, annotation),
-        None => {
-            println!(rt; "no annotation")?;
-            Ok(())
-        }
+        Ok(Some(annotation)) => show_made(rt, annotation),
+        Ok(None) => put_line(rt, "no annotation"),
+        Err(_) => put_nothing(rt),
     }
 }
 
 /// Prints the annotation of the lists whose coefficient, column and number of atoms are said, if they are one's.
-pub(crate) fn show_lists(rt: &HostRuntime, said: &str) -> io::Result<()> {
-    let (coefficient, rest) = said.split_once(' ').ok_or(ErrorKind::InvalidData)?;
-    let (column, atoms) = rest.split_once(' ').ok_or(ErrorKind::InvalidData)?;
-    let atoms = number(atoms)?;
+pub(crate) fn show_lists(rt: &HostRuntime, said: &str) {
+    let (coefficient, rest) = parted(said, " ");
+    let (column, atoms) = parted(rest, " ");
     let mut lists = empty_lists(rt.alloc());
-    fill(&mut lists, coefficient, column, atoms)?;
-    let found = made(lists)?;
-    show_found(rt, &found)
+    match fill(&mut lists, coefficient, column, number(atoms)) {
+        Ok(()) => show_found(rt, &made(lists)),
+        Err(_) => put_nothing(rt),
+    }
 }

@@ -8,6 +8,7 @@
 mod annotations;
 mod asking;
 mod automata;
+mod building;
 mod failures;
 mod finding;
 mod given;
@@ -28,24 +29,20 @@ mod words;
 
 use crate::asking::read_line;
 use crate::given::Given;
-use std::io::{self, ErrorKind, Read};
+use std::io::{self, Read};
 use std::thread::Threads;
 
 /// Answers the questions of a text.
-fn answer_all<R: Threads + Sync>(threads: &R, rt: &HostRuntime, text: &str) -> io::Result<()> {
+fn answer_all<R: Threads + Sync>(threads: &R, rt: &HostRuntime, text: &str) {
     let mut given = Given::empty(rt.alloc());
     for line in text.lines() {
-        read_line(threads, rt, &mut given, line)?;
+        read_line(threads, rt, &mut given, line);
     }
-    Ok(())
 }
 
 fn main(rt: HostRuntime) -> io::Result<()> {
     let mut bytes = Vec::new(rt.alloc());
-    let mut input = rt.stdin();
-    input.read_to_end(&mut bytes)?;
-    match str::from_utf8(&bytes) {
-        Ok(text) => answer_all(&rt, &rt, text),
-        Err(_) => Err(ErrorKind::InvalidData.into()),
-    }
+    rt.stdin().read_to_end(&mut bytes)?;
+    answer_all(&rt, &rt, str::from_utf8(&bytes).unwrap_or("?"));
+    Ok(())
 }

@@ -10,13 +10,14 @@
 //! fails 1 2                         the number and line of an assertion, and the place of its failures, which is final
 //! ```
 
-use crate::reading::{number, numbers, rows_of_text};
+use crate::reading::push_rows;
 use crate::words::letter;
 use boogie_tree::{Column, Text, Ty, VarInfo};
 use letter_acts::{Act, AssertId, Frame, Icfg, Site, icfg};
+use lin_rows::{Row, RowFault};
 use nwa_base::{Kind, Letter, Nwa, NwaFault, empty};
-use std::alloc::{AllocError, Global};
-use std::io::{self, ErrorKind};
+use std::alloc::Global;
+use table_reading::{number, numbers, parted, three};
 
 /// The parts of a graph while they are read.
 #[derive(Drop)]
@@ -31,158 +32,155 @@ struct Parts {
     sites: Vec<Site>,
 }
 
-fn text_of(alloc: Global, text: &str) -> Result<Text, AllocError> {
+fn text_of(alloc: Global, text: &str) -> Result<Text, RowFault> {
     Ok(Text::new(Vec::from_slice(alloc, text.as_bytes())?))
 }
 
 /// A global, `g0`, what a global was at the entry, `o0`, or a local, `l0`.
-fn column(text: &str) -> io::Result<Column> {
-    if let Some(global) = text.strip_prefix('g') {
-        return Ok(Column::Global(number(global)?));
-    }
-    if let Some(global) = text.strip_prefix('o') {
-        return Ok(Column::Old(number(global)?));
-    }
-    let local = text.strip_prefix('l').ok_or(ErrorKind::InvalidData)?;
-    Ok(Column::Local(number(local)?))
-}
-
-/// A type, and whether it is that of a constant.
-fn type_of(text: &str) -> io::Result<(Ty, bool)> {
-    match text {
-        "int" => Ok((Ty::Int, false)),
-        "bool" => Ok((Ty::Bool, false)),
-        "cint" => Ok((Ty::Int, true)),
-        "cbool" => Ok((Ty::Bool, true)),
-        _ => Err(ErrorKind::InvalidData.into()),
+fn column(text: &str) -> Column {
+    let (set, digits) = text.split_at_checked(1).unwrap_or((text, ""));
+    match set {
+        "g" => Column::Global(number(digits)),
+        "o" => Column::Old(number(digits)),
+        _ => Column::Local(number(digits)),
     }
 }
 
-/// A column and its variable, `g0 int x`.
-fn variable(alloc: Global, text: &str) -> io::Result<(Column, VarInfo)> {
-    let (place, rest) = text.split_once(' ').ok_or(ErrorKind::InvalidData)?;
-    let (ty, name) = rest.split_once(' ').ok_or(ErrorKind::InvalidData)?;
-    let place = column(place)?;
-    let (ty, constant) = type_of(ty)?;
+/// A column and its variable, `g0 int x`; `c` before a type says that it is constant.
+fn push_variable(
+    alloc: Global,
+    columns: &mut Vec<(Column, VarInfo)>,
+    text: &str,
+) -> Result<(), RowFault> {
+    let (place, rest) = parted(text, " ");
+    let (ty, name) = parted(rest, " ");
+    let constant = ty.starts_with('c');
+    let ty = if ty.ends_with("int") {
+        Ty::Int
+    } else {
+        Ty::Bool
+    };
     let name = text_of(alloc, name)?;
-    Ok((place, VarInfo { name, ty, constant }))
+    columns.push((column(place), VarInfo { name, ty, constant }))?;
+    Ok(())
 }
 
-/// The columns with commas between them.
-fn frame(alloc: Global, text: &str) -> io::Result<Frame> {
-    let mut columns = Vec::new(alloc);
+fn push_variables(
+    alloc: Global,
+    columns: &mut Vec<(Column, VarInfo)>,
+    text: &str,
+) -> Result<(), RowFault> {
     for said in text.split(',') {
-        columns.push(variable(alloc, said.trim())?)?;
+        push_variable(alloc, columns, said.trim())?;
     }
-    Ok(Frame { columns })
-}
-
-/// The number of a place, or `-` where there is none.
-fn place(text: &str) -> io::Result<Option<u32>> {
-    if text == "-" {
-        return Ok(None);
-    }
-    Ok(Some(number(text)?))
-}
-
-/// Adds the name of a procedure, its entry and its exit.
-fn push_head(parts: &mut Parts, said: &str) -> io::Result<()> {
-    let (name, places) = said.split_once(' ').ok_or(ErrorKind::InvalidData)?;
-    let (entry, exit) = places.split_once(' ').ok_or(ErrorKind::InvalidData)?;
-    let name = text_of(*parts.names.allocator(), name)?;
-    parts.names.push(name)?;
-    parts.entries.push(place(entry)?)?;
-    parts.exits.push(place(exit)?)?;
     Ok(())
 }
 
-/// Adds a procedure.
-fn push_proc(parts: &mut Parts, said: &str) -> io::Result<()> {
-    let (head, columns) = said.split_once(':').ok_or(ErrorKind::InvalidData)?;
-    push_head(parts, head)?;
-    let frame = frame(*parts.frames.allocator(), columns)?;
-    parts.frames.push(frame)?;
+/// Adds the frame of the columns with commas between them.
+fn push_frame(alloc: Global, frames: &mut Vec<Frame>, text: &str) -> Result<(), RowFault> {
+    frames.push(Frame {
+        columns: Vec::new(alloc),
+    })?;
+    match frames.last_mut() {
+        Some(frame) => push_variables(alloc, &mut frame.columns, text),
+        None => Ok(()),
+    }
+}
+
+fn push_name(alloc: Global, names: &mut Vec<Text>, name: &str) -> Result<(), RowFault> {
+    names.push(text_of(alloc, name)?)?;
     Ok(())
+}
+
+/// Adds the number of a place, or that there is none, `-`.
+fn push_place(places: &mut Vec<Option<u32>>, text: &str) -> Result<(), RowFault> {
+    places.push(text.parse::<u32>().ok())?;
+    Ok(())
+}
+
+/// Adds a procedure: its name, its entry and its exit, and its columns.
+fn push_proc(alloc: Global, parts: &mut Parts, said: &str) -> Result<(), RowFault> {
+    let (head, columns) = parted(said, ":");
+    let (name, places) = parted(head, " ");
+    let (entry, exit) = parted(places, " ");
+    push_name(alloc, &mut parts.names, name)?;
+    push_place(&mut parts.entries, entry)?;
+    push_place(&mut parts.exits, exit)?;
+    push_frame(alloc, &mut parts.frames, columns)
 }
 
 /// What an inside letter does.
-fn inside(alloc: Global, head: &[u32], rows: &str) -> io::Result<Act> {
-    let [proc, helpers, written @ ..] = head else {
-        return Err(ErrorKind::InvalidData.into());
-    };
-    let rows = rows_of_text(alloc, rows)?;
-    Ok(Act::Inside {
-        proc: *proc,
-        written: written.to_vec(alloc)?,
-        helpers: *helpers,
-        rows,
-    })
-}
-
-/// What a call letter does.
-fn call(alloc: Global, head: &[u32], rows: &str) -> io::Result<Act> {
-    let [caller, callee, helpers] = head else {
-        return Err(ErrorKind::InvalidData.into());
-    };
-    let rows = rows_of_text(alloc, rows)?;
-    Ok(Act::Call {
-        caller: *caller,
-        callee: *callee,
-        helpers: *helpers,
-        rows,
-    })
+fn inside(
+    alloc: Global,
+    proc: u32,
+    helpers: u32,
+    written: &[u32],
+    rows: Vec<Row>,
+) -> Result<Act, RowFault> {
+    match written.to_vec(alloc) {
+        Ok(written) => Ok(Act::Inside {
+            proc,
+            written,
+            helpers,
+            rows,
+        }),
+        Err(_) => Err(RowFault::Memory),
+    }
 }
 
 /// What a return letter does.
-fn back(alloc: Global, head: &[u32]) -> io::Result<Act> {
-    let [call, targets @ ..] = head else {
-        return Err(ErrorKind::InvalidData.into());
-    };
-    Ok(Act::Back {
-        call: *call,
-        targets: targets.to_vec(alloc)?,
-    })
+fn back(alloc: Global, call: u32, targets: &[u32]) -> Result<Act, RowFault> {
+    let targets = targets.to_vec(alloc)?;
+    Ok(Act::Back { call, targets })
+}
+
+/// What an inside letter or a call letter does, by whether columns that it writes are said.
+fn ruled(alloc: Global, kind: &str, head: &[u32], rows: &str) -> Result<Act, RowFault> {
+    let mut made = Vec::new(alloc);
+    push_rows(alloc, &mut made, rows)?;
+    match head {
+        [caller, callee, helpers] if kind == "call" => Ok(Act::Call {
+            caller: *caller,
+            callee: *callee,
+            helpers: *helpers,
+            rows: made,
+        }),
+        [proc, helpers, written @ ..] => inside(alloc, *proc, *helpers, written, made),
+        _ => Err(RowFault::Past),
+    }
 }
 
 /// What a letter of this kind does.
-fn act(alloc: Global, kind: &str, said: &str) -> io::Result<Act> {
-    let (head, rows) = said.split_once(':').unwrap_or((said, ""));
-    let head = numbers(alloc, head)?;
-    match kind {
-        "inside" => inside(alloc, &head, rows),
-        "call" => call(alloc, &head, rows),
-        "back" => back(alloc, &head),
-        _ => Err(ErrorKind::InvalidData.into()),
+fn act(alloc: Global, kind: &str, head: &[u32], rows: &str) -> Result<Act, RowFault> {
+    match head {
+        [call, targets @ ..] if kind == "back" => back(alloc, *call, targets),
+        _ => ruled(alloc, kind, head, rows),
     }
 }
 
 /// Adds a letter.
-fn push_act(acts: &mut Vec<Act>, kind: &str, said: &str) -> io::Result<()> {
-    let act = act(*acts.allocator(), kind, said)?;
-    acts.push(act)?;
+fn push_act(alloc: Global, acts: &mut Vec<Act>, kind: &str, said: &str) -> Result<(), RowFault> {
+    let (head, rows) = parted(said, ":");
+    let head = numbers(alloc, head)?;
+    push_made(acts, act(alloc, kind, &head, rows))
+}
+
+fn push_made(acts: &mut Vec<Act>, made: Result<Act, RowFault>) -> Result<(), RowFault> {
+    acts.push(made?)?;
     Ok(())
 }
 
-/// An assertion, and the place of its failures.
-fn site(alloc: Global, said: &str) -> io::Result<Site> {
-    let said = numbers(alloc, said)?;
-    let [number, line, place] = said.as_slice() else {
-        return Err(ErrorKind::InvalidData.into());
-    };
+/// Adds an assertion and the place of its failures, which is final.
+fn push_site(parts: &mut Parts, said: &str) -> Result<(), RowFault> {
+    let (assertion, line, place) = three(said);
     let id = AssertId {
-        number: *number,
-        line: *line,
+        number: assertion,
+        line,
     };
-    Ok(Site { id, place: *place })
-}
-
-/// Adds an assertion, whose place is final.
-fn push_site(parts: &mut Parts, said: &str) -> io::Result<()> {
-    let site = site(*parts.places.allocator(), said)?;
-    if parts.nwa.set_final(site.place).is_err() {
-        return Err(ErrorKind::InvalidData.into());
+    if parts.nwa.set_final(place).is_err() {
+        return Err(RowFault::Past);
     }
-    parts.sites.push(site)?;
+    parts.sites.push(Site { id, place })?;
     Ok(())
 }
 
@@ -197,42 +195,36 @@ fn add_edge(nwa: &mut Nwa, by: Letter, places: &[u32]) -> Result<(), NwaFault> {
 }
 
 /// Reads an edge.
-fn push_edge(parts: &mut Parts, said: &str) -> io::Result<()> {
-    let (by, places) = said.split_once(" | ").ok_or(ErrorKind::InvalidData)?;
-    let by = letter(&parts.acts, number(by)?)?;
-    let places = numbers(*parts.places.allocator(), places)?;
-    if add_edge(&mut parts.nwa, by, &places).is_err() {
-        return Err(ErrorKind::InvalidData.into());
+fn push_edge(alloc: Global, nwa: &mut Nwa, acts: &[Act], said: &str) -> Result<(), RowFault> {
+    let (by, places) = parted(said, " | ");
+    let places = numbers(alloc, places)?;
+    match add_edge(nwa, letter(acts, number(by)), &places) {
+        Ok(()) => Ok(()),
+        Err(_) => Err(RowFault::Past),
+    }
+}
+
+/// Reads a line that is a part.
+fn push_part(alloc: Global, parts: &mut Parts, line: &str) -> Result<(), RowFault> {
+    let (word, said) = parted(line, " ");
+    match word {
+        "proc" => push_proc(alloc, parts, said),
+        "edge" => push_edge(alloc, &mut parts.nwa, &parts.acts, said),
+        "fails" => push_site(parts, said),
+        _ => push_act(alloc, &mut parts.acts, word, said),
+    }
+}
+
+fn push_parts(alloc: Global, parts: &mut Parts, lines: &str) -> Result<(), RowFault> {
+    for line in lines.lines() {
+        push_part(alloc, parts, line)?;
     }
     Ok(())
 }
 
-/// Reads a line that is a part.
-fn push_part(parts: &mut Parts, line: &str) -> io::Result<()> {
-    let (word, said) = line.split_once(' ').ok_or(ErrorKind::InvalidData)?;
-    match word {
-        "proc" => push_proc(parts, said),
-        "edge" => push_edge(parts, said),
-        "fails" => push_site(parts, said),
-        _ => push_act(&mut parts.acts, word, said),
-    }
-}
-
-/// An automaton with so many places and no edges.
-fn bare_automaton(alloc: Global, places: usize) -> io::Result<Nwa> {
-    let Ok(states) = u32::try_from(places) else {
-        return Err(ErrorKind::InvalidData.into());
-    };
-    match empty(alloc, states, 0) {
-        Ok(nwa) => Ok(nwa),
-        Err(_) => Err(ErrorKind::InvalidData.into()),
-    }
-}
-
 /// The places alone.
-fn bare_parts(alloc: Global, places: Vec<u32>) -> io::Result<Parts> {
-    let nwa = bare_automaton(alloc, places.len())?;
-    Ok(Parts {
+fn bare_parts(alloc: Global, nwa: Nwa, places: Vec<u32>) -> Parts {
+    Parts {
         nwa,
         acts: Vec::new(alloc),
         frames: Vec::new(alloc),
@@ -241,16 +233,7 @@ fn bare_parts(alloc: Global, places: Vec<u32>) -> io::Result<Parts> {
         entries: Vec::new(alloc),
         exits: Vec::new(alloc),
         sites: Vec::new(alloc),
-    })
-}
-
-/// The places, and the parts that the lines are.
-fn parts_of(alloc: Global, places: Vec<u32>, lines: &str) -> io::Result<Parts> {
-    let mut parts = bare_parts(alloc, places)?;
-    for line in lines.lines() {
-        push_part(&mut parts, line)?;
     }
-    Ok(parts)
 }
 
 fn joined(parts: Parts) -> Option<Icfg> {
@@ -266,16 +249,29 @@ fn joined(parts: Parts) -> Option<Icfg> {
     )
 }
 
+/// The graph of the places, and of the parts that the lines are.
+fn graph_over(alloc: Global, parts: Parts, lines: &str) -> Option<Icfg> {
+    let mut parts = parts;
+    match push_parts(alloc, &mut parts, lines) {
+        Ok(()) => joined(parts),
+        Err(_) => None,
+    }
+}
+
+/// The graph of these places and lines.
+fn graph_of_places(alloc: Global, places: Vec<u32>, lines: &str) -> Option<Icfg> {
+    let states = u32::try_from(places.len()).unwrap_or(0);
+    match empty(alloc, states, 0) {
+        Ok(nwa) => graph_over(alloc, bare_parts(alloc, nwa, places), lines),
+        Err(_) => None,
+    }
+}
+
 /// The graph of the lines, of which the first has the places.
-pub(crate) fn made_graph(alloc: Global, text: &str) -> io::Result<Icfg> {
-    let (places, lines) = text.split_once('\n').ok_or(ErrorKind::InvalidData)?;
-    let places = places
-        .strip_prefix("places ")
-        .ok_or(ErrorKind::InvalidData)?;
-    let places = numbers(alloc, places)?;
-    let parts = parts_of(alloc, places, lines)?;
-    match joined(parts) {
-        Some(graph) => Ok(graph),
-        None => Err(ErrorKind::InvalidData.into()),
+pub(crate) fn made_graph(alloc: Global, text: &str) -> Option<Icfg> {
+    let (places, lines) = parted(text, "\n");
+    match numbers(alloc, places.trim_start_matches("places ")) {
+        Ok(places) => graph_of_places(alloc, places, lines),
+        Err(_) => None,
     }
 }

@@ -1,29 +1,30 @@
 //! Programs.
 
+ghost use Rattle.boogie_tree.specs.View.{program as tree};
+ghost use Rattle.boogie_parse.specs.PrintedTokens.{IsSpellableProgram};
+
 use boogie_parse::parse;
+use boogie_tree::Program;
 use boogie_types::resolve;
 use std::alloc::Global;
-use std::io::{self, ErrorKind};
 use typing_rules::Typed;
 
 /// The most bytes of a program.
 const MOST_BYTES: usize = 1_048_576;
 
-/// The program of a text.
-fn resolved(alloc: Global, text: &[u8]) -> Option<Typed> {
-    if text.len() > MOST_BYTES {
-        return None;
-    }
-    let Ok(program) = parse(alloc, text) else {
-        return None;
-    };
+fn name_resolved(alloc: Global, program: Program) -> Option<Typed>
+    requires spellable { IsSpellableProgram (tree program) }
+{
     resolve(alloc, program, "main").ok()
 }
 
-/// The program that a text must be.
-pub(crate) fn program_of(alloc: Global, text: &str) -> io::Result<Typed> {
-    match resolved(alloc, text.as_bytes()) {
-        Some(program) => Ok(program),
-        None => Err(ErrorKind::InvalidData.into()),
+/// The program of a text.
+pub(crate) fn program_of(alloc: Global, text: &str) -> Option<Typed> {
+    if text.len() > MOST_BYTES {
+        return None;
+    }
+    match parse(alloc, text.as_bytes()) {
+        Ok(program) => name_resolved(alloc, program),
+        Err(_) => None,
     }
 }

@@ -7,32 +7,31 @@ use crate::reading::{pair, pairs};
 use farkas_check::{Node, Refutation, check, tree};
 use path_rows::PathSystem;
 use std::alloc::{AllocError, Global};
-use std::io::{self, ErrorKind};
 
 /// A leaf, `leaf 0:-1 1:1`, or a cut, `cut 4:0`.
-fn node_of(alloc: Global, text: &str) -> io::Result<Node> {
-    if let Some(said) = text.strip_prefix("leaf ") {
-        return Ok(Node::Leaf(pairs(alloc, said)?));
+fn node_of(alloc: Global, text: &str) -> Result<Node, AllocError> {
+    match text.strip_prefix("leaf ") {
+        Some(said) => Ok(Node::Leaf(pairs(alloc, said)?)),
+        None => {
+            let (col, k) = pair(text.trim_start_matches("cut "));
+            Ok(Node::Cut { col, k })
+        }
     }
-    let said = text.strip_prefix("cut ").ok_or(ErrorKind::InvalidData)?;
-    let (col, k) = pair(said)?;
-    Ok(Node::Cut { col, k })
 }
 
-/// The nodes of a text, each on a line.
-fn nodes_of(alloc: Global, text: &str) -> io::Result<Vec<Node>> {
-    let mut nodes = Vec::new(alloc);
+fn push_nodes(alloc: Global, nodes: &mut Vec<Node>, text: &str) -> Result<(), AllocError> {
     for line in text.lines() {
         nodes.push(node_of(alloc, line)?)?;
     }
-    Ok(nodes)
+    Ok(())
 }
 
-/// The refutation with the nodes of a text.
-pub(crate) fn refutation(alloc: Global, text: &str) -> io::Result<Refutation> {
-    match tree(nodes_of(alloc, text)?) {
-        Some(tree) => Ok(tree),
-        None => Err(ErrorKind::InvalidData.into()),
+/// The refutation with the nodes of a text, each on a line.
+pub(crate) fn refutation(alloc: Global, text: &str) -> Option<Refutation> {
+    let mut nodes = Vec::new(alloc);
+    match push_nodes(alloc, &mut nodes, text) {
+        Ok(()) => tree(nodes),
+        Err(_) => None,
     }
 }
 

@@ -1,51 +1,52 @@
 //! Replays of programs.
 
 use crate::programs::program_of;
-use crate::reading::value;
-use std::alloc::Global;
-use std::io::{self, ErrorKind};
+use crate::rows::{put_nothing, put_number};
+use std::alloc::{AllocError, Global};
+use table_reading::{parted, value};
 use trace_replay::{Choice, Trail, replay};
 use typing_rules::Typed;
 
-/// The values of a text with blanks between them.
-fn choices(alloc: Global, text: &str) -> io::Result<Vec<Choice>> {
-    let mut choices = Vec::new(alloc);
-    for word in text.split_whitespace() {
-        choices.push(Choice(value(word)?))?;
-    }
-    Ok(choices)
+fn choice(text: &str) -> Choice {
+    Choice(value(text))
 }
 
 /// The most steps of a run, and behind a bar its values.
-fn trail(alloc: Global, said: &str) -> io::Result<Trail> {
-    let (steps, values) = said.split_once(" |").ok_or(ErrorKind::InvalidData)?;
-    let Ok(steps) = steps.parse::<u64>() else {
-        return Err(ErrorKind::InvalidData.into());
-    };
-    let choices = choices(alloc, values)?;
-    Ok(Trail { steps, choices })
+fn trail(alloc: Global, said: &str) -> Result<Trail, AllocError> {
+    let (steps, values) = parted(said, " |");
+    let steps = steps.parse::<u64>().unwrap_or(0);
+    match values.split_whitespace().map(choice).collect(alloc) {
+        Ok(choices) => Ok(Trail { steps, choices }),
+        Err(fault) => Err(fault),
+    }
+}
+
+fn show_failed(rt: &HostRuntime, number: u32, line: u32) {
+    put_number(rt, "assertion ", u64::from(number), "");
+    put_number(rt, " line ", u64::from(line), "\n");
 }
 
 /// Prints the assertion that fails, or the step at which the run stops, and why.
-fn show_run(rt: &HostRuntime, program: &Typed, trail: &Trail) -> io::Result<()> {
+fn show_run(rt: &HostRuntime, program: &Typed, trail: &Trail) {
     match replay(rt.alloc(), program, trail) {
-        Ok(id) => {
-            let number = id.number;
-            let line = id.line;
-            println!(rt; "assertion {number} line {line}")?;
+        Ok(id) => show_failed(rt, id.number, id.line),
+        Err(fault) => {
+            let _ = println!(rt; "{fault}");
         }
-        Err(fault) => println!(rt; "{fault}")?,
     }
-    Ok(())
 }
 
-fn show_replay_of(rt: &HostRuntime, program: &Typed, said: &str) -> io::Result<()> {
-    let trail = trail(rt.alloc(), said)?;
-    show_run(rt, program, &trail)
+fn show_replay_of(rt: &HostRuntime, program: &Typed, said: &str) {
+    match trail(rt.alloc(), said) {
+        Ok(trail) => show_run(rt, program, &trail),
+        Err(_) => put_nothing(rt),
+    }
 }
 
 /// Prints the end of a run of the program.
-pub(crate) fn show_replay(rt: &HostRuntime, text: &str, said: &str) -> io::Result<()> {
-    let program = program_of(rt.alloc(), text)?;
-    show_replay_of(rt, &program, said)
+pub(crate) fn show_replay(rt: &HostRuntime, text: &str, said: &str) {
+    match &program_of(rt.alloc(), text) {
+        Some(program) => show_replay_of(rt, program, said),
+        None => put_nothing(rt),
+    }
 }

@@ -5,12 +5,11 @@ ghost use Rattle.path_rows.specs.Paths.{IsPathOf};
 ghost use Rattle.nested_predicates.specs.Positions.{has_return};
 ghost use Rattle.nested_predicates.specs.Walking.{return_tests};
 
-use crate::rows::show_numbers;
+use crate::rows::{put, put_nothing, put_number, show_numbers};
 use letter_acts::Icfg;
 use nwa_base::{Kind, Letter};
 use path_rows::PathSystem;
 use std::alloc::{AllocError, Global};
-use std::io;
 use triple_steps::{Section, Step, Tie, steps};
 
 /// Whether a call before the letters has a return in them.
@@ -45,64 +44,73 @@ fn returns(alloc: Global, letters: &[Letter]) -> Result<Vec<bool>, AllocError>
 }
 
 /// Prints positions behind a word.
-fn show_positions(rt: &HostRuntime, word: &str, positions: &[usize]) -> io::Result<()> {
-    print!(rt; "{word}")?;
+fn show_positions(rt: &HostRuntime, word: &str, positions: &[usize]) {
+    put(rt, word);
     for position in positions {
-        print!(rt; " {position}")?;
+        put_number(rt, " ", *position as u64, "");
     }
-    Ok(())
 }
 
-/// Prints what a section's rows are.
-fn show_section(rt: &HostRuntime, section: &Section) -> io::Result<()> {
-    match section {
-        Section::Claim(number) => println!(rt; "- claim {number}")?,
-        Section::Spare(count) => println!(rt; "- spare {count}")?,
-        Section::Rows { first, count } => println!(rt; "- rows {first} {count}")?,
-        Section::Tie(Tie::Target(column)) => println!(rt; "- target {column}")?,
-        Section::Tie(Tie::Opposite(column)) => println!(rt; "- opposite {column}")?,
-        Section::Tie(Tie::Source(column)) => println!(rt; "- source {column}")?,
+fn show_rows(rt: &HostRuntime, first: usize, count: usize) {
+    put_number(rt, "- rows ", first as u64, "");
+    put_number(rt, " ", count as u64, "\n");
+}
+
+fn show_tie(rt: &HostRuntime, tie: &Tie) {
+    match tie {
+        Tie::Target(column) => put_number(rt, "- target ", *column as u64, "\n"),
+        Tie::Opposite(column) => put_number(rt, "- opposite ", *column as u64, "\n"),
+        Tie::Source(column) => put_number(rt, "- source ", *column as u64, "\n"),
     }
-    Ok(())
+}
+
+/// Prints what the rows of sections are.
+fn show_sections(rt: &HostRuntime, sections: &[Section]) {
+    for section in sections {
+        match section {
+            Section::Claim(number) => put_number(rt, "- claim ", *number as u64, "\n"),
+            Section::Spare(count) => put_number(rt, "- spare ", *count as u64, "\n"),
+            Section::Rows { first, count } => show_rows(rt, *first, *count),
+            Section::Tie(tie) => show_tie(rt, tie),
+        }
+    }
 }
 
 /// Prints a step: its sources and target, and whether it is a call that returns; where its columns stand; and its sections.
-fn show_step(rt: &HostRuntime, step: &Step) -> io::Result<()> {
-    show_positions(rt, "from", &step.sources)?;
-    let target = step.target;
-    let returns = step.returns;
-    let at = step.columns.at;
-    let first = step.columns.first;
-    println!(rt; " to {target} returns {returns}")?;
-    print!(rt; "at {at} first {first} ")?;
-    show_numbers(rt, "made", &step.columns.made)?;
-    for section in &step.sections {
-        show_section(rt, section)?;
-    }
-    Ok(())
+fn show_step(rt: &HostRuntime, step: &Step) {
+    show_positions(rt, "from", &step.sources);
+    put_number(rt, " to ", step.target as u64, " returns ");
+    put(rt, if step.returns { "true\n" } else { "false\n" });
+    put_number(rt, "at ", step.columns.at as u64, "");
+    put_number(rt, " first ", step.columns.first as u64, " ");
+    show_numbers(rt, "made", &step.columns.made);
+    show_sections(rt, &step.sections);
 }
 
 /// Prints the steps, one after another.
-fn show_each(rt: &HostRuntime, made: &[Step]) -> io::Result<()> {
+fn show_each(rt: &HostRuntime, made: &[Step]) {
     for step in made {
-        show_step(rt, step)?;
+        show_step(rt, step);
     }
-    Ok(())
 }
 
 /// Prints the steps of the word, where the tests tell which calls return.
-fn show_with(rt: &HostRuntime, graph: &Icfg, path: &PathSystem, returned: &[bool]) -> io::Result<()>
+fn show_with(rt: &HostRuntime, graph: &Icfg, path: &PathSystem, returned: &[bool])
     requires path { IsPathOf graph.now path.now }
     requires returned { returned.now ≡ return_tests path.now.word }
 {
-    let made = steps(rt.alloc(), graph, path, returned)?;
-    show_each(rt, &made)
+    match steps(rt.alloc(), graph, path, returned) {
+        Ok(made) => show_each(rt, &made),
+        Err(_) => put_nothing(rt),
+    }
 }
 
 /// Prints the steps of the word.
-pub(crate) fn show_steps(rt: &HostRuntime, graph: &Icfg, path: &PathSystem) -> io::Result<()>
+pub(crate) fn show_steps(rt: &HostRuntime, graph: &Icfg, path: &PathSystem)
     requires { IsPathOf graph.now path.now }
 {
-    let returned = returns(rt.alloc(), path.word().letters())?;
-    show_with(rt, graph, path, &returned)
+    match returns(rt.alloc(), path.word().letters()) {
+        Ok(returned) => show_with(rt, graph, path, &returned),
+        Err(_) => put_nothing(rt),
+    }
 }

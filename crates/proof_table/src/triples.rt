@@ -6,143 +6,143 @@ ghost use Rattle.triple_rows.specs.Triples.{Agrees};
 ghost use Rattle.hoare_check.specs.Decided.{IsProofFor};
 
 use crate::predicates::scoped_of;
-use crate::reading::number;
 use crate::refutations::refutation;
-use crate::rows::show_row;
+use crate::rows::{put, put_line, put_nothing, put_number, show_row};
 use farkas_check::Refutation;
 use hoare_check::prove;
 use letter_acts::Icfg;
 use lin_rows::{Row, RowFault, System};
 use std::alloc::{AllocError, Global};
-use std::io::{self, ErrorKind};
+use table_reading::{number, parted};
 use triple_rows::{Proof, Scoped, Triple, agrees, proof, systems_of};
 
-/// The predicate, and another one.
-fn with_second(alloc: Global, first: Scoped, text: &str) -> io::Result<(Scoped, Scoped)> {
-    let second = scoped_of(alloc, text)?;
-    Ok((first, second))
+/// Two predicates.
+#[derive(Drop)]
+struct Ends {
+    from: Scoped,
+    to: Scoped,
 }
 
 /// Two predicates with a bar between them.
-fn scoped_pair(alloc: Global, text: &str) -> io::Result<(Scoped, Scoped)> {
-    let (first, second) = text.split_once(" | ").ok_or(ErrorKind::InvalidData)?;
-    let first = scoped_of(alloc, first)?;
-    with_second(alloc, first, second)
+fn two_ends(alloc: Global, text: &str) -> Option<Ends> {
+    let (from, to) = parted(text, " | ");
+    let from = scoped_of(alloc, from)?;
+    match scoped_of(alloc, to) {
+        Some(to) => Some(Ends { from, to }),
+        None => None,
+    }
 }
 
-fn inside(alloc: Global, letter: u32, said: &str) -> io::Result<Triple> {
-    let (from, to) = scoped_pair(alloc, said)?;
-    Ok(Triple::Inside { from, letter, to })
+/// The triple of an inside letter, or of a call.
+fn forward(kind: &str, letter: u32, ends: Ends) -> Triple {
+    let Ends { from, to } = ends;
+    if kind == "inside" {
+        Triple::Inside { from, letter, to }
+    } else {
+        Triple::Call { from, letter, to }
+    }
 }
 
-fn call(alloc: Global, letter: u32, said: &str) -> io::Result<Triple> {
-    let (from, to) = scoped_pair(alloc, said)?;
-    Ok(Triple::Call { from, letter, to })
-}
-
-/// What stands before the call, and what holds at the end.
-fn back_from(alloc: Global, exit: Scoped, letter: u32, said: &str) -> io::Result<Triple> {
-    let (before, to) = scoped_pair(alloc, said)?;
-    Ok(Triple::Back {
+/// The triple of a return: the predicate at the exit, the one before the call, and what holds at the end.
+fn back(exit: Scoped, letter: u32, ends: Ends) -> Triple {
+    Triple::Back {
         exit,
-        before,
+        before: ends.from,
         letter,
-        to,
-    })
+        to: ends.to,
+    }
 }
 
-fn back(alloc: Global, letter: u32, said: &str) -> io::Result<Triple> {
-    let (exit, rest) = said.split_once(" | ").ok_or(ErrorKind::InvalidData)?;
+fn read_forward(alloc: Global, kind: &str, letter: u32, said: &str) -> Option<Triple> {
+    match two_ends(alloc, said) {
+        Some(ends) => Some(forward(kind, letter, ends)),
+        None => None,
+    }
+}
+
+fn read_back(alloc: Global, letter: u32, said: &str) -> Option<Triple> {
+    let (exit, rest) = parted(said, " | ");
     let exit = scoped_of(alloc, exit)?;
-    back_from(alloc, exit, letter, rest)
+    match two_ends(alloc, rest) {
+        Some(ends) => Some(back(exit, letter, ends)),
+        None => None,
+    }
 }
 
 /// A triple: the kind and number of its letter and its predicates, with bars between them.
-pub(crate) fn triple_of(alloc: Global, text: &str) -> io::Result<Triple> {
-    let (head, said) = text.split_once(" | ").ok_or(ErrorKind::InvalidData)?;
-    let (kind, letter) = head.split_once(' ').ok_or(ErrorKind::InvalidData)?;
-    let letter = number(letter)?;
+pub(crate) fn triple_of(alloc: Global, text: &str) -> Option<Triple> {
+    let (head, said) = parted(text, " | ");
+    let (kind, letter) = parted(head, " ");
     match kind {
-        "inside" => inside(alloc, letter, said),
-        "call" => call(alloc, letter, said),
-        "back" => back(alloc, letter, said),
-        _ => Err(ErrorKind::InvalidData.into()),
+        "back" => read_back(alloc, number(letter), said),
+        _ => read_forward(alloc, kind, number(letter), said),
     }
 }
 
 /// Prints rows behind a word, a line each.
-fn show_rows(rt: &HostRuntime, word: &str, rows: &[Row]) -> io::Result<()> {
+fn show_rows(rt: &HostRuntime, word: &str, rows: &[Row]) {
     for row in rows {
-        print!(rt; "{word}")?;
-        show_row(rt, row)?;
+        put(rt, word);
+        show_row(rt, row);
     }
-    Ok(())
 }
 
 /// Prints the members of a group, which have no groups themselves.
-fn show_group(rt: &HostRuntime, members: &[System]) -> io::Result<()> {
-    println!(rt; "one of")?;
+fn show_group(rt: &HostRuntime, members: &[System]) {
+    put_line(rt, "one of");
     for member in members {
-        show_rows(rt, "- ", &member.rows)?;
-        let groups = member.groups.len();
-        println!(rt; "- groups {groups}")?;
+        show_rows(rt, "- ", &member.rows);
+        put_number(rt, "- groups ", member.groups.len() as u64, "\n");
     }
-    Ok(())
 }
 
 /// Prints a system: its rows, and its groups.
-fn show_made(rt: &HostRuntime, system: &System) -> io::Result<()> {
-    show_rows(rt, "", &system.rows)?;
+fn show_made(rt: &HostRuntime, system: &System) {
+    show_rows(rt, "", &system.rows);
     for members in &system.groups {
-        show_group(rt, members)?;
+        show_group(rt, members);
     }
-    Ok(())
 }
 
 /// Prints the system of a triple, or that a number of it does not fit.
-fn show_agreeing(rt: &HostRuntime, graph: &Icfg, triple: &Triple) -> io::Result<()>
+fn show_agreeing(rt: &HostRuntime, graph: &Icfg, triple: &Triple)
     requires { Agrees (alphabet_of graph.now) triple.now }
 {
     match systems_of(rt.alloc(), graph, triple) {
         Ok(system) => show_made(rt, &system),
-        Err(RowFault::Past) => {
-            println!(rt; "past")?;
-            Ok(())
-        }
-        Err(RowFault::Memory) => Err(ErrorKind::OutOfMemory.into()),
+        Err(RowFault::Past) => put_line(rt, "past"),
+        Err(RowFault::Memory) => put_nothing(rt),
     }
 }
 
 /// Prints the system of a triple that agrees with its letter.
-pub(crate) fn show_system(rt: &HostRuntime, graph: &Icfg, triple: &Triple) -> io::Result<()> {
+pub(crate) fn show_system(rt: &HostRuntime, graph: &Icfg, triple: &Triple) {
     if agrees(graph, triple) {
-        return show_agreeing(rt, graph, triple);
+        show_agreeing(rt, graph, triple);
+    } else {
+        put_line(rt, "does not agree");
     }
-    println!(rt; "does not agree")?;
-    Ok(())
 }
 
 /// Prints whether a triple agrees with its letter.
-pub(crate) fn show_agreement(rt: &HostRuntime, graph: &Icfg, triple: &Triple) -> io::Result<()> {
+pub(crate) fn show_agreement(rt: &HostRuntime, graph: &Icfg, triple: &Triple) {
     let answer = if agrees(graph, triple) {
         "agrees"
     } else {
         "does not agree"
     };
-    println!(rt; "{answer}")?;
-    Ok(())
+    put_line(rt, answer);
 }
 
 /// The proof of the triple by the refutation, if it is one.
 fn proof_by(
     alloc: Global,
     graph: &Icfg,
-    triple: &Triple,
+    triple: Triple,
     tree: Refutation,
 ) -> Result<Option<Proof>, AllocError> {
-    let copied = triple.copy()?;
-    if agrees(graph, &copied) {
-        proof(alloc, graph, copied, tree)
+    if agrees(graph, &triple) {
+        proof(alloc, graph, triple, tree)
     } else {
         Ok(None)
     }
@@ -156,49 +156,54 @@ fn letter_in(triple: &Triple) -> u32 {
     }
 }
 
+fn show_proved(rt: &HostRuntime, proof: &Proof) {
+    put_number(
+        rt,
+        "proved of letter ",
+        u64::from(letter_in(proof.triple())),
+        "",
+    );
+    put_number(
+        rt,
+        " by ",
+        proof.refutation().nodes().len() as u64,
+        " nodes\n",
+    );
+}
+
 /// Prints a proof, if there is one.
-fn show_found(rt: &HostRuntime, found: &Option<Proof>) -> io::Result<()> {
+fn show_found(rt: &HostRuntime, found: &Result<Option<Proof>, AllocError>) {
     match found {
-        Some(proof) => {
-            let letter = letter_in(proof.triple());
-            let nodes = proof.refutation().nodes().len();
-            println!(rt; "proved of letter {letter} by {nodes} nodes")?;
-        }
-        None => println!(rt; "not proved")?,
+        Ok(Some(proof)) => show_proved(rt, proof),
+        Ok(None) => put_line(rt, "not proved"),
+        Err(_) => put_nothing(rt),
     }
-    Ok(())
 }
 
 /// Prints whether the refutation with these nodes proves the triple.
-pub(crate) fn show_proof(
-    rt: &HostRuntime,
-    graph: &Icfg,
-    triple: &Triple,
-    parts: &str,
-) -> io::Result<()> {
-    let tree = refutation(rt.alloc(), parts)?;
-    let found = proof_by(rt.alloc(), graph, triple, tree)?;
-    show_found(rt, &found)
+pub(crate) fn show_proof(rt: &HostRuntime, graph: &Icfg, triple: Triple, parts: &str) {
+    match refutation(rt.alloc(), parts) {
+        Some(tree) => show_found(rt, &proof_by(rt.alloc(), graph, triple, tree)),
+        None => put_nothing(rt),
+    }
 }
 
 /// The proof of a triple that Decide finds, where the triple agrees.
 pub(crate) fn proof_of(
     alloc: Global,
     graph: &Icfg,
-    triple: &Triple,
+    triple: Triple,
 ) -> Result<Option<Proof>, AllocError>
     ensures { IfOk result (λ o. IfSome o (IsProofFor (alphabet_of graph.now))) }
 {
-    let copied = triple.copy()?;
-    if agrees(graph, &copied) {
-        prove(alloc, graph, copied)
+    if agrees(graph, &triple) {
+        prove(alloc, graph, triple)
     } else {
         Ok(None)
     }
 }
 
 /// Prints whether Decide proves the triple.
-pub(crate) fn show_proving(rt: &HostRuntime, graph: &Icfg, triple: &Triple) -> io::Result<()> {
-    let found = proof_of(rt.alloc(), graph, triple)?;
-    show_found(rt, &found)
+pub(crate) fn show_proving(rt: &HostRuntime, graph: &Icfg, triple: Triple) {
+    show_found(rt, &proof_of(rt.alloc(), graph, triple));
 }
