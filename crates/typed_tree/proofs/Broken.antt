@@ -14,7 +14,7 @@ use Rattle.typed_tree.specs.declared.fault.TypeFault.TheVariants as fault
 use Rattle.typed_tree.specs.TypedTree.{TypedExpression, Lit, Var, Old, Not, Neg, Bin}
 use Rattle.typed_tree.specs.Scope.{Scope, variable_at, fixed}
 use Rattle.typed_tree.specs.Typing.{type_of, operation_type, only}
-use Rattle.typed_tree.specs.AffineForm.{form, is_linear, is_linear_operation, forms_fit, form_fits, fits, is_constant, is_zero, divisor_of, is_divisor}
+use Rattle.typed_tree.specs.AffineForm.{form, is_linear, is_linear_operation, forms_fit, form_fits, fits, is_constant, form_is_zero, divisor_of, is_divisor}
 use Rattle.typed_tree.specs.KeptRules.{keeps_rules}
 use Rattle.typed_tree.specs.BrokenRules.{IsBroken, in_old, in_not, in_neg, in_left, in_right, unseen, misplaced, no_truth, no_number, ill_typed, zero_divisor, no_literal, no_factor, big_literal, big_opposite, big_operation, is_division}
 use Rattle.typed_tree.specs.FormView.{IsPartFault}

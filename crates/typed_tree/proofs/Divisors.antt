@@ -11,11 +11,11 @@ use Rattle.typed_tree.specs.declared.types.TExprKind.{TExprKind}
 use Rattle.typed_tree.specs.declared.types.TExprKind.TheVariants as kinds
 use Rattle.typed_tree.specs.TypedTree.{TypedExpression}
 use Rattle.typed_tree.specs.TypedView.{kind_view, expression}
-use Rattle.typed_tree.specs.AffineForm.{is_zero, divisor_of, is_divisor, fits}
+use Rattle.typed_tree.specs.AffineForm.{form_is_zero, divisor_of, is_divisor, fits}
 use Rattle.typed_tree.specs.BrokenRules.{expression_span}
 use Rattle.typed_tree.specs.BrokenOperation.{zero_literal, divisor_fault}
 
-pub is_zero_opposite : (z : ℤ) → is_zero (neg_ℤ z) ≡ is_zero z
+pub is_zero_opposite : (z : ℤ) → form_is_zero (neg_ℤ z) ≡ form_is_zero z
 is_zero_opposite (pos zero) = refl
 is_zero_opposite (pos (suc n)) = refl
 is_zero_opposite (negsuc n) = refl
@@ -33,15 +33,15 @@ kind_place s (kinds.Bin' op p s1 a q s2 b) = refl
 pub place_seen : (e : TExpr) → expression_span (expression e) ≡ e.span
 place_seen e = kind_place e.span e.kind
 
-divisor_by : (o : Option ℤ) (r : Option Bool) → r ≡ option_map is_zero o → r ≡ Some false → is_divisor o ≡ true
+divisor_by : (o : Option ℤ) (r : Option Bool) → r ≡ option_map form_is_zero o → r ≡ Some false → is_divisor o ≡ true
 divisor_by None r e f = absurd (cc)
-divisor_by (Some k) r e f = let g : is_zero k ≡ false = cc in rw g refl
+divisor_by (Some k) r e f = let g : form_is_zero k ≡ false = cc in rw g refl
 
-no_divisor_by : (o : Option ℤ) (r : Option Bool) → r ≡ option_map is_zero o → r ≡ Some true → is_divisor o ≡ false
+no_divisor_by : (o : Option ℤ) (r : Option Bool) → r ≡ option_map form_is_zero o → r ≡ Some true → is_divisor o ≡ false
 no_divisor_by None r e f = refl
-no_divisor_by (Some k) r e f = let g : is_zero k ≡ true = cc in rw g refl
+no_divisor_by (Some k) r e f = let g : form_is_zero k ≡ true = cc in rw g refl
 
-nothing_by : (o : Option ℤ) (r : Option Bool) → r ≡ option_map is_zero o → r ≡ None → is_divisor o ≡ false
+nothing_by : (o : Option ℤ) (r : Option Bool) → r ≡ option_map form_is_zero o → r ≡ None → is_divisor o ≡ false
 nothing_by None r e f = refl
 nothing_by (Some k) r e f = absurd (cc)
 

@@ -9,7 +9,7 @@ use Rattle.typed_tree.specs.declared.form.Form as code
 use Rattle.typed_tree.specs.declared.fault.AffineFault.{AffineFault}
 use Rattle.typed_tree.specs.declared.fault.AffineFault.TheVariants as affine
 use Rattle.typed_tree.specs.TypedTree.{TypedExpression, Not, Neg, Bin}
-use Rattle.typed_tree.specs.AffineForm.{Form, form, forms_fit, form_fits, fits, times, operation}
+use Rattle.typed_tree.specs.AffineForm.{Form, form, forms_fit, form_fits, fits, form_times, operation}
 use Rattle.typed_tree.specs.FormOrder.{terms_fit}
 use Rattle.typed_tree.specs.FormView.{form_of, IsForm, IsFormAnswer}
 
@@ -47,13 +47,13 @@ right_refused fixed old at op a b f h t =
 -- ---- operations
 
 pub neg_formed : (fixed : Column → Bool) (old : Bool) (at : Span) (e : TypedExpression) (f : code.Form) (r : Result code.Form AffineFault) → IsForm fixed old e f →
-    IfOk r (λ g. form_of g ≡ times (negsuc 0) (form_of f)) → (r ≡ Err affine.TooBig → form_fits (times (negsuc 0) (form_of f)) ≡ false) → IsFormAnswer fixed old (Neg at e) r
+    IfOk r (λ g. form_of g ≡ form_times (negsuc 0) (form_of f)) → (r ≡ Err affine.TooBig → form_fits (form_times (negsuc 0) (form_of f)) ≡ false) → IsFormAnswer fixed old (Neg at e) r
 neg_formed fixed old at e f (Ok g) h v b =
-    let seen : form_of g ≡ times (negsuc 0) (form fixed old e) = v ∙ ap (times (negsuc 0)) h.seen in
-    record { seen = seen; fit = and_from (forms_fit fixed old e) (form_fits (times (negsuc 0) (form fixed old e))) h.fit (fits_as g (times (negsuc 0) (form fixed old e)) seen) }
+    let seen : form_of g ≡ form_times (negsuc 0) (form fixed old e) = v ∙ ap (form_times (negsuc 0)) h.seen in
+    record { seen = seen; fit = and_from (forms_fit fixed old e) (form_fits (form_times (negsuc 0) (form fixed old e))) h.fit (fits_as g (form_times (negsuc 0) (form fixed old e)) seen) }
 neg_formed fixed old at e f (Err x) h v b = λ t.
-    right_fails (forms_fit fixed old e) (form_fits (times (negsuc 0) (form fixed old e)))
-    (ap (λ (a : Form). form_fits (times (negsuc 0) a)) (sym h.seen) ∙ b (ap Err t))
+    right_fails (forms_fit fixed old e) (form_fits (form_times (negsuc 0) (form fixed old e)))
+    (ap (λ (a : Form). form_fits (form_times (negsuc 0) a)) (sym h.seen) ∙ b (ap Err t))
 
 pub combined_formed : (fixed : Column → Bool) (old : Bool) (at : Span) (op : Op) (a b : TypedExpression) (f g : code.Form) (r : Result code.Form AffineFault) → IsForm fixed old a f → IsForm fixed old b g →
     IfOk r (λ s. form_of s ≡ operation op (form_of f) (form_of g)) → (r ≡ Err affine.TooBig → form_fits (operation op (form_of f) (form_of g)) ≡ false) →

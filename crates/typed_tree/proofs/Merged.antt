@@ -4,7 +4,7 @@ use Rattle.std.specs.List.{list_all}
 use Rattle.std.proofs.lemmas.Bool.{and_parts, and_from, and_left, and_right, both_ways, eqb-true, lt-ltb}
 use Rattle.std.proofs.lemmas.List.Folds.{list_all-append}
 use Rattle.boogie_tree.specs.declared.tree.Column.{Column}
-use Rattle.typed_tree.specs.AffineForm.{is_before, is_zero, led_by, added_at, added_to, fits}
+use Rattle.typed_tree.specs.AffineForm.{is_before, form_is_zero, form_led_by, form_added_at, added_to, fits}
 use Rattle.typed_tree.specs.FormOrder.{stands_before, ascends, terms_fit}
 use Rattle.typed_tree.specs.Merging.{kept, put, AreTerms, IsFront}
 use Rattle.typed_tree.specs.declared.merging.Front.{Front}
@@ -23,11 +23,11 @@ pub added_behind : (t : Column × ℤ) (ts us : List (Column × ℤ)) → stands
 added_behind t ts [] h = refl
 added_behind t ts (u ∷ us) h =
     let p = and_parts (is_before t.0 u.0) (stands_before t.0 us) h in
-    rw (before_one_way t.0 u.0 p.0, p.0) (added_behind t (added_at u.0 u.1 ts) us p.1)
+    rw (before_one_way t.0 u.0 p.0, p.0) (added_behind t (form_added_at u.0 u.1 ts) us p.1)
 
 -- a sum whose first term is taken, or cancels
-pub led : (c : Column) (a : ℤ) (ts us : List (Column × ℤ)) → stands_before c us ≡ true → added_to (led_by c a ts) us ≡ put (kept c a) (added_to ts us)
-led c a ts us h = by_test (is_zero a)
+pub led : (c : Column) (a : ℤ) (ts us : List (Column × ℤ)) → stands_before c us ≡ true → added_to (form_led_by c a ts) us ≡ put (kept c a) (added_to ts us)
+led c a ts us h = by_test (form_is_zero a)
   where
     by_test : (z : Bool) → added_to (if z then ts else (c, a) ∷ ts) us ≡ put (if z then None else Some (c, a)) (added_to ts us)
     by_test true = refl
@@ -64,7 +64,7 @@ terms_first : (t : Column × ℤ) (ts : List (Column × ℤ)) → AreTerms (t �
 terms_first t ts h = and_from (fits t.1) true (and_parts (fits t.1) (terms_fit ts) h.fit).0 refl
 
 kept_fits : (c : Column) (a : ℤ) → fits a ≡ true → terms_fit (put (kept c a) []) ≡ true
-kept_fits c a h = by_test (is_zero a)
+kept_fits c a h = by_test (form_is_zero a)
   where
     by_test : (z : Bool) → terms_fit (put (if z then None else Some (c, a)) []) ≡ true
     by_test true = refl
@@ -129,14 +129,14 @@ front_too_big a b t u ts us e g q h i w =
     let s : AreTerms (u ∷ us) = subst AreTerms g q in
     rw (e, g) (ap terms_fit (both_first t u ts us h i s.in_order) ∙ big u.0 (t.1 +ℤ u.1) (added_to ts us) w)
   where
-    zero_fits : (z : ℤ) → is_zero z ≡ true → fits z ≡ true
+    zero_fits : (z : ℤ) → form_is_zero z ≡ true → fits z ≡ true
     zero_fits (pos n) k = lt-ltb n (2 ^ 127) (omega (arith, eqb-true n 0 k))
     zero_fits (negsuc n) k = absurd (omega (arith, eqb-true (suc n) 0 k))
 
     big : (c : Column) (z : ℤ) (ts : List (Column × ℤ)) → fits z ≡ false → terms_fit (put (kept c z) ts) ≡ false
-    big c z ts k = by_test (is_zero z) refl
+    big c z ts k = by_test (form_is_zero z) refl
       where
-        by_test : (y : Bool) → is_zero z ≡ y → terms_fit (put (if y then None else Some (c, z)) ts) ≡ false
+        by_test : (y : Bool) → form_is_zero z ≡ y → terms_fit (put (if y then None else Some (c, z)) ts) ≡ false
         by_test true l = absurd (both_ways (fits z) k (zero_fits z l))
         by_test false l = and_left (fits z) (terms_fit ts) k
 
@@ -172,48 +172,48 @@ merging_ends a b sum left right out m e f = f ∙ ap (λ (ts : List (Column × �
 
 -- ---- the sum ascends
 
-stands_before-led_by : (x c : Column) (a : ℤ) (ts : List (Column × ℤ)) → is_before x c ≡ true → stands_before x ts ≡ true → stands_before x (led_by c a ts) ≡ true
-stands_before-led_by x c a ts e h = by_test (is_zero a)
+stands_before-led_by : (x c : Column) (a : ℤ) (ts : List (Column × ℤ)) → is_before x c ≡ true → stands_before x ts ≡ true → stands_before x (form_led_by c a ts) ≡ true
+stands_before-led_by x c a ts e h = by_test (form_is_zero a)
   where
     by_test : (z : Bool) → stands_before x (if z then ts else (c, a) ∷ ts) ≡ true
     by_test true = h
     by_test false = and_from (is_before x c) (stands_before x ts) e h
 
-stands_before-added_at : (x c : Column) (a : ℤ) (ts : List (Column × ℤ)) → is_before x c ≡ true → stands_before x ts ≡ true → stands_before x (added_at c a ts) ≡ true
+stands_before-added_at : (x c : Column) (a : ℤ) (ts : List (Column × ℤ)) → is_before x c ≡ true → stands_before x ts ≡ true → stands_before x (form_added_at c a ts) ≡ true
 stands_before-added_at x c a [] e h = stands_before-led_by x c a [] e h
 stands_before-added_at x c a (t ∷ ts) e h =
     let p = and_parts (is_before x t.0) (stands_before x ts) h in
     by_tests (is_before c t.0) (is_before t.0 c) p.0 p.1 (stands_before-added_at x c a ts e p.1)
   where
-    by_tests : (k l : Bool) → is_before x t.0 ≡ true → stands_before x ts ≡ true → stands_before x (added_at c a ts) ≡ true →
-        stands_before x (if k then led_by c a (t ∷ ts) else (if l then t ∷ added_at c a ts else led_by c (t.1 +ℤ a) ts)) ≡ true
+    by_tests : (k l : Bool) → is_before x t.0 ≡ true → stands_before x ts ≡ true → stands_before x (form_added_at c a ts) ≡ true →
+        stands_before x (if k then form_led_by c a (t ∷ ts) else (if l then t ∷ form_added_at c a ts else form_led_by c (t.1 +ℤ a) ts)) ≡ true
     by_tests true l p q r = stands_before-led_by x c a (t ∷ ts) e h
-    by_tests false true p q r = and_from (is_before x t.0) (stands_before x (added_at c a ts)) p r
+    by_tests false true p q r = and_from (is_before x t.0) (stands_before x (form_added_at c a ts)) p r
     by_tests false false p q r = stands_before-led_by x c (t.1 +ℤ a) ts e q
 
-ascends-led_by : (c : Column) (a : ℤ) (ts : List (Column × ℤ)) → stands_before c ts ≡ true → ascends ts ≡ true → ascends (led_by c a ts) ≡ true
-ascends-led_by c a ts e h = by_test (is_zero a)
+ascends-led_by : (c : Column) (a : ℤ) (ts : List (Column × ℤ)) → stands_before c ts ≡ true → ascends ts ≡ true → ascends (form_led_by c a ts) ≡ true
+ascends-led_by c a ts e h = by_test (form_is_zero a)
   where
     by_test : (z : Bool) → ascends (if z then ts else (c, a) ∷ ts) ≡ true
     by_test true = h
     by_test false = and_from (stands_before c ts) (ascends ts) e h
 
-ascends-added_at : (c : Column) (a : ℤ) (ts : List (Column × ℤ)) → ascends ts ≡ true → ascends (added_at c a ts) ≡ true
+ascends-added_at : (c : Column) (a : ℤ) (ts : List (Column × ℤ)) → ascends ts ≡ true → ascends (form_added_at c a ts) ≡ true
 ascends-added_at c a [] h = ascends-led_by c a [] refl refl
 ascends-added_at c a (t ∷ ts) h =
     let p = and_parts (stands_before t.0 ts) (ascends ts) h in
     by_tests (is_before c t.0) (is_before t.0 c) refl refl p.0 p.1 (ascends-added_at c a ts p.1)
   where
-    by_tests : (k l : Bool) → is_before c t.0 ≡ k → is_before t.0 c ≡ l → stands_before t.0 ts ≡ true → ascends ts ≡ true → ascends (added_at c a ts) ≡ true →
-        ascends (if k then led_by c a (t ∷ ts) else (if l then t ∷ added_at c a ts else led_by c (t.1 +ℤ a) ts)) ≡ true
+    by_tests : (k l : Bool) → is_before c t.0 ≡ k → is_before t.0 c ≡ l → stands_before t.0 ts ≡ true → ascends ts ≡ true → ascends (form_added_at c a ts) ≡ true →
+        ascends (if k then form_led_by c a (t ∷ ts) else (if l then t ∷ form_added_at c a ts else form_led_by c (t.1 +ℤ a) ts)) ≡ true
     by_tests true l e f p q r = ascends-led_by c a (t ∷ ts) (and_from (is_before c t.0) (stands_before c ts) e (stands_before_trans c t.0 ts e p)) h
-    by_tests false true e f p q r = and_from (stands_before t.0 (added_at c a ts)) (ascends (added_at c a ts)) (stands_before-added_at t.0 c a ts f p) r
+    by_tests false true e f p q r = and_from (stands_before t.0 (form_added_at c a ts)) (ascends (form_added_at c a ts)) (stands_before-added_at t.0 c a ts f p) r
     by_tests false false e f p q r =
         ascends-led_by c (t.1 +ℤ a) ts (subst (λ (d : Column). stands_before d ts ≡ true) (sym (same_place c t.0 e f)) p) q
 
 pub ascends-added_to : (ts us : List (Column × ℤ)) → ascends ts ≡ true → ascends (added_to ts us) ≡ true
 ascends-added_to ts [] h = h
-ascends-added_to ts (u ∷ us) h = ascends-added_to (added_at u.0 u.1 ts) us (ascends-added_at u.0 u.1 ts h)
+ascends-added_to ts (u ∷ us) h = ascends-added_to (form_added_at u.0 u.1 ts) us (ascends-added_at u.0 u.1 ts h)
 
 pub merging_valid : (a b sum left right out : List (Column × ℤ)) → AreTerms a → IsMerging a b sum left right → right ≡ [] → out ≡ sum ++ left → AreTerms out
 merging_valid a b sum left right out h m e f = record {

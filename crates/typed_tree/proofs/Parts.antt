@@ -16,7 +16,7 @@ use Rattle.typed_tree.specs.declared.typing.Part.{Part}
 use Rattle.typed_tree.specs.TypedTree.{TypedExpression, Lit, Truth, Var, Old, Not, Neg, Bin}
 use Rattle.typed_tree.specs.Scope.{Scope, variable_at, fixed}
 use Rattle.typed_tree.specs.Typing.{type_of, operation_type, only}
-use Rattle.typed_tree.specs.AffineForm.{Form, form, is_linear, is_linear_operation, forms_fit, form_fits, fits, is_constant, is_zero, divisor_of, is_divisor, times, operation}
+use Rattle.typed_tree.specs.AffineForm.{Form, form, is_linear, is_linear_operation, forms_fit, form_fits, fits, is_constant, form_is_zero, divisor_of, is_divisor, form_times, operation}
 use Rattle.typed_tree.specs.BrokenRules.{IsBroken, in_old, in_not, in_neg, in_left, in_right, unseen, misplaced, no_truth, no_number, ill_typed, zero_divisor, no_literal, no_factor, big_literal, big_opposite, big_operation, IsFault, is_division}
 use Rattle.typed_tree.specs.FormOrder.{terms_fit}
 use Rattle.typed_tree.specs.FormView.{form_of, IsPart, IsPartFault, IsAnswer}
@@ -108,9 +108,9 @@ or_parts true y e = absurd (cc)
 or_parts false y e = (refl, e)
 
 division_broken : (s : Scope) (old : Bool) (at : Span) (op : Op) (a b : TypedExpression) (o : Option ℤ) → is_division op ≡ true → divisor_of b ≡ o → is_divisor o ≡ false →
-    IsBroken s old (Bin at op a b) (divisor_fault (option_map is_zero o) b)
+    IsBroken s old (Bin at op a b) (divisor_fault (option_map form_is_zero o) b)
 division_broken s old at op a b None d e h = no_literal old at op a b d e
-division_broken s old at op a b (Some k) d e h = zero_divisor old at op a b k d e (not-false (is_zero k) h)
+division_broken s old at op a b (Some k) d e h = zero_divisor old at op a b k d e (not-false (form_is_zero k) h)
 
 operator_broken : (s : Scope) (old : Bool) (at : Span) (op : Op) (a b : TypedExpression) → keeps_operator op (form (fixed s) old a) (form (fixed s) old b) b ≡ false →
     IsBroken s old (Bin at op a b) (operator_fault op at b)
@@ -148,19 +148,19 @@ pub negation_part : (s : Scope) (old : Bool) (at : Span) (e : TypedExpression) (
 negation_part s old at e p r h t u f = record { typed = rw (h.typed, t, u) refl; linear = h.linear; fit = h.fit; seen = f }
 
 pub opposite_part : (s : Scope) (old : Bool) (at : Span) (e : TypedExpression) (p r : Part) → IsPart s old e p → p.ty ≡ types.Int → r.ty ≡ types.Int →
-    form_of r.form ≡ times (negsuc 0) (form_of p.form) → IsPart s old (Neg at e) r
+    form_of r.form ≡ form_times (negsuc 0) (form_of p.form) → IsPart s old (Neg at e) r
 opposite_part s old at e p r h t u f =
-    let g : form_of r.form ≡ times (negsuc 0) (form (fixed s) old e) = f ∙ ap (times (negsuc 0)) h.seen in
+    let g : form_of r.form ≡ form_times (negsuc 0) (form (fixed s) old e) = f ∙ ap (form_times (negsuc 0)) h.seen in
     record {
       typed = rw (h.typed, t, u) refl;
       linear = h.linear;
-      fit = and_from (forms_fit (fixed s) old e) (form_fits (times (negsuc 0) (form (fixed s) old e))) h.fit (ap form_fits (sym g) ∙ part_fits r);
+      fit = and_from (forms_fit (fixed s) old e) (form_fits (form_times (negsuc 0) (form (fixed s) old e))) h.fit (ap form_fits (sym g) ∙ part_fits r);
       seen = g;
     }
 
-pub opposite_big : (s : Scope) (old : Bool) (at : Span) (e : TypedExpression) (p : Part) → IsPart s old e p → form_fits (times (negsuc 0) (form_of p.form)) ≡ false →
+pub opposite_big : (s : Scope) (old : Bool) (at : Span) (e : TypedExpression) (p : Part) → IsPart s old e p → form_fits (form_times (negsuc 0) (form_of p.form)) ≡ false →
     IsPartFault s old (Neg at e) (fault.TooBig at)
-opposite_big s old at e p h f = inr (big_opposite old at e (ap (λ (a : Form). form_fits (times (negsuc 0) a)) (sym h.seen) ∙ f))
+opposite_big s old at e p h f = inr (big_opposite old at e (ap (λ (a : Form). form_fits (form_times (negsuc 0) a)) (sym h.seen) ∙ f))
 
 -- ---- the whole
 

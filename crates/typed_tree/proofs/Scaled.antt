@@ -6,7 +6,7 @@ use Rattle.std.proofs.lemmas.Int.{unsigned_abs-mul}
 use Rattle.std.proofs.lemmas.List.{take_more, map-append}
 use Rattle.std.proofs.lemmas.List.Folds.{list_all-append, list_all-map, list_all_at}
 use Rattle.boogie_tree.specs.declared.tree.Column.{Column}
-use Rattle.typed_tree.specs.AffineForm.{Form, is_before, fits, form_fits, scaled}
+use Rattle.typed_tree.specs.AffineForm.{Form, is_before, fits, form_fits, form_scaled}
 use Rattle.typed_tree.specs.FormOrder.{stands_before, ascends, terms_fit}
 use Rattle.typed_tree.specs.Merging.{AreTerms}
 
@@ -50,11 +50,11 @@ opposite_all n (x ∷ xs) h =
     let p = and_parts (fits (n x)) (list_all (λ x. fits (n x)) xs) h in
     and_from (fits (negsuc 0 *ℤ n x)) (list_all (λ x. fits (negsuc 0 *ℤ n x)) xs) (opposite_fits (n x) p.0) (opposite_all n xs p.1)
 
-opposite_form : (b : Form) → terms_fit b.terms ≡ true → list_all fits b.quotients ≡ true → fits b.constant ≡ true → form_fits (scaled (negsuc 0) b) ≡ true
+opposite_form : (b : Form) → terms_fit b.terms ≡ true → list_all fits b.quotients ≡ true → fits b.constant ≡ true → form_fits (form_scaled (negsuc 0) b) ≡ true
 opposite_form b h k l =
     let e : terms_fit (map (λ t. (t.0, negsuc 0 *ℤ t.1)) b.terms) ≡ true = list_all-map (λ (t : Column × ℤ). fits t.1) (λ t. (t.0, negsuc 0 *ℤ t.1)) b.terms ∙ opposite_all (λ t. t.1) b.terms h in
     let f : list_all fits (map (λ q. negsuc 0 *ℤ q) b.quotients) ≡ true = list_all-map fits (λ q. negsuc 0 *ℤ q) b.quotients ∙ opposite_all (λ q. q) b.quotients k in
     rw (e, f, opposite_fits b.constant l) refl
 
-pub opposite_is_small : {P : Type 0} (b : Form) → terms_fit b.terms ≡ true → list_all fits b.quotients ≡ true → fits b.constant ≡ true → form_fits (scaled (negsuc 0) b) ≡ false → P
-opposite_is_small b h k l w = absurd (both_ways (form_fits (scaled (negsuc 0) b)) w (opposite_form b h k l))
+pub opposite_is_small : {P : Type 0} (b : Form) → terms_fit b.terms ≡ true → list_all fits b.quotients ≡ true → fits b.constant ≡ true → form_fits (form_scaled (negsuc 0) b) ≡ false → P
+opposite_is_small b h k l w = absurd (both_ways (form_fits (form_scaled (negsuc 0) b)) w (opposite_form b h k l))

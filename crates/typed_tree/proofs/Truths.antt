@@ -11,7 +11,7 @@ use Rattle.boogie_tree.specs.declared.tree.VarInfo.{VarInfo}
 use Rattle.typed_tree.specs.TypedTree.{TypedExpression, Lit, Truth, Var, Old, Not, Neg, Bin}
 use Rattle.typed_tree.specs.Scope.{Scope, variable_at}
 use Rattle.typed_tree.specs.Typing.{type_of, operation_type, same_type, only}
-use Rattle.typed_tree.specs.Values.{State, column_value, at_entry, truth, is_zero, same, operation_value, value}
+use Rattle.typed_tree.specs.Values.{State, column_value, at_entry, truth, value_is_zero, same, operation_value, value}
 use Rattle.typed_tree.specs.Laws.{IsTruth, BooleansHold}
 
 truth_is : (b : Bool) → IsTruth (truth b)
@@ -60,9 +60,9 @@ no_bool false e = cc
 
 truth_operation : (op : Op) (t u : Ty) (x y : ℤ) → operation_type op t u ≡ Some types.Bool → (u ≡ types.Bool → IsTruth y) → IsTruth (operation_value op x y)
 truth_operation Iff t u x y e h = truth_is (same x y)
-truth_operation Implies t u x y e h = either (is_zero x) (pos 1) y (inr refl) (h (both_bool t u (chosen (same_type t u && same_type types.Bool t) types.Bool e).0))
-truth_operation And t u x y e h = either (is_zero x) (pos 0) y (inl refl) (h (both_bool t u (chosen (same_type t u && same_type types.Bool t) types.Bool e).0))
-truth_operation Or t u x y e h = either (is_zero x) y (pos 1) (h (both_bool t u (chosen (same_type t u && same_type types.Bool t) types.Bool e).0)) (inr refl)
+truth_operation Implies t u x y e h = either (value_is_zero x) (pos 1) y (inr refl) (h (both_bool t u (chosen (same_type t u && same_type types.Bool t) types.Bool e).0))
+truth_operation And t u x y e h = either (value_is_zero x) (pos 0) y (inl refl) (h (both_bool t u (chosen (same_type t u && same_type types.Bool t) types.Bool e).0))
+truth_operation Or t u x y e h = either (value_is_zero x) y (pos 1) (h (both_bool t u (chosen (same_type t u && same_type types.Bool t) types.Bool e).0)) (inr refl)
 truth_operation Eq t u x y e h = truth_is (same x y)
 truth_operation Ne t u x y e h = truth_is (not (same x y))
 truth_operation Lt t u x y e h = truth_is (int_lt x y)
@@ -80,7 +80,7 @@ truth_value c s (Lit at n) h t = absurd (cc)
 truth_value c s (Truth at b) h t = truth_is b
 truth_value c s (Var at d) h t = variable_truth s c (variable_at c d) (column_value s d) (λ v k l. (h d v k l).0) t
 truth_value c s (Old at e) h t = truth_value c (at_entry s) e (at_entry_hold c s h) (old_type c.old (type_of c e) t)
-truth_value c s (Not at e) h t = truth_is (is_zero (value s e))
+truth_value c s (Not at e) h t = truth_is (value_is_zero (value s e))
 truth_value c s (Neg at e) h t = absurd (neg_type (type_of c e) t)
 truth_value c s (Bin at op a b) h t =
     let p = two_types op (type_of c a) (type_of c b) t in

@@ -1,4 +1,5 @@
--- The affine forms of whole-number expressions, exact: columns with a coefficient each, and a constant. Each `div` or `mod` is an atom of its own.
+-- The affine forms of whole-number expressions, exact: columns with a coefficient each, and a constant. Each `div`, each `mod` and each product of
+-- two factors that are not constant is an atom of its own.
 use Rattle.std.specs.Prelude.{◌^◌, ℤ, pos, negsuc, ◌+ℤ◌, ◌*ℤ◌, neg_ℤ, unsigned_abs, Bool, true, false, not, ◌&&◌, ◌||◌, nat_lt, nat_eq, List, [], ◌∷◌, ◌++◌, map, Option, None, Some, if◌then◌else◌}
 use Rattle.std.specs.List.{list_all}
 use Rattle.boogie_tree.specs.declared.tree.Op.{Op}
@@ -7,14 +8,14 @@ use Rattle.boogie_tree.specs.declared.tree.Column.{Column}
 use Rattle.boogie_tree.specs.declared.tree.Column.TheVariants as columns
 use Rattle.typed_tree.specs.TypedTree.{TypedExpression, Lit, Truth, Var, Old, Not, Neg, Bin}
 
--- Columns ascend and no coefficient is 0; the coefficients of the divs and mods stand in text order.
+-- Columns ascend and no coefficient is 0; the coefficients of the atoms stand in text order.
 pub record Form : Type 0 where
   pub terms : List (Column × ℤ)
   pub quotients : List ℤ
   pub constant : ℤ
 
-abbrev pub is_zero : ℤ → Bool
-is_zero z = nat_eq (unsigned_abs z) 0
+abbrev pub form_is_zero : ℤ → Bool
+form_is_zero z = nat_eq (unsigned_abs z) 0
 
 -- the order of columns: globals, old values, locals, each by number
 abbrev pub is_before : Column → Column → Bool
@@ -27,34 +28,34 @@ is_before (columns.Local a) (columns.Local b) = nat_lt a b
 is_before (columns.Local a) other = false
 
 -- the term in front, unless its coefficient is 0
-abbrev pub led_by : Column → ℤ → List (Column × ℤ) → List (Column × ℤ)
-led_by c a ts = if is_zero a then ts else (c, a) ∷ ts
+abbrev pub form_led_by : Column → ℤ → List (Column × ℤ) → List (Column × ℤ)
+form_led_by c a ts = if form_is_zero a then ts else (c, a) ∷ ts
 
 -- ascending terms with a added at the column c
-abbrev pub added_at : Column → ℤ → List (Column × ℤ) → List (Column × ℤ)
-added_at c a [] = led_by c a []
-added_at c a (t ∷ ts) =
-    if is_before c t.0 then led_by c a (t ∷ ts)
-    else (if is_before t.0 c then t ∷ added_at c a ts else led_by c (t.1 +ℤ a) ts)
+abbrev pub form_added_at : Column → ℤ → List (Column × ℤ) → List (Column × ℤ)
+form_added_at c a [] = form_led_by c a []
+form_added_at c a (t ∷ ts) =
+    if is_before c t.0 then form_led_by c a (t ∷ ts)
+    else (if is_before t.0 c then t ∷ form_added_at c a ts else form_led_by c (t.1 +ℤ a) ts)
 
 -- the terms of the second added to those of the first, one after the other: ascending by column, one term a column, none with the coefficient 0
 abbrev pub added_to : List (Column × ℤ) → List (Column × ℤ) → List (Column × ℤ)
 added_to ts [] = ts
-added_to ts (u ∷ us) = added_to (added_at u.0 u.1 ts) us
+added_to ts (u ∷ us) = added_to (form_added_at u.0 u.1 ts) us
 
-abbrev pub number : ℤ → Form
-number n = record { terms = []; quotients = []; constant = n }
+abbrev pub form_number : ℤ → Form
+form_number n = record { terms = []; quotients = []; constant = n }
 
 abbrev pub once : Column → Form
 once c = record { terms = (c, pos 1) ∷ []; quotients = []; constant = pos 0 }
 
--- one `div` or `mod`
-abbrev pub quotient : Form
-quotient = record { terms = []; quotients = pos 1 ∷ []; constant = pos 0 }
+-- one atom
+abbrev pub form_quotient : Form
+form_quotient = record { terms = []; quotients = pos 1 ∷ []; constant = pos 0 }
 
 -- each number of a form times m, which is not 0
-abbrev pub scaled : ℤ → Form → Form
-scaled m b =
+abbrev pub form_scaled : ℤ → Form → Form
+form_scaled m b =
     record {
       terms = map (λ t. (t.0, m *ℤ t.1)) b.terms;
       quotients = map (λ q. m *ℤ q) b.quotients;
@@ -62,12 +63,12 @@ scaled m b =
     }
 
 -- m*b
-abbrev pub times : ℤ → Form → Form
-times m b = if is_zero m then number (pos 0) else scaled m b
+abbrev pub form_times : ℤ → Form → Form
+form_times m b = if form_is_zero m then form_number (pos 0) else form_scaled m b
 
 -- a+b
-abbrev pub plus : Form → Form → Form
-plus a b =
+abbrev pub form_plus : Form → Form → Form
+form_plus a b =
     record {
       terms = added_to a.terms b.terms;
       quotients = a.quotients ++ b.quotients;
@@ -82,17 +83,17 @@ is_empty (x ∷ xs) = false
 abbrev pub is_constant : Form → Bool
 is_constant a = is_empty a.terms && is_empty a.quotients
 
--- a*b, where one factor is constant
+-- a*b: one factor times the other, where one is constant; else one atom
 abbrev pub product : Form → Form → Form
-product a b = if is_constant a then times a.constant b else times b.constant a
+product a b = if is_constant a then form_times a.constant b else (if is_constant b then form_times b.constant a else form_quotient)
 
 abbrev pub operation : Op → Form → Form → Form
-operation Add a b = plus a b
-operation Sub a b = plus a (times (negsuc 0) b)
+operation Add a b = form_plus a b
+operation Sub a b = form_plus a (form_times (negsuc 0) b)
 operation Mul a b = product a b
-operation Div a b = quotient
-operation Mod a b = quotient
-operation op a b = number (pos 0)
+operation Div a b = form_quotient
+operation Mod a b = form_quotient
+operation op a b = form_number (pos 0)
 
 -- the column that is read, at the procedure's entry or now
 abbrev pub read_at : Bool → Column → Column
@@ -106,12 +107,12 @@ form_column fixed old c = if fixed c then c else read_at old c
 
 -- the form of an expression that is read at the procedure's entry or now; 0 of what is no whole number
 abbrev pub form : (Column → Bool) → Bool → TypedExpression → Form
-form fixed old (Lit at n) = number n
-form fixed old (Truth at b) = number (pos 0)
+form fixed old (Lit at n) = form_number n
+form fixed old (Truth at b) = form_number (pos 0)
 form fixed old (Var at c) = once (form_column fixed old c)
 form fixed old (Old at e) = form fixed true e
-form fixed old (Not at e) = number (pos 0)
-form fixed old (Neg at e) = times (negsuc 0) (form fixed old e)
+form fixed old (Not at e) = form_number (pos 0)
+form fixed old (Neg at e) = form_times (negsuc 0) (form fixed old e)
 form fixed old (Bin at op a b) = operation op (form fixed old a) (form fixed old b)
 
 -- a literal, or a literal after one `-`
@@ -122,7 +123,7 @@ divisor_of e = None
 
 abbrev pub is_divisor : Option ℤ → Bool
 is_divisor None = false
-is_divisor (Some k) = not (is_zero k)
+is_divisor (Some k) = not (form_is_zero k)
 
 -- the rule of an operator: a divisor is a literal other than 0, and one factor of a product is constant
 abbrev pub is_linear_operation : (Column → Bool) → Bool → Op → TypedExpression → TypedExpression → Bool

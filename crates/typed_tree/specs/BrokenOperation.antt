@@ -7,12 +7,12 @@ use Rattle.boogie_tree.specs.declared.tree.Op.TheVariants.{Mul, Div, Mod}
 use Rattle.typed_tree.specs.declared.fault.TypeFault.{TypeFault}
 use Rattle.typed_tree.specs.declared.fault.TypeFault.TheVariants as fault
 use Rattle.typed_tree.specs.TypedTree.{TypedExpression}
-use Rattle.typed_tree.specs.AffineForm.{Form, is_constant, is_zero, divisor_of, is_divisor}
+use Rattle.typed_tree.specs.AffineForm.{Form, is_constant, form_is_zero, divisor_of, is_divisor}
 use Rattle.typed_tree.specs.BrokenRules.{expression_span}
 
 -- whether the literal is 0, where the expression is one or one after a `-`
 abbrev pub zero_literal : TypedExpression → Option Bool
-zero_literal e = option_map is_zero (divisor_of e)
+zero_literal e = option_map form_is_zero (divisor_of e)
 
 -- the rule of an operator, given the forms of the operands and the second operand
 abbrev pub keeps_operator : Op → Form → Form → TypedExpression → Bool

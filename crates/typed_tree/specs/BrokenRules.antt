@@ -12,7 +12,7 @@ use Rattle.typed_tree.specs.declared.fault.TypeFault.TheVariants as fault
 use Rattle.typed_tree.specs.TypedTree.{TypedExpression, Lit, Truth, Var, Old, Not, Neg, Bin}
 use Rattle.typed_tree.specs.Scope.{Scope, variable_at, fixed}
 use Rattle.typed_tree.specs.Typing.{type_of, same_type, operation_type}
-use Rattle.typed_tree.specs.AffineForm.{form, form_fits, is_constant, divisor_of, is_zero, fits}
+use Rattle.typed_tree.specs.AffineForm.{form, form_fits, is_constant, divisor_of, form_is_zero, fits}
 
 -- where an expression stands
 abbrev pub expression_span : TypedExpression → Span
@@ -46,7 +46,7 @@ pub data IsBroken (s : Scope) : Bool → TypedExpression → TypeFault → Type 
   no_number : (old : Bool) (at : Span) (e : TypedExpression) → type_of s e ≡ Some types.Bool → IsBroken s old (Neg at e) (fault.Mismatch at)
   ill_typed : (old : Bool) (at : Span) (op : Op) (a b : TypedExpression) (t u : Ty) → type_of s a ≡ Some t → type_of s b ≡ Some u → operation_type op t u ≡ None → IsBroken s old (Bin at op a b) (fault.Mismatch at)
   -- divisors that are 0, or no literal
-  zero_divisor : (old : Bool) (at : Span) (op : Op) (a b : TypedExpression) (k : ℤ) → is_division op ≡ true → divisor_of b ≡ Some k → is_zero k ≡ true → IsBroken s old (Bin at op a b) (fault.ZeroDivisor (expression_span b))
+  zero_divisor : (old : Bool) (at : Span) (op : Op) (a b : TypedExpression) (k : ℤ) → is_division op ≡ true → divisor_of b ≡ Some k → form_is_zero k ≡ true → IsBroken s old (Bin at op a b) (fault.ZeroDivisor (expression_span b))
   no_literal : (old : Bool) (at : Span) (op : Op) (a b : TypedExpression) → is_division op ≡ true → divisor_of b ≡ None → IsBroken s old (Bin at op a b) (fault.NonLinear (expression_span b))
   -- a product without a constant factor
   no_factor : (old : Bool) (at : Span) (a b : TypedExpression) → is_constant (form (fixed s) old a) ≡ false → is_constant (form (fixed s) old b) ≡ false → IsBroken s old (Bin at Mul a b) (fault.NonLinear at)

@@ -7,7 +7,7 @@ use Rattle.typed_tree.specs.declared.fault.TypeFault.{TypeFault}
 use Rattle.typed_tree.specs.TypedTree.{TypedExpression}
 use Rattle.typed_tree.specs.Scope.{Scope, variable_at}
 use Rattle.typed_tree.specs.Typing.{type_of}
-use Rattle.typed_tree.specs.Values.{State, column_value, at_entry, value, is_zero, div_of, mod_of}
+use Rattle.typed_tree.specs.Values.{State, column_value, at_entry, value, value_is_zero, div_of, mod_of}
 use Rattle.typed_tree.specs.AffineForm.{Form, form, is_affine, is_linear}
 use Rattle.typed_tree.specs.KeptRules.{keeps_rules}
 use Rattle.typed_tree.specs.BrokenRules.{IsBroken}
@@ -53,4 +53,4 @@ TruthValues = (c : Scope) (s : State) (e : TypedExpression) → BooleansHold c s
 
 -- Division is Euclidean: a is k times the quotient and the remainder, which is from 0 to below the magnitude of k.
 abbrev pub DivAndMod : Type 0
-DivAndMod = (a k : ℤ) → is_zero k ≡ false → (a ≡ ((k *ℤ div_of a k) +ℤ mod_of a k)) × (pos 0 ≤ℤ mod_of a k) × (mod_of a k <ℤ pos (unsigned_abs k))
+DivAndMod = (a k : ℤ) → value_is_zero k ≡ false → (a ≡ ((k *ℤ div_of a k) +ℤ mod_of a k)) × (pos 0 ≤ℤ mod_of a k) × (mod_of a k <ℤ pos (unsigned_abs k))

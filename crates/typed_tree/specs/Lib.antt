@@ -3,6 +3,7 @@ pub mod TypedView
 pub mod Scope
 pub mod Typing
 pub mod AffineForm
+pub mod Divided
 pub mod Values
 pub mod KeptRules
 pub mod BrokenRules

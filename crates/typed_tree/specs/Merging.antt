@@ -2,12 +2,12 @@
 use Rattle.std.specs.Prelude.{◌≡◌, ◌+◌, ◌<◌, ℤ, Bool, true, List, [], ◌∷◌, ◌++◌, Option, None, Some, length, if◌then◌else◌}
 use Rattle.boogie_tree.specs.declared.tree.Column.{Column}
 use Rattle.typed_tree.specs.declared.merging.Front.{Front}
-use Rattle.typed_tree.specs.AffineForm.{is_zero, added_to}
+use Rattle.typed_tree.specs.AffineForm.{form_is_zero, added_to}
 use Rattle.typed_tree.specs.FormOrder.{ascends, terms_fit}
 
 -- a term, unless its coefficient is 0
 abbrev pub kept : Column → ℤ → Option (Column × ℤ)
-kept c a = if is_zero a then None else Some (c, a)
+kept c a = if form_is_zero a then None else Some (c, a)
 
 -- a term in front, where there is one
 abbrev pub put : Option (Column × ℤ) → List (Column × ℤ) → List (Column × ℤ)

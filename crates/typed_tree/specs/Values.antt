@@ -33,26 +33,26 @@ abbrev pub truth : Bool → ℤ
 truth true = pos 1
 truth false = pos 0
 
-abbrev pub is_zero : ℤ → Bool
-is_zero z = nat_eq (unsigned_abs z) 0
+abbrev pub value_is_zero : ℤ → Bool
+value_is_zero z = nat_eq (unsigned_abs z) 0
 
 abbrev pub same : ℤ → ℤ → Bool
-same a b = is_zero (a -ℤ b)
+same a b = value_is_zero (a -ℤ b)
 
 -- `a div b`, Euclidean; 0 where b is 0
 abbrev pub div_of : ℤ → ℤ → ℤ
-div_of a b = if is_zero b then pos 0 else int_div_euclid a b
+div_of a b = if value_is_zero b then pos 0 else int_div_euclid a b
 
 -- `a mod b`, Euclidean: from 0 to below the magnitude of b; 0 where b is 0
 abbrev pub mod_of : ℤ → ℤ → ℤ
-mod_of a b = if is_zero b then pos 0 else int_rem_euclid a b
+mod_of a b = if value_is_zero b then pos 0 else int_rem_euclid a b
 
 -- what an operator makes of two values
 abbrev pub operation_value : Op → ℤ → ℤ → ℤ
 operation_value Iff a b = truth (same a b)
-operation_value Implies a b = if is_zero a then pos 1 else b
-operation_value And a b = if is_zero a then pos 0 else b
-operation_value Or a b = if is_zero a then b else pos 1
+operation_value Implies a b = if value_is_zero a then pos 1 else b
+operation_value And a b = if value_is_zero a then pos 0 else b
+operation_value Or a b = if value_is_zero a then b else pos 1
 operation_value Eq a b = truth (same a b)
 operation_value Ne a b = truth (not (same a b))
 operation_value Lt a b = truth (int_lt a b)
@@ -71,7 +71,7 @@ value s (Lit at n) = n
 value s (Truth at b) = truth b
 value s (Var at c) = column_value s c
 value s (Old at e) = value (at_entry s) e
-value s (Not at e) = truth (is_zero (value s e))
+value s (Not at e) = truth (value_is_zero (value s e))
 value s (Neg at e) = neg_ℤ (value s e)
 value s (Bin at op a b) = operation_value op (value s a) (value s b)
 

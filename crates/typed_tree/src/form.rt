@@ -10,7 +10,7 @@ use std::alloc::{AllocError, Global};
 /// Columns with a coefficient each, of which up to four need no allocation.
 pub type Terms = SmallVec<(Column, i128), 4>;
 
-/// The coefficients of atoms, one for each `div` or `mod`.
+/// The coefficients of atoms, one for each `div`, `mod` or product of two factors that are not constant.
 pub type Quotients = SmallVec<i128, 2>;
 
 /// The form of an expression: its columns ascend, no coefficient is 0, and all numbers fit.
@@ -27,13 +27,13 @@ pub struct Form {
 
 impl Form {
     ghost use Rattle.std.specs.Prelude.{IfOk};
-    ghost use Rattle.typed_tree.specs.AffineForm.{number, once, quotient, is_constant};
+    ghost use Rattle.typed_tree.specs.AffineForm.{form_number, once, form_quotient, is_constant};
     ghost use Rattle.typed_tree.specs.FormView.{form_of};
 
     /// A number.
     pub fn number(alloc: Global, n: i128) -> Self
         requires { fits n ≡ true }
-        ensures { form_of result ≡ number n }
+        ensures { form_of result ≡ form_number n }
     {
         Form {
             terms: Terms::new(alloc),
@@ -53,9 +53,9 @@ impl Form {
         })
     }
 
-    /// One `div` or `mod`.
+    /// One atom.
     pub fn quotient(alloc: Global) -> Result<Self, AllocError>
-        ensures { IfOk result (λ f. form_of f ≡ quotient) }
+        ensures { IfOk result (λ f. form_of f ≡ form_quotient) }
     {
         Ok(Form {
             terms: Terms::new(alloc),

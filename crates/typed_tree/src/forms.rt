@@ -2,7 +2,7 @@
 
 ghost use Rattle.std.specs.Prelude.{◌≡◌, true, false, pos, negsuc, [], Err, IfOk, IsOk};
 ghost use Rattle.typed_tree.specs.TypedView.{expression};
-ghost use Rattle.typed_tree.specs.AffineForm.{form, is_affine, is_linear, forms_fit, form_fits, number, times, operation};
+ghost use Rattle.typed_tree.specs.AffineForm.{form, is_affine, is_constant, is_linear, forms_fit, form_fits, form_number, form_times, operation};
 ghost use Rattle.typed_tree.specs.FormView.{IsFormAnswer};
 ghost use Rattle.typed_tree.specs.FormView.{form_of as form_view};
 ghost use Rattle.typed_tree.specs.Scope.{is_constant_column};
@@ -32,6 +32,22 @@ pub fn affine(alloc: Global, expr: &TExpr) -> Result<Affine, AffineFault>
     Ok(Affine { terms, constant })
 }
 
+/// Whether the form of an expression that is read at the procedure's entry or now is nothing but a constant; 0 is the form of what
+/// is no whole number. `TooBig` comes exactly where a number of the form of a part does not fit.
+pub fn has_constant_form(
+    alloc: Global,
+    globals: &[VarInfo],
+    old: bool,
+    expr: &TExpr,
+) -> Result<bool, AffineFault>
+    ensures constant { IfOk result (λ b. b ≡ is_constant (form (is_constant_column globals.now) old (expression expr.now))) }
+    ensures fits { IsOk result → forms_fit (is_constant_column globals.now) old (expression expr.now) ≡ true }
+    ensures too_big { result ≡ Err AffineFault.TooBig → forms_fit (is_constant_column globals.now) old (expression expr.now) ≡ false }
+{
+    let form = form_of(alloc, globals, old, expr)?;
+    Ok(form.is_constant())
+}
+
 /// The form of an expression that is read at the procedure's entry or now; 0 of what is no whole number.
 fn form_of(alloc: Global, globals: &[VarInfo], old: bool, expr: &TExpr) -> Result<Form, AffineFault>
     ensures { IsFormAnswer (is_constant_column globals.now) old (expression expr.now) result }
@@ -57,15 +73,15 @@ fn form_of(alloc: Global, globals: &[VarInfo], old: bool, expr: &TExpr) -> Resul
 
 /// The form of a `!` before an operand of that form.
 fn no_number(alloc: Global, _operand: Form) -> Form
-    ensures { form_view result ≡ number (pos 0) }
+    ensures { form_view result ≡ form_number (pos 0) }
 {
     Form::number(alloc, 0)
 }
 
 /// The form of a `-` before an operand of that form.
 fn opposite(alloc: Global, operand: Form) -> Result<Form, AffineFault>
-    ensures value { IfOk result (λ f. form_view f ≡ times (negsuc 0) (form_view operand)) }
-    ensures too_big { result ≡ Err AffineFault.TooBig → form_fits (times (negsuc 0) (form_view operand)) ≡ false }
+    ensures value { IfOk result (λ f. form_view f ≡ form_times (negsuc 0) (form_view operand)) }
+    ensures too_big { result ≡ Err AffineFault.TooBig → form_fits (form_times (negsuc 0) (form_view operand)) ≡ false }
 {
     times(alloc, -1, &operand)
 }

@@ -17,7 +17,7 @@ mod typing;
 
 pub use boogie_tree::{Column, Op, Span, Text, Ty, VarInfo};
 pub use fault::{AffineFault, TypeFault};
-pub use forms::affine;
+pub use forms::{affine, has_constant_form};
 pub use scope::Scope;
 pub use types::{Affine, TExpr, TExprKind, TGuard, TInv, TProc, TSpec, TStmt};
 pub use typing::expression_type;

@@ -2,7 +2,7 @@
 
 ghost use Rattle.std.specs.Prelude.{◌≡◌, ◌*ℤ◌, Bool, true, false, map, Err, IfOk, IsErr};
 ghost use Rattle.std.specs.List.{list_all};
-ghost use Rattle.typed_tree.specs.AffineForm.{fits, form_fits, plus, times, scaled, product, operation};
+ghost use Rattle.typed_tree.specs.AffineForm.{fits, form_fits, form_plus, form_times, form_scaled, product, operation};
 ghost use Rattle.typed_tree.specs.FormOrder.{terms_fit};
 ghost use Rattle.typed_tree.specs.FormView.{form_of};
 ghost use Rattle.typed_tree.specs.Merging.{AreTerms};
@@ -30,8 +30,8 @@ pub fn operation(alloc: Global, op: Op, a: &Form, b: &Form) -> Result<Form, Affi
 
 /// `a + b`.
 fn plus(alloc: Global, a: &Form, b: &Form) -> Result<Form, AffineFault>
-    ensures value { IfOk result (λ f. form_of f ≡ plus (form_of a.now) (form_of b.now)) }
-    ensures too_big { result ≡ Err AffineFault.TooBig → form_fits (plus (form_of a.now) (form_of b.now)) ≡ false }
+    ensures value { IfOk result (λ f. form_of f ≡ form_plus (form_of a.now) (form_of b.now)) }
+    ensures too_big { result ≡ Err AffineFault.TooBig → form_fits (form_plus (form_of a.now) (form_of b.now)) ≡ false }
 {
     let Some(constant) = numbers::sum(a.constant, b.constant) else {
         return Err(AffineFault::TooBig);
@@ -55,22 +55,24 @@ fn minus(alloc: Global, a: &Form, b: &Form) -> Result<Form, AffineFault>
     plus(alloc, a, &opposite)
 }
 
-/// `a*b`, where one factor is constant.
+/// `a*b`: one factor times the other, where one is constant; else one atom.
 fn product(alloc: Global, a: &Form, b: &Form) -> Result<Form, AffineFault>
     ensures value { IfOk result (λ f. form_of f ≡ product (form_of a.now) (form_of b.now)) }
     ensures too_big { result ≡ Err AffineFault.TooBig → form_fits (product (form_of a.now) (form_of b.now)) ≡ false }
 {
     if a.is_constant() {
         times(alloc, a.constant, b)
-    } else {
+    } else if b.is_constant() {
         times(alloc, b.constant, a)
+    } else {
+        Ok(Form::quotient(alloc)?)
     }
 }
 
 /// `m*b`.
 pub fn times(alloc: Global, m: i128, b: &Form) -> Result<Form, AffineFault>
-    ensures value { IfOk result (λ f. form_of f ≡ times m (form_of b.now)) }
-    ensures too_big { result ≡ Err AffineFault.TooBig → form_fits (times m (form_of b.now)) ≡ false }
+    ensures value { IfOk result (λ f. form_of f ≡ form_times m (form_of b.now)) }
+    ensures too_big { result ≡ Err AffineFault.TooBig → form_fits (form_times m (form_of b.now)) ≡ false }
 {
     if m == 0 {
         return Ok(Form::number(alloc, 0));
@@ -80,8 +82,8 @@ pub fn times(alloc: Global, m: i128, b: &Form) -> Result<Form, AffineFault>
 
 /// Each number of a form times m.
 fn scaled(alloc: Global, m: i128, b: &Form) -> Result<Form, AffineFault>
-    ensures value { IfOk result (λ f. form_of f ≡ scaled m (form_of b.now)) }
-    ensures too_big { result ≡ Err AffineFault.TooBig → form_fits (scaled m (form_of b.now)) ≡ false }
+    ensures value { IfOk result (λ f. form_of f ≡ form_scaled m (form_of b.now)) }
+    ensures too_big { result ≡ Err AffineFault.TooBig → form_fits (form_scaled m (form_of b.now)) ≡ false }
 {
     let Some(constant) = numbers::product(m, b.constant) else {
         return Err(AffineFault::TooBig);

@@ -16,7 +16,7 @@ use Rattle.typed_tree.specs.Scope.{Scope, axiom_scope, variable_at, unless_hidde
 use Rattle.typed_tree.specs.Typing.{type_of, same_type, has_type, is_some_of}
 use Rattle.typed_tree.specs.KeptRules.{is_right, is_arithmetic}
 use Rattle.typed_tree.proofs.Broken.{not_kept}
-use Rattle.typing_rules.specs.Rules.{Context, all_differ, is_member, same_column, meets, is_condition, is_guard, is_invariant, is_writable, are_targets, column_has, values_agree, arguments_agree, results_agree, params_of, results_of, is_call, within, looped, context_of, is_statement, is_block, is_body_if_any, is_specification, is_procedure, keeps_typing}
+use Rattle.typing_rules.specs.Rules.{Context, all_differ, is_member, same_column, meets, is_condition, is_guard, is_invariant, is_writable, are_targets, column_has, values_agree, arguments_agree, results_agree, params_of, results_of, is_call, within, looped, context_of, is_statement, is_block, is_body_if_any, is_specification, procedure_keeps_rules, keeps_typing}
 use Rattle.typing_rules.specs.BrokenTyping as b
 
 -- ---- lists
@@ -222,7 +222,7 @@ specification_refuted : (globals : List VarInfo) (p : TypedProcedure) (s : Typed
 specification_refuted globals p _ _ (b.required i f h) = condition_refuted _ i.cond f h
 specification_refuted globals p _ _ (b.ensured i f h) = condition_refuted _ i.cond f h
 
-procedure_refuted : (globals : List VarInfo) (procs : List TypedProcedure) (p : TypedProcedure) (f : TypeFault) → b.IsProcedureBroken globals procs p f → is_procedure globals procs p ≡ false
+procedure_refuted : (globals : List VarInfo) (procs : List TypedProcedure) (p : TypedProcedure) (f : TypeFault) → b.IsProcedureBroken globals procs p f → procedure_keeps_rules globals procs p ≡ false
 procedure_refuted globals procs _ _ (b.specified p s f m h) =
     and_left (list_all (is_specification globals p) p.specs) (is_body_if_any (context_of globals procs p) p.body)
     (all_refuted (is_specification globals p) p.specs s m (specification_refuted globals p s f h))
@@ -232,8 +232,8 @@ procedure_refuted globals procs _ _ (b.in_body p l f g h) =
 
 pub program_refuted : (t : TypedProgram) (f : TypeFault) → b.IsProgramBroken t f → keeps_typing t ≡ false
 program_refuted t _ (b.axiomatic e f m h) =
-    and_left (list_all (is_condition (axiom_scope t.globals)) t.axioms) (list_all (is_procedure t.globals t.procs) t.procs)
+    and_left (list_all (is_condition (axiom_scope t.globals)) t.axioms) (list_all (procedure_keeps_rules t.globals t.procs) t.procs)
     (all_refuted (is_condition (axiom_scope t.globals)) t.axioms e m (condition_refuted _ e f h))
 program_refuted t _ (b.in_procedure p f m h) =
-    and_right (list_all (is_condition (axiom_scope t.globals)) t.axioms) (list_all (is_procedure t.globals t.procs) t.procs)
-    (all_refuted (is_procedure t.globals t.procs) t.procs p m (procedure_refuted t.globals t.procs p f h))
+    and_right (list_all (is_condition (axiom_scope t.globals)) t.axioms) (list_all (procedure_keeps_rules t.globals t.procs) t.procs)
+    (all_refuted (procedure_keeps_rules t.globals t.procs) t.procs p m (procedure_refuted t.globals t.procs p f h))

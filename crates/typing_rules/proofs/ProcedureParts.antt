@@ -5,7 +5,7 @@ use Rattle.boogie_tree.specs.declared.tree.VarInfo.{VarInfo}
 use Rattle.typed_tree.specs.declared.fault.TypeFault.{TypeFault}
 use Rattle.typed_tree.specs.TypedTree.{TypedInvariant, TypedBlock, TypedSpecification, Requires, Ensures, TypedProcedure, TypedProgram}
 use Rattle.typed_tree.specs.Scope.{Scope, axiom_scope, requires_scope, body_scope}
-use Rattle.typing_rules.specs.Rules.{Context, is_condition, params_of, is_specification, is_block, within, is_body_if_any, is_procedure, context_of, keeps_typing}
+use Rattle.typing_rules.specs.Rules.{Context, is_condition, params_of, is_specification, is_block, within, is_body_if_any, procedure_keeps_rules, context_of, keeps_typing}
 use Rattle.typing_rules.specs.BrokenTyping.{IsConditionBroken, IsSpecificationBroken, required, ensured, IsBlockBroken, IsProcedureBroken, specified, in_body, IsProgramBroken, axiomatic, in_procedure}
 use Rattle.typing_rules.specs.Judged.{IsFaultOf, Judges, IsOneBroken, one}
 
@@ -58,7 +58,7 @@ specified_fault globals procs p f (inr (one s g m b)) = inr (specified p s g m b
 pub procedure_judged : {T : Type 0} (r : Result T TypeFault) (globals : List VarInfo) (procs : List TypedProcedure) (p : TypedProcedure) →
     list_all (is_specification globals p) p.specs ≡ true →
     Judges r (is_body_if_any (context_of globals procs p) p.body) (IsProcedureBroken globals procs p) →
-    Judges r (is_procedure globals procs p) (IsProcedureBroken globals procs p)
+    Judges r (procedure_keeps_rules globals procs p) (IsProcedureBroken globals procs p)
 procedure_judged (Ok x) globals procs p s h = ap (λ (b : Bool). b && is_body_if_any (context_of globals procs p) p.body) s ∙ h
 procedure_judged (Err f) globals procs p s h = h
 
@@ -72,9 +72,9 @@ axiom_fault t seen f e h = go (subst (λ (x : Scope). IsFaultOf (IsOneBroken t.a
 
 pub program_judged : {T : Type 0} (r : Result T TypeFault) (t : TypedProgram) (seen : Scope) → seen ≡ axiom_scope t.globals →
     list_all (is_condition seen) t.axioms ≡ true →
-    Judges r (list_all (is_procedure t.globals t.procs) t.procs) (IsOneBroken t.procs (IsProcedureBroken t.globals t.procs)) →
+    Judges r (list_all (procedure_keeps_rules t.globals t.procs) t.procs) (IsOneBroken t.procs (IsProcedureBroken t.globals t.procs)) →
     Judges r (keeps_typing t) (IsProgramBroken t)
 program_judged (Ok x) t seen e a h =
-    ap (λ (b : Bool). b && list_all (is_procedure t.globals t.procs) t.procs) (ap (λ (s : Scope). list_all (is_condition s) t.axioms) (sym e) ∙ a) ∙ h
+    ap (λ (b : Bool). b && list_all (procedure_keeps_rules t.globals t.procs) t.procs) (ap (λ (s : Scope). list_all (is_condition s) t.axioms) (sym e) ∙ a) ∙ h
 program_judged (Err f) t seen e a (inl m) = inl m
 program_judged (Err f) t seen e a (inr (one p g m b)) = inr (in_procedure p g m b)

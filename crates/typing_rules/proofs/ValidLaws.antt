@@ -12,7 +12,7 @@ use Rattle.typed_tree.specs.TypedTree.{TypedExpression, TypedStatement, Havoc, C
 use Rattle.typed_tree.specs.Scope.{Scope, axiom_scope}
 use Rattle.typed_tree.specs.KeptRules.{is_right}
 use Rattle.typing_rules.specs.Counts.{places, columns_fit, numbers_fit}
-use Rattle.typing_rules.specs.Rules.{Context, all_differ, same_column, is_member, meets, is_condition, is_guard, is_invariant, is_writable, is_statement, is_block, is_body_if_any, is_specification, is_procedure, keeps_typing, are_targets, is_call, arguments_agree, results_agree, column_has, params_of, results_of, within, looped, context_of}
+use Rattle.typing_rules.specs.Rules.{Context, all_differ, same_column, is_member, meets, is_condition, is_guard, is_invariant, is_writable, is_statement, is_block, is_body_if_any, is_specification, procedure_keeps_rules, keeps_typing, are_targets, is_call, arguments_agree, results_agree, column_has, params_of, results_of, within, looped, context_of}
 use Rattle.typing_rules.specs.Shape.{are_names, are_arguments, is_shaped, is_shaped_block, params_if_any, block_labels, counts_from, are_locals, are_modified, is_body_shaped, is_procedure_shaped, has_shape}
 use Rattle.typing_rules.specs.ValidProgram.{has_body, has_entry, is_typed, is_valid}
 use Rattle.typing_rules.specs.Laws as law
@@ -63,12 +63,12 @@ module _ (t : TypedProgram) (valid : IsTrue (is_valid t)) where
   entry_part = (and_parts (keeps_typing t) (has_entry t) rules_part).1
 
   axioms_part : list_all (is_condition (axiom_scope t.globals)) t.axioms ≡ true
-  axioms_part = (and_parts (list_all (is_condition (axiom_scope t.globals)) t.axioms) (list_all (is_procedure t.globals t.procs) t.procs) kept_part).0
+  axioms_part = (and_parts (list_all (is_condition (axiom_scope t.globals)) t.axioms) (list_all (procedure_keeps_rules t.globals t.procs) t.procs) kept_part).0
 
-  procedure_kept : (p : TypedProcedure) → Contains t.procs p → is_procedure t.globals t.procs p ≡ true
+  procedure_kept : (p : TypedProcedure) → Contains t.procs p → procedure_keeps_rules t.globals t.procs p ≡ true
   procedure_kept p m =
-      all_member (is_procedure t.globals t.procs) t.procs p m
-      (and_parts (list_all (is_condition (axiom_scope t.globals)) t.axioms) (list_all (is_procedure t.globals t.procs) t.procs) kept_part).1
+      all_member (procedure_keeps_rules t.globals t.procs) t.procs p m
+      (and_parts (list_all (is_condition (axiom_scope t.globals)) t.axioms) (list_all (procedure_keeps_rules t.globals t.procs) t.procs) kept_part).1
 
   procedure_shaped : (p : TypedProcedure) → Contains t.procs p → is_procedure_shaped t.globals t.procs p ≡ true
   procedure_shaped p m =

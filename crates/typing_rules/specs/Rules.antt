@@ -148,11 +148,11 @@ is_specification globals p (Requires i) = is_invariant (requires_scope globals (
 is_specification globals p (Ensures i) = is_invariant (body_scope globals (take (p.params + p.results) p.locals)) i
 
 -- the typing rules of a procedure
-abbrev pub is_procedure : List VarInfo → List TypedProcedure → TypedProcedure → Bool
-is_procedure globals procs p =
+abbrev pub procedure_keeps_rules : List VarInfo → List TypedProcedure → TypedProcedure → Bool
+procedure_keeps_rules globals procs p =
     list_all (is_specification globals p) p.specs && is_body_if_any (context_of globals procs p) p.body
 
 -- the typing rules of a program
 abbrev pub keeps_typing : TypedProgram → Bool
 keeps_typing t =
-    list_all (is_condition (axiom_scope t.globals)) t.axioms && list_all (is_procedure t.globals t.procs) t.procs
+    list_all (is_condition (axiom_scope t.globals)) t.axioms && list_all (procedure_keeps_rules t.globals t.procs) t.procs

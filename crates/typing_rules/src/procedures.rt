@@ -7,7 +7,7 @@ ghost use Rattle.typed_tree.specs.Scope.{seen};
 ghost use Rattle.typed_tree.specs.Scope as scopes;
 ghost use Rattle.typed_tree.specs.TypedView as view;
 ghost use Rattle.typing_rules.specs.TypedParts.{program_of};
-ghost use Rattle.typing_rules.specs.Rules.{params_of, is_specification, is_procedure, is_body_if_any, keeps_typing, context_of};
+ghost use Rattle.typing_rules.specs.Rules.{params_of, is_specification, procedure_keeps_rules, is_body_if_any, keeps_typing, context_of};
 ghost use Rattle.typing_rules.specs.BrokenTyping.{IsSpecificationBroken, IsProcedureBroken, IsProgramBroken, IsTypingFault};
 ghost use Rattle.typing_rules.specs.Judged.{Judges, IsOneBroken, context};
 
@@ -134,14 +134,14 @@ fn procedure(
     procs: &[TProc],
     checked: &TProc,
 ) -> Result<(), TypeFault>
-    ensures { Judges result (is_procedure globals.now (map view.procedure procs.now) (view.procedure checked.now)) (IsProcedureBroken globals.now (map view.procedure procs.now) (view.procedure checked.now)) }
+    ensures { Judges result (procedure_keeps_rules globals.now (map view.procedure procs.now) (view.procedure checked.now)) (IsProcedureBroken globals.now (map view.procedure procs.now) (view.procedure checked.now)) }
 {
     specifications(alloc, globals, checked)?;
     body(alloc, globals, procs, checked)
 }
 
 fn procedures(alloc: Global, globals: &[VarInfo], procs: &[TProc]) -> Result<(), TypeFault>
-    ensures { Judges result (list_all (is_procedure globals.now (map view.procedure procs.now)) (map view.procedure procs.now)) (IsOneBroken (map view.procedure procs.now) (IsProcedureBroken globals.now (map view.procedure procs.now))) }
+    ensures { Judges result (list_all (procedure_keeps_rules globals.now (map view.procedure procs.now)) (map view.procedure procs.now)) (IsOneBroken (map view.procedure procs.now) (IsProcedureBroken globals.now (map view.procedure procs.now))) }
 {
     for checked in procs {
         procedure(alloc, globals, procs, checked)?;

@@ -2,7 +2,7 @@ use Rattle.std.proofs.Common.{rules, ap, sym, ◌∙◌, FitsSigned}
 use Rattle.std.specs.Int.{w128}
 use Rattle.std.specs.List.{list_all}
 use Rattle.std.proofs.lemmas.Int.{to_z-of_z}
-use Rattle.typed_tree.specs.AffineForm.{plus, fits, added_to}
+use Rattle.typed_tree.specs.AffineForm.{form_plus, fits, added_to}
 use Rattle.typed_tree.specs.FormOrder.{terms_fit}
 use Rattle.typed_tree.specs.FormView.{form_of}
 use Rattle.typed_tree.proofs.Sums.{terms_big, constant_big, joined_fit}
@@ -12,11 +12,11 @@ pub returns-in_default-clause-too_big : goal.returns-in_default-clause-too_big
 returns-in_default-clause-too_big c _ =
     let f : FitsSigned w128 c.args.a.now.constant = search rules in
     let g : FitsSigned w128 c.args.b.now.constant = search rules in
-    constant_big (plus (form_of c.args.a.now) (form_of c.args.b.now)) (simp to_z-of_z at c.in_default.ensures)
+    constant_big (form_plus (form_of c.args.a.now) (form_of c.args.b.now)) (simp to_z-of_z at c.in_default.ensures)
 
 pub returns-in_err-terms-clause-too_big : goal.returns-in_err-terms-clause-too_big
 returns-in_err-terms-clause-too_big c e =
-    terms_big (plus (form_of c.args.a.now) (form_of c.args.b.now))
+    terms_big (form_plus (form_of c.args.a.now) (form_of c.args.b.now))
     ((λ i. terms_fit (added_to (sym c.as_slice.ensures i) (sym c.as_slice-2.ensures i))) ∙ c.in_err-terms.ensures.too_big (search rules))
 
 pub invariant_of-result : goal.invariant_of-result
