@@ -114,7 +114,7 @@ Tail p c = Carries p (level_of_chain c) (level_of_chain c)
 
 -- one more operand
 carried : (p : ℕ) (c : Chain) (t : Symbol) (f : Fixed) (o : Op) (n m : List Symbol) → Is t f → joins (level_of_chain c) f ≡ Some o → Spells p (right_of (level_of_chain c)) n m → Tail p c (t ∷ n) m
-carried p c t f o n m is spelled right us e left = (Bin (Grammar.place us) o e right.0, Grammar.more t left is (sym (sounds.joins_links c f) ∙ spelled) right.1)
+carried p c t f o n m is spelled right us e left = (Bin (Grammar.symbols_place us) o e right.0, Grammar.more t left is (sym (sounds.joins_links c f) ∙ spelled) right.1)
 
 begun_chain : (p : ℕ) (c : Chain) (x : Reader) → IsReader x → IsSound p (right_of (level_of_chain c)) x → IsBegun p (right_of (level_of_chain c)) x → (here : Span) (d k : ℕ) (a : Expression) (ts : List Symbol) →
     BegunIf (Tail p c) ts (chain c x here d k a ts)
@@ -221,8 +221,8 @@ begun_comparison p end inner steady sound begun d ts =
     by_followed K Comparison a (right a) m
     (λ t f o r is spelled.
     by_deep K (nat_le d (depth a)) t r (operation (place_or end ts) o a (reading.sum end inner (d - 1) r))
-    (deep_at K t r (λ m us e left. (Bin (Grammar.place us) o e (Lit beginning (pos 0)), Grammar.compared t left is spelled (at_sum (suc p) m))))
-    (begun_behind (Spells p Sum) K t r (operation (place_or end ts) o a (reading.sum end inner (d - 1) r)) (λ n m g us e left. (Bin (Grammar.place us) o e g.0, Grammar.compared t left is spelled g.1))
+    (deep_at K t r (λ m us e left. (Bin (Grammar.symbols_place us) o e (Lit beginning (pos 0)), Grammar.compared t left is spelled (at_sum (suc p) m))))
+    (begun_behind (Spells p Sum) K t r (operation (place_or end ts) o a (reading.sum end inner (d - 1) r)) (λ n m g us e left. (Bin (Grammar.symbols_place us) o e g.0, Grammar.compared t left is spelled g.1))
     (by_operation (Spells p Sum) (place_or end ts) o a r (reading.sum end inner (d - 1) r) (begun (d - 1) r)))))
 
 by_junction : (p : ℕ) (x : Reader) → IsReader x → IsSound p Comparison x → IsBegun p Comparison x → (here : Span) (d : ℕ) (a : Expression) (ts : List Symbol) (o : Option Infix) →
@@ -242,7 +242,7 @@ begun_junction p end inner steady sound begun d ts =
     (λ a r. by_junction p (comparison end inner) steady sound begun (place_or end ts) d a r (infix_at Disjunction r))
 
 implies : (p : ℕ) (t : Symbol) (f : Fixed) (o : Op) (n m : List Symbol) → Is t f → joins Implication f ≡ Some o → Spells p Implication n m → Carries p Junction Implication (t ∷ n) m
-implies p t f o n m is spelled g us e left = (Bin (Grammar.place us) o e g.0, sounds.implied_reads t is spelled left g.1)
+implies p t f o n m is spelled g us e left = (Bin (Grammar.symbols_place us) o e g.0, sounds.implied_reads t is spelled left g.1)
 
 begun_implication : (p : ℕ) (end : Span) (inner : Reader) → IsReader (junction end inner) → IsSound p Junction (junction end inner) → IsBegun p Junction (junction end inner) → IsBegun p Implication (implication end inner)
 unfolding implication

@@ -17,7 +17,7 @@ use Rattle.boogie_parse.specs.declared.symbols.Symbol.{Symbol}
 use Rattle.boogie_parse.specs.Outcomes.{Read, Outcome, limit_fault}
 use Rattle.boogie_parse.specs.Grammar.{Is, Reads}
 use Rattle.boogie_parse.specs.GrammarLists as grammar
-use Rattle.boogie_parse.specs.GrammarLists.{IsName, ReadsNames, ReadsExpressions, ReadsArguments, ReadsGuard, ReadsCondition, ReadsInvariants, type_of, ReadsGroup, ReadsVariables, ReadsDeclared, ReadsFormals, ReadsResults}
+use Rattle.boogie_parse.specs.GrammarLists.{IsName, ReadsNames, ReadsExpressions, ReadsArguments, ReadsGuard, ReadsCondition, ReadsInvariants, type_named, ReadsGroup, ReadsVariables, ReadsDeclared, ReadsFormals, ReadsResults}
 use Rattle.boogie_parse.specs.ListReading.{◌>>=◌, read, Possible, one, one_there, seen, behind, name_by, name_at, new_name, name_item, names_at, type_by, type_said, type_at, listed_names, group_at, variables_at, declared_behind, closed, listed_by, formals_at, results_by, results_at, expression_at, expression_item, expressions_at, arguments_at, guard_by, guard_at, claim_at, condition_behind, invariant_by, invariant_at, invariant_item, invariants_at}
 use Rattle.boogie_parse.proofs.SettledTools.{Steady, mapped, one_maybe}
 use Rattle.boogie_parse.proofs.SettledPrograms.{steady_new_name, steady_names, steady_all_names, steady_group, steady_variables, steady_expressions, steady_invariant, at_steady, no_at}
@@ -100,10 +100,10 @@ begun_listed_names end us =
     begun_ended 1 (λ vs. names_at end (length vs) vs) _ end fixed.Semicolon Names us (steady_all_names end us) (λ vs. names_sound end (length vs) vs) (begun_names end 0 (length us) us)
 
 data AType : List Symbol → List Symbol → Type 0 where
-  a_type : {r : List Symbol} {f : Fixed} {ty : Ty} (t : Symbol) → Is t f → type_of f ≡ Some ty → AType (t ∷ r) r
+  a_type : {r : List Symbol} {f : Fixed} {ty : Ty} (t : Symbol) → Is t f → type_named f ≡ Some ty → AType (t ∷ r) r
 
 data Typing : List Symbol → List Symbol → Type 0 where
-  typing : {r : List Symbol} {f : Fixed} {ty : Ty} (t u : Symbol) → Is t fixed.Colon → Is u f → type_of f ≡ Some ty → Typing (t ∷ u ∷ r) r
+  typing : {r : List Symbol} {f : Fixed} {ty : Ty} (t u : Symbol) → Is t fixed.Colon → Is u f → type_named f ≡ Some ty → Typing (t ∷ u ∷ r) r
 
 some_type : (r : List Symbol) → AType (a_mark fixed.Int ∷ r) r
 some_type r = a_type {f = fixed.Int} {ty = types.Int} (a_mark fixed.Int) refl refl

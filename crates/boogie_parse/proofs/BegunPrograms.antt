@@ -18,7 +18,7 @@ use Rattle.boogie_parse.specs.Grammar.{Is}
 use Rattle.boogie_parse.specs.GrammarStatements.{ReadsList, no_statement}
 use Rattle.boogie_parse.specs.GrammarProgram as grammar
 use Rattle.boogie_parse.specs.GrammarProgram.{ReadsSpecification, ReadsSpecifications, ReadsLocals, ReadsBody, Head, ReadsHead, ReadsDeclaration, ReadsProgram}
-use Rattle.boogie_parse.specs.GrammarLimits.{procedures_of}
+use Rattle.boogie_parse.specs.GrammarLimits.{procedures_counted}
 use Rattle.boogie_parse.specs.ListReading.{◌>>=◌, read, Possible, seen, behind, name_at, listed_names, declared_behind, formals_at, results_at, expression_at, claim_at, condition_behind}
 use Rattle.boogie_parse.specs.StatementReading.{inside_at, list_at}
 use Rattle.boogie_parse.specs.ProgramReading.{local_by, local_at, locals_at, modifies_by, modifies_at, head_at, room_behind, finished, requires_at, ensures_at, claimed_by, claimed_at, must_stand, free_at, specification_by, specification_at, specification_item, specifications_at, axiom_at, body_at, procedure_by, procedure_at, implementation_at, new_procedure, constants_at, globals_at, declaration_by, declaration_at, declarations_at, program_at}
@@ -351,7 +351,7 @@ Programs p b n r = (groups : List (List Declaration)) → ReadsProgram (suc p) (
 begun_declarations : (end : Span) (p b v n : ℕ) (us : List Symbol) → BegunIf (Programs p b) us (declarations_at (expression_at end) end p b v n us)
 unfolding declarations_at
 begun_declarations end p b v n us =
-    repeated_begun (declaration_at (expression_at end) end p b v) procedures_of (Declaring p b) (Programs p b) (steady_declaration (expression_at end) end (at_steady end) (no_at end) p b v)
+    repeated_begun (declaration_at (expression_at end) end p b v) procedures_counted (Declaring p b) (Programs p b) (steady_declaration (expression_at end) end (at_steady end) (no_at end) p b v)
     (λ m vs. if_there (λ x. IsDeclarationRead p b v m vs x.value x.rest) (Declaring p b) vs (declaration_at (expression_at end) end p b v m vs) (declaration-sound (expression_at end) end p b v (expression_at-sound end) m vs) (λ a h. (a.value, weak_declaration h.spelled)))
     (begun_declaration end p b v) (λ r groups d. (groups, d)) (λ m k r d ds groups g. let w = ds groups g in (_, grammar.next_declaration d.1 w.1)) (length us) n us
 

@@ -19,7 +19,7 @@ use Rattle.boogie_parse.specs.declared.grammar.expressions.operators.Chain.TheVa
 use Rattle.boogie_parse.specs.declared.grammar.expressions.operators.Prefix.TheVariants as prefixes
 use Rattle.boogie_parse.specs.Outcomes.{place_or}
 use Rattle.boogie_parse.specs.Grammar
-use Rattle.boogie_parse.specs.Grammar.{Is, Reads, place, links, compares, is_chain}
+use Rattle.boogie_parse.specs.Grammar.{Is, Reads, symbols_place, links, compares, is_chain}
 use Rattle.boogie_parse.specs.GrammarLimits.{depth}
 use Rattle.boogie_parse.specs.ExpressionReading as reading
 use Rattle.boogie_parse.specs.ExpressionReading.{Reader, done, joins, sign_joins, Infix, infix_of, infix_at, level_of_chain, chain, chained, opens, closes, after, prefix_at, old_value, sign_value, primary, unary, product, comparison, junction, implication, equivalence, operand, inside, expression}
@@ -146,8 +146,8 @@ module _ (end : Span) (p : ℕ) where
       record { first = e; behind = r; turns = 0; reads = read d low ends; few = omega arith; goes = λ k. let s : 0 + k ≡ k = omega arith in rw s refl; begins = inl (refl, refl) }
 
   more_run : (c : Chain) (ts m r : List Symbol) (a b : Expression) (t : Symbol) (f : Fixed) (o : Op) →
-      place_or end ts ≡ place ts → Run c ts a (t ∷ m) → Is t f → links (level_of_chain c) f ≡ Some o →
-      ((d : ℕ) → depth b ≤ d → Ends (right_of (level_of_chain c)) r → part c d m ≡ done b r) → Run c ts (Bin (place ts) o a b) r
+      place_or end ts ≡ symbols_place ts → Run c ts a (t ∷ m) → Is t f → links (level_of_chain c) f ≡ Some o →
+      ((d : ℕ) → depth b ≤ d → Ends (right_of (level_of_chain c)) r → part c d m ≡ done b r) → Run c ts (Bin (symbols_place ts) o a b) r
   more_run c ts m r a b t f o at run is k read d low ends =
       let up = next_rank c in
       let own = link_strength (level_of_chain c) f o k in
@@ -160,15 +160,15 @@ module _ (end : Span) (p : ℕ) where
       let right : part c (d - 1) m ≡ done b r = read (d - 1) lower ends in
       let seen : infix_at (level_of_chain c) (t ∷ m) ≡ Some (o, t.span, m) = sees (level_of_chain c) t m f o is (chain_links c f ∙ k) in
       let few : w.turns ≤ depth a = w.few in
-      let run_on : (j : ℕ) → chain c (part c) (place_or end ts) d (w.turns + 1 + j) w.first w.behind ≡ chain c (part c) (place_or end ts) d j (Bin (place ts) o a b) r =
+      let run_on : (j : ℕ) → chain c (part c) (place_or end ts) d (w.turns + 1 + j) w.first w.behind ≡ chain c (part c) (place_or end ts) d j (Bin (symbols_place ts) o a b) r =
       λ j.
       let s : w.turns + 1 + j ≡ w.turns + suc j = omega arith in
       let turn = chain_goes c (part c) (place_or end ts) d (suc j) a (t ∷ m) j (o, t.span, m) seen shallow refl in
       let step : chain c (part c) (place_or end ts) d (suc j) a (t ∷ m) ≡ chain c (part c) (place_or end ts) d j (Bin (place_or end ts) o a b) r = rw right at turn in
-      let placed : chain c (part c) (place_or end ts) d j (Bin (place_or end ts) o a b) r ≡ chain c (part c) (place_or end ts) d j (Bin (place ts) o a b) r =
+      let placed : chain c (part c) (place_or end ts) d j (Bin (place_or end ts) o a b) r ≡ chain c (part c) (place_or end ts) d j (Bin (symbols_place ts) o a b) r =
       ap (λ s. chain c (part c) (place_or end ts) d j (Bin s o a b) r) at in
       rw s (w.goes (suc j) ∙ step ∙ placed) in
-      let first_begins : ((w.first ≡ Bin (place ts) o a b) × (w.behind ≡ r)) ⊎ ((x : Infix) × (infix_at (level_of_chain c) w.behind ≡ Some x)) =
+      let first_begins : ((w.first ≡ Bin (symbols_place ts) o a b) × (w.behind ≡ r)) ⊎ ((x : Infix) × (infix_at (level_of_chain c) w.behind ≡ Some x)) =
       elim w.begins [ inl q ↦ inr ((o, t.span, m), ap (λ u. infix_at (level_of_chain c) u) q.1 ∙ seen) | inr q ↦ inr q ] in
       record { first = w.first; behind = w.behind; turns = w.turns + 1; reads = w.reads; few = omega arith; goes = run_on; begins = first_begins }
 
@@ -225,8 +225,8 @@ module _ (end : Span) (p : ℕ) where
       let none : infix_at Implication r ≡ None = stops Implication r ends in
       rw (implication_step end (inside end p) d ts, left, none) refl
 
-  implied_read : (ts m r : List Symbol) (a b : Expression) (t : Symbol) → place_or end ts ≡ place ts →
-      IsRead end p Junction ts a (t ∷ m) → Is t fixed.Implies → IsRead end p Implication m b r → IsRead end p Implication ts (Bin (place ts) op.Implies a b) r
+  implied_read : (ts m r : List Symbol) (a b : Expression) (t : Symbol) → place_or end ts ≡ symbols_place ts →
+      IsRead end p Junction ts a (t ∷ m) → Is t fixed.Implies → IsRead end p Implication m b r → IsRead end p Implication ts (Bin (symbols_place ts) op.Implies a b) r
   implied_read ts m r a b t at first is read d low ends =
       let own = strong t m fixed.Implies is in
       let ends_first : Ends Junction (t ∷ m) = omega arith in
@@ -237,7 +237,7 @@ module _ (end : Span) (p : ℕ) where
       let lower : depth b ≤ d - 1 = omega arith in
       let right : implication end (inside end p) (d - 1) m ≡ done b r = read (d - 1) lower ends in
       let seen : infix_at Implication (t ∷ m) ≡ Some (op.Implies, t.span, m) = sees Implication t m fixed.Implies op.Implies is refl in
-      let placed : done (Bin (place_or end ts) op.Implies a b) r ≡ done (Bin (place ts) op.Implies a b) r = ap (λ s. done (Bin s op.Implies a b) r) at in
+      let placed : done (Bin (place_or end ts) op.Implies a b) r ≡ done (Bin (symbols_place ts) op.Implies a b) r = ap (λ s. done (Bin s op.Implies a b) r) at in
       rw (implication_step end (inside end p) d ts, left, seen, test, right) placed
 
   uncompared_read : (ts : List Symbol) (e : Expression) (r : List Symbol) → IsRead end p Sum ts e r → IsRead end p Comparison ts e r
@@ -248,8 +248,8 @@ module _ (end : Span) (p : ℕ) where
       let none : infix_at Comparison r ≡ None = stops Comparison r ends in
       rw (left, none) refl
 
-  compared_read : (ts m r : List Symbol) (a b : Expression) (t : Symbol) (f : Fixed) (o : Op) → place_or end ts ≡ place ts →
-      IsRead end p Sum ts a (t ∷ m) → Is t f → compares f ≡ Some o → IsRead end p Sum m b r → IsRead end p Comparison ts (Bin (place ts) o a b) r
+  compared_read : (ts m r : List Symbol) (a b : Expression) (t : Symbol) (f : Fixed) (o : Op) → place_or end ts ≡ symbols_place ts →
+      IsRead end p Sum ts a (t ∷ m) → Is t f → compares f ≡ Some o → IsRead end p Sum m b r → IsRead end p Comparison ts (Bin (symbols_place ts) o a b) r
   unfolding comparison
   compared_read ts m r a b t f o at first is k read d low ends =
       let own = strong t m f is in
@@ -263,7 +263,7 @@ module _ (end : Span) (p : ℕ) where
       let lower : depth b ≤ d - 1 = omega arith in
       let right : reading.sum end (inside end p) (d - 1) m ≡ done b r = read (d - 1) lower ends_last in
       let seen : infix_at Comparison (t ∷ m) ≡ Some (o, t.span, m) = sees Comparison t m f o is k in
-      let placed : done (Bin (place_or end ts) o a b) r ≡ done (Bin (place ts) o a b) r = ap (λ s. done (Bin s o a b) r) at in
+      let placed : done (Bin (place_or end ts) o a b) r ≡ done (Bin (symbols_place ts) o a b) r = ap (λ s. done (Bin s o a b) r) at in
       rw (left, seen, test, right) placed
 
   unsigned_read : (ts : List Symbol) (e : Expression) (r : List Symbol) → prefix_at ts ≡ None → IsRead end p Primary ts e r → IsRead end p Unary ts e r
@@ -344,7 +344,7 @@ module _ (end : Span) (p : ℕ) where
   one_claim l ts e r c read = absurd (no_truth c)
 
   more_claim : (l : Level) (ts m r : List Symbol) (a b : Expression) (t : Symbol) (f : Fixed) (o : Op) →
-      place_or end ts ≡ place ts → Claim l ts a (t ∷ m) → Is t f → links l f ≡ Some o → IsRead end p (right_of l) m b r → Claim l ts (Bin (place ts) o a b) r
+      place_or end ts ≡ symbols_place ts → Claim l ts a (t ∷ m) → Is t f → links l f ≡ Some o → IsRead end p (right_of l) m b r → Claim l ts (Bin (symbols_place ts) o a b) r
   more_claim Equivalence ts m r a b t f o at c is k read = more_run end p chains.Equivalence ts m r a b t f o at c is k read
   more_claim Conjunction ts m r a b t f o at c is k read = more_run end p chains.Conjunction ts m r a b t f o at c is k read
   more_claim Disjunction ts m r a b t f o at c is k read = more_run end p chains.Disjunction ts m r a b t f o at c is k read

@@ -4,18 +4,19 @@ use Rattle.std.specs.Prelude.{nat_le, nat_eq}
 use Rattle.std.proofs.lemmas.Bool.Decides.{nat_tests}
 use Rattle.boogie_tree.specs.declared.span.Span.{Span}
 use Rattle.boogie_tree.specs.declared.level.Level.{Level}
+use Rattle.boogie_tree.specs.declared.level.Level.TheVariants.{Implication, Comparison, Disjunction}
 use Rattle.boogie_tree.specs.Tree.{Expression, Bin, Old}
 use Rattle.boogie_parse.specs.declared.fault.Fault.{Fault}
 use Rattle.boogie_parse.specs.declared.fault.Which.TheVariants.{Nesting}
 use Rattle.boogie_parse.specs.declared.symbols.Symbol.{Symbol}
 use Rattle.boogie_parse.specs.declared.grammar.found.Found.{Found}
 use Rattle.boogie_parse.specs.declared.grammar.expressions.operators.Chain.{Chain}
-use Rattle.boogie_parse.specs.declared.grammar.expressions.operators.Prefix.{Prefix}
+use Rattle.boogie_parse.specs.declared.grammar.expressions.operators.Chain.TheVariants as chains
 use Rattle.boogie_parse.specs.GrammarLimits.{depth}
 use Rattle.boogie_parse.specs.Outcomes.{Outcome, place_or, syntax_fault, limit_fault, and_then}
 use Rattle.boogie_parse.specs.ExpressionViews.{Gives}
-use Rattle.boogie_parse.specs.ExpressionReading.{Reader, done, unless_deep, Infix, infix_at, followed, operation, level_of_chain, chain, opens, closes, after, prefix_at, primary, unary, equivalence, old_value, inside}
-use Rattle.boogie_parse.proofs.ExpressionSteps.{unary_step, inside_step, chain_stops}
+use Rattle.boogie_parse.specs.ExpressionReading.{Reader, done, unless_deep, Infix, infix_at, followed, operation, level_of_chain, chain, opens, closes, after, prefix_at, primary, unary, product, sum, comparison, junction_by, implication, equivalence, old_value, inside}
+use Rattle.boogie_parse.proofs.ExpressionSteps.{unary_step, implication_step, inside_step, chain_stops}
 
 -- what was read is no fault
 pub never_fails : (a : Expression) (r : List Symbol) (f : Fault) (whole : Outcome Expression) → done a r ≡ Err f → whole ≡ Err f
@@ -62,16 +63,73 @@ module _ (first : Outcome Expression) (level : Level) (next : List Symbol → Ou
   operation_gives result place a r x h b m is seen height low e at g =
       subst (λ o. Gives result o) (sym (next_gives a r x h b m is seen height low e)) (subst (λ s. Gives result (done (Bin s x.0 a b) m)) at g)
 
+-- A comparison and an operand of a chain of `<=>`, from the operand that stands first, level by level. `here` is their place.
+module _ (end : Span) (inner : Reader) (d : ℕ) (ts : List Symbol) (here : Span) (at : here ≡ place_or end ts) where
+  -- what is behind the first operand of each level
+  abbrev pub products : Expression → List Symbol → Outcome Expression
+  products = chain chains.Product (unary end inner) here d d
+
+  abbrev pub sums : Expression → List Symbol → Outcome Expression
+  sums = chain chains.Sum (product end inner) here d d
+
+  abbrev pub compares : Expression → List Symbol → Outcome Expression
+  compares a r = followed a r (λ o m_at m. unless_deep (nat_le d (depth a)) m_at (operation here o a (sum end inner (d - 1) m))) (infix_at Comparison r)
+
+  abbrev pub joins_on : Expression → List Symbol → Outcome Expression
+  joins_on a r = chain (junction_by (infix_at Disjunction r)) (comparison end inner) here d d a r
+
+  abbrev pub implies : Expression → List Symbol → Outcome Expression
+  implies a r = followed a r (λ o m_at m. unless_deep (nat_le d (depth a)) m_at (operation here o a (implication end inner (d - 1) m))) (infix_at Implication r)
+
+  pub comparison_first_fails : (f : Fault) → unary end inner d ts ≡ Err f → comparison end inner d ts ≡ Err f
+  unfolding comparison
+  comparison_first_fails f e = rw e refl
+
+  pub comparison_product_fails : (a : Expression) (r : List Symbol) (f : Fault) → unary end inner d ts ≡ done a r → products a r ≡ Err f → comparison end inner d ts ≡ Err f
+  unfolding comparison
+  comparison_product_fails a r f first e = rw (first, ← at, e) refl
+
+  pub comparison_sum_fails : (a : Expression) (r : List Symbol) (b : Expression) (s : List Symbol) (f : Fault)
+      → unary end inner d ts ≡ done a r → products a r ≡ done b s → sums b s ≡ Err f → comparison end inner d ts ≡ Err f
+  unfolding comparison
+  comparison_sum_fails a r b s f first product e = rw (first, ← at, product, e) refl
+
+  pub comparison_goes : (a : Expression) (r : List Symbol) (b : Expression) (s : List Symbol) (g : Expression) (t : List Symbol)
+      → unary end inner d ts ≡ done a r → products a r ≡ done b s → sums b s ≡ done g t → comparison end inner d ts ≡ compares g t
+  unfolding comparison
+  comparison_goes a r b s g t first product sum = rw (first, ← at, product, sum) refl
+
+  pub implication_comparison_fails : (f : Fault) → comparison end inner d ts ≡ Err f → implication end inner d ts ≡ Err f
+  implication_comparison_fails f e = rw (implication_step end inner d ts, e) refl
+
+  pub implication_junction_fails : (a : Expression) (r : List Symbol) (f : Fault) → comparison end inner d ts ≡ done a r → joins_on a r ≡ Err f → implication end inner d ts ≡ Err f
+  implication_junction_fails a r f first e = rw (implication_step end inner d ts, first, ← at, e) refl
+
+  pub implication_goes : (a : Expression) (r : List Symbol) (b : Expression) (s : List Symbol)
+      → comparison end inner d ts ≡ done a r → joins_on a r ≡ done b s → implication end inner d ts ≡ implies b s
+  implication_goes a r b s first junction = rw (implication_step end inner d ts, first, ← at, junction) refl
+
+-- a whole chain of `<=>`
+module _ (end : Span) (inner : Reader) (d : ℕ) (ts : List Symbol) (here : Span) (at : here ≡ place_or end ts) where
+  pub equivalence_fails : (f : Fault) → implication end inner d ts ≡ Err f → equivalence end inner d ts ≡ Err f
+  equivalence_fails f e = rw e refl
+
+  pub equivalence_goes : (a : Expression) (r : List Symbol) → implication end inner d ts ≡ done a r
+      → equivalence end inner d ts ≡ chain chains.Equivalence (implication end inner) here d d a r
+  equivalence_goes a r first = rw (first, ← at) refl
+
 -- `!` and unary `-`
 module _ (end : Span) (inner : Reader) (d : ℕ) (ts : List Symbol) where
   pub unary_plain : None ≡ prefix_at ts → unary end inner d ts ≡ primary end inner d ts
   unary_plain none = rw (unary_step end inner d ts, ← none) refl
 
-  pub unary_deep : (x : Prefix × Span × List Symbol) (f : Fault) → Some x ≡ prefix_at ts → d ≡ 0 → f ≡ limit_fault Nesting x.1 → unary end inner d ts ≡ Err f
-  unary_deep x f seen none e = let test : nat_eq d 0 ≡ true = grind (arith, nat_tests) in rw (unary_step end inner d ts, ← seen, test, e) refl
+-- an operator before its operand
+module _ (d : ℕ) (at : Span) (x : Outcome Expression) where
+  pub prefix_deep : (f : Fault) → d ≡ 0 → f ≡ limit_fault Nesting at → unless_deep (nat_eq d 0) at x ≡ Err f
+  prefix_deep f none e = let test : nat_eq d 0 ≡ true = grind (arith, nat_tests) in rw (test, e) refl
 
-  pub unary_fails : (x : Prefix × Span × List Symbol) (f : Fault) → Some x ≡ prefix_at ts → d ≢ 0 → unary end inner (d - 1) x.2 ≡ Err f → unary end inner d ts ≡ Err f
-  unary_fails x f seen some e = let test : nat_eq d 0 ≡ false = grind (arith, nat_tests) in rw (unary_step end inner d ts, ← seen, test, e) refl
+  pub prefix_goes : d ≢ 0 → unless_deep (nat_eq d 0) at x ≡ x
+  prefix_goes some = let test : nat_eq d 0 ≡ false = grind (arith, nat_tests) in rw test refl
 
 -- what stands behind `old`
 old_step : (inner : Reader) (here : Span) (d : ℕ) (ts : List Symbol) → d ≢ 0 → old_value inner here d ts ≡ and_then (inner (d - 1) ts) (λ e r. done (Old here e) r)

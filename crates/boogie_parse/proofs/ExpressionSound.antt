@@ -21,7 +21,7 @@ use Rattle.boogie_parse.specs.declared.grammar.expressions.operators.Prefix.{Pre
 use Rattle.boogie_parse.specs.declared.grammar.expressions.operators.Prefix.TheVariants as prefixes
 use Rattle.boogie_parse.specs.Outcomes.{Read, Outcome, place_or, and_then}
 use Rattle.boogie_parse.specs.Grammar
-use Rattle.boogie_parse.specs.Grammar.{Is, Reads, place, links, is_chain}
+use Rattle.boogie_parse.specs.Grammar.{Is, Reads, symbols_place, links, is_chain}
 use Rattle.boogie_parse.specs.GrammarLimits.{depth}
 use Rattle.boogie_parse.specs.ExpressionReading.{linked, Reader, done, too_deep, unless_deep, joins, sign_joins, Infix, infix_of, infix_at, followed, operation, level_of_chain, chain, chained, opens, closes, behind_if, after, expected, closed, prefix_of, prefix_by, prefix_at, prefixed, signed, over, old_value, word_value, sign_value, primary, unary, product, comparison, junction_by, junction, implication, equivalence, inside, expression}
 use Rattle.boogie_parse.specs.ExpressionReading as reading
@@ -91,7 +91,7 @@ lift_good : {p : ℕ} {l m : Level} {d : ℕ} {ts : List Symbol} {x : Read Expre
 lift_good {x = x} up g = record { reads = up x.value x.rest g.reads; low = g.low }
 
 -- an expression begins with a symbol
-pub starts : {p : ℕ} {l : Level} {ts r : List Symbol} {e : Expression} (end : Span) → Reads p l ts e r → place_or end ts ≡ place ts
+pub starts : {p : ℕ} {l : Level} {ts r : List Symbol} {e : Expression} (end : Span) → Reads p l ts e r → place_or end ts ≡ symbols_place ts
 starts end (Grammar.one c h) = starts end h
 starts end (Grammar.more t h is k g) = starts end h
 starts end (Grammar.unimplied h) = starts end h
@@ -124,13 +124,13 @@ level_is_chain chains.Disjunction = refl
 level_is_chain chains.Sum = refl
 level_is_chain chains.Product = refl
 
-at_place : {p : ℕ} {l : Level} {ts r : List Symbol} {here : Span} {o : Op} {a b : Expression} → here ≡ place ts → Reads p l ts (Bin (place ts) o a b) r → Reads p l ts (Bin here o a b) r
+at_place : {p : ℕ} {l : Level} {ts r : List Symbol} {here : Span} {o : Op} {a b : Expression} → here ≡ symbols_place ts → Reads p l ts (Bin (symbols_place ts) o a b) r → Reads p l ts (Bin here o a b) r
 at_place at h = rw at h
 
 -- chains
 sound_chain : {p : ℕ} (c : Chain) (part : Reader) → IsSound p (right_of (level_of_chain c)) part →
     (here : Span) (ts : List Symbol) (d k : ℕ) (a : Expression) (r : List Symbol) (x : Read Expression) →
-    here ≡ place ts → Reads p (level_of_chain c) ts a r → depth a ≤ d → chain c part here d k a r ≡ Ok x → Good p (level_of_chain c) d ts x
+    here ≡ symbols_place ts → Reads p (level_of_chain c) ts a r → depth a ≤ d → chain c part here d k a r ≡ Ok x → Good p (level_of_chain c) d ts x
 unfolding chain
 sound_chain c part sound here ts d zero a r x at h low e =
     elim (follows a r (λ o at m. too_deep at) (infix_at (level_of_chain c) r) x e) [
@@ -276,8 +276,8 @@ sound_primary p end inner sound d (t ∷ ts) x e = sound_sign p inner sound d t 
 
 -- the operation whose right operand is read: at a level whose operators are `f`
 sound_operation : {p d : ℕ} {l : Level} (here : Span) (ts : List Symbol) (a : Expression) (o : Op) (right : Outcome Expression) (test : Bool) (at : Span) (x : Read Expression) →
-    test ≡ nat_le d (depth a) → here ≡ place ts →
-    ((y : Read Expression) → right ≡ Ok y → (depth y.value ≤ d - 1) × Reads p l ts (Bin (place ts) o a y.value) y.rest) →
+    test ≡ nat_le d (depth a) → here ≡ symbols_place ts →
+    ((y : Read Expression) → right ≡ Ok y → (depth y.value ≤ d - 1) × Reads p l ts (Bin (symbols_place ts) o a y.value) y.rest) →
     depth a ≤ d → unless_deep test at (operation here o a right) ≡ Ok x → Good p l d ts x
 sound_operation {p} {d} {l} here ts a o right test at x is at_start reads low e =
     let q = not_deep test at (operation here o a right) x e in
@@ -307,7 +307,7 @@ sound_comparison p end inner sound d ts x e =
     ]
 
 sound_junction_chain : (p : ℕ) (part : Reader) → IsSound p Comparison part → (here : Span) (ts : List Symbol) (d : ℕ) (a : Expression) (r : List Symbol) (x : Read Expression) (o : Option Infix) →
-    here ≡ place ts → Reads p Comparison ts a r → depth a ≤ d → chain (junction_by o) part here d d a r ≡ Ok x → Good p Junction d ts x
+    here ≡ symbols_place ts → Reads p Comparison ts a r → depth a ≤ d → chain (junction_by o) part here d d a r ≡ Ok x → Good p Junction d ts x
 sound_junction_chain p part sound here ts d a r x None at h low e =
     lift_good (λ e r h. Grammar.conjoined h) (sound_chain chains.Conjunction part sound here ts d d a r x at (Grammar.one refl h) low e)
 sound_junction_chain p part sound here ts d a r x (Some z) at h low e =
@@ -324,11 +324,11 @@ implies_is fixed.Implies o e = (refl, let same : op.Implies ≡ o = cc in sym sa
 implies_is f o e = absurd (nothing e)
 
 pub implied_reads : {p : ℕ} {ts m r : List Symbol} {a b : Expression} {f : Fixed} {o : Op} (t : Symbol) → Is t f → joins Implication f ≡ Some o →
-    Reads p Junction ts a (t ∷ m) → Reads p Implication m b r → Reads p Implication ts (Bin (place ts) o a b) r
+    Reads p Junction ts a (t ∷ m) → Reads p Implication m b r → Reads p Implication ts (Bin (symbols_place ts) o a b) r
 implied_reads {p} {ts} {m} {r} {a} {b} {f} {o} t is j h g =
     let w = implies_is f o j in
     let word : Is t fixed.Implies = is ∙ ap (λ f. signs.Fixed f) w.0 in
-    subst (λ o. Reads p Implication ts (Bin (place ts) o a b) r) (sym w.1) (Grammar.implied t h word g)
+    subst (λ o. Reads p Implication ts (Bin (symbols_place ts) o a b) r) (sym w.1) (Grammar.implied t h word g)
 
 pub sound_implication : (p : ℕ) (end : Span) (inner : Reader) → IsSound p Junction (junction end inner) → IsSound p Implication (implication end inner)
 unfolding implication

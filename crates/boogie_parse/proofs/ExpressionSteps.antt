@@ -106,12 +106,3 @@ module _ (c : Chain) (operand : Reader) (here : Span) (d k : ℕ) (a : Expressio
       let s : infix_at (level_of_chain c) r ≡ Some x = cc in
       let step : chain c operand here d k a r ≡ too_deep x.1 = chain_full c operand here d k a r x s none in
       cc
-
--- the right operand of `==>` fails
-pub implication_fails : (end : Span) (inner : Reader) (d : ℕ) (ts : List Symbol) (a : Expression) (r : List Symbol) (x : Infix) (h : ℕ) (f : Fault) →
-    junction end inner d ts ≡ done a r → Some x ≡ infix_at Implication r → h ≡ depth a → h < d →
-    (f ≢ Memory → implication end inner (d - 1) x.2 ≡ Err f) → f ≢ Memory → implication end inner d ts ≡ Err f
-implication_fails end inner d ts a r x h f left seen height low fails ne =
-    let shallow : nat_le d (depth a) ≡ false = grind (arith, nat_tests) in
-    let failed : implication end inner (d - 1) x.2 ≡ Err f = fails ne in
-    rw (implication_step end inner d ts, left, ← seen, shallow, failed) refl

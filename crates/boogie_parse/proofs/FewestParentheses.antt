@@ -17,7 +17,7 @@ use Rattle.boogie_parse.specs.declared.symbols.Fixed.TheVariants as fixed
 use Rattle.boogie_parse.specs.declared.symbols.Sign.{Sign}
 use Rattle.boogie_parse.specs.declared.symbols.Symbol.{Symbol}
 use Rattle.boogie_parse.specs.Grammar
-use Rattle.boogie_parse.specs.Grammar.{Is, place, Reads}
+use Rattle.boogie_parse.specs.Grammar.{Is, symbols_place, Reads}
 use Rattle.boogie_parse.specs.GrammarLists as lists
 use Rattle.boogie_parse.specs.GrammarLists.{ReadsNames, ReadsExpressions, ReadsArguments, ReadsGuard, ReadsCondition, ReadsInvariants, of_type, ReadsGroup, ReadsVariables, ReadsDeclared, ReadsFormals, ReadsResults}
 use Rattle.boogie_parse.specs.Spelled.{led, name_sign, operator_sign, grouped_signs, expression_signs, continued_signs, listed_signs, names_signs, expressions_signs, type_sign, variable_signs, variables_signs, enclosed_signs, ended_signs, guard_signs, condition_signs, invariants_signs, targets_signs}
@@ -105,9 +105,9 @@ few (Grammar.more {l = l} {ts = ts} {m = m} {r = r} {a = a} {b = b} {f = f} {o =
     let c = chain_operator l f o k in
     let x : Few (left_of (level_of_operator o)) ts a (t ∷ m) = subst (λ k. Few k ts a (t ∷ m)) (sym (ap left_of c.level ∙ c.left)) (few h w.0) in
     let y : Few (right_of (level_of_operator o)) m b r = subst (λ k. Few k m b r) (sym (ap right_of c.level)) (few g w.1) in
-    subst (λ k. Few k ts (Bin (place ts) o a b) r) c.level (operation (place ts) o a b t ts m r x y)
+    subst (λ k. Few k ts (Bin (symbols_place ts) o a b) r) c.level (operation (symbols_place ts) o a b t ts m r x y)
 few (Grammar.unimplied {ts = ts} {r = r} {e = e} h) w = raised Implication Junction ts r e (stands_implication (level_of e)) (few h w)
-few (Grammar.implied {ts = ts} {m = m} {r = r} {a = a} {b = b} t h is g) w = operation (place ts) op.Implies a b t ts m r (few h w.0) (few g w.1)
+few (Grammar.implied {ts = ts} {m = m} {r = r} {a = a} {b = b} t h is g) w = operation (symbols_place ts) op.Implies a b t ts m r (few h w.0) (few g w.1)
 few (Grammar.conjoined {ts = ts} {r = r} {e = e} h) w = raised Junction Conjunction ts r e (stands_conjoined (level_of e)) (few h w)
 few (Grammar.disjoined {ts = ts} {r = r} {e = e} h) w = raised Junction Disjunction ts r e (stands_disjoined (level_of e)) (few h w)
 few (Grammar.uncompared {ts = ts} {r = r} {e = e} h) w = raised Comparison Sum ts r e (stands_comparison (level_of e)) (few h w)
@@ -115,7 +115,7 @@ few (Grammar.compared {ts = ts} {m = m} {r = r} {a = a} {b = b} {f = f} {o = o} 
     let c = comparison_operator f o k in
     let x : Few (left_of (level_of_operator o)) ts a (t ∷ m) = subst (λ k. Few (left_of k) ts a (t ∷ m)) (sym c) (few h w.0) in
     let y : Few (right_of (level_of_operator o)) m b r = subst (λ k. Few (right_of k) m b r) (sym c) (few g w.1) in
-    subst (λ k. Few k ts (Bin (place ts) o a b) r) c (operation (place ts) o a b t ts m r x y)
+    subst (λ k. Few k ts (Bin (symbols_place ts) o a b) r) c (operation (symbols_place ts) o a b t ts m r x y)
 few (Grammar.unsigned {ts = ts} {r = r} {e = e} h) w = raised Unary Primary ts r e (stands_unary (level_of e)) (few h w)
 few (Grammar.negated t is h) w = let x = few h w in omega arith
 few (Grammar.denied t is h) w = let x = few h w in omega arith

@@ -11,7 +11,7 @@ use Rattle.boogie_parse.specs.declared.symbols.Symbol.{Symbol}
 use Rattle.boogie_parse.specs.GrammarStatements as statements
 use Rattle.boogie_parse.specs.GrammarStatements.{ReadsStatement, ReadsIf, ReadsBlock, ReadsList}
 use Rattle.boogie_parse.specs.GrammarProgram as programs
-use Rattle.boogie_parse.specs.GrammarProgram.{ReadsSpecification, ReadsSpecifications, ReadsLocals, ReadsBody, Head, ReadsHead, procedure_of, ReadsDeclaration, ReadsProgram, joined}
+use Rattle.boogie_parse.specs.GrammarProgram.{ReadsSpecification, ReadsSpecifications, ReadsLocals, ReadsBody, Head, ReadsHead, procedure_read, ReadsDeclaration, ReadsProgram, joined_groups}
 use Rattle.boogie_parse.specs.GrammarLists.{ReadsResults, no_result, results}
 use Rattle.boogie_parse.specs.Symbols.{symbol}
 use Rattle.boogie_parse.specs.Spelled.{led, name_sign, expression_signs, expressions_signs, names_signs, variables_signs, variable_signs, enclosed_signs, ended_signs, guard_signs, invariants_signs, targets_signs, else_signs, statement_signs, block_signs, specification_signs, specifications_signs, declared_signs, locals_signs, results_signs, end_of_head_signs, body_signs, procedure_signs, declaration_signs, program_signs}
@@ -174,14 +174,14 @@ few_declaration (programs.variables {vs = vs} h) w = let x = few_declared h in l
 few_declaration (programs.axioms {e = e} t u it h iu) w =
     let x = few_whole h w.0 in let parts = ended_opened (expression_signs e) in let one = append_opened (ended_signs (expression_signs e)) [] in omega arith
 few_declaration (programs.without_body {h = h} {ss = ss} u front iu specs) w =
-    let q : Procedure = procedure_of h ss None in
+    let q : Procedure = procedure_read h ss None in
     let a = few_head front in let b = few_specifications specs w.0.specs in let parts = procedure_opened fixed.Procedure refl q in let one = alone_opened (Declares q) in omega arith
 few_declaration (programs.with_body {h = h} {ss = ss} {x = x} front specs body) w =
-    let q : Procedure = procedure_of h ss (Some x) in
+    let q : Procedure = procedure_read h ss (Some x) in
     let a = few_head front in let b = few_specifications specs w.0.specs in let c = few_body body w.0.body in
     let parts = procedure_opened fixed.Procedure refl q in let one = alone_opened (Declares q) in omega arith
 few_declaration (programs.implementation {h = h} {x = x} front body) w =
-    let q : Procedure = procedure_of h [] (Some x) in
+    let q : Procedure = procedure_read h [] (Some x) in
     let a = few_head front in let c = few_body body w.0.body in
     let parts = procedure_opened fixed.Implementation refl q in let one = alone_opened (Implements q) in omega arith
 
@@ -197,17 +197,17 @@ spellable_parts : (ds es : List Declaration) → IsSpellableProgram (ds ++ es) �
 spellable_parts [] es w = (tt, w)
 spellable_parts (d ∷ ds) es w = let p = spellable_parts ds es w.1 in ((w.0, p.0), p.1)
 
-few_program : {p b : ℕ} {ts : List Symbol} {groups : List (List Declaration)} → ReadsProgram p b ts groups → IsSpellableProgram (joined groups) → opened_in (program_signs (joined groups)) ≤ count ts
+few_program : {p b : ℕ} {ts : List Symbol} {groups : List (List Declaration)} → ReadsProgram p b ts groups → IsSpellableProgram (joined_groups groups) → opened_in (program_signs (joined_groups groups)) ≤ count ts
 few_program programs.no_declaration w = omega arith
 few_program (programs.next_declaration {ds = ds} {groups = groups} h k) w =
-    let p = spellable_parts ds (joined groups) w in
+    let p = spellable_parts ds (joined_groups groups) w in
     let a = few_declaration h p.0 in
     let b = few_program k p.1 in
-    let parts = program_joined ds (joined groups) in
+    let parts = program_joined ds (joined_groups groups) in
     omega arith
 
 pub parentheses_are_needed : ParenthesesAreNeeded
 parentheses_are_needed text ds is =
-    let w : IsSpellableProgram (joined is.groups) = subst IsSpellableProgram is.declarations (program_is_spellable text ds is) in
+    let w : IsSpellableProgram (joined_groups is.groups) = subst IsSpellableProgram is.declarations (program_is_spellable text ds is) in
     let few = few_program is.spelled w in
     subst (λ (es : List Declaration). opened_in (program_signs es) ≤ opened_in (signs_of (map symbol is.tokens))) (sym is.declarations) few

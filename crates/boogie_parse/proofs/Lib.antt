@@ -18,6 +18,7 @@ pub mod ExpressionRoom
 mod ListTurns
 mod EndedValues
 mod SeenStatements
+mod OpenedStatements
 mod AddedStatements
 mod BlockSteps
 mod ExpressionExits

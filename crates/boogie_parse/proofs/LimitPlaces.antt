@@ -14,7 +14,7 @@ use Rattle.boogie_parse.specs.Attributes.{begins_attribute, braced_length}
 use Rattle.boogie_parse.specs.Lexed.{left_out, beside, supported, judged, inside_attribute, attribute, found_in, with_token, tokens_or_fault, lexed}
 use Rattle.boogie_parse.specs.Symbols.{symbol}
 use Rattle.boogie_parse.specs.GrammarProgram.{no_declaration}
-use Rattle.boogie_parse.specs.WholeText.{end_of, read_tokens, read_text, IfLimit, CanStandAt, IsLimitAt}
+use Rattle.boogie_parse.specs.WholeText.{text_end, read_tokens, read_text, IfLimit, CanStandAt, IsLimitAt}
 use Rattle.boogie_parse.proofs.SyntaxFaults.{with_tokens}
 use Rattle.boogie_parse.proofs.SettledPrograms.{limit_settled}
 use Rattle.boogie_parse.proofs.BegunPrograms.{program_begun}
@@ -83,7 +83,7 @@ lexed_fine text = first_fine (found_in 0 (pieces text)) (found_fine 0 (pieces te
 can_stand : (text : List ℕ) (tokens : List Token) (which : Which) (line col : ℕ) → lexed text ≡ Ok tokens → read_text text ≡ Err (faults.Limit which line col) →
     CanStandAt text line col
 can_stand text tokens which line col lexical is =
-    let b = program_begun (end_of text) 200 200 1000 1000 (map symbol tokens) which line col (with_tokens text tokens (faults.Limit which line col) lexical is) in
+    let b = program_begun (text_end text) 200 200 1000 1000 (map symbol tokens) which line col (with_tokens text tokens (faults.Limit which line col) lexical is) in
     let w = b.begins [] [] no_declaration in
     record {
       tokens = tokens;
@@ -104,7 +104,7 @@ can_stand text tokens which line col lexical is =
 at_symbol : (text : List ℕ) (tokens : List Token) (which : Which) (line col : ℕ) → lexed text ≡ Ok tokens → read_text text ≡ Err (faults.Limit which line col) →
     IsLimitAt text which line col
 at_symbol text tokens which line col lexical is =
-    let end : Span = end_of text in
+    let end : Span = text_end text in
     let s = limit_settled end 200 200 1000 1000 (map symbol tokens) which line col (with_tokens text tokens (faults.Limit which line col) lexical is) in
     record {
       tokens = tokens;
@@ -128,7 +128,7 @@ by_tokens : (text : List ℕ) (which : Which) (line col : ℕ) → IsOfGrammar w
 by_tokens text which line col grammar (Ok tokens) e is = at_symbol text tokens which line col e is
 by_tokens text which line col grammar (Err f) e is =
     let fine : IsOfTokens f = subst (λ r. IfErr r IsOfTokens) e (lexed_fine text) in
-    let given : read_tokens (end_of text) (Err f) ≡ Err (faults.Limit which line col) = sym (ap (read_tokens (end_of text)) e) ∙ is in
+    let given : read_tokens (text_end text) (Err f) ≡ Err (faults.Limit which line col) = sym (ap (read_tokens (text_end text)) e) ∙ is in
     let same : f ≡ faults.Limit which line col = cc in
     absurd (grammar line col (subst IsOfTokens same fine))
 

@@ -17,7 +17,7 @@ use Rattle.boogie_parse.specs.declared.symbols.Symbol.{Symbol}
 use Rattle.boogie_parse.specs.Outcomes.{Read, Outcome}
 use Rattle.boogie_parse.specs.Grammar.{Is, Reads, one, more, unimplied, implied, conjoined, disjoined, uncompared, compared, unsigned, negated, denied, number, true_word, false_word, name, old_value, grouped}
 use Rattle.boogie_parse.specs.GrammarLists as grammar
-use Rattle.boogie_parse.specs.GrammarLists.{IsName, ReadsNames, last_name, next_name, ReadsGroup, ReadsVariables, last_group, next_group, of_type, type_of, ReadsFormals, no_formal, ReadsResults, no_result, results}
+use Rattle.boogie_parse.specs.GrammarLists.{IsName, ReadsNames, last_name, next_name, ReadsGroup, ReadsVariables, last_group, next_group, of_type, type_named, ReadsFormals, no_formal, ReadsResults, no_result, results}
 use Rattle.boogie_parse.specs.ListReading as reading
 use Rattle.boogie_parse.specs.ListReading.{◌>>=◌, read, says, seen, must_be, behind, name_by, name_at, new_name, with_front, more_by, separated, name_item, names_at, listed_names, type_by, type_said, type_at, group_at, variables_at, declared_behind, opened_by, opened, closed, listed_by, formals_at, results_by, results_at}
 
@@ -99,7 +99,7 @@ pub listed_names-complete : (end : Span) (ts : List Symbol) (xs : List Name) (u 
 unfolding listed_names
 listed_names-complete end ts xs u r d is = rw (all_names-complete end ts xs (u ∷ r) d (seen-other fixed.Comma fixed.Semicolon u r is refl), behind-it end fixed.Semicolon u r is) refl
 
-type-it : (end : Span) (t : Symbol) (ts : List Symbol) (f : Fixed) (ty : Ty) → Is t f → type_of f ≡ Some ty → type_at end (t ∷ ts) ≡ read ty ts
+type-it : (end : Span) (t : Symbol) (ts : List Symbol) (f : Fixed) (ty : Ty) → Is t f → type_named f ≡ Some ty → type_at end (t ∷ ts) ≡ read ty ts
 unfolding type_at
 type-it end t ts f ty is e = rw (is, e) refl
 

@@ -15,7 +15,7 @@ use Rattle.boogie_parse.specs.declared.symbols.Sign.TheVariants as signs
 use Rattle.boogie_parse.specs.declared.symbols.Symbol.{Symbol}
 use Rattle.boogie_parse.specs.Outcomes.{Read, Outcome}
 use Rattle.boogie_parse.specs.Grammar.{Is}
-use Rattle.boogie_parse.specs.GrammarLists.{IsName, ReadsNames, last_name, next_name, ReadsGroup, group, ReadsVariables, last_group, next_group, of_type, type_of, ReadsFormals, no_formal, formals, ReadsResults, no_result, results}
+use Rattle.boogie_parse.specs.GrammarLists.{IsName, ReadsNames, last_name, next_name, ReadsGroup, group, ReadsVariables, last_group, next_group, of_type, type_named, ReadsFormals, no_formal, formals, ReadsResults, no_result, results}
 use Rattle.boogie_parse.specs.ListReading.{◌>>=◌, read, says, seen, must_be, behind, name_by, name_at, new_name, with_front, one, more_by, separated, name_item, names_at, listed_names, type_by, type_said, type_at, group_at, variables_at, declared_behind, opened_by, opened, listed_by, formals_at, results_by, results_at}
 
 -- a step, and what follows from what it gives
@@ -147,14 +147,14 @@ pub record Typed (ts : List Symbol) (x : Read Ty) : Type 0 where
   symbol : Symbol
   word : Fixed
   is : Is symbol word
-  type : type_of word ≡ Some x.value
+  type : type_named word ≡ Some x.value
   all : ts ≡ symbol ∷ x.rest
 
 none-some : (ty : Ty) → ◌≡◌ {A = Option Ty} None (Some ty) → ⊥
 none-some ty e = cc
 
 -- the word that says a type
-said_by : (s : Sign) (ty : Ty) → type_said s ≡ Some ty → (f : Fixed) × (s ≡ signs.Fixed f) × (type_of f ≡ Some ty)
+said_by : (s : Sign) (ty : Ty) → type_said s ≡ Some ty → (f : Fixed) × (s ≡ signs.Fixed f) × (type_named f ≡ Some ty)
 said_by (signs.Fixed f) ty e = (f, refl, e)
 said_by (signs.Number n) ty e = absurd (none-some ty e)
 said_by (signs.Name x) ty e = absurd (none-some ty e)

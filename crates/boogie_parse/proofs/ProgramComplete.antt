@@ -16,8 +16,8 @@ use Rattle.boogie_parse.specs.Grammar.{Is, Reads}
 use Rattle.boogie_parse.specs.GrammarLists as lists
 use Rattle.boogie_parse.specs.GrammarLists.{ReadsNames, ReadsVariables, last_group, next_group, ReadsCondition, ReadsDeclared, declared}
 use Rattle.boogie_parse.specs.GrammarProgram as grammar
-use Rattle.boogie_parse.specs.GrammarProgram.{ReadsSpecification, ReadsSpecifications, ReadsLocals, ReadsBody, Head, ReadsHead, procedure_of, ReadsDeclaration, ReadsProgram, joined}
-use Rattle.boogie_parse.specs.GrammarLimits.{IsShallow, IsShallowDeclaration, EachOfBlock, EachOfSpecification, EachOfDeclaration, variables_of, procedures_of}
+use Rattle.boogie_parse.specs.GrammarProgram.{ReadsSpecification, ReadsSpecifications, ReadsLocals, ReadsBody, Head, ReadsHead, procedure_read, ReadsDeclaration, ReadsProgram, joined_groups}
+use Rattle.boogie_parse.specs.GrammarLimits.{IsShallow, IsShallowDeclaration, EachOfBlock, EachOfSpecification, EachOfDeclaration, variables_counted, procedures_counted}
 use Rattle.boogie_parse.specs.ExpressionLaws.{Ends}
 use Rattle.boogie_parse.specs.ListReading.{read, Possible, one_there, repeated, seen, expression_at}
 use Rattle.boogie_parse.specs.StatementReading.{inside_at}
@@ -256,7 +256,7 @@ module _ (reads : ℕ → List Symbol → Outcome Expression) (end : Span) (IsSo
         rw (it, declared-complete end v us vs u r d iu few) refl
 
     without-complete : (q : ℕ) (f : Fixed) (ts m r : List Symbol) (h : Head) (u : Symbol) (ss : List Specification) → f ≡ fixed.Procedure → 0 < q → ReadsHead p f ts h (u ∷ m) → length h.params + length h.results ≤ v → Is u fixed.Semicolon
-        → ReadsSpecifications p m ss r → AllByRecursion (EachOfSpecification IsSo) ss → Anew r → declaration_at reads end p b v q ts ≡ stands (Declares (procedure_of h ss None) ∷ []) r
+        → ReadsSpecifications p m ss r → AllByRecursion (EachOfSpecification IsSo) ss → Anew r → declaration_at reads end p b v q ts ≡ stands (Declares (procedure_read h ss None) ∷ []) r
     unfolding declaration_at procedure_at
     without-complete q f ts m r h u ss e room (grammar.head {ts = us} {m = k} {x = x} {ps = ps} {rs = rs} t n is name a c) few semicolon specs shallow stop =
         let it : Is t fixed.Procedure = subst (Is t) e is in
@@ -269,7 +269,7 @@ module _ (reads : ℕ → List Symbol → Outcome Expression) (end : Span) (IsSo
         ) refl
 
     with-complete : (q : ℕ) (f : Fixed) (ts m n r : List Symbol) (h : Head) (ss : List Specification) (y : ProcedureBody) → f ≡ fixed.Procedure → 0 < q → ReadsHead p f ts h m → length h.params + length h.results + length y.locals ≤ v
-        → ReadsSpecifications p m ss n → AllByRecursion (EachOfSpecification IsSo) ss → ReadsBody p b n y r → EachOfBlock IsSo y.stmts → declaration_at reads end p b v q ts ≡ stands (Declares (procedure_of h ss (Some y)) ∷ []) r
+        → ReadsSpecifications p m ss n → AllByRecursion (EachOfSpecification IsSo) ss → ReadsBody p b n y r → EachOfBlock IsSo y.stmts → declaration_at reads end p b v q ts ≡ stands (Declares (procedure_read h ss (Some y)) ∷ []) r
     unfolding declaration_at procedure_at
     with-complete q f ts m n r h ss y e room (grammar.head {ts = us} {m = k} {x = x} {ps = ps} {rs = rs} t w is name a c) few specs shallow body low =
         let it : Is t fixed.Procedure = subst (Is t) e is in
@@ -283,7 +283,7 @@ module _ (reads : ℕ → List Symbol → Outcome Expression) (end : Span) (IsSo
         ) refl
 
     implementation-complete : (q : ℕ) (f : Fixed) (ts m r : List Symbol) (h : Head) (y : ProcedureBody) → f ≡ fixed.Implementation → ReadsHead p f ts h m → length h.params + length h.results + length y.locals ≤ v
-        → ReadsBody p b m y r → EachOfBlock IsSo y.stmts → declaration_at reads end p b v q ts ≡ stands (Implements (procedure_of h [] (Some y)) ∷ []) r
+        → ReadsBody p b m y r → EachOfBlock IsSo y.stmts → declaration_at reads end p b v q ts ≡ stands (Implements (procedure_read h [] (Some y)) ∷ []) r
     unfolding declaration_at implementation_at
     implementation-complete q f ts m r h y e (grammar.head {ts = us} {m = k} {x = x} {ps = ps} {rs = rs} t w is name a c) few body low =
         let it : Is t fixed.Implementation = subst (Is t) e is in
@@ -293,7 +293,7 @@ module _ (reads : ℕ → List Symbol → Outcome Expression) (end : Span) (IsSo
     unfolding declaration_at axiom_at
     axiom-complete q t u ts e r is d iu shallow = rw (is, claim-complete reads end IsSo reads-complete p ts e u r d iu shallow) refl
 
-    declaration-complete : (q : ℕ) (ts : List Symbol) (ds : List Declaration) (r : List Symbol) → ReadsDeclaration p b ts ds r → AllByRecursion (EachOfDeclaration IsSo) ds → variables_of ds ≤ v → procedures_of ds ≤ q → Anew r
+    declaration-complete : (q : ℕ) (ts : List Symbol) (ds : List Declaration) (r : List Symbol) → ReadsDeclaration p b ts ds r → AllByRecursion (EachOfDeclaration IsSo) ds → variables_counted ds ≤ v → procedures_counted ds ≤ q → Anew r
         → declaration_at reads end p b v q ts ≡ stands ds r
     declaration-complete q ts ds r (grammar.constants {vs = vs} d) shallow few room stop = constants-complete q fixed.Const ts vs r refl d (let k : length vs ≤ v = rw count_constants at few in k)
     declaration-complete q ts ds r (grammar.variables {vs = vs} d) shallow few room stop = globals-complete q fixed.Var ts vs r refl d (let k : length vs ≤ v = rw count_globals at few in k)
@@ -309,23 +309,23 @@ module _ (reads : ℕ → List Symbol → Outcome Expression) (end : Span) (IsSo
     unfolding declaration_at
     no-declaration q = refl
 
-    program-read : (q k : ℕ) (ts : List Symbol) (groups : List (List Declaration)) → ReadsProgram p b ts groups → AllByRecursion (EachOfDeclaration IsSo) (joined groups) → AllByRecursion (λ ds. variables_of ds ≤ v) groups
-        → procedures_of (joined groups) ≤ q → length ts ≤ k → repeated (declaration_at reads end p b v) procedures_of q k ts ≡ read (joined groups) []
-    program-read q k ts groups grammar.no_declaration shallow few room long = stop-read (declaration_at reads end p b v) procedures_of q k [] (no-declaration q)
+    program-read : (q k : ℕ) (ts : List Symbol) (groups : List (List Declaration)) → ReadsProgram p b ts groups → AllByRecursion (EachOfDeclaration IsSo) (joined_groups groups) → AllByRecursion (λ ds. variables_counted ds ≤ v) groups
+        → procedures_counted (joined_groups groups) ≤ q → length ts ≤ k → repeated (declaration_at reads end p b v) procedures_counted q k ts ≡ read (joined_groups groups) []
+    program-read q k ts groups grammar.no_declaration shallow few room long = stop-read (declaration_at reads end p b v) procedures_counted q k [] (no-declaration q)
     program-read q k ts groups (grammar.next_declaration {m = m} {ds = ds} {groups = more} d rest) shallow few room long =
         let h = declaration-take d in
-        let low = both_parts (EachOfDeclaration IsSo) ds (joined more) shallow in
-        let sum : procedures_of ds + procedures_of (joined more) ≤ q = rw procedures_joined at room in
-        item-read (declaration_at reads end p b v) procedures_of q k ts m [] ds (joined more) (omega arith) (declaration-complete q ts ds m d low.0 few.0 (omega arith) (program-anew rest))
-        (program-read (q - procedures_of ds) (k - 1) m more rest low.1 few.1 (omega arith) (omega arith))
+        let low = both_parts (EachOfDeclaration IsSo) ds (joined_groups more) shallow in
+        let sum : procedures_counted ds + procedures_counted (joined_groups more) ≤ q = rw procedures_joined at room in
+        item-read (declaration_at reads end p b v) procedures_counted q k ts m [] ds (joined_groups more) (omega arith) (declaration-complete q ts ds m d low.0 few.0 (omega arith) (program-anew rest))
+        (program-read (q - procedures_counted ds) (k - 1) m more rest low.1 few.1 (omega arith) (omega arith))
 
-    pub program-joined : (q : ℕ) (ts : List Symbol) (groups : List (List Declaration)) → ReadsProgram p b ts groups → AllByRecursion (EachOfDeclaration IsSo) (joined groups) → AllByRecursion (λ ds. variables_of ds ≤ v) groups
-        → procedures_of (joined groups) ≤ q → program_at reads end p b v q ts ≡ Ok (joined groups)
+    pub program-joined : (q : ℕ) (ts : List Symbol) (groups : List (List Declaration)) → ReadsProgram p b ts groups → AllByRecursion (EachOfDeclaration IsSo) (joined_groups groups) → AllByRecursion (λ ds. variables_counted ds ≤ v) groups
+        → procedures_counted (joined_groups groups) ≤ q → program_at reads end p b v q ts ≡ Ok (joined_groups groups)
     unfolding program_at declarations_at
     program-joined q ts groups d shallow few room = rw (program-read q (length ts) ts groups d shallow few room (omega arith)) refl
 
 pub program-complete : (end : Span) (p b v q : ℕ) (ts : List Symbol) (program : List Declaration) → Spells p b v q ts program → program_at (expression_at end) end p b v q ts ≡ Ok program
 program-complete end p b v q ts program w =
-    let shallow : AllByRecursion IsShallowDeclaration (joined w.groups) = subst (AllByRecursion IsShallowDeclaration) w.declarations w.shallow in
-    let room : procedures_of (joined w.groups) ≤ q = subst (λ ds. procedures_of ds ≤ q) w.declarations w.few_procedures in
+    let shallow : AllByRecursion IsShallowDeclaration (joined_groups w.groups) = subst (AllByRecursion IsShallowDeclaration) w.declarations w.shallow in
+    let room : procedures_counted (joined_groups w.groups) ≤ q = subst (λ ds. procedures_counted ds ≤ q) w.declarations w.few_procedures in
     program-joined (expression_at end) end IsShallow (expression_at-complete end) p b v q ts w.groups w.spelled shallow w.few_variables room ∙ ap Ok (sym w.declarations)

@@ -18,7 +18,7 @@ use Rattle.boogie_parse.specs.GrammarProgram.{Head}
 use Rattle.boogie_parse.specs.ListReading.{◌>>=◌, Possible, there, one, one_there, seen, behind, name_at, new_name, with_front, more_by, separated, name_item, names_at, repeated_by, repeated, group_at, variables_at, declared_behind, opened_by, opened, listed_by, formals_at, results_by, results_at, expression_at, expression_item, expressions_at, arguments_at, guard_by, guard_at, claim_at, condition_behind, invariant_by, invariant_at, invariant_item, invariants_at}
 use Rattle.boogie_parse.specs.StatementReading.{Inside, other_by, else_by, assert_at, assume_at, assign_at, called_at, call_into, call_by, call_at, named_by, named_at, loop_at, branch_by, statement_by, statement_at, statement_item, list_at, no_block, block_by, no_branch, inside_at}
 use Rattle.boogie_parse.specs.ProgramReading.{local_by, local_at, locals_at, head_at, room_behind, requires_at, ensures_at, claimed_by, claimed_at, must_stand, free_at, specification_by, specification_at, specification_item, specifications_at, axiom_at, body_at, procedure_by, procedure_at, implementation_at, new_procedure, constants_at, globals_at, declaration_by, declaration_at, declarations_at, program_at}
-use Rattle.boogie_parse.specs.GrammarLimits.{procedures_of}
+use Rattle.boogie_parse.specs.GrammarLimits.{procedures_counted}
 use Rattle.boogie_parse.specs.ProgramGrowth.{Keeps}
 use Rattle.boogie_parse.specs.ExpressionReading.{expression}
 use Rattle.boogie_parse.specs.ExpressionLaws.{Grows}
@@ -462,7 +462,7 @@ module _ (IsSame : Which → Type 0) where
 
         declarations_keep : (n m : ℕ) (ts : List Symbol) → MoreProcedures n m → Keeps IsSame (declarations_at f end p b v n ts) (declarations_at g end q c w m ts)
         unfolding declarations_at
-        declarations_keep n m ts low = repeated_keeps (IsSame which.Procedures) (declaration_at f end p b v) (declaration_at g end q c w) procedures_of declaration_keeps (length ts) n m ts low
+        declarations_keep n m ts low = repeated_keeps (IsSame which.Procedures) (declaration_at f end p b v) (declaration_at g end q c w) procedures_counted declaration_keeps (length ts) n m ts low
 
         pub program_keeps : (n m : ℕ) (ts : List Symbol) → MoreProcedures n m → Keeps IsSame (program_at f end p b v n ts) (program_at g end q c w m ts)
         unfolding program_at

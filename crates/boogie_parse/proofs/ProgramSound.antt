@@ -16,8 +16,8 @@ use Rattle.boogie_parse.specs.Grammar.{Is}
 use Rattle.boogie_parse.specs.GrammarLists.{ReadsNames, ReadsDeclared, declared}
 use Rattle.boogie_parse.specs.GrammarStatements.{ReadsList}
 use Rattle.boogie_parse.specs.GrammarProgram as grammar
-use Rattle.boogie_parse.specs.GrammarProgram.{ReadsSpecification, ReadsSpecifications, ReadsLocals, ReadsBody, Head, ReadsHead, procedure_of, ReadsDeclaration, ReadsProgram, joined}
-use Rattle.boogie_parse.specs.GrammarLimits.{IsShallowBlock, IsShallowSpecification, IsShallowDeclaration, variables_of, procedures_of}
+use Rattle.boogie_parse.specs.GrammarProgram.{ReadsSpecification, ReadsSpecifications, ReadsLocals, ReadsBody, Head, ReadsHead, procedure_read, ReadsDeclaration, ReadsProgram, joined_groups}
+use Rattle.boogie_parse.specs.GrammarLimits.{IsShallowBlock, IsShallowSpecification, IsShallowDeclaration, variables_counted, procedures_counted}
 use Rattle.boogie_parse.specs.ListReading.{seen, behind, opened, name_at, listed_names, declared_behind, formals_at, results_at, claim_at, condition_behind}
 use Rattle.boogie_parse.specs.StatementReading.{inside_at, list_at}
 use Rattle.boogie_parse.specs.ProgramReading.{local_by, local_at, locals_at, modifies_by, modifies_at, head_at, room_behind, finished, requires_at, ensures_at, claimed_by, claimed_at, must_stand, free_at, specification_by, specification_at, specification_item, specifications_at, axiom_at, body_at, procedure_by, procedure_at, implementation_at, new_procedure, constants_at, globals_at, declaration_by, declaration_at, declarations_at, program_at}
@@ -97,19 +97,19 @@ shallow_globals : (vs : List Vary) → AllByRecursion IsShallowDeclaration (map 
 shallow_globals [] = tt
 shallow_globals (v ∷ vs) = (tt, shallow_globals vs)
 
-pub count_constants : (vs : List Vary) → variables_of (map Const vs) ≡ length vs
+pub count_constants : (vs : List Vary) → variables_counted (map Const vs) ≡ length vs
 count_constants [] = refl
 count_constants (v ∷ vs) = ap suc (count_constants vs)
 
-pub count_globals : (vs : List Vary) → variables_of (map Global vs) ≡ length vs
+pub count_globals : (vs : List Vary) → variables_counted (map Global vs) ≡ length vs
 count_globals [] = refl
 count_globals (v ∷ vs) = ap suc (count_globals vs)
 
-pub no_procedure_constants : (vs : List Vary) → procedures_of (map Const vs) ≡ 0
+pub no_procedure_constants : (vs : List Vary) → procedures_counted (map Const vs) ≡ 0
 no_procedure_constants [] = refl
 no_procedure_constants (v ∷ vs) = no_procedure_constants vs
 
-pub no_procedure_globals : (vs : List Vary) → procedures_of (map Global vs) ≡ 0
+pub no_procedure_globals : (vs : List Vary) → procedures_counted (map Global vs) ≡ 0
 no_procedure_globals [] = refl
 no_procedure_globals (v ∷ vs) = no_procedure_globals vs
 
@@ -117,17 +117,17 @@ no_procedure_globals (v ∷ vs) = no_procedure_globals vs
 pub record IsDeclarationRead (p b v q : ℕ) (ts : List Symbol) (ds : List Declaration) (r : List Symbol) : Type 0 where
   pub spelled : ReadsDeclaration p b ts ds r
   shallow : AllByRecursion IsShallowDeclaration ds
-  few : variables_of ds ≤ v
-  procedures : procedures_of ds ≤ q
+  few : variables_counted ds ≤ v
+  procedures : procedures_counted ds ≤ q
 
 -- the declarations of a text that ends there are a program
 record IsProgramRead (p b v q : ℕ) (ts : List Symbol) (ds : List Declaration) (r : List Symbol) : Type 0 where
   groups : List (List Declaration)
   pub spelled : r ≡ [] → ReadsProgram p b ts groups
-  declarations : ds ≡ joined groups
+  declarations : ds ≡ joined_groups groups
   shallow : AllByRecursion IsShallowDeclaration ds
-  few : AllByRecursion (λ us. variables_of us ≤ v) groups
-  procedures : procedures_of ds ≤ q
+  few : AllByRecursion (λ us. variables_counted us ≤ v) groups
+  procedures : procedures_counted ds ≤ q
 
 -- a body, within the limits, with so many locals at most
 pub record IsBodyRead (p b n : ℕ) (ts : List Symbol) (x : ProcedureBody) (r : List Symbol) : Type 0 where
@@ -168,21 +168,21 @@ module _ (p b v : ℕ) where
   next_of_specifications n ts xs m ys r i h = rw i.list (grammar.next_specification i.holds.0 h.0, (i.holds.1, h.1))
 
   without_body : (q : ℕ) (ts m : List Symbol) (h : Head) (semicolon : Read Span) (ss : Read (List Specification)) → IsHeadRead p v fixed.Procedure ts h m → Stands fixed.Semicolon m semicolon
-      → AreSpecifications semicolon.rest ss.value ss.rest → IsDeclarationRead p b v (suc q) ts (Declares (procedure_of h ss.value None) ∷ []) ss.rest
+      → AreSpecifications semicolon.rest ss.value ss.rest → IsDeclarationRead p b v (suc q) ts (Declares (procedure_read h ss.value None) ∷ []) ss.rest
   without_body q ts m h semicolon ss front s specs =
       let spelled : ReadsHead p fixed.Procedure ts h (s.symbol ∷ semicolon.rest) = subst (ReadsHead p fixed.Procedure ts h) s.all front.0 in
       let few = front.1 in
       record { spelled = grammar.without_body s.symbol spelled s.is specs.0; shallow = ((specs.1, tt), tt); few = omega arith; procedures = omega arith }
 
   with_body : (q : ℕ) (ts m : List Symbol) (h : Head) (ss : Read (List Specification)) (x : Read ProcedureBody) → IsHeadRead p v fixed.Procedure ts h m
-      → AreSpecifications m ss.value ss.rest → IsBodyRead p b (room_behind v h) ss.rest x.value x.rest → IsDeclarationRead p b v (suc q) ts (Declares (procedure_of h ss.value (Some x.value)) ∷ []) x.rest
+      → AreSpecifications m ss.value ss.rest → IsBodyRead p b (room_behind v h) ss.rest x.value x.rest → IsDeclarationRead p b v (suc q) ts (Declares (procedure_read h ss.value (Some x.value)) ∷ []) x.rest
   with_body q ts m h ss x front specs body =
       let few = front.1 in
       let locals = body.few in
       record { spelled = grammar.with_body front.0 specs.0 body.spelled; shallow = ((specs.1, body.shallow), tt); few = omega arith; procedures = omega arith }
 
   implemented : (q : ℕ) (ts m : List Symbol) (h : Head) (x : Read ProcedureBody) → IsHeadRead p v fixed.Implementation ts h m
-      → IsBodyRead p b (room_behind v h) m x.value x.rest → IsDeclarationRead p b v q ts (Implements (procedure_of h [] (Some x.value)) ∷ []) x.rest
+      → IsBodyRead p b (room_behind v h) m x.value x.rest → IsDeclarationRead p b v q ts (Implements (procedure_read h [] (Some x.value)) ∷ []) x.rest
   implemented q ts m h x front body =
       let few = front.1 in
       let locals = body.few in
@@ -199,7 +199,7 @@ module _ (p b v : ℕ) where
   }
 
   next_of_program : (q : ℕ) (ts : List Symbol) (xs : List Declaration) (m : List Symbol) (ys : List Declaration) (r : List Symbol) → IsDeclarationRead p b v q ts xs m
-      → IsProgramRead p b v (q - procedures_of xs) m ys r → IsProgramRead p b v q ts (xs ++ ys) r
+      → IsProgramRead p b v (q - procedures_counted xs) m ys r → IsProgramRead p b v q ts (xs ++ ys) r
   next_of_program q ts xs m ys r i h =
       let few = i.procedures in
       let more = h.procedures in
@@ -209,7 +209,7 @@ module _ (p b v : ℕ) where
         declarations = ap (λ us. xs ++ us) h.declarations;
         shallow = both_shallow xs ys i.shallow h.shallow;
         few = (i.few, h.few);
-        procedures = rw (procedures_joined xs ys) (let k : procedures_of xs + procedures_of ys ≤ q = omega arith in k);
+        procedures = rw (procedures_joined xs ys) (let k : procedures_counted xs + procedures_counted ys ≤ q = omega arith in k);
       }
 
 module _ (reads : ℕ → List Symbol → Outcome Expression) (end : Span) (p b v : ℕ)
@@ -360,7 +360,7 @@ module _ (reads : ℕ → List Symbol → Outcome Expression) (end : Span) (p b 
   declarations-sound : (q : ℕ) (ts : List Symbol) → IfOk (declarations_at reads end p b v q ts) (λ x. IsProgramRead p b v q ts x.value x.rest)
   unfolding declarations_at
   declarations-sound q ts =
-      repeated-sound (declaration_at reads end p b v) procedures_of (IsDeclarationRead p b v) (IsProgramRead p b v) (no_more p b v) (next_of_program p b v) declaration-sound (length ts) q ts
+      repeated-sound (declaration_at reads end p b v) procedures_counted (IsDeclarationRead p b v) (IsProgramRead p b v) (no_more p b v) (next_of_program p b v) declaration-sound (length ts) q ts
 
   finished-sound : (q : ℕ) (ts : List Symbol) (ds : Read (List Declaration)) (rest : List Symbol) → IsProgramRead p b v q ts ds.value rest → IfOk (finished end ds rest) (Spells p b v q ts)
   finished-sound q ts ds [] h = record { groups = h.groups; spelled = h.spelled refl; declarations = h.declarations; shallow = h.shallow; few_variables = h.few; few_procedures = h.procedures }

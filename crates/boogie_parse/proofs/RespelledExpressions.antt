@@ -14,7 +14,7 @@ use Rattle.boogie_parse.specs.declared.symbols.Sign.{Sign}
 use Rattle.boogie_parse.specs.declared.symbols.Sign.TheVariants as signs
 use Rattle.boogie_parse.specs.declared.symbols.Symbol.{Symbol}
 use Rattle.boogie_parse.specs.Grammar
-use Rattle.boogie_parse.specs.Grammar.{Is, Reads, place, links, compares, is_chain}
+use Rattle.boogie_parse.specs.Grammar.{Is, Reads, symbols_place, links, compares, is_chain}
 use Rattle.boogie_parse.specs.Spelled.{led, grouped_signs, expression_signs, operator_sign}
 use Rattle.boogie_parse.specs.Respelled.{IsUnsigned, AreUnsigned}
 use Rattle.boogie_parse.proofs.RespelledTools.{ReadsAgain, Respells, led_by, led_after, up_to}
@@ -215,7 +215,7 @@ comparison_operator f o e = absurd (let n : None ≡ Some o = e in cc)
 
 -- two operands at the levels that the operator asks for
 operation_reads : {p : ℕ} {ts m r : List Symbol} {a b : Expression} (o : Op) (t : Symbol) → Reads p (left_of (level_of_operator o)) ts a (t ∷ m) → Is t (operator_sign o) →
-    Reads p (right_of (level_of_operator o)) m b r → Reads p (level_of_operator o) ts (Bin (place ts) o a b) r
+    Reads p (right_of (level_of_operator o)) m b r → Reads p (level_of_operator o) ts (Bin (symbols_place ts) o a b) r
 operation_reads op.Iff t h is g = Grammar.more t h is refl g
 operation_reads op.Implies t h is g = Grammar.implied t h is g
 operation_reads op.And t h is g = Grammar.more t h is refl g
@@ -287,7 +287,7 @@ operation_plain s o a b h g us behind e =
     let x = up_to (h us (led (operator_sign o) (back ++ behind)) (e ∙ append_assoc front (led (operator_sign o) back) behind)) in
     let y = g x.rest behind x.follows in
     record {
-      value = Bin (place us) o x.value y.value;
+      value = Bin (symbols_place us) o x.value y.value;
       rest = y.rest;
       reads = operation_reads o x.next x.reads x.is y.reads;
       like = same_operation o x.value y.value a b x.like y.like;
@@ -330,9 +330,9 @@ stands {p} (Grammar.more {l = l} {ts = ts} {a = a} {b = b} {f = f} {o = o} t h i
     let c = chain_operator l f o k in
     let x : Stands p (left_of (level_of_operator o)) a = subst (λ k. Stands p k a) (sym (ap left_of c.level ∙ c.left)) (stands h w) in
     let y : Stands p (right_of (level_of_operator o)) b = subst (λ k. Stands p k b) (sym (ap right_of c.level)) (stands g (expression-rest h w).1) in
-    subst (λ k. Stands p k (Bin (place ts) o a b)) c.level (operation (place ts) o a b x y)
+    subst (λ k. Stands p k (Bin (symbols_place ts) o a b)) c.level (operation (symbols_place ts) o a b x y)
 stands (Grammar.unimplied {e = e} h) w = stands_up (stands_implication (level_of e)) (stands h w)
-stands (Grammar.implied {ts = ts} {a = a} {b = b} t h is g) w = operation (place ts) op.Implies a b (stands h w) (stands g (expression-rest h w).1)
+stands (Grammar.implied {ts = ts} {a = a} {b = b} t h is g) w = operation (symbols_place ts) op.Implies a b (stands h w) (stands g (expression-rest h w).1)
 stands (Grammar.conjoined {e = e} h) w = stands_up (stands_conjoined (level_of e)) (stands h w)
 stands (Grammar.disjoined {e = e} h) w = stands_up (stands_disjoined (level_of e)) (stands h w)
 stands (Grammar.uncompared {e = e} h) w = stands_up (stands_comparison (level_of e)) (stands h w)
@@ -340,7 +340,7 @@ stands {p} (Grammar.compared {ts = ts} {a = a} {b = b} {f = f} {o = o} t h is k 
     let c = comparison_operator f o k in
     let x : Stands p (left_of (level_of_operator o)) a = subst (λ k. Stands p (left_of k) a) (sym c) (stands h w) in
     let y : Stands p (right_of (level_of_operator o)) b = subst (λ k. Stands p (right_of k) b) (sym c) (stands g (expression-rest h w).1) in
-    subst (λ k. Stands p k (Bin (place ts) o a b)) c (operation (place ts) o a b x y)
+    subst (λ k. Stands p k (Bin (symbols_place ts) o a b)) c (operation (symbols_place ts) o a b x y)
 stands (Grammar.unsigned {e = e} h) w = stands_up (stands_unary (level_of e)) (stands h w)
 stands (Grammar.negated {e = e} t is h) w =
     alone refl (prefixed_plain e fixed.Minus Neg (Neg nowhere) (λ s x. refl) (λ t ts r x is h. Grammar.negated t is h) t.span (stands h w.1))

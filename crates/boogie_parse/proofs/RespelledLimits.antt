@@ -11,8 +11,8 @@ use Rattle.boogie_parse.specs.declared.symbols.Fixed.{Fixed}
 use Rattle.boogie_parse.specs.declared.symbols.Symbol.{Symbol}
 use Rattle.boogie_parse.specs.Lexed.{lexed}
 use Rattle.boogie_parse.specs.Symbols.{spellings, spelled, fixed_or_name, sign_of, symbol}
-use Rattle.boogie_parse.specs.GrammarProgram.{joined}
-use Rattle.boogie_parse.specs.GrammarLimits.{IsProgram, depth, IsShallow, IsShallowGuard, IsShallowStatement, IsShallowBlock, IsShallowSpecification, EachOfBody, EachOfProcedure, IsShallowDeclaration, locals_of, variables_of_procedure, variables_of, procedures_of}
+use Rattle.boogie_parse.specs.GrammarProgram.{joined_groups}
+use Rattle.boogie_parse.specs.GrammarLimits.{IsProgram, depth, IsShallow, IsShallowGuard, IsShallowStatement, IsShallowBlock, IsShallowSpecification, EachOfBody, EachOfProcedure, IsShallowDeclaration, locals_counted, variables_of_procedure, variables_counted, procedures_counted}
 use Rattle.boogie_parse.specs.ProgramSpelling.{Spells}
 use Rattle.boogie_parse.specs.Spelled.{program_signs}
 use Rattle.boogie_parse.specs.Respelled.{signs_of, IsUnsigned, AreUnsigned, alone, SpellsAgain, IsProgramAgain}
@@ -88,21 +88,21 @@ shallow-declaration (Implements p) = shallow-procedure p
 
 -- ---- variables and procedures
 
-locals-bare : (b : Option ProcedureBody) → locals_of (bare_body b) ≡ locals_of b
+locals-bare : (b : Option ProcedureBody) → locals_counted (bare_body b) ≡ locals_counted b
 locals-bare None = refl
 locals-bare (Some b) = length-map b.locals bare_variable
 
 variables-bare : (p : Procedure) → variables_of_procedure (bare_procedure p) ≡ variables_of_procedure p
 variables-bare p = rw (length-map p.params bare_variable, length-map p.results bare_variable, locals-bare p.body) refl
 
-variables-declaration : (d : Declaration) → variables_of (bare_declaration d ∷ []) ≡ variables_of (d ∷ [])
+variables-declaration : (d : Declaration) → variables_counted (bare_declaration d ∷ []) ≡ variables_counted (d ∷ [])
 variables-declaration (Const x) = refl
 variables-declaration (Global x) = refl
 variables-declaration (Axiom s e) = refl
 variables-declaration (Declares p) = ap (λ n. n + 0) (variables-bare p)
 variables-declaration (Implements p) = ap (λ n. n + 0) (variables-bare p)
 
-procedures-bare : (ds : List Declaration) → procedures_of (map bare_declaration ds) ≡ procedures_of ds
+procedures-bare : (ds : List Declaration) → procedures_counted (map bare_declaration ds) ≡ procedures_counted ds
 procedures-bare [] = refl
 procedures-bare (Const x ∷ ds) = procedures-bare ds
 procedures-bare (Global x ∷ ds) = procedures-bare ds
@@ -121,32 +121,32 @@ carried P blind (x ∷ ds) (y ∷ es) e h =
     (subst (λ A. A) same h.0, carried P blind ds es (more_signs e) h.1)
 
 abbrev IsSmall : ℕ → Declaration → Type 0
-IsSmall v d = variables_of (d ∷ []) ≤ v
+IsSmall v d = variables_counted (d ∷ []) ≤ v
 
-more-variables : (d : Declaration) (ds : List Declaration) → (variables_of (d ∷ []) ≤ variables_of (d ∷ ds)) × (variables_of ds ≤ variables_of (d ∷ ds))
+more-variables : (d : Declaration) (ds : List Declaration) → (variables_counted (d ∷ []) ≤ variables_counted (d ∷ ds)) × (variables_counted ds ≤ variables_counted (d ∷ ds))
 more-variables (Const x) ds = (omega arith, omega arith)
 more-variables (Global x) ds = (omega arith, omega arith)
 more-variables (Axiom s e) ds = (omega arith, omega arith)
 more-variables (Declares p) ds = (omega arith, omega arith)
 more-variables (Implements p) ds = (omega arith, omega arith)
 
-small-each : (v : ℕ) (ds : List Declaration) → variables_of ds ≤ v → AllByRecursion (IsSmall v) ds
+small-each : (v : ℕ) (ds : List Declaration) → variables_counted ds ≤ v → AllByRecursion (IsSmall v) ds
 small-each v [] h = tt
 small-each v (d ∷ ds) h =
     let m = more-variables d ds in
-    let one : variables_of (d ∷ []) ≤ variables_of (d ∷ ds) = m.0 in
-    let others : variables_of ds ≤ variables_of (d ∷ ds) = m.1 in
+    let one : variables_counted (d ∷ []) ≤ variables_counted (d ∷ ds) = m.0 in
+    let others : variables_counted ds ≤ variables_counted (d ∷ ds) = m.1 in
     (omega arith, small-each v ds (omega arith))
 
-small-joined : (v : ℕ) (groups : List (List Declaration)) → AllByRecursion (λ ds. variables_of ds ≤ v) groups → AllByRecursion (IsSmall v) (joined groups)
+small-joined : (v : ℕ) (groups : List (List Declaration)) → AllByRecursion (λ ds. variables_counted ds ≤ v) groups → AllByRecursion (IsSmall v) (joined_groups groups)
 small-joined v [] h = tt
-small-joined v (ds ∷ groups) h = all_joined (IsSmall v) ds (joined groups) (small-each v ds h.0) (small-joined v groups h.1)
+small-joined v (ds ∷ groups) h = all_joined (IsSmall v) ds (joined_groups groups) (small-each v ds h.0) (small-joined v groups h.1)
 
-small-alone : (v : ℕ) (ds : List Declaration) → AllByRecursion (IsSmall v) ds → AllByRecursion (λ g. variables_of g ≤ v) (alone ds)
+small-alone : (v : ℕ) (ds : List Declaration) → AllByRecursion (IsSmall v) ds → AllByRecursion (λ g. variables_counted g ≤ v) (alone ds)
 small-alone v [] h = tt
 small-alone v (d ∷ ds) h = (h.0, small-alone v ds h.1)
 
-joined-alone : (ds : List Declaration) → ds ≡ joined (alone ds)
+joined-alone : (ds : List Declaration) → ds ≡ joined_groups (alone ds)
 joined-alone [] = refl
 joined-alone (d ∷ ds) = ap (λ es. d ∷ es) (joined-alone ds)
 
@@ -155,8 +155,8 @@ pub program-spelled-again : (p b v q : ℕ) (ts us : List Symbol) (program : Lis
 program-spelled-again p b v q ts us program s w e =
     let a = program-again s.spelled w us (e ∙ ap program_signs s.declarations) in
     let alike : AreAlike program a.again = ap (map bare_declaration) s.declarations ∙ a.alike in
-    let count : procedures_of a.again ≡ procedures_of program = sym (procedures-bare a.again) ∙ ap procedures_of (sym alike) ∙ procedures-bare program in
-    let few = carried (IsSmall v) (λ d. ap (λ n. n ≤ v) (variables-declaration d)) (joined s.groups) a.again a.alike (small-joined v s.groups s.few_variables) in
+    let count : procedures_counted a.again ≡ procedures_counted program = sym (procedures-bare a.again) ∙ ap procedures_counted (sym alike) ∙ procedures-bare program in
+    let few = carried (IsSmall v) (λ d. ap (λ n. n ≤ v) (variables-declaration d)) (joined_groups s.groups) a.again a.alike (small-joined v s.groups s.few_variables) in
     record {
       again = a.again;
       spells = record {

@@ -12,7 +12,7 @@ use Rattle.boogie_parse.specs.declared.symbols.Sign.{Sign}
 use Rattle.boogie_parse.specs.declared.symbols.Symbol.{Symbol}
 use Rattle.boogie_parse.specs.Grammar.{Is}
 use Rattle.boogie_parse.specs.GrammarLists as lists
-use Rattle.boogie_parse.specs.GrammarLists.{IsName, ReadsNames, ReadsExpressions, ReadsArguments, ReadsGuard, ReadsCondition, ReadsInvariants, type_of, ReadsGroup, ReadsVariables, ReadsDeclared, ReadsFormals, ReadsResults}
+use Rattle.boogie_parse.specs.GrammarLists.{IsName, ReadsNames, ReadsExpressions, ReadsArguments, ReadsGuard, ReadsCondition, ReadsInvariants, type_named, ReadsGroup, ReadsVariables, ReadsDeclared, ReadsFormals, ReadsResults}
 use Rattle.boogie_parse.specs.Spelled.{led, name_sign, expression_signs, continued_signs, names_signs, expressions_signs, type_sign, variables_signs, enclosed_signs, guard_signs, condition_signs, invariants_signs, declared_signs, results_signs}
 use Rattle.boogie_parse.specs.Respelled.{signs_of, AreUnsigned}
 use Rattle.boogie_parse.proofs.RespelledTools.{Respells, led_by, led_after, up_to}
@@ -121,7 +121,7 @@ invariants-again (lists.next_invariant {i = i} {is = is} d ds) w us behind s =
 
 -- ---- variables: each has its type behind it
 
-type_back : (ty : Ty) → type_of (type_sign ty) ≡ Some ty
+type_back : (ty : Ty) → type_named (type_sign ty) ≡ Some ty
 type_back types.Int = refl
 type_back types.Bool = refl
 

@@ -12,7 +12,7 @@ use Rattle.boogie_parse.specs.declared.symbols.Sign.{Sign}
 use Rattle.boogie_parse.specs.declared.symbols.Symbol.{Symbol}
 use Rattle.boogie_parse.specs.GrammarLists.{ReadsFormals, ReadsResults}
 use Rattle.boogie_parse.specs.GrammarProgram as programs
-use Rattle.boogie_parse.specs.GrammarProgram.{ReadsSpecification, ReadsSpecifications, ReadsLocals, ReadsBody, Head, ReadsHead, procedure_of, ReadsDeclaration, ReadsProgram, joined}
+use Rattle.boogie_parse.specs.GrammarProgram.{ReadsSpecification, ReadsSpecifications, ReadsLocals, ReadsBody, Head, ReadsHead, procedure_read, ReadsDeclaration, ReadsProgram, joined_groups}
 use Rattle.boogie_parse.specs.Spelled.{led, name_sign, expression_signs, names_signs, variables_signs, enclosed_signs, block_signs, specification_signs, specifications_signs, declared_signs, locals_signs, results_signs, body_signs, declaration_signs, program_signs}
 use Rattle.boogie_parse.specs.Respelled.{signs_of, AreUnsigned, ReadsProgramAgain}
 use Rattle.boogie_parse.proofs.RespelledTools.{Respells, no_sign, led_by, led_after, up_to}
@@ -128,17 +128,17 @@ parts_apart front end conditions body behind =
     append_assoc ((front ++ end) ++ conditions) body behind ∙ append_assoc (front ++ end) conditions (body ++ behind) ∙ append_assoc front end (conditions ++ (body ++ behind))
 
 same_declared : (h i : Head) (ss us : List Specification) (x y : Option ProcedureBody) → bare_head h ≡ bare_head i → map bare_specification ss ≡ map bare_specification us → bare_body x ≡ bare_body y →
-    bare_declaration (Declares (procedure_of h ss x)) ≡ bare_declaration (Declares (procedure_of i us y))
+    bare_declaration (Declares (procedure_read h ss x)) ≡ bare_declaration (Declares (procedure_read i us y))
 same_declared h i ss us x y d e f =
-    ap (λ h. Declares (procedure_of h (map bare_specification ss) (bare_body x))) d
-    ∙ ap (λ ss. Declares (procedure_of (bare_head i) ss (bare_body x))) e
-    ∙ ap (λ x. Declares (procedure_of (bare_head i) (map bare_specification us) x)) f
+    ap (λ h. Declares (procedure_read h (map bare_specification ss) (bare_body x))) d
+    ∙ ap (λ ss. Declares (procedure_read (bare_head i) ss (bare_body x))) e
+    ∙ ap (λ x. Declares (procedure_read (bare_head i) (map bare_specification us) x)) f
 
 same_implemented : (h i : Head) (x y : Option ProcedureBody) → bare_head h ≡ bare_head i → bare_body x ≡ bare_body y →
-    bare_declaration (Implements (procedure_of h [] x)) ≡ bare_declaration (Implements (procedure_of i [] y))
+    bare_declaration (Implements (procedure_read h [] x)) ≡ bare_declaration (Implements (procedure_read i [] y))
 same_implemented h i x y d f =
-    ap (λ h. Implements (procedure_of h [] (bare_body x))) d
-    ∙ ap (λ x. Implements (procedure_of (bare_head i) [] x)) f
+    ap (λ h. Implements (procedure_read h [] (bare_body x))) d
+    ∙ ap (λ x. Implements (procedure_read (bare_head i) [] x)) f
 
 abbrev SpecificationsAgain : ℕ → List Specification → Type 0
 SpecificationsAgain p ss = Respells (ReadsSpecifications p) (map bare_specification) (specifications_signs ss) ss
@@ -160,13 +160,13 @@ module _ {p b : ℕ} where
       let a = up_to (h m (led fixed.Semicolon behind) (k ∙ append_assoc (expression_signs e) (led fixed.Semicolon []) behind)) in
       record { value = Axiom t.span a.value; rest = a.rest; reads = programs.axioms t a.next it a.reads a.is; like = ap (Axiom nowhere) a.like; follows = a.follows })
 
-  procedure-again : (h : Head) (ss : List Specification) → HeadAgain p fixed.Procedure h → SpecificationsAgain p ss → DeclarationAgain p b (Declares (procedure_of h ss None))
+  procedure-again : (h : Head) (ss : List Specification) → HeadAgain p fixed.Procedure h → SpecificationsAgain p ss → DeclarationAgain p b (Declares (procedure_read h ss None))
   procedure-again h ss i j us behind e =
       let conditions : List Sign = specifications_signs ss in
       let a = up_to (i us (led fixed.Semicolon (conditions ++ behind)) (e ∙ parts_apart (head_signs fixed.Procedure h) (led fixed.Semicolon []) conditions [] behind)) in
       let c = j a.rest behind a.follows in
       record {
-        value = Declares (procedure_of a.value c.value None);
+        value = Declares (procedure_read a.value c.value None);
         rest = c.rest;
         reads = programs.without_body a.next a.reads a.is c.reads;
         like = same_declared a.value h c.value ss None None a.like c.like refl;
@@ -174,7 +174,7 @@ module _ {p b : ℕ} where
       }
 
   procedure-with-body-again : (h : Head) (ss : List Specification) (x : ProcedureBody) → HeadAgain p fixed.Procedure h → SpecificationsAgain p ss → BodyAgain p b x →
-      DeclarationAgain p b (Declares (procedure_of h ss (Some x)))
+      DeclarationAgain p b (Declares (procedure_read h ss (Some x)))
   procedure-with-body-again h ss x i j k us behind e =
       let conditions : List Sign = specifications_signs ss in
       let body : List Sign = body_signs (Some x) in
@@ -182,20 +182,20 @@ module _ {p b : ℕ} where
       let c = j a.rest (body ++ behind) a.follows in
       let d = k c.rest behind c.follows in
       record {
-        value = Declares (procedure_of a.value c.value (Some d.value));
+        value = Declares (procedure_read a.value c.value (Some d.value));
         rest = d.rest;
         reads = programs.with_body a.reads c.reads d.reads;
         like = same_declared a.value h c.value ss (Some d.value) (Some x) a.like c.like (ap Some d.like);
         follows = d.follows;
       }
 
-  implementation-again : (h : Head) (x : ProcedureBody) → HeadAgain p fixed.Implementation h → BodyAgain p b x → DeclarationAgain p b (Implements (procedure_of h [] (Some x)))
+  implementation-again : (h : Head) (x : ProcedureBody) → HeadAgain p fixed.Implementation h → BodyAgain p b x → DeclarationAgain p b (Implements (procedure_read h [] (Some x)))
   implementation-again h x i k us behind e =
       let body : List Sign = body_signs (Some x) in
       let a = i us (body ++ behind) (e ∙ parts_apart (head_signs fixed.Implementation h) [] [] body behind) in
       let d = k a.rest behind a.follows in
       record {
-        value = Implements (procedure_of a.value [] (Some d.value));
+        value = Implements (procedure_read a.value [] (Some d.value));
         rest = d.rest;
         reads = programs.implementation a.reads d.reads;
         like = same_implemented a.value h (Some d.value) (Some x) a.like (ap Some d.like);
@@ -223,10 +223,10 @@ pub all_joined : {X : Type 0} (P : X → Type 0) (xs ys : List X) → AllByRecur
 all_joined P [] ys h g = g
 all_joined P (x ∷ xs) ys h g = (h.0, all_joined P xs ys h.1 g)
 
-groups-again : {p b : ℕ} {ts : List Symbol} {groups : List (List Declaration)} → ReadsProgram p b ts groups → AreUnsigned ts → AllByRecursion (DeclarationAgain p b) (joined groups)
+groups-again : {p b : ℕ} {ts : List Symbol} {groups : List (List Declaration)} → ReadsProgram p b ts groups → AreUnsigned ts → AllByRecursion (DeclarationAgain p b) (joined_groups groups)
 groups-again programs.no_declaration w = tt
 groups-again {p} {b} (programs.next_declaration {ds = ds} {groups = groups} d e) w =
-    all_joined (DeclarationAgain p b) ds (joined groups) (declarations-again d w) (groups-again e (declaration-rest d w))
+    all_joined (DeclarationAgain p b) ds (joined_groups groups) (declarations-again d w) (groups-again e (declaration-rest d w))
 
 no_more : {p b : ℕ} (us : List Symbol) → signs_of us ≡ [] → ReadsProgramAgain p b us []
 no_more [] e = record { again = []; reads = programs.no_declaration; alike = refl }
@@ -241,5 +241,5 @@ each-again (d ∷ ds) h us e =
 
 -- The signs of a program that was read are read as it, with no more parentheses and blocks open.
 pub program-again : {p b : ℕ} {ts : List Symbol} {groups : List (List Declaration)} → ReadsProgram p b ts groups → AreUnsigned ts →
-    (us : List Symbol) → signs_of us ≡ program_signs (joined groups) → ReadsProgramAgain p b us (joined groups)
-program-again {groups = groups} d w us e = each-again (joined groups) (groups-again d w) us e
+    (us : List Symbol) → signs_of us ≡ program_signs (joined_groups groups) → ReadsProgramAgain p b us (joined_groups groups)
+program-again {groups = groups} d w us e = each-again (joined_groups groups) (groups-again d w) us e

@@ -8,7 +8,7 @@ use Rattle.boogie_tree.specs.Apart.{nowhere, bare, bare_name, bare_guard, bare_i
 use Rattle.boogie_parse.specs.declared.symbols.Fixed.TheVariants as fixed
 use Rattle.boogie_parse.specs.declared.symbols.Sign.{Sign}
 use Rattle.boogie_parse.specs.declared.symbols.Symbol.{Symbol}
-use Rattle.boogie_parse.specs.Grammar.{Is, place, Reads}
+use Rattle.boogie_parse.specs.Grammar.{Is, symbols_place, Reads}
 use Rattle.boogie_parse.specs.GrammarLists.{ReadsNames, ReadsExpressions, ReadsArguments, ReadsGuard, ReadsInvariants, last_name, next_name}
 use Rattle.boogie_parse.specs.GrammarStatements as statements
 use Rattle.boogie_parse.specs.GrammarStatements.{ReadsStatement, ReadsIf, ReadsBlock, ReadsList}
@@ -104,7 +104,7 @@ module _ {p b : ℕ} where
       let a = up_to (h us (led fixed.Becomes (values ++ behind)) (n ∙ append_assoc (names_signs xs) (led fixed.Becomes values) behind)) in
       let c = up_to (g a.rest (led fixed.Semicolon behind) (a.follows ∙ append_assoc (expressions_signs es) (led fixed.Semicolon []) behind)) in
       record {
-        value = Assign (place us) a.value c.value;
+        value = Assign (symbols_place us) a.value c.value;
         rest = c.rest;
         reads = statements.assigns a.next c.next a.reads a.is c.reads c.is;
         like = same_assignment a.like c.like;
@@ -256,7 +256,7 @@ mutual
   statement-again (statements.asserts {e = e} t u is d iu) w = assert-again t.span e (expression-again d w.1)
   statement-again (statements.assumes {e = e} t u is d iu) w = assume-again t.span e (expression-again d w.1)
   statement-again (statements.havocs {xs = xs} t u is d iu) w = havoc-again t.span xs (names-read d)
-  statement-again (statements.assigns {ts = ts} {xs = xs} {es = es} t u d is e iu) w = assign-again (place ts) xs es (names-read d) (expressions-again e (names-rest d w).1)
+  statement-again (statements.assigns {ts = ts} {xs = xs} {es = es} t u d is e iu) w = assign-again (symbols_place ts) xs es (names-read d) (expressions-again e (names-rest d w).1)
   statement-again (statements.calls {f = f} {es = es} t n u is call d iu) w = call-again t.span f es (arguments-again d w.1.1)
   statement-again (statements.calls_into {xs = xs} {f = f} {es = es} t c n u is d ic call e iu) w =
       call-into-again t.span xs f es (targets-named d) (names-read d) (arguments-again e (names-rest d w.1).1.1)

@@ -5,7 +5,7 @@ use Rattle.boogie_tree.specs.Tree.{Declaration}
 use Rattle.boogie_tree.specs.View.{program}
 use Rattle.boogie_tree.specs.Printing.{program_text}
 use Rattle.boogie_parse.specs.declared.fault.Fault.{Fault}
-use Rattle.boogie_parse.specs.GrammarProgram.{joined}
+use Rattle.boogie_parse.specs.GrammarProgram.{joined_groups}
 use Rattle.boogie_parse.specs.GrammarLimits.{IsProgram}
 use Rattle.boogie_parse.specs.PrintedTokens.{HasSigns, IsSpellableProgram}
 use Rattle.boogie_parse.specs.Respelled.{IsProgramAgain}
@@ -20,7 +20,7 @@ program_is_spellable text ds h = subst IsSpellableProgram (sym h.declarations) (
 
 pub printed_again : (text : List ℕ) (ds : List Declaration) → IsProgram text ds → IsProgramAgain (program_text ds) ds
 printed_again text ds h =
-    let s : HasSigns ds = subst HasSigns (sym h.declarations) (program_has_signs (joined h.groups) (program_of h.spelled (lexed_spellable text h.tokens h.lexical))) in
+    let s : HasSigns ds = subst HasSigns (sym h.declarations) (program_has_signs (joined_groups h.groups) (program_of h.spelled (lexed_spellable text h.tokens h.lexical))) in
     text-again text (program_text ds) ds s.0 h s.1 s.2
 
 -- the same of what was parsed

@@ -14,7 +14,7 @@ use Rattle.boogie_parse.specs.declared.symbols.Sign.TheVariants as signs
 use Rattle.boogie_parse.specs.declared.symbols.Symbol.{Symbol}
 use Rattle.boogie_parse.specs.Outcomes.{Read, Outcome, place_or, syntax_fault, limit_fault, refused}
 use Rattle.boogie_parse.specs.GrammarProgram.{Head}
-use Rattle.boogie_parse.specs.GrammarLimits.{procedures_of}
+use Rattle.boogie_parse.specs.GrammarLimits.{procedures_counted}
 use Rattle.boogie_parse.specs.ListReading.{◌>>=◌, read, Possible, there, one, seen, must_be, behind, name_by, name_at, new_name, with_front, more_by, separated, name_item, names_at, type_by, type_said, type_at, listed_names, group_at, variables_at, declared_behind, opened_by, opened, closed, listed_by, formals_at, results_by, results_at, expression_at, expression_item, expressions_at, arguments_at, guard_by, guard_at, claim_at, condition_behind, invariant_by, invariant_at, invariant_item, invariants_at}
 use Rattle.boogie_parse.specs.StatementReading.{Inside, other_by, else_by, break_by, break_at, return_at, havoc_at, goto_at, assert_at, assume_at, assign_at, called_at, call_into, call_by, call_at, named_by, named_at, loop_at, branch_by, statement_by, statement_at, statement_item, list_at, no_block, block_by, no_branch, inside_at}
 use Rattle.boogie_parse.specs.ProgramReading.{local_by, local_at, locals_at, modifies_by, modifies_at, head_at, room_behind, finished, requires_at, ensures_at, claimed_by, claimed_at, must_stand, free_at, specification_by, specification_at, specification_item, specifications_at, axiom_at, body_at, procedure_by, procedure_at, implementation_at, new_procedure, constants_at, globals_at, declaration_by, declaration_at, declarations_at, program_at}
@@ -530,7 +530,7 @@ module _ (reads : ℕ → List Symbol → Outcome Expression) (end : Span) (stea
 
       steady_declarations : (n : ℕ) (ts : List Symbol) → Steady 0 (declarations_at reads end p b v n) ts
       unfolding declarations_at
-      steady_declarations n ts = repeated_steady (declaration_at reads end p b v) procedures_of steady_declaration no_declaration n ts
+      steady_declarations n ts = repeated_steady (declaration_at reads end p b v) procedures_counted steady_declaration no_declaration n ts
 
       -- behind the declarations no limit is left
       no_limit : (ds : Read (List Declaration)) (ts : List Symbol) (kind : Which) (line col : ℕ) → finished end ds ts ≡ Err (faults.Limit kind line col) → ⊥

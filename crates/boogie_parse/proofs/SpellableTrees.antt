@@ -17,7 +17,7 @@ use Rattle.boogie_parse.specs.GrammarLists.{ReadsNames, ReadsExpressions, ReadsA
 use Rattle.boogie_parse.specs.GrammarStatements as statements
 use Rattle.boogie_parse.specs.GrammarStatements.{ReadsStatement, ReadsIf, ReadsBlock, ReadsList}
 use Rattle.boogie_parse.specs.GrammarProgram as programs
-use Rattle.boogie_parse.specs.GrammarProgram.{ReadsSpecification, ReadsSpecifications, ReadsLocals, ReadsBody, Head, ReadsHead, ReadsDeclaration, ReadsProgram, joined}
+use Rattle.boogie_parse.specs.GrammarProgram.{ReadsSpecification, ReadsSpecifications, ReadsLocals, ReadsBody, Head, ReadsHead, ReadsDeclaration, ReadsProgram, joined_groups}
 use Rattle.boogie_parse.specs.PrintedTokens.{IsFreeWord, AreNames, IsLiteral, IsSpellable, AreSpellable, IsSpellableGuard, AreSpellableInvariants, IsSpellableStatement, IsSpellableBlock, IsSpellableSpecification, IsSpellableVariable, AreSpellableVariables, IsSpellableBody, IsSpellableDeclaration, IsSpellableProgram}
 
 -- a name is a free word, and a literal is in range
@@ -213,8 +213,8 @@ declaration_of (programs.implementation x y) h =
     let c = body_of y a.1 in
     ((record { name = a.0.name; params = a.0.params; results = a.0.results; specs = tt; body = c.0 }, tt), c.1)
 
-pub program_of : {p b : ℕ} {ts : List Symbol} {groups : List (List Declaration)} → ReadsProgram p b ts groups → AreSpellableSymbols ts → IsSpellableProgram (joined groups)
+pub program_of : {p b : ℕ} {ts : List Symbol} {groups : List (List Declaration)} → ReadsProgram p b ts groups → AreSpellableSymbols ts → IsSpellableProgram (joined_groups groups)
 program_of programs.no_declaration h = tt
 program_of (programs.next_declaration {ts = ts} {ds = ds} {groups = groups} d rest) h =
     let a = declaration_of d h in
-    all-append IsSpellableDeclaration ds (joined groups) a.0 (program_of rest a.1)
+    all-append IsSpellableDeclaration ds (joined_groups groups) a.0 (program_of rest a.1)

@@ -14,7 +14,7 @@ use Rattle.boogie_parse.specs.declared.symbols.Sign.{Sign}
 use Rattle.boogie_parse.specs.declared.symbols.Sign.TheVariants as signs
 use Rattle.boogie_parse.specs.declared.symbols.Symbol.{Symbol}
 use Rattle.boogie_parse.specs.Outcomes.{Read, Outcome}
-use Rattle.boogie_parse.specs.Grammar.{Is, place, Reads}
+use Rattle.boogie_parse.specs.Grammar.{Is, symbols_place, Reads}
 use Rattle.boogie_parse.specs.GrammarLists as lists
 use Rattle.boogie_parse.specs.GrammarLists.{IsName, ReadsNames, last_name, next_name, ReadsExpressions, ReadsArguments, ReadsInvariants}
 use Rattle.boogie_parse.specs.GrammarStatements as grammar
@@ -171,12 +171,12 @@ module _ (reads : ℕ → List Symbol → Outcome Expression) (end : Span) (IsSo
       let placed : assign_at reads end p x.span (n ∷ ts) ≡ o = subst (λ (w : Span). assign_at reads end p w (n ∷ ts) ≡ o) is.span e in
       named-statement inside n ts x o is (rw none placed)
 
-  assign-it : (inside : Inside) (ts : List Symbol) (o : Outcome Statement) → NamedStart fixed.Colon ts → assign_at reads end p (place ts) ts ≡ o → statement_at reads end p inside ts ≡ there o
+  assign-it : (inside : Inside) (ts : List Symbol) (o : Outcome Statement) → NamedStart fixed.Colon ts → assign_at reads end p (symbols_place ts) ts ≡ o → statement_at reads end p inside ts ≡ there o
   assign-it inside ts o w =
-      subst (λ us. assign_at reads end p (place us) us ≡ o → statement_at reads end p inside us ≡ there o) (sym w.all) (assign-here inside w.symbol w.rest w.name o w.is w.none)
+      subst (λ us. assign_at reads end p (symbols_place us) us ≡ o → statement_at reads end p inside us ≡ there o) (sym w.all) (assign-here inside w.symbol w.rest w.name o w.is w.none)
 
   assigned : (ts m r : List Symbol) (t u : Symbol) (xs : List Name) (es : List Expression) → ReadsNames ts xs (t ∷ m) → Is t fixed.Becomes → ReadsExpressions p m es (u ∷ r) → Is u fixed.Semicolon → AllByRecursion IsSo es
-      → assign_at reads end p (place ts) ts ≡ read (Assign (place ts) xs es) r
+      → assign_at reads end p (symbols_place ts) ts ≡ read (Assign (symbols_place ts) xs es) r
   unfolding assign_at
   assigned ts m r t u xs es names is d iu shallow =
       rw (
@@ -215,7 +215,7 @@ module _ (reads : ℕ → List Symbol → Outcome Expression) (end : Span) (IsSo
     statement-complete b ts s r (grammar.assumes {ts = us} {e = e} t u is d iu) shallow none = rw (is, claim-complete reads end IsSo reads-complete p us e u r d iu shallow) refl
     statement-complete b ts s r (grammar.havocs {ts = us} {xs = xs} t u is d iu) shallow none = rw (is, listed_names-complete end us xs u r d iu) refl
     statement-complete b ts s r (grammar.assigns {m = m} {xs = xs} {es = es} t u d is e iu) shallow none =
-        assign-it (inside_at reads end p b) ts (read (Assign (place ts) xs es) r) (names-start fixed.Colon refl d (seen-other fixed.Colon fixed.Becomes t m is refl)) (assigned ts m r t u xs es d is e iu shallow)
+        assign-it (inside_at reads end p b) ts (read (Assign (symbols_place ts) xs es) r) (names-start fixed.Colon refl d (seen-other fixed.Colon fixed.Becomes t m is refl)) (assigned ts m r t u xs es d is e iu shallow)
     statement-complete b ts s r (grammar.calls {ts = us} {f = f} {es = es} t n u is name d iu) shallow none = rw (is, call-it t.span n us r f u es name d iu shallow) refl
     statement-complete b ts s r (grammar.calls_into {ts = us} {m = m} {xs = xs} {f = f} {es = es} t c n u is d ic name e iu) shallow none =
         rw (is, call-into-it t.span us (read (Call t.span xs f es) r) (names-start fixed.OpenParenthesis refl d (seen-other fixed.OpenParenthesis fixed.Becomes c (n ∷ m) ic refl)) (into-it t.span us m r xs c n u f es d ic name e iu shallow)) refl

@@ -9,7 +9,7 @@ use Rattle.boogie_parse.specs.declared.symbols.Sign.{Sign}
 use Rattle.boogie_parse.specs.declared.symbols.Sign.TheVariants as signs
 use Rattle.boogie_parse.specs.declared.symbols.Symbol.{Symbol}
 use Rattle.boogie_parse.specs.Outcomes.{Read, Outcome}
-use Rattle.boogie_parse.specs.Grammar.{Is, place}
+use Rattle.boogie_parse.specs.Grammar.{Is, symbols_place}
 use Rattle.boogie_parse.specs.GrammarLists.{ReadsNames}
 use Rattle.boogie_parse.specs.GrammarStatements as grammar
 use Rattle.boogie_parse.specs.GrammarStatements.{ReadsStatement, ReadsIf, ReadsBlock, ReadsList}
@@ -94,7 +94,7 @@ module _ (reads : ℕ → List Symbol → Outcome Expression) (end : Span) (p : 
   unfolding break_at
   break-sound b t ts is = break_by-sound b t ts (seen fixed.Semicolon ts) is (seen-sound fixed.Semicolon ts)
 
-  assign-sound : (b : ℕ) (ts : List Symbol) → IfOk (assign_at reads end p (place ts) ts) (λ x. IsStatementRead p b ts x.value x.rest)
+  assign-sound : (b : ℕ) (ts : List Symbol) → IfOk (assign_at reads end p (symbols_place ts) ts) (λ x. IsStatementRead p b ts x.value x.rest)
   unfolding assign_at
   assign-sound b ts =
       then (λ (x : Read (List Name)). AreNames (length ts) ts x.value x.rest) (λ x. IsStatementRead p b ts x.value x.rest) (names_at end (length ts) ts) _ (names-sound end (length ts) ts) (λ xs n.

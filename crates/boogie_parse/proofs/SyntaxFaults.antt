@@ -16,14 +16,14 @@ use Rattle.boogie_parse.specs.Outcomes.{Outcome}
 use Rattle.boogie_parse.specs.Lexed.{lexed}
 use Rattle.boogie_parse.specs.Symbols.{symbol}
 use Rattle.boogie_parse.specs.Grammar.{Reads, one, more, unimplied, implied, conjoined, disjoined, uncompared, compared, unsigned, negated, denied, number, true_word, false_word, name, old_value, grouped}
-use Rattle.boogie_parse.specs.GrammarProgram.{ReadsProgram, joined}
-use Rattle.boogie_parse.specs.GrammarLimits.{depth, EachOfGuard, EachOfStatement, EachOfBlock, EachOfSpecification, EachOfBody, EachOfProcedure, EachOfDeclaration, variables_of, procedures_of}
+use Rattle.boogie_parse.specs.GrammarProgram.{ReadsProgram, joined_groups}
+use Rattle.boogie_parse.specs.GrammarLimits.{depth, EachOfGuard, EachOfStatement, EachOfBlock, EachOfSpecification, EachOfBody, EachOfProcedure, EachOfDeclaration, variables_counted, procedures_counted}
 use Rattle.boogie_parse.specs.ExpressionReading.{expression}
 use Rattle.boogie_parse.specs.ExpressionLaws.{Ends}
 use Rattle.boogie_parse.specs.ListReading.{read, expression_at}
 use Rattle.boogie_parse.specs.ProgramReading.{program_at}
 use Rattle.boogie_parse.specs.ProgramGrowth.{Keeps}
-use Rattle.boogie_parse.specs.WholeText.{end_of, read_tokens, read_text, IsOutside}
+use Rattle.boogie_parse.specs.WholeText.{text_end, read_tokens, read_text, IsOutside}
 use Rattle.boogie_parse.proofs.ExpressionComplete.{complete}
 use Rattle.boogie_parse.proofs.ExpressionRoom.{more_room}
 use Rattle.boogie_parse.proofs.ProgramComplete.{program-joined}
@@ -127,9 +127,9 @@ of_declarations (d ∷ ds) = (of_declaration d, of_declarations ds)
 
 abbrev pub all_variables : List (List Declaration) → ℕ
 all_variables [] = 0
-all_variables (ds ∷ groups) = variables_of ds + all_variables groups
+all_variables (ds ∷ groups) = variables_counted ds + all_variables groups
 
-pub few_enough : (n : ℕ) (groups : List (List Declaration)) → all_variables groups ≤ n → AllByRecursion (λ ds. variables_of ds ≤ n) groups
+pub few_enough : (n : ℕ) (groups : List (List Declaration)) → all_variables groups ≤ n → AllByRecursion (λ ds. variables_counted ds ≤ n) groups
 few_enough n [] h = tt
 few_enough n (ds ∷ groups) h = (omega arith, few_enough n groups (omega arith))
 
@@ -154,11 +154,11 @@ wide end p b w m ts = program_at (more_depth end) end (200 + p) (200 + b) w m ts
 
 -- what is in the grammar is read so, where there is room for its variables and procedures
 pub wide-read : (end : Span) (p b w m : ℕ) (ts : List Symbol) (groups : List (List Declaration)) → ReadsProgram p b ts groups →
-    AllByRecursion (λ ds. variables_of ds ≤ w) groups → procedures_of (joined groups) ≤ m → wide end p b w m ts ≡ Ok (joined groups)
+    AllByRecursion (λ ds. variables_counted ds ≤ w) groups → procedures_counted (joined_groups groups) ≤ m → wide end p b w m ts ≡ Ok (joined_groups groups)
 wide-read end p b w m ts groups d few_variables few_procedures =
     let IsSame : Which → Type 0 = Kinds ⊥ ⊥ ⊥ in
-    let read_all : program_at (any_depth end) end p b w m ts ≡ Ok (joined groups) =
-    program-joined (any_depth end) end Every (any_depth-complete end) p b w m ts groups d (of_declarations (joined groups)) few_variables few_procedures in
+    let read_all : program_at (any_depth end) end p b w m ts ≡ Ok (joined_groups groups) =
+    program-joined (any_depth end) end Every (any_depth-complete end) p b w m ts groups d (of_declarations (joined_groups groups)) few_variables few_procedures in
     let read_keeps : Keeps IsSame (program_at (any_depth end) end p b w m ts) (wide end p b w m ts) =
     program_keeps IsSame (any_depth end) (more_depth end) end
     (λ i j us more.
@@ -184,15 +184,15 @@ Faults end ts f = program_at (expression_at end) end 200 200 1000 1000 ts ≡ Er
 symbols_outside : (end : Span) (p b : ℕ) (ts : List Symbol) (groups : List (List Declaration)) (line col : ℕ) → ReadsProgram p b ts groups → Faults end ts (faults.Syntax line col) → ⊥
 symbols_outside end p b ts groups line col d is =
     let w : ℕ = 1000 + all_variables groups in
-    let m : ℕ = 1000 + procedures_of (joined groups) in
-    let keeps = wide-keeps ⊥ ⊥ end p b w m ts (roomier ⊥ 1000 (all_variables groups) (λ s. s)) (roomier ⊥ 1000 (procedures_of (joined groups)) (λ s. s)) in
+    let m : ℕ = 1000 + procedures_counted (joined_groups groups) in
+    let keeps = wide-keeps ⊥ ⊥ end p b w m ts (roomier ⊥ 1000 (all_variables groups) (λ s. s)) (roomier ⊥ 1000 (procedures_counted (joined_groups groups)) (λ s. s)) in
     let refused : wide end p b w m ts ≡ Err (faults.Syntax line col) = subst (λ r. Keeps (Kinds ⊥ ⊥ ⊥) r (wide end p b w m ts)) is keeps in
-    no_fault (wide end p b w m ts) (faults.Syntax line col) (joined groups) (wide-read end p b w m ts groups d (few_enough w groups (omega arith)) (omega arith)) refused
+    no_fault (wide end p b w m ts) (faults.Syntax line col) (joined_groups groups) (wide-read end p b w m ts groups d (few_enough w groups (omega arith)) (omega arith)) refused
 
 -- a fault that is not of the tokens is one of their symbols
-pub with_tokens : (text : List ℕ) (tokens : List Token) (f : Fault) → lexed text ≡ Ok tokens → read_text text ≡ Err f → Faults (end_of text) (map symbol tokens) f
-with_tokens text tokens f lexical is = sym (ap (read_tokens (end_of text)) lexical) ∙ is
+pub with_tokens : (text : List ℕ) (tokens : List Token) (f : Fault) → lexed text ≡ Ok tokens → read_text text ≡ Err f → Faults (text_end text) (map symbol tokens) f
+with_tokens text tokens f lexical is = sym (ap (read_tokens (text_end text)) lexical) ∙ is
 
 pub syntax_outside : (text : List ℕ) (line col : ℕ) → read_text text ≡ Err (faults.Syntax line col) → IsOutside text
 syntax_outside text line col is groups w =
-    symbols_outside (end_of text) w.parentheses w.blocks (map symbol w.tokens) groups line col w.spelled (with_tokens text w.tokens (faults.Syntax line col) w.lexical is)
+    symbols_outside (text_end text) w.parentheses w.blocks (map symbol w.tokens) groups line col w.spelled (with_tokens text w.tokens (faults.Syntax line col) w.lexical is)

@@ -7,7 +7,7 @@ use Rattle.boogie_parse.specs.declared.fault.Which.TheVariants as limits
 use Rattle.boogie_parse.specs.declared.lexer.token.Token.{Token}
 use Rattle.boogie_parse.specs.Lexed.{lexed}
 use Rattle.boogie_parse.specs.Symbols.{symbol}
-use Rattle.boogie_parse.specs.WholeText.{end_of, read_tokens, read_text, IfTokenFault}
+use Rattle.boogie_parse.specs.WholeText.{text_end, read_tokens, read_text, IfTokenFault}
 use Rattle.boogie_parse.proofs.ExpressionRefusals.{IsRefusal}
 use Rattle.boogie_parse.proofs.ProgramRefusals.{IsOfPrograms, program_refusals}
 
@@ -37,4 +37,4 @@ fault_of_tokens end (Err e) f is =
     if_token_fault f (◌≡◌ {A = Result (List Token) Fault} (Err e) (Err f)) (ap (λ x. let r : Result (List Token) Fault = Err x in r) one)
 
 pub token_fault : (text : List ℕ) (f : Fault) → read_text text ≡ Err f → IfTokenFault f (lexed text ≡ Err f)
-token_fault text f is = fault_of_tokens (end_of text) (lexed text) f is
+token_fault text f is = fault_of_tokens (text_end text) (lexed text) f is

@@ -13,7 +13,7 @@ use Rattle.boogie_parse.specs.GrammarLimits.{IsProgram}
 use Rattle.boogie_parse.specs.ProgramSpelling.{Spells}
 use Rattle.boogie_parse.specs.ListReading.{expression_at}
 use Rattle.boogie_parse.specs.ListViews.{Gives}
-use Rattle.boogie_parse.specs.WholeText.{end_of, read_tokens, read_text, IsOrMemory, IsOutside, IfSyntax, IfLimit, IsLimitAt, IfTokenFault, IsFaultOf}
+use Rattle.boogie_parse.specs.WholeText.{text_end, read_tokens, read_text, IsOrMemory, IsOutside, IfSyntax, IfLimit, IsLimitAt, IfTokenFault, IsFaultOf}
 use Rattle.boogie_parse.proofs.ConditionSound.{expression_at-sound}
 use Rattle.boogie_parse.proofs.ProgramSound.{program-sound}
 use Rattle.boogie_parse.proofs.ProgramComplete.{program-complete}
@@ -42,12 +42,12 @@ tokens_are end text (Ok ts) ds lexical is =
 tokens_are end text (Err f) ds lexical is = cc
 
 pub read_is_program : (text : List ℕ) (ds : List Declaration) → read_text text ≡ Ok ds → IsProgram text ds
-read_is_program text ds is = tokens_are (end_of text) text (lexed text) ds refl is
+read_is_program text ds is = tokens_are (text_end text) text (lexed text) ds refl is
 
 pub program_is_read : (text : List ℕ) (ds : List Declaration) → IsProgram text ds → read_text text ≡ Ok ds
 program_is_read text ds w =
-    ap (read_tokens (end_of text)) w.lexical
-    ∙ program-complete (end_of text) 200 200 1000 1000 (map symbol w.tokens) ds
+    ap (read_tokens (text_end text)) w.lexical
+    ∙ program-complete (text_end text) 200 200 1000 1000 (map symbol w.tokens) ds
     (record {
       groups = w.groups;
       spelled = w.spelled;
@@ -111,7 +111,7 @@ reads_no_memory end (Err f) fine is =
 is_no_memory : (text : List ℕ) (f : Fault) → read_text text ≡ Err f → f ≡ faults.Memory → ⊥
 is_no_memory text f is same =
     let read_memory : read_text text ≡ Err faults.Memory = cc in
-    reads_no_memory (end_of text) (lexed text) (lexed_fine text) read_memory
+    reads_no_memory (text_end text) (lexed text) (lexed_fine text) read_memory
 
 syntax_said : (text : List ℕ) (f : Fault) → read_text text ≡ Err f → IfSyntax f (IsOutside text)
 syntax_said text (faults.Syntax line col) is = syntax_outside text line col is

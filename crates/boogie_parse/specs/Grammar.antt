@@ -19,9 +19,9 @@ abbrev pub Is : Symbol → Fixed → Type 0
 Is t f = t.sign ≡ signs.Fixed f
 
 -- the place of the first symbol
-abbrev pub place : List Symbol → Span
-place [] = beginning
-place (t ∷ ts) = t.span
+abbrev pub symbols_place : List Symbol → Span
+symbols_place [] = beginning
+symbols_place (t ∷ ts) = t.span
 
 -- which operator carries a chain of that level on: these chains group to the left
 abbrev pub links : Level → Fixed → Option Op
@@ -58,18 +58,18 @@ pub data Reads : ℕ → Level → List Symbol → Expression → List Symbol �
   -- chains
   one : {p : ℕ} {l : Level} {ts r : List Symbol} {e : Expression} → is_chain l ≡ true → Reads p (right_of l) ts e r → Reads p l ts e r
   more : {p : ℕ} {l : Level} {ts m r : List Symbol} {a b : Expression} {f : Fixed} {o : Op} (t : Symbol) →
-      Reads p l ts a (t ∷ m) → Is t f → links l f ≡ Some o → Reads p (right_of l) m b r → Reads p l ts (Bin (place ts) o a b) r
+      Reads p l ts a (t ∷ m) → Is t f → links l f ≡ Some o → Reads p (right_of l) m b r → Reads p l ts (Bin (symbols_place ts) o a b) r
   -- `==>` groups to the right
   unimplied : {p : ℕ} {ts r : List Symbol} {e : Expression} → Reads p Junction ts e r → Reads p Implication ts e r
   implied : {p : ℕ} {ts m r : List Symbol} {a b : Expression} (t : Symbol) →
-      Reads p Junction ts a (t ∷ m) → Is t fixed.Implies → Reads p Implication m b r → Reads p Implication ts (Bin (place ts) op.Implies a b) r
+      Reads p Junction ts a (t ∷ m) → Is t fixed.Implies → Reads p Implication m b r → Reads p Implication ts (Bin (symbols_place ts) op.Implies a b) r
   -- `&&` and `||` do not mix
   conjoined : {p : ℕ} {ts r : List Symbol} {e : Expression} → Reads p Conjunction ts e r → Reads p Junction ts e r
   disjoined : {p : ℕ} {ts r : List Symbol} {e : Expression} → Reads p Disjunction ts e r → Reads p Junction ts e r
   -- comparisons
   uncompared : {p : ℕ} {ts r : List Symbol} {e : Expression} → Reads p Sum ts e r → Reads p Comparison ts e r
   compared : {p : ℕ} {ts m r : List Symbol} {a b : Expression} {f : Fixed} {o : Op} (t : Symbol) →
-      Reads p Sum ts a (t ∷ m) → Is t f → compares f ≡ Some o → Reads p Sum m b r → Reads p Comparison ts (Bin (place ts) o a b) r
+      Reads p Sum ts a (t ∷ m) → Is t f → compares f ≡ Some o → Reads p Sum m b r → Reads p Comparison ts (Bin (symbols_place ts) o a b) r
   -- `!` and unary `-`
   unsigned : {p : ℕ} {ts r : List Symbol} {e : Expression} → Reads p Primary ts e r → Reads p Unary ts e r
   negated : {p : ℕ} {ts r : List Symbol} {e : Expression} (t : Symbol) → Is t fixed.Minus → Reads p Unary ts e r → Reads p Unary (t ∷ ts) (Neg t.span e) r

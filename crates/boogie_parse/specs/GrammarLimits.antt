@@ -5,7 +5,7 @@ use Rattle.boogie_tree.specs.Tree.{Expression, Lit, Truth, Var, Old, Not, Neg, B
 use Rattle.boogie_parse.specs.declared.lexer.token.Token.{Token}
 use Rattle.boogie_parse.specs.Lexed.{lexed}
 use Rattle.boogie_parse.specs.Symbols.{symbol}
-use Rattle.boogie_parse.specs.GrammarProgram.{ReadsProgram, joined}
+use Rattle.boogie_parse.specs.GrammarProgram.{ReadsProgram, joined_groups}
 
 -- a name or a literal has depth 0, every other expression one more than its deepest part
 abbrev pub depth : Expression → ℕ
@@ -79,30 +79,30 @@ IsShallowSpecification s = EachOfSpecification IsShallow s
 abbrev pub IsShallowDeclaration : Declaration → Type 0
 IsShallowDeclaration d = EachOfDeclaration IsShallow d
 
-abbrev pub locals_of : Option ProcedureBody → ℕ
-locals_of None = 0
-locals_of (Some b) = length b.locals
+abbrev pub locals_counted : Option ProcedureBody → ℕ
+locals_counted None = 0
+locals_counted (Some b) = length b.locals
 
 abbrev pub variables_of_procedure : Procedure → ℕ
-variables_of_procedure p = length p.params + length p.results + locals_of p.body
+variables_of_procedure p = length p.params + length p.results + locals_counted p.body
 
 -- how many variables a declaration of the text declares: its constants or globals, or its parameters, results and locals together
-abbrev pub variables_of : List Declaration → ℕ
-variables_of [] = 0
-variables_of (Const x ∷ ds) = suc (variables_of ds)
-variables_of (Global x ∷ ds) = suc (variables_of ds)
-variables_of (Axiom s e ∷ ds) = variables_of ds
-variables_of (Declares p ∷ ds) = variables_of_procedure p + variables_of ds
-variables_of (Implements p ∷ ds) = variables_of_procedure p + variables_of ds
+abbrev pub variables_counted : List Declaration → ℕ
+variables_counted [] = 0
+variables_counted (Const x ∷ ds) = suc (variables_counted ds)
+variables_counted (Global x ∷ ds) = suc (variables_counted ds)
+variables_counted (Axiom s e ∷ ds) = variables_counted ds
+variables_counted (Declares p ∷ ds) = variables_of_procedure p + variables_counted ds
+variables_counted (Implements p ∷ ds) = variables_of_procedure p + variables_counted ds
 
 -- how many procedures are declared; implementations do not count
-abbrev pub procedures_of : List Declaration → ℕ
-procedures_of [] = 0
-procedures_of (Const x ∷ ds) = procedures_of ds
-procedures_of (Global x ∷ ds) = procedures_of ds
-procedures_of (Axiom s e ∷ ds) = procedures_of ds
-procedures_of (Declares p ∷ ds) = suc (procedures_of ds)
-procedures_of (Implements p ∷ ds) = procedures_of ds
+abbrev pub procedures_counted : List Declaration → ℕ
+procedures_counted [] = 0
+procedures_counted (Const x ∷ ds) = procedures_counted ds
+procedures_counted (Global x ∷ ds) = procedures_counted ds
+procedures_counted (Axiom s e ∷ ds) = procedures_counted ds
+procedures_counted (Declares p ∷ ds) = suc (procedures_counted ds)
+procedures_counted (Implements p ∷ ds) = procedures_counted ds
 
 -- the text is in the grammar, whatever the limits on nesting, variables and procedures
 pub record IsInGrammar (text : List ℕ) (groups : List (List Declaration)) : Type 0 where
@@ -119,7 +119,7 @@ pub record IsProgram (text : List ℕ) (program : List Declaration) : Type 0 whe
   pub lexical : lexed text ≡ Ok tokens
   pub groups : List (List Declaration)
   pub spelled : ReadsProgram 200 200 (map symbol tokens) groups
-  pub declarations : program ≡ joined groups
+  pub declarations : program ≡ joined_groups groups
   pub shallow : AllByRecursion IsShallowDeclaration program
-  pub few_variables : AllByRecursion (λ ds. variables_of ds ≤ 1000) groups
-  pub few_procedures : procedures_of program ≤ 1000
+  pub few_variables : AllByRecursion (λ ds. variables_counted ds ≤ 1000) groups
+  pub few_procedures : procedures_counted program ≤ 1000

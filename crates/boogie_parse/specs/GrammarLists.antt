@@ -56,10 +56,10 @@ pub data ReadsInvariants : ℕ → List Symbol → List Invariant → List Symbo
   next_invariant : {p : ℕ} {ts m r : List Symbol} {i : Invariant} {is : List Invariant} →
       ReadsCondition p fixed.Invariant ts i m → ReadsInvariants p m is r → ReadsInvariants p ts (i ∷ is) r
 
-abbrev pub type_of : Fixed → Option Ty
-type_of fixed.Int = Some types.Int
-type_of fixed.Bool = Some types.Bool
-type_of f = None
+abbrev pub type_named : Fixed → Option Ty
+type_named fixed.Int = Some types.Int
+type_named fixed.Bool = Some types.Bool
+type_named f = None
 
 abbrev pub of_type : Ty → List Name → List Vary
 of_type ty xs = map (λ x. record { name = x; ty = ty }) xs
@@ -67,7 +67,7 @@ of_type ty xs = map (λ x. record { name = x; ty = ty }) xs
 -- names of one type, and groups of them with commas between them: each name is a variable of its own
 pub data ReadsGroup : List Symbol → List Vary → List Symbol → Type 0 where
   group : {ts r : List Symbol} {xs : List Name} {f : Fixed} {ty : Ty} (t u : Symbol) →
-      ReadsNames ts xs (t ∷ u ∷ r) → Is t fixed.Colon → Is u f → type_of f ≡ Some ty → ReadsGroup ts (of_type ty xs) r
+      ReadsNames ts xs (t ∷ u ∷ r) → Is t fixed.Colon → Is u f → type_named f ≡ Some ty → ReadsGroup ts (of_type ty xs) r
 
 pub data ReadsVariables : List Symbol → List Vary → List Symbol → Type 0 where
   last_group : {ts r : List Symbol} {vs : List Vary} → ReadsGroup ts vs r → ReadsVariables ts vs r

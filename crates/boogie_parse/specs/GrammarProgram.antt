@@ -47,8 +47,8 @@ pub data ReadsHead : ℕ → Fixed → List Symbol → Head → List Symbol → 
       Is t f → IsName n x → ReadsFormals p ts ps m → ReadsResults p m rs r →
       ReadsHead p f (t ∷ n ∷ ts) (record { span = t.span; name = x; params = ps; results = rs }) r
 
-abbrev pub procedure_of : Head → List Specification → Option ProcedureBody → Procedure
-procedure_of h ss b = record { span = h.span; name = h.name; params = h.params; results = h.results; specs = ss; body = b }
+abbrev pub procedure_read : Head → List Specification → Option ProcedureBody → Procedure
+procedure_read h ss b = record { span = h.span; name = h.name; params = h.params; results = h.results; specs = ss; body = b }
 
 -- one declaration of the text
 pub data ReadsDeclaration : ℕ → ℕ → List Symbol → List Declaration → List Symbol → Type 0 where
@@ -58,13 +58,13 @@ pub data ReadsDeclaration : ℕ → ℕ → List Symbol → List Declaration →
       Is t fixed.Axiom → Reads p Equivalence ts e (u ∷ r) → Is u fixed.Semicolon → ReadsDeclaration p b (t ∷ ts) (Axiom t.span e ∷ []) r
   without_body : {p b : ℕ} {ts m r : List Symbol} {h : Head} {ss : List Specification} (u : Symbol) →
       ReadsHead p fixed.Procedure ts h (u ∷ m) → Is u fixed.Semicolon → ReadsSpecifications p m ss r →
-      ReadsDeclaration p b ts (Declares (procedure_of h ss None) ∷ []) r
+      ReadsDeclaration p b ts (Declares (procedure_read h ss None) ∷ []) r
   with_body : {p b : ℕ} {ts m n r : List Symbol} {h : Head} {ss : List Specification} {x : ProcedureBody} →
       ReadsHead p fixed.Procedure ts h m → ReadsSpecifications p m ss n → ReadsBody p b n x r →
-      ReadsDeclaration p b ts (Declares (procedure_of h ss (Some x)) ∷ []) r
+      ReadsDeclaration p b ts (Declares (procedure_read h ss (Some x)) ∷ []) r
   implementation : {p b : ℕ} {ts m r : List Symbol} {h : Head} {x : ProcedureBody} →
       ReadsHead p fixed.Implementation ts h m → ReadsBody p b m x r →
-      ReadsDeclaration p b ts (Implements (procedure_of h [] (Some x)) ∷ []) r
+      ReadsDeclaration p b ts (Implements (procedure_read h [] (Some x)) ∷ []) r
 
 -- the symbols of a whole program, by the declarations of the text
 pub data ReadsProgram : ℕ → ℕ → List Symbol → List (List Declaration) → Type 0 where
@@ -73,6 +73,6 @@ pub data ReadsProgram : ℕ → ℕ → List Symbol → List (List Declaration) 
       ReadsDeclaration p b ts ds m → ReadsProgram p b m groups → ReadsProgram p b ts (ds ∷ groups)
 
 -- the declarations in order
-abbrev pub joined : List (List Declaration) → List Declaration
-joined [] = []
-joined (ds ∷ groups) = ds ++ joined groups
+abbrev pub joined_groups : List (List Declaration) → List Declaration
+joined_groups [] = []
+joined_groups (ds ∷ groups) = ds ++ joined_groups groups

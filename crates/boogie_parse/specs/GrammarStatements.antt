@@ -5,7 +5,7 @@ use Rattle.boogie_tree.specs.declared.tree.Name.{Name}
 use Rattle.boogie_tree.specs.Tree.{Expression, Guard, Invariant, Statement, Assert, Assume, Havoc, Assign, Call, If, While, Break, Goto, Return, Label, Block, Empty, Then}
 use Rattle.boogie_parse.specs.declared.symbols.Fixed.TheVariants as fixed
 use Rattle.boogie_parse.specs.declared.symbols.Symbol.{Symbol}
-use Rattle.boogie_parse.specs.Grammar.{Is, place, Reads}
+use Rattle.boogie_parse.specs.Grammar.{Is, symbols_place, Reads}
 use Rattle.boogie_parse.specs.GrammarLists.{IsName, ReadsNames, ReadsExpressions, ReadsArguments, ReadsGuard, ReadsInvariants}
 
 mutual
@@ -18,7 +18,7 @@ mutual
         Is t fixed.Havoc → ReadsNames ts xs (u ∷ r) → Is u fixed.Semicolon → ReadsStatement p b (t ∷ ts) (Havoc t.span xs) r
     assigns : {p b : ℕ} {ts m r : List Symbol} {xs : List Name} {es : List Expression} (t u : Symbol) →
         ReadsNames ts xs (t ∷ m) → Is t fixed.Becomes → ReadsExpressions p m es (u ∷ r) → Is u fixed.Semicolon →
-        ReadsStatement p b ts (Assign (place ts) xs es) r
+        ReadsStatement p b ts (Assign (symbols_place ts) xs es) r
     calls : {p b : ℕ} {ts r : List Symbol} {f : Name} {es : List Expression} (t n u : Symbol) →
         Is t fixed.Call → IsName n f → ReadsArguments p ts es (u ∷ r) → Is u fixed.Semicolon →
         ReadsStatement p b (t ∷ n ∷ ts) (Call t.span [] f es) r

@@ -16,7 +16,7 @@ use Rattle.boogie_parse.specs.declared.symbols.Sign.TheVariants as signs
 use Rattle.boogie_parse.specs.declared.symbols.Symbol.{Symbol}
 use Rattle.boogie_parse.specs.Outcomes.{Read, Outcome, syntax_fault, limit_fault, refused}
 use Rattle.boogie_parse.specs.ExpressionReading.{expression}
-use Rattle.boogie_parse.specs.GrammarLists.{of_type, type_of}
+use Rattle.boogie_parse.specs.GrammarLists.{of_type, type_named}
 
 -- the next step, if the one before gave no fault
 infixl 10 ◌>>=◌
@@ -109,7 +109,7 @@ type_by here ts None = Err (syntax_fault here)
 type_by here ts (Some ty) = read ty ts
 
 abbrev pub type_said : Sign → Option Ty
-type_said (signs.Fixed f) = type_of f
+type_said (signs.Fixed f) = type_named f
 type_said (signs.Number n) = None
 type_said (signs.Name x) = None
 

@@ -12,8 +12,8 @@ use Rattle.boogie_parse.specs.declared.symbols.Sign.{Sign}
 use Rattle.boogie_parse.specs.declared.symbols.Sign.TheVariants as signs
 use Rattle.boogie_parse.specs.declared.symbols.Symbol.{Symbol}
 use Rattle.boogie_parse.specs.Outcomes.{Read, Outcome, place_or, syntax_fault, limit_fault}
-use Rattle.boogie_parse.specs.GrammarLimits.{procedures_of}
-use Rattle.boogie_parse.specs.GrammarProgram.{Head, procedure_of}
+use Rattle.boogie_parse.specs.GrammarLimits.{procedures_counted}
+use Rattle.boogie_parse.specs.GrammarProgram.{Head, procedure_read}
 use Rattle.boogie_parse.specs.ListReading.{◌>>=◌, read, Possible, there, one_there, repeated, seen, behind, opened, name_at, listed_names, declared_behind, formals_at, results_at, claim_at, condition_behind}
 use Rattle.boogie_parse.specs.StatementReading.{inside_at, list_at}
 
@@ -119,11 +119,11 @@ module _ (reads : ℕ → List Symbol → Outcome Expression) (end : Span) (p : 
       abbrev pub procedure_by : Head → List Symbol → Option (Read Span) → Outcome (List Declaration)
       procedure_by h ts (Some semicolon) = do
         ss ← specifications_at semicolon.rest
-        read (Declares (procedure_of h ss.value None) ∷ []) ss.rest
+        read (Declares (procedure_read h ss.value None) ∷ []) ss.rest
       procedure_by h ts None = do
         ss ← specifications_at ts
         x ← body_at (room_behind v h) ss.rest
-        read (Declares (procedure_of h ss.value (Some x.value)) ∷ []) x.rest
+        read (Declares (procedure_read h ss.value (Some x.value)) ∷ []) x.rest
 
       -- a procedure, behind its word
       unfoldable pub procedure_at : Span → List Symbol → Outcome (List Declaration)
@@ -136,7 +136,7 @@ module _ (reads : ℕ → List Symbol → Outcome Expression) (end : Span) (p : 
       implementation_at here ts = do
         h ← head_at end p v here ts
         x ← body_at (room_behind v h.value) h.rest
-        read (Implements (procedure_of h.value [] (Some x.value)) ∷ []) x.rest
+        read (Implements (procedure_read h.value [] (Some x.value)) ∷ []) x.rest
 
       -- a procedure, if there is room for one more
       unfoldable pub new_procedure : ℕ → Span → List Symbol → Outcome (List Declaration)
@@ -168,7 +168,7 @@ module _ (reads : ℕ → List Symbol → Outcome Expression) (end : Span) (p : 
 
       -- the declarations that stand there, with so many procedures at most
       unfoldable pub declarations_at : ℕ → List Symbol → Outcome (List Declaration)
-      declarations_at room ts = repeated declaration_at procedures_of room (length ts) ts
+      declarations_at room ts = repeated declaration_at procedures_counted room (length ts) ts
 
       -- a whole program, with so many procedures at most
       unfoldable pub program_at : ℕ → List Symbol → Result (List Declaration) Fault

@@ -9,7 +9,7 @@ use Rattle.boogie_tree.specs.Apart.{AreAlike}
 use Rattle.boogie_parse.specs.declared.lexer.token.Token.{Token}
 use Rattle.boogie_parse.specs.Lexed.{lexed}
 use Rattle.boogie_parse.specs.Symbols.{symbol}
-use Rattle.boogie_parse.specs.GrammarProgram.{ReadsProgram, joined}
+use Rattle.boogie_parse.specs.GrammarProgram.{ReadsProgram, joined_groups}
 use Rattle.boogie_parse.specs.GrammarLimits.{IsProgram}
 use Rattle.boogie_parse.specs.ProgramSpelling.{Spells}
 use Rattle.boogie_parse.specs.Spelled.{program_signs}
@@ -51,7 +51,7 @@ pub record IsProgramAgain (text : List ℕ) (program : List Declaration) : Type 
 abbrev pub ProgramsAreReadAgain : Type 0
 ProgramsAreReadAgain =
     (p b : ℕ) (ts us : List Symbol) (groups : List (List Declaration)) → ReadsProgram p b ts groups → AreUnsigned ts →
-    signs_of us ≡ program_signs (joined groups) → ReadsProgramAgain p b us (joined groups)
+    signs_of us ≡ program_signs (joined_groups groups) → ReadsProgramAgain p b us (joined_groups groups)
 
 -- And they are so within the limits that it was within.
 abbrev pub LimitsAreKept : Type 0

@@ -15,14 +15,14 @@ use Rattle.boogie_parse.specs.declared.symbols.Symbol.{Symbol}
 use Rattle.boogie_parse.specs.Places.{behind}
 use Rattle.boogie_parse.specs.Lexed.{lexed}
 use Rattle.boogie_parse.specs.Symbols.{symbol}
-use Rattle.boogie_parse.specs.GrammarProgram.{ReadsProgram, joined}
-use Rattle.boogie_parse.specs.GrammarLimits.{IsShallowDeclaration, variables_of, procedures_of, IsInGrammar}
+use Rattle.boogie_parse.specs.GrammarProgram.{ReadsProgram, joined_groups}
+use Rattle.boogie_parse.specs.GrammarLimits.{IsShallowDeclaration, variables_counted, procedures_counted, IsInGrammar}
 use Rattle.boogie_parse.specs.ListReading.{expression_at}
 use Rattle.boogie_parse.specs.ProgramReading.{program_at}
 
 -- the place just past a text's end
-abbrev pub end_of : List ℕ → Span
-end_of text = behind text beginning
+abbrev pub text_end : List ℕ → Span
+text_end text = behind text beginning
 
 -- what tokens are read as: the program, or the first fault; a fault of the tokens comes before all others
 abbrev pub read_tokens : Span → Result (List Token) Fault → Result (List Declaration) Fault
@@ -31,7 +31,7 @@ read_tokens end (Err f) = Err f
 
 -- what a text is read as: the program, or the first fault
 abbrev pub read_text : List ℕ → Result (List Declaration) Fault
-read_text text = read_tokens (end_of text) (lexed text)
+read_text text = read_tokens (text_end text) (lexed text)
 
 -- the answer is that program, unless memory ran out
 abbrev pub IsOrMemory : Result Program Fault → List Declaration → Type 0
@@ -50,9 +50,9 @@ IfSyntax f P = Unit {0}
 -- The program of these symbols, which the grammar gives, is past that limit. A limit on literals is one of the tokens, and of no program.
 abbrev pub IsPast : Which → List Symbol → List (List Declaration) → Type 0
 IsPast limits.Literal ts groups = ⊥
-IsPast limits.Nesting ts groups = ReadsProgram 200 200 ts groups → AllByRecursion IsShallowDeclaration (joined groups) → ⊥
-IsPast limits.Procedures ts groups = 1000 < procedures_of (joined groups)
-IsPast limits.Variables ts groups = AllByRecursion (λ ds. variables_of ds ≤ 1000) groups → ⊥
+IsPast limits.Nesting ts groups = ReadsProgram 200 200 ts groups → AllByRecursion IsShallowDeclaration (joined_groups groups) → ⊥
+IsPast limits.Procedures ts groups = 1000 < procedures_counted (joined_groups groups)
+IsPast limits.Variables ts groups = AllByRecursion (λ ds. variables_counted ds ≤ 1000) groups → ⊥
 
 -- The symbol in that line and column can stand there: some program of the grammar begins with the symbols up to it.
 pub record CanStandAt (text : List ℕ) (line col : ℕ) : Type 0 where

@@ -3,7 +3,7 @@
 ghost use Rattle.std.specs.Prelude.{ℕ, List};
 ghost use Rattle.boogie_tree.specs.Tree.{Declaration};
 ghost use Rattle.boogie_parse.specs.GrammarLimits.{IsInGrammar, IsProgram};
-ghost use Rattle.boogie_parse.specs.GrammarProgram.{joined};
+ghost use Rattle.boogie_parse.specs.GrammarProgram.{joined_groups};
 ghost use Rattle.boogie_parse.specs.PrintedTokens.{IsSpellableProgram, HasSigns};
 
 /// The text of a program whose names are names and whose literals are in range has the signs of the program, token by token.
@@ -13,6 +13,6 @@ pub(crate) fn printed_text_has_its_signs()
 
 /// What is read from a text has names that are names and literals that are in range. So the text that a program is printed as has its signs.
 pub(crate) fn read_programs_are_spellable()
-    ensures spellable { (text : List ℕ) (groups : List (List Declaration)) → IsInGrammar text groups → IsSpellableProgram (joined groups) }
+    ensures spellable { (text : List ℕ) (groups : List (List Declaration)) → IsInGrammar text groups → IsSpellableProgram (joined_groups groups) }
     ensures printed { (text : List ℕ) (program : List Declaration) → IsProgram text program → HasSigns program }
 {}

@@ -11,7 +11,7 @@ ghost use Rattle.boogie_parse.specs.PrintedTokens.{IsSpellableProgram};
 ghost use Rattle.boogie_parse.specs.Parentheses.{ParenthesesAreNeeded};
 ghost use Rattle.boogie_parse.specs.Respelled.{IsProgramAgain};
 ghost use Rattle.boogie_tree.specs.Printing.{program_text};
-ghost use Rattle.boogie_parse.specs.WholeText.{end_of, read_text, IsOrMemory, IsOutside, IfSyntax, IfLimit, IsLimitAt, IfTokenFault, IsFaultOf};
+ghost use Rattle.boogie_parse.specs.WholeText.{text_end, read_text, IsOrMemory, IsOutside, IfSyntax, IfLimit, IsLimitAt, IfTokenFault, IsFaultOf};
 
 use crate::fault::Fault;
 use crate::grammar::parser::Parser;
@@ -23,7 +23,7 @@ use std::alloc::Global;
 /// The place just past the text's end.
 fn end_of(text: &[u8]) -> Span
     requires { length text.now + 1 < 2 ^ 32 }
-    ensures { result ≡ end_of text.now }
+    ensures { result ≡ text_end text.now }
 {
     behind(text, Span { line: 1, col: 1 })
 }

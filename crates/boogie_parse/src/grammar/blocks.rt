@@ -1,6 +1,8 @@
 //! Blocks, and the statements that hold them.
 
-ghost use Rattle.std.specs.Prelude.{◌≡◌};
+ghost use Rattle.std.specs.Prelude.{◌≡◌, ◌++◌, ◌∷◌, [], IfErr, OnOk};
+ghost use Rattle.boogie_tree.specs.declared.tree.Stmt.TheVariants as stmts;
+ghost use Rattle.boogie_parse.specs.declared.fault.Fault.TheVariants as faults;
 ghost use Rattle.boogie_tree.specs.View as view;
 ghost use Rattle.boogie_parse.specs.ListReading as list;
 ghost use Rattle.boogie_parse.specs.StatementReading as spec;
@@ -10,9 +12,38 @@ ghost use Rattle.boogie_parse.specs.ListViews.{Gives, found, items_as};
 
 use super::lists::seen;
 use super::parser::{Parser, past_limit};
+use super::statements::put;
 use crate::fault::{Fault, Which};
-use crate::symbols::{Fixed, Sign, Symbol};
-use boogie_tree::{Name, Span, Stmt};
+use crate::symbols::{Fixed, Symbol};
+use boogie_tree::{Guard, Inv, Span, Stmt};
+
+/// Puts an `if` behind the other statements.
+fn put_branches(
+    statements: &mut Vec<Stmt>,
+    span: Span,
+    guard: Guard,
+    then: Vec<Stmt>,
+    other: Vec<Stmt>,
+) -> Result<(), Fault>
+    ensures ok { OnOk result (statements.new.items ≡ statements.old.items ++ stmts.If span guard then other ∷ []) }
+    ensures fault { IfErr result (λ f. f ≡ faults.Memory) }
+{
+    put(statements, Stmt::If(span, guard, then, other))
+}
+
+/// Puts a loop behind the other statements.
+fn put_loop(
+    statements: &mut Vec<Stmt>,
+    span: Span,
+    guard: Guard,
+    invariants: Vec<Inv>,
+    body: Vec<Stmt>,
+) -> Result<(), Fault>
+    ensures ok { OnOk result (statements.new.items ≡ statements.old.items ++ stmts.While span guard invariants body ∷ []) }
+    ensures fault { IfErr result (λ f. f ≡ faults.Memory) }
+{
+    put(statements, Stmt::While(span, guard, invariants, body))
+}
 
 /// In each, `blocks` more blocks may be opened.
 impl Parser {
@@ -90,7 +121,7 @@ impl Parser {
             None => (Vec::new(self.alloc), rest),
             Some((_, rest)) => self.other(blocks, rest)?,
         };
-        statements.push(Stmt::If(span, guard, then, other))?;
+        put_branches(statements, span, guard, then, other)?;
         Ok(rest)
     }
 
@@ -110,13 +141,12 @@ impl Parser {
         let (guard, rest) = self.guard(symbols)?;
         let (invariants, rest) = self.invariants(rest)?;
         let (body, rest) = self.block(blocks, rest)?;
-        statements.push(Stmt::While(span, guard, invariants, body))?;
+        put_loop(statements, span, guard, invariants, body)?;
         Ok(rest)
     }
 
     /// A statement, if one stands there.
     #[cycle(statements)]
-    #[tactic(auto, unfolding(crate::specs::StatementReading::statement_at))]
     fn statement<'a>(
         &self,
         blocks: u8,
@@ -126,29 +156,13 @@ impl Parser {
         ensures { AddsIf statements.old.items statements.new.items result
             (spec.statement_at (list.expression_at self.now.end) self.now.end 200 (inside self.now.end blocks) symbols.now) }
     {
-        let Some((first, rest)) = symbols.split_first() else {
-            return Ok(None);
-        };
-        let span = first.span;
-        match &first.sign {
-            Sign::Fixed(Fixed::Assert) => there(self.assertion(span, rest, statements)),
-            Sign::Fixed(Fixed::Assume) => there(self.assumption(span, rest, statements)),
-            Sign::Fixed(Fixed::Havoc) => there(self.havoc(span, rest, statements)),
-            Sign::Fixed(Fixed::Call) => there(self.call(span, rest, statements)),
-            Sign::Fixed(Fixed::If) => there(self.branch(blocks, span, rest, statements)),
-            Sign::Fixed(Fixed::While) => there(self.looped(blocks, span, rest, statements)),
-            Sign::Fixed(Fixed::Break) => there(self.break_out(span, rest, statements)),
-            Sign::Fixed(Fixed::Goto) => there(self.goto(span, rest, statements)),
-            Sign::Fixed(Fixed::Return) => there(self.return_out(span, rest, statements)),
-            Sign::Name(text) => {
-                let name = Name {
-                    span,
-                    text: text.copy()?,
-                };
-                there(self.named(name, symbols, rest, statements))
-            }
-            _ => Ok(None),
+        if let Some((span, rest)) = seen(Fixed::If, symbols) {
+            return there(self.branch(blocks, span, rest, statements));
         }
+        if let Some((span, rest)) = seen(Fixed::While, symbols) {
+            return there(self.looped(blocks, span, rest, statements));
+        }
+        self.plain(symbols, statements)
     }
 
     /// The statements that stand there.

@@ -70,6 +70,19 @@ impl Parser {
         Ok((Inv { span, free, cond }, rest))
     }
 
+    /// The same, which says that the condition stands there.
+    fn condition_there<'a>(
+        &self,
+        free: bool,
+        span: Span,
+        symbols: &'a [Symbol],
+    ) -> Result<Option<(Inv, &'a [Symbol])>, Fault>
+        ensures { Gives (found_if view.invariant) result
+            (spec.there (spec.condition_behind (spec.expression_at self.now.end) self.now.end 200 free (record { value = span; rest = symbols.now }))) }
+    {
+        there(self.condition(free, span, symbols))
+    }
+
     /// An invariant, if one stands there.
     #[tactic(auto, unfolding(crate::specs::ListReading::invariant_at))]
     fn invariant<'a>(&self, symbols: &'a [Symbol]) -> Result<Option<(Inv, &'a [Symbol])>, Fault>
@@ -78,11 +91,11 @@ impl Parser {
     {
         if let Some((_, rest)) = seen(Fixed::Free, symbols) {
             let (span, rest) = self.behind(Fixed::Invariant, rest)?;
-            return there(self.condition(true, span, rest));
+            return self.condition_there(true, span, rest);
         }
         match seen(Fixed::Invariant, symbols) {
             None => Ok(None),
-            Some((span, rest)) => there(self.condition(false, span, rest)),
+            Some((span, rest)) => self.condition_there(false, span, rest),
         }
     }
 
@@ -97,9 +110,11 @@ impl Parser {
         let mut invariants = Vec::new(self.alloc);
         let mut rest = symbols;
         for _turn in 0..symbols.len() {
-            match self.invariant(rest)? {
-                None => return Ok((invariants, rest)),
-                Some((invariant, behind)) => {
+            // (by `?` a level of blocks would hold the condition twice)
+            match self.invariant(rest) {
+                Err(fault) => return Err(fault),
+                Ok(None) => return Ok((invariants, rest)),
+                Ok(Some((invariant, behind))) => {
                     invariants.push(invariant)?;
                     rest = behind;
                 }

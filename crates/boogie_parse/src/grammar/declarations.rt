@@ -45,7 +45,7 @@ impl Head {
     /// The procedure with that front.
     pub(super) fn procedure(self, specs: Vec<Spec>, body: Option<Body>) -> Proc
         ensures { view.procedure result
-            ≡ grammar.procedure_of (head self) (items_as view.specification specs) (view.body_of body) }
+            ≡ grammar.procedure_read (head self) (items_as view.specification specs) (view.body_of body) }
     {
         let Head {
             span,

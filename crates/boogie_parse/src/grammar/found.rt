@@ -1,14 +1,15 @@
 ghost use Rattle.std.specs.Prelude.{◌≡◌, ◌<◌, ◌≤◌, suc, max, IfOk};
-ghost use Rattle.boogie_tree.specs.Tree.{Bin};
+ghost use Rattle.boogie_tree.specs.Tree.{Bin, Lit, Truth, Var};
 ghost use Rattle.boogie_tree.specs.View.{kind_view};
 ghost use Rattle.boogie_parse.specs.GrammarLimits.{depth};
-ghost use Rattle.boogie_parse.specs.ExpressionReading.{done};
+ghost use Rattle.boogie_parse.specs.ExpressionReading.{done, prefixed};
 ghost use Rattle.boogie_parse.specs.ExpressionViews.{tree, Gives, HasHeight};
 
+use super::expressions::operators::Prefix;
 use super::parser::Parser;
 use crate::fault::Fault;
 use crate::symbols::Symbol;
-use boogie_tree::{Expr, ExprKind, Op, Span};
+use boogie_tree::{Expr, ExprKind, Name, Op, Span, Text};
 
 /// An expression that was read.
 #[derive(Drop)]
@@ -57,5 +58,69 @@ impl Parser {
         let height = left.height.max(right.height) + 1;
         let kind = ExprKind::Bin(op, left.expr, right.expr);
         self.node(span, kind, height, right.rest)
+    }
+
+    /// The literal that stands at that place.
+    pub(crate) fn literal<'a>(
+        &self,
+        span: Span,
+        value: i128,
+        rest: &'a [Symbol],
+    ) -> Result<Found<'a>, Fault>
+        ensures gives { Gives result (done (Lit span value) rest.entry.now) }
+        ensures height { IfOk result HasHeight }
+        ensures low { IfOk result (λ f. f.height ≡ 0) }
+    {
+        self.node(span, ExprKind::Lit(value), 0, rest)
+    }
+
+    /// The truth value that stands at that place.
+    pub(crate) fn truth<'a>(
+        &self,
+        span: Span,
+        value: bool,
+        rest: &'a [Symbol],
+    ) -> Result<Found<'a>, Fault>
+        ensures gives { Gives result (done (Truth span value) rest.entry.now) }
+        ensures height { IfOk result HasHeight }
+        ensures low { IfOk result (λ f. f.height ≡ 0) }
+    {
+        self.node(span, ExprKind::Truth(value), 0, rest)
+    }
+
+    /// The variable of that name, which stands at that place.
+    pub(crate) fn variable<'a>(
+        &self,
+        span: Span,
+        text: &Text,
+        rest: &'a [Symbol],
+    ) -> Result<Found<'a>, Fault>
+        ensures gives { Gives result (done (Var span (record { span = span; text = text.now })) rest.entry.now) }
+        ensures height { IfOk result HasHeight }
+        ensures low { IfOk result (λ f. f.height ≡ 0) }
+    {
+        let text = text.copy()?;
+        self.node(span, ExprKind::Var(Name { span, text }), 0, rest)
+    }
+
+    /// The prefix at that place before an operand.
+    pub(crate) fn behind_prefix<'a>(
+        &self,
+        prefix: Prefix,
+        at: Span,
+        operand: Found<'a>,
+    ) -> Result<Found<'a>, Fault>
+        requires low { operand.height < 255 }
+        requires height { HasHeight operand }
+        ensures gives { Gives result (done (prefixed prefix at (tree operand.entry)) operand.entry.rest.now) }
+        ensures height { IfOk result HasHeight }
+        ensures same { IfOk result (λ f. f.height ≡ suc operand.entry.height) }
+    {
+        let height = operand.height + 1;
+        let kind = match prefix {
+            Prefix::Not => ExprKind::Not(operand.expr),
+            Prefix::Neg => ExprKind::Neg(operand.expr),
+        };
+        self.node(at, kind, height, operand.rest)
     }
 }

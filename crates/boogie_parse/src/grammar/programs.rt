@@ -24,7 +24,7 @@ type FoundDecls<'a> = (Vec<Decl>, &'a [Symbol]);
 
 /// How many procedures a declaration declares: one or none.
 fn procedures(declaration: &Decl) -> usize
-    ensures { result ≡ limits.procedures_of (view.declaration declaration.now ∷ []) }
+    ensures { result ≡ limits.procedures_counted (view.declaration declaration.now ∷ []) }
 {
     match declaration {
         Decl::Procedure(_) => 1,
@@ -34,7 +34,7 @@ fn procedures(declaration: &Decl) -> usize
 
 /// How many more procedures there is room for behind these declarations.
 fn room_behind(most: usize, declarations: &[Decl]) -> usize
-    ensures { result ≡ most - limits.procedures_of (map view.declaration declarations.now) }
+    ensures { result ≡ most - limits.procedures_counted (map view.declaration declarations.now) }
 {
     let mut room = most;
     for declaration in declarations {

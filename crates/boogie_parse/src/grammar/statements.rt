@@ -1,109 +1,165 @@
 //! Statements that hold no others.
 
-ghost use Rattle.std.specs.Prelude.{◌≡◌};
+ghost use Rattle.std.specs.Prelude.{◌≡◌, ◌++◌, ◌∷◌, [], None, IfErr, OnOk};
+ghost use Rattle.boogie_tree.specs.declared.tree.Stmt.TheVariants as stmts;
+ghost use Rattle.boogie_parse.specs.declared.fault.Fault.TheVariants as faults;
+ghost use Rattle.boogie_parse.specs.declared.symbols.Fixed.TheVariants as fixed;
 ghost use Rattle.boogie_parse.specs.ListReading as list;
 ghost use Rattle.boogie_parse.specs.StatementReading as spec;
-ghost use Rattle.boogie_parse.specs.StatementViews.{Adds};
+ghost use Rattle.boogie_parse.specs.StatementReading.{Inside};
+ghost use Rattle.boogie_parse.specs.StatementViews.{AddsIf};
 
 use super::lists::seen;
 use super::parser::Parser;
 use super::variables::PARENTHESES;
 use crate::fault::Fault;
-use crate::symbols::{Fixed, Symbol};
-use boogie_tree::{Name, Span, Stmt};
+use crate::symbols::{Fixed, Sign, Symbol};
+use boogie_tree::{Name, Span, Stmt, Text};
+
+/// Puts a statement behind the others.
+pub(super) fn put(statements: &mut Vec<Stmt>, statement: Stmt) -> Result<(), Fault>
+    ensures ok { OnOk result (statements.new.items ≡ statements.old.items ++ statement ∷ []) }
+    ensures fault { IfErr result (λ f. f ≡ faults.Memory) }
+{
+    statements.push(statement)?;
+    Ok(())
+}
+
+/// Puts the label of that name behind the others.
+fn put_label(statements: &mut Vec<Stmt>, span: Span, text: &Text) -> Result<(), Fault>
+    ensures ok { OnOk result (statements.new.items ≡ statements.old.items ++ stmts.Label (record { span = span; text = text.now }) ∷ []) }
+    ensures fault { IfErr result (λ f. f ≡ faults.Memory) }
+{
+    let text = text.copy()?;
+    put(statements, Stmt::Label(Name { span, text }))
+}
+
+impl Parser {
+    /// A statement that holds no others, if one stands there.
+    #[tactic(auto, unfolding(crate::specs::StatementReading::statement_at, crate::specs::ListReading::seen))]
+    pub(super) fn plain<'a>(
+        &self,
+        symbols: &'a [Symbol],
+        statements: &mut Vec<Stmt>,
+    ) -> Result<Option<&'a [Symbol]>, Fault>
+        requires no_branch { list.seen fixed.If symbols.now ≡ None }
+        requires no_loop { list.seen fixed.While symbols.now ≡ None }
+        ensures { (inside : Inside) → AddsIf statements.old.items statements.new.items result
+            (spec.statement_at (list.expression_at self.now.end) self.now.end 200 inside symbols.now) }
+    {
+        let Some((first, rest)) = symbols.split_first() else {
+            return Ok(None);
+        };
+        let span = first.span;
+        match &first.sign {
+            Sign::Fixed(Fixed::Assert) => self.assertion(span, rest, statements),
+            Sign::Fixed(Fixed::Assume) => self.assumption(span, rest, statements),
+            Sign::Fixed(Fixed::Havoc) => self.havoc(span, rest, statements),
+            Sign::Fixed(Fixed::Call) => self.call(span, rest, statements),
+            Sign::Fixed(Fixed::Break) => self.break_out(span, rest, statements),
+            Sign::Fixed(Fixed::Goto) => self.goto(span, rest, statements),
+            Sign::Fixed(Fixed::Return) => self.return_out(span, rest, statements),
+            Sign::Name(text) => self.named(span, text, symbols, rest, statements),
+            // (the caller has looked for these two)
+            Sign::Fixed(Fixed::If) => Ok(None),
+            Sign::Fixed(Fixed::While) => Ok(None),
+            _ => Ok(None),
+        }
+    }
+}
 
 /// Each takes the place of the statement's first word and the symbols behind it, adds the statement to the list, and gives the symbols
-/// behind the statement.
+/// behind it.
 impl Parser {
     #[tactic(auto, unfolding(crate::specs::StatementReading::assert_at))]
-    pub(super) fn assertion<'a>(
+    fn assertion<'a>(
         &self,
         span: Span,
         symbols: &'a [Symbol],
         statements: &mut Vec<Stmt>,
-    ) -> Result<&'a [Symbol], Fault>
-        ensures { Adds statements.old.items statements.new.items result
-            (spec.assert_at (list.expression_at self.now.end) self.now.end 200 span symbols.now) }
+    ) -> Result<Option<&'a [Symbol]>, Fault>
+        ensures { AddsIf statements.old.items statements.new.items result
+            (list.there (spec.assert_at (list.expression_at self.now.end) self.now.end 200 span symbols.now)) }
     {
         let (condition, rest) = self.claim(symbols)?;
-        statements.push(Stmt::Assert(span, condition))?;
-        Ok(rest)
+        put(statements, Stmt::Assert(span, condition))?;
+        Ok(Some(rest))
     }
 
     #[tactic(auto, unfolding(crate::specs::StatementReading::assume_at))]
-    pub(super) fn assumption<'a>(
+    fn assumption<'a>(
         &self,
         span: Span,
         symbols: &'a [Symbol],
         statements: &mut Vec<Stmt>,
-    ) -> Result<&'a [Symbol], Fault>
-        ensures { Adds statements.old.items statements.new.items result
-            (spec.assume_at (list.expression_at self.now.end) self.now.end 200 span symbols.now) }
+    ) -> Result<Option<&'a [Symbol]>, Fault>
+        ensures { AddsIf statements.old.items statements.new.items result
+            (list.there (spec.assume_at (list.expression_at self.now.end) self.now.end 200 span symbols.now)) }
     {
         let (condition, rest) = self.claim(symbols)?;
-        statements.push(Stmt::Assume(span, condition))?;
-        Ok(rest)
+        put(statements, Stmt::Assume(span, condition))?;
+        Ok(Some(rest))
     }
 
     #[tactic(auto, unfolding(crate::specs::StatementReading::havoc_at))]
-    pub(super) fn havoc<'a>(
+    fn havoc<'a>(
         &self,
         span: Span,
         symbols: &'a [Symbol],
         statements: &mut Vec<Stmt>,
-    ) -> Result<&'a [Symbol], Fault>
-        ensures { Adds statements.old.items statements.new.items result (spec.havoc_at self.now.end span symbols.now) }
+    ) -> Result<Option<&'a [Symbol]>, Fault>
+        ensures { AddsIf statements.old.items statements.new.items result (list.there (spec.havoc_at self.now.end span symbols.now)) }
     {
         let (names, rest) = self.listed_names(symbols)?;
-        statements.push(Stmt::Havoc(span, names))?;
-        Ok(rest)
+        put(statements, Stmt::Havoc(span, names))?;
+        Ok(Some(rest))
     }
 
     #[tactic(auto, unfolding(crate::specs::StatementReading::goto_at))]
-    pub(super) fn goto<'a>(
+    fn goto<'a>(
         &self,
         span: Span,
         symbols: &'a [Symbol],
         statements: &mut Vec<Stmt>,
-    ) -> Result<&'a [Symbol], Fault>
-        ensures { Adds statements.old.items statements.new.items result (spec.goto_at self.now.end span symbols.now) }
+    ) -> Result<Option<&'a [Symbol]>, Fault>
+        ensures { AddsIf statements.old.items statements.new.items result (list.there (spec.goto_at self.now.end span symbols.now)) }
     {
         let (names, rest) = self.listed_names(symbols)?;
-        statements.push(Stmt::Goto(span, names))?;
-        Ok(rest)
+        put(statements, Stmt::Goto(span, names))?;
+        Ok(Some(rest))
     }
 
     #[tactic(auto, unfolding(crate::specs::StatementReading::break_at))]
-    pub(super) fn break_out<'a>(
+    fn break_out<'a>(
         &self,
         span: Span,
         symbols: &'a [Symbol],
         statements: &mut Vec<Stmt>,
-    ) -> Result<&'a [Symbol], Fault>
-        ensures { Adds statements.old.items statements.new.items result (spec.break_at self.now.end span symbols.now) }
+    ) -> Result<Option<&'a [Symbol]>, Fault>
+        ensures { AddsIf statements.old.items statements.new.items result (list.there (spec.break_at self.now.end span symbols.now)) }
     {
         if let Some((_, rest)) = seen(Fixed::Semicolon, symbols) {
-            statements.push(Stmt::Break(span, None))?;
-            return Ok(rest);
+            put(statements, Stmt::Break(span, None))?;
+            return Ok(Some(rest));
         }
         let (label, rest) = self.name(symbols)?;
         let (_, rest) = self.behind(Fixed::Semicolon, rest)?;
-        statements.push(Stmt::Break(span, Some(label)))?;
-        Ok(rest)
+        put(statements, Stmt::Break(span, Some(label)))?;
+        Ok(Some(rest))
     }
 
     #[tactic(auto, unfolding(crate::specs::StatementReading::return_at))]
-    pub(super) fn return_out<'a>(
+    fn return_out<'a>(
         &self,
         span: Span,
         symbols: &'a [Symbol],
         statements: &mut Vec<Stmt>,
-    ) -> Result<&'a [Symbol], Fault>
-        ensures { Adds statements.old.items statements.new.items result (spec.return_at self.now.end span symbols.now) }
+    ) -> Result<Option<&'a [Symbol]>, Fault>
+        ensures { AddsIf statements.old.items statements.new.items result (list.there (spec.return_at self.now.end span symbols.now)) }
     {
         let (_, rest) = self.behind(Fixed::Semicolon, symbols)?;
-        statements.push(Stmt::Return(span))?;
-        Ok(rest)
+        put(statements, Stmt::Return(span))?;
+        Ok(Some(rest))
     }
 
     /// An assignment, from its first target on.
@@ -113,36 +169,37 @@ impl Parser {
         span: Span,
         symbols: &'a [Symbol],
         statements: &mut Vec<Stmt>,
-    ) -> Result<&'a [Symbol], Fault>
-        ensures { Adds statements.old.items statements.new.items result
-            (spec.assign_at (list.expression_at self.now.end) self.now.end 200 span symbols.now) }
+    ) -> Result<Option<&'a [Symbol]>, Fault>
+        ensures { AddsIf statements.old.items statements.new.items result
+            (list.there (spec.assign_at (list.expression_at self.now.end) self.now.end 200 span symbols.now)) }
     {
         let (targets, rest) = self.names(symbols.len(), symbols)?;
         let (_, rest) = self.behind(Fixed::Becomes, rest)?;
         let (values, rest) = self.expressions(PARENTHESES, rest)?;
         let (_, rest) = self.behind(Fixed::Semicolon, rest)?;
-        statements.push(Stmt::Assign(span, targets, values))?;
-        Ok(rest)
+        put(statements, Stmt::Assign(span, targets, values))?;
+        Ok(Some(rest))
     }
 
     /// A label or an assignment, whose name stands first; `rest` stands behind it.
     #[tactic(auto, unfolding(crate::specs::StatementReading::named_at))]
-    pub(super) fn named<'a>(
+    fn named<'a>(
         &self,
-        name: Name,
+        span: Span,
+        text: &Text,
         symbols: &'a [Symbol],
         rest: &'a [Symbol],
         statements: &mut Vec<Stmt>,
-    ) -> Result<&'a [Symbol], Fault>
-        ensures { Adds statements.old.items statements.new.items result
-            (spec.named_at (list.expression_at self.now.end) self.now.end 200 name symbols.now rest.now) }
+    ) -> Result<Option<&'a [Symbol]>, Fault>
+        ensures { AddsIf statements.old.items statements.new.items result
+            (list.there (spec.named_at (list.expression_at self.now.end) self.now.end 200 (record { span = span; text = text.now }) symbols.now rest.now)) }
     {
         match seen(Fixed::Colon, rest) {
             Some((_, rest)) => {
-                statements.push(Stmt::Label(name))?;
-                Ok(rest)
+                put_label(statements, span, text)?;
+                Ok(Some(rest))
             }
-            None => self.assignment(name.span, symbols, statements),
+            None => self.assignment(span, symbols, statements),
         }
     }
 
@@ -155,14 +212,14 @@ impl Parser {
         procedure: Name,
         symbols: &'a [Symbol],
         statements: &mut Vec<Stmt>,
-    ) -> Result<&'a [Symbol], Fault>
-        ensures { Adds statements.old.items statements.new.items result
-            (spec.called_at (list.expression_at self.now.end) self.now.end 200 span targets.items procedure symbols.now) }
+    ) -> Result<Option<&'a [Symbol]>, Fault>
+        ensures { AddsIf statements.old.items statements.new.items result
+            (list.there (spec.called_at (list.expression_at self.now.end) self.now.end 200 span targets.items procedure symbols.now)) }
     {
         let (arguments, rest) = self.arguments(symbols)?;
         let (_, rest) = self.behind(Fixed::Semicolon, rest)?;
-        statements.push(Stmt::Call(span, targets, procedure, arguments))?;
-        Ok(rest)
+        put(statements, Stmt::Call(span, targets, procedure, arguments))?;
+        Ok(Some(rest))
     }
 
     /// A call with targets.
@@ -172,9 +229,9 @@ impl Parser {
         span: Span,
         symbols: &'a [Symbol],
         statements: &mut Vec<Stmt>,
-    ) -> Result<&'a [Symbol], Fault>
-        ensures { Adds statements.old.items statements.new.items result
-            (spec.call_into (list.expression_at self.now.end) self.now.end 200 span symbols.now) }
+    ) -> Result<Option<&'a [Symbol]>, Fault>
+        ensures { AddsIf statements.old.items statements.new.items result
+            (list.there (spec.call_into (list.expression_at self.now.end) self.now.end 200 span symbols.now)) }
     {
         let (targets, rest) = self.names(symbols.len(), symbols)?;
         let (_, rest) = self.behind(Fixed::Becomes, rest)?;
@@ -183,14 +240,14 @@ impl Parser {
     }
 
     #[tactic(auto, unfolding(crate::specs::StatementReading::call_at))]
-    pub(super) fn call<'a>(
+    fn call<'a>(
         &self,
         span: Span,
         symbols: &'a [Symbol],
         statements: &mut Vec<Stmt>,
-    ) -> Result<&'a [Symbol], Fault>
-        ensures { Adds statements.old.items statements.new.items result
-            (spec.call_at (list.expression_at self.now.end) self.now.end 200 span symbols.now) }
+    ) -> Result<Option<&'a [Symbol]>, Fault>
+        ensures { AddsIf statements.old.items statements.new.items result
+            (list.there (spec.call_at (list.expression_at self.now.end) self.now.end 200 span symbols.now)) }
     {
         let (procedure, rest) = self.name(symbols)?;
         match seen(Fixed::OpenParenthesis, rest) {

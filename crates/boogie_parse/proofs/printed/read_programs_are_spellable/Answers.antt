@@ -1,6 +1,6 @@
 use Rattle.std.proofs.Common.{sym, subst}
 use Rattle.boogie_parse.specs.PrintedTokens.{HasSigns}
-use Rattle.boogie_parse.specs.GrammarProgram.{joined}
+use Rattle.boogie_parse.specs.GrammarProgram.{joined_groups}
 use Rattle.boogie_parse.proofs.SpellableTokens.{lexed_spellable}
 use Rattle.boogie_parse.proofs.SpellableTrees.{program_of}
 use Rattle.boogie_parse.proofs.PrintedPrograms.{program_has_signs}
@@ -11,4 +11,4 @@ returns-clause-spellable c text groups h = program_of h.spelled (lexed_spellable
 
 pub returns-clause-printed : goal.returns-clause-printed
 returns-clause-printed c text program h =
-    subst HasSigns (sym h.declarations) (program_has_signs (joined h.groups) (program_of h.spelled (lexed_spellable text h.tokens h.lexical)))
+    subst HasSigns (sym h.declarations) (program_has_signs (joined_groups h.groups) (program_of h.spelled (lexed_spellable text h.tokens h.lexical)))

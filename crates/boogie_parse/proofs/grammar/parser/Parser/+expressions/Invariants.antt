@@ -13,8 +13,11 @@ weight chains.Disjunction = 9
 weight chains.Sum = 5
 weight chains.Product = 3
 
-abbrev pub decreases-chain : goal.decreases-chain
-decreases-chain l = 32 * (l.parentheses + l.depth) + weight l.chain + 1
+abbrev pub decreases-product : goal.decreases-product
+decreases-product l = 32 * (l.parentheses + l.depth) + 3
+
+abbrev pub decreases-sum : goal.decreases-sum
+decreases-sum l = 32 * (l.parentheses + l.depth) + 4
 
 abbrev pub decreases-chain_from : goal.decreases-chain_from
 decreases-chain_from l = 32 * (l.parentheses + l.depth)
@@ -25,11 +28,20 @@ decreases-comparison l = 32 * (l.parentheses + l.depth) + 8
 abbrev pub decreases-group : goal.decreases-group
 decreases-group l = 32 * (l.parentheses + l.depth)
 
+abbrev pub decreases-implied : goal.decreases-implied
+decreases-implied l = 32 * (l.parentheses + l.depth)
+
+abbrev pub decreases-compared : goal.decreases-compared
+decreases-compared l = 32 * (l.parentheses + l.depth)
+
+abbrev pub decreases-prefixed : goal.decreases-prefixed
+decreases-prefixed l = 32 * (l.parentheses + l.depth) + 1
+
 abbrev pub decreases-implication : goal.decreases-implication
 decreases-implication l = 32 * (l.parentheses + l.depth) + 12
 
-abbrev pub decreases-junction : goal.decreases-junction
-decreases-junction l = 32 * (l.parentheses + l.depth) + 11
+abbrev pub decreases-joined : goal.decreases-joined
+decreases-joined l = 32 * (l.parentheses + l.depth) + 1
 
 abbrev pub decreases-old_value : goal.decreases-old_value
 decreases-old_value l = 32 * (l.parentheses + l.depth)

@@ -1,10 +1,11 @@
-use Rattle.std.proofs.Common.{refl, ap, arith, map, length}
+use Rattle.std.proofs.Common.{refl, ap, sym, arith, map, length}
 use Rattle.std.proofs.lemmas.Result.{err_from_is_err_and}
 use Rattle.boogie_tree.specs.View.{statement}
 use Rattle.boogie_parse.specs.ListReading.{one_there, expression_at}
 use Rattle.boogie_parse.specs.StatementReading.{statement_item, list_at}
 use Rattle.boogie_parse.specs.StatementViews.{inside}
 use Rattle.boogie_parse.proofs.ListTurns.{starts, continues, stops, fails, completes, length-adds, map-pushed}
+use Rattle.boogie_parse.proofs.OpenedStatements.{statement_if, statement_while, added_there}
 use Rattle.boogie_parse.proofs.BlockSteps.{block_unopened, block_full, block_opened, block_fails, branch_full, branch_goes}
 use Rattle.boogie_parse.proofs.grammar.parser.Parser.+statements.Goals as goal
 
@@ -30,6 +31,18 @@ list-loop-turn-preserved t c =
 
 pub list-returns : goal.list-returns
 list-returns t c = completes (statement_item (expression_at c.args.self.now.end) c.args.self.now.end 200 (inside c.args.self.now.end c.args.blocks)) length _ _ _ _ _ c.loop-turn.invariant (omega arith)
+
+-- a statement
+
+pub statement-returns-in-Some : goal.statement-returns-in-Some
+statement-returns-in-Some t c =
+    let e = statement_if (expression_at c.args.self.now.end) c.args.self.now.end 200 (inside c.args.self.now.end c.args.blocks) c.args.symbols.now _ (sym c.in-Some.ensures) in
+    rw (c.there.ensures, e) (added_there _ _ c.branch-self.result _ c.branch-self.ensures)
+
+pub statement-returns-in-Some-seen : goal.statement-returns-in-Some-seen
+statement-returns-in-Some-seen t c =
+    let e = statement_while (expression_at c.args.self.now.end) c.args.self.now.end 200 (inside c.args.self.now.end c.args.blocks) c.args.symbols.now _ (sym c.in-Some-seen.ensures) in
+    rw (c.there-in-Some-seen.ensures, e) (added_there _ _ c.looped.result _ c.looped.ensures)
 
 -- a block
 

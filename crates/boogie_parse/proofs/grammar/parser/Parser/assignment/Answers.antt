@@ -1,11 +1,12 @@
 use Rattle.std.proofs.Common.{refl}
+use Rattle.boogie_parse.specs.ListReading.{expression_at}
 use Rattle.boogie_parse.specs.StatementReading.{assign_at}
 use Rattle.boogie_parse.proofs.SeenStatements.{seen_assign}
-use Rattle.boogie_parse.proofs.AddedStatements.{added}
+use Rattle.boogie_parse.proofs.AddedStatements.{added_if}
 use Rattle.boogie_parse.proofs.grammar.parser.Parser.assignment.Goals as goal
 
 pub returns : goal.returns
 unfolding assign_at
 returns c =
-    added _ _ _ _ _ _ c.in_ok-push.ensures.items (seen_assign c.args.span c.in_ok-targets.targets c.in_ok-values.values)
+    added_if _ _ _ _ (assign_at (expression_at c.args.self.now.end) c.args.self.now.end 200 c.args.span c.args.symbols.now) _ c.in_ok-put.ensures.ok (seen_assign c.args.span c.in_ok-targets.targets c.in_ok-values.values)
     (rw (c.in_ok-targets.ensures, c.in_ok-rest.ensures, c.in_ok-values.ensures, c.in_ok-rest-2.ensures) refl)

@@ -1,6 +1,6 @@
 use Rattle.std.proofs.Common.{◌≡◌, ◌-◌, map}
 use Rattle.boogie_tree.specs.View.{declaration}
-use Rattle.boogie_parse.specs.GrammarLimits.{procedures_of}
+use Rattle.boogie_parse.specs.GrammarLimits.{procedures_counted}
 use Rattle.boogie_parse.specs.ListReading.{expression_at}
 use Rattle.boogie_parse.specs.ProgramReading.{declaration_at, declarations_at}
 use Rattle.boogie_parse.proofs.ListTurns.{Reached, remaining}
@@ -8,5 +8,5 @@ use Rattle.boogie_parse.proofs.grammar.parser.Parser.declarations.Given as goal
 
 abbrev pub invariant-loop-turn : goal.invariant-loop-turn
 invariant-loop-turn l =
-    (l.room ≡ l.fn.most - procedures_of (map declaration l.declarations.items))
-    × Reached (map declaration l.declarations.items) (remaining (declaration_at (expression_at l.self.end) l.self.end 200 200 1000) procedures_of l.fn.most (map declaration l.declarations.items) (l._turn-end - l._turn) l.rest) (declarations_at (expression_at l.self.end) l.self.end 200 200 1000 l.fn.most l.fn.symbols)
+    (l.room ≡ l.fn.most - procedures_counted (map declaration l.declarations.items))
+    × Reached (map declaration l.declarations.items) (remaining (declaration_at (expression_at l.self.end) l.self.end 200 200 1000) procedures_counted l.fn.most (map declaration l.declarations.items) (l._turn-end - l._turn) l.rest) (declarations_at (expression_at l.self.end) l.self.end 200 200 1000 l.fn.most l.fn.symbols)

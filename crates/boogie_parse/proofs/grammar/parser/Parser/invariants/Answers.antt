@@ -1,5 +1,4 @@
 use Rattle.std.proofs.Common.{refl, ap, arith, map, length}
-use Rattle.std.proofs.lemmas.Result.{err_from_is_err_and}
 use Rattle.boogie_tree.specs.View.{invariant}
 use Rattle.boogie_parse.specs.ListReading.{one_there, expression_at, invariant_item, invariants_at}
 use Rattle.boogie_parse.proofs.ListTurns.{starts, continues, stops, fails, completes, length-adds, map-pushed}
@@ -9,19 +8,18 @@ pub loop-turn-init : goal.loop-turn-init
 unfolding invariants_at
 loop-turn-init c = starts (invariant_item (expression_at c.args.self.now.end) c.args.self.now.end 200) length length-adds _ _ _ _ _ (ap (map invariant) c.new-invariants.ensures.items) (omega arith)
 
-pub returns-in_err-invariant : goal.returns-in_err-invariant
-returns-in_err-invariant c =
-    let p = err_from_is_err_and c.from_residual.result c.from_residual.ensures.1 in
-    rw (p.1, p.2) (λ m. fails (invariant_item (expression_at c.args.self.now.end) c.args.self.now.end 200) length _ _ _ _ _ _ _ _ c.loop-turn.invariant c.loop-turn-test.true refl (ap one_there (c.in_err-invariant.ensures m)))
+pub returns-in-Err : goal.returns-in-Err
+returns-in-Err c =
+    λ m. fails (invariant_item (expression_at c.args.self.now.end) c.args.self.now.end 200) length _ _ _ _ _ _ _ _ c.loop-turn.invariant c.loop-turn-test.true refl (ap one_there (c.in-Err.ensures m))
 
-pub returns-in-None : goal.returns-in-None
-returns-in-None c =
-    stops (invariant_item (expression_at c.args.self.now.end) c.args.self.now.end 200) length _ _ _ _ _ _ _ c.loop-turn.invariant c.loop-turn-test.true refl (ap one_there (rw c.in-None.is at c.in_ok-invariant.ensures))
+pub returns-in-Ok-None : goal.returns-in-Ok-None
+returns-in-Ok-None c =
+    stops (invariant_item (expression_at c.args.self.now.end) c.args.self.now.end 200) length _ _ _ _ _ _ _ c.loop-turn.invariant c.loop-turn-test.true refl (ap one_there (rw c.in-Ok-None.field-0-is at c.in-Ok-None.ensures))
 
 pub loop-turn-preserved : goal.loop-turn-preserved
 loop-turn-preserved c =
-    continues (invariant_item (expression_at c.args.self.now.end) c.args.self.now.end 200) length length-adds _ _ _ _ _ _ _ _ _ _ c.loop-turn.invariant c.loop-turn-test.true refl (ap one_there (rw c.in-Some.is at c.in_ok-invariant.ensures))
-    (map-pushed invariant _ _ _ c.in_ok-push-in-Some.ensures.items)
+    continues (invariant_item (expression_at c.args.self.now.end) c.args.self.now.end 200) length length-adds _ _ _ _ _ _ _ _ _ _ c.loop-turn.invariant c.loop-turn-test.true refl (ap one_there (rw c.in-Ok-Some.field-0-is at c.in-Ok-Some.ensures))
+    (map-pushed invariant _ _ _ c.in_ok-push-in-Ok-Some.ensures.items)
 
 pub returns : goal.returns
 returns c = completes (invariant_item (expression_at c.args.self.now.end) c.args.self.now.end 200) length _ _ _ _ _ c.loop-turn.invariant (omega arith)
