@@ -11,7 +11,7 @@ use Rattle.typed_tree.specs.Values.{member, value}
 use Rattle.typed_tree.specs.Scope.{axiom_scope}
 use Rattle.typed_tree.specs.TypedTree.{TypedExpression, TypedBlock, Empty, Then, Assert, Assume, Havoc, Assign, Call, If, While, Break, Goto, Return, Label, TypedProcedure, TypedProgram}
 use Rattle.typing_rules.specs.Counts.{numbers_fit}
-use Rattle.typing_rules.specs.Rules.{meets, is_condition, is_specification, is_procedure, is_body_if_any, within, context_of, keeps_typing}
+use Rattle.typing_rules.specs.Rules.{meets, is_condition, is_specification, procedure_keeps_rules, is_body_if_any, within, context_of, keeps_typing}
 use Rattle.typing_rules.specs.Shape.{are_names, are_locals, are_modified, is_body_shaped, is_procedure_shaped, has_shape}
 use Rattle.typing_rules.specs.ValidProgram.{has_body, has_entry, is_typed, is_valid}
 use Rattle.boogie_points.specs.Points.{Todo, Point, settled, past_first}
@@ -20,7 +20,7 @@ use Rattle.boogie_points.specs.Actions.{Action, action_at, first_assertion, firs
 use Rattle.boogie_points.specs.Starts.{point_of_procedure, point_of_call, unless_none, start_point_of, targets_at}
 use Rattle.boogie_run.specs.Configurations.{Frame, Config, state_of}
 use Rattle.boogie_run.specs.Needs.{need, is_taken, locals_at}
-use Rattle.boogie_run.specs.Steps.{Outcome, Went, Blocked, Failed, Ended, Refused, put, written, all_written, all_put, modifies_of, moved_to, kept_on, kept_to, passed_state, granted_state, finished, entered, left, results_of, is_true, went_if, act, with_global, with_local, next, step, start}
+use Rattle.boogie_run.specs.Steps.{Outcome, Went, Blocked, Failed, Ended, Refused, put, written, all_written, all_put, modifies_of, moved_to, kept_on, kept_to, passed_state, granted_state, finished, entered, left, results_left, is_true, went_if, act, with_global, with_local, next, step, start}
 use Rattle.boogie_run.specs.Runs.{then_goes_on, run}
 use Rattle.boogie_run.specs.Laws.{SameConstants}
 use Rattle.boogie_run.proofs.TypedPoints.{IsKept, AreKept, settled_kept, past_first_kept}
@@ -109,9 +109,9 @@ module _ (t : TypedProgram) (valid : IsTrue (is_valid t)) where
 
   pub bodies_kept : (n : ℕ) (q : TypedProcedure) → slice_get t.procs n ≡ Some q → (b : TypedBlock) → q.body ≡ Some b → IsKept t q b
   bodies_kept n q at b e =
-      let procedures = (and_parts (list_all (is_condition (axiom_scope t.globals)) t.axioms) (list_all (is_procedure t.globals t.procs) t.procs)
+      let procedures = (and_parts (list_all (is_condition (axiom_scope t.globals)) t.axioms) (list_all (procedure_keeps_rules t.globals t.procs) t.procs)
       (and_parts (keeps_typing t) (has_entry t) rules_part).0).1 in
-      let whole = all_at (is_procedure t.globals t.procs) t.procs n q procedures at in
+      let whole = all_at (procedure_keeps_rules t.globals t.procs) t.procs n q procedures at in
       let body = (and_parts (list_all (is_specification t.globals q) q.specs) (is_body_if_any (context_of t.globals t.procs q) q.body) whole).1 in
       record {
         context = within (context_of t.globals t.procs q) b;
@@ -247,9 +247,9 @@ module _ (t : TypedProgram) (valid : IsTrue (is_valid t)) where
   left_sound c (f ∷ fs) top s full =
       let d : Config = record { globals = c.globals; top = f; below = fs } in
       let sound : Sound d = record { top = s.0; below = s.1; choosing = λ less. absurd (omega arith) } in
-      let e : Config = all_written d (targets_at f.point.todo) (results_of t c.top) in
+      let e : Config = all_written d (targets_at f.point.todo) (results_left t c.top) in
       moved_sound d e (moved_to e (settled (past_first t.procs f.point.todo))) sound full
-      (all_written_follows t d (targets_at f.point.todo) (results_of t c.top) (targets_vary s.0.procedure f.point.todo s.0.kept))
+      (all_written_follows t d (targets_at f.point.todo) (results_left t c.top) (targets_vary s.0.procedure f.point.todo s.0.kept))
       (settled_kept t s.0.procedure (past_first t.procs f.point.todo) (past_first_kept t s.0.procedure f.point.todo s.0.kept)) refl refl refl refl
 
   pub finished_follows : (c : Config) (f : ℕ) (targets : List Column) → AllByRecursion (Varies t) targets → Follows t c (finished t c f targets)

@@ -15,7 +15,7 @@ use Rattle.boogie_points.specs.Actions.{Action, action_at, free_conditions, star
 use Rattle.boogie_points.specs.Starts.{point_of_procedure, point_of_call, unless_none, start_point_of, targets_at}
 use Rattle.boogie_run.specs.Configurations.{Frame, Config, state_of}
 use Rattle.boogie_run.specs.Needs.{need, need_of_action, is_taken, locals_at, locals_if_any}
-use Rattle.boogie_run.specs.Steps.{Outcome, Went, Blocked, Failed, Ended, Refused, values, written, all_written, all_put, modifies_of, moved_to, kept_on, kept_to, passed_state, granted_state, finished, left, results_of, results_if_any, is_true, went_if, act, with_global, with_local, next, step, start}
+use Rattle.boogie_run.specs.Steps.{Outcome, Went, Blocked, Failed, Ended, Refused, values, written, all_written, all_put, modifies_of, moved_to, kept_on, kept_to, passed_state, granted_state, finished, left, results_left, results_if_any, is_true, went_if, act, with_global, with_local, next, step, start}
 use Rattle.boogie_run.specs.Runs.{then_goes_on, run}
 use Rattle.boogie_run.specs.Laws.{TruthsHold, FrameHolds}
 use Rattle.boogie_run.proofs.NextLemmas.{need_global, need_local, need_action}
@@ -95,7 +95,7 @@ module _ (t : TypedProgram) (valid : IsTrue (is_valid t)) where
       ColumnsHold t.globals (locals_at t c.top.proc) zs cs
   all_columns c q zs cs e h = subst (λ (ls : List VarInfo). ColumnsHold t.globals ls zs cs) (sym (ap locals_if_any e)) h
 
-  results_hold : (c : Config) (p : TypedProcedure) → slice_get t.procs c.top.proc ≡ Some p → RunTrue c → ValuesHold (results_of t c.top) (take p.results (drop p.params p.locals))
+  results_hold : (c : Config) (p : TypedProcedure) → slice_get t.procs c.top.proc ≡ Some p → RunTrue c → ValuesHold (results_left t c.top) (take p.results (drop p.params p.locals))
   results_hold c p e r =
       subst (λ (o : Option TypedProcedure). ValuesHold (results_if_any o c.top.locals) (take p.results (drop p.params p.locals))) (sym e)
       (part_holds p.params p.results c.top.locals p.locals (subst (λ (ls : List VarInfo). TruthsHold ls c.top.locals) (ap locals_if_any e) r.top.1))
@@ -108,7 +108,7 @@ module _ (t : TypedProgram) (valid : IsTrue (is_valid t)) where
       let start_here : Config = record { globals = c.globals; top = f; below = fs } in
       let p : Point = settled (past_first t.procs f.point.todo) in
       let targets : List Column = targets_at f.point.todo in
-      let zs : List ℤ = results_of t c.top in
+      let zs : List ℤ = results_left t c.top in
       let e : Config = all_written start_here targets zs in
       let back : ColumnsHold t.globals s.0.procedure.locals zs targets =
       returned_hold t s.0.procedure top.procedure c.top.proc zs f.point.todo s.0.kept k.0 top.found (results_hold c top.procedure top.found r) in

@@ -4,7 +4,7 @@ use Rattle.math_facts.specs.Optional.{or_zero}
 use Rattle.boogie_tree.specs.declared.tree.Column.{Column}
 use Rattle.boogie_tree.specs.declared.tree.Column.TheVariants as columns
 use Rattle.typed_tree.specs.TypedTree.{TypedExpression, TypedProcedure, TypedProgram}
-use Rattle.typed_tree.specs.Values.{State, value, is_zero}
+use Rattle.typed_tree.specs.Values.{State, value, value_is_zero}
 use Rattle.boogie_points.specs.Points.{Point, settled, past_first}
 use Rattle.boogie_points.specs.Actions.{Action, Check, Suppose, Demand, Write, Guess, Test, Pick, Jump, Enter, Keep, Grant, Finish, Leave, action_at}
 use Rattle.boogie_points.specs.Starts.{point_of_call, start_point_of, targets_at}
@@ -94,18 +94,18 @@ results_if_any None locals = []
 results_if_any (Some q) locals = take q.results (drop q.params locals)
 
 -- the results of the frame that runs
-abbrev pub results_of : TypedProgram → Frame → List ℤ
-results_of t f = results_if_any (slice_get t.procs f.proc) f.locals
+abbrev pub results_left : TypedProgram → Frame → List ℤ
+results_left t f = results_if_any (slice_get t.procs f.proc) f.locals
 
 -- A return: the results go to the targets of the call at which the frame below stands, which is then past it. The first frame ends the run.
 abbrev pub left : TypedProgram → Config → List Frame → Outcome
 left t c [] = Ended
 left t c (f ∷ fs) =
-    Went (moved_to (all_written (record { globals = c.globals; top = f; below = fs }) (targets_at f.point.todo) (results_of t c.top))
+    Went (moved_to (all_written (record { globals = c.globals; top = f; below = fs }) (targets_at f.point.todo) (results_left t c.top))
     (settled (past_first t.procs f.point.todo)))
 
 abbrev pub is_true : ℤ → Bool
-is_true z = not (is_zero z)
+is_true z = not (value_is_zero z)
 
 abbrev pub went_if : Option Point → Config → Outcome
 went_if None c = Refused

@@ -52,7 +52,7 @@ fn modifies_at(program: &Typed, proc: u32) -> &[u32]
 
 /// The results of a frame.
 fn results<'c>(program: &Typed, frame: &'c RunFrame<'_>) -> &'c [i128]
-    ensures { result.now ≡ spec.results_of (typed_program program.now) (frame_of frame.now) }
+    ensures { result.now ≡ spec.results_left (typed_program program.now) (frame_of frame.now) }
 {
     match program.procs().get(frame.proc as usize) {
         Some(found) => front(

@@ -6,7 +6,7 @@ use Rattle.boogie_tree.specs.declared.tree.Vary.{Vary}
 use Rattle.boogie_tree.specs.Tree as tree
 use Rattle.typed_tree.specs.TypedTree as typed
 use Rattle.typed_tree.specs.TypedTree.{TypedExpression, TypedStatement}
-use Rattle.boogie_types.specs.Naming.{Place, each, both, named, is_hidden, hidden_arguments, hidden_column, put_aside, named_arguments, expression_span}
+use Rattle.boogie_types.specs.Naming.{NamingPlace, each, from_both, named, is_hidden, hidden_arguments, hidden_column, put_aside, named_arguments, expression_span}
 
 -- the first parameter, if there is one, and those behind it
 abbrev pub front : List Vary → List Vary
@@ -19,7 +19,7 @@ behind (v ∷ vs) = vs
 
 -- two lists that are made, one behind the other
 abbrev pub together : {X : Type 0} → Option (List X) → Option (List X) → Option (List X)
-together a b = both (λ xs ys. xs ++ ys) a b
+together a b = from_both (λ xs ys. xs ++ ys) a b
 
 -- how many hidden locals the first argument needs
 abbrev pub needed : List Vary → tree.Expression → ℕ
@@ -34,25 +34,25 @@ one_left x None = refl
 one_left x (Some xs) = refl
 
 made_left : {X Y : Type 0} (g : Y → X) (y : Option Y) (o : Option (List X)) →
-    both (λ a xs. g a ∷ xs) y o ≡ together (both (λ a xs. g a ∷ xs) y (Some [])) o
+    from_both (λ a xs. g a ∷ xs) y o ≡ together (from_both (λ a xs. g a ∷ xs) y (Some [])) o
 made_left g None o = refl
 made_left g (Some y) None = refl
 made_left g (Some y) (Some xs) = refl
 
-plain_arguments : (p : Place) (n : ℕ) (es : List tree.Expression) → named_arguments p n [] es ≡ each (named p.scope) es
+plain_arguments : (p : NamingPlace) (n : ℕ) (es : List tree.Expression) → named_arguments p n [] es ≡ each (named p.scope) es
 plain_arguments p n [] = refl
 plain_arguments p n (e ∷ es) = refl
 
 each_left : {X Y : Type 0} (f : X → Option Y) (x : X) (xs : List X) → each f (x ∷ xs) ≡ together (each f (x ∷ [])) (each f xs)
 each_left f x xs = by_first (f x) (each f xs)
   where
-    by_first : {Y : Type 0} (o : Option Y) (r : Option (List Y)) → both (λ y ys. y ∷ ys) o r ≡ together (both (λ y ys. y ∷ ys) o (Some [])) r
+    by_first : {Y : Type 0} (o : Option Y) (r : Option (List Y)) → from_both (λ y ys. y ∷ ys) o r ≡ together (from_both (λ y ys. y ∷ ys) o (Some [])) r
     by_first None r = refl
     by_first (Some y) None = refl
     by_first (Some y) (Some ys) = refl
 
 -- the arguments are the first and those behind it
-pub arguments_turn : (p : Place) (n : ℕ) (vs : List Vary) (e : tree.Expression) (es : List tree.Expression) →
+pub arguments_turn : (p : NamingPlace) (n : ℕ) (vs : List Vary) (e : tree.Expression) (es : List tree.Expression) →
     named_arguments p n vs (e ∷ es) ≡ together (named_arguments p n (front vs) (e ∷ [])) (named_arguments p (n + needed vs e) (behind vs) es)
 arguments_turn p n [] e es =
     each_left (named p.scope) e es ∙ ap (together (each (named p.scope) (e ∷ []))) (sym (plain_arguments p (n + 0) es))
@@ -60,17 +60,17 @@ arguments_turn p n (v ∷ vs) e es = by_hidden (is_hidden v.ty e)
   where
     by_hidden : (b : Bool) →
         (if b then option_map (λ ts. typed.Var (expression_span e) (hidden_column p n) ∷ ts) (named_arguments p (n + 1) vs es)
-        else both (λ t ts. t ∷ ts) (named p.scope e) (named_arguments p n vs es))
+        else from_both (λ t ts. t ∷ ts) (named p.scope e) (named_arguments p n vs es))
         ≡ together
-        (if b then option_map (λ ts. typed.Var (expression_span e) (hidden_column p n) ∷ ts) (Some []) else both (λ t ts. t ∷ ts) (named p.scope e) (Some []))
+        (if b then option_map (λ ts. typed.Var (expression_span e) (hidden_column p n) ∷ ts) (Some []) else from_both (λ t ts. t ∷ ts) (named p.scope e) (Some []))
         (named_arguments p (n + length (if b then e ∷ [] else [])) vs es)
     by_hidden true = sym (one_left (typed.Var (expression_span e) (hidden_column p n)) (named_arguments p (n + 1) vs es))
     by_hidden false =
         made_left (λ t. t) (named p.scope e) (named_arguments p n vs es)
-        ∙ ap (λ (k : ℕ). together (both (λ t ts. t ∷ ts) (named p.scope e) (Some [])) (named_arguments p k vs es)) (omega arith)
+        ∙ ap (λ (k : ℕ). together (from_both (λ t ts. t ∷ ts) (named p.scope e) (Some [])) (named_arguments p k vs es)) (omega arith)
 
 -- the same of what is put aside
-pub aside_turn : (p : Place) (n : ℕ) (at : Span) (vs : List Vary) (e : tree.Expression) (es : List tree.Expression) →
+pub aside_turn : (p : NamingPlace) (n : ℕ) (at : Span) (vs : List Vary) (e : tree.Expression) (es : List tree.Expression) →
     put_aside p n at (hidden_arguments vs (e ∷ es))
     ≡ together (put_aside p n at (hidden_arguments (front vs) (e ∷ []))) (put_aside p (n + needed vs e) at (hidden_arguments (behind vs) es))
 aside_turn p n at [] e es = refl

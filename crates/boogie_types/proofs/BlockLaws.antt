@@ -8,7 +8,7 @@ use Rattle.boogie_tree.specs.View as view
 use Rattle.typed_tree.specs.declared.fault.TypeFault.{TypeFault}
 use Rattle.typed_tree.specs.TypedTree.{TypedStatement, TypedBlock, Empty, Then}
 use Rattle.typed_tree.specs.TypedView as typed
-use Rattle.boogie_types.specs.Naming.{Place, named_statement, named_block, hidden_in, hidden_in_block, label_of, both, in_front}
+use Rattle.boogie_types.specs.Naming.{NamingPlace, named_statement, named_block, hidden_in, hidden_in_block, label_of, from_both, in_front}
 use Rattle.boogie_types.specs.Making.{made, block_made}
 use Rattle.boogie_types.specs.BrokenNames.{IsMisnamed, IsMisnamedIn, first, later}
 
@@ -26,7 +26,7 @@ block_end done = ap (λ (b : TypedBlock). Some b) (in_front-block done)
 
 -- one statement more is made
 joined : (done new : List TypedStatement) (o : Option (List TypedStatement)) (rest : Option TypedBlock) → made done o ≡ Some new →
-    block_made done (both in_front o rest) ≡ block_made new rest
+    block_made done (from_both in_front o rest) ≡ block_made new rest
 joined done new None rest e = absurd (false≢true (let x : false ≡ true = cc in x))
 joined done new (Some ss) None e = refl
 joined done new (Some ss) (Some b) e =
@@ -39,7 +39,7 @@ statements-drop : (stmts : List Stmt) (i : ℕ) (x : Stmt) → i < length stmts 
 statements-drop stmts i x l e =
     ap view.statements (drop_more stmts i x l) ∙ ap (λ y. tree.Then (view.statement y) (view.statements (drop (i + 1) stmts))) (sym e)
 
-module _ (p : Place) (stmts : List Stmt) (i : ℕ) (x : Stmt) (l : i < length stmts) (here : x ≡ get_or stmts i x) where
+module _ (p : NamingPlace) (stmts : List Stmt) (i : ℕ) (x : Stmt) (l : i < length stmts) (here : x ≡ get_or stmts i x) where
   -- what is made and what is still to be made stay the whole
   pub block_turn : (before next : Option (List ℕ)) (n m : ℕ) (done new : List TypedStatement) (whole : Option TypedBlock) →
       made done (named_statement p before n (view.statement x)) ≡ Some new → m ≡ n + hidden_in p (view.statement x) → next ≡ label_of (view.statement x) →
@@ -74,7 +74,7 @@ module _ (p : Place) (stmts : List Stmt) (i : ℕ) (x : Stmt) (l : i < length st
       w f (subst (λ c. IsMisnamedIn p before c f) (sym (statements-drop stmts i x l here)) (first p before (view.statement x) (view.statements (drop (i + 1) stmts)) f h))
 
 -- how many hidden locals are needed does not depend on the loops around
-module _ (p : Place) (loops : List (Option (List ℕ))) where
+module _ (p : NamingPlace) (loops : List (Option (List ℕ))) where
   mutual
     pub hidden_anywhere : (s : tree.Statement) → hidden_in (record p { loops = loops }) s ≡ hidden_in p s
     hidden_anywhere (tree.Assert at e) = refl

@@ -13,7 +13,7 @@ use Rattle.boogie_tree.specs.declared.tree.Vary.{Vary}
 use Rattle.boogie_tree.specs.Tree.{Expression, Procedure}
 use Rattle.boogie_tree.specs.View as view
 use Rattle.typed_tree.specs.TypedTree.{TypedExpression, Var, TypedStatement, Assign, Call}
-use Rattle.boogie_types.specs.Naming.{Place, both, named, is_hidden, hidden_column, hidden_arguments, named_arguments, put_aside, named_call, procedure_number, params_named, params_if_any, targets_of}
+use Rattle.boogie_types.specs.Naming.{NamingPlace, from_both, named, is_hidden, hidden_column, hidden_arguments, named_arguments, put_aside, named_call, procedure_number, params_named, params_if_any, targets_of}
 use Rattle.boogie_types.specs.Naming.{expression_span}
 use Rattle.boogie_types.specs.NamingFaults.{IsCallUnknown, callee, target, argument, IsCallFault}
 use Rattle.boogie_types.proofs.FaultLaws.{or_memory_to}
@@ -61,7 +61,7 @@ made_joined done new (Some ss) (Some ts) e =
     let n : done ++ ss ≡ new = cc in
     ap (λ xs. Some xs) (sym (append_assoc done ss ts) ∙ ap (λ xs. xs ++ ts) n)
 
-module _ (p : Place) (at : Span) (params : List Vary) (exprs : List Expr) (i : ℕ) (x : Expr) (o : Option (Bor Vary)) (n m : ℕ)
+module _ (p : NamingPlace) (at : Span) (params : List Vary) (exprs : List Expr) (i : ℕ) (x : Expr) (o : Option (Bor Vary)) (n m : ℕ)
     (l : i < length exprs) (here : x ≡ get_or exprs i x) (parameter : option_copied o ≡ slice_get params i)
     (moved : m ≡ n + length (hidden_arguments (parameter_by o) (view.expression x ∷ []))) where
   exprs-drop : map view.expression (drop i exprs) ≡ view.expression x ∷ map view.expression (drop (i + 1) exprs)
@@ -118,14 +118,14 @@ no_arguments [] = refl
 no_arguments (v ∷ vs) = refl
 
 call_behind : (done mid : List TypedStatement) (o : Option (List TypedStatement)) (s : TypedStatement) → made done o ≡ Some mid →
-    made done (both (λ before last. before ++ (last ∷ [])) o (Some s)) ≡ Some (mid ++ s ∷ [])
+    made done (from_both (λ before last. before ++ (last ∷ [])) o (Some s)) ≡ Some (mid ++ s ∷ [])
 call_behind done mid None s e = absurd (false≢true (let x : false ≡ true = cc in x))
 call_behind done mid (Some ss) s e =
     let n : done ++ ss ≡ mid = cc in
     ap (λ xs. Some xs) (sym (append_assoc done ss (s ∷ [])) ∙ ap (λ xs. xs ++ s ∷ []) n)
 
 -- a call behind what it puts aside
-pub call_made : (p : Place) (n : ℕ) (at : Span) (xs : List Name) (f : Name) (es : List Expression) (k : ℕ) (cs : List Column) (ts : List TypedExpression) (params : List Vary) (done mid : List TypedStatement) →
+pub call_made : (p : NamingPlace) (n : ℕ) (at : Span) (xs : List Name) (f : Name) (es : List Expression) (k : ℕ) (cs : List Column) (ts : List TypedExpression) (params : List Vary) (done mid : List TypedStatement) →
     procedure_number p f ≡ Some k → params_named p f ≡ params → targets_of p.scope xs ≡ Some cs → named_arguments p n params es ≡ Some ts →
     made done (put_aside p n at (hidden_arguments params es)) ≡ Some mid →
     made done (named_call p n at xs f es) ≡ Some (mid ++ Call at cs k ts ∷ [])
@@ -133,14 +133,14 @@ call_made p n at xs f es k cs ts params done mid ek ep ec et em =
     rw (ep, ec, ek, et) (call_behind done mid (put_aside p n at (hidden_arguments params es)) (Call at cs k ts) em)
 
 -- the parameters of a procedure with a number
-pub params_numbered : (p : Place) (f : Name) (k : ℕ) → procedure_number p f ≡ Some k → params_named p f ≡ params_if_any (slice_get p.procs k)
+pub params_numbered : (p : NamingPlace) (f : Name) (k : ℕ) → procedure_number p f ≡ Some k → params_named p f ≡ params_if_any (slice_get p.procs k)
 params_numbered p f k e = ap (λ o. params_if_any (option_and_then (slice_get p.procs) o)) e
 
 -- the loops around make no difference to a call
-module _ (p : Place) (loops : List (Option (List ℕ))) where
+module _ (p : NamingPlace) (loops : List (Option (List ℕ))) where
   aside_anywhere : (n : ℕ) (at : Span) (es : List Expression) → put_aside (record p { loops = loops }) n at es ≡ put_aside p n at es
   aside_anywhere n at [] = refl
-  aside_anywhere n at (e ∷ es) = ap (λ o. both (λ t ts. Assign at (hidden_column p n ∷ []) (t ∷ []) ∷ ts) (named p.scope e) o) (aside_anywhere (n + 1) at es)
+  aside_anywhere n at (e ∷ es) = ap (λ o. from_both (λ t ts. Assign at (hidden_column p n ∷ []) (t ∷ []) ∷ ts) (named p.scope e) o) (aside_anywhere (n + 1) at es)
 
   arguments_anywhere : (n : ℕ) (vs : List Vary) (es : List Expression) → named_arguments (record p { loops = loops }) n vs es ≡ named_arguments p n vs es
   arguments_anywhere n vs [] = refl
@@ -149,15 +149,15 @@ module _ (p : Place) (loops : List (Option (List ℕ))) where
     where
       by_hidden : (b : Bool) → named_arguments (record p { loops = loops }) (n + 1) vs es ≡ named_arguments p (n + 1) vs es →
           named_arguments (record p { loops = loops }) n vs es ≡ named_arguments p n vs es →
-          (if b then option_map (λ ts. Var (expression_span e) (hidden_column p n) ∷ ts) (named_arguments (record p { loops = loops }) (n + 1) vs es) else both (λ t ts. t ∷ ts) (named p.scope e) (named_arguments (record p { loops = loops }) n vs es))
-          ≡ (if b then option_map (λ ts. Var (expression_span e) (hidden_column p n) ∷ ts) (named_arguments p (n + 1) vs es) else both (λ t ts. t ∷ ts) (named p.scope e) (named_arguments p n vs es))
+          (if b then option_map (λ ts. Var (expression_span e) (hidden_column p n) ∷ ts) (named_arguments (record p { loops = loops }) (n + 1) vs es) else from_both (λ t ts. t ∷ ts) (named p.scope e) (named_arguments (record p { loops = loops }) n vs es))
+          ≡ (if b then option_map (λ ts. Var (expression_span e) (hidden_column p n) ∷ ts) (named_arguments p (n + 1) vs es) else from_both (λ t ts. t ∷ ts) (named p.scope e) (named_arguments p n vs es))
       by_hidden true h k = ap (option_map (λ ts. Var (expression_span e) (hidden_column p n) ∷ ts)) h
-      by_hidden false h k = ap (both (λ t ts. t ∷ ts) (named p.scope e)) k
+      by_hidden false h k = ap (from_both (λ t ts. t ∷ ts) (named p.scope e)) k
 
   pub call_anywhere : (n : ℕ) (at : Span) (xs : List Name) (f : Name) (es : List Expression) → named_call (record p { loops = loops }) n at xs f es ≡ named_call p n at xs f es
   call_anywhere n at xs f es =
-      ap (λ o. both (λ before last. before ++ (last ∷ [])) o (option_and_then (λ cs. both (Call at cs) (procedure_number p f) (named_arguments (record p { loops = loops }) n (params_named p f) es)) (targets_of p.scope xs))) (aside_anywhere n at (hidden_arguments (params_named p f) es))
-      ∙ ap (λ o. both (λ before last. before ++ (last ∷ [])) (put_aside p n at (hidden_arguments (params_named p f) es)) (option_and_then (λ cs. both (Call at cs) (procedure_number p f) o) (targets_of p.scope xs))) (arguments_anywhere n (params_named p f) es)
+      ap (λ o. from_both (λ before last. before ++ (last ∷ [])) o (option_and_then (λ cs. from_both (Call at cs) (procedure_number p f) (named_arguments (record p { loops = loops }) n (params_named p f) es)) (targets_of p.scope xs))) (aside_anywhere n at (hidden_arguments (params_named p f) es))
+      ∙ ap (λ o. from_both (λ before last. before ++ (last ∷ [])) (put_aside p n at (hidden_arguments (params_named p f) es)) (option_and_then (λ cs. from_both (Call at cs) (procedure_number p f) o) (targets_of p.scope xs))) (arguments_anywhere n (params_named p f) es)
 
   unknown_anywhere : (xs : List Name) (g : Name) (es : List Expression) (f : TypeFault) → IsCallUnknown p xs g es f → IsCallUnknown (record p { loops = loops }) xs g es f
   unknown_anywhere xs g es _ (callee e) = callee e

@@ -12,8 +12,8 @@ use Rattle.typing_rules.specs.Rules.{meets, keeps_typing}
 use Rattle.typing_rules.specs.Shape.{has_shape}
 use Rattle.typing_rules.specs.ValidProgram.{has_body, has_entry, is_typed}
 use Rattle.typing_rules.specs.BrokenTyping.{IsProgramBroken}
-use Rattle.boogie_types.specs.Naming.{each, both, named, named_block}
-use Rattle.boogie_types.specs.Sorted.{globals_of, axioms_of, procedures_of, first_named, body_of}
+use Rattle.boogie_types.specs.Naming.{each, from_both, named, named_block}
+use Rattle.boogie_types.specs.Sorted.{declared_globals, axioms_of, procedures_of, first_named, body_of}
 use Rattle.boogie_types.specs.Resolved.{are_sets, are_implementations, body_place, named_specifications, named_modifies, named_body, procedure_of, named_procedure, program_of, named_program, entry_number, if_typed, resolved_program}
 use Rattle.boogie_types.specs.BrokenNames.{IsRuleBroken, second_global, second_procedure, second_variable, second_label, second_implementation, second_body, unknown_implemented, not_repeated, in_axiom, in_procedure, in_typing, HasNoEntry, unknown_entry, no_body, IsTypeFault}
 use Rattle.boogie_types.proofs.ShapeLists.{option_map_some, option_and_then_some, both_some, each_at}
@@ -26,13 +26,13 @@ use Rattle.boogie_types.proofs.ExcludedSets.{second_global_breaks, second_proced
 
 module _ (ds : List Declaration) where
   abbrev named_axioms : Option (List TypedExpression)
-  named_axioms = each (named (axiom_scope (globals_of ds))) (axioms_of ds)
+  named_axioms = each (named (axiom_scope (declared_globals ds))) (axioms_of ds)
 
   abbrev named_procedures : Option (List TypedProcedure)
   named_procedures = each (named_procedure ds) (procedures_of ds)
 
-  pub axiom_unnamed : (e : Expression) → Contains (axioms_of ds) e → named (axiom_scope (globals_of ds)) e ≡ None → named_program ds ≡ None
-  axiom_unnamed e c h = both_left_none (program_of ds) named_axioms named_procedures (each_none (named (axiom_scope (globals_of ds))) (axioms_of ds) e c h)
+  pub axiom_unnamed : (e : Expression) → Contains (axioms_of ds) e → named (axiom_scope (declared_globals ds)) e ≡ None → named_program ds ≡ None
+  axiom_unnamed e c h = both_left_none (program_of ds) named_axioms named_procedures (each_none (named (axiom_scope (declared_globals ds))) (axioms_of ds) e c h)
 
   pub procedure_unnamed : (p : Procedure) → Contains (procedures_of ds) p → named_procedure ds p ≡ None → named_program ds ≡ None
   procedure_unnamed p c h = both_right_none (program_of ds) named_axioms named_procedures (each_none (named_procedure ds) (procedures_of ds) p c h)
@@ -121,7 +121,7 @@ body_kept ds p (Some b) body e =
 -- a named procedure has a body where the procedure has one
 pub has_body_kept : (ds : List Declaration) (p : Procedure) (q : TypedProcedure) → named_procedure ds p ≡ Some q → has_body q ≡ is_there (body_of ds p)
 has_body_kept ds p q e =
-    let a = option_and_then_some (λ modifies. both (procedure_of ds p modifies) (named_specifications ds p p.specs) (named_body ds p (body_of ds p))) (named_modifies ds p) q e in
+    let a = option_and_then_some (λ modifies. from_both (procedure_of ds p modifies) (named_specifications ds p p.specs) (named_body ds p (body_of ds p))) (named_modifies ds p) q e in
     let b = both_some (procedure_of ds p a.0) (named_specifications ds p p.specs) (named_body ds p (body_of ds p)) q a.2 in
     subst (λ (r : TypedProcedure). has_body r ≡ is_there (body_of ds p)) b.4 (body_kept ds p (body_of ds p) b.1 b.3)
 
@@ -162,7 +162,7 @@ broken_rules_exclude ds entry f law (second_body i p c e h) = no_implementations
 broken_rules_exclude ds entry f law (unknown_implemented i c h) = no_implementations_exclude ds entry (unknown_implemented_breaks ds i c h)
 broken_rules_exclude ds entry f law (not_repeated i p c e h) = no_implementations_exclude ds entry (not_repeated_breaks ds i p c e h)
 broken_rules_exclude ds entry f law (in_axiom e g c h) =
-    unnamed_excludes ds entry (axiom_unnamed ds e c (unknown_is_unnamed (axiom_scope (globals_of ds)) e g h))
+    unnamed_excludes ds entry (axiom_unnamed ds e c (unknown_is_unnamed (axiom_scope (declared_globals ds)) e g h))
 broken_rules_exclude ds entry f law (in_procedure p g c h) = unnamed_excludes ds entry (procedure_unnamed ds p c (procedure_misnamed_is_unnamed ds p g h))
 broken_rules_exclude ds entry f law (in_typing t g e h) = ill_typed_excludes ds entry t e (law t g h)
 

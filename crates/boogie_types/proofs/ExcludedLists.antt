@@ -3,7 +3,7 @@ use Rattle.std.proofs.Common.{◌≡◌, ℕ, zero, suc, ◌<◌, Bool, true, fa
 use Rattle.std.specs.Option.{option_map, option_and_then}
 use Rattle.std.specs.List.{list_all, list_any}
 use Rattle.std.proofs.lemmas.List.Folds.{list_all_at, list_any_at}
-use Rattle.boogie_types.specs.Naming.{each, both}
+use Rattle.boogie_types.specs.Naming.{each, from_both}
 
 -- ---- options
 
@@ -18,10 +18,10 @@ pub and_then_nothing : {X Y : Type 0} (f : X → Option Y) (o : Option X) → ((
 and_then_nothing f None h = refl
 and_then_nothing f (Some x) h = h x
 
-pub both_left_none : {X Y Z : Type 0} (f : X → Y → Z) (x : Option X) (y : Option Y) → x ≡ None → both f x y ≡ None
+pub both_left_none : {X Y Z : Type 0} (f : X → Y → Z) (x : Option X) (y : Option Y) → x ≡ None → from_both f x y ≡ None
 both_left_none f x y e = and_then_none (λ a. option_map (f a) y) x e
 
-pub both_right_none : {X Y Z : Type 0} (f : X → Y → Z) (x : Option X) (y : Option Y) → y ≡ None → both f x y ≡ None
+pub both_right_none : {X Y Z : Type 0} (f : X → Y → Z) (x : Option X) (y : Option Y) → y ≡ None → from_both f x y ≡ None
 both_right_none f x y e = and_then_nothing (λ a. option_map (f a) y) x (λ a. option_map_none (f a) y e)
 
 pub if_none : {X : Type 0} (b : Bool) (o : Option X) → o ≡ None → cond b o None ≡ None

@@ -7,7 +7,7 @@ use Rattle.boogie_tree.specs.declared.tree.Expr.{Expr}
 use Rattle.boogie_tree.specs.declared.tree.Inv.{Inv}
 use Rattle.boogie_tree.specs.View as view
 use Rattle.boogie_tree.specs.Tree.{Expression, Var, Old, Not, Neg, Bin, Guard, Cond, Invariant, Assert, Assume, Havoc, Assign, Call, If, While, Break, Goto, Label, Block}
-use Rattle.boogie_types.specs.Naming.{Place, in_loop, procedure_number}
+use Rattle.boogie_types.specs.Naming.{NamingPlace, in_loop, procedure_number}
 use Rattle.typed_tree.specs.declared.fault.TypeFault.{TypeFault}
 use Rattle.typed_tree.specs.declared.fault.TypeFault.TheVariants as fault
 use Rattle.std.proofs.lemmas.List.{length-map}
@@ -75,12 +75,12 @@ fault_in_guard s e f = or_memory_to f (in_guard e f)
 
 -- ---- statements
 
-misnamed_call : (p : Place) (before : Option (List ℕ)) (at : Span) (xs : List Name) (g : Name) (es : List Expression) (f : TypeFault) → IsCallUnknown p xs g es f → IsMisnamed p before (Call at xs g es) f
+misnamed_call : (p : NamingPlace) (before : Option (List ℕ)) (at : Span) (xs : List Name) (g : Name) (es : List Expression) (f : TypeFault) → IsCallUnknown p xs g es f → IsMisnamed p before (Call at xs g es) f
 misnamed_call p before at xs g es _ (callee e) = unknown_callee p before at xs g es e
 misnamed_call p before at xs g es _ (target f e) = returned p before at xs g es f e
 misnamed_call p before at xs g es _ (argument f e) = passed p before at xs g es f e
 
-module _ (p : Place) (before : Option (List ℕ)) (at : Span) where
+module _ (p : NamingPlace) (before : Option (List ℕ)) (at : Span) where
   pub fault_in_assert : (e : Expression) (f : TypeFault) → IsExpressionFault p.scope e f → IsStatementFault p before (Assert at e) f
   fault_in_assert e f = or_memory_to f (asserted p before at e f)
 
@@ -121,7 +121,7 @@ module _ (p : Place) (before : Option (List ℕ)) (at : Span) where
   fault_in_break None f = or_memory_to f (λ b. absurd b)
   fault_in_break (Some x) f = or_memory_to f (λ b. subst (λ g. IsMisnamed p before (Break at (Some x)) g) (sym b.1) (no_such_loop p before at x b.0))
 
-pub fault_in_goto : (p : Place) (before : Option (List ℕ)) (at : Span) (xs : List Name) (f : TypeFault) → IsLabelsFault p.labels xs f → IsStatementFault p before (Goto at xs) f
+pub fault_in_goto : (p : NamingPlace) (before : Option (List ℕ)) (at : Span) (xs : List Name) (f : TypeFault) → IsLabelsFault p.labels xs f → IsStatementFault p before (Goto at xs) f
 fault_in_goto p before at xs (fault.BadGoto s) b = subst (λ t. IsMisnamed p before (Goto at xs) (fault.BadGoto t)) (sym b.3) (no_such_label p before at xs b.0 b.1 b.2)
 fault_in_goto p before at xs fault.Memory b = tt
 fault_in_goto p before at xs (fault.Unknown s) b = absurd b
@@ -134,12 +134,12 @@ fault_in_goto p before at xs (fault.ZeroDivisor s) b = absurd b
 fault_in_goto p before at xs (fault.NonLinear s) b = absurd b
 fault_in_goto p before at xs (fault.TooBig s) b = absurd b
 
-pub fault_in_label : (p : Place) (before : Option (List ℕ)) (x : Name) → number_of_name p.labels x.text ≡ None → IsStatementFault p before (Label x) (fault.BadGoto x.span)
+pub fault_in_label : (p : NamingPlace) (before : Option (List ℕ)) (x : Name) → number_of_name p.labels x.text ≡ None → IsStatementFault p before (Label x) (fault.BadGoto x.span)
 fault_in_label p before x e = unlisted_label p before x e
 
 -- ---- calls
 
-module _ (p : Place) (xs : List Name) (g : Name) (es : List Expression) where
+module _ (p : NamingPlace) (xs : List Name) (g : Name) (es : List Expression) where
   pub call_unknown : procedure_number p g ≡ None → IsCallFault p xs g es (fault.Unknown g.span)
   call_unknown e = callee e
 

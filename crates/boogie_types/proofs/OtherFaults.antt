@@ -14,7 +14,7 @@ use Rattle.typed_tree.specs.BrokenRules as rules_of
 use Rattle.typing_rules.specs.Rules.{Context}
 use Rattle.typing_rules.specs.BrokenTyping as typing
 use Rattle.boogie_types.specs.BrokenNames as names
-use Rattle.boogie_types.specs.Naming.{Place}
+use Rattle.boogie_types.specs.Naming.{NamingPlace}
 use Rattle.boogie_types.specs.ProcedureFaults as procedures
 
 -- the fault is that on the entry
@@ -43,7 +43,7 @@ guard_other : (s : Scope) (g : Guard) (f : TypeFault) → names.IsGuardUnknown s
 guard_other s _ _ (names.in_guard e f h) = unknown_other s e f h
 
 mutual
-  misnamed_other : (p : Place) (before : Option (List ℕ)) (s : Statement) (f : TypeFault) → names.IsMisnamed p before s f → is_entry f ≡ false
+  misnamed_other : (p : NamingPlace) (before : Option (List ℕ)) (s : Statement) (f : TypeFault) → names.IsMisnamed p before s f → is_entry f ≡ false
   misnamed_other _ _ _ _ (names.asserted p l at e f h) = unknown_other p.scope e f h
   misnamed_other _ _ _ _ (names.assumed p l at e f h) = unknown_other p.scope e f h
   misnamed_other _ _ _ _ (names.chosen p l at xs f h) = target_other p.scope xs f h
@@ -62,7 +62,7 @@ mutual
   misnamed_other _ _ _ _ (names.no_such_label p l at xs x c h) = refl
   misnamed_other _ _ _ _ (names.unlisted_label p l x h) = refl
 
-  misnamed_block_other : (p : Place) (before : Option (List ℕ)) (b : Block) (f : TypeFault) → names.IsMisnamedIn p before b f → is_entry f ≡ false
+  misnamed_block_other : (p : NamingPlace) (before : Option (List ℕ)) (b : Block) (f : TypeFault) → names.IsMisnamedIn p before b f → is_entry f ≡ false
   misnamed_block_other _ _ _ _ (names.first p l s b f h) = misnamed_other p l s f h
   misnamed_block_other _ _ _ _ (names.later p l s b f h) = misnamed_block_other _ _ b f h
 

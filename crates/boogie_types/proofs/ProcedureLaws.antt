@@ -8,7 +8,7 @@ use Rattle.typed_tree.specs.Scope.{Scope, requires_scope, body_scope}
 use Rattle.typed_tree.specs.TypedTree.{TypedSpecification}
 use Rattle.boogie_types.specs.Meanings.{variable_info}
 use Rattle.boogie_types.specs.Numbers.{texts, IsTwiceFault}
-use Rattle.boogie_types.specs.Sorted.{globals_of, procedures_of, body_of, locals_of, variable_names, labels_if_any, modified_in}
+use Rattle.boogie_types.specs.Sorted.{declared_globals, procedures_of, body_of, declared_locals, variable_names, labels_if_any, modified_in}
 use Rattle.boogie_types.specs.BrokenNames.{IsMisnamedIn, IsProcedureMisnamed, unknown_modified, constant_modified, in_body}
 use Rattle.boogie_types.specs.NamingFaults.{IsProcedureFault}
 use Rattle.boogie_types.specs.Resolved.{named_specifications}
@@ -22,18 +22,18 @@ use Rattle.boogie_types.proofs.SpecificationLaws.{before_of, after_of, specifica
 module _ (ds : List Declaration) (p : Procedure) where
   -- ---- modifies lists
 
-  wrong_modified : (f : TypeFault) → AreModifiedWrong (globals_of ds) (modified_in p.specs) f → IsProcedureMisnamed ds p f
+  wrong_modified : (f : TypeFault) → AreModifiedWrong (declared_globals ds) (modified_in p.specs) f → IsProcedureMisnamed ds p f
   wrong_modified _ (unknown_name x m e) = unknown_modified x m e
   wrong_modified _ (constant_name x n m e g) = constant_modified x n m e g
 
-  pub modifies_fault : (globals : List VarInfo) (f : TypeFault) → globals ≡ globals_of ds → AreModifiedFault globals (modified_in p.specs) f → IsProcedureFault ds p f
+  pub modifies_fault : (globals : List VarInfo) (f : TypeFault) → globals ≡ declared_globals ds → AreModifiedFault globals (modified_in p.specs) f → IsProcedureFault ds p f
   modifies_fault globals f e h =
       or_memory_to f (wrong_modified f) (subst (λ (vs : List VarInfo). AreModifiedFault vs (modified_in p.specs) f) e h)
 
   -- ---- specifications, by what they see
 
-  module _ (before after : Scope) (globals params locals : List VarInfo) (known : globals ≡ globals_of ds)
-      (first : params ≡ map (variable_info true) p.params) (second : locals ≡ locals_of p None)
+  module _ (before after : Scope) (globals params locals : List VarInfo) (known : globals ≡ declared_globals ds)
+      (first : params ≡ map (variable_info true) p.params) (second : locals ≡ declared_locals p None)
       (sees : before ≡ requires_scope globals params) (sees_more : after ≡ body_scope globals locals) where
     before_is : before ≡ before_of ds p
     before_is = sees ∙ ap₂ requires_scope known first
@@ -58,12 +58,12 @@ module _ (ds : List Declaration) (p : Procedure) where
       or_memory_to f
       (λ m. in_body m.0 f (sym e ∙ m.1) (subst (λ (o : Option ProcedureBody). IsMisnamedIn (first_place ds p o) None m.0.stmts f) m.1 m.2))
 
-  module _ (b : Option ProcedureBody) (globals : List VarInfo) (procs : List Procedure) (locals : List VarInfo) (labels : List (List ℕ)) (known : globals ≡ globals_of ds)
-      (procs_are : procs ≡ procedures_of ds) (locals_are : locals ≡ locals_of p b) (labels_are : labels ≡ texts (labels_if_any b)) where
+  module _ (b : Option ProcedureBody) (globals : List VarInfo) (procs : List Procedure) (locals : List VarInfo) (labels : List (List ℕ)) (known : globals ≡ declared_globals ds)
+      (procs_are : procs ≡ procedures_of ds) (locals_are : locals ≡ declared_locals p b) (labels_are : labels ≡ texts (labels_if_any b)) where
     place_is : place_among globals procs locals labels ≡ first_place ds p b
     place_is =
         ap₂ (λ (gs : List VarInfo) (ps : List Procedure). place_among gs ps locals labels) known procs_are
-        ∙ ap₂ (place_among (globals_of ds) (procedures_of ds)) locals_are labels_are
+        ∙ ap₂ (place_among (declared_globals ds) (procedures_of ds)) locals_are labels_are
 
     pub body_fault : (f : TypeFault) → b ≡ body_of ds p → IsBodyFault (place_among globals procs locals labels) b f → IsProcedureFault ds p f
     body_fault f e h = fault_here b f e (subst (λ q. IsBodyFault q b f) place_is h)

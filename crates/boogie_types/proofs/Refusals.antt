@@ -24,7 +24,7 @@ use Rattle.boogie_types.specs.Numbers.{IsTwiceFault}
 use Rattle.boogie_types.specs.ProcedureFaults.{IsProcedureBroken, second_variable, second_label, misnamed, IsProcedureRefused}
 use Rattle.boogie_types.specs.Referred.{expressions_by, procedures_by}
 use Rattle.boogie_types.specs.Resolved.{named_program}
-use Rattle.boogie_types.specs.Sorted.{globals_of, axioms_of, procedures_of, implementations_of}
+use Rattle.boogie_types.specs.Sorted.{declared_globals, axioms_of, procedures_of, implementations_of}
 use Rattle.boogie_types.proofs.FaultLaws.{or_memory_to}
 use Rattle.boogie_types.proofs.OtherFaults.{is_entry, unknowns_other, procedure_other, typing_other}
 
@@ -93,17 +93,17 @@ module _ (ds : List Declaration) where
   implementations_refused ps is e d f (i, c, h) =
       implementation_refused i (subst (λ (qs : List Procedure). Contains qs i) d c) f (subst (λ (qs : List Procedure). IsImplementationBroken qs i f) e h)
 
-  axiom_refused : (f : TypeFault) → AreExpressionsFault (axiom_scope (globals_of ds)) (axioms_of ds) f → IsRefused ds f
-  axiom_refused f = refused_by ds f unknown_axiom (unknowns_other (axiom_scope (globals_of ds)) (axioms_of ds) f)
+  axiom_refused : (f : TypeFault) → AreExpressionsFault (axiom_scope (declared_globals ds)) (axioms_of ds) f → IsRefused ds f
+  axiom_refused f = refused_by ds f unknown_axiom (unknowns_other (axiom_scope (declared_globals ds)) (axioms_of ds) f)
     where
-      unknown_axiom : broken.AreUnknownIn (axiom_scope (globals_of ds)) (axioms_of ds) f → IsRuleBroken ds f
+      unknown_axiom : broken.AreUnknownIn (axiom_scope (declared_globals ds)) (axioms_of ds) f → IsRuleBroken ds f
       unknown_axiom (one_of es e g c h) = broken.in_axiom e g c h
 
-  pub axioms_refused : (globals : List VarInfo) (es : List Expression) → globals ≡ globals_of ds → es ≡ axioms_of ds →
+  pub axioms_refused : (globals : List VarInfo) (es : List Expression) → globals ≡ declared_globals ds → es ≡ axioms_of ds →
       (f : TypeFault) → AreExpressionsFault (axiom_scope globals) es f → IsRefused ds f
   axioms_refused globals es e d f h =
       axiom_refused f
-      (subst (λ (xs : List Expression). AreExpressionsFault (axiom_scope (globals_of ds)) xs f) d
+      (subst (λ (xs : List Expression). AreExpressionsFault (axiom_scope (declared_globals ds)) xs f) d
       (subst (λ (vs : List VarInfo). AreExpressionsFault (axiom_scope vs) es f) e h))
 
   procedure_broken : (p : Procedure) (f : TypeFault) → Contains (procedures_of ds) p → IsProcedureBroken ds p f → IsRuleBroken ds f

@@ -8,7 +8,7 @@ use Rattle.typed_tree.specs.Scope.{axiom_scope}
 use Rattle.typing_rules.specs.Shape.{are_names, is_procedure_shaped, has_shape}
 use Rattle.boogie_types.specs.Naming.{each, named}
 use Rattle.boogie_types.specs.Numbers.{text_of}
-use Rattle.boogie_types.specs.Sorted.{globals_of, global_names, axioms_of, procedures_of, body_of}
+use Rattle.boogie_types.specs.Sorted.{declared_globals, global_names, axioms_of, procedures_of, body_of}
 use Rattle.boogie_types.specs.Resolved.{is_set, has_sets, are_sets, are_named, named_procedure, program_of, named_program}
 use Rattle.boogie_types.proofs.ShapeLists.{both_some, each_all, each_map, all_both, map-map}
 use Rattle.boogie_types.proofs.ShapeNames.{is_well_named, WellNamed, named_parts, are_names_from_set, global_texts, procedures_proper}
@@ -23,17 +23,17 @@ procedure_texts ds procs e =
 
 pub named_has_shape : (ds : List Declaration) (t : TypedProgram) → are_named ds ≡ true → are_sets ds ≡ true → named_program ds ≡ Some t → has_shape t ≡ true
 named_has_shape ds t hn hs e =
-    let a = both_some (program_of ds) (each (named (axiom_scope (globals_of ds))) (axioms_of ds)) (each (named_procedure ds) (procedures_of ds)) t e in
+    let a = both_some (program_of ds) (each (named (axiom_scope (declared_globals ds))) (axioms_of ds)) (each (named_procedure ds) (procedures_of ds)) t e in
     let w : WellNamed ds = named_parts ds hn in
     let d = and_parts (is_set (global_names ds)) (is_set (map (λ p. p.name) (procedures_of ds)) && list_all (λ p. has_sets p (body_of ds p)) (procedures_of ds)) hs in
     let c = and_parts (is_set (map (λ p. p.name) (procedures_of ds))) (list_all (λ p. has_sets p (body_of ds p)) (procedures_of ds)) d.1 in
-    let globals : are_names (map (λ v. v.name) (globals_of ds)) ≡ true = ap are_names (global_texts ds) ∙ are_names_from_set (global_names ds) w.globals d.0 in
+    let globals : are_names (map (λ v. v.name) (declared_globals ds)) ≡ true = ap are_names (global_texts ds) ∙ are_names_from_set (global_names ds) w.globals d.0 in
     let names : are_names (map (λ q. q.name) a.1) ≡ true =
     ap are_names (procedure_texts ds a.1 a.3) ∙ are_names_from_set (map (λ p. p.name) (procedures_of ds)) (procedures_proper (procedures_of ds) w.procedures) c.0 in
-    let procs : list_all (is_procedure_shaped (globals_of ds) a.1) a.1 ≡ true =
-    each_all (named_procedure ds) (λ p. is_well_named p && has_sets p (body_of ds p)) (is_procedure_shaped (globals_of ds) a.1)
+    let procs : list_all (is_procedure_shaped (declared_globals ds) a.1) a.1 ≡ true =
+    each_all (named_procedure ds) (λ p. is_well_named p && has_sets p (body_of ds p)) (is_procedure_shaped (declared_globals ds) a.1)
     (procedure_shaped ds a.1 (callees_named ds a.1 a.3) w.implementations) (procedures_of ds) a.1
     (all_both is_well_named (λ p. has_sets p (body_of ds p)) (procedures_of ds) w.procedures c.1) a.3 in
     subst (λ (u : TypedProgram). has_shape u ≡ true) a.4
-    (and_from (are_names (map (λ v. v.name) (globals_of ds))) (are_names (map (λ q. q.name) a.1) && list_all (is_procedure_shaped (globals_of ds) a.1) a.1) globals
-    (and_from (are_names (map (λ q. q.name) a.1)) (list_all (is_procedure_shaped (globals_of ds) a.1) a.1) names procs))
+    (and_from (are_names (map (λ v. v.name) (declared_globals ds))) (are_names (map (λ q. q.name) a.1) && list_all (is_procedure_shaped (declared_globals ds) a.1) a.1) globals
+    (and_from (are_names (map (λ q. q.name) a.1)) (list_all (is_procedure_shaped (declared_globals ds) a.1) a.1) names procs))

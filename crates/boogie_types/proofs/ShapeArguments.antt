@@ -13,7 +13,7 @@ use Rattle.typed_tree.specs.Scope.{Scope}
 use Rattle.typing_rules.specs.Shape.{is_simple, is_argument, are_arguments}
 use Rattle.boogie_types.specs.Meanings.{variable_info, column_of}
 use Rattle.boogie_types.specs.Naming as naming
-use Rattle.boogie_types.specs.Naming.{both, named, named_arguments, is_hidden, hidden_column, expression_span, Place}
+use Rattle.boogie_types.specs.Naming.{from_both, named, named_arguments, is_hidden, hidden_column, expression_span, NamingPlace}
 use Rattle.boogie_types.proofs.ShapeLists.{option_map_some, both_some}
 
 -- a simple expression is simple when its names are replaced
@@ -51,12 +51,12 @@ no_arguments : (vs : List Vary) → are_arguments (map (variable_info true) vs) 
 no_arguments [] = refl
 no_arguments (v ∷ vs) = refl
 
-pub arguments_shaped : (p : Place) (n : ℕ) (vs : List Vary) (es : List tree.Expression) (ts : List TypedExpression) → named_arguments p n vs es ≡ Some ts →
+pub arguments_shaped : (p : NamingPlace) (n : ℕ) (vs : List Vary) (es : List tree.Expression) (ts : List TypedExpression) → named_arguments p n vs es ≡ Some ts →
     are_arguments (map (variable_info true) vs) ts ≡ true
 arguments_shaped p n vs [] ts e = let f : ts ≡ [] = cc in rw f (no_arguments vs)
 arguments_shaped p n [] (x ∷ es) ts e = refl
 arguments_shaped p n (v ∷ vs) (x ∷ es) ts e =
-    cond_both (is_hidden v.ty x) aside (both (λ t us. t ∷ us) (named p.scope x) (named_arguments p n vs es))
+    cond_both (is_hidden v.ty x) aside (from_both (λ t us. t ∷ us) (named p.scope x) (named_arguments p n vs es))
     (λ o. o ≡ Some ts → are_arguments (map (variable_info true) (v ∷ vs)) ts ≡ true)
     (λ is g.
     let a = option_map_some (λ us. typed.Var (expression_span x) (hidden_column p n) ∷ us) (named_arguments p (n + 1) vs es) ts g in

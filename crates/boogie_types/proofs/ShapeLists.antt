@@ -5,7 +5,7 @@ use Rattle.std.proofs.lemmas.Bool.{and_parts, and_from, or_parts, or_from, not_f
 use Rattle.std.proofs.lemmas.List.Folds.{list_all-append, list_any-append}
 use Rattle.std.proofs.lemmas.Option.{same_Some}
 use Rattle.typing_rules.specs.Rules.{all_differ}
-use Rattle.boogie_types.specs.Naming.{each, both}
+use Rattle.boogie_types.specs.Naming.{each, from_both}
 use Rattle.boogie_types.proofs.Differ.{all_differ-head}
 
 -- ---- what a result says of the parts that it was made from
@@ -18,7 +18,7 @@ pub option_and_then_some : {X Y : Type 0} (f : X → Option Y) (o : Option X) (y
 option_and_then_some f None y e = cc
 option_and_then_some f (Some x) y e = (x, refl, e)
 
-pub both_some : {X Y Z : Type 0} (f : X → Y → Z) (x : Option X) (y : Option Y) (z : Z) → both f x y ≡ Some z →
+pub both_some : {X Y Z : Type 0} (f : X → Y → Z) (x : Option X) (y : Option Y) (z : Z) → from_both f x y ≡ Some z →
     (a : X) × (b : Y) × (x ≡ Some a) × (y ≡ Some b) × (f a b ≡ z)
 both_some f None y z e = cc
 both_some f (Some a) None z e = cc

@@ -9,7 +9,7 @@ use Rattle.typing_rules.specs.Rules.{all_differ, meets}
 use Rattle.typing_rules.specs.Shape.{are_modified}
 use Rattle.boogie_types.specs.Meanings.{number_from}
 use Rattle.boogie_types.specs.Naming.{each}
-use Rattle.boogie_types.specs.Sorted.{globals_of, modified_in, firsts}
+use Rattle.boogie_types.specs.Sorted.{declared_globals, modified_in, firsts}
 use Rattle.boogie_types.specs.Resolved.{unless_constant, modified_number, named_modifies}
 use Rattle.boogie_types.proofs.ShapeLists.{option_map_some, option_and_then_some, each_all, all_differ_cons}
 
@@ -62,13 +62,13 @@ firsts_differ seen (n ∷ ns) =
     (λ is. all_differ_cons nat_eq n (firsts (n ∷ seen) ns)
     (seen_never n (n ∷ seen) ns (or_left (nat_eq n n) (list_any (nat_eq n) seen) (eq-eqb n n refl))) (firsts_differ (n ∷ seen) ns))
 
-pub modifies_shaped : (ds : List Declaration) (p : Procedure) (ns : List ℕ) → named_modifies ds p ≡ Some ns → are_modified (globals_of ds) ns ≡ true
+pub modifies_shaped : (ds : List Declaration) (p : Procedure) (ns : List ℕ) → named_modifies ds p ≡ Some ns → are_modified (declared_globals ds) ns ≡ true
 modifies_shaped ds p ns e =
-    let a = option_map_some (firsts []) (each (λ x. modified_number (globals_of ds) x.text) (modified_in p.specs)) ns e in
-    let all : list_all (is_variable (globals_of ds)) a.0 ≡ true =
-    each_all (λ (x : Name). modified_number (globals_of ds) x.text) (λ x. true) (is_variable (globals_of ds)) (λ x m h f. number_is_variable (globals_of ds) x m f) (modified_in p.specs) a.0 (all_true (modified_in p.specs)) a.1 in
-    subst (λ (l : List ℕ). are_modified (globals_of ds) l ≡ true) a.2
-    (and_from (list_all (is_variable (globals_of ds)) (firsts [] a.0)) (all_differ nat_eq (firsts [] a.0)) (firsts_pass (is_variable (globals_of ds)) [] a.0 all) (firsts_differ [] a.0))
+    let a = option_map_some (firsts []) (each (λ x. modified_number (declared_globals ds) x.text) (modified_in p.specs)) ns e in
+    let all : list_all (is_variable (declared_globals ds)) a.0 ≡ true =
+    each_all (λ (x : Name). modified_number (declared_globals ds) x.text) (λ x. true) (is_variable (declared_globals ds)) (λ x m h f. number_is_variable (declared_globals ds) x m f) (modified_in p.specs) a.0 (all_true (modified_in p.specs)) a.1 in
+    subst (λ (l : List ℕ). are_modified (declared_globals ds) l ≡ true) a.2
+    (and_from (list_all (is_variable (declared_globals ds)) (firsts [] a.0)) (all_differ nat_eq (firsts [] a.0)) (firsts_pass (is_variable (declared_globals ds)) [] a.0 all) (firsts_differ [] a.0))
   where
     all_true : (xs : List Name) → list_all (λ x. true) xs ≡ true
     all_true [] = refl

@@ -13,7 +13,7 @@ use Rattle.boogie_tree.specs.Names.{is_name, is_made, is_spelled}
 use Rattle.typing_rules.specs.Rules.{all_differ}
 use Rattle.typing_rules.specs.Shape.{are_names}
 use Rattle.boogie_types.specs.Meanings.{variable_info}
-use Rattle.boogie_types.specs.Sorted.{globals_of, global_names, procedures_of, implementations_of, first_named, body_of, body_locals, locals_of, variable_names, procedure_names}
+use Rattle.boogie_types.specs.Sorted.{declared_globals, global_names, procedures_of, implementations_of, first_named, body_of, body_locals, declared_locals, variable_names, procedure_names}
 use Rattle.boogie_types.specs.Resolved.{is_set, are_named}
 use Rattle.boogie_types.specs.Numbers.{text_of}
 use Rattle.boogie_types.proofs.ShapeLists.{all_weaker, all_append_parts, all_append, all_differ-map}
@@ -38,7 +38,7 @@ are_names_from_set xs h d =
 
 -- ---- the constants and globals
 
-pub global_texts : (ds : List Declaration) → map (λ v. v.name) (globals_of ds) ≡ map text_of (global_names ds)
+pub global_texts : (ds : List Declaration) → map (λ v. v.name) (declared_globals ds) ≡ map text_of (global_names ds)
 global_texts [] = refl
 global_texts (Const x ∷ ds) = ap (λ (ns : List (List ℕ)). x.name.text ∷ ns) (global_texts ds)
 global_texts (Global x ∷ ds) = ap (λ (ns : List (List ℕ)). x.name.text ∷ ns) (global_texts ds)
@@ -93,7 +93,7 @@ texts_append vs ws xs ys e f =
     ap (λ (l : List Name). map text_of l) (map-append named xs ys) ∙ map-append text_of (map named xs) (map named ys) in
     a ∙ sym b
 
-pub local_texts : (p : Procedure) (b : Option ProcedureBody) → map (λ v. v.name) (locals_of p b) ≡ map text_of (variable_names p b)
+pub local_texts : (p : Procedure) (b : Option ProcedureBody) → map (λ v. v.name) (declared_locals p b) ≡ map text_of (variable_names p b)
 local_texts p b =
     texts_append (map (variable_info true) p.params) (map (variable_info false) p.results ++ map (variable_info false) (body_locals b)) p.params (p.results ++ body_locals b)
     (variable_texts true p.params)

@@ -13,9 +13,9 @@ use Rattle.typing_rules.specs.Rules.{all_differ, params_of}
 use Rattle.typing_rules.specs.Shape as shape
 use Rattle.typing_rules.specs.Shape.{is_shaped_block, block_labels, counts_from, is_body_shaped, are_names, are_locals, are_modified, is_procedure_shaped}
 use Rattle.boogie_types.specs.Meanings.{variable_info}
-use Rattle.boogie_types.specs.Naming.{each, both, params_if_any, named_block}
+use Rattle.boogie_types.specs.Naming.{each, from_both, params_if_any, named_block}
 use Rattle.boogie_types.specs.Sorted as sorted
-use Rattle.boogie_types.specs.Sorted.{globals_of, procedures_of, implementations_of, body_of, body_locals, locals_of, variable_names, hidden_locals, labels_if_any}
+use Rattle.boogie_types.specs.Sorted.{declared_globals, procedures_of, implementations_of, body_of, body_locals, declared_locals, variable_names, hidden_locals, labels_if_any}
 use Rattle.boogie_types.specs.Numbers.{text_of}
 use Rattle.boogie_types.specs.Resolved.{is_set, has_sets, body_place, named_specifications, named_modifies, named_body, hidden_count, procedure_of, named_procedure}
 use Rattle.boogie_types.proofs.ShapeLists.{option_map_some, option_and_then_some, both_some, each_at, all_append, all_differ_append}
@@ -36,11 +36,11 @@ names_with_hidden ns k h d =
     (all_differ_append bytes_eq is_name ns hidden (λ x e. names_apart x 1 k e) h d (hidden_differ 1 k))
 
 local_names : (p : Procedure) (b : Option ProcedureBody) (k : ℕ) → list_all is_proper (variable_names p b) ≡ true → is_set (variable_names p b) ≡ true →
-    are_names (map (λ v. v.name) (locals_of p b ++ hidden_locals 1 k)) ≡ true
+    are_names (map (λ v. v.name) (declared_locals p b ++ hidden_locals 1 k)) ≡ true
 local_names p b k h d =
     let name : VarInfo → List ℕ = λ v. v.name in
-    let e : map name (locals_of p b ++ hidden_locals 1 k) ≡ map text_of (variable_names p b) ++ map name (hidden_locals 1 k) =
-    map-append name (locals_of p b) (hidden_locals 1 k) ∙ ap (λ (ns : List (List ℕ)). ns ++ map name (hidden_locals 1 k)) (local_texts p b) in
+    let e : map name (declared_locals p b ++ hidden_locals 1 k) ≡ map text_of (variable_names p b) ++ map name (hidden_locals 1 k) =
+    map-append name (declared_locals p b) (hidden_locals 1 k) ∙ ap (λ (ns : List (List ℕ)). ns ++ map name (hidden_locals 1 k)) (local_texts p b) in
     ap are_names e ∙ names_with_hidden (map text_of (variable_names p b)) k (texts_proper (variable_names p b) h) (texts_differ (variable_names p b) d)
 
 -- ---- the parameters are constant, and no other local is
@@ -61,24 +61,24 @@ drop_front : {X : Type 0} (n : ℕ) (xs ys zs : List X) → length xs ≡ n → 
 drop_front {X} n xs ys zs e =
     ap₂ (λ (k : ℕ) (l : List X). drop k l) (sym e) (append_assoc xs ys zs) ∙ drop-append_seam xs (ys ++ zs)
 
-params_kept : (p : Procedure) (b : Option ProcedureBody) (hs : List VarInfo) → take (length p.params) (locals_of p b ++ hs) ≡ map (variable_info true) p.params
+params_kept : (p : Procedure) (b : Option ProcedureBody) (hs : List VarInfo) → take (length p.params) (declared_locals p b ++ hs) ≡ map (variable_info true) p.params
 params_kept p b hs =
     take_front (length p.params) (map (variable_info true) p.params) (map (variable_info false) p.results ++ map (variable_info false) (body_locals b)) hs (length-map p.params (variable_info true))
 
 others_kept : (p : Procedure) (b : Option ProcedureBody) (hs : List VarInfo) →
-    drop (length p.params) (locals_of p b ++ hs) ≡ (map (variable_info false) p.results ++ map (variable_info false) (body_locals b)) ++ hs
+    drop (length p.params) (declared_locals p b ++ hs) ≡ (map (variable_info false) p.results ++ map (variable_info false) (body_locals b)) ++ hs
 others_kept p b hs =
     drop_front (length p.params) (map (variable_info true) p.params) (map (variable_info false) p.results ++ map (variable_info false) (body_locals b)) hs (length-map p.params (variable_info true))
 
-enough_locals : (p : Procedure) (b : Option ProcedureBody) (hs : List VarInfo) → length p.params + length p.results ≤ length (locals_of p b ++ hs)
+enough_locals : (p : Procedure) (b : Option ProcedureBody) (hs : List VarInfo) → length p.params + length p.results ≤ length (declared_locals p b ++ hs)
 enough_locals p b hs =
     let ps = map (variable_info true) p.params in
     let rs = map (variable_info false) p.results in
     let ls = map (variable_info false) (body_locals b) in
     let e1 : length ps ≡ length p.params = length-map p.params (variable_info true) in
     let e2 : length rs ≡ length p.results = length-map p.results (variable_info false) in
-    let e3 : length (locals_of p b ++ hs) ≡ length (locals_of p b) + length hs = length-append (locals_of p b) hs in
-    let e4 : length (locals_of p b) ≡ length ps + length (rs ++ ls) = length-append ps (rs ++ ls) in
+    let e3 : length (declared_locals p b ++ hs) ≡ length (declared_locals p b) + length hs = length-append (declared_locals p b) hs in
+    let e4 : length (declared_locals p b) ≡ length ps + length (rs ++ ls) = length-append ps (rs ++ ls) in
     let e5 : length (rs ++ ls) ≡ length rs + length ls = length-append rs ls in
     omega arith
 
@@ -89,16 +89,16 @@ locals_shaped ds p modifies specs body =
     let hs = hidden_locals 1 (hidden_count ds p (body_of ds p)) in
     let rs = map (variable_info false) p.results in
     let ls = map (variable_info false) (body_locals b) in
-    let params : list_all (λ v. v.constant) (take (length p.params) (locals_of p b ++ hs)) ≡ true =
+    let params : list_all (λ v. v.constant) (take (length p.params) (declared_locals p b ++ hs)) ≡ true =
     ap (λ (vs : List VarInfo). list_all (λ v. v.constant) vs) (params_kept p b hs) ∙ constants p.params in
-    let rest : list_all (λ v. not v.constant) (drop (length p.params) (locals_of p b ++ hs)) ≡ true =
+    let rest : list_all (λ v. not v.constant) (drop (length p.params) (declared_locals p b ++ hs)) ≡ true =
     ap (λ (vs : List VarInfo). list_all (λ v. not v.constant) vs) (others_kept p b hs)
     ∙ all_append (λ v. not v.constant) (rs ++ ls) hs
     (all_append (λ v. not v.constant) rs ls (no_constants p.results) (no_constants (body_locals b))) (hidden_vary 1 (hidden_count ds p (body_of ds p))) in
-    and_from (nat_le (length p.params + length p.results) (length (locals_of p b ++ hs)))
-    (list_all (λ v. v.constant) (take (length p.params) (locals_of p b ++ hs)) && list_all (λ v. not v.constant) (drop (length p.params) (locals_of p b ++ hs)))
-    (le-leb (length p.params + length p.results) (length (locals_of p b ++ hs)) (enough_locals p b hs))
-    (and_from (list_all (λ v. v.constant) (take (length p.params) (locals_of p b ++ hs))) (list_all (λ v. not v.constant) (drop (length p.params) (locals_of p b ++ hs))) params rest)
+    and_from (nat_le (length p.params + length p.results) (length (declared_locals p b ++ hs)))
+    (list_all (λ v. v.constant) (take (length p.params) (declared_locals p b ++ hs)) && list_all (λ v. not v.constant) (drop (length p.params) (declared_locals p b ++ hs)))
+    (le-leb (length p.params + length p.results) (length (declared_locals p b ++ hs)) (enough_locals p b hs))
+    (and_from (list_all (λ v. v.constant) (take (length p.params) (declared_locals p b ++ hs))) (list_all (λ v. not v.constant) (drop (length p.params) (declared_locals p b ++ hs))) params rest)
 
 -- ---- the body
 
@@ -124,7 +124,7 @@ record Parts (ds : List Declaration) (p : Procedure) (q : TypedProcedure) : Type
 
 parts : (ds : List Declaration) (p : Procedure) (q : TypedProcedure) → named_procedure ds p ≡ Some q → Parts ds p q
 parts ds p q e =
-    let a = option_and_then_some (λ modifies. both (procedure_of ds p modifies) (named_specifications ds p p.specs) (named_body ds p (body_of ds p))) (named_modifies ds p) q e in
+    let a = option_and_then_some (λ modifies. from_both (procedure_of ds p modifies) (named_specifications ds p p.specs) (named_body ds p (body_of ds p))) (named_modifies ds p) q e in
     let b = both_some (procedure_of ds p a.0) (named_specifications ds p p.specs) (named_body ds p (body_of ds p)) q a.2 in
     record { modifies = a.0; specs = b.0; body = b.1; modified = a.1; bodied = b.3; made = b.4 }
 
@@ -142,7 +142,7 @@ callees_named ds procs e =
     each_at (named_procedure ds) (λ (o : Option Procedure). map (variable_info true) (params_if_any o)) shape.params_if_any refl (params_of_named ds) (procedures_of ds) procs e
 
 pub procedure_shaped : (ds : List Declaration) (procs : List TypedProcedure) → AreCallees procs (procedures_of ds) → list_all is_well_named (implementations_of ds) ≡ true →
-    (p : Procedure) (q : TypedProcedure) → (is_well_named p && has_sets p (body_of ds p)) ≡ true → named_procedure ds p ≡ Some q → is_procedure_shaped (globals_of ds) procs q ≡ true
+    (p : Procedure) (q : TypedProcedure) → (is_well_named p && has_sets p (body_of ds p)) ≡ true → named_procedure ds p ≡ Some q → is_procedure_shaped (declared_globals ds) procs q ≡ true
 procedure_shaped ds procs callees named p q h e =
     let a = parts ds p q e in
     let w = and_parts (is_well_named p) (has_sets p (body_of ds p)) h in
@@ -150,9 +150,9 @@ procedure_shaped ds procs callees named p q h e =
     let r = procedure_of ds p a.modifies a.specs a.body in
     let names : are_names (map (λ v. v.name) r.locals) ≡ true = local_names p (body_of ds p) (hidden_count ds p (body_of ds p)) (declared_proper ds p named w.0) d.0 in
     let locals : are_locals r ≡ true = locals_shaped ds p a.modifies a.specs a.body in
-    let modified : are_modified (globals_of ds) a.modifies ≡ true = modifies_shaped ds p a.modifies a.modified in
+    let modified : are_modified (declared_globals ds) a.modifies ≡ true = modifies_shaped ds p a.modifies a.modified in
     let body : is_body_shaped procs a.body ≡ true = body_shaped ds p procs callees (body_of ds p) a.body d.1 a.bodied in
-    subst (λ (s : TypedProcedure). is_procedure_shaped (globals_of ds) procs s ≡ true) a.made
-    (and_from (are_names (map (λ v. v.name) r.locals)) (are_locals r && (are_modified (globals_of ds) a.modifies && is_body_shaped procs a.body)) names
-    (and_from (are_locals r) (are_modified (globals_of ds) a.modifies && is_body_shaped procs a.body) locals
-    (and_from (are_modified (globals_of ds) a.modifies) (is_body_shaped procs a.body) modified body)))
+    subst (λ (s : TypedProcedure). is_procedure_shaped (declared_globals ds) procs s ≡ true) a.made
+    (and_from (are_names (map (λ v. v.name) r.locals)) (are_locals r && (are_modified (declared_globals ds) a.modifies && is_body_shaped procs a.body)) names
+    (and_from (are_locals r) (are_modified (declared_globals ds) a.modifies && is_body_shaped procs a.body) locals
+    (and_from (are_modified (declared_globals ds) a.modifies) (is_body_shaped procs a.body) modified body)))

@@ -15,7 +15,7 @@ use Rattle.typing_rules.specs.Shape.{is_shaped, is_shaped_block, statement_label
 use Rattle.boogie_types.specs.Meanings.{variable_info}
 use Rattle.boogie_types.specs.Sorted as sorted
 use Rattle.boogie_types.specs.Sorted.{labels_in}
-use Rattle.boogie_types.specs.Naming.{each, both, named, named_guard, named_invariant, targets_of, label_number, levels, procedure_number, params_if_any, params_named, hidden_arguments, hidden_in, hidden_in_block, hidden_column, put_aside, named_arguments, named_call, label_of, in_loop, alone, in_front, named_statement, named_block, Place}
+use Rattle.boogie_types.specs.Naming.{each, from_both, named, named_guard, named_invariant, targets_of, label_number, levels, procedure_number, params_if_any, params_named, hidden_arguments, hidden_in, hidden_in_block, hidden_column, put_aside, named_arguments, named_call, label_of, in_loop, alone, in_front, named_statement, named_block, NamingPlace}
 use Rattle.boogie_types.proofs.ShapeLists.{option_map_some, option_and_then_some, both_some, each_cons, each_append, all_append}
 use Rattle.boogie_types.proofs.ShapeArguments.{arguments_shaped}
 
@@ -29,12 +29,12 @@ abbrev pub AreCallees : List TypedProcedure → List tree.Procedure → Type 0
 AreCallees procs ps = (n : ℕ) → shape.params_if_any (slice_get procs n) ≡ map (variable_info true) (params_if_any (slice_get ps n))
 
 -- what holds of the statements that a statement with those labels becomes
-pub record FineList (procs : List TypedProcedure) (p : Place) (xs : List Name) (ts : List TypedStatement) : Type 0 where
+pub record FineList (procs : List TypedProcedure) (p : NamingPlace) (xs : List Name) (ts : List TypedStatement) : Type 0 where
   pub labels : each (label_number p) xs ≡ Some (list_labels ts)
   pub shaped : list_all (is_shaped procs) ts ≡ true
 
 -- what holds of the list that a list with those labels becomes
-pub record FineBlock (procs : List TypedProcedure) (p : Place) (xs : List Name) (b : TypedBlock) : Type 0 where
+pub record FineBlock (procs : List TypedProcedure) (p : NamingPlace) (xs : List Name) (b : TypedBlock) : Type 0 where
   pub labels : each (label_number p) xs ≡ Some (block_labels b)
   pub shaped : is_shaped_block procs b ≡ true
 
@@ -58,7 +58,7 @@ labels_append (t ∷ ts) us =
     ap (λ (ns : List ℕ). statement_labels t ++ ns) (labels_append ts us) ∙ sym (append_assoc (statement_labels t) (list_labels ts) (list_labels us))
 
 -- a statement before a list
-in_row : (procs : List TypedProcedure) (p : Place) (xs ys : List Name) (ts : List TypedStatement) (b c : TypedBlock) → FineList procs p xs ts → FineBlock procs p ys b →
+in_row : (procs : List TypedProcedure) (p : NamingPlace) (xs ys : List Name) (ts : List TypedStatement) (b c : TypedBlock) → FineList procs p xs ts → FineBlock procs p ys b →
     in_front ts b ≡ c → FineBlock procs p (xs ++ ys) c
 in_row procs p xs ys ts b c f g e =
     subst (FineBlock procs p (xs ++ ys)) e (record {
@@ -68,27 +68,27 @@ in_row procs p xs ys ts b c f g e =
 
 -- ---- one statement
 
-one : (procs : List TypedProcedure) (p : Place) (xs : List Name) (o : Option TypedStatement) (ts : List TypedStatement) →
+one : (procs : List TypedProcedure) (p : NamingPlace) (xs : List Name) (o : Option TypedStatement) (ts : List TypedStatement) →
     ((t : TypedStatement) → o ≡ Some t → FineList procs p xs (t ∷ [])) → alone o ≡ Some ts → FineList procs p xs ts
 one procs p xs o ts h e =
     let a = option_map_some (λ (t : TypedStatement). t ∷ []) o ts e in
     subst (FineList procs p xs) a.2 (h a.0 a.1)
 
-one_of : {X : Type 0} (procs : List TypedProcedure) (p : Place) (xs : List Name) (make : X → TypedStatement) (o : Option X) (ts : List TypedStatement) →
+one_of : {X : Type 0} (procs : List TypedProcedure) (p : NamingPlace) (xs : List Name) (make : X → TypedStatement) (o : Option X) (ts : List TypedStatement) →
     ((x : X) → o ≡ Some x → FineList procs p xs (make x ∷ [])) → alone (option_map make o) ≡ Some ts → FineList procs p xs ts
 one_of procs p xs make o ts h e =
     one procs p xs (option_map make o) ts
     (λ t f. let a = option_map_some make o t f in subst (λ (u : TypedStatement). FineList procs p xs (u ∷ [])) a.2 (h a.0 a.1)) e
 
-two_of : {X Y : Type 0} (procs : List TypedProcedure) (p : Place) (xs : List Name) (make : X → Y → TypedStatement) (x : Option X) (y : Option Y) (t : TypedStatement) →
-    ((a : X) (b : Y) → x ≡ Some a → y ≡ Some b → FineList procs p xs (make a b ∷ [])) → both make x y ≡ Some t → FineList procs p xs (t ∷ [])
+two_of : {X Y : Type 0} (procs : List TypedProcedure) (p : NamingPlace) (xs : List Name) (make : X → Y → TypedStatement) (x : Option X) (y : Option Y) (t : TypedStatement) →
+    ((a : X) (b : Y) → x ≡ Some a → y ≡ Some b → FineList procs p xs (make a b ∷ [])) → from_both make x y ≡ Some t → FineList procs p xs (t ∷ [])
 two_of procs p xs make x y t h e =
     let a = both_some make x y t e in
     subst (λ (u : TypedStatement). FineList procs p xs (u ∷ [])) a.4 (h a.0 a.1 a.2 a.3)
 
 -- ---- a call
 
-aside_fine : (procs : List TypedProcedure) (p : Place) (n : ℕ) (at : Span) (es : List tree.Expression) (ts : List TypedStatement) → put_aside p n at es ≡ Some ts →
+aside_fine : (procs : List TypedProcedure) (p : NamingPlace) (n : ℕ) (at : Span) (es : List tree.Expression) (ts : List TypedStatement) → put_aside p n at es ≡ Some ts →
     FineList procs p [] ts
 aside_fine procs p n at [] ts e = let f : ts ≡ [] = cc in rw f (record { labels = refl; shaped = refl })
 aside_fine procs p n at (x ∷ es) ts e =
@@ -97,7 +97,7 @@ aside_fine procs p n at (x ∷ es) ts e =
     subst (FineList procs p []) a.4 (record { labels = r.labels; shaped = r.shaped })
 
 -- a call whose callee and arguments are known
-callee_fine : (procs : List TypedProcedure) (p : Place) → AreCallees procs p.procs → (at : Span) (f : Name) (cs : List Column) (k : ℕ) (ts : List TypedExpression) →
+callee_fine : (procs : List TypedProcedure) (p : NamingPlace) → AreCallees procs p.procs → (at : Span) (f : Name) (cs : List Column) (k : ℕ) (ts : List TypedExpression) →
     procedure_number p f ≡ Some k → are_arguments (map (variable_info true) (params_named p f)) ts ≡ true → FineList procs p [] (typed.Call at cs k ts ∷ [])
 callee_fine procs p callees at f cs k ts is simple =
     let same : params_named p f ≡ params_if_any (slice_get p.procs k) = ap (λ (o : Option ℕ). params_if_any (option_and_then (slice_get p.procs) o)) is in
@@ -106,7 +106,7 @@ callee_fine procs p callees at f cs k ts is simple =
     record { labels = refl; shaped = and_from (is_shaped procs (typed.Call at cs k ts)) true callee refl }
 
 -- a call behind what is put aside for it
-behind_aside : (procs : List TypedProcedure) (p : Place) (before : List TypedStatement) (call : TypedStatement) → FineList procs p [] before → FineList procs p [] (call ∷ []) →
+behind_aside : (procs : List TypedProcedure) (p : NamingPlace) (before : List TypedStatement) (call : TypedStatement) → FineList procs p [] before → FineList procs p [] (call ∷ []) →
     FineList procs p [] (before ++ (call ∷ []))
 behind_aside procs p before call f g =
     record {
@@ -114,14 +114,14 @@ behind_aside procs p before call f g =
       shaped = all_append (is_shaped procs) before (call ∷ []) f.shaped g.shaped;
     }
 
-made_fine : (procs : List TypedProcedure) (p : Place) → AreCallees procs p.procs → (n : ℕ) (at : Span) (f : Name) (es : List tree.Expression) (cs : Option (List Column)) (call : TypedStatement) →
-    option_and_then (λ xs. both (typed.Call at xs) (procedure_number p f) (named_arguments p n (params_named p f) es)) cs ≡ Some call → FineList procs p [] (call ∷ [])
+made_fine : (procs : List TypedProcedure) (p : NamingPlace) → AreCallees procs p.procs → (n : ℕ) (at : Span) (f : Name) (es : List tree.Expression) (cs : Option (List Column)) (call : TypedStatement) →
+    option_and_then (λ xs. from_both (typed.Call at xs) (procedure_number p f) (named_arguments p n (params_named p f) es)) cs ≡ Some call → FineList procs p [] (call ∷ [])
 made_fine procs p callees n at f es cs call e =
-    let b = option_and_then_some (λ xs. both (typed.Call at xs) (procedure_number p f) (named_arguments p n (params_named p f) es)) cs call e in
+    let b = option_and_then_some (λ xs. from_both (typed.Call at xs) (procedure_number p f) (named_arguments p n (params_named p f) es)) cs call e in
     two_of procs p [] (typed.Call at b.0) (procedure_number p f) (named_arguments p n (params_named p f) es) call
     (λ k ts is args. callee_fine procs p callees at f b.0 k ts is (arguments_shaped p n (params_named p f) es ts args)) b.2
 
-call_fine : (procs : List TypedProcedure) (p : Place) → AreCallees procs p.procs → (n : ℕ) (at : Span) (xs : List Name) (f : Name) (es : List tree.Expression) (ts : List TypedStatement) →
+call_fine : (procs : List TypedProcedure) (p : NamingPlace) → AreCallees procs p.procs → (n : ℕ) (at : Span) (xs : List Name) (f : Name) (es : List tree.Expression) (ts : List TypedStatement) →
     named_call p n at xs f es ≡ Some ts → FineList procs p [] ts
 call_fine procs p callees n at xs f es ts e =
     let hidden = hidden_arguments (params_named p f) es in
@@ -130,17 +130,17 @@ call_fine procs p callees n at xs f es ts e =
     (behind_aside procs p a.0 a.1 (aside_fine procs p n at hidden a.0 a.2) (made_fine procs p callees n at f es (targets_of p.scope xs) a.1 a.3))
   where
     made : Option (List Column) → Option TypedStatement
-    made cs = option_and_then (λ ys. both (typed.Call at ys) (procedure_number p f) (named_arguments p n (params_named p f) es)) cs
+    made cs = option_and_then (λ ys. from_both (typed.Call at ys) (procedure_number p f) (named_arguments p n (params_named p f) es)) cs
 
 -- ---- statements with lists inside
 
-if_fine : (procs : List TypedProcedure) (p : Place) (at : Span) (xs ys : List Name) (g : Option TypedGuard) (a b : Option TypedBlock) (ts : List TypedStatement) →
+if_fine : (procs : List TypedProcedure) (p : NamingPlace) (at : Span) (xs ys : List Name) (g : Option TypedGuard) (a b : Option TypedBlock) (ts : List TypedStatement) →
     ((c : TypedBlock) → a ≡ Some c → FineBlock procs p xs c) → ((c : TypedBlock) → b ≡ Some c → FineBlock procs p ys c) →
-    alone (option_and_then (λ guard. both (typed.If at guard) a b) g) ≡ Some ts → FineList procs p (xs ++ ys) ts
+    alone (option_and_then (λ guard. from_both (typed.If at guard) a b) g) ≡ Some ts → FineList procs p (xs ++ ys) ts
 if_fine procs p at xs ys g a b ts h k e =
-    one procs p (xs ++ ys) (option_and_then (λ guard. both (typed.If at guard) a b) g) ts
+    one procs p (xs ++ ys) (option_and_then (λ guard. from_both (typed.If at guard) a b) g) ts
     (λ t f.
-    let c = option_and_then_some (λ guard. both (typed.If at guard) a b) g t f in
+    let c = option_and_then_some (λ guard. from_both (typed.If at guard) a b) g t f in
     two_of procs p (xs ++ ys) (typed.If at c.0) a b t (λ l r u v.
     let left = h l u in
     let right = k r v in record {
@@ -149,13 +149,13 @@ if_fine procs p at xs ys g a b ts h k e =
     }) c.2)
     e
 
-while_fine : (procs : List TypedProcedure) (p : Place) (at : Span) (xs : List Name) (g : Option TypedGuard) (is : Option (List TypedInvariant)) (b : Option TypedBlock) (ts : List TypedStatement) →
+while_fine : (procs : List TypedProcedure) (p : NamingPlace) (at : Span) (xs : List Name) (g : Option TypedGuard) (is : Option (List TypedInvariant)) (b : Option TypedBlock) (ts : List TypedStatement) →
     ((c : TypedBlock) → b ≡ Some c → FineBlock procs p xs c) →
-    alone (option_and_then (λ guard. both (typed.While at guard) is b) g) ≡ Some ts → FineList procs p xs ts
+    alone (option_and_then (λ guard. from_both (typed.While at guard) is b) g) ≡ Some ts → FineList procs p xs ts
 while_fine procs p at xs g is b ts h e =
-    one procs p xs (option_and_then (λ guard. both (typed.While at guard) is b) g) ts
+    one procs p xs (option_and_then (λ guard. from_both (typed.While at guard) is b) g) ts
     (λ t f.
-    let c = option_and_then_some (λ guard. both (typed.While at guard) is b) g t f in
+    let c = option_and_then_some (λ guard. from_both (typed.While at guard) is b) g t f in
     two_of procs p xs (typed.While at c.0) is b t (λ l r u v.
     let inner = h r v in record {
       labels = inner.labels ∙ ap (λ (ns : List ℕ). Some ns) (sym (append-nil (block_labels r)));
@@ -164,35 +164,35 @@ while_fine procs p at xs g is b ts h e =
     e
 
 -- a loop changes nothing but which breaks it takes
-looped : (procs : List TypedProcedure) (p : Place) (before : Option (List ℕ)) (xs : List Name) (b : TypedBlock) → FineBlock procs (in_loop p before) xs b → FineBlock procs p xs b
+looped : (procs : List TypedProcedure) (p : NamingPlace) (before : Option (List ℕ)) (xs : List Name) (b : TypedBlock) → FineBlock procs (in_loop p before) xs b → FineBlock procs p xs b
 looped procs p before xs b f = record { labels = f.labels; shaped = f.shaped }
 
-label_fine : (procs : List TypedProcedure) (p : Place) (x : Name) (ts : List TypedStatement) → alone (option_map typed.Label (label_number p x)) ≡ Some ts → FineList procs p (x ∷ []) ts
+label_fine : (procs : List TypedProcedure) (p : NamingPlace) (x : Name) (ts : List TypedStatement) → alone (option_map typed.Label (label_number p x)) ≡ Some ts → FineList procs p (x ∷ []) ts
 label_fine procs p x ts e =
     one_of procs p (x ∷ []) typed.Label (label_number p x) ts
     (λ n f. record { labels = each_cons (label_number p) x [] n [] f refl; shaped = refl }) e
 
-empty_fine : (procs : List TypedProcedure) (p : Place) (c : TypedBlock) → Some typed.Empty ≡ Some c → FineBlock procs p [] c
+empty_fine : (procs : List TypedProcedure) (p : NamingPlace) (c : TypedBlock) → Some typed.Empty ≡ Some c → FineBlock procs p [] c
 empty_fine procs p c e = let f : typed.Empty ≡ c = cc in subst (FineBlock procs p []) f (record { labels = refl; shaped = refl })
 
-return_fine : (procs : List TypedProcedure) (p : Place) (at : Span) (ts : List TypedStatement) → Some (typed.Return at ∷ []) ≡ Some ts → FineList procs p [] ts
+return_fine : (procs : List TypedProcedure) (p : NamingPlace) (at : Span) (ts : List TypedStatement) → Some (typed.Return at ∷ []) ≡ Some ts → FineList procs p [] ts
 return_fine procs p at ts e = let f : typed.Return at ∷ [] ≡ ts = cc in subst (FineList procs p []) f (record { labels = refl; shaped = refl })
 
-assign_fine : (procs : List TypedProcedure) (p : Place) (at : Span) (cs : Option (List Column)) (es : Option (List TypedExpression)) (ts : List TypedStatement) →
-    alone (both (typed.Assign at) cs es) ≡ Some ts → FineList procs p [] ts
+assign_fine : (procs : List TypedProcedure) (p : NamingPlace) (at : Span) (cs : Option (List Column)) (es : Option (List TypedExpression)) (ts : List TypedStatement) →
+    alone (from_both (typed.Assign at) cs es) ≡ Some ts → FineList procs p [] ts
 assign_fine procs p at cs es ts e =
-    one procs p [] (both (typed.Assign at) cs es) ts
+    one procs p [] (from_both (typed.Assign at) cs es) ts
     (λ t f. two_of procs p [] (typed.Assign at) cs es t (λ a b u v. record { labels = refl; shaped = refl }) f) e
 
-then_fine : (procs : List TypedProcedure) (p : Place) (xs ys : List Name) (s : Option (List TypedStatement)) (b : Option TypedBlock) (c : TypedBlock) →
+then_fine : (procs : List TypedProcedure) (p : NamingPlace) (xs ys : List Name) (s : Option (List TypedStatement)) (b : Option TypedBlock) (c : TypedBlock) →
     ((ts : List TypedStatement) → s ≡ Some ts → FineList procs p xs ts) → ((d : TypedBlock) → b ≡ Some d → FineBlock procs p ys d) →
-    both in_front s b ≡ Some c → FineBlock procs p (xs ++ ys) c
+    from_both in_front s b ≡ Some c → FineBlock procs p (xs ++ ys) c
 then_fine procs p xs ys s b c h k e =
     let a = both_some in_front s b c e in
     in_row procs p xs ys a.0 a.1 c (h a.0 a.2) (k a.1 a.3) a.4
 
 mutual
-  pub statement_fine : (procs : List TypedProcedure) (p : Place) → AreCallees procs p.procs → (before : Option (List ℕ)) (n : ℕ) (s : tree.Statement) (ts : List TypedStatement) →
+  pub statement_fine : (procs : List TypedProcedure) (p : NamingPlace) → AreCallees procs p.procs → (before : Option (List ℕ)) (n : ℕ) (s : tree.Statement) (ts : List TypedStatement) →
       named_statement p before n s ≡ Some ts → FineList procs p (labels_in s) ts
   statement_fine procs p callees before n (tree.Assert at e) ts is =
       one_of procs p [] (typed.Assert at) (named p.scope e) ts (λ x f. record { labels = refl; shaped = refl }) is
@@ -215,7 +215,7 @@ mutual
   statement_fine procs p callees before n (tree.Return at) ts is = return_fine procs p at ts is
   statement_fine procs p callees before n (tree.Label x) ts is = label_fine procs p x ts is
 
-  pub block_fine : (procs : List TypedProcedure) (p : Place) → AreCallees procs p.procs → (before : Option (List ℕ)) (n : ℕ) (b : tree.Block) (c : TypedBlock) →
+  pub block_fine : (procs : List TypedProcedure) (p : NamingPlace) → AreCallees procs p.procs → (before : Option (List ℕ)) (n : ℕ) (b : tree.Block) (c : TypedBlock) →
       named_block p before n b ≡ Some c → FineBlock procs p (sorted.block_labels b) c
   block_fine procs p callees before n tree.Empty c is = empty_fine procs p c is
   block_fine procs p callees before n (tree.Then s b) c is =

@@ -14,8 +14,8 @@ use Rattle.typed_tree.specs.TypedTree as typed
 use Rattle.typed_tree.specs.TypedTree.{TypedSpecification}
 use Rattle.boogie_types.specs.Making.{made}
 use Rattle.boogie_types.specs.Meanings.{variable_info}
-use Rattle.boogie_types.specs.Naming.{both, named_invariant}
-use Rattle.boogie_types.specs.Sorted.{globals_of, locals_of}
+use Rattle.boogie_types.specs.Naming.{from_both, named_invariant}
+use Rattle.boogie_types.specs.Sorted.{declared_globals, declared_locals}
 use Rattle.boogie_types.specs.Resolved.{named_specifications}
 use Rattle.boogie_types.specs.BrokenNames.{IsProcedureMisnamed, required, ensured}
 use Rattle.boogie_types.specs.NamingFaults.{IsExpressionFault, IsProcedureFault}
@@ -24,8 +24,8 @@ use Rattle.boogie_types.proofs.FaultLaws.{or_memory_to}
 use Rattle.boogie_types.proofs.ExcludedLists.{no_member, member_cases}
 
 -- one member more is made
-one_made : {X Y : Type 0} (f : X → Y) (o : Option X) (rest : Option (List Y)) (done new : List Y) → made done (both (λ t ts. f t ∷ ts) o (Some [])) ≡ Some new →
-    made done (both (λ t ts. f t ∷ ts) o rest) ≡ made new rest
+one_made : {X Y : Type 0} (f : X → Y) (o : Option X) (rest : Option (List Y)) (done new : List Y) → made done (from_both (λ t ts. f t ∷ ts) o (Some [])) ≡ Some new →
+    made done (from_both (λ t ts. f t ∷ ts) o rest) ≡ made new rest
 one_made f None rest done new e = absurd (false≢true (let x : false ≡ true = cc in x))
 one_made f (Some x) None done new e = refl
 one_made {X} {Y} f (Some x) (Some ys) done new e =
@@ -89,17 +89,17 @@ module _ (before after : Scope) where
 module _ (ds : List Declaration) (p : Procedure) where
   -- what requires see, and what ensures see
   abbrev pub before_of : Scope
-  before_of = requires_scope (globals_of ds) (map (variable_info true) p.params)
+  before_of = requires_scope (declared_globals ds) (map (variable_info true) p.params)
 
   abbrev pub after_of : Scope
-  after_of = body_scope (globals_of ds) (locals_of p None)
+  after_of = body_scope (declared_globals ds) (declared_locals p None)
 
   pub specifications_are : (ss : List Specification) → named_specifications ds p ss ≡ specifications_in before_of after_of ss
   specifications_are [] = refl
   specifications_are (tree.Requires i ∷ ss) =
-      ap (both (λ t ts. typed.Requires t ∷ ts) (named_invariant before_of i)) (specifications_are ss)
+      ap (from_both (λ t ts. typed.Requires t ∷ ts) (named_invariant before_of i)) (specifications_are ss)
   specifications_are (tree.Ensures i ∷ ss) =
-      ap (both (λ t ts. typed.Ensures t ∷ ts) (named_invariant after_of i)) (specifications_are ss)
+      ap (from_both (λ t ts. typed.Ensures t ∷ ts) (named_invariant after_of i)) (specifications_are ss)
   specifications_are (tree.Modifies xs ∷ ss) = specifications_are ss
 
   misnamed_by : (f : TypeFault) → AreSpecificationsUnknown before_of after_of p.specs f → IsProcedureMisnamed ds p f

@@ -8,7 +8,7 @@ use Rattle.boogie_tree.specs.declared.tree.VarInfo.{VarInfo}
 use Rattle.boogie_tree.specs.Tree.{Procedure, ProcedureBody}
 use Rattle.boogie_types.specs.Meanings.{variable_info}
 use Rattle.boogie_types.specs.Numbers.{info_names, texts}
-use Rattle.boogie_types.specs.Sorted.{body_locals, locals_of, variable_names}
+use Rattle.boogie_types.specs.Sorted.{body_locals, declared_locals, variable_names}
 use Rattle.boogie_types.proofs.ShapeNames.{local_texts}
 
 names_joined : (ps rs ls : List Vary) → (map (λ v. v.name) ps ++ map (λ v. v.name) rs) ++ map (λ v. v.name) ls ≡ map (λ v. v.name) (ps ++ (rs ++ ls))
@@ -25,13 +25,13 @@ names_are p b one two all e f g =
 
 -- and what is known of them
 pub infos_are : (p : Procedure) (b : Option ProcedureBody) (one two all : List VarInfo) → one ≡ map (variable_info true) p.params → two ≡ one ++ map (variable_info false) p.results →
-    all ≡ two ++ map (variable_info false) (body_locals b) → all ≡ locals_of p b
+    all ≡ two ++ map (variable_info false) (body_locals b) → all ≡ declared_locals p b
 infos_are p b one two all e f g =
     g ∙ ap (λ (xs : List VarInfo). xs ++ map (variable_info false) (body_locals b)) (f ∙ ap (λ (xs : List VarInfo). xs ++ map (variable_info false) p.results) e)
     ∙ append_assoc (map (variable_info true) p.params) (map (variable_info false) p.results) (map (variable_info false) (body_locals b))
 
 -- the numbered names are those of the locals
-pub names_of_locals : (p : Procedure) (b : Option ProcedureBody) → texts (variable_names p b) ≡ info_names (locals_of p b)
+pub names_of_locals : (p : Procedure) (b : Option ProcedureBody) → texts (variable_names p b) ≡ info_names (declared_locals p b)
 names_of_locals p b = sym (local_texts p b)
 
 -- ---- the first of the locals

@@ -13,8 +13,8 @@ use Rattle.typed_tree.specs.Scope.{Scope, axiom_scope, requires_scope, body_scop
 use Rattle.typing_rules.specs.Rules.{keeps_typing}
 use Rattle.typing_rules.specs.BrokenTyping.{IsProgramBroken}
 use Rattle.boogie_types.specs.Meanings.{column_of, number_from, variable_info}
-use Rattle.boogie_types.specs.Naming.{Place, label_number, levels, procedure_number, in_loop, label_of}
-use Rattle.boogie_types.specs.Sorted.{globals_of, global_names, axioms_of, procedures_of, implementations_of, first_named, body_of, locals_of, variable_names, labels_if_any, modified_in}
+use Rattle.boogie_types.specs.Naming.{NamingPlace, label_number, levels, procedure_number, in_loop, label_of}
+use Rattle.boogie_types.specs.Sorted.{declared_globals, global_names, axioms_of, procedures_of, implementations_of, first_named, body_of, declared_locals, variable_names, labels_if_any, modified_in}
 use Rattle.boogie_types.specs.Resolved.{are_sets, are_implementations, repeats, modified_number, body_place, named_program, entry_number}
 
 -- a name of an expression that means nothing there
@@ -46,36 +46,36 @@ pub data IsGuardUnknown (s : Scope) : Guard → TypeFault → Type 0 where
 
 mutual
   -- a name of a statement, or of one inside it, that means nothing there
-  pub data IsMisnamed : Place → Option (List ℕ) → Statement → TypeFault → Type 0 where
-    asserted : (p : Place) (before : Option (List ℕ)) (at : Span) (e : Expression) (f : TypeFault) → IsUnknownIn p.scope e f → IsMisnamed p before (Assert at e) f
-    assumed : (p : Place) (before : Option (List ℕ)) (at : Span) (e : Expression) (f : TypeFault) → IsUnknownIn p.scope e f → IsMisnamed p before (Assume at e) f
-    chosen : (p : Place) (before : Option (List ℕ)) (at : Span) (xs : List Name) (f : TypeFault) → IsTargetWrong p.scope xs f → IsMisnamed p before (Havoc at xs) f
-    assigned : (p : Place) (before : Option (List ℕ)) (at : Span) (xs : List Name) (es : List Expression) (f : TypeFault) → IsTargetWrong p.scope xs f → IsMisnamed p before (Assign at xs es) f
-    valued : (p : Place) (before : Option (List ℕ)) (at : Span) (xs : List Name) (es : List Expression) (f : TypeFault) → AreUnknownIn p.scope es f → IsMisnamed p before (Assign at xs es) f
-    unknown_callee : (p : Place) (before : Option (List ℕ)) (at : Span) (xs : List Name) (g : Name) (es : List Expression) → procedure_number p g ≡ None → IsMisnamed p before (Call at xs g es) (fault.Unknown g.span)
-    returned : (p : Place) (before : Option (List ℕ)) (at : Span) (xs : List Name) (g : Name) (es : List Expression) (f : TypeFault) → IsTargetWrong p.scope xs f → IsMisnamed p before (Call at xs g es) f
-    passed : (p : Place) (before : Option (List ℕ)) (at : Span) (xs : List Name) (g : Name) (es : List Expression) (f : TypeFault) → AreUnknownIn p.scope es f → IsMisnamed p before (Call at xs g es) f
-    branched : (p : Place) (before : Option (List ℕ)) (at : Span) (g : Guard) (a b : Block) (f : TypeFault) → IsGuardUnknown p.scope g f → IsMisnamed p before (If at g a b) f
-    in_then : (p : Place) (before : Option (List ℕ)) (at : Span) (g : Guard) (a b : Block) (f : TypeFault) → IsMisnamedIn p None a f → IsMisnamed p before (If at g a b) f
-    in_else : (p : Place) (before : Option (List ℕ)) (at : Span) (g : Guard) (a b : Block) (f : TypeFault) → IsMisnamedIn p None b f → IsMisnamed p before (If at g a b) f
-    looping : (p : Place) (before : Option (List ℕ)) (at : Span) (g : Guard) (is : List Invariant) (b : Block) (f : TypeFault) → IsGuardUnknown p.scope g f → IsMisnamed p before (While at g is b) f
-    in_invariant : (p : Place) (before : Option (List ℕ)) (at : Span) (g : Guard) (is : List Invariant) (b : Block) (i : Invariant) (f : TypeFault) → Contains is i → IsUnknownIn p.scope i.cond f → IsMisnamed p before (While at g is b) f
-    in_loop_body : (p : Place) (before : Option (List ℕ)) (at : Span) (g : Guard) (is : List Invariant) (b : Block) (f : TypeFault) → IsMisnamedIn (in_loop p before) None b f → IsMisnamed p before (While at g is b) f
-    no_such_loop : (p : Place) (before : Option (List ℕ)) (at : Span) (x : Name) → levels p (Some x) ≡ None → IsMisnamed p before (Break at (Some x)) (fault.BadGoto x.span)
-    no_such_label : (p : Place) (before : Option (List ℕ)) (at : Span) (xs : List Name) (x : Name) → Contains xs x → label_number p x ≡ None → IsMisnamed p before (Goto at xs) (fault.BadGoto x.span)
-    unlisted_label : (p : Place) (before : Option (List ℕ)) (x : Name) → label_number p x ≡ None → IsMisnamed p before (Label x) (fault.BadGoto x.span)
+  pub data IsMisnamed : NamingPlace → Option (List ℕ) → Statement → TypeFault → Type 0 where
+    asserted : (p : NamingPlace) (before : Option (List ℕ)) (at : Span) (e : Expression) (f : TypeFault) → IsUnknownIn p.scope e f → IsMisnamed p before (Assert at e) f
+    assumed : (p : NamingPlace) (before : Option (List ℕ)) (at : Span) (e : Expression) (f : TypeFault) → IsUnknownIn p.scope e f → IsMisnamed p before (Assume at e) f
+    chosen : (p : NamingPlace) (before : Option (List ℕ)) (at : Span) (xs : List Name) (f : TypeFault) → IsTargetWrong p.scope xs f → IsMisnamed p before (Havoc at xs) f
+    assigned : (p : NamingPlace) (before : Option (List ℕ)) (at : Span) (xs : List Name) (es : List Expression) (f : TypeFault) → IsTargetWrong p.scope xs f → IsMisnamed p before (Assign at xs es) f
+    valued : (p : NamingPlace) (before : Option (List ℕ)) (at : Span) (xs : List Name) (es : List Expression) (f : TypeFault) → AreUnknownIn p.scope es f → IsMisnamed p before (Assign at xs es) f
+    unknown_callee : (p : NamingPlace) (before : Option (List ℕ)) (at : Span) (xs : List Name) (g : Name) (es : List Expression) → procedure_number p g ≡ None → IsMisnamed p before (Call at xs g es) (fault.Unknown g.span)
+    returned : (p : NamingPlace) (before : Option (List ℕ)) (at : Span) (xs : List Name) (g : Name) (es : List Expression) (f : TypeFault) → IsTargetWrong p.scope xs f → IsMisnamed p before (Call at xs g es) f
+    passed : (p : NamingPlace) (before : Option (List ℕ)) (at : Span) (xs : List Name) (g : Name) (es : List Expression) (f : TypeFault) → AreUnknownIn p.scope es f → IsMisnamed p before (Call at xs g es) f
+    branched : (p : NamingPlace) (before : Option (List ℕ)) (at : Span) (g : Guard) (a b : Block) (f : TypeFault) → IsGuardUnknown p.scope g f → IsMisnamed p before (If at g a b) f
+    in_then : (p : NamingPlace) (before : Option (List ℕ)) (at : Span) (g : Guard) (a b : Block) (f : TypeFault) → IsMisnamedIn p None a f → IsMisnamed p before (If at g a b) f
+    in_else : (p : NamingPlace) (before : Option (List ℕ)) (at : Span) (g : Guard) (a b : Block) (f : TypeFault) → IsMisnamedIn p None b f → IsMisnamed p before (If at g a b) f
+    looping : (p : NamingPlace) (before : Option (List ℕ)) (at : Span) (g : Guard) (is : List Invariant) (b : Block) (f : TypeFault) → IsGuardUnknown p.scope g f → IsMisnamed p before (While at g is b) f
+    in_invariant : (p : NamingPlace) (before : Option (List ℕ)) (at : Span) (g : Guard) (is : List Invariant) (b : Block) (i : Invariant) (f : TypeFault) → Contains is i → IsUnknownIn p.scope i.cond f → IsMisnamed p before (While at g is b) f
+    in_loop_body : (p : NamingPlace) (before : Option (List ℕ)) (at : Span) (g : Guard) (is : List Invariant) (b : Block) (f : TypeFault) → IsMisnamedIn (in_loop p before) None b f → IsMisnamed p before (While at g is b) f
+    no_such_loop : (p : NamingPlace) (before : Option (List ℕ)) (at : Span) (x : Name) → levels p (Some x) ≡ None → IsMisnamed p before (Break at (Some x)) (fault.BadGoto x.span)
+    no_such_label : (p : NamingPlace) (before : Option (List ℕ)) (at : Span) (xs : List Name) (x : Name) → Contains xs x → label_number p x ≡ None → IsMisnamed p before (Goto at xs) (fault.BadGoto x.span)
+    unlisted_label : (p : NamingPlace) (before : Option (List ℕ)) (x : Name) → label_number p x ≡ None → IsMisnamed p before (Label x) (fault.BadGoto x.span)
 
   -- of a list whose first statement the label stands directly before
-  pub data IsMisnamedIn : Place → Option (List ℕ) → Block → TypeFault → Type 0 where
-    first : (p : Place) (before : Option (List ℕ)) (s : Statement) (b : Block) (f : TypeFault) → IsMisnamed p before s f → IsMisnamedIn p before (Then s b) f
-    later : (p : Place) (before : Option (List ℕ)) (s : Statement) (b : Block) (f : TypeFault) → IsMisnamedIn p (label_of s) b f → IsMisnamedIn p before (Then s b) f
+  pub data IsMisnamedIn : NamingPlace → Option (List ℕ) → Block → TypeFault → Type 0 where
+    first : (p : NamingPlace) (before : Option (List ℕ)) (s : Statement) (b : Block) (f : TypeFault) → IsMisnamed p before s f → IsMisnamedIn p before (Then s b) f
+    later : (p : NamingPlace) (before : Option (List ℕ)) (s : Statement) (b : Block) (f : TypeFault) → IsMisnamedIn p (label_of s) b f → IsMisnamedIn p before (Then s b) f
 
 -- a name of a procedure's specifications or body that means nothing there, or a constant in a modifies list
 pub data IsProcedureMisnamed (ds : List Declaration) (p : Procedure) : TypeFault → Type 0 where
-  unknown_modified : (x : Name) → Contains (modified_in p.specs) x → number_from 0 x.text (globals_of ds) ≡ None → IsProcedureMisnamed ds p (fault.Unknown x.span)
-  constant_modified : (x : Name) (n : ℕ) → Contains (modified_in p.specs) x → number_from 0 x.text (globals_of ds) ≡ Some n → modified_number (globals_of ds) x.text ≡ None → IsProcedureMisnamed ds p (fault.NotAssignable x.span)
-  required : (i : Invariant) (f : TypeFault) → Contains p.specs (Requires i) → IsUnknownIn (requires_scope (globals_of ds) (map (variable_info true) p.params)) i.cond f → IsProcedureMisnamed ds p f
-  ensured : (i : Invariant) (f : TypeFault) → Contains p.specs (Ensures i) → IsUnknownIn (body_scope (globals_of ds) (locals_of p None)) i.cond f → IsProcedureMisnamed ds p f
+  unknown_modified : (x : Name) → Contains (modified_in p.specs) x → number_from 0 x.text (declared_globals ds) ≡ None → IsProcedureMisnamed ds p (fault.Unknown x.span)
+  constant_modified : (x : Name) (n : ℕ) → Contains (modified_in p.specs) x → number_from 0 x.text (declared_globals ds) ≡ Some n → modified_number (declared_globals ds) x.text ≡ None → IsProcedureMisnamed ds p (fault.NotAssignable x.span)
+  required : (i : Invariant) (f : TypeFault) → Contains p.specs (Requires i) → IsUnknownIn (requires_scope (declared_globals ds) (map (variable_info true) p.params)) i.cond f → IsProcedureMisnamed ds p f
+  ensured : (i : Invariant) (f : TypeFault) → Contains p.specs (Ensures i) → IsUnknownIn (body_scope (declared_globals ds) (declared_locals p None)) i.cond f → IsProcedureMisnamed ds p f
   in_body : (b : ProcedureBody) (f : TypeFault) → body_of ds p ≡ Some b → IsMisnamedIn (body_place ds p b) None b.stmts f → IsProcedureMisnamed ds p f
 
 -- A rule is broken, and the fault names it and where.
@@ -88,7 +88,7 @@ pub data IsRuleBroken (ds : List Declaration) : TypeFault → Type 0 where
   second_body : (i p : Procedure) → Contains (implementations_of ds) i → first_named i.name.text (procedures_of ds) ≡ Some p → is_none p.body ≡ false → IsRuleBroken ds (fault.Twice i.name.span)
   unknown_implemented : (i : Procedure) → Contains (implementations_of ds) i → first_named i.name.text (procedures_of ds) ≡ None → IsRuleBroken ds (fault.Unknown i.name.span)
   not_repeated : (i p : Procedure) → Contains (implementations_of ds) i → first_named i.name.text (procedures_of ds) ≡ Some p → repeats i p ≡ false → IsRuleBroken ds (fault.Mismatch i.name.span)
-  in_axiom : (e : Expression) (f : TypeFault) → Contains (axioms_of ds) e → IsUnknownIn (axiom_scope (globals_of ds)) e f → IsRuleBroken ds f
+  in_axiom : (e : Expression) (f : TypeFault) → Contains (axioms_of ds) e → IsUnknownIn (axiom_scope (declared_globals ds)) e f → IsRuleBroken ds f
   in_procedure : (p : Procedure) (f : TypeFault) → Contains (procedures_of ds) p → IsProcedureMisnamed ds p f → IsRuleBroken ds f
   in_typing : (t : TypedProgram) (f : TypeFault) → named_program ds ≡ Some t → IsProgramBroken t f → IsRuleBroken ds f
 

@@ -33,8 +33,8 @@ expression_span (tree.Neg at e) = at
 expression_span (tree.Bin at op a b) = at
 
 -- what two parts make, where both are there
-abbrev pub both : {X Y Z : Type 0} → (X → Y → Z) → Option X → Option Y → Option Z
-both f x y = option_and_then (λ a. option_map (f a) y) x
+abbrev pub from_both : {X Y Z : Type 0} → (X → Y → Z) → Option X → Option Y → Option Z
+from_both f x y = option_and_then (λ a. option_map (f a) y) x
 
 -- an expression with its names replaced; none where a name is unknown
 abbrev pub named : Scope → tree.Expression → Option TypedExpression
@@ -44,10 +44,10 @@ named s (tree.Var at x) = option_map (typed.Var at) (column_of s x.text)
 named s (tree.Old at e) = option_map (typed.Old at) (named s e)
 named s (tree.Not at e) = option_map (typed.Not at) (named s e)
 named s (tree.Neg at e) = option_map (typed.Neg at) (named s e)
-named s (tree.Bin at op a b) = both (typed.Bin at op) (named s a) (named s b)
+named s (tree.Bin at op a b) = from_both (typed.Bin at op) (named s a) (named s b)
 
 -- What the names of a statement may mean: the scope, the procedures, the number of locals that are not hidden, the labels of the body in text order, and for each loop around the statement the label directly before it.
-pub record Place : Type 0 where
+pub record NamingPlace : Type 0 where
   pub scope : Scope
   pub procs : List tree.Procedure
   pub declared : ℕ
@@ -68,7 +68,7 @@ columns_of s xs = each (λ x. column_of s x.text) xs
 abbrev pub targets_of : Scope → List Name → Option (List Column)
 targets_of s xs = if all_differ (λ x y. bytes_eq x.text y.text) xs then columns_of s xs else None
 
-abbrev pub label_number : Place → Name → Option ℕ
+abbrev pub label_number : NamingPlace → Name → Option ℕ
 label_number p x = position_from (bytes_eq x.text) 0 p.labels
 
 abbrev pub is_before_loop : List ℕ → Option (List ℕ) → Bool
@@ -81,10 +81,10 @@ levels_in loops None = Some 0
 levels_in loops (Some x) = position_from (is_before_loop x.text) 0 loops
 
 -- how many loops a break leaves beyond the innermost
-abbrev pub levels : Place → Option Name → Option ℕ
+abbrev pub levels : NamingPlace → Option Name → Option ℕ
 levels p x = levels_in p.loops x
 
-abbrev pub procedure_number : Place → Name → Option ℕ
+abbrev pub procedure_number : NamingPlace → Name → Option ℕ
 procedure_number p f = position_from (λ q. bytes_eq f.text q.name.text) 0 p.procs
 
 abbrev pub params_if_any : Option tree.Procedure → List Vary
@@ -92,7 +92,7 @@ params_if_any None = []
 params_if_any (Some q) = q.params
 
 -- the parameters of a procedure; none of one that does not exist
-abbrev pub params_named : Place → Name → List Vary
+abbrev pub params_named : NamingPlace → Name → List Vary
 params_named p f = params_if_any (option_and_then (slice_get p.procs) (procedure_number p f))
 
 -- a literal, a name, or `!` before a name
@@ -115,40 +115,40 @@ hidden_arguments vs es = []
 
 abbrev mutual
   -- how many hidden locals a statement needs
-  pub hidden_in : Place → tree.Statement → ℕ
+  pub hidden_in : NamingPlace → tree.Statement → ℕ
   hidden_in p (tree.Call at xs f es) = length (hidden_arguments (params_named p f) es)
   hidden_in p (tree.If at g a b) = hidden_in_block p a + hidden_in_block p b
   hidden_in p (tree.While at g is b) = hidden_in_block p b
   hidden_in p s = 0
 
-  pub hidden_in_block : Place → tree.Block → ℕ
+  pub hidden_in_block : NamingPlace → tree.Block → ℕ
   hidden_in_block p tree.Empty = 0
   hidden_in_block p (tree.Then s b) = hidden_in p s + hidden_in_block p b
 
 -- the hidden local number n, counted from 0
-abbrev pub hidden_column : Place → ℕ → Column
+abbrev pub hidden_column : NamingPlace → ℕ → Column
 hidden_column p n = columns.Local (p.declared + n)
 
 -- an assignment to each hidden local from number n on, where the call stands
-abbrev pub put_aside : Place → ℕ → Span → List tree.Expression → Option (List TypedStatement)
+abbrev pub put_aside : NamingPlace → ℕ → Span → List tree.Expression → Option (List TypedStatement)
 put_aside p n at [] = Some []
 put_aside p n at (e ∷ es) =
-    both (λ t ts. typed.Assign at (hidden_column p n ∷ []) (t ∷ []) ∷ ts) (named p.scope e) (put_aside p (n + 1) at es)
+    from_both (λ t ts. typed.Assign at (hidden_column p n ∷ []) (t ∷ []) ∷ ts) (named p.scope e) (put_aside p (n + 1) at es)
 
 -- the arguments of a call, the hidden locals from number n on in place of those that are put aside
-abbrev pub named_arguments : Place → ℕ → List Vary → List tree.Expression → Option (List TypedExpression)
+abbrev pub named_arguments : NamingPlace → ℕ → List Vary → List tree.Expression → Option (List TypedExpression)
 named_arguments p n vs [] = Some []
 named_arguments p n [] (e ∷ es) = each (named p.scope) (e ∷ es)
 named_arguments p n (v ∷ vs) (e ∷ es) =
     if is_hidden v.ty e
     then option_map (λ ts. typed.Var (expression_span e) (hidden_column p n) ∷ ts) (named_arguments p (n + 1) vs es)
-    else both (λ t ts. t ∷ ts) (named p.scope e) (named_arguments p n vs es)
+    else from_both (λ t ts. t ∷ ts) (named p.scope e) (named_arguments p n vs es)
 
 -- a call: the assignments to hidden locals, from number n on, directly before it
-abbrev pub named_call : Place → ℕ → Span → List Name → Name → List tree.Expression → Option (List TypedStatement)
+abbrev pub named_call : NamingPlace → ℕ → Span → List Name → Name → List tree.Expression → Option (List TypedStatement)
 named_call p n at xs f es =
-    both (λ before call. before ++ (call ∷ [])) (put_aside p n at (hidden_arguments (params_named p f) es))
-    (option_and_then (λ cs. both (typed.Call at cs) (procedure_number p f) (named_arguments p n (params_named p f) es))
+    from_both (λ before call. before ++ (call ∷ [])) (put_aside p n at (hidden_arguments (params_named p f) es))
+    (option_and_then (λ cs. from_both (typed.Call at cs) (procedure_number p f) (named_arguments p n (params_named p f) es))
     (targets_of p.scope xs))
 
 -- the label that a statement is
@@ -157,7 +157,7 @@ label_of (tree.Label x) = Some x.text
 label_of s = None
 
 -- inside a loop with that label directly before it
-abbrev pub in_loop : Place → Option (List ℕ) → Place
+abbrev pub in_loop : NamingPlace → Option (List ℕ) → NamingPlace
 in_loop p label = record p { loops = label ∷ p.loops }
 
 abbrev pub alone : Option TypedStatement → Option (List TypedStatement)
@@ -170,27 +170,27 @@ in_front (s ∷ ss) b = typed.Then s (in_front ss b)
 
 abbrev mutual
   -- A statement with its names replaced: the label directly before it and the number of hidden locals before it are told.
-  pub named_statement : Place → Option (List ℕ) → ℕ → tree.Statement → Option (List TypedStatement)
+  pub named_statement : NamingPlace → Option (List ℕ) → ℕ → tree.Statement → Option (List TypedStatement)
   named_statement p before n (tree.Assert at e) = alone (option_map (typed.Assert at) (named p.scope e))
   named_statement p before n (tree.Assume at e) = alone (option_map (typed.Assume at) (named p.scope e))
   named_statement p before n (tree.Havoc at xs) = alone (option_map (typed.Havoc at) (targets_of p.scope xs))
   named_statement p before n (tree.Assign at xs es) =
-      alone (both (typed.Assign at) (targets_of p.scope xs) (each (named p.scope) es))
+      alone (from_both (typed.Assign at) (targets_of p.scope xs) (each (named p.scope) es))
   named_statement p before n (tree.Call at xs f es) = named_call p n at xs f es
   named_statement p before n (tree.If at g a b) =
       alone (option_and_then
-      (λ guard. both (typed.If at guard) (named_block p None n a) (named_block p None (n + hidden_in_block p a) b))
+      (λ guard. from_both (typed.If at guard) (named_block p None n a) (named_block p None (n + hidden_in_block p a) b))
       (named_guard p.scope g))
   named_statement p before n (tree.While at g is b) =
       alone (option_and_then
-      (λ guard. both (typed.While at guard) (each (named_invariant p.scope) is) (named_block (in_loop p before) None n b))
+      (λ guard. from_both (typed.While at guard) (each (named_invariant p.scope) is) (named_block (in_loop p before) None n b))
       (named_guard p.scope g))
   named_statement p before n (tree.Break at x) = alone (option_map (typed.Break at) (levels p x))
   named_statement p before n (tree.Goto at xs) = alone (option_map (typed.Goto at) (each (label_number p) xs))
   named_statement p before n (tree.Return at) = Some (typed.Return at ∷ [])
   named_statement p before n (tree.Label x) = alone (option_map typed.Label (label_number p x))
 
-  pub named_block : Place → Option (List ℕ) → ℕ → tree.Block → Option TypedBlock
+  pub named_block : NamingPlace → Option (List ℕ) → ℕ → tree.Block → Option TypedBlock
   named_block p before n tree.Empty = Some typed.Empty
   named_block p before n (tree.Then s b) =
-      both in_front (named_statement p before n s) (named_block p (label_of s) (n + hidden_in p s) b)
+      from_both in_front (named_statement p before n s) (named_block p (label_of s) (n + hidden_in p s) b)

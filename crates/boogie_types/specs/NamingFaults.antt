@@ -6,7 +6,7 @@ use Rattle.typed_tree.specs.declared.fault.TypeFault.{TypeFault}
 use Rattle.typed_tree.specs.declared.fault.TypeFault.TheVariants as fault
 use Rattle.typed_tree.specs.Scope.{Scope}
 use Rattle.std.specs.List.{position_from}
-use Rattle.boogie_types.specs.Naming.{Place, is_before_loop, procedure_number}
+use Rattle.boogie_types.specs.Naming.{NamingPlace, is_before_loop, procedure_number}
 use Rattle.boogie_types.specs.BrokenNames.{IsUnknownIn, AreUnknownIn, IsTargetWrong, IsGuardUnknown, IsMisnamed, IsMisnamedIn, IsProcedureMisnamed}
 
 -- the fault is want of memory, or the rule is broken
@@ -33,10 +33,10 @@ IsInvariantUnknown s is f = (i : Invariant) × Contains is i × IsUnknownIn s i.
 abbrev pub IsInvariantsFault : Scope → List Invariant → TypeFault → Type 0
 IsInvariantsFault s is f = OrMemory f (IsInvariantUnknown s is f)
 
-abbrev pub IsStatementFault : Place → Option (List ℕ) → Statement → TypeFault → Type 0
+abbrev pub IsStatementFault : NamingPlace → Option (List ℕ) → Statement → TypeFault → Type 0
 IsStatementFault p before s f = OrMemory f (IsMisnamed p before s f)
 
-abbrev pub IsBlockFault : Place → Option (List ℕ) → Block → TypeFault → Type 0
+abbrev pub IsBlockFault : NamingPlace → Option (List ℕ) → Block → TypeFault → Type 0
 IsBlockFault p before b f = OrMemory f (IsMisnamedIn p before b f)
 
 abbrev pub IsProcedureFault : List Declaration → Procedure → TypeFault → Type 0
@@ -48,10 +48,10 @@ IsLeavingFault loops None f = OrMemory f ⊥
 IsLeavingFault loops (Some x) f = OrMemory f ((position_from (is_before_loop x.text) 0 loops ≡ None) × (f ≡ fault.BadGoto x.span))
 
 -- a name of a call that means nothing there: the procedure, a target, or one of an argument
-pub data IsCallUnknown (p : Place) (xs : List Name) (g : Name) (es : List Expression) : TypeFault → Type 0 where
+pub data IsCallUnknown (p : NamingPlace) (xs : List Name) (g : Name) (es : List Expression) : TypeFault → Type 0 where
   callee : procedure_number p g ≡ None → IsCallUnknown p xs g es (fault.Unknown g.span)
   target : (f : TypeFault) → IsTargetWrong p.scope xs f → IsCallUnknown p xs g es f
   argument : (f : TypeFault) → AreUnknownIn p.scope es f → IsCallUnknown p xs g es f
 
-abbrev pub IsCallFault : Place → List Name → Name → List Expression → TypeFault → Type 0
+abbrev pub IsCallFault : NamingPlace → List Name → Name → List Expression → TypeFault → Type 0
 IsCallFault p xs g es f = OrMemory f (IsCallUnknown p xs g es f)

@@ -5,10 +5,10 @@ use Rattle.typed_tree.specs.Scope.{seen}
 use Rattle.boogie_types.specs.declared.places.Placed.{Placed}
 use Rattle.boogie_types.specs.Referred.{procedures_by}
 use Rattle.boogie_types.specs.Places.{loops_by}
-use Rattle.boogie_types.specs.Naming.{Place}
+use Rattle.boogie_types.specs.Naming.{NamingPlace}
 
 -- a place inside these loops
-abbrev pub place_at : Placed → List (Option (Bor (List ℕ))) → Place
+abbrev pub place_at : Placed → List (Option (Bor (List ℕ))) → NamingPlace
 place_at p loops =
     record {
       scope = seen p.names.scope;
@@ -19,5 +19,5 @@ place_at p loops =
     }
 
 -- outside all loops
-abbrev pub place_outside : Placed → Place
+abbrev pub place_outside : Placed → NamingPlace
 place_outside p = place_at p []

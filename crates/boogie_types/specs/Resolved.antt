@@ -12,8 +12,8 @@ use Rattle.typed_tree.specs.TypedTree.{TypedBlock, TypedSpecification, TypedProc
 use Rattle.typed_tree.specs.Scope.{axiom_scope, requires_scope, body_scope}
 use Rattle.boogie_types.specs.Meanings.{variable_info, number_from}
 use Rattle.typed_tree.specs.Typing.{same_type}
-use Rattle.boogie_types.specs.Sorted.{globals_of, global_names, axioms_of, procedures_of, implementations_of, first_named, body_of, locals_of, variable_names, hidden_locals, block_labels, labels_if_any, modified_in, firsts, declared_names}
-use Rattle.boogie_types.specs.Naming.{each, both, named, named_invariant, named_block, hidden_in_block, Place}
+use Rattle.boogie_types.specs.Sorted.{declared_globals, global_names, axioms_of, procedures_of, implementations_of, first_named, body_of, declared_locals, variable_names, hidden_locals, block_labels, labels_if_any, modified_in, firsts, declared_names}
+use Rattle.boogie_types.specs.Naming.{each, from_both, named, named_invariant, named_block, hidden_in_block, NamingPlace}
 use Rattle.boogie_tree.specs.declared.tree.VarInfo.{VarInfo}
 use Rattle.boogie_tree.specs.Names.{is_name}
 use Rattle.typing_rules.specs.Rules.{all_differ, meets}
@@ -62,12 +62,12 @@ are_implementations ds =
     && list_all (λ i. meets (implements i) (first_named i.name.text (procedures_of ds))) (implementations_of ds)
 
 -- the place at which the statements of a body begin
-abbrev pub body_place : List Declaration → Procedure → ProcedureBody → Place
+abbrev pub body_place : List Declaration → Procedure → ProcedureBody → NamingPlace
 body_place ds p b =
     record {
-      scope = body_scope (globals_of ds) (locals_of p (Some b));
+      scope = body_scope (declared_globals ds) (declared_locals p (Some b));
       procs = procedures_of ds;
-      declared = length (locals_of p (Some b));
+      declared = length (declared_locals p (Some b));
       labels = map (λ x. x.text) (block_labels b.stmts);
       loops = [];
     }
@@ -76,11 +76,11 @@ body_place ds p b =
 abbrev pub named_specifications : List Declaration → Procedure → List Specification → Option (List TypedSpecification)
 named_specifications ds p [] = Some []
 named_specifications ds p (tree.Requires i ∷ ss) =
-    both (λ t ts. typed.Requires t ∷ ts)
-    (named_invariant (requires_scope (globals_of ds) (map (variable_info true) p.params)) i) (named_specifications ds p ss)
+    from_both (λ t ts. typed.Requires t ∷ ts)
+    (named_invariant (requires_scope (declared_globals ds) (map (variable_info true) p.params)) i) (named_specifications ds p ss)
 named_specifications ds p (tree.Ensures i ∷ ss) =
-    both (λ t ts. typed.Ensures t ∷ ts)
-    (named_invariant (body_scope (globals_of ds) (locals_of p None)) i) (named_specifications ds p ss)
+    from_both (λ t ts. typed.Ensures t ∷ ts)
+    (named_invariant (body_scope (declared_globals ds) (declared_locals p None)) i) (named_specifications ds p ss)
 named_specifications ds p (tree.Modifies xs ∷ ss) = named_specifications ds p ss
 
 -- the number of a global that is no constant
@@ -93,7 +93,7 @@ modified_number globals name = option_and_then (unless_constant globals) (number
 
 -- the numbers of the modified globals, each once
 abbrev pub named_modifies : List Declaration → Procedure → Option (List ℕ)
-named_modifies ds p = option_map (firsts []) (each (λ x. modified_number (globals_of ds) x.text) (modified_in p.specs))
+named_modifies ds p = option_map (firsts []) (each (λ x. modified_number (declared_globals ds) x.text) (modified_in p.specs))
 
 abbrev pub named_body : List Declaration → Procedure → Option ProcedureBody → Option (Option TypedBlock)
 named_body ds p None = Some None
@@ -111,7 +111,7 @@ procedure_of ds p modifies specs body =
       name = p.name.text;
       params = length p.params;
       results = length p.results;
-      locals = locals_of p (body_of ds p) ++ hidden_locals 1 (hidden_count ds p (body_of ds p));
+      locals = declared_locals p (body_of ds p) ++ hidden_locals 1 (hidden_count ds p (body_of ds p));
       modifies = modifies;
       specs = specs;
       body = body;
@@ -119,16 +119,16 @@ procedure_of ds p modifies specs body =
 
 abbrev pub named_procedure : List Declaration → Procedure → Option TypedProcedure
 named_procedure ds p =
-    option_and_then (λ modifies. both (procedure_of ds p modifies) (named_specifications ds p p.specs) (named_body ds p (body_of ds p)))
+    option_and_then (λ modifies. from_both (procedure_of ds p modifies) (named_specifications ds p p.specs) (named_body ds p (body_of ds p)))
     (named_modifies ds p)
 
 abbrev pub program_of : List Declaration → List typed.TypedExpression → List TypedProcedure → TypedProgram
-program_of ds axioms procs = record { globals = globals_of ds; axioms = axioms; procs = procs; entry = 0 }
+program_of ds axioms procs = record { globals = declared_globals ds; axioms = axioms; procs = procs; entry = 0 }
 
 -- a program with its names replaced, its entry left open
 abbrev pub named_program : List Declaration → Option TypedProgram
 named_program ds =
-    both (program_of ds) (each (named (axiom_scope (globals_of ds))) (axioms_of ds)) (each (named_procedure ds) (procedures_of ds))
+    from_both (program_of ds) (each (named (axiom_scope (declared_globals ds))) (axioms_of ds)) (each (named_procedure ds) (procedures_of ds))
 
 -- the number of the entry procedure
 abbrev pub entry_number : List Declaration → List ℕ → Option ℕ

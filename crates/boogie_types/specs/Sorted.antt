@@ -12,11 +12,11 @@ use Rattle.boogie_tree.specs.declared.tree.VarInfo.{VarInfo}
 use Rattle.boogie_types.specs.Meanings.{variable_info}
 
 -- the constants and globals, in order of declaration
-abbrev pub globals_of : List Declaration → List VarInfo
-globals_of [] = []
-globals_of (Const x ∷ ds) = variable_info true x ∷ globals_of ds
-globals_of (Global x ∷ ds) = variable_info false x ∷ globals_of ds
-globals_of (d ∷ ds) = globals_of ds
+abbrev pub declared_globals : List Declaration → List VarInfo
+declared_globals [] = []
+declared_globals (Const x ∷ ds) = variable_info true x ∷ declared_globals ds
+declared_globals (Global x ∷ ds) = variable_info false x ∷ declared_globals ds
+declared_globals (d ∷ ds) = declared_globals ds
 
 -- the names of the constants and globals
 abbrev pub global_names : List Declaration → List Name
@@ -54,8 +54,8 @@ body_locals None = []
 body_locals (Some b) = b.locals
 
 -- the parameters, the results and the declared locals
-abbrev pub locals_of : Procedure → Option ProcedureBody → List VarInfo
-locals_of p b =
+abbrev pub declared_locals : Procedure → Option ProcedureBody → List VarInfo
+declared_locals p b =
     map (variable_info true) p.params ++ (map (variable_info false) p.results ++ map (variable_info false) (body_locals b))
 
 -- the names of the parameters, results and declared locals

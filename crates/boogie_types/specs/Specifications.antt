@@ -6,7 +6,7 @@ use Rattle.typed_tree.specs.declared.fault.TypeFault.{TypeFault}
 use Rattle.typed_tree.specs.Scope.{Scope}
 use Rattle.typed_tree.specs.TypedTree as typed
 use Rattle.typed_tree.specs.TypedTree.{TypedSpecification}
-use Rattle.boogie_types.specs.Naming.{both, named_invariant}
+use Rattle.boogie_types.specs.Naming.{from_both, named_invariant}
 use Rattle.boogie_types.specs.BrokenNames.{IsUnknownIn}
 use Rattle.boogie_types.specs.NamingFaults.{OrMemory}
 
@@ -14,9 +14,9 @@ use Rattle.boogie_types.specs.NamingFaults.{OrMemory}
 abbrev pub specifications_in : Scope → Scope → List Specification → Option (List TypedSpecification)
 specifications_in before after [] = Some []
 specifications_in before after (tree.Requires i ∷ ss) =
-    both (λ t ts. typed.Requires t ∷ ts) (named_invariant before i) (specifications_in before after ss)
+    from_both (λ t ts. typed.Requires t ∷ ts) (named_invariant before i) (specifications_in before after ss)
 specifications_in before after (tree.Ensures i ∷ ss) =
-    both (λ t ts. typed.Ensures t ∷ ts) (named_invariant after i) (specifications_in before after ss)
+    from_both (λ t ts. typed.Ensures t ∷ ts) (named_invariant after i) (specifications_in before after ss)
 specifications_in before after (tree.Modifies xs ∷ ss) = specifications_in before after ss
 
 -- a name of their conditions that means nothing there

@@ -15,7 +15,7 @@ ghost use Rattle.boogie_types.specs.ProcedureFaults.{IsProcedureRefused};
 ghost use Rattle.boogie_types.specs.Referred.{expressions_by, procedures_by};
 ghost use Rattle.boogie_types.specs.Replaced.{IsReplaced, program_by};
 ghost use Rattle.boogie_types.specs.Resolved.{is_set, has_sets, are_implementations, named_procedure};
-ghost use Rattle.boogie_types.specs.Sorted.{globals_of, global_names, axioms_of, procedures_of, implementations_of};
+ghost use Rattle.boogie_types.specs.Sorted.{declared_globals, global_names, axioms_of, procedures_of, implementations_of};
 ghost use Rattle.boogie_types.specs.Sorted as sorted;
 
 use crate::declared::Declared;
@@ -32,7 +32,7 @@ use typed_tree::{Scope, TExpr, TProc, TypeFault, VarInfo};
 
 /// The numbers of the constants and globals.
 fn global_numbers<'a>(alloc: Global, decls: &'a [Decl]) -> Result<Numbered<'a>, TypeFault>
-    ensures ok { IfOk result (λ l. l ≡ info_names (globals_of (map view.declaration decls.entry.now))) }
+    ensures ok { IfOk result (λ l. l ≡ info_names (declared_globals (map view.declaration decls.entry.now))) }
     ensures set { IfOk result (λ _. is_set (global_names (map view.declaration decls.entry.now)) ≡ true) }
     ensures fault { IfErr result (λ f. IsRefused (map view.declaration decls.entry.now) f) }
 {
@@ -194,7 +194,7 @@ fn replace_all<'a>(
 ) -> Result<(), TypeFault>
     requires procs_are { procedures_by procs.now.procs.items ≡ procedures_of (map view.declaration decls.now) }
     requires procs_differ { is_set (map (λ p. p.name) (procedures_of (map view.declaration decls.now))) ≡ true }
-    requires globals_are { replaced.old.globals.items ≡ globals_of (map view.declaration decls.now) }
+    requires globals_are { replaced.old.globals.items ≡ declared_globals (map view.declaration decls.now) }
     ensures ok { OnOk result (IsReplaced (map view.declaration decls.entry.now) (program_by replaced.new)) }
     ensures fault { IfErr result (λ f. IsRefused (map view.declaration decls.entry.now) f) }
 {
@@ -211,9 +211,9 @@ fn replace_axioms(
     numbers: &Numbered<'_>,
     replaced: &mut Replaced,
 ) -> Result<(), TypeFault>
-    requires globals_are { replaced.old.globals.items ≡ globals_of (map view.declaration decls.now) }
-    requires numbers_are { numbers.now ≡ info_names (globals_of (map view.declaration decls.now)) }
-    ensures ok { OnOk result (each (naming.named (scopes.axiom_scope (globals_of (map view.declaration decls.now)))) (axioms_of (map view.declaration decls.now)) ≡ Some (map typed.expression replaced.new.axioms.items)) }
+    requires globals_are { replaced.old.globals.items ≡ declared_globals (map view.declaration decls.now) }
+    requires numbers_are { numbers.now ≡ info_names (declared_globals (map view.declaration decls.now)) }
+    ensures ok { OnOk result (each (naming.named (scopes.axiom_scope (declared_globals (map view.declaration decls.now)))) (axioms_of (map view.declaration decls.now)) ≡ Some (map typed.expression replaced.new.axioms.items)) }
     ensures globals { OnOk result (replaced.new.globals ≡ replaced.old.globals) }
     ensures fault { IfErr result (λ f. IsRefused (map view.declaration decls.now) f) }
 {
@@ -232,8 +232,8 @@ fn replace_procedures<'a>(
     replaced: &mut Replaced,
 ) -> Result<(), TypeFault>
     requires procs_are { procedures_by procs.now.procs.items ≡ procedures_of (map view.declaration decls.now) }
-    requires globals_are { replaced.old.globals.items ≡ globals_of (map view.declaration decls.now) }
-    requires numbers_are { numbers.now ≡ info_names (globals_of (map view.declaration decls.now)) }
+    requires globals_are { replaced.old.globals.items ≡ declared_globals (map view.declaration decls.now) }
+    requires numbers_are { numbers.now ≡ info_names (declared_globals (map view.declaration decls.now)) }
     ensures ok { OnOk result (each (named_procedure (map view.declaration decls.entry.now)) (procedures_of (map view.declaration decls.entry.now)) ≡ Some (map typed.procedure replaced.new.procs.items)) }
     ensures sets { OnOk result (list_all (λ p. has_sets p (sorted.body_of (map view.declaration decls.entry.now) p)) (procedures_of (map view.declaration decls.entry.now)) ≡ true) }
     ensures implementations { OnOk result (are_implementations (map view.declaration decls.entry.now) ≡ true) }

@@ -5,7 +5,7 @@ ghost use Rattle.boogie_tree.specs.View as view;
 ghost use Rattle.boogie_types.specs.Numbers.{info_names};
 ghost use Rattle.boogie_types.specs.Places.{procedure_texts};
 ghost use Rattle.boogie_types.specs.Referred.{procedures_by};
-ghost use Rattle.boogie_types.specs.Sorted.{globals_of};
+ghost use Rattle.boogie_types.specs.Sorted.{declared_globals};
 
 use crate::numbered::Numbered;
 use boogie_tree::{Decl, Proc};
@@ -22,7 +22,7 @@ pub(crate) struct Declared<'a, 'b> {
     /// The procedures, and their numbers.
     pub(crate) procs: &'b [&'a Proc],
     pub(crate) proc_numbers: &'b Numbered<'a>,
-    ghost globals_are: { globals.now ≡ globals_of (map view.declaration decls.now) },
+    ghost globals_are: { globals.now ≡ declared_globals (map view.declaration decls.now) },
     ghost global_numbers_are: { global_numbers.now ≡ info_names globals.now },
     ghost proc_numbers_are: { proc_numbers.now ≡ procedure_texts (procedures_by procs.now) },
 }

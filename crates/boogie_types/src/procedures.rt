@@ -6,7 +6,7 @@ ghost use Rattle.boogie_tree.specs.View as view;
 ghost use Rattle.typed_tree.specs.TypedView as typed;
 ghost use Rattle.typed_tree.specs.Scope.{seen};
 ghost use Rattle.boogie_types.specs.Meanings.{variable_info};
-ghost use Rattle.boogie_types.specs.Sorted.{body_of, procedures_of, locals_of, labels_if_any, hidden_locals};
+ghost use Rattle.boogie_types.specs.Sorted.{body_of, procedures_of, declared_locals, labels_if_any, hidden_locals};
 ghost use Rattle.boogie_types.specs.Numbers.{info_names, texts, IsMemoryFault};
 ghost use Rattle.boogie_types.specs.NamingFaults.{IsProcedureFault};
 ghost use Rattle.boogie_types.specs.Referred.{procedures_by};
@@ -63,7 +63,7 @@ fn specifications_inside<'a>(
     requires variables_are { variables.now ≡ info_names locals.now }
     requires enough { length (view.procedure procedure.now).params + length (view.procedure procedure.now).results ≤ length locals.now }
     requires params_are { take (length (view.procedure procedure.now).params) locals.now ≡ map (variable_info true) (view.procedure procedure.now).params }
-    requires results_are { take (length (view.procedure procedure.now).params + length (view.procedure procedure.now).results) locals.now ≡ locals_of (view.procedure procedure.now) None }
+    requires results_are { take (length (view.procedure procedure.now).params + length (view.procedure procedure.now).results) locals.now ≡ declared_locals (view.procedure procedure.now) None }
     ensures ok { IfOk result (λ v. named_specifications (declarations_of declared.now) (view.procedure procedure.now) (view.procedure procedure.now).specs ≡ Some (map typed.specification v.items)) }
     ensures fault { IfErr result (λ f. IsProcedureFault (declarations_of declared.now) (view.procedure procedure.now) f) }
 {
@@ -119,7 +119,7 @@ fn make_parts<'a>(
 ) -> Result<Parts, TypeFault>
     requires procs_are { procedures_by declared.now.procs.now ≡ procedures_of (declarations_of declared.now) }
     requires body_is { body_by body ≡ body_of (declarations_of declared.now) (view.procedure procedure.now) }
-    requires locals_are { locals.now ≡ locals_of (view.procedure procedure.now) (body_by body) }
+    requires locals_are { locals.now ≡ declared_locals (view.procedure procedure.now) (body_by body) }
     requires variables_are { variables.now ≡ info_names locals.now }
     requires labels_are { labels.now ≡ texts (labels_if_any (body_by body)) }
     ensures modifies { IfOk result (λ r. named_modifies (declarations_of declared.now) (view.procedure procedure.now) ≡ Some r.modifies.items) }

@@ -5,7 +5,7 @@ ghost use Rattle.boogie_tree.specs.View as view;
 ghost use Rattle.boogie_types.specs.Numbers.{named_by};
 ghost use Rattle.boogie_types.specs.Referred.{expressions_by, procedures_by};
 ghost use Rattle.boogie_types.specs.Meanings.{variable_info};
-ghost use Rattle.boogie_types.specs.Sorted.{globals_of, global_names, axioms_of, procedures_of, implementations_of};
+ghost use Rattle.boogie_types.specs.Sorted.{declared_globals, global_names, axioms_of, procedures_of, implementations_of};
 
 use boogie_tree::{Decl, Expr, Name, Proc, VarInfo, Vary};
 use std::alloc::{AllocError, Global};
@@ -23,7 +23,7 @@ pub(crate) fn info(variable: &Vary, constant: bool) -> Result<VarInfo, AllocErro
 
 /// The constants and globals, in order of declaration.
 pub(crate) fn globals(alloc: Global, decls: &[Decl]) -> Result<Vec<VarInfo>, AllocError>
-    ensures { IfOk result (λ v. v.items ≡ globals_of (map view.declaration decls.now)) }
+    ensures { IfOk result (λ v. v.items ≡ declared_globals (map view.declaration decls.now)) }
 {
     let mut globals = Vec::new(alloc);
     for declaration in decls {

@@ -7,7 +7,7 @@ ghost use Rattle.boogie_tree.specs.Tree as tree;
 ghost use Rattle.boogie_tree.specs.View as view;
 ghost use Rattle.typed_tree.specs.TypedTree as out_tree;
 ghost use Rattle.typed_tree.specs.TypedView as typed;
-ghost use Rattle.boogie_types.specs.Naming.{named_statement, named_block, named_call, hidden_in, hidden_in_block, label_of, levels_in};
+ghost use Rattle.boogie_types.specs.Naming.{named_statement, named_block, named_call, alone, hidden_in, hidden_in_block, label_of, levels_in};
 ghost use Rattle.boogie_types.specs.Places.{label_by, loops_by};
 ghost use Rattle.boogie_types.specs.PlaceViews.{place_at, place_outside};
 ghost use Rattle.boogie_types.specs.Making.{made};
@@ -110,6 +110,91 @@ fn call_inside<'a>(
     )
 }
 
+/// An `assert` with its names replaced, put behind the other statements.
+fn assertion(
+    alloc: Global,
+    place: &Placed<'_, '_>,
+    out: &mut Vec<TStmt>,
+    span: Span,
+    claim: &Expr,
+) -> Result<(), TypeFault>
+    ensures ok { OnOk result (made (map typed.statement out.old.items) (named_statement (place_outside place.now) None 0 (tree.Assert span (view.expression claim.now))) ≡ Some (map typed.statement out.new.items)) }
+    ensures fault { (loops : List (Option (Bor (List ℕ)))) (before : Option (List ℕ)) → IfErr result (λ f. IsStatementFault (place_at place.now loops) before (tree.Assert span (view.expression claim.now)) f) }
+{
+    let claim = named(alloc, &place.names, claim)?;
+    put(out, TStmt::Assert(span, claim))
+}
+
+/// An `assume` with its names replaced, put behind the other statements.
+fn assumption(
+    alloc: Global,
+    place: &Placed<'_, '_>,
+    out: &mut Vec<TStmt>,
+    span: Span,
+    claim: &Expr,
+) -> Result<(), TypeFault>
+    ensures ok { OnOk result (made (map typed.statement out.old.items) (named_statement (place_outside place.now) None 0 (tree.Assume span (view.expression claim.now))) ≡ Some (map typed.statement out.new.items)) }
+    ensures fault { (loops : List (Option (Bor (List ℕ)))) (before : Option (List ℕ)) → IfErr result (λ f. IsStatementFault (place_at place.now loops) before (tree.Assume span (view.expression claim.now)) f) }
+{
+    let claim = named(alloc, &place.names, claim)?;
+    put(out, TStmt::Assume(span, claim))
+}
+
+/// A `havoc` with its names replaced, put behind the other statements.
+fn havoc(
+    alloc: Global,
+    place: &Placed<'_, '_>,
+    out: &mut Vec<TStmt>,
+    span: Span,
+    names: &[Name],
+) -> Result<(), TypeFault>
+    ensures ok { OnOk result (made (map typed.statement out.old.items) (named_statement (place_outside place.now) None 0 (tree.Havoc span names.now)) ≡ Some (map typed.statement out.new.items)) }
+    ensures fault { (loops : List (Option (Bor (List ℕ)))) (before : Option (List ℕ)) → IfErr result (λ f. IsStatementFault (place_at place.now loops) before (tree.Havoc span names.now) f) }
+{
+    let columns = targets(alloc, &place.names, names)?;
+    put(out, TStmt::Havoc(span, columns))
+}
+
+/// A `break` with its label replaced, put behind the other statements.
+fn break_out(
+    loops: &[Option<&[u8]>],
+    out: &mut Vec<TStmt>,
+    span: Span,
+    label: &Option<Name>,
+) -> Result<(), TypeFault>
+    ensures ok { OnOk result (made (map typed.statement out.old.items) (alone (option_map (out_tree.Break span) (levels_in (loops_by loops.now) label.now))) ≡ Some (map typed.statement out.new.items)) }
+    ensures fault { IfErr result (λ f. IsLeavingFault (loops_by loops.now) label.now f) }
+{
+    let leaving = leaving(loops, span, label)?;
+    put(out, leaving)
+}
+
+/// A `goto` with its labels replaced by their numbers, put behind the other statements.
+fn goto(
+    alloc: Global,
+    place: &Placed<'_, '_>,
+    out: &mut Vec<TStmt>,
+    span: Span,
+    names: &[Name],
+) -> Result<(), TypeFault>
+    ensures ok { OnOk result (made (map typed.statement out.old.items) (named_statement (place_outside place.now) None 0 (tree.Goto span names.now)) ≡ Some (map typed.statement out.new.items)) }
+    ensures fault { (loops : List (Option (Bor (List ℕ)))) (before : Option (List ℕ)) → IfErr result (λ f. IsStatementFault (place_at place.now loops) before (tree.Goto span names.now) f) }
+{
+    let numbers = label_numbers(alloc, place.labels, names)?;
+    put(out, TStmt::Goto(span, numbers))
+}
+
+/// A label's number, put behind the other statements.
+fn label(place: &Placed<'_, '_>, out: &mut Vec<TStmt>, name: &Name) -> Result<(), TypeFault>
+    ensures ok { OnOk result (made (map typed.statement out.old.items) (named_statement (place_outside place.now) None 0 (tree.Label name.now)) ≡ Some (map typed.statement out.new.items)) }
+    ensures fault { (loops : List (Option (Bor (List ℕ)))) (before : Option (List ℕ)) → IfErr result (λ f. IsStatementFault (place_at place.now loops) before (tree.Label name.now) f) }
+{
+    match place.labels.place(name.text.bytes()) {
+        Some(number) => put(out, TStmt::Label(number)),
+        None => Err(TypeFault::BadGoto(name.span)),
+    }
+}
+
 /// An assignment with its names replaced, put behind the other statements.
 fn assign(
     alloc: Global,
@@ -192,18 +277,9 @@ fn statement<'a>(
     ensures fault { IfErr result (λ f. IsStatementFault (place_at place.now walk.old.loops.items) (label_by before.entry) (view.statement statement.entry.now) f) }
 {
     match statement {
-        Stmt::Assert(span, claim) => {
-            let claim = named(alloc, &place.names, claim)?;
-            put(out, TStmt::Assert(*span, claim))
-        }
-        Stmt::Assume(span, claim) => {
-            let claim = named(alloc, &place.names, claim)?;
-            put(out, TStmt::Assume(*span, claim))
-        }
-        Stmt::Havoc(span, names) => {
-            let columns = targets(alloc, &place.names, names)?;
-            put(out, TStmt::Havoc(*span, columns))
-        }
+        Stmt::Assert(span, claim) => assertion(alloc, place, out, *span, claim),
+        Stmt::Assume(span, claim) => assumption(alloc, place, out, *span, claim),
+        Stmt::Havoc(span, names) => havoc(alloc, place, out, *span, names),
         Stmt::Assign(span, names, values) => assign(alloc, place, out, *span, names, values),
         Stmt::Call(span, names, callee, arguments) => {
             call_inside(alloc, place, walk, out, *span, names, callee, arguments)
@@ -216,19 +292,10 @@ fn statement<'a>(
                 alloc, place, walk, before, out, *span, cond, conditions, body,
             )
         }
-        Stmt::Break(span, label) => {
-            let leaving = leaving(&walk.loops, *span, label)?;
-            put(out, leaving)
-        }
-        Stmt::Goto(span, names) => {
-            let numbers = label_numbers(alloc, place.labels, names)?;
-            put(out, TStmt::Goto(*span, numbers))
-        }
+        Stmt::Break(span, label) => break_out(&walk.loops, out, *span, label),
+        Stmt::Goto(span, names) => goto(alloc, place, out, *span, names),
         Stmt::Return(span) => put(out, TStmt::Return(*span)),
-        Stmt::Label(name) => match place.labels.place(name.text.bytes()) {
-            Some(number) => put(out, TStmt::Label(number)),
-            None => Err(TypeFault::BadGoto(name.span)),
-        },
+        Stmt::Label(name) => label(place, out, name),
     }
 }
 

@@ -4,7 +4,7 @@ ghost use Rattle.std.specs.Prelude.{◌≡◌, ◌++◌, true, map, OnOk, IfOk, 
 ghost use Rattle.boogie_tree.specs.View as view;
 ghost use Rattle.boogie_types.specs.Meanings.{variable_info};
 ghost use Rattle.boogie_types.specs.Numbers.{named_by, texts, IsTwiceFault};
-ghost use Rattle.boogie_types.specs.Sorted.{body_locals, locals_of, variable_names};
+ghost use Rattle.boogie_types.specs.Sorted.{body_locals, declared_locals, variable_names};
 ghost use Rattle.boogie_types.specs.Resolved.{is_set};
 ghost use Rattle.boogie_types.specs.Bodies.{body_by};
 
@@ -67,7 +67,7 @@ pub(crate) fn locals(
     procedure: &Proc,
     body: Option<&Body>,
 ) -> Result<Vec<VarInfo>, AllocError>
-    ensures { IfOk result (λ v. v.items ≡ locals_of (view.procedure procedure.now) (body_by body.entry)) }
+    ensures { IfOk result (λ v. v.items ≡ declared_locals (view.procedure procedure.now) (body_by body.entry)) }
 {
     let mut infos = Vec::new(alloc);
     add_infos(&mut infos, &procedure.params, true)?;

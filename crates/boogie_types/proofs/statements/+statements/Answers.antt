@@ -1,9 +1,8 @@
-use Rattle.std.proofs.Common.{◌≡◌, ℕ, ◌+◌, ap, sym, subst, ◌∙◌, ◌++◌, ◌∷◌, [], map, drop, None, Some, arith}
+use Rattle.std.proofs.Common.{◌≡◌, ℕ, ◌+◌, ap, sym, subst, ◌∙◌, [], map, drop, None, Some, arith}
 use Rattle.std.proofs.lemmas.List.{drop_all}
 use Rattle.std.proofs.lemmas.Result.{err_from_is_err_and, MatchResult-weaker, on_ok_weaker}
 use Rattle.boogie_tree.specs.View as view
 use Rattle.typed_tree.specs.TypedView as typed
-use Rattle.boogie_types.specs.Numbers.{number_of_name}
 use Rattle.boogie_types.specs.Places.{loops_by, label_by}
 use Rattle.boogie_types.specs.PlaceViews.{place_at}
 use Rattle.boogie_types.specs.Naming.{named_statement, named_block, hidden_in}
@@ -12,39 +11,9 @@ use Rattle.boogie_types.specs.BrokenNames.{IsMisnamedIn}
 use Rattle.boogie_types.specs.NamingFaults.{IsStatementFault, IsBlockFault}
 use Rattle.boogie_types.proofs.BlockLaws.{block_anywhere, block_turn, block_end, hidden_turn, faults_turn, fault_turn}
 use Rattle.boogie_types.proofs.Weights.{weight, block_weight, member_weight}
-use Rattle.boogie_types.proofs.Seen.{assert_seen, assume_seen, havoc_seen, assign_seen, call_seen, if_seen, while_seen, break_seen, goto_seen, label_seen, goto_typed}
-use Rattle.boogie_types.proofs.FaultLaws.{or_memory_to, fault_in_assert, fault_in_assume, fault_in_havoc, fault_in_call, fault_in_branch, fault_in_then, fault_in_else, fault_in_loop, fault_in_invariant, fault_in_body, fault_in_break, fault_in_goto, fault_in_label}
+use Rattle.boogie_types.proofs.Seen.{assert_seen, assume_seen, havoc_seen, assign_seen, call_seen, if_seen, while_seen, break_seen, goto_seen, label_seen}
+use Rattle.boogie_types.proofs.FaultLaws.{or_memory_to, fault_in_call, fault_in_branch, fault_in_then, fault_in_else, fault_in_loop, fault_in_invariant, fault_in_body, fault_in_break}
 use Rattle.boogie_types.proofs.statements.+statements.Goals as goal
-
-pub statement-returns-in_err-claim-in-Assert-clause-fault : goal.statement-returns-in_err-claim-in-Assert-clause-fault
-statement-returns-in_err-claim-in-Assert-clause-fault t c =
-    let p = err_from_is_err_and c.from_residual.result c.from_residual.ensures.1 in
-    let v = ap view.statement c.in-Assert.is ∙ assert_seen c.in-Assert.span c.in-Assert.claim in
-    rw (p.1, p.2, v) (fault_in_assert _ _ _ _ _ c.in_err-claim-in-Assert.ensures.fault)
-
-pub statement-returns-in_err-claim-in-Assume-clause-fault : goal.statement-returns-in_err-claim-in-Assume-clause-fault
-statement-returns-in_err-claim-in-Assume-clause-fault t c =
-    let p = err_from_is_err_and c.from_residual-in_err-claim-in-Assume.result c.from_residual-in_err-claim-in-Assume.ensures.1 in
-    let v = ap view.statement c.in-Assume.is ∙ assume_seen c.in-Assume.span c.in-Assume.claim in
-    rw (p.1, p.2, v) (fault_in_assume _ _ _ _ _ c.in_err-claim-in-Assume.ensures.fault)
-
-pub statement-returns-in_err-columns-in-Havoc-clause-fault : goal.statement-returns-in_err-columns-in-Havoc-clause-fault
-statement-returns-in_err-columns-in-Havoc-clause-fault t c =
-    let p = err_from_is_err_and c.from_residual-in_err-columns-in-Havoc.result c.from_residual-in_err-columns-in-Havoc.ensures.1 in
-    let v = ap view.statement c.in-Havoc.is ∙ havoc_seen c.in-Havoc.span c.in-Havoc.names in
-    rw (p.1, p.2, v) (rw (← c.deref.ensures.value) (fault_in_havoc _ _ _ _ _ c.in_err-columns-in-Havoc.ensures.fault))
-
-pub statement-returns-in_err-leaving-in-Break-clause-fault : goal.statement-returns-in_err-leaving-in-Break-clause-fault
-statement-returns-in_err-leaving-in-Break-clause-fault t c =
-    let p = err_from_is_err_and c.from_residual-in_err-leaving-in-Break.result c.from_residual-in_err-leaving-in-Break.ensures.1 in
-    let v = ap view.statement c.in-Break.is ∙ break_seen c.in-Break.span c.in-Break.label in
-    rw (p.1, p.2, v) (let f = c.in_err-leaving-in-Break.ensures.fault in fault_in_break _ _ _ _ _ (rw (← c.deref-in-Break.ensures.value) f))
-
-pub statement-returns-in_err-numbers-in-Goto-clause-fault : goal.statement-returns-in_err-numbers-in-Goto-clause-fault
-statement-returns-in_err-numbers-in-Goto-clause-fault t c =
-    let p = err_from_is_err_and c.from_residual-in_err-numbers-in-Goto.result c.from_residual-in_err-numbers-in-Goto.ensures.1 in
-    let v = ap view.statement c.in-Goto.is ∙ goto_seen c.in-Goto.span c.in-Goto.names in
-    rw (p.1, p.2, v) (rw (← c.deref-in-Goto.ensures.value) (fault_in_goto _ _ _ _ _ c.in_err-numbers-in-Goto.ensures.fault))
 
 pub statement-put_branches-requires : goal.statement-put_branches-requires
 statement-put_branches-requires t c =
@@ -60,6 +29,66 @@ statement-looped-requires t c =
     let w : weight (view.statement c.args.statement.now) ≡ 1 + block_weight (view.statements c.in-While.body.items) = ap weight v in
     let x : block_weight (view.statements c.deref-in-While-2.result.now) ≡ block_weight (view.statements c.in-While.body.items) = ap (λ ss. block_weight (view.statements ss)) c.deref-in-While-2.ensures.value in
     let d = c.decreases in (omega arith, tt)
+
+pub statement-returns-in-Assert-clause-ok : goal.statement-returns-in-Assert-clause-ok
+statement-returns-in-Assert-clause-ok t c =
+    let v = ap view.statement c.in-Assert.is ∙ assert_seen c.in-Assert.span c.in-Assert.claim in
+    rw v c.assertion.ensures.ok
+
+pub statement-returns-in-Assert-clause-fault : goal.statement-returns-in-Assert-clause-fault
+statement-returns-in-Assert-clause-fault t c =
+    let v = ap view.statement c.in-Assert.is ∙ assert_seen c.in-Assert.span c.in-Assert.claim in
+    rw v (c.assertion.ensures.fault c.args.walk.now.loops.items (label_by c.args.before))
+
+pub statement-returns-in-Assume-clause-ok : goal.statement-returns-in-Assume-clause-ok
+statement-returns-in-Assume-clause-ok t c =
+    let v = ap view.statement c.in-Assume.is ∙ assume_seen c.in-Assume.span c.in-Assume.claim in
+    rw v c.assumption.ensures.ok
+
+pub statement-returns-in-Assume-clause-fault : goal.statement-returns-in-Assume-clause-fault
+statement-returns-in-Assume-clause-fault t c =
+    let v = ap view.statement c.in-Assume.is ∙ assume_seen c.in-Assume.span c.in-Assume.claim in
+    rw v (c.assumption.ensures.fault c.args.walk.now.loops.items (label_by c.args.before))
+
+pub statement-returns-in-Havoc-clause-ok : goal.statement-returns-in-Havoc-clause-ok
+statement-returns-in-Havoc-clause-ok t c =
+    let v = ap view.statement c.in-Havoc.is ∙ havoc_seen c.in-Havoc.span c.in-Havoc.names in
+    rw (v, ← c.deref.ensures.value) c.havoc.ensures.ok
+
+pub statement-returns-in-Havoc-clause-fault : goal.statement-returns-in-Havoc-clause-fault
+statement-returns-in-Havoc-clause-fault t c =
+    let v = ap view.statement c.in-Havoc.is ∙ havoc_seen c.in-Havoc.span c.in-Havoc.names in
+    rw (v, ← c.deref.ensures.value) (c.havoc.ensures.fault c.args.walk.now.loops.items (label_by c.args.before))
+
+pub statement-returns-in-Goto-clause-ok : goal.statement-returns-in-Goto-clause-ok
+statement-returns-in-Goto-clause-ok t c =
+    let v = ap view.statement c.in-Goto.is ∙ goto_seen c.in-Goto.span c.in-Goto.names in
+    rw (v, ← c.deref-in-Goto.ensures.value) c.goto.ensures.ok
+
+pub statement-returns-in-Goto-clause-fault : goal.statement-returns-in-Goto-clause-fault
+statement-returns-in-Goto-clause-fault t c =
+    let v = ap view.statement c.in-Goto.is ∙ goto_seen c.in-Goto.span c.in-Goto.names in
+    rw (v, ← c.deref-in-Goto.ensures.value) (c.goto.ensures.fault c.args.walk.now.loops.items (label_by c.args.before))
+
+pub statement-returns-in-Break-clause-ok : goal.statement-returns-in-Break-clause-ok
+statement-returns-in-Break-clause-ok t c =
+    let v = ap view.statement c.in-Break.is ∙ break_seen c.in-Break.span c.in-Break.label in
+    rw (v, ← c.deref-in-Break.ensures.value) c.break_out.ensures.ok
+
+pub statement-returns-in-Break-clause-fault : goal.statement-returns-in-Break-clause-fault
+statement-returns-in-Break-clause-fault t c =
+    let v = ap view.statement c.in-Break.is ∙ break_seen c.in-Break.span c.in-Break.label in
+    rw (v, ← c.deref-in-Break.ensures.value) (MatchResult-weaker c.break_out.result c.break_out.ensures.fault (λ x h. h) (λ f h. fault_in_break _ _ _ _ _ h))
+
+pub statement-returns-in-Label-clause-ok : goal.statement-returns-in-Label-clause-ok
+statement-returns-in-Label-clause-ok t c =
+    let v = ap view.statement c.in-Label.is ∙ label_seen c.in-Label.name in
+    rw v c.label.ensures.ok
+
+pub statement-returns-in-Label-clause-fault : goal.statement-returns-in-Label-clause-fault
+statement-returns-in-Label-clause-fault t c =
+    let v = ap view.statement c.in-Label.is ∙ label_seen c.in-Label.name in
+    rw v (c.label.ensures.fault c.args.walk.now.loops.items (label_by c.args.before))
 
 pub statement-returns-in-Assign-clause-ok : goal.statement-returns-in-Assign-clause-ok
 statement-returns-in-Assign-clause-ok t c =
@@ -144,21 +173,9 @@ statement-returns-in-Call-clause-fault t c =
     rw (v, ← c.deref-in-Call.ensures.value, ← c.deref-in-Call-2.ensures.value)
     (MatchResult-weaker c.call_inside.result c.call_inside.ensures.fault (λ x h. h) (λ f h. fault_in_call _ _ _ _ _ _ f h))
 
-pub statement-returns-in-None-clause-fault : goal.statement-returns-in-None-clause-fault
-statement-returns-in-None-clause-fault t c =
-    let v = ap view.statement c.in-Label.is ∙ label_seen c.in-Label.name in
-    rw v (fault_in_label _ _ _ (ap (number_of_name c.args.place.now.labels.now) (sym c.bytes.ensures) ∙ sym c.place.ensures ∙ c.in-None.is))
-
 pub block-statement-requires : goal.block-statement-requires
 block-statement-requires t c =
     let w = member_weight c.args.statements.now _ _ c.loop-each-test.true c.each-item.is in let d = c.decreases in (omega arith, tt)
-
-pub statement-returns-in_ok-numbers-in-Goto-clause-ok : goal.statement-returns-in_ok-numbers-in-Goto-clause-ok
-statement-returns-in_ok-numbers-in-Goto-clause-ok t c =
-    let v = ap view.statement c.in-Goto.is ∙ goto_seen c.in-Goto.span c.in-Goto.names in
-    let h = c.in_ok-numbers-in-Goto.ensures.ok in
-    let g = goto_typed c.in-Goto.span c.in_ok-numbers-in-Goto.numbers in
-    rw (v, ← c.deref-in-Goto.ensures.value, h) (on_ok_weaker c.put-in-Goto.result (λ e. ap (λ ss. Some ss) (sym (e ∙ ap (λ s. map typed.statement c.args.out.now.items ++ s ∷ []) g))) c.put-in-Goto.ensures.ok)
 
 pub block-returns-in_err-statement-clause-fault : goal.block-returns-in_err-statement-clause-fault
 block-returns-in_err-statement-clause-fault t c =
