@@ -6,7 +6,7 @@ use Rattle.boogie_tree.specs.declared.tree.Column.{Column}
 use Rattle.boogie_tree.specs.declared.tree.Column.TheVariants.{Global, Old, Local}
 use Rattle.boogie_tree.specs.declared.tree.VarInfo.{VarInfo}
 use Rattle.nwa_base.specs.Members.{Member}
-use Rattle.letter_acts.specs.Frames.{Columns, IsFrame, added, globals_from, old_columns, locals_from, is_global, is_constant, is_variable, places, globals_of, constants_of, variables_of, old_at, olds_from, olds_of}
+use Rattle.letter_acts.specs.Frames.{Columns, IsFrame, added, globals_from, old_columns, locals_from, is_global, is_fixed_column, is_variable, places, globals_of, constants_of, variables_of, old_at, olds_from, olds_of}
 use Rattle.letter_acts.proofs.ListLemmas.{all_append, places-append, places_none, counted_up, length-counted_up, counted_up_member, counted_up_below}
 
 -- a test that old columns and locals fail
@@ -41,7 +41,7 @@ places_of_globals test t globals frame f =
 of_global : OfGlobals is_global
 of_global = record { olds = λ n v. refl; locals = λ n v. refl }
 
-of_constant : OfGlobals is_constant
+of_constant : OfGlobals is_fixed_column
 of_constant = record { olds = λ n v. refl; locals = λ n v. refl }
 
 of_variable : OfGlobals is_variable
@@ -61,8 +61,8 @@ global_count globals frame f = ap length (globals_are globals frame f) ∙ lengt
 pub variables_are : (globals : List VarInfo) (frame : Columns) → IsFrame globals frame → variables_of frame ≡ places is_variable 0 (globals_from 0 globals)
 variables_are globals frame f = places_of_globals is_variable of_variable globals frame f
 
-pub constants_are : (globals : List VarInfo) (frame : Columns) → IsFrame globals frame → constants_of frame ≡ places is_constant 0 (globals_from 0 globals)
-constants_are globals frame f = places_of_globals is_constant of_constant globals frame f
+pub constants_are : (globals : List VarInfo) (frame : Columns) → IsFrame globals frame → constants_of frame ≡ places is_fixed_column 0 (globals_from 0 globals)
+constants_are globals frame f = places_of_globals is_fixed_column of_constant globals frame f
 
 added_member : (b : Bool) (x : ℕ) (xs : List ℕ) (c : ℕ) → Member xs c → Member (added b x xs) c
 added_member true x xs c m = inr m
@@ -78,14 +78,14 @@ either_here true n c xs ys e = inr (inl e)
 either_here false n c xs ys e = inl (inl e)
 
 either_from : (n : ℕ) (vs : List VarInfo) (c : ℕ) → Member (counted_up n (length vs)) c →
-    Member (places is_variable n (globals_from n vs)) c ⊎ Member (places is_constant n (globals_from n vs)) c
+    Member (places is_variable n (globals_from n vs)) c ⊎ Member (places is_fixed_column n (globals_from n vs)) c
 either_from n [] c m = absurd m
 either_from n (v ∷ vs) c m = elim m [
-  | inl e ↦ either_here v.constant n c (places is_variable (suc n) (globals_from (suc n) vs)) (places is_constant (suc n) (globals_from (suc n) vs)) e
+  | inl e ↦ either_here v.constant n c (places is_variable (suc n) (globals_from (suc n) vs)) (places is_fixed_column (suc n) (globals_from (suc n) vs)) e
   | inr h ↦
       elim (either_from (suc n) vs c h) [
         | inl i ↦ inl (added_member (not v.constant) n (places is_variable (suc n) (globals_from (suc n) vs)) c i)
-        | inr i ↦ inr (added_member v.constant n (places is_constant (suc n) (globals_from (suc n) vs)) c i)
+        | inr i ↦ inr (added_member v.constant n (places is_fixed_column (suc n) (globals_from (suc n) vs)) c i)
       ]
 ]
 

@@ -1,5 +1,5 @@
 -- Ways of two notions of step at once, and the stack machine of an automaton and its letters.
-use Rattle.std.proofs.Common.{◌≡◌, ◌↔◌, ◌∙◌, ℕ, List, [], ◌∷◌, Option, None, Some, refl, sym, ap, subst, inl, inr}
+use Rattle.std.proofs.Common.{◌≡◌, ◌↔◌, ℕ, List, [], ◌∷◌, refl, sym, ap, subst}
 use Rattle.std.specs.Prelude.{map}
 use Rattle.nwa_base.specs.declared.letters.Kind.{Kind}
 use Rattle.nwa_base.specs.declared.letters.Kind.TheVariants.{Inside, Call, Back}
@@ -7,8 +7,7 @@ use Rattle.nwa_base.specs.declared.letters.Letter.{Letter}
 use Rattle.nwa_base.specs.Members.{Member}
 use Rattle.nwa_base.specs.Automata.{Automaton}
 use Rattle.nwa_base.specs.Acceptance.{Follows, AcceptsFrom, Accepts}
-use Rattle.letter_acts.specs.Acts.{PlainAct, Alphabet, act_of}
-use Rattle.letter_acts.specs.Meaning.{Situation, ActInside, ActCalls, ActReturns}
+use Rattle.letter_acts.specs.Acts.{Alphabet}
 use Rattle.letter_acts.specs.Ways.{Steps, both, Leads, Goes}
 use Rattle.letter_acts.specs.Feasible.{meaning, IsFeasible, edges, MachineRun, FeasibleWay}
 use Rattle.letter_acts.proofs.WayLemmas.{leads_stack, leads_with, through_goes, goes_through, along_by_stack}
@@ -121,37 +120,3 @@ machine_runs m al w = (
         way_feasible al w (record { first = h.first; last = h.last.1; open_calls = seconds h.open_calls; begins = h.begins; goes = r.1 }),
       ),
 )
-
--- without an act no letter leads on
-no_act_leads : (al : Alphabet) (o : Option PlainAct) → o ≡ None → (s t : Situation) → ActInside al o s t → ⊥
-no_act_leads al None e s t h = h
-no_act_leads al (Some act) e s t h = cc
-
-no_act_calls : (al : Alphabet) (o : Option PlainAct) → o ≡ None → (s t : Situation) → ActCalls al o s t → ⊥
-no_act_calls al None e s t h = h
-no_act_calls al (Some act) e s t h = cc
-
-no_act_returns : (al : Alphabet) (o : Option PlainAct) → o ≡ None → (s b t : Situation) → ActReturns al o s b t → ⊥
-no_act_returns al None e s b t h = h
-no_act_returns al (Some act) e s b t h = cc
-
-unknown_leads : (al : Alphabet) (kind : Kind) (a : Letter) (before : List Situation) (s t : Situation) (P : List Situation → Type 0) → act_of al a ≡ None →
-    Leads (meaning al) kind a before s t P → ⊥
-unknown_leads al Inside a before s t P e h = no_act_leads al (act_of al a) e s t h.0
-unknown_leads al Call a before s t P e h = no_act_calls al (act_of al a) e s t h.0
-unknown_leads al Back a [] s t P e h = h
-unknown_leads al Back a (b ∷ before) s t P e h = no_act_returns al (act_of al a) e s b t h.0
-
-unknown_goes : (al : Alphabet) (w : List Letter) (a : Letter) (before after : List Situation) (s t : Situation) → Member w a → act_of al a ≡ None →
-    Goes (meaning al) before s w after t → ⊥
-unknown_goes al [] a before after s t n e h = n
-unknown_goes al (b ∷ w) a before after s t n e h =
-    let f = leads_stack (meaning al) b.kind b before s h.0 (λ l. Goes (meaning al) l h.0 w after t) h.1 in
-    elim n [
-      | inl i ↦ unknown_leads al b.kind b before s h.0 (λ l. l ≡ f.0) (ap (act_of al) i ∙ e) f.1
-      | inr i ↦ unknown_goes al w a f.0 after h.0 t i e f.2
-    ]
-
--- a letter that is none of the alphabet makes a word infeasible
-pub unknown_letter : (al : Alphabet) (w : List Letter) (a : Letter) → Member w a → act_of al a ≡ None → IsFeasible al w → ⊥
-unknown_letter al w a n e h = let f = feasible_way al w h in unknown_goes al w a [] f.open_calls f.first f.last n e f.goes

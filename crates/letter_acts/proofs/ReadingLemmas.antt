@@ -7,7 +7,7 @@ use Rattle.boogie_tree.specs.declared.tree.VarInfo.{VarInfo}
 use Rattle.lin_rows.specs.Rows.{LinearRow}
 use Rattle.lin_rows.specs.Points.{point_of}
 use Rattle.nwa_base.specs.Members.{Member}
-use Rattle.letter_acts.specs.Frames.{Columns, IsFrame, IsState, is_old_column, globals_of, constants_of, variables_of, results_of, olds_of}
+use Rattle.letter_acts.specs.Frames.{Columns, IsFrame, IsState, is_old_column, globals_of, constants_of, variables_of, result_columns, olds_of}
 use Rattle.letter_acts.specs.Acts.{Alphabet, frame_of}
 use Rattle.letter_acts.specs.Values.{picked, put_all, RowsHold}
 use Rattle.letter_acts.specs.Meaning.{InsideLeads, CallLeads, BackLeads}
@@ -223,7 +223,7 @@ back_reads globals caller callee helpers rows targets exit before after f g act 
     let r = returning globals caller callee exit before f g h.at_exit h.at_call in
     let n : ℕ = length globals in
     let base : List ℤ = take n exit ++ drop n before in
-    let news : List ℤ = picked exit (results_of callee) in
+    let news : List ℤ = picked exit (result_columns callee) in
     let e : after ≡ put_all base targets news = h.returned ∙ ap (λ (k : ℕ). put_all (take k exit ++ drop k before) targets news) r.count in
     let long : length base ≡ length caller = joined_length n exit before r.in_exit r.in_before ∙ r.before_long in
     let constants = (maps_equal (point_of exit) (point_of before) (constants_of callee)).0 h.constants in
@@ -238,8 +238,8 @@ back_reads globals caller callee helpers rows targets exit before after f g act 
       globals = all_from_members (λ c. (Member targets c → ⊥) → point_of after c ≡ point_of exit c) (variables_of caller)
           (λ c m k. ap (λ (l : List ℤ). point_of l c) e ∙ put_all_other base targets news c k ∙
           joined_front n exit before c r.in_exit (variable_below globals caller f c m));
-      results = subst (λ (l : List ℤ). AllByRecursion (λ p. point_of l p.0 ≡ point_of exit p.1) (taken targets (results_of callee))) (sym e)
-          (put_taken base exit targets (results_of callee) act.distinct (targets_within caller base targets long act.may_target));
+      results = subst (λ (l : List ℤ). AllByRecursion (λ p. point_of l p.0 ≡ point_of exit p.1) (taken targets (result_columns callee))) (sym e)
+          (put_taken base exit targets (result_columns callee) act.distinct (targets_within caller base targets long act.may_target));
       others = λ c v k. ap (λ (l : List ℤ). point_of l c) e ∙ put_all_other base targets news c k ∙
           not_written globals caller callee exit before f g r constants c v;
     }
@@ -269,8 +269,8 @@ reads_back globals caller callee helpers rows targets exit before after f g act 
           sym (map_map (λ (o : ℕ × ℕ). o.1) (point_of before) (olds_of callee));
       rows_hold = h.rows_hold;
       returned = put_picked base after targets long same ∙
-          put_results caller callee base after exit targets (results_of callee) act.take h.results ∙
-          ap (λ (k : ℕ). put_all (take k exit ++ drop k before) targets (picked exit (results_of callee))) (sym r.count);
+          put_results caller callee base after exit targets (result_columns callee) act.take h.results ∙
+          ap (λ (k : ℕ). put_all (take k exit ++ drop k before) targets (picked exit (result_columns callee))) (sym r.count);
     }
 
 pub back_read : (globals : List VarInfo) (caller callee : Columns) (helpers : ℕ) (rows : List LinearRow) (targets : List ℕ) (exit before after : List ℤ) →

@@ -1,12 +1,11 @@
 -- Ways through words, for any notion of step: cut in two, by themselves, read by positions, and of two notions at once.
-use Rattle.std.proofs.Common.{◌≡◌, ◌↔◌, ◌∙◌, ℕ, zero, suc, Bool, true, List, [], ◌∷◌, ◌++◌, length, reverse, Option, None, Some, IsTrue, refl, sym, ap, subst, append_assoc, arith}
+use Rattle.std.proofs.Common.{◌≡◌, ◌↔◌, ◌∙◌, ℕ, zero, suc, List, [], ◌∷◌, ◌++◌, length, reverse, Option, None, Some, refl, sym, ap, subst, append_assoc, arith}
 use Rattle.std.specs.Prelude.{slice_get}
 use Rattle.std.proofs.lemmas.List.{reverse-append, length-reverse}
-use Rattle.std.proofs.lemmas.Bool.{false≢true}
 use Rattle.nwa_base.specs.declared.letters.Kind.{Kind}
 use Rattle.nwa_base.specs.declared.letters.Kind.TheVariants.{Inside, Call, Back}
 use Rattle.nwa_base.specs.declared.letters.Letter.{Letter}
-use Rattle.nwa_base.specs.Words.{goes_on, are_matched, counted, match_back}
+use Rattle.nwa_base.specs.Words.{counted, match_back}
 use Rattle.letter_acts.specs.Ways.{Steps, Leads, Goes, LeadsAt, GoesOn, GoesAlong, GoesThrough}
 
 -- a letter leads to one stack
@@ -23,71 +22,6 @@ leads_with steps Inside a before x y stack P h g = (h.0, subst P (sym h.1) g)
 leads_with steps Call a before x y stack P h g = (h.0, subst P (sym h.1) g)
 leads_with steps Back a [] x y stack P h g = absurd h
 leads_with steps Back a (b ∷ before) x y stack P h g = (h.0, subst P (sym h.1) g)
-
--- two ways, one after the other
-pub goes_join : {X : Type 0} (steps : Steps X) (u v : List Letter) (before mid after : List X) (x z y : X) →
-    Goes steps before x u mid z → Goes steps mid z v after y → Goes steps before x (u ++ v) after y
-goes_join {X} steps [] v before mid after x z y h g =
-    subst (λ (s : List X). Goes steps s x v after y) (sym h.0) (subst (λ (n : X). Goes steps mid n v after y) (sym h.1) g)
-goes_join steps (a ∷ u) v before mid after x z y h g =
-    let f = leads_stack steps a.kind a before x h.0 (λ stack. Goes steps stack h.0 u mid z) h.1 in
-    (h.0, leads_with steps a.kind a before x h.0 f.0 (λ stack. Goes steps stack h.0 (u ++ v) after y) f.1 (goes_join steps u v f.0 mid after h.0 z y f.2 g))
-
-pub goes_split : {X : Type 0} (steps : Steps X) (u v : List Letter) (before after : List X) (x y : X) → Goes steps before x (u ++ v) after y →
-    (mid : List X) × (z : X) × Goes steps before x u mid z × Goes steps mid z v after y
-goes_split steps [] v before after x y h = (before, x, (refl, refl), h)
-goes_split steps (a ∷ u) v before after x y h =
-    let f = leads_stack steps a.kind a before x h.0 (λ stack. Goes steps stack h.0 (u ++ v) after y) h.1 in
-    let r = goes_split steps u v f.0 after h.0 y f.2 in
-    (r.0, r.1, (h.0, leads_with steps a.kind a before x h.0 f.0 (λ stack. Goes steps stack h.0 u r.0 r.1) f.1 r.2), r.3)
-
-pub goes_cut : {X : Type 0} (steps : Steps X) (u v : List Letter) (before after : List X) (x y : X) →
-    Goes steps before x (u ++ v) after y ↔ ((mid : List X) × (z : X) × Goes steps before x u mid z × Goes steps mid z v after y)
-goes_cut steps u v before after x y = (goes_split steps u v before after x y, λ h. goes_join steps u v before h.0 after x h.1 y h.2 h.3)
-
--- the stack around a letter stays
-leads_below : {X : Type 0} (steps : Steps X) (kind : Kind) (a : Letter) (before below : List X) (x y : X) (stack : List X) →
-    Leads steps kind a before x y (λ s. s ≡ stack) → Leads steps kind a (before ++ below) x y (λ s. s ≡ stack ++ below)
-leads_below {X} steps Inside a before below x y stack h = (h.0, ap (λ (s : List X). s ++ below) h.1)
-leads_below {X} steps Call a before below x y stack h = (h.0, ap (λ (s : List X). s ++ below) h.1)
-leads_below steps Back a [] below x y stack h = absurd h
-leads_below {X} steps Back a (b ∷ before) below x y stack h = (h.0, ap (λ (s : List X). s ++ below) h.1)
-
-leads_above : {X : Type 0} (steps : Steps X) (kind : Kind) (a : Letter) (own below : List X) (x y : X) (stack : List X) (rest : ℕ → Bool) →
-    goes_on kind (length own) rest ≡ true → Leads steps kind a (own ++ below) x y (λ s. s ≡ stack) →
-    (own' : List X) × (stack ≡ own' ++ below) × Leads steps kind a own x y (λ s. s ≡ own') × (rest (length own') ≡ true)
-leads_above steps Inside a own below x y stack rest g h = (own, sym h.1, (h.0, refl), g)
-leads_above steps Call a own below x y stack rest g h = (x ∷ own, sym h.1, (h.0, refl), g)
-leads_above steps Back a [] below x y stack rest g h = absurd (false≢true g)
-leads_above steps Back a (b ∷ own) below x y stack rest g h = (own, sym h.1, (h.0, refl), g)
-
--- more open calls around a way
-pub goes_below : {X : Type 0} (steps : Steps X) (w : List Letter) (before after below : List X) (x y : X) →
-    Goes steps before x w after y → Goes steps (before ++ below) x w (after ++ below) y
-goes_below {X} steps [] before after below x y h = (ap (λ (s : List X). s ++ below) h.0, h.1)
-goes_below steps (a ∷ w) before after below x y h =
-    let f = leads_stack steps a.kind a before x h.0 (λ stack. Goes steps stack h.0 w after y) h.1 in (
-      h.0,
-      leads_with steps a.kind a (before ++ below) x h.0 (f.0 ++ below) (λ stack. Goes steps stack h.0 w (after ++ below) y)
-          (leads_below steps a.kind a before below x h.0 f.0 f.1) (goes_below steps w f.0 after below h.0 y f.2),
-    )
-
-pub goes_above : {X : Type 0} (steps : Steps X) (w : List Letter) (own below after : List X) (x y : X) →
-    are_matched (length own) w ≡ true → Goes steps (own ++ below) x w after y →
-    (own' : List X) × (after ≡ own' ++ below) × Goes steps own x w own' y
-goes_above steps [] own below after x y g h = (own, sym h.0, (refl, h.1))
-goes_above {X} steps (a ∷ w) own below after x y g h =
-    let f = leads_stack steps a.kind a (own ++ below) x h.0 (λ stack. Goes steps stack h.0 w after y) h.1 in
-    let k = leads_above steps a.kind a own below x h.0 f.0 (λ n. are_matched n w) g f.1 in
-    let r = goes_above steps w k.0 below after h.0 y k.3 (subst (λ (s : List X). Goes steps s h.0 w after y) k.1 f.2) in
-    (r.0, r.1, (h.0, leads_with steps a.kind a own x h.0 k.0 (λ stack. Goes steps stack h.0 w r.0 y) k.2 r.2))
-
-pub goes_matched : {X : Type 0} (steps : Steps X) (w : List Letter) (before after : List X) (x y : X) → IsTrue (are_matched 0 w) →
-    Goes steps before x w after y ↔ ((own : List X) × (after ≡ own ++ before) × Goes steps [] x w own y)
-goes_matched {X} steps w before after x y g = (
-  goes_above steps w [] before after x y g,
-  λ h. subst (λ (s : List X). Goes steps before x w s y) (sym h.1) (goes_below steps w [] h.0 before x y h.2),
-)
 
 -- a way with its members, and a way with its end
 pub through_goes : {X : Type 0} (steps : Steps X) (w : List Letter) (before : List X) (x : X) (more : List X) → GoesThrough steps before x w more →

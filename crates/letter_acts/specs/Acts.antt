@@ -1,5 +1,5 @@
 -- Acts and the alphabet: what the letters stand for.
-use Rattle.std.specs.Prelude.{ℕ, List, [], map, Option, None, Some, unwrap_or, slice_get, if◌then◌else◌}
+use Rattle.std.specs.Prelude.{ℕ, Bool, false, List, [], map, Option, None, Some, unwrap_or, slice_get, if◌then◌else◌}
 use Rattle.lin_rows.specs.Rows.{LinearRow}
 use Rattle.nwa_base.specs.declared.letters.Kind.{Kind}
 use Rattle.nwa_base.specs.declared.letters.Kind.TheVariants as kinds
@@ -20,13 +20,23 @@ pub data PlainAct : Type 0 where
   back_act : ℕ → List ℕ → PlainAct
 
 abbrev pub plain_act : Act → PlainAct
-plain_act (Inside p written helpers rows) = inside_act p written.items helpers rows.items
-plain_act (Call caller callee helpers rows) = call_act caller callee helpers rows.items
+plain_act (Inside p written helpers rows coarse) = inside_act p written.items helpers rows.items
+plain_act (Call caller callee helpers rows coarse) = call_act caller callee helpers rows.items
 plain_act (Back c targets) = back_act c targets.items
+
+-- whether an act is marked as coarse: its rows leave a product free; a return's never is
+abbrev pub mark_of : Act → Bool
+mark_of (Inside p written helpers rows coarse) = coarse
+mark_of (Call caller callee helpers rows coarse) = coarse
+mark_of (Back c targets) = false
 
 -- acts as plain data
 abbrev pub plain_acts : List Act → List PlainAct
 plain_acts acts = map plain_act acts
+
+-- the marks of acts, one for each
+abbrev pub marks_of : List Act → List Bool
+marks_of acts = map mark_of acts
 
 -- frames as lists of columns
 abbrev pub plain_frames : List Frame → List Columns

@@ -1,5 +1,5 @@
 -- Feasible words, and the stack machine of an automaton and its letters.
-use Rattle.std.specs.Prelude.{◌↔◌, ℕ, ◌<◌, List, [], ◌∷◌, map, length}
+use Rattle.std.specs.Prelude.{ℕ, ◌<◌, List, [], ◌∷◌, length}
 use Rattle.nwa_base.specs.declared.letters.Letter.{Letter}
 use Rattle.nwa_base.specs.Members.{Member}
 use Rattle.nwa_base.specs.Automata.{Automaton}
@@ -50,19 +50,6 @@ pub record MachineRun (m : Automaton) (al : Alphabet) (w : List Letter) : Type 0
   pub begins : IsSituation al first
   pub goes : Goes (machine m al) [] (m.start, first) w open_calls last
   pub ends : Member m.finals last.0
-
--- the states of members of the machine, and their situations
-abbrev pub states_in : List (ℕ × Situation) → List ℕ
-states_in stack = map (λ c. c.0) stack
-
-abbrev pub situations_in : List (ℕ × Situation) → List Situation
-situations_in stack = map (λ c. c.1) stack
-
--- two letters allow the same: as inside letters, as calls and as returns
-pub record AllowSame (al : Alphabet) (a b : Letter) : Type 0 where
-  pub inside : (s t : Situation) → (meaning al).inside a s t ↔ (meaning al).inside b s t
-  pub call : (s t : Situation) → (meaning al).call a s t ↔ (meaning al).call b s t
-  pub back : (exit before after : Situation) → (meaning al).back a exit before after ↔ (meaning al).back b exit before after
 
 -- some way of the meaning leads from a situation through the word
 pub record FeasibleWay (al : Alphabet) (w : List Letter) : Type 0 where

@@ -63,8 +63,8 @@ abbrev pub is_global : (Column × VarInfo) → Bool
 is_global c = is_global_column c.0
 
 -- a constant
-abbrev pub is_constant : (Column × VarInfo) → Bool
-is_constant c = is_global_column c.0 && c.1.constant
+abbrev pub is_fixed_column : (Column × VarInfo) → Bool
+is_fixed_column c = is_global_column c.0 && c.1.constant
 
 -- a global that may change
 abbrev pub is_variable : (Column × VarInfo) → Bool
@@ -91,13 +91,13 @@ abbrev pub globals_of : Columns → List ℕ
 globals_of frame = places is_global 0 frame
 
 abbrev pub constants_of : Columns → List ℕ
-constants_of frame = places is_constant 0 frame
+constants_of frame = places is_fixed_column 0 frame
 
 abbrev pub variables_of : Columns → List ℕ
 variables_of frame = places is_variable 0 frame
 
-abbrev pub results_of : Columns → List ℕ
-results_of frame = places is_result 0 frame
+abbrev pub result_columns : Columns → List ℕ
+result_columns frame = places is_result 0 frame
 
 -- an old column at place n, with the column of its global, in front
 abbrev pub old_at : Column → ℕ → List (ℕ × ℕ) → List (ℕ × ℕ)

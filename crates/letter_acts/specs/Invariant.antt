@@ -1,5 +1,5 @@
 -- What an `Icfg` keeps: the graph of all procedures, with its letters, frames, names and places.
-use Rattle.std.specs.Prelude.{◌≡◌, ◌≢◌, ℕ, suc, ◌+◌, ◌-◌, ◌^◌, ◌<◌, ◌≤◌, Bool, true, false, not, List, [], ◌∷◌, ◌++◌, map, filter, length, Option, None, Some, IsSome, IsSomeAnd, IsTrue, slice_get}
+use Rattle.std.specs.Prelude.{◌≡◌, ◌≢◌, ℕ, suc, ◌+◌, ◌-◌, ◌^◌, ◌<◌, ◌≤◌, Bool, true, false, not, List, [], ◌∷◌, ◌++◌, map, filter, length, Option, None, Some, IsSome, IsSomeAnd, IsTrue, slice_get, unwrap_or}
 use Rattle.std.specs.List.{AllByRecursion}
 use Rattle.std.specs.Option.{option_map}
 use Rattle.math_facts.specs.Terms.{IsBelow}
@@ -12,13 +12,15 @@ use Rattle.nwa_base.specs.declared.letters.Letter.{Letter}
 use Rattle.nwa_base.specs.Members.{Member, SameMembers}
 use Rattle.nwa_base.specs.Automata.{Automaton}
 use Rattle.letter_acts.specs.declared.sites.Site.{Site}
-use Rattle.letter_acts.specs.Frames.{Columns, IsFrame, is_global, is_old_column, is_local, is_parameter, results_of, variables_of}
+use Rattle.letter_acts.specs.Frames.{Columns, IsFrame, is_global, is_old_column, is_local, is_parameter, result_columns, variables_of}
 use Rattle.letter_acts.specs.Acts.{PlainAct, inside_act, call_act, back_act, Alphabet, frame_of, act_of}
 
 -- what an `Icfg` consists of, as contracts see it
 pub record Graph : Type 0 where
   pub automaton : Automaton
   pub acts : List PlainAct
+  -- of each act whether it is coarse
+  pub marks : List Bool
   pub frames : List Columns
   -- the names of the procedures
   pub names : List (List ℕ)
@@ -30,6 +32,10 @@ pub record Graph : Type 0 where
   pub exits : List (Option ℕ)
   -- the assertions, with the place that each failure leads to
   pub sites : List Site
+
+-- whether the letter of this number is coarse; false where there is no such letter
+abbrev pub mark_at : Graph → ℕ → Bool
+mark_at g n = unwrap_or (slice_get g.marks n) false
 
 abbrev pub alphabet_of : Graph → Alphabet
 alphabet_of g = record { acts = g.acts; frames = g.frames }
@@ -155,7 +161,7 @@ written_by caller targets = variables_of caller ++ filter (λ t. not (is_global_
 pub record BackIsActed (caller callee : Columns) (helpers : ℕ) (targets : List ℕ) : Type 0 where
   pub may_target : AllByRecursion (MayTarget caller) targets
   pub distinct : AreDistinct targets
-  pub take : Take caller callee targets (results_of callee)
+  pub take : Take caller callee targets (result_columns callee)
   pub numbers_fit : length callee + length caller + length (written_by caller targets) + helpers ≤ 2 ^ 32
 
 -- a return's call is a call act, and its targets fit it

@@ -1,7 +1,7 @@
 -- What letters allow: which states of frames may stand before and after an inside act, a call and a return.
 use Rattle.std.specs.Prelude.{◌≡◌, ℕ, ◌<◌, ℤ, List, ◌++◌, map, length, take, drop, Option, None, Some, slice_get}
 use Rattle.lin_rows.specs.Rows.{LinearRow}
-use Rattle.letter_acts.specs.Frames.{Columns, IsState, globals_of, constants_of, variables_of, results_of, olds_of}
+use Rattle.letter_acts.specs.Frames.{Columns, IsState, globals_of, constants_of, variables_of, result_columns, olds_of}
 use Rattle.letter_acts.specs.Acts.{PlainAct, inside_act, call_act, back_act, Alphabet, frame_of}
 use Rattle.letter_acts.specs.Values.{picked, put_all, RowsHold}
 
@@ -32,7 +32,7 @@ pub record CallLeads (caller callee : Columns) (helpers : ℕ) (rows : List Line
 -- into each target goes the callee's result in its place, also where the target is a global.
 abbrev pub returned_values : Columns → Columns → List ℕ → List ℤ → List ℤ → List ℤ
 returned_values caller callee targets exit before =
-    put_all (take (length (globals_of caller)) exit ++ drop (length (globals_of caller)) before) targets (picked exit (results_of callee))
+    put_all (take (length (globals_of caller)) exit ++ drop (length (globals_of caller)) before) targets (picked exit (result_columns callee))
 
 -- A return leads from the callee's state at its exit and the caller's state before the call to the caller's state after:
 -- the exit's constants and old columns are the constants and globals before the call, the rows of the call hold with some

@@ -5,7 +5,7 @@ use Rattle.letter_acts.specs.declared.acts.Act.{Act}
 use Rattle.letter_acts.specs.declared.frames.Frame.{Frame}
 use Rattle.letter_acts.specs.declared.sites.Site.{Site}
 use Rattle.letter_acts.specs.declared.parts.Parts.{Parts}
-use Rattle.letter_acts.specs.Acts.{Alphabet, plain_acts, plain_frames}
+use Rattle.letter_acts.specs.Acts.{Alphabet, plain_acts, marks_of, plain_frames}
 use Rattle.letter_acts.specs.Invariant.{Graph}
 
 -- the graph of these parts
@@ -13,6 +13,7 @@ abbrev pub graph : Automaton → List Act → List Frame → List (List ℕ) →
 graph nwa acts frames names place_procs entries exits sites = record {
   automaton = nwa;
   acts = plain_acts acts;
+  marks = marks_of acts;
   frames = plain_frames frames;
   names = names;
   place_procs = place_procs;

@@ -4,7 +4,7 @@ use Rattle.std.specs.List.{AllByRecursion}
 use Rattle.lin_rows.specs.Rows.{LinearRow}
 use Rattle.lin_rows.specs.Points.{point_of}
 use Rattle.nwa_base.specs.Members.{Member}
-use Rattle.letter_acts.specs.Frames.{Columns, IsState, globals_of, constants_of, variables_of, results_of, olds_of}
+use Rattle.letter_acts.specs.Frames.{Columns, IsState, globals_of, constants_of, variables_of, result_columns, olds_of}
 use Rattle.letter_acts.specs.Values.{picked, RowsHold}
 
 -- the states agree outside the written columns, and with some helpers the rows hold
@@ -45,5 +45,5 @@ pub record BackReads (caller callee : Columns) (helpers : ℕ) (rows : List Line
   pub olds : AllByRecursion (λ o. point_of exit o.0 ≡ point_of before o.1) (olds_of callee)
   pub rows_hold : RowsHold (before ++ exit) helpers rows
   pub globals : AllByRecursion (λ g. (Member targets g → ⊥) → point_of after g ≡ point_of exit g) (variables_of caller)
-  pub results : AllByRecursion (λ p. point_of after p.0 ≡ point_of exit p.1) (taken targets (results_of callee))
+  pub results : AllByRecursion (λ p. point_of after p.0 ≡ point_of exit p.1) (taken targets (result_columns callee))
   pub others : (c : ℕ) → (Member (variables_of caller) c → ⊥) → (Member targets c → ⊥) → point_of after c ≡ point_of before c

@@ -15,6 +15,8 @@ pub enum Act {
         helpers: u32,
         /// Over the frame before the step, the written columns after it, and the helpers.
         rows: Vec<Row>,
+        /// Whether the rows leave a product free, so that they allow more than the statement does.
+        coarse: bool,
     },
     /// A call.
     Call {
@@ -24,6 +26,8 @@ pub enum Act {
         helpers: u32,
         /// Over the caller's frame, the callee's frame, and the helpers.
         rows: Vec<Row>,
+        /// Whether the rows leave a product free, so that they allow more than the statement does.
+        coarse: bool,
     },
     /// A return.
     Back {
@@ -35,11 +39,22 @@ pub enum Act {
 }
 
 impl Act {
-    ghost use Rattle.letter_acts.specs.Acts.{plain_act};
+    ghost use Rattle.letter_acts.specs.Acts.{plain_act, mark_of};
+
+    /// Whether the rows leave a product free; those of a return never do.
+    pub fn is_coarse(&self) -> bool
+        ensures { result ≡ mark_of self.now }
+    {
+        match self {
+            Act::Inside { coarse, .. } | Act::Call { coarse, .. } => *coarse,
+            Act::Back { .. } => false,
+        }
+    }
 
     /// An equal act.
     pub fn copy(&self) -> Result<Self, AllocError>
-        ensures { IfOk result (λ a. plain_act a ≡ plain_act self.now) }
+        ensures act { IfOk result (λ a. plain_act a ≡ plain_act self.now) }
+        ensures mark { IfOk result (λ a. mark_of a ≡ mark_of self.now) }
     {
         match self {
             Act::Inside {
@@ -47,22 +62,26 @@ impl Act {
                 written,
                 helpers,
                 rows,
+                coarse,
             } => Ok(Act::Inside {
                 proc: *proc,
                 written: written.clone()?,
                 helpers: *helpers,
                 rows: copied_rows(*rows.allocator(), rows)?,
+                coarse: *coarse,
             }),
             Act::Call {
                 caller,
                 callee,
                 helpers,
                 rows,
+                coarse,
             } => Ok(Act::Call {
                 caller: *caller,
                 callee: *callee,
                 helpers: *helpers,
                 rows: copied_rows(*rows.allocator(), rows)?,
+                coarse: *coarse,
             }),
             Act::Back { call, targets } => Ok(Act::Back {
                 call: *call,

@@ -17,6 +17,7 @@ mod sites;
 use crate::parts::Parts;
 use acts::are_acted;
 pub use acts::is_within;
+pub use columns::{count_local_targets, count_variables};
 use edges::has_edges;
 use frames::are_frames;
 use naming::are_named;

@@ -1,6 +1,6 @@
-ghost use Rattle.std.specs.Prelude.{◌≡◌, ◌<◌, Some, IfOk, OnOk, length, slice_get};
+ghost use Rattle.std.specs.Prelude.{◌≡◌, ◌<◌, ℕ, List, false, Some, IfOk, OnOk, length, slice_get};
 ghost use Rattle.std.specs.Option.{option_map};
-ghost use Rattle.letter_acts.specs.Acts.{plain_acts, plain_frames};
+ghost use Rattle.letter_acts.specs.Acts.{plain_acts, marks_of, plain_frames};
 ghost use Rattle.letter_acts.specs.Parts.{graph_of};
 
 use crate::acts::Act;
@@ -33,8 +33,8 @@ impl Model for Icfg {
 }
 
 impl Icfg {
-    ghost use Rattle.letter_acts.specs.Acts.{plain_act, plain_acts, plain_frames, frame_of, act_of};
-    ghost use Rattle.letter_acts.specs.Invariant.{alphabet_of};
+    ghost use Rattle.letter_acts.specs.Acts.{plain_act, plain_acts, mark_of, marks_of, plain_frames, frame_of, act_of, back_act};
+    ghost use Rattle.letter_acts.specs.Invariant.{alphabet_of, mark_at};
     ghost use Rattle.letter_acts.specs.Kept.{Keeps};
     ghost use Rattle.letter_acts.specs.Parts.{graph_of};
 
@@ -57,6 +57,7 @@ impl Icfg {
     /// The act of each letter, by its number.
     pub fn acts(&self) -> &[Act]
         ensures value { plain_acts result.now ≡ self.now.acts }
+        ensures marks { marks_of result.now ≡ self.now.marks }
         ensures valid { Keeps self.now }
     {
         self.parts.acts.as_slice()
@@ -74,9 +75,20 @@ impl Icfg {
     pub fn act_at(&self, letter: u32) -> &Act
         requires { letter < length self.now.acts }
         ensures value { slice_get self.now.acts letter ≡ Some (plain_act result.now) }
+        ensures mark { mark_of result.now ≡ mark_at self.now letter }
         ensures valid { Keeps self.now }
     {
         &self.parts.acts[letter as usize]
+    }
+
+    /// Whether the letter of this number, which there is, is coarse: its rows leave a product free, so that they allow more than the
+    /// statement does. A return's letter never is.
+    pub fn is_coarse(&self, letter: u32) -> bool
+        requires { letter < length self.now.acts }
+        ensures value { result ≡ mark_at self.now letter }
+        ensures returns { (call : ℕ) (targets : List ℕ) → slice_get self.now.acts letter ≡ Some (back_act call targets) → result ≡ false }
+    {
+        self.act_at(letter).is_coarse()
     }
 
     /// The act of the letter, `None` where it is none of the alphabet.
@@ -176,6 +188,7 @@ fn copied_parts(parts: &Parts) -> Result<Parts, AllocError>
 fn copy_letters(parts: &Parts, copied: &mut Parts) -> Result<(), AllocError>
     ensures automaton { OnOk result (copied.new.nwa ≡ copied.old.nwa) }
     ensures acts { OnOk result (plain_acts copied.new.acts.items ≡ plain_acts parts.now.acts.items) }
+    ensures marks { OnOk result (marks_of copied.new.acts.items ≡ marks_of parts.now.acts.items) }
     ensures frames { OnOk result (plain_frames copied.new.frames.items ≡ plain_frames parts.now.frames.items) }
     ensures names { OnOk result (copied.new.names.items ≡ parts.now.names.items) }
     ensures place_procs { OnOk result (copied.new.place_procs.items ≡ parts.now.place_procs.items) }
@@ -209,7 +222,8 @@ fn copy_places(parts: &Parts, copied: &mut Parts) -> Result<(), AllocError>
 
 /// A copy of each act.
 fn copied_acts(acts: &Vec<Act>) -> Result<Vec<Act>, AllocError>
-    ensures { IfOk result (λ copies. plain_acts copies.items ≡ plain_acts acts.now.items) }
+    ensures acts { IfOk result (λ copies. plain_acts copies.items ≡ plain_acts acts.now.items) }
+    ensures marks { IfOk result (λ copies. marks_of copies.items ≡ marks_of acts.now.items) }
 {
     let mut copies = Vec::with_capacity(*acts.allocator(), acts.len())?;
     for act in acts {

@@ -13,7 +13,7 @@ mod parts;
 mod sites;
 
 pub use acts::Act;
-pub use checks::is_within;
+pub use checks::{count_local_targets, count_variables, is_within};
 pub use finding::type_at;
 pub use frames::Frame;
 pub use graphs::Icfg;

@@ -4,7 +4,7 @@ ghost use Rattle.std.specs.Prelude.{◌≡◌, ◌↔◌, ◌+◌, ◌<◌, ◌�
 ghost use Rattle.std.specs.List.{AllByRecursion};
 ghost use Rattle.math_facts.specs.Terms.{IsBelow};
 ghost use Rattle.lin_rows.specs.Rows.{LinearRow};
-ghost use Rattle.letter_acts.specs.Frames.{results_of};
+ghost use Rattle.letter_acts.specs.Frames.{result_columns};
 ghost use Rattle.letter_acts.specs.Acts.{plain_act, plain_acts, frame_of};
 ghost use Rattle.letter_acts.specs.Invariant.{MayWrite, MayTarget, MayName, Take, InsideIsActed, CallIsActed, BackIsActed, BackIsActedFrom, IsActed, type_at, written_by};
 ghost use Rattle.letter_acts.specs.Parts.{alphabet};
@@ -110,7 +110,7 @@ fn has_type_of(caller: &[(Column, VarInfo)], target: u32, result_column: &(Colum
 
 /// Whether each target takes a result of its type.
 fn take(caller: &[(Column, VarInfo)], callee: &[(Column, VarInfo)], targets: &[u32]) -> bool
-    ensures { IsTrue result ↔ Take caller.now callee.now targets.now (results_of callee.now) }
+    ensures { IsTrue result ↔ Take caller.now callee.now targets.now (result_columns callee.now) }
 {
     let mut taken = 0;
     for i in 0..callee.len() {
@@ -194,12 +194,14 @@ fn is_acted(acts: &[Act], frames: &[Frame], act: &Act) -> bool
             written,
             helpers,
             rows,
+            ..
         } => inside_is_acted(frames, *proc, written, *helpers, rows),
         Act::Call {
             caller,
             callee,
             helpers,
             rows,
+            ..
         } => call_is_acted(frames, *caller, *callee, *helpers, rows),
         Act::Back { call, targets } => back_is_acted_from(acts, frames, *call, targets),
     }

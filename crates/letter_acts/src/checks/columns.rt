@@ -1,7 +1,6 @@
 //! Columns of a frame: what they are, and whether letters may write or name them.
 
 ghost use Rattle.std.specs.Prelude.{◌≡◌, ◌↔◌, ◌+◌, ◌<◌, ◌≤◌, ◌^◌, IsTrue, MatchOption, length};
-ghost use Rattle.std.specs.List.{AllByRecursion};
 ghost use Rattle.letter_acts.specs.Frames.{is_global_column, is_old_column, is_local_column, is_variable, is_parameter, is_result, variables_of};
 ghost use Rattle.letter_acts.specs.Invariant.{MayWrite, MayTarget, MayName, IsOld, is_global_at};
 ghost use Rattle.letter_acts.specs.Checks.{local_targets};
@@ -109,7 +108,7 @@ pub(super) fn may_name(
 }
 
 /// How many globals may change.
-pub(super) fn count_variables(frame: &[(Column, VarInfo)]) -> usize
+pub fn count_variables(frame: &[(Column, VarInfo)]) -> usize
     ensures value { result ≡ length (variables_of frame.now) }
     ensures fits { result ≤ length frame.now }
 {
@@ -123,7 +122,7 @@ pub(super) fn count_variables(frame: &[(Column, VarInfo)]) -> usize
 }
 
 /// How many targets are no globals.
-pub(super) fn count_local_targets(frame: &[(Column, VarInfo)], targets: &[u32]) -> usize
+pub fn count_local_targets(frame: &[(Column, VarInfo)], targets: &[u32]) -> usize
     ensures value { result ≡ length (local_targets frame.now targets.now) }
     ensures fits { result ≤ length targets.now }
 {

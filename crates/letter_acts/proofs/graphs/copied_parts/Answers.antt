@@ -7,6 +7,7 @@ returns c =
     same_graph _ _
     (c.in_ok-copy_letters.ensures.automaton ∙ c.in_ok-nwa.ensures)
     c.in_ok-copy_letters.ensures.acts
+    c.in_ok-copy_letters.ensures.marks
     c.in_ok-copy_letters.ensures.frames
     c.in_ok-copy_letters.ensures.names
     c.in_ok-copy_letters.ensures.place_procs

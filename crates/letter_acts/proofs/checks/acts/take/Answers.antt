@@ -1,5 +1,5 @@
 use Rattle.std.proofs.Common.{◌↔◌, ◌∙◌, ℕ, ◌+◌, drop, sym, ap, subst, arith}
-use Rattle.letter_acts.specs.Frames.{places, is_result, results_of}
+use Rattle.letter_acts.specs.Frames.{places, is_result, result_columns}
 use Rattle.letter_acts.specs.Invariant.{Take}
 use Rattle.letter_acts.proofs.LoopLemmas.{refuted, one_member}
 use Rattle.letter_acts.proofs.TakeLemmas.{take_miss, take_pass, take_stops, take_done, take_short}
@@ -11,7 +11,7 @@ loop-i-preserved c =
     let caller = c.args.caller.now in
     let callee = c.args.callee.now in
     let targets = c.args.targets.now in
-    let Left : ℕ → Type 0 = λ n. Take caller callee (drop n targets) (places is_result (c.loop-i.i + 1) (drop (c.loop-i.i + 1) callee)) ↔ Take caller callee targets (results_of callee) in
+    let Left : ℕ → Type 0 = λ n. Take caller callee (drop n targets) (places is_result (c.loop-i.i + 1) (drop (c.loop-i.i + 1) callee)) ↔ Take caller callee targets (result_columns callee) in
     elim c.if-is_result.branch [
       | then-is_result+else-taken-targets+else-not-has_type_of w ↦
           let same = one_member callee c.loop-i.i c.index-callee-i.result w.index-callee-i-then-is_result.result c.loop-i-test.true c.index-callee-i.is w.index-callee-i-then-is_result.is in
