@@ -7,15 +7,16 @@ use Rattle.std.proofs.lemmas.Bool.{false≢true}
 use Rattle.std.proofs.lemmas.List.{length-map}
 use lib.Pointwise.{pointwise}
 use mathlib.Core.Bool.{beq}
-use Rattle.letter_acts.specs.Acts.{PlainAct}
 use Rattle.letter_table.specs.declared.keys.RowKey.{RowKey}
 use Rattle.letter_table.specs.declared.keys.ActKey.{ActKey}
 use Rattle.letter_table.specs.declared.keys.ActKey.TheVariants.{Inside, Call, Back}
+use Rattle.letter_table.specs.declared.keys.MarkedKey.{MarkedKey}
 use Rattle.letter_table.specs.contracts.keys.ActKeyPartialEq.TheImpl as act_test
+use Rattle.letter_table.specs.contracts.keys.MarkedKeyPartialEq.TheImpl as marked_key_test
 use Rattle.letter_table.specs.contracts.keys.RowKeyPartialEq.TheImpl as row_test
-use Rattle.letter_table.specs.Letters.{same_act, same_row, same_term, same_kind, place_from, or_last, act_number, unless_there, with_act}
-use Rattle.letter_table.specs.Keys.{plain_key, plain_row, kind_said}
-use Rattle.letter_table.proofs.SameActs.{same_act_so, same_act_back}
+use Rattle.letter_table.specs.Letters.{MarkedAct, same_act, same_marked, same_row, same_term, same_row_kind, act_place_from, or_last, act_number, unless_there, with_act}
+use Rattle.letter_table.specs.Keys.{plain_key, plain_row, kind_said, marked_key}
+use Rattle.letter_table.proofs.SameActs.{same_mark, same_marked_so, same_marked_back}
 
 abbrev pub key_test : ActKey → ActKey → Bool
 key_test a b = act_test.eq-value.it a b
@@ -23,7 +24,7 @@ key_test a b = act_test.eq-value.it a b
 abbrev pub row_key_test : RowKey → RowKey → Bool
 row_key_test a b = row_test.eq-value.it a b
 
-kinds_same : (x y : Bool) → beq x y ≡ same_kind (kind_said x) (kind_said y)
+kinds_same : (x y : Bool) → beq x y ≡ same_row_kind (kind_said x) (kind_said y)
 kinds_same true true = refl
 kinds_same true false = refl
 kinds_same false true = refl
@@ -46,16 +47,30 @@ key_is (Back c w) (Inside q v k s) = refl
 key_is (Back c w) (Call q f k s) = refl
 key_is (Back c w) (Back d v) = refl
 
+-- ---- marks
+
+abbrev pub marked_test : MarkedKey → MarkedKey → Bool
+marked_test a b = marked_key_test.eq-value.it a b
+
+marks_same : (x y : Bool) → beq x y ≡ same_mark x y
+marks_same true true = refl
+marks_same true false = refl
+marks_same false true = refl
+marks_same false false = refl
+
+marked_is : (a b : MarkedKey) → marked_test a b ≡ same_marked (marked_key a) (marked_key b)
+marked_is a b = λ i. key_is a.act b.act i && marks_same a.is_coarse b.is_coarse i
+
 -- ---- the test of acts goes both ways
 
-turned_by : (a b : PlainAct) (x y : Bool) → same_act a b ≡ x → same_act b a ≡ y → x ≡ y
+turned_by : (a b : MarkedAct) (x y : Bool) → same_marked a b ≡ x → same_marked b a ≡ y → x ≡ y
 turned_by a b true true e f = refl
 turned_by a b false false e f = refl
-turned_by a b true false e f = absurd (false≢true (sym f ∙ same_act_back b a (sym (same_act_so a b e))))
-turned_by a b false true e f = absurd (false≢true (sym e ∙ same_act_back a b (sym (same_act_so b a f))))
+turned_by a b true false e f = absurd (false≢true (sym f ∙ same_marked_back b a (sym (same_marked_so a b e))))
+turned_by a b false true e f = absurd (false≢true (sym e ∙ same_marked_back a b (sym (same_marked_so b a f))))
 
-turned : (a b : PlainAct) → same_act a b ≡ same_act b a
-turned a b = turned_by a b (same_act a b) (same_act b a) refl refl
+turned : (a b : MarkedAct) → same_marked a b ≡ same_marked b a
+turned a b = turned_by a b (same_marked a b) (same_marked b a) refl refl
 
 -- ---- numbers
 
@@ -65,13 +80,13 @@ step true n o there place e = let same : n ≡ n + 0 = omega arith in ap Some sa
 step false n o true place e = let same : suc n + place ≡ n + (1 + place) = omega arith in e ∙ ap Some same
 step false n o false place e = e
 
-found_is : (n : ℕ) (keys : List ActKey) (k : ActKey) →
-    place_from n (map plain_key keys) (plain_key k) ≡ (if list_any (key_test k) keys then Some (n + position_or_len (key_test k) keys) else None)
+found_is : (n : ℕ) (keys : List MarkedKey) (k : MarkedKey) →
+    act_place_from n (map marked_key keys) (marked_key k) ≡ (if list_any (marked_test k) keys then Some (n + position_or_len (marked_test k) keys) else None)
 found_is n [] k = refl
 found_is n (x ∷ keys) k =
-    let same : same_act (plain_key x) (plain_key k) ≡ key_test k x = turned (plain_key x) (plain_key k) ∙ sym (key_is k x) in
-    ap (λ (b : Bool). if b then Some n else place_from (suc n) (map plain_key keys) (plain_key k)) same
-    ∙ step (key_test k x) n (place_from (suc n) (map plain_key keys) (plain_key k)) (list_any (key_test k) keys) (position_or_len (key_test k) keys) (found_is (suc n) keys k)
+    let same : same_marked (marked_key x) (marked_key k) ≡ marked_test k x = turned (marked_key x) (marked_key k) ∙ sym (marked_is k x) in
+    ap (λ (b : Bool). if b then Some n else act_place_from (suc n) (map marked_key keys) (marked_key k)) same
+    ∙ step (marked_test k x) n (act_place_from (suc n) (map marked_key keys) (marked_key k)) (list_any (marked_test k) keys) (position_or_len (marked_test k) keys) (found_is (suc n) keys k)
 
 or_false_left : (a b : Bool) → a || b ≡ false → a ≡ false
 or_false_left true b e = e
@@ -81,7 +96,7 @@ or_false_right : (a b : Bool) → a || b ≡ false → b ≡ false
 or_false_right true b e = absurd (false≢true (sym e))
 or_false_right false b e = e
 
-at_end : (p : ActKey → Bool) (keys : List ActKey) → list_any p keys ≡ false → position_or_len p keys ≡ length keys
+at_end : (p : MarkedKey → Bool) (keys : List MarkedKey) → list_any p keys ≡ false → position_or_len p keys ≡ length keys
 at_end p [] e = refl
 at_end p (x ∷ keys) e =
     let here : p x ≡ false = or_false_left (p x) (list_any p keys) e in
@@ -89,52 +104,52 @@ at_end p (x ∷ keys) e =
     let more : 1 + position_or_len p keys ≡ suc (length keys) = omega arith in
     subst (λ (b : Bool). cond (not b) (1 + position_or_len p keys) 0 ≡ suc (length keys)) (sym here) more
 
-number_by : (keys : List ActKey) (k : ActKey) (there : Bool) → list_any (key_test k) keys ≡ there →
-    position_or_len (key_test k) keys ≡ or_last (map plain_key keys) (if there then Some (0 + position_or_len (key_test k) keys) else None)
+number_by : (keys : List MarkedKey) (k : MarkedKey) (there : Bool) → list_any (marked_test k) keys ≡ there →
+    position_or_len (marked_test k) keys ≡ or_last (map marked_key keys) (if there then Some (0 + position_or_len (marked_test k) keys) else None)
 number_by keys k true e = omega arith
-number_by keys k false e = at_end (key_test k) keys e ∙ sym (length-map keys plain_key)
+number_by keys k false e = at_end (marked_test k) keys e ∙ sym (length-map keys marked_key)
 
 -- the number of a key is that of its act
-pub number_is : (keys : List ActKey) (k : ActKey) → position_or_len (key_test k) keys ≡ act_number (map plain_key keys) (plain_key k)
+pub number_is : (keys : List MarkedKey) (k : MarkedKey) → position_or_len (marked_test k) keys ≡ act_number (map marked_key keys) (marked_key k)
 number_is keys k =
-    number_by keys k (list_any (key_test k) keys) refl ∙ ap (or_last (map plain_key keys)) (sym (found_is 0 keys k))
+    number_by keys k (list_any (marked_test k) keys) refl ∙ ap (or_last (map marked_key keys)) (sym (found_is 0 keys k))
 
 -- with the act where it is none of those of the keys, and else without
-with_is : (keys : List ActKey) (k : ActKey) →
-    with_act (map plain_key keys) (plain_key k) ≡ (if list_any (key_test k) keys then map plain_key keys else map plain_key keys ++ plain_key k ∷ [])
-with_is keys k = ap (unless_there (map plain_key keys) (plain_key k)) (found_is 0 keys k) ∙ by_there (list_any (key_test k) keys)
+with_is : (keys : List MarkedKey) (k : MarkedKey) →
+    with_act (map marked_key keys) (marked_key k) ≡ (if list_any (marked_test k) keys then map marked_key keys else map marked_key keys ++ marked_key k ∷ [])
+with_is keys k = ap (unless_there (map marked_key keys) (marked_key k)) (found_is 0 keys k) ∙ by_there (list_any (marked_test k) keys)
   where
-    by_there : (there : Bool) → unless_there (map plain_key keys) (plain_key k) (if there then Some (0 + position_or_len (key_test k) keys) else None)
-        ≡ (if there then map plain_key keys else map plain_key keys ++ plain_key k ∷ [])
+    by_there : (there : Bool) → unless_there (map marked_key keys) (marked_key k) (if there then Some (0 + position_or_len (marked_test k) keys) else None)
+        ≡ (if there then map marked_key keys else map marked_key keys ++ marked_key k ∷ [])
     by_there true = refl
     by_there false = refl
 
-new_by : (keys : List ActKey) (k : ActKey) (there : Bool) → true ≡ not there →
-    (if there then map plain_key keys else map plain_key keys ++ plain_key k ∷ []) ≡ map plain_key keys ++ plain_key k ∷ []
+new_by : (keys : List MarkedKey) (k : MarkedKey) (there : Bool) → true ≡ not there →
+    (if there then map marked_key keys else map marked_key keys ++ marked_key k ∷ []) ≡ map marked_key keys ++ marked_key k ∷ []
 new_by keys k true e = absurd (false≢true (sym e))
 new_by keys k false e = refl
 
-old_by : (keys : List ActKey) (k : ActKey) (there : Bool) → false ≡ not there →
-    (if there then map plain_key keys else map plain_key keys ++ plain_key k ∷ []) ≡ map plain_key keys
+old_by : (keys : List MarkedKey) (k : MarkedKey) (there : Bool) → false ≡ not there →
+    (if there then map marked_key keys else map marked_key keys ++ marked_key k ∷ []) ≡ map marked_key keys
 old_by keys k true e = refl
 old_by keys k false e = absurd (false≢true e)
 
 -- a key that is new is that of an act that is added
-with_new : (keys : List ActKey) (k : ActKey) → true ≡ not (list_any (key_test k) keys) → with_act (map plain_key keys) (plain_key k) ≡ map plain_key keys ++ plain_key k ∷ []
-with_new keys k e = with_is keys k ∙ new_by keys k (list_any (key_test k) keys) e
+with_new : (keys : List MarkedKey) (k : MarkedKey) → true ≡ not (list_any (marked_test k) keys) → with_act (map marked_key keys) (marked_key k) ≡ map marked_key keys ++ marked_key k ∷ []
+with_new keys k e = with_is keys k ∙ new_by keys k (list_any (marked_test k) keys) e
 
 -- and else none is added
-with_old : (keys : List ActKey) (k : ActKey) → false ≡ not (list_any (key_test k) keys) → with_act (map plain_key keys) (plain_key k) ≡ map plain_key keys
-with_old keys k e = with_is keys k ∙ old_by keys k (list_any (key_test k) keys) e
+with_old : (keys : List MarkedKey) (k : MarkedKey) → false ≡ not (list_any (marked_test k) keys) → with_act (map marked_key keys) (marked_key k) ≡ map marked_key keys
+with_old keys k e = with_is keys k ∙ old_by keys k (list_any (marked_test k) keys) e
 
 -- the same of acts that the keys stand for
-pub added_new : (keys : List ActKey) (k : ActKey) (acts : List PlainAct) (a : PlainAct) (is_new : Bool) → map plain_key keys ≡ acts → plain_key k ≡ a →
-    is_new ≡ not (list_any (key_test k) keys) → is_new ≡ true → acts ++ a ∷ [] ≡ with_act acts a
+pub added_new : (keys : List MarkedKey) (k : MarkedKey) (acts : List MarkedAct) (a : MarkedAct) (is_new : Bool) → map marked_key keys ≡ acts → marked_key k ≡ a →
+    is_new ≡ not (list_any (marked_test k) keys) → is_new ≡ true → acts ++ a ∷ [] ≡ with_act acts a
 added_new keys k acts a is_new e f n t =
-    ap (λ (xs : List PlainAct). xs ++ a ∷ []) (sym e) ∙ ap (λ (x : PlainAct). map plain_key keys ++ x ∷ []) (sym f) ∙ sym (with_new keys k (sym t ∙ n))
-    ∙ ap (λ (xs : List PlainAct). with_act xs (plain_key k)) e ∙ ap (with_act acts) f
+    ap (λ (xs : List MarkedAct). xs ++ a ∷ []) (sym e) ∙ ap (λ (x : MarkedAct). map marked_key keys ++ x ∷ []) (sym f) ∙ sym (with_new keys k (sym t ∙ n))
+    ∙ ap (λ (xs : List MarkedAct). with_act xs (marked_key k)) e ∙ ap (with_act acts) f
 
-pub added_old : (keys : List ActKey) (k : ActKey) (acts : List PlainAct) (a : PlainAct) (is_new : Bool) → map plain_key keys ≡ acts → plain_key k ≡ a →
-    is_new ≡ not (list_any (key_test k) keys) → is_new ≡ false → acts ≡ with_act acts a
+pub added_old : (keys : List MarkedKey) (k : MarkedKey) (acts : List MarkedAct) (a : MarkedAct) (is_new : Bool) → map marked_key keys ≡ acts → marked_key k ≡ a →
+    is_new ≡ not (list_any (marked_test k) keys) → is_new ≡ false → acts ≡ with_act acts a
 added_old keys k acts a is_new e f n t =
-    sym e ∙ sym (with_old keys k (sym t ∙ n)) ∙ ap (λ (xs : List PlainAct). with_act xs (plain_key k)) e ∙ ap (with_act acts) f
+    sym e ∙ sym (with_old keys k (sym t ∙ n)) ∙ ap (λ (xs : List MarkedAct). with_act xs (marked_key k)) e ∙ ap (with_act acts) f

@@ -1,5 +1,5 @@
 -- The test of equal acts passes exactly where two acts are one.
-use Rattle.std.proofs.Common.{◌≡◌, ℕ, ℤ, Bool, true, ◌&&◌, List, [], ◌∷◌, refl, subst}
+use Rattle.std.proofs.Common.{◌≡◌, ◌∙◌, ℕ, ℤ, Bool, true, false, not, sym, ◌&&◌, List, [], ◌∷◌, refl, subst, if◌then◌else◌}
 use Rattle.std.specs.Prelude.{nat_eq}
 use Rattle.std.specs.Ordering.{int_eq}
 use Rattle.std.specs.Cmp.Lexicographic.{pointwise}
@@ -10,7 +10,7 @@ use Rattle.lin_rows.specs.declared.types.RowKind.{RowKind}
 use Rattle.lin_rows.specs.declared.types.RowKind.TheVariants as kinds
 use Rattle.nwa_base.proofs.LetterLemmas.{and_left, and_right, and_both, eqb-refl}
 use Rattle.letter_acts.specs.Acts.{PlainAct, inside_act, call_act, back_act}
-use Rattle.letter_table.specs.Letters.{same_kind, same_term, same_row, same_act}
+use Rattle.letter_table.specs.Letters.{MarkedAct, same_row_kind, same_term, same_row, same_act, same_marked}
 
 -- ---- lists
 
@@ -35,13 +35,13 @@ numbers_themselves xs = each_itself nat_eq eqb-refl xs
 
 -- ---- rows
 
-same_kind-true : (a b : RowKind) → same_kind a b ≡ true → a ≡ b
+same_kind-true : (a b : RowKind) → same_row_kind a b ≡ true → a ≡ b
 same_kind-true kinds.Le kinds.Le h = refl
 same_kind-true kinds.Le kinds.Eq h = absurd (false≢true h)
 same_kind-true kinds.Eq kinds.Le h = absurd (false≢true h)
 same_kind-true kinds.Eq kinds.Eq h = refl
 
-same_kind-refl : (a : RowKind) → same_kind a a ≡ true
+same_kind-refl : (a : RowKind) → same_row_kind a a ≡ true
 same_kind-refl kinds.Le = refl
 same_kind-refl kinds.Eq = refl
 
@@ -63,7 +63,7 @@ same_term-refl s = and_both _ _ (eqb-refl s.0) (int_eq-refl s.1)
 same_row-true : (r s : LinearRow) → same_row r s ≡ true → r ≡ s
 same_row-true r s h =
     let terms : r.terms ≡ s.terms = same_members same_term same_term-true r.terms s.terms (and_left _ _ h) in
-    let rest : (same_kind r.kind s.kind && int_eq r.bound s.bound) ≡ true = and_right _ _ h in
+    let rest : (same_row_kind r.kind s.kind && int_eq r.bound s.bound) ≡ true = and_right _ _ h in
     let kind : r.kind ≡ s.kind = same_kind-true _ _ (and_left _ _ rest) in
     let bound : r.bound ≡ s.bound = int_eq-true _ _ (and_right _ _ rest) in
     λ i. record { terms = terms i; kind = kind i; bound = bound i }
@@ -114,3 +114,29 @@ same_act_so a b h = same_act-true a b h
 
 pub same_act_back : (a b : PlainAct) → a ≡ b → same_act a b ≡ true
 same_act_back a b e = subst (λ (x : PlainAct). same_act a x ≡ true) e (same_act-refl a)
+
+-- ---- acts with their marks
+
+abbrev pub same_mark : Bool → Bool → Bool
+same_mark a b = if a then b else not b
+
+same_mark-true : (a b : Bool) → same_mark a b ≡ true → a ≡ b
+same_mark-true true b h = sym h
+same_mark-true false true h = absurd (false≢true h)
+same_mark-true false false h = refl
+
+same_mark-refl : (a : Bool) → same_mark a a ≡ true
+same_mark-refl true = refl
+same_mark-refl false = refl
+
+pub same_marked_so : (a b : MarkedAct) → same_marked a b ≡ true → a ≡ b
+same_marked_so a b h =
+    let act : a.act ≡ b.act = same_act_so a.act b.act (and_left _ _ h) in
+    let coarse : a.coarse ≡ b.coarse = same_mark-true a.coarse b.coarse (and_right (same_act a.act b.act) (same_mark a.coarse b.coarse) h) in
+    λ i. record { act = act i; coarse = coarse i }
+
+same_marked-refl : (a : MarkedAct) → same_marked a a ≡ true
+same_marked-refl a = and_both _ _ (same_act-refl a.act) (same_mark-refl a.coarse)
+
+pub same_marked_back : (a b : MarkedAct) → a ≡ b → same_marked a b ≡ true
+same_marked_back a b e = subst (λ (x : MarkedAct). same_marked a x ≡ true) e (same_marked-refl a)

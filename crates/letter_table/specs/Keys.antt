@@ -1,4 +1,4 @@
--- Keys of acts, as plain acts.
+-- Keys of acts, as acts with their marks.
 use Rattle.std.specs.Prelude.{Bool, true, false, map}
 use Rattle.lin_rows.specs.Rows.{LinearRow}
 use Rattle.lin_rows.specs.declared.types.RowKind.{RowKind}
@@ -7,6 +7,8 @@ use Rattle.letter_acts.specs.Acts.{PlainAct, inside_act, call_act, back_act}
 use Rattle.letter_table.specs.declared.keys.RowKey.{RowKey}
 use Rattle.letter_table.specs.declared.keys.ActKey.{ActKey}
 use Rattle.letter_table.specs.declared.keys.ActKey.TheVariants.{Inside, Call, Back}
+use Rattle.letter_table.specs.declared.keys.MarkedKey.{MarkedKey}
+use Rattle.letter_table.specs.Letters.{MarkedAct}
 
 abbrev pub kind_said : Bool → RowKind
 kind_said true = kinds.Eq
@@ -19,3 +21,6 @@ abbrev pub plain_key : ActKey → PlainAct
 plain_key (Inside p written helpers rows) = inside_act p written.items helpers (map plain_row rows.items)
 plain_key (Call caller callee helpers rows) = call_act caller callee helpers (map plain_row rows.items)
 plain_key (Back c targets) = back_act c targets.items
+
+abbrev pub marked_key : MarkedKey → MarkedAct
+marked_key k = record { act = plain_key k.act; coarse = k.is_coarse }

@@ -1,11 +1,10 @@
 -- What a table keeps of its edges where a call for one more is refused.
 use Rattle.std.specs.Prelude.{◌≡◌, List, ◌++◌}
-use Rattle.letter_acts.specs.Acts.{PlainAct}
-use Rattle.letter_table.specs.Letters.{Lettered}
+use Rattle.letter_table.specs.Letters.{MarkedAct, Lettered}
 
 -- the edges are the same, and so are the letters, to which others may have been added
 pub record EdgesStay (old new : Lettered) : Type 0 where
-  pub more : List PlainAct
+  pub more : List MarkedAct
   pub acts : new.acts ≡ old.acts ++ more
   pub insides : new.insides ≡ old.insides
   pub calls : new.calls ≡ old.calls

@@ -1,8 +1,9 @@
-//! Acts as keys of a table.
+//! Acts with their marks as keys of a table.
 
 ghost use Rattle.std.specs.Prelude.{◌≡◌, map, IfOk};
 ghost use Rattle.letter_acts.specs.Acts.{plain_act};
-ghost use Rattle.letter_table.specs.Keys.{plain_key, plain_row};
+ghost use Rattle.letter_table.specs.Letters.{marked_act};
+ghost use Rattle.letter_table.specs.Keys.{plain_key, plain_row, marked_key};
 
 use letter_acts::Act;
 use lin_rows::{Row, RowKind};
@@ -37,6 +38,13 @@ pub(crate) enum ActKey {
     },
 }
 
+/// An act with its mark as a key.
+#[derive(Drop, PartialEq, Eq, Hash)]
+pub(crate) struct MarkedKey {
+    act: ActKey,
+    is_coarse: bool,
+}
+
 fn row_key(alloc: Global, row: &Row) -> Result<RowKey, AllocError>
     ensures { IfOk result (λ k. plain_row k ≡ row.now) }
 {
@@ -58,8 +66,8 @@ fn row_keys(alloc: Global, rows: &[Row]) -> Result<Vec<RowKey>, AllocError>
     Ok(keys)
 }
 
-/// The key of an act.
-pub(crate) fn act_key(alloc: Global, act: &Act) -> Result<ActKey, AllocError>
+/// The key of an act without its mark.
+fn act_key(alloc: Global, act: &Act) -> Result<ActKey, AllocError>
     ensures { IfOk result (λ k. plain_key k ≡ plain_act act.now) }
 {
     match act {
@@ -68,6 +76,7 @@ pub(crate) fn act_key(alloc: Global, act: &Act) -> Result<ActKey, AllocError>
             written,
             helpers,
             rows,
+            ..
         } => Ok(ActKey::Inside {
             proc: *proc,
             written: written.clone()?,
@@ -79,6 +88,7 @@ pub(crate) fn act_key(alloc: Global, act: &Act) -> Result<ActKey, AllocError>
             callee,
             helpers,
             rows,
+            ..
         } => Ok(ActKey::Call {
             caller: *caller,
             callee: *callee,
@@ -90,4 +100,14 @@ pub(crate) fn act_key(alloc: Global, act: &Act) -> Result<ActKey, AllocError>
             targets: targets.clone()?,
         }),
     }
+}
+
+/// The key of an act with its mark.
+pub(crate) fn marked_key(alloc: Global, act: &Act) -> Result<MarkedKey, AllocError>
+    ensures { IfOk result (λ k. marked_key k ≡ marked_act act.now) }
+{
+    Ok(MarkedKey {
+        act: act_key(alloc, act)?,
+        is_coarse: act.is_coarse(),
+    })
 }

@@ -1,8 +1,8 @@
-//! The acts of letters, each once.
+//! The acts of letters with their marks, each once.
 
 ghost use Rattle.std.specs.Prelude.{◌≡◌, [], map, IfOk, OnOk, OnErr};
 
-use crate::keys::{ActKey, act_key};
+use crate::keys::{MarkedKey, marked_key};
 use indexmap::IndexSet;
 use letter_acts::Act;
 use std::alloc::{AllocError, Global};
@@ -12,25 +12,24 @@ use std::marker::Model;
 #[derive(Drop)]
 pub(crate) struct Letters {
     alloc: Global,
-    keys: IndexSet<ActKey>,
+    keys: IndexSet<MarkedKey>,
     acts: Vec<Act>,
 }
 
 impl Model for Letters {
     ghost use Rattle.std.specs.Prelude.{◌≡◌, List, map};
-    ghost use Rattle.letter_acts.specs.Acts.{PlainAct, plain_acts};
-    ghost use Rattle.letter_table.specs.Keys.{plain_key};
+    ghost use Rattle.letter_table.specs.Letters.{MarkedAct, marked_acts};
+    ghost use Rattle.letter_table.specs.Keys.{marked_key};
 
-    ghost Value = { List PlainAct };
+    ghost Value = { List MarkedAct };
 
-    ghost view = { λ l. plain_acts l.acts.items };
+    ghost view = { λ l. marked_acts l.acts.items };
 
-    ghost invariant = { λ l. map plain_key l.keys.keys ≡ plain_acts l.acts.items };
+    ghost invariant = { λ l. map marked_key l.keys.keys ≡ marked_acts l.acts.items };
 }
 
 impl Letters {
-    ghost use Rattle.letter_acts.specs.Acts.{plain_act, plain_acts};
-    ghost use Rattle.letter_table.specs.Letters.{act_number, with_act};
+    ghost use Rattle.letter_table.specs.Letters.{marked_act, marked_acts, act_number, with_act};
 
     /// Without acts.
     pub(crate) fn new(alloc: Global) -> Self
@@ -45,15 +44,15 @@ impl Letters {
 
     /// The number of an act's letter; a new one where the act is not there yet.
     pub(crate) fn number(&mut self, act: Act) -> Result<u32, AllocError>
-        ensures number { IfOk result (λ n. n ≡ act_number self.old (plain_act act)) }
-        ensures added { OnOk result (self.new ≡ with_act self.old (plain_act act)) }
+        ensures number { IfOk result (λ n. n ≡ act_number self.old (marked_act act)) }
+        ensures added { OnOk result (self.new ≡ with_act self.old (marked_act act)) }
         ensures kept { OnErr result (self.new ≡ self.old) }
     {
         // numbers have 32 bits, so there is room for one letter more below that
         if self.keys.len() > u32::MAX as usize {
             return Err(AllocError);
         }
-        let key = act_key(self.alloc, &act)?;
+        let key = marked_key(self.alloc, &act)?;
         self.acts.reserve(1)?;
         let (place, is_new) = self.keys.insert_full(key)?;
         if is_new {
@@ -64,7 +63,7 @@ impl Letters {
 
     /// The acts.
     pub(crate) fn finish(self) -> Vec<Act>
-        ensures { plain_acts result.items ≡ self }
+        ensures { marked_acts result.items ≡ self }
     {
         let Letters {
             alloc: _,

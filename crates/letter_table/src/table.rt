@@ -37,6 +37,8 @@ pub struct InsideStep {
     pub helpers: u32,
     /// Over the frame before the step, the written columns after it, and the helpers.
     pub rows: Vec<Row>,
+    /// Whether the rows leave a product free.
+    pub coarse: bool,
 }
 
 /// A call, as an act has it.
@@ -48,6 +50,8 @@ pub struct CallStep {
     pub helpers: u32,
     /// Over the caller's frame, the callee's frame, and the helpers.
     pub rows: Vec<Row>,
+    /// Whether the rows leave a product free.
+    pub coarse: bool,
 }
 
 /// The places of a call and its return.
@@ -72,8 +76,8 @@ impl Model for Table {
 }
 
 impl Table {
-    ghost use Rattle.letter_acts.specs.Acts.{plain_act, plain_acts, inside_act, call_act};
-    ghost use Rattle.letter_table.specs.Letters.{inside_arc, call_arc, no_letters, act_number, with_act, with_arc};
+    ghost use Rattle.letter_acts.specs.Acts.{inside_act, call_act};
+    ghost use Rattle.letter_table.specs.Letters.{MarkedAct, marked_acts, inside_arc, call_arc, no_letters, with_arc};
     ghost use Rattle.letter_table.specs.Tables.{EdgesStay};
 
     /// Without letters and edges.
@@ -90,7 +94,7 @@ impl Table {
 
     /// One more edge by an inside act.
     pub fn add_inside(&mut self, from: u32, step: InsideStep, to: u32) -> Result<(), AllocError>
-        ensures added { OnOk result (self.new ≡ with_arc self.old (inside_arc from (inside_act step.proc step.written.items step.helpers step.rows.items) to)) }
+        ensures added { OnOk result (self.new ≡ with_arc self.old (inside_arc from (record { act = inside_act step.proc step.written.items step.helpers step.rows.items; coarse = step.coarse }) to)) }
         ensures kept { OnErr result (self.new ≡ self.old) }
     {
         let InsideStep {
@@ -98,6 +102,7 @@ impl Table {
             written,
             helpers,
             rows,
+            coarse,
         } = step;
         self.insides.reserve(1)?;
         let act = Act::Inside {
@@ -105,6 +110,7 @@ impl Table {
             written,
             helpers,
             rows,
+            coarse,
         };
         let id = self.letters.number(act)?;
         let letter = Letter {
@@ -123,7 +129,7 @@ impl Table {
         targets: Vec<u32>,
         edges: CallEdges,
     ) -> Result<(), AllocError>
-        ensures added { OnOk result (self.new ≡ with_arc self.old (call_arc edges.from (call_act step.caller step.callee step.helpers step.rows.items) edges.to edges.exit targets.items edges.after)) }
+        ensures added { OnOk result (self.new ≡ with_arc self.old (call_arc edges.from (record { act = call_act step.caller step.callee step.helpers step.rows.items; coarse = step.coarse }) edges.to edges.exit targets.items edges.after)) }
         ensures kept { OnErr result (EdgesStay self.old self.new) }
     {
         let CallStep {
@@ -131,6 +137,7 @@ impl Table {
             callee,
             helpers,
             rows,
+            coarse,
         } = step;
         self.calls.reserve(1)?;
         self.backs.reserve(1)?;
@@ -139,6 +146,7 @@ impl Table {
             callee,
             helpers,
             rows,
+            coarse,
         };
         let call = self.letters.number(act)?;
         let back = self.letters.number(Act::Back { call, targets })?;
@@ -160,7 +168,7 @@ impl Table {
 
     /// The acts and the edges.
     pub fn finish(self) -> Lettered
-        ensures acts { plain_acts result.acts.items ≡ self.acts }
+        ensures acts { marked_acts result.acts.items ≡ self.acts }
         ensures insides { result.insides.items ≡ self.insides }
         ensures calls { result.calls.items ≡ self.calls }
         ensures backs { result.backs.items ≡ self.backs }

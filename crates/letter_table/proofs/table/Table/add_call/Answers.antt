@@ -28,7 +28,7 @@ returns-clause-added c =
     let before : Lettered = record { acts = c.self.inside.letters; insides = c.self.inside.insides.items; calls = c.self.inside.calls.items; backs = c.self.inside.backs.items } in
     let after : Lettered = record { acts = c.number-2.new.self; insides = c.self.inside.insides.items; calls = c.push_reserved.new.self.items; backs = c.push_reserved-2.new.self.items } in
     rw (← c.self.view_is)
-    (call_added before after c.number.new.self c.args.step.caller c.args.step.callee c.args.step.helpers c.args.step.rows.items c.args.edges.from c.args.edges.to c.args.edges.exit c.args.edges.after
+    (call_added before after c.number.new.self c.args.step.caller c.args.step.callee c.args.step.helpers c.args.step.rows.items c.args.step.coarse c.args.edges.from c.args.edges.to c.args.edges.exit c.args.edges.after
     c.in_ok-call.call c.in_ok-back.back c.args.targets.items c.in_ok-call.ensures.added c.in_ok-call.ensures.number c.in_ok-back.ensures.added c.in_ok-back.ensures.number refl
     (c.push_reserved.ensures.items ∙ ap (λ (xs : List (ℕ × Letter × ℕ)). xs ++ (c.args.edges.from, record { id = c.in_ok-call.call; kind = kinds.Call; call = 0 }, c.args.edges.to) ∷ []) c.reserve.ensures.items)
     (c.push_reserved-2.ensures.items ∙ ap (λ (xs : List (ℕ × ℕ × Letter × ℕ)). xs ++ (c.args.edges.exit, c.args.edges.from, record { id = c.in_ok-back.back; kind = kinds.Back; call = c.in_ok-call.call }, c.args.edges.after) ∷ []) c.reserve-2.ensures.items))
