@@ -27,7 +27,7 @@ none_broken : (c : ℕ) (values : List Fraction) → AllByRecursion IsWholeValue
 none_broken c [] h = refl
 none_broken c (x ∷ values) h = subst (λ (f : Fraction). first_broken c (f ∷ values) ≡ None) (sym h.0.1) (none_broken (suc c) values h.1)
 
-never_gap : (broken : ℕ → ℤ → Decision) (n : ℕ) (rows : List LinearRow) (o : outcome.Outcome) → AllByRecursion IsDifference rows → IsPickedOutcome n rows o →
+never_gap : (broken : ℕ → ℤ → Decision) (n : ℕ) (rows : List LinearRow) (o : outcome.EliminationOutcome) → AllByRecursion IsDifference rows → IsPickedOutcome n rows o →
     by_outcome broken o ≡ gap → ⊥
 never_gap broken n rows (outcome.refuted parts) a p e = let no : ⊥ = cc in no
 never_gap broken n rows (outcome.point values) a p e =

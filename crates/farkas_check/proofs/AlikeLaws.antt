@@ -7,7 +7,7 @@ use Rattle.lin_rows.specs.Combinations.{Contradicts}
 use Rattle.lin_rows.specs.Systems.{rows_of, groups_of, RelatedInPairs, SaysSame}
 use Rattle.lin_rows.proofs.SystemLaws.{same_open}
 use Rattle.farkas_check.specs.Nodes.{PlainNode, leaf, cut, cases}
-use Rattle.farkas_check.specs.Refutes.{Goal, at_most, above, with_row, with_member, goal_of, CasesRefute, Refute, Refutes}
+use Rattle.farkas_check.specs.Refutes.{Goal, at_most, above, with_row, goal_with_member, goal_of, CasesRefute, Refute, Refutes}
 
 -- two goals have the same rows, and groups whose members say the same
 record AreAlike (g h : Goal) : Type 0 where
@@ -35,7 +35,7 @@ alike_with_row g h r a = record {
   same_groups = a.same_groups;
 }
 
-alike_with_member : (g h : Goal) (s t : System) → AreAlike g h → SaysSame s t → AreAlike (with_member g s) (with_member h t)
+alike_with_member : (g h : Goal) (s t : System) → AreAlike g h → SaysSame s t → AreAlike (goal_with_member g s) (goal_with_member h t)
 alike_with_member g h s t a e =
     let o = same_open s t e in
     record {
@@ -46,7 +46,7 @@ alike_with_member g h s t a e =
     }
 
 alike_with_members : (g h : Goal) (ss ts : List System) → AreAlike g h → RelatedInPairs SaysSame ss ts →
-    RelatedInPairs AreAlike (map (with_member g) ss) (map (with_member h) ts)
+    RelatedInPairs AreAlike (map (goal_with_member g) ss) (map (goal_with_member h) ts)
 alike_with_members g h [] [] a e = tt
 alike_with_members g h [] (t ∷ ts) a e = absurd e
 alike_with_members g h (s ∷ ss) [] a e = absurd e
@@ -66,7 +66,7 @@ cases_alike refute refute' n rows rows' (s ∷ ss) (t ∷ ts) e k f =
     let h : Goal = record { rows = rows'; groups = ts } in
     let a : AreAlike g h = record { same_rows = e; same_groups = k.1 } in
     let l : length s ≡ length t = pairs_are_as_many SaysSame s t k.0 in
-    let m = f (map (with_member g) s) (map (with_member h) t) (alike_with_members g h s t a k.0) in
+    let m = f (map (goal_with_member g) s) (map (goal_with_member h) t) (alike_with_members g h s t a k.0) in
     (λ r. (r.0 ∙ l, m.0 r.1), λ r. (r.0 ∙ sym l, m.1 r.1))
 
 goals_alike : (ns : List PlainNode) (gs hs : List Goal) → RelatedInPairs AreAlike gs hs → Refute ns gs ↔ Refute ns hs

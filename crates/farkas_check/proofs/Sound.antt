@@ -10,7 +10,7 @@ use Rattle.lin_rows.proofs.TighteningLaw.{holds_tightened_by}
 use Rattle.lin_rows.proofs.NegatingLemmas.{negated_holds}
 use Rattle.lin_rows.proofs.SystemLaws.{meets_open}
 use Rattle.farkas_check.specs.Nodes.{PlainNode, leaf, cut, cases}
-use Rattle.farkas_check.specs.Refutes.{Goal, at_most, above, with_row, with_member, goal_of, CasesRefute, Refute, Refutes}
+use Rattle.farkas_check.specs.Refutes.{Goal, at_most, above, with_row, goal_with_member, goal_of, CasesRefute, Refute, Refutes}
 
 -- a point meets a goal
 pub record MeetsGoal (point : ℕ → ℤ) (g : Goal) : Type 0 where
@@ -49,7 +49,7 @@ tightened_hold point (r ∷ rs) h = ((holds_tightened_by point r (content r.term
 row_met : (point : ℕ → ℤ) (g : Goal) (r : LinearRow) → MeetsGoal point g → Holds point r → MeetsGoal point (with_row g r)
 row_met point g r m h = record { rows = all_append (Holds point) g.rows (r ∷ []) m.rows (h, tt); groups = m.groups }
 
-member_met : (point : ℕ → ℤ) (g : Goal) (s : System) → MeetsGoal point g → Meets point s → MeetsGoal point (with_member g s)
+member_met : (point : ℕ → ℤ) (g : Goal) (s : System) → MeetsGoal point g → Meets point s → MeetsGoal point (goal_with_member g s)
 member_met point g s m h =
     let o = meets_open point s h in
     record {
@@ -58,7 +58,7 @@ member_met point g s m h =
     }
 
 -- where a point meets the goal but none of the goals with a member, it meets no member
-no_member : (point : ℕ → ℤ) (g : Goal) (members : List System) → MeetsGoal point g → NoneMet point (map (with_member g) members) → SomeMember (Meets point) members → ⊥
+no_member : (point : ℕ → ℤ) (g : Goal) (members : List System) → MeetsGoal point g → NoneMet point (map (goal_with_member g) members) → SomeMember (Meets point) members → ⊥
 no_member point g [] m n h = h
 no_member point g (s ∷ ss) m n (inl h) = n.0 (member_met point g s m h)
 no_member point g (s ∷ ss) m n (inr h) = no_member point g ss m n.1 h
@@ -75,9 +75,9 @@ cases_sound : (point : ℕ → ℤ) (gs : List Goal) (refute : List Goal → Typ
 cases_sound point gs refute n rows [] f r = absurd r
 cases_sound point gs refute n rows (members ∷ groups) f r =
     let g : Goal = record { rows = rows; groups = groups } in
-    let none : NoneMet point (map (with_member g) members ++ gs) = f (map (with_member g) members) r.1 in (
-      λ m. no_member point g members (record { rows = m.rows; groups = m.groups.1 }) (none_of_append point (map (with_member g) members) gs none) m.groups.0,
-      none_behind point (map (with_member g) members) gs none,
+    let none : NoneMet point (map (goal_with_member g) members ++ gs) = f (map (goal_with_member g) members) r.1 in (
+      λ m. no_member point g members (record { rows = m.rows; groups = m.groups.1 }) (none_of_append point (map (goal_with_member g) members) gs none) m.groups.0,
+      none_behind point (map (goal_with_member g) members) gs none,
     )
 
 -- ---- the theorem

@@ -5,7 +5,7 @@ use Rattle.std.proofs.lemmas.Bool.{eqb-true, false≢true}
 use Rattle.lin_rows.specs.declared.systems.System.{System}
 use Rattle.lin_rows.specs.Rows.{LinearRow}
 use Rattle.farkas_check.specs.Nodes.{PlainNode, leaf, cut, cases, are_trees, is_tree}
-use Rattle.farkas_check.specs.Refutes.{Goal, at_most, above, with_row, with_member, goal_of, CasesRefute, Refute, Refutes}
+use Rattle.farkas_check.specs.Refutes.{Goal, at_most, above, with_row, goal_with_member, goal_of, CasesRefute, Refute, Refutes}
 use Rattle.farkas_check.specs.Trees.{Tree, leaf_tree, cut_tree, cases_tree, Trees, no_tree, one_more, tree_count, prefix_of, prefixes_of, TreeRefutes, EachRefutes, IsPrefixList}
 
 -- ---- what a prefix list refutes
@@ -14,8 +14,8 @@ cases_split : (n : ℕ) (P Q : List Goal → Type 0) (R : Type 0) (rows : List L
     ((goals : List Goal) → n ≡ length goals → P goals ↔ (Q goals × R)) → CasesRefute P n rows groups ↔ (CasesRefute Q n rows groups × R)
 cases_split n P Q R rows [] f = (λ h. absurd h, λ h. absurd h.0)
 cases_split n P Q R rows (members ∷ groups) f =
-    let goals : List Goal = map (with_member (record { rows = rows; groups = groups })) members in
-    let l : length goals ≡ length members = length-map members (with_member (record { rows = rows; groups = groups })) in (
+    let goals : List Goal = map (goal_with_member (record { rows = rows; groups = groups })) members in
+    let l : length goals ≡ length members = length-map members (goal_with_member (record { rows = rows; groups = groups })) in (
       λ h. let k = (f goals (h.0 ∙ sym l)).0 h.1 in ((h.0, k.0), k.1),
       λ h. (h.0.0, (f goals (h.0.0 ∙ sym l)).1 (h.0.1, h.1)),
     )

@@ -9,7 +9,7 @@ use Rattle.lin_rows.specs.Systems.{members_of}
 use Rattle.lin_rows.proofs.SystemLaws.{members_of-append}
 use Rattle.farkas_check.specs.declared.refutations.Node.{Node}
 use Rattle.farkas_check.specs.Nodes.{PlainNode, plain, plain_nodes, cases}
-use Rattle.farkas_check.specs.Refutes.{Goal, with_member, Refute}
+use Rattle.farkas_check.specs.Refutes.{Goal, goal_with_member, Refute}
 use Rattle.farkas_check.specs.Walks.{LeavesGoals, LeavesNone, OpensGroup}
 use Rattle.farkas_check.proofs.NodeLaws.{plain_from, plain_none}
 
@@ -27,9 +27,9 @@ taken rows groups i d l = ap (λ (gs : List (List System)). record { rows = rows
 -- cases go by the group at the place i
 pub cases_go : (n : ℕ) (rows : List LinearRow) (groups : List (List System)) (i : ℕ) (members : List System) (gs : List Goal) → i < length groups →
     members ≡ get_or groups i members → n ≡ length members →
-    LeavesGoals (cases n) (goal_from rows groups i ∷ gs) (map (with_member (goal_from rows groups (i + 1))) members ++ gs)
+    LeavesGoals (cases n) (goal_from rows groups i ∷ gs) (map (goal_with_member (goal_from rows groups (i + 1))) members ++ gs)
 cases_go n rows groups i members gs l e k = λ ns.
-    subst (λ (g : Goal). Refute ns (map (with_member (goal_from rows groups (i + 1))) members ++ gs) ↔ Refute (cases n ∷ ns) (g ∷ gs))
+    subst (λ (g : Goal). Refute ns (map (goal_with_member (goal_from rows groups (i + 1))) members ++ gs) ↔ Refute (cases n ∷ ns) (g ∷ gs))
     (sym (taken rows groups i members l ∙ ap (λ (m : List System). record { rows = rows; groups = m ∷ drop (i + 1) groups }) (sym e)))
     (λ r. (k, r), λ r. r.1)
 
@@ -116,7 +116,7 @@ held_more refs refs' initial ref more i d l h e f =
 
 -- the group at the place i is taken away
 pub opens_at : (rows : List LinearRow) (groups : List (List System)) (i : ℕ) (members : List System) (left new_left : List Goal) → i < length groups →
-    members ≡ get_or groups i members → new_left ≡ map (with_member (goal_from rows groups (i + 1))) members ++ left →
+    members ≡ get_or groups i members → new_left ≡ map (goal_with_member (goal_from rows groups (i + 1))) members ++ left →
     OpensGroup (goal_from rows groups i) left (length members) new_left
 opens_at rows groups i members left new_left l e w = record {
   members = members;

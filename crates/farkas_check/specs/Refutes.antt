@@ -28,8 +28,8 @@ abbrev pub with_row : Goal → LinearRow → Goal
 with_row g r = record { rows = g.rows ++ r ∷ []; groups = g.groups }
 
 -- the goal with the rows, tightened, and the groups of a member at the end
-abbrev pub with_member : Goal → System → Goal
-with_member g m = record { rows = g.rows ++ map tightened (rows_of m); groups = g.groups ++ groups_of m }
+abbrev pub goal_with_member : Goal → System → Goal
+goal_with_member g m = record { rows = g.rows ++ map tightened (rows_of m); groups = g.groups ++ groups_of m }
 
 -- the goal that a system poses
 abbrev pub goal_of : System → Goal
@@ -39,7 +39,7 @@ goal_of s = record { rows = map tightened (rows_of s); groups = groups_of s }
 abbrev pub CasesRefute : (List Goal → Type 0) → ℕ → List LinearRow → List (List System) → Type 0
 CasesRefute refute n rows [] = ⊥
 CasesRefute refute n rows (members ∷ groups) =
-    (n ≡ length members) × refute (map (with_member (record { rows = rows; groups = groups })) members)
+    (n ≡ length members) × refute (map (goal_with_member (record { rows = rows; groups = groups })) members)
 
 -- The list is that of one tree for each goal, in order, and each tree refutes its goal. A leaf contradicts the rows
 -- (Farkas, 1902). A cut is at a whole number k for which `k` and `-k-1` fit; its first tree refutes the goal with `c <= k`, its

@@ -7,13 +7,13 @@ use Rattle.farkas_check.specs.declared.walk.Frame.{Frame}
 use Rattle.farkas_check.specs.declared.walk.Rest.{Rest}
 use Rattle.farkas_check.specs.declared.walk.Rest.TheVariants.{BothSides, Above, Members}
 use Rattle.farkas_check.specs.Nodes.{PlainNode}
-use Rattle.farkas_check.specs.Refutes.{Goal, at_most, above, with_row, with_member, Refute}
+use Rattle.farkas_check.specs.Refutes.{Goal, at_most, above, with_row, goal_with_member, Refute}
 
 -- the goals that are left of a node, where its own goal was this one
 abbrev pub goals_of : Rest → Goal → List Goal
 goals_of (BothSides cut) g = with_row g (at_most cut.0 cut.1) ∷ with_row g (above cut.0 cut.1) ∷ []
 goals_of (Above cut) g = with_row g (above cut.0 cut.1) ∷ []
-goals_of (Members members) g = map (with_member g) members.now
+goals_of (Members members) g = map (goal_with_member g) members.now
 
 -- the goal of a frame's node, cut back from what is held now
 abbrev pub goal_of_frame : Frame → List LinearRow → List (List System) → Goal
@@ -74,7 +74,7 @@ pub record OpensGroup (goal : Goal) (left : List Goal) (n : ℕ) (new_left : Lis
   pub groups : List (List System)
   pub taken : goal.groups ≡ members ∷ groups
   pub count : n ≡ length members
-  pub wait : new_left ≡ map (with_member (record { rows = goal.rows; groups = groups })) members ++ left
+  pub wait : new_left ≡ map (goal_with_member (record { rows = goal.rows; groups = groups })) members ++ left
 
 -- the goal has no group, and nothing changes
 pub record HasNoGroup (goal : Goal) (left : List Goal) (new_goal : Goal) (new_left : List Goal) : Type 0 where

@@ -107,7 +107,7 @@ pub struct Walk<'a> {
 impl<'a> Walk<'a> {
     ghost use Rattle.farkas_check.specs.Walks.{goals_of, goal_of_lengths, waiting_of_lengths, frame_at, HoldsSame, HasSameGoals, HoldsNothing, goal_at_hand, goals_left, goals_with, OpensGroup, HasNoGroup, LeavesGoals, LeavesNone};
     ghost use Rattle.farkas_check.specs.Nodes.{cut, cases};
-    ghost use Rattle.farkas_check.specs.Refutes.{with_row, with_member};
+    ghost use Rattle.farkas_check.specs.Refutes.{with_row, goal_with_member};
 
     /// A walk for which one goal waits, that of the system.
     pub fn new(alloc: Global, system: &'a System) -> Result<Self, AllocError>
@@ -294,7 +294,7 @@ impl<'a> Walk<'a> {
     /// Keeps what is left, and adds a member to the goal at hand.
     fn take_member(&mut self, rest: Rest<'a>, member: &'a System) -> Result<(), AllocError>
         requires { self.old.first ≤ length self.old.groups.items }
-        ensures goal { OnOk result (goal_at_hand self.new ≡ with_member (goal_at_hand self.old) member.now) }
+        ensures goal { OnOk result (goal_at_hand self.new ≡ goal_with_member (goal_at_hand self.old) member.now) }
         ensures left { OnOk result
             (goals_left self.new ≡ goals_of rest.entry (goal_at_hand self.old) ++ goals_left self.old) }
     {

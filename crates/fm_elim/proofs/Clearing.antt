@@ -12,8 +12,8 @@ use Rattle.lin_rows.proofs.SummedLaws.{coefficient-scaled_sum, AscendsFrom-summe
 use Rattle.math_facts.specs.Terms.{scaled}
 use Rattle.fm_elim.specs.Quotients.{common}
 use Rattle.fm_elim.specs.Folds.{first, others}
-use Rattle.fm_elim.specs.Derivations.{DerivedRow, nothing, plus_times, at, has, is_upper, is_lower, is_equality}
-use Rattle.fm_elim.specs.Columns.{is_pivot, clearing, cleared, halves, share, other_share, pair, pairs, step_by, step}
+use Rattle.fm_elim.specs.Derivations.{DerivedRow, nothing_derived, plus_times, at, has, is_upper, is_lower, is_equality}
+use Rattle.fm_elim.specs.Columns.{is_pivot, clearing, cleared, halves, share, other_share, pair, pairs, elimination_step_by, elimination_step}
 use Rattle.fm_elim.proofs.Lists.{all_append, all_weaker, all_both, all_always, all_map, all_flat_map, all_filter, all_first}
 use Rattle.fm_elim.proofs.Steps.{step_keeps}
 use Rattle.fm_elim.proofs.Multipliers.{less_is, zero_is}
@@ -97,8 +97,8 @@ pair_cancels (pos a) (negsuc b) p q =
 
 pair_lacks : (k : ℕ) (u l : DerivedRow) → is_upper k u ≡ true → is_lower k l ≡ true → Lacks k (pair k u l)
 pair_lacks k u l p q =
-    at_sum k (plus_times nothing (share k u l) u) (other_share k u l) l ∙
-    ap (λ (z : ℤ). z +ℤ (other_share k u l *ℤ at k l)) (at_sum k nothing (share k u l) u) ∙
+    at_sum k (plus_times nothing_derived (share k u l) u) (other_share k u l) l ∙
+    ap (λ (z : ℤ). z +ℤ (other_share k u l *ℤ at k l)) (at_sum k nothing_derived (share k u l) u) ∙
     pair_cancels (at k u) (at k l) (less_is (pos 0) (at k u) p) (less_is (at k l) (pos 0) q)
 
 -- ---- the step
@@ -107,7 +107,7 @@ abbrev Anything : DerivedRow → Type 0
 Anything r = Unit {0}
 
 step_by_lacks : (k : ℕ) (o : Option DerivedRow) (rows : List DerivedRow) → MatchOption o (Unit {0}) (λ e. Anything e × (is_pivot k e ≡ true)) →
-    AllByRecursion (Lacks k) (step_by k o rows).rows
+    AllByRecursion (Lacks k) (elimination_step_by k o rows).rows
 step_by_lacks k (Some e) rows f =
     all_map Anything (Lacks k) (cleared k e) (others (is_pivot k) rows) (λ r i. cleared_lacks k e r f.1) (all_always Anything (others (is_pivot k) rows) (λ r. tt))
 step_by_lacks k None rows f =
@@ -120,7 +120,7 @@ step_by_lacks k None rows f =
     (λ u d. all_map (λ l. Anything l × (is_lower k l ≡ true)) (Lacks k) (pair k u) (filter (is_lower k) all) (λ l e. pair_lacks k u l d.1 e.1) (taken (is_lower k)))
     (taken (is_upper k)))
 
-pub step_lacks : (k : ℕ) (rows : List DerivedRow) → AllByRecursion (Lacks k) (step k rows).rows
+pub step_lacks : (k : ℕ) (rows : List DerivedRow) → AllByRecursion (Lacks k) (elimination_step k rows).rows
 step_lacks k rows =
     step_by_lacks k (first (is_pivot k) rows) rows (all_first Anything (is_pivot k) rows (all_always Anything rows (λ r. tt)))
 
@@ -142,13 +142,13 @@ clear_lower k r h e = λ c l. at_column c l (cases_eq k c)
     at_column c l (inr d) = h c (omega arith)
 
 -- what is left after a column is eliminated has only columns before it
-pub step_is_clear : (k : ℕ) (rows : List DerivedRow) → AllByRecursion (IsClear (suc k)) rows → AllByRecursion (IsClear k) (step k rows).rows
+pub step_is_clear : (k : ℕ) (rows : List DerivedRow) → AllByRecursion (IsClear (suc k)) rows → AllByRecursion (IsClear k) (elimination_step k rows).rows
 step_is_clear k rows h =
-    all_weaker (λ r. IsClear (suc k) r × Lacks k r) (IsClear k) (step k rows).rows (λ r i. clear_lower k r i.0 i.1)
-    (all_both (IsClear (suc k)) (Lacks k) (step k rows).rows (step_keeps (IsClear (suc k)) (λ c l. refl) (sum_is_clear (suc k)) k rows h) (step_lacks k rows))
+    all_weaker (λ r. IsClear (suc k) r × Lacks k r) (IsClear k) (elimination_step k rows).rows (λ r i. clear_lower k r i.0 i.1)
+    (all_both (IsClear (suc k)) (Lacks k) (elimination_step k rows).rows (step_keeps (IsClear (suc k)) (λ c l. refl) (sum_is_clear (suc k)) k rows h) (step_lacks k rows))
 
 pub sum_is_ordered : (a : DerivedRow) (m : ℤ) (b : DerivedRow) → CanScale m b.row.kind → IsOrdered a → IsOrdered b → IsOrdered (plus_times a m b)
 sum_is_ordered a m b p h i = (AscendsFrom-summed (a.row.terms ++ scaled m b.row.terms), HasNoZero-summed (a.row.terms ++ scaled m b.row.terms))
 
-pub step_is_ordered : (k : ℕ) (rows : List DerivedRow) → AllByRecursion IsOrdered rows → AllByRecursion IsOrdered (step k rows).rows
+pub step_is_ordered : (k : ℕ) (rows : List DerivedRow) → AllByRecursion IsOrdered rows → AllByRecursion IsOrdered (elimination_step k rows).rows
 step_is_ordered k rows h = step_keeps IsOrdered (tt, tt) sum_is_ordered k rows h

@@ -6,7 +6,7 @@ use Rattle.lin_rows.specs.declared.types.RowKind.{RowKind}
 use Rattle.lin_rows.specs.declared.types.RowKind.TheVariants.{Le, Eq}
 use Rattle.lin_rows.specs.Sums.{CanScale}
 use Rattle.fm_elim.specs.Folds.{Where}
-use Rattle.fm_elim.specs.Derivations.{DerivedRow, nothing, plus_times, PlusTimesFits, at, has, is_equality}
+use Rattle.fm_elim.specs.Derivations.{DerivedRow, nothing_derived, plus_times, PlusTimesFits, at, has, is_equality}
 use Rattle.fm_elim.specs.Columns.{is_pivot, clearing, cleared, ClearedFits, share, PairFits}
 
 -- a row that lacks the column stays
@@ -39,6 +39,6 @@ pub many_scale : (n : ℕ) (m : ℤ) (kind : RowKind) → m ≡ pos n → CanSca
 many_scale n m kind e = inl (subst (λ (z : ℤ). pos 0 ≤ℤ z) (sym e) (omega (arith, ints)))
 
 -- the numbers of the first sum of a pair
-pub pair_fits : (k : ℕ) (u l none : DerivedRow) (m : ℤ) → none ≡ nothing → m ≡ share k u l → PairFits k u l → PlusTimesFits none m u
+pub pair_fits : (k : ℕ) (u l none : DerivedRow) (m : ℤ) → none ≡ nothing_derived → m ≡ share k u l → PairFits k u l → PlusTimesFits none m u
 pair_fits k u l none m e f h =
-    subst (λ (q : DerivedRow). PlusTimesFits q m u) (sym e) (subst (λ (z : ℤ). PlusTimesFits nothing z u) (sym f) h.0)
+    subst (λ (q : DerivedRow). PlusTimesFits q m u) (sym e) (subst (λ (z : ℤ). PlusTimesFits nothing_derived z u) (sym f) h.0)

@@ -6,7 +6,7 @@ use Rattle.std.proofs.lemmas.Int.{ints}
 use Rattle.math_facts.specs.Terms.{dot}
 use Rattle.math_facts.proofs.Whole.{product_zero_left, product_zero_right}
 use Rattle.frac.specs.Fractions.{Fraction}
-use Rattle.fm_elim.specs.Quotients.{whole, plus, minus}
+use Rattle.fm_elim.specs.Quotients.{whole, fraction_plus, fraction_minus}
 use Rattle.fm_elim.specs.Derivations.{DerivedRow, at}
 use Rattle.fm_elim.specs.Values.{value_at, term_value, with_term, sum_of, end_of}
 use Rattle.fm_elim.proofs.FractionLaws.{Is, whole_is, plus_is, minus_is, times_is, over_is}
@@ -20,7 +20,7 @@ with_term_is : (k : ℕ) (values : List Fraction) (d : ℤ) (p : ℕ → ℤ) (s
     Is sum x d → Is (with_term k values sum t) (x +ℤ (t.1 *ℤ p t.0)) d
 with_term_is k values d p sum x t v z h = by_test (nat_eq t.0 k) refl
   where
-    by_test : (b : Bool) → nat_eq t.0 k ≡ b → Is (if b then sum else plus sum (term_value values t)) (x +ℤ (t.1 *ℤ p t.0)) d
+    by_test : (b : Bool) → nat_eq t.0 k ≡ b → Is (if b then sum else fraction_plus sum (term_value values t)) (x +ℤ (t.1 *ℤ p t.0)) d
     by_test true e =
         let f : t.1 *ℤ p t.0 ≡ t.1 *ℤ pos 0 = ap (λ (y : ℤ). t.1 *ℤ y) (ap p (eqb-true t.0 k e) ∙ z) in
         let g : t.1 *ℤ pos 0 ≡ pos 0 = product_zero_right t.1 in
@@ -50,6 +50,6 @@ room d p r = (r.row.bound *ℤ d) -ℤ dot p r.row.terms
 pub end_is : (k : ℕ) (values : List Fraction) (d : ℤ) (p : ℕ → ℤ) (r : DerivedRow) → AreValues values d p → p k ≡ pos 0 → at k r ≢ pos 0 →
     Is (end_of k values r) (room d p r) (at k r *ℤ d)
 end_is k values d p r v z n =
-    over_is (minus (whole r.row.bound) (sum_of k values r.row.terms)) (at k r) (room d p r) d n
+    over_is (fraction_minus (whole r.row.bound) (sum_of k values r.row.terms)) (at k r) (room d p r) d n
     (minus_is (whole r.row.bound) (sum_of k values r.row.terms) (r.row.bound *ℤ d) (dot p r.row.terms) d (whole_is r.row.bound d)
     (sum_is k values d p r.row.terms v z))

@@ -9,7 +9,7 @@ use Rattle.math_facts.proofs.Whole.{product_comm, product_assoc, product_cancel,
 use Rattle.frac.specs.Fractions.{Fraction, IsLowest, IsRatio}
 use Rattle.frac.proofs.Factors.{product_right_swap, product_inner}
 use Rattle.frac.proofs.Reducing.{reduced_ratio, reduced_lowest}
-use Rattle.fm_elim.specs.Quotients.{common_by, common, reduced, whole, plus, minus, times, over}
+use Rattle.fm_elim.specs.Quotients.{common_by, common, reduced, whole, fraction_plus, fraction_minus, fraction_times, fraction_over}
 
 common_by_is : (steps a b : ℕ) → b < steps → IsGcd a b (common_by steps a b)
 common_by_is zero a b l = absurd (omega arith)
@@ -60,7 +60,7 @@ pub record Is (f : Fraction) (m d : ℤ) : Type 0 where
 pub whole_is : (z d : ℤ) → Is (whole z) (z *ℤ d) d
 whole_is z d = record { positive = omega (arith, ints); ratio = sym (product_one_right (z *ℤ d)) }
 
-pub plus_is : (a b : Fraction) (x y d : ℤ) → Is a x d → Is b y d → Is (plus a b) (x +ℤ y) d
+pub plus_is : (a b : Fraction) (x y d : ℤ) → Is a x d → Is b y d → Is (fraction_plus a b) (x +ℤ y) d
 plus_is a b x y d h i =
     let e : ℤ = a.den *ℤ b.den in
     let p : pos 0 <ℤ e = positive_product a.den b.den h.positive i.positive in
@@ -75,7 +75,7 @@ plus_is a b x y d h i =
       ratio = reduced_value ((a.num *ℤ b.den) +ℤ (b.num *ℤ a.den)) e (x +ℤ y) d z (omega (arith, ints));
     }
 
-pub minus_is : (a b : Fraction) (x y d : ℤ) → Is a x d → Is b y d → Is (minus a b) (x -ℤ y) d
+pub minus_is : (a b : Fraction) (x y d : ℤ) → Is a x d → Is b y d → Is (fraction_minus a b) (x -ℤ y) d
 minus_is a b x y d h i =
     let e : ℤ = a.den *ℤ b.den in
     let p : pos 0 <ℤ e = positive_product a.den b.den h.positive i.positive in
@@ -96,7 +96,7 @@ minus_is a b x y d h i =
       ratio = reduced_value n e (x -ℤ y) d z (omega (arith, ints));
     }
 
-pub times_is : (m : ℤ) (b : Fraction) (y d : ℤ) → Is b y d → Is (times (whole m) b) (m *ℤ y) d
+pub times_is : (m : ℤ) (b : Fraction) (y d : ℤ) → Is b y d → Is (fraction_times (whole m) b) (m *ℤ y) d
 times_is m b y d i =
     let e : ℤ = pos 1 *ℤ b.den in
     let o : e ≡ b.den = product_one_left b.den in
@@ -108,7 +108,7 @@ times_is m b y d i =
     }
 
 -- the quotient by a whole number that is not 0
-pub over_is : (a : Fraction) (m x d : ℤ) → m ≢ pos 0 → Is a x d → Is (over a (whole m)) x (m *ℤ d)
+pub over_is : (a : Fraction) (m x d : ℤ) → m ≢ pos 0 → Is a x d → Is (fraction_over a (whole m)) x (m *ℤ d)
 over_is a m x d n h =
     let e : ℤ = a.den *ℤ m in
     let z : e ≢ pos 0 = product_nonzero a.den m (positive_is_not_zero a.den h.positive) n in

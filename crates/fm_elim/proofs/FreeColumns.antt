@@ -8,7 +8,7 @@ use Rattle.std.specs.List.{AllByRecursion, filter, flat_map}
 use Rattle.fm_elim.specs.Folds.{first, Where}
 use Rattle.fm_elim.specs.Derivations.{DerivedRow, at, has, is_upper, is_lower, is_equality, is_false}
 use Rattle.lin_rows.specs.Sums.{is_zero}
-use Rattle.fm_elim.specs.Columns.{SetAside, Eliminated, bounded, is_pivot, both_halves, BothHalvesFit, halves, HalvesFit, PairFits, pairs, combined, CombinedFits, step_by, StepByFits, step, StepFits}
+use Rattle.fm_elim.specs.Columns.{SetAside, Eliminated, bounded, is_pivot, both_halves, BothHalvesFit, halves, HalvesFit, PairFits, pairs, paired_off, CombinedFits, elimination_step_by, StepByFits, elimination_step, EliminationStepFits}
 use Rattle.fm_elim.specs.Climb.{IsDown}
 use Rattle.fm_elim.specs.declared.types.Aside.{Aside}
 use Rattle.fm_elim.specs.Answers.{aside_of}
@@ -69,7 +69,7 @@ no_lowers k (r ∷ rows) h = ap (λ (z : ℤ). if int_lt z (pos 0) then r ∷ fi
 abbrev kept : List DerivedRow → Eliminated
 kept rows = record { rows = rows; aside = bounded [] [] }
 
-combined_is : (k : ℕ) (rows : List DerivedRow) → IsFree k rows → CombinedFits k rows × (kept rows ≡ combined k rows)
+combined_is : (k : ℕ) (rows : List DerivedRow) → IsFree k rows → CombinedFits k rows × (kept rows ≡ paired_off k rows)
 combined_is k rows h =
     let w : filter (λ r. not (has k r)) rows ≡ rows = all_without k rows h in
     let u : filter (is_upper k) rows ≡ [] = no_uppers k rows h in
@@ -84,10 +84,10 @@ combined_is k rows h =
     by_lists : List DerivedRow → List DerivedRow → List DerivedRow → Eliminated
     by_lists without us ls = record { rows = without ++ pairs k us ls; aside = bounded ls us }
 
-free_step : (k : ℕ) (rows : List DerivedRow) → IsFree k rows → StepFits k rows × (kept rows ≡ step k rows)
+free_step : (k : ℕ) (rows : List DerivedRow) → IsFree k rows → EliminationStepFits k rows × (kept rows ≡ elimination_step k rows)
 free_step k rows h =
-    subst (λ (o : Option DerivedRow). StepByFits k o rows × (kept rows ≡ step_by k o rows)) (sym (no_first_pivot k rows h))
-    (subst (λ (xs : List DerivedRow). (AllByRecursion (HalvesFit k) rows × CombinedFits k xs) × (kept rows ≡ combined k xs)) (sym (halves_are_rows k rows h))
+    subst (λ (o : Option DerivedRow). StepByFits k o rows × (kept rows ≡ elimination_step_by k o rows)) (sym (no_first_pivot k rows h))
+    (subst (λ (xs : List DerivedRow). (AllByRecursion (HalvesFit k) rows × CombinedFits k xs) × (kept rows ≡ paired_off k xs)) (sym (halves_are_rows k rows h))
     (let c = combined_is k rows h in ((halves_fit k rows h, c.0), c.1)))
 
 -- ---- the columns from `used` on

@@ -14,10 +14,10 @@ use Rattle.lin_rows.specs.Sums.{is_zero, sum_kind, CanScale}
 use Rattle.lin_rows.specs.Combinations.{row_at, Multiplies, IsPart, combined}
 use Rattle.lin_rows.proofs.Ascending.{coefficient_first, coefficient_rest, HasNoZero}
 use Rattle.lin_rows.proofs.SummedLaws.{coefficient-scaled_sum, dot-scaled_sum, AscendsFrom-summed, HasNoZero-summed}
-use Rattle.fm_elim.specs.Derivations.{DerivedRow, nothing, plus_times, is_equality, is_empty, is_false_bound, is_false, refuting}
+use Rattle.fm_elim.specs.Derivations.{DerivedRow, nothing_derived, plus_times, is_equality, has_no_terms, is_false_bound, is_false, refuting}
 use Rattle.fm_elim.specs.Folds.{first}
-use Rattle.fm_elim.specs.Columns.{SetAside, step}
-use Rattle.fm_elim.specs.Elimination.{Outcome, refuted, point, unless_false, extended, solve}
+use Rattle.fm_elim.specs.Columns.{SetAside, elimination_step}
+use Rattle.fm_elim.specs.Elimination.{EliminationOutcome, refuted, point, unless_false, extended, solve}
 use Rattle.fm_elim.specs.Worth.{Combines}
 use Rattle.fm_elim.proofs.Lists.{all_first}
 use Rattle.fm_elim.proofs.Steps.{equality_is, step_keeps}
@@ -67,7 +67,7 @@ may_none Le = omega (arith, ints)
 may_none Eq = tt
 
 -- no row makes `0 <= 0`
-pub nothing_is_made : (given : List LinearRow) → IsMade given nothing
+pub nothing_is_made : (given : List LinearRow) → IsMade given nothing_derived
 nothing_is_made given = record {
   columns = λ c. refl;
   bound = refl;
@@ -148,10 +148,10 @@ AscendsFrom-opposite : (low : ℕ) (ts : List (ℕ × ℤ)) → AscendsFrom low 
 AscendsFrom-opposite low [] h = tt
 AscendsFrom-opposite low (t ∷ ts) h = (h.0, AscendsFrom-opposite (t.0 + 1) ts h.1)
 
-no_terms : (r : DerivedRow) → is_empty r.row.terms ≡ true → (c : ℕ) → coefficient c r.row.terms ≡ pos 0
+no_terms : (r : DerivedRow) → has_no_terms r.row.terms ≡ true → (c : ℕ) → coefficient c r.row.terms ≡ pos 0
 no_terms r e c = by_terms r.row.terms e
   where
-    by_terms : (ts : List (ℕ × ℤ)) → is_empty ts ≡ true → coefficient c ts ≡ pos 0
+    by_terms : (ts : List (ℕ × ℤ)) → has_no_terms ts ≡ true → coefficient c ts ≡ pos 0
     by_terms [] e = refl
     by_terms (t ∷ ts) e = absurd (cc)
 
@@ -174,7 +174,7 @@ not_zero_is (pos n) e h = by_test (nat_eq n 0) (eq-eqb n 0 (omega (arith, ints))
 not_zero_is (negsuc n) e h = absurd (omega (arith, ints))
 
 -- as the row says
-combines_as_it_is : (given : List LinearRow) (r : DerivedRow) → IsMade given r → is_empty r.row.terms ≡ true → r.row.bound <ℤ pos 0 → Combines given r.by.terms
+combines_as_it_is : (given : List LinearRow) (r : DerivedRow) → IsMade given r → has_no_terms r.row.terms ≡ true → r.row.bound <ℤ pos 0 → Combines given r.by.terms
 combines_as_it_is given r h e l = record {
   ascends = h.ascends;
   each = are_parts given r h;
@@ -183,7 +183,7 @@ combines_as_it_is given r h e l = record {
 }
 
 -- with the other sign
-combines_opposite : (given : List LinearRow) (r : DerivedRow) → IsMade given r → is_empty r.row.terms ≡ true → r.row.kind ≡ Eq → pos 0 <ℤ r.row.bound →
+combines_opposite : (given : List LinearRow) (r : DerivedRow) → IsMade given r → has_no_terms r.row.terms ≡ true → r.row.kind ≡ Eq → pos 0 <ℤ r.row.bound →
     Combines given (opposite r.by.terms)
 combines_opposite given r h e k l = record {
   ascends = AscendsFrom-opposite 0 r.by.terms h.ascends;
@@ -211,8 +211,8 @@ negative_bound Eq b e f = let n : b ≢ pos 0 = not_zero_is b e in let l : b ≤
 pub false_refutes : (given : List LinearRow) (r : DerivedRow) → IsMade given r → is_false r ≡ true → Combines given (refuting r)
 false_refutes given r h e = by_test (is_equality r.row.kind && int_lt (pos 0) r.row.bound) refl
   where
-    both : (is_empty r.row.terms ≡ true) × (is_false_bound r.row.kind r.row.bound ≡ true)
-    both = and_parts (is_empty r.row.terms) (is_false_bound r.row.kind r.row.bound) e
+    both : (has_no_terms r.row.terms ≡ true) × (is_false_bound r.row.kind r.row.bound ≡ true)
+    both = and_parts (has_no_terms r.row.terms) (is_false_bound r.row.kind r.row.bound) e
 
     by_test : (b : Bool) → (is_equality r.row.kind && int_lt (pos 0) r.row.bound) ≡ b → Combines given (if b then opposite r.by.terms else r.by.terms)
     by_test true d =
@@ -222,16 +222,16 @@ false_refutes given r h e = by_test (is_equality r.row.kind && int_lt (pos 0) r.
 
 -- ---- all columns
 
-abbrev pub IfRefuted : Outcome → (List (ℕ × ℤ) → Type 0) → Type 0
+abbrev pub IfRefuted : EliminationOutcome → (List (ℕ × ℤ) → Type 0) → Type 0
 IfRefuted (refuted parts) P = P parts
 IfRefuted (point values) P = Unit {0}
 
-unless_false_refutes : (given : List LinearRow) (o : Option DerivedRow) (rest : Outcome) →
+unless_false_refutes : (given : List LinearRow) (o : Option DerivedRow) (rest : EliminationOutcome) →
     MatchOption o (Unit {0}) (λ r. IsMade given r × (is_false r ≡ true)) → IfRefuted rest (Combines given) → IfRefuted (unless_false o rest) (Combines given)
 unless_false_refutes given None rest h i = i
 unless_false_refutes given (Some r) rest h i = false_refutes given r h.0 h.1
 
-extended_refutes : (given : List LinearRow) (k : ℕ) (a : SetAside) (o : Outcome) → IfRefuted o (Combines given) → IfRefuted (extended k a o) (Combines given)
+extended_refutes : (given : List LinearRow) (k : ℕ) (a : SetAside) (o : EliminationOutcome) → IfRefuted o (Combines given) → IfRefuted (extended k a o) (Combines given)
 extended_refutes given k a (refuted parts) h = h
 extended_refutes given k a (point values) h = tt
 
@@ -239,7 +239,7 @@ pub solve_refutes : (given : List LinearRow) (n : ℕ) (rows : List DerivedRow) 
 solve_refutes given zero rows h =
     unless_false_refutes given (first is_false rows) (point []) (all_first (IsMade given) is_false rows h) tt
 solve_refutes given (suc k) rows h =
-    unless_false_refutes given (first is_false rows) (extended k (step k rows).aside (solve k (step k rows).rows))
+    unless_false_refutes given (first is_false rows) (extended k (elimination_step k rows).aside (solve k (elimination_step k rows).rows))
     (all_first (IsMade given) is_false rows h)
-    (extended_refutes given k (step k rows).aside (solve k (step k rows).rows)
-    (solve_refutes given k (step k rows).rows (step_keeps (IsMade given) (nothing_is_made given) (sum_is_made given) k rows h)))
+    (extended_refutes given k (elimination_step k rows).aside (solve k (elimination_step k rows).rows)
+    (solve_refutes given k (elimination_step k rows).rows (step_keeps (IsMade given) (nothing_is_made given) (sum_is_made given) k rows h)))

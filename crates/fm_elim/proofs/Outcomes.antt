@@ -3,17 +3,17 @@ use Rattle.std.proofs.Common.{◌≡◌, ℕ, ◌-◌, ℤ, List, [], ◌∷◌,
 use Rattle.frac.specs.Fractions.{Fraction}
 use Rattle.fm_elim.specs.Derivations.{DerivedRow}
 use Rattle.fm_elim.specs.Columns.{SetAside}
-use Rattle.fm_elim.specs.Elimination.{Outcome, refuted, point, extended, ExtendedFits, solve, SolveFits}
+use Rattle.fm_elim.specs.Elimination.{EliminationOutcome, refuted, point, extended, ExtendedFits, solve, SolveFits}
 use Rattle.fm_elim.specs.Climb.{climb, ClimbFits, IsBottom}
 
 climb_refuted : (n : ℕ) (asides : List SetAside) (parts : List (ℕ × ℤ)) → climb n asides (refuted parts) ≡ refuted parts
 climb_refuted n [] parts = refl
-climb_refuted n (a ∷ rest) parts = ap (λ (o : Outcome). extended (n - 1) a o) (climb_refuted (n - 1) rest parts)
+climb_refuted n (a ∷ rest) parts = ap (λ (o : EliminationOutcome). extended (n - 1) a o) (climb_refuted (n - 1) rest parts)
 
 climb_fits_refuted : (n : ℕ) (asides : List SetAside) (parts : List (ℕ × ℤ)) → ClimbFits n asides (refuted parts)
 climb_fits_refuted n [] parts = tt
 climb_fits_refuted n (a ∷ rest) parts =
-    (climb_fits_refuted (n - 1) rest parts, subst (λ (o : Outcome). ExtendedFits (n - 1) a o) (sym (climb_refuted (n - 1) rest parts)) tt)
+    (climb_fits_refuted (n - 1) rest parts, subst (λ (o : EliminationOutcome). ExtendedFits (n - 1) a o) (sym (climb_refuted (n - 1) rest parts)) tt)
 
 -- a false row
 pub refuted_found : (n : ℕ) (rows : List DerivedRow) (asides : List SetAside) (parts : List (ℕ × ℤ)) → IsBottom n rows asides (refuted parts) →

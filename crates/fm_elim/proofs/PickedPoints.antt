@@ -8,7 +8,7 @@ use Rattle.lin_rows.specs.Tightening.{tightened}
 use Rattle.lin_rows.proofs.TighteningLaw.{tightened_is_row}
 use Rattle.fm_elim.specs.Derivations.{inputs}
 use Rattle.fm_elim.specs.Values.{value_at}
-use Rattle.fm_elim.specs.Elimination.{Outcome, refuted, point, elimination}
+use Rattle.fm_elim.specs.Elimination.{EliminationOutcome, refuted, point, elimination}
 use Rattle.fm_elim.specs.Worth.{HoldsAt, IsWorth}
 use Rattle.fm_elim.specs.Slices.{InSlice, IsPicked, IsPoint, IsPickedOutcome}
 use Rattle.fm_elim.proofs.Lists.{all_weaker, all_parts}
@@ -65,7 +65,7 @@ from_point n rows values h = record {
   };
 }
 
-outcome_picked : (n : ℕ) (rows : List LinearRow) (o : Outcome) → IsWorth n (map tightened rows) o → IfPoint o (IsPicked (IsOne n (inputs 0 rows))) →
+outcome_picked : (n : ℕ) (rows : List LinearRow) (o : EliminationOutcome) → IsWorth n (map tightened rows) o → IfPoint o (IsPicked (IsOne n (inputs 0 rows))) →
     IsPickedOutcome n (map tightened rows) o
 outcome_picked n rows (refuted parts) w h = no_point (map tightened rows) parts w
 outcome_picked n rows (point values) w h =

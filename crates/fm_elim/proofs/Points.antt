@@ -20,10 +20,10 @@ use Rattle.lin_rows.proofs.SummedLaws.{dot-scaled_sum}
 use Rattle.lin_rows.proofs.HoldsLaws.{stands_as_inequality}
 use Rattle.fm_elim.specs.Quotients.{common, nearest}
 use Rattle.fm_elim.specs.Folds.{first, others}
-use Rattle.fm_elim.specs.Derivations.{DerivedRow, nothing, plus_times, at, has, is_upper, is_lower, is_equality, is_empty, is_false_bound, is_false}
-use Rattle.fm_elim.specs.Columns.{is_pivot, clearing, cleared, halves, share, other_share, pair, pairs, combined, step_by, step}
-use Rattle.fm_elim.specs.Values.{end_of, raised, lowered, lower_end, upper_end, value_of}
-use Rattle.fm_elim.specs.Elimination.{Outcome, refuted, point, unless_false, extended, solve}
+use Rattle.fm_elim.specs.Derivations.{DerivedRow, nothing_derived, plus_times, at, has, is_upper, is_lower, is_equality, has_no_terms, is_false_bound, is_false}
+use Rattle.fm_elim.specs.Columns.{is_pivot, clearing, cleared, halves, share, other_share, pair, pairs, paired_off, elimination_step_by, elimination_step}
+use Rattle.fm_elim.specs.Values.{end_of, raised, lowered_end, lower_end, upper_end, value_of}
+use Rattle.fm_elim.specs.Elimination.{EliminationOutcome, refuted, point, unless_false, extended, solve}
 use Rattle.fm_elim.specs.Worth.{HoldsAt}
 use Rattle.fm_elim.proofs.Lists.{all_append, all_parts, all_weaker, all_both, all_always, all_mapped, all_flat_mapped, all_filter, all_filtered, all_first, none_first, all_of_others, all_swap}
 use Rattle.fm_elim.proofs.Steps.{equality_is}
@@ -157,7 +157,7 @@ halves_are_inequalities k r = by_test (is_equality r.row.kind && has k r) refl
     by_kind Eq b e f = absurd (cc)
 
     by_test : (b : Bool) → (is_equality r.row.kind && has k r) ≡ b →
-        AllByRecursion (IsInequality k) (if b then plus_times nothing (pos 1) r ∷ plus_times nothing (negsuc 0) r ∷ [] else r ∷ [])
+        AllByRecursion (IsInequality k) (if b then plus_times nothing_derived (pos 1) r ∷ plus_times nothing_derived (negsuc 0) r ∷ [] else r ∷ [])
     by_test true e = (λ f. le_sum r.row.kind, (λ f. le_sum r.row.kind, tt))
     by_test false e = (λ f. by_kind r.row.kind (has k r) e f, tt)
 
@@ -165,7 +165,7 @@ halves_are_inequalities k r = by_test (is_equality r.row.kind && has k r) refl
 halves_hold : (d : ℤ) (p : ℕ → ℤ) (k : ℕ) (r : DerivedRow) → AllByRecursion (RowHolds d p) (halves k r) → RowHolds d p r
 halves_hold d p k r h = by_test (is_equality r.row.kind && has k r) refl h
   where
-    half : (m : ℤ) → RowHolds d p (plus_times nothing m r) → (pos 0 +ℤ (m *ℤ dot p r.row.terms)) ≤ℤ ((pos 0 +ℤ (m *ℤ r.row.bound)) *ℤ d)
+    half : (m : ℤ) → RowHolds d p (plus_times nothing_derived m r) → (pos 0 +ℤ (m *ℤ dot p r.row.terms)) ≤ℤ ((pos 0 +ℤ (m *ℤ r.row.bound)) *ℤ d)
     half m i =
         let a : dot p (summed ([] ++ scaled m r.row.terms)) ≡ pos 0 +ℤ (m *ℤ dot p r.row.terms) = dot-scaled_sum p [] m r.row.terms in
         let b : dot p (summed ([] ++ scaled m r.row.terms)) ≤ℤ ((pos 0 +ℤ (m *ℤ r.row.bound)) *ℤ d) =
@@ -187,7 +187,7 @@ halves_hold d p k r h = by_test (is_equality r.row.kind && has k r) refl h
         omega (arith, ints)
 
     by_test : (b : Bool) → (is_equality r.row.kind && has k r) ≡ b →
-        AllByRecursion (RowHolds d p) (if b then plus_times nothing (pos 1) r ∷ plus_times nothing (negsuc 0) r ∷ [] else r ∷ []) → RowHolds d p r
+        AllByRecursion (RowHolds d p) (if b then plus_times nothing_derived (pos 1) r ∷ plus_times nothing_derived (negsuc 0) r ∷ [] else r ∷ []) → RowHolds d p r
     by_test true e i =
         let q : r.row.kind ≡ Eq = equality_is r.row.kind (and_parts (is_equality r.row.kind) (has k r) e).0 in
         subst (λ (kind : RowKind). Stands kind (dot p r.row.terms) (r.row.bound *ℤ d)) (sym q) (both (half (pos 1) i.0) (half (negsuc 0) i.1.0))
@@ -220,7 +220,7 @@ best_low k values rows h =
 pub best_up : (k : ℕ) (values : List Fraction) (rows : List DerivedRow) → AllByRecursion (λ r. pos 0 <ℤ (end_of k values r).den) rows →
     IsBest AtLeast (end_of k values) (upper_end k values rows) rows
 best_up k values rows h =
-    best_is AtLeast at_most_refl (λ a b c i j. at_most_trans c b a j i) (λ a b i. i.left) less less_left less_right less_greatest (end_of k values) (lowered k values) (λ r. refl) (λ m r. refl) rows h
+    best_is AtLeast at_most_refl (λ a b c i j. at_most_trans c b a j i) (λ a b i. i.left) less less_left less_right less_greatest (end_of k values) (lowered_end k values) (λ r. refl) (λ m r. refl) rows h
 
 -- what is known of each row after splitting
 abbrev IsWithin : ℤ → (ℕ → ℤ) → ℕ → List Fraction → Fraction → DerivedRow → Type 0
@@ -250,8 +250,8 @@ row_within d p k values v r a z q h = by_upper (is_upper k r) refl
     by_upper false e = by_lower (is_lower k r) e refl
 
 bounded_holds : (d : ℤ) (p : ℕ → ℤ) (k : ℕ) (values : List Fraction) (all : List DerivedRow) → AreValues values d p → p k ≡ pos 0 →
-    AllByRecursion (IsInequality k) all → AllByRecursion (RowHolds d p) (combined k all).rows →
-    let v = value_of k values (combined k all).aside in (pos 0 <ℤ v.den) × AllByRecursion (RowHolds (d *ℤ v.den) (wider d p k v)) all
+    AllByRecursion (IsInequality k) all → AllByRecursion (RowHolds d p) (paired_off k all).rows →
+    let v = value_of k values (paired_off k all).aside in (pos 0 <ℤ v.den) × AllByRecursion (RowHolds (d *ℤ v.den) (wider d p k v)) all
 bounded_holds d p k values all a z kinds h =
     let f : DerivedRow → Fraction = end_of k values in
     let lows : List DerivedRow = filter (is_lower k) all in
@@ -339,12 +339,12 @@ forced_all d p k values e rows a z f t h =
 -- ---- one column
 
 step_by_holds : (d : ℤ) (p : ℕ → ℤ) (k : ℕ) (values : List Fraction) (o : Option DerivedRow) (rows : List DerivedRow) → AreValues values d p → p k ≡ pos 0 →
-    first (is_pivot k) rows ≡ o → MatchOption o (Unit {0}) (λ e. Anything e × (is_pivot k e ≡ true)) → AllByRecursion (RowHolds d p) (step_by k o rows).rows →
-    let v = value_of k values (step_by k o rows).aside in (pos 0 <ℤ v.den) × AllByRecursion (RowHolds (d *ℤ v.den) (wider d p k v)) rows
+    first (is_pivot k) rows ≡ o → MatchOption o (Unit {0}) (λ e. Anything e × (is_pivot k e ≡ true)) → AllByRecursion (RowHolds d p) (elimination_step_by k o rows).rows →
+    let v = value_of k values (elimination_step_by k o rows).aside in (pos 0 <ℤ v.den) × AllByRecursion (RowHolds (d *ℤ v.den) (wider d p k v)) rows
 step_by_holds d p k values (Some e) rows a z f t h = forced_all d p k values e rows a z f t.1 h
 step_by_holds d p k values None rows a z f t h =
     let all : List DerivedRow = flat_map (halves k) rows in
-    let v : Fraction = value_of k values (combined k all).aside in
+    let v : Fraction = value_of k values (paired_off k all).aside in
     let kinds : AllByRecursion (IsInequality k) all = kinds_of rows in
     let b = bounded_holds d p k values all a z kinds h in (
       b.0,
@@ -367,14 +367,14 @@ pub record MeetsRows (n : ℕ) (rows : List DerivedRow) (values : List Fraction)
   pub are_values : AreValues values d p
   pub holds : AllByRecursion (RowHolds d p) rows
 
-abbrev pub IfPoint : Outcome → (List Fraction → Type 0) → Type 0
+abbrev pub IfPoint : EliminationOutcome → (List Fraction → Type 0) → Type 0
 IfPoint (refuted parts) P = Unit {0}
 IfPoint (point values) P = P values
 
-pub step_meets : (k : ℕ) (rows : List DerivedRow) (values : List Fraction) → MeetsRows k (step k rows).rows values →
-    MeetsRows (suc k) rows (values ++ value_of k values (step k rows).aside ∷ [])
+pub step_meets : (k : ℕ) (rows : List DerivedRow) (values : List Fraction) → MeetsRows k (elimination_step k rows).rows values →
+    MeetsRows (suc k) rows (values ++ value_of k values (elimination_step k rows).aside ∷ [])
 step_meets k rows values m =
-    let v : Fraction = value_of k values (step k rows).aside in
+    let v : Fraction = value_of k values (elimination_step k rows).aside in
     let z : m.p k ≡ pos 0 = none_at_end k values m.d m.p m.columns m.are_values in
     let s = step_by_holds m.d m.p k values (first (is_pivot k) rows) rows m.are_values z refl
     (all_first Anything (is_pivot k) rows (all_always Anything rows (λ r. tt))) m.holds in
@@ -389,17 +389,17 @@ step_meets k rows values m =
       holds = s.1;
     }
 
-extended_meets : (k : ℕ) (rows : List DerivedRow) (o : Outcome) → IfPoint o (MeetsRows k (step k rows).rows) →
-    IfPoint (extended k (step k rows).aside o) (MeetsRows (suc k) rows)
+extended_meets : (k : ℕ) (rows : List DerivedRow) (o : EliminationOutcome) → IfPoint o (MeetsRows k (elimination_step k rows).rows) →
+    IfPoint (extended k (elimination_step k rows).aside o) (MeetsRows (suc k) rows)
 extended_meets k rows (refuted parts) h = tt
 extended_meets k rows (point values) h = step_meets k rows values h
 
-pub unless_false_meets : (o : Option DerivedRow) (rest : Outcome) (P : List Fraction → Type 0) → (o ≡ None → IfPoint rest P) → IfPoint (unless_false o rest) P
+pub unless_false_meets : (o : Option DerivedRow) (rest : EliminationOutcome) (P : List Fraction → Type 0) → (o ≡ None → IfPoint rest P) → IfPoint (unless_false o rest) P
 unless_false_meets None rest P h = h refl
 unless_false_meets (Some r) rest P h = tt
 
 no_columns : (terms : List (ℕ × ℤ)) (kind : RowKind) (bound : ℤ) → AscendsFrom 0 terms → HasNoZero terms → ((c : ℕ) → coefficient c terms ≡ pos 0) →
-    (is_empty terms && is_false_bound kind bound) ≡ false → Stands kind (dot (λ c. pos 0) terms) (bound *ℤ pos 1)
+    (has_no_terms terms && is_false_bound kind bound) ≡ false → Stands kind (dot (λ c. pos 0) terms) (bound *ℤ pos 1)
 no_columns [] Le bound a n c e =
     let l : pos 0 ≤ℤ bound = not_less_is bound (pos 0) e in
     let o : bound *ℤ pos 1 ≡ bound = product_one_right bound in
@@ -427,6 +427,6 @@ pub solve_meets : (n : ℕ) (rows : List DerivedRow) → AllByRecursion (IsClear
 solve_meets zero rows c o =
     unless_false_meets (first is_false rows) (point []) (MeetsRows 0 rows) (λ e. none_meets rows c o e)
 solve_meets (suc k) rows c o =
-    unless_false_meets (first is_false rows) (extended k (step k rows).aside (solve k (step k rows).rows)) (MeetsRows (suc k) rows)
-    (λ e. extended_meets k rows (solve k (step k rows).rows)
-    (solve_meets k (step k rows).rows (step_is_clear k rows c) (step_is_ordered k rows o)))
+    unless_false_meets (first is_false rows) (extended k (elimination_step k rows).aside (solve k (elimination_step k rows).rows)) (MeetsRows (suc k) rows)
+    (λ e. extended_meets k rows (solve k (elimination_step k rows).rows)
+    (solve_meets k (elimination_step k rows).rows (step_is_clear k rows c) (step_is_ordered k rows o)))

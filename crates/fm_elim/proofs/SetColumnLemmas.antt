@@ -5,7 +5,7 @@ use Rattle.std.specs.List.{filter, flat_map}
 use Rattle.std.proofs.lemmas.Int.{ints}
 use Rattle.fm_elim.specs.Folds.{first}
 use Rattle.fm_elim.specs.Derivations.{DerivedRow, at, is_upper, is_lower}
-use Rattle.fm_elim.specs.Columns.{is_pivot, halves, step_by, step}
+use Rattle.fm_elim.specs.Columns.{is_pivot, halves, elimination_step_by, elimination_step}
 use Rattle.fm_elim.specs.Climb.{SetsColumn}
 use Rattle.fm_elim.proofs.Lists.{all_weaker, all_always, all_first}
 use Rattle.fm_elim.proofs.Multipliers.{less_is}
@@ -22,7 +22,7 @@ lower_nonzero : (z : ℤ) → z <ℤ pos 0 → z ≢ pos 0
 lower_nonzero z h e = omega (arith, ints)
 
 step_by_sets : (k : ℕ) (o : Option DerivedRow) (rows : List DerivedRow) → MatchOption o (Unit {0}) (λ e. Anything e × (is_pivot k e ≡ true)) →
-    SetsColumn k (step_by k o rows).aside
+    SetsColumn k (elimination_step_by k o rows).aside
 step_by_sets k (Some e) rows h = unit_nonzero (at k e) (pivot_is_unit k e h.1)
 step_by_sets k None rows h =
     let all : List DerivedRow = flat_map (halves k) rows in (
@@ -30,5 +30,5 @@ step_by_sets k None rows h =
       all_weaker (λ r. is_upper k r ≡ true) (λ r. at k r ≢ pos 0) (filter (is_upper k) all) (λ r i. upper_nonzero (at k r) (less_is (pos 0) (at k r) i)) (passing (is_upper k) all),
     )
 
-pub step_sets : (k : ℕ) (rows : List DerivedRow) → SetsColumn k (step k rows).aside
+pub step_sets : (k : ℕ) (rows : List DerivedRow) → SetsColumn k (elimination_step k rows).aside
 step_sets k rows = step_by_sets k (first (is_pivot k) rows) rows (all_first Anything (is_pivot k) rows (all_always Anything rows (λ r. tt)))

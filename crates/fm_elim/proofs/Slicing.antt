@@ -17,12 +17,12 @@ use Rattle.lin_rows.specs.declared.types.RowKind.TheVariants.{Eq}
 use Rattle.lin_rows.specs.Rows.{LinearRow, Stands}
 use Rattle.lin_rows.specs.Sums.{sum_kind, CanScale}
 use Rattle.lin_rows.proofs.HoldsLaws.{holds-scaled_sum, stands_as_inequality}
-use Rattle.fm_elim.specs.Quotients.{whole, minus, is_less, floor, ceiling, nearest}
+use Rattle.fm_elim.specs.Quotients.{whole, fraction_minus, is_less, floor, ceiling, nearest}
 use Rattle.fm_elim.specs.Folds.{first}
-use Rattle.fm_elim.specs.Derivations.{DerivedRow, nothing, plus_times, at, is_upper, is_lower, is_equality, is_false}
-use Rattle.fm_elim.specs.Columns.{is_pivot, halves, step_by, step}
+use Rattle.fm_elim.specs.Derivations.{DerivedRow, nothing_derived, plus_times, at, is_upper, is_lower, is_equality, is_false}
+use Rattle.fm_elim.specs.Columns.{is_pivot, halves, elimination_step_by, elimination_step}
 use Rattle.fm_elim.specs.Values.{value_at, sum_of, end_of, greater_end, less_end, raised, lower_end, upper_end, value_of}
-use Rattle.fm_elim.specs.Elimination.{Outcome, refuted, point, extended, solve}
+use Rattle.fm_elim.specs.Elimination.{EliminationOutcome, refuted, point, extended, solve}
 use Rattle.fm_elim.specs.Slices.{IsPick, InSlice, IsPicked}
 use Rattle.fm_elim.proofs.Lists.{all_append, all_parts, all_weaker, all_both, all_always, all_flat_map, all_filter, all_first}
 use Rattle.fm_elim.proofs.Steps.{equality_is, halves_keep, step_keeps}
@@ -43,7 +43,7 @@ pub record IsOne (n : ℕ) (rows : List DerivedRow) (values : List Fraction) : T
 
 -- ---- rows that hold make rows that hold
 
-nothing_holds : (d : ℤ) (p : ℕ → ℤ) → RowHolds d p nothing
+nothing_holds : (d : ℤ) (p : ℕ → ℤ) → RowHolds d p nothing_derived
 nothing_holds d p = let z : pos 0 *ℤ d ≡ pos 0 = product_zero_left d in (let l : pos 0 ≤ℤ (pos 0 *ℤ d) = omega (arith, ints) in l)
 
 sum_holds : (d : ℤ) (p : ℕ → ℤ) (a : DerivedRow) (m : ℤ) (b : DerivedRow) → CanScale m b.row.kind → RowHolds d p a → RowHolds d p b → RowHolds d p (plus_times a m b)
@@ -101,7 +101,7 @@ length_last values w k e =
 
 -- a point without its last value meets the rows without the column
 pub shorter_meets : (k : ℕ) (rows : List DerivedRow) (values : List Fraction) (w : Fraction) → MeetsRows (suc k) rows (values ++ w ∷ []) →
-    MeetsRows k (step k rows).rows values
+    MeetsRows k (elimination_step k rows).rows values
 shorter_meets k rows values w m =
     let e : length values ≡ k = length_last values w k m.columns in
     record {
@@ -110,8 +110,8 @@ shorter_meets k rows values w m =
       p = without m.p k;
       are_values = shorter_values k values w m.d m.p e m.are_values;
       holds =
-          all_weaker (λ r. RowHolds m.d m.p r × Lacks k r) (RowHolds m.d (without m.p k)) (step k rows).rows (λ r i. holds_without m.d m.p k r i.1 i.0)
-          (all_both (RowHolds m.d m.p) (Lacks k) (step k rows).rows
+          all_weaker (λ r. RowHolds m.d m.p r × Lacks k r) (RowHolds m.d (without m.p k)) (elimination_step k rows).rows (λ r i. holds_without m.d m.p k r i.1 i.0)
+          (all_both (RowHolds m.d m.p) (Lacks k) (elimination_step k rows).rows
           (step_keeps (RowHolds m.d m.p) (nothing_holds m.d m.p) (sum_holds m.d m.p) k rows m.holds) (step_lacks k rows));
     }
 
@@ -176,7 +176,7 @@ at_forced a d q rest w end n p i j h v x =
 
 end_lowest : (k : ℕ) (values : List Fraction) (d : ℤ) (p : ℕ → ℤ) (r : DerivedRow) → AreValues values d p → p k ≡ pos 0 → at k r ≢ pos 0 → IsLowest (end_of k values r)
 end_lowest k values d p r v z n =
-    let x : Fraction = minus (whole r.row.bound) (sum_of k values r.row.terms) in
+    let x : Fraction = fraction_minus (whole r.row.bound) (sum_of k values r.row.terms) in
     let i : Is x (room d p r) d =
     minus_is (whole r.row.bound) (sum_of k values r.row.terms) (r.row.bound *ℤ d) (dot p r.row.terms) d (whole_is r.row.bound d) (sum_is k values d p r.row.terms v z) in
     lowest (x.num *ℤ pos 1) (x.den *ℤ at k r) (product_nonzero x.den (at k r) (positive_is_not_zero x.den i.positive) n)
@@ -218,7 +218,7 @@ nearest_lowest (Some l) (Some u) h = by_test (int_le (ceiling l) (floor u))
 -- ---- the value of a column is the pick of what the values before it leave
 
 aside_lowest : (k : ℕ) (values : List Fraction) (d : ℤ) (p : ℕ → ℤ) (o : Option DerivedRow) (rows : List DerivedRow) → AreValues values d p → p k ≡ pos 0 →
-    MatchOption o (Unit {0}) (λ e. Anything e × (is_pivot k e ≡ true)) → IsLowest (value_of k values (step_by k o rows).aside)
+    MatchOption o (Unit {0}) (λ e. Anything e × (is_pivot k e ≡ true)) → IsLowest (value_of k values (elimination_step_by k o rows).aside)
 aside_lowest k values d p (Some e) rows a z t = end_lowest k values d p e a z (unit_nonzero (at k e) (pivot_is_unit k e t.1))
 aside_lowest k values d p None rows a z t =
     let all : List DerivedRow = flat_map (halves k) rows in
@@ -231,19 +231,19 @@ aside_lowest k values d p None rows a z t =
 pivot_first : (k : ℕ) (rows : List DerivedRow) → MatchOption (first (is_pivot k) rows) (Unit {0}) (λ e. Anything e × (is_pivot k e ≡ true))
 pivot_first k rows = all_first Anything (is_pivot k) rows (all_always Anything rows (λ r. tt))
 
-longer_one : (k : ℕ) (rows : List DerivedRow) (values : List Fraction) → IsOne k (step k rows).rows values →
-    IsOne (suc k) rows (values ++ value_of k values (step k rows).aside ∷ [])
+longer_one : (k : ℕ) (rows : List DerivedRow) (values : List Fraction) → IsOne k (elimination_step k rows).rows values →
+    IsOne (suc k) rows (values ++ value_of k values (elimination_step k rows).aside ∷ [])
 longer_one k rows values h =
-    let m : MeetsRows k (step k rows).rows values = h.meets in
+    let m : MeetsRows k (elimination_step k rows).rows values = h.meets in
     let z : m.p k ≡ pos 0 = none_at_end k values m.d m.p m.columns m.are_values in
     record {
       lowest =
-          all_append IsLowest values (value_of k values (step k rows).aside ∷ []) h.lowest
+          all_append IsLowest values (value_of k values (elimination_step k rows).aside ∷ []) h.lowest
           (aside_lowest k values m.d m.p (first (is_pivot k) rows) rows m.are_values z (pivot_first k rows), tt);
       meets = step_meets k rows values m;
     }
 
-shorter_one : (k : ℕ) (rows : List DerivedRow) (values : List Fraction) (w : Fraction) → IsOne (suc k) rows (values ++ w ∷ []) → IsOne k (step k rows).rows values
+shorter_one : (k : ℕ) (rows : List DerivedRow) (values : List Fraction) (w : Fraction) → IsOne (suc k) rows (values ++ w ∷ []) → IsOne k (elimination_step k rows).rows values
 shorter_one k rows values w h = record { lowest = (all_parts IsLowest values (w ∷ []) h.lowest).0; meets = shorter_meets k rows values w h.meets }
 
 -- what lies between all ends lies between the best ones
@@ -319,8 +319,8 @@ ends_by k rows values w e s =
     subst (λ (rest : List Fraction). IsOne (suc k) rows (values ++ w ∷ rest)) (no_more k values w s.0 e s.1.meets.columns) s.1
 
 last_by : (k : ℕ) (rows : List DerivedRow) (values : List Fraction) (o : Option DerivedRow) → length values ≡ k → first (is_pivot k) rows ≡ o →
-    MatchOption o (Unit {0}) (λ e. Anything e × (is_pivot k e ≡ true)) → InSlice (IsOne (suc k) rows) values (value_of k values (step_by k o rows).aside) →
-    IsPick (InSlice (IsOne (suc k) rows) values) (value_of k values (step_by k o rows).aside)
+    MatchOption o (Unit {0}) (λ e. Anything e × (is_pivot k e ≡ true)) → InSlice (IsOne (suc k) rows) values (value_of k values (elimination_step_by k o rows).aside) →
+    IsPick (InSlice (IsOne (suc k) rows) values) (value_of k values (elimination_step_by k o rows).aside)
 last_by k rows values (Some e) l g t m =
     only_is_pick (InSlice (IsOne (suc k) rows) values) (end_of k values e) m (λ w s. forced_is k rows values w e g t.1 (ends_by k rows values w l s))
 last_by k rows values None l g t m =
@@ -328,8 +328,8 @@ last_by k rows values None l g t m =
     nearest_is_pick (InSlice (IsOne (suc k) rows) values) (lower_end k values (filter (is_lower k) all)) (upper_end k values (filter (is_upper k) all))
     (λ w s. bounded_lies k rows values w (ends_by k rows values w l s).meets) m
 
-last_pick : (k : ℕ) (rows : List DerivedRow) (values : List Fraction) → IsOne k (step k rows).rows values →
-    IsPick (InSlice (IsOne (suc k) rows) values) (value_of k values (step k rows).aside)
+last_pick : (k : ℕ) (rows : List DerivedRow) (values : List Fraction) → IsOne k (elimination_step k rows).rows values →
+    IsPick (InSlice (IsOne (suc k) rows) values) (value_of k values (elimination_step k rows).aside)
 last_pick k rows values q =
     last_by k rows values (first (is_pivot k) rows) q.meets.columns refl (pivot_first k rows) ([], longer_one k rows values q)
 
@@ -363,16 +363,16 @@ last_of x (z ∷ zs) = let r = last_of z zs in (x ∷ r.0, (r.1.0, ap (λ (l : L
 -- ---- all columns
 
 -- the points of the rows and of what a step leaves have the same slices
-slice_longer : (k : ℕ) (rows : List DerivedRow) (before : List Fraction) (u : Fraction) → InSlice (IsOne k (step k rows).rows) before u → InSlice (IsOne (suc k) rows) before u
+slice_longer : (k : ℕ) (rows : List DerivedRow) (before : List Fraction) (u : Fraction) → InSlice (IsOne k (elimination_step k rows).rows) before u → InSlice (IsOne (suc k) rows) before u
 slice_longer k rows before u s =
-    let v : Fraction = value_of k (before ++ u ∷ s.0) (step k rows).aside in
+    let v : Fraction = value_of k (before ++ u ∷ s.0) (elimination_step k rows).aside in
     (s.0 ++ v ∷ [], subst (IsOne (suc k) rows) (append_assoc before (u ∷ s.0) (v ∷ [])) (longer_one k rows (before ++ u ∷ s.0) s.1))
 
 slice_shorter : (k : ℕ) (rows : List DerivedRow) (before : List Fraction) (u : Fraction) → length before < k → InSlice (IsOne (suc k) rows) before u →
-    InSlice (IsOne k (step k rows).rows) before u
+    InSlice (IsOne k (elimination_step k rows).rows) before u
 slice_shorter k rows before u l s = by_rest s.0 s.1
   where
-    by_rest : (rest : List Fraction) → IsOne (suc k) rows (before ++ u ∷ rest) → InSlice (IsOne k (step k rows).rows) before u
+    by_rest : (rest : List Fraction) → IsOne (suc k) rows (before ++ u ∷ rest) → InSlice (IsOne k (elimination_step k rows).rows) before u
     by_rest [] q =
         let e : length (before ++ u ∷ []) ≡ suc k = q.meets.columns in
         let f : length (before ++ u ∷ []) ≡ length before + length (u ∷ []) = length-append before (u ∷ []) in
@@ -384,25 +384,25 @@ slice_shorter k rows before u l s = by_rest s.0 s.1
         ap (λ (ys : List Fraction). before ++ u ∷ ys) r.1.1 ∙ sym (append_assoc before (u ∷ r.0) (r.1.0 ∷ [])) in
         (r.0, shorter_one k rows (before ++ u ∷ r.0) r.1.0 (subst (IsOne (suc k) rows) e q))
 
-extended_picked : (k : ℕ) (rows : List DerivedRow) (o : Outcome) → IfPoint o (IsPicked (IsOne k (step k rows).rows)) →
-    IfPoint (extended k (step k rows).aside o) (IsPicked (IsOne (suc k) rows))
+extended_picked : (k : ℕ) (rows : List DerivedRow) (o : EliminationOutcome) → IfPoint o (IsPicked (IsOne k (elimination_step k rows).rows)) →
+    IfPoint (extended k (elimination_step k rows).aside o) (IsPicked (IsOne (suc k) rows))
 extended_picked k rows (refuted parts) h = tt
 extended_picked k rows (point values) h = record {
   one = longer_one k rows values h.one;
-  picks = λ before w rest e. at_place before w (place_of values (value_of k values (step k rows).aside) before w rest e);
+  picks = λ before w rest e. at_place before w (place_of values (value_of k values (elimination_step k rows).aside) before w rest e);
 }
   where
-    at_place : (before : List Fraction) (w : Fraction) → IsPlace values (value_of k values (step k rows).aside) before w → IsPick (InSlice (IsOne (suc k) rows) before) w
+    at_place : (before : List Fraction) (w : Fraction) → IsPlace values (value_of k values (elimination_step k rows).aside) before w → IsPick (InSlice (IsOne (suc k) rows) before) w
     at_place before w (inl s) =
         subst (λ (x : Fraction). IsPick (InSlice (IsOne (suc k) rows) before) x) s.1
-        (subst (λ (ys : List Fraction). IsPick (InSlice (IsOne (suc k) rows) ys) (value_of k values (step k rows).aside)) s.0 (last_pick k rows values h.one))
+        (subst (λ (ys : List Fraction). IsPick (InSlice (IsOne (suc k) rows) ys) (value_of k values (elimination_step k rows).aside)) s.0 (last_pick k rows values h.one))
     at_place before w (inr s) =
         let c : length values ≡ k = h.one.meets.columns in
         let e : length values ≡ length (before ++ w ∷ s.0) = ap (λ (ys : List Fraction). length ys) s.1 in
         let f : length (before ++ w ∷ s.0) ≡ length before + length (w ∷ s.0) = length-append before (w ∷ s.0) in
         let g : length (w ∷ s.0) ≡ suc (length s.0) = refl in
         let l : length before < k = omega arith in
-        pick_of_same (InSlice (IsOne k (step k rows).rows) before) (InSlice (IsOne (suc k) rows) before) w
+        pick_of_same (InSlice (IsOne k (elimination_step k rows).rows) before) (InSlice (IsOne (suc k) rows) before) w
         (slice_longer k rows before) (λ u q. slice_shorter k rows before u l q) (h.picks before w s.0 s.1)
 
 -- the elimination of derived rows finds their picked point
@@ -414,6 +414,6 @@ solve_picked zero rows c o =
       picks = λ before v rest h. absurd (nil_is_no_middle before v rest h);
     })
 solve_picked (suc k) rows c o =
-    unless_false_meets (first is_false rows) (extended k (step k rows).aside (solve k (step k rows).rows)) (IsPicked (IsOne (suc k) rows))
-    (λ e. extended_picked k rows (solve k (step k rows).rows)
-    (solve_picked k (step k rows).rows (step_is_clear k rows c) (step_is_ordered k rows o)))
+    unless_false_meets (first is_false rows) (extended k (elimination_step k rows).aside (solve k (elimination_step k rows).rows)) (IsPicked (IsOne (suc k) rows))
+    (λ e. extended_picked k rows (solve k (elimination_step k rows).rows)
+    (solve_picked k (elimination_step k rows).rows (step_is_clear k rows c) (step_is_ordered k rows o)))

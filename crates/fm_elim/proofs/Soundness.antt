@@ -9,7 +9,7 @@ use Rattle.fm_elim.specs.declared.types.Elim.{Elim}
 use Rattle.fm_elim.specs.declared.types.ElimFault.{ElimFault}
 use Rattle.fm_elim.specs.Answers.{Exactly, outcome_of}
 use Rattle.fm_elim.specs.Derivations.{DerivedRow, inputs}
-use Rattle.fm_elim.specs.Elimination.{Outcome, refuted, point, elimination, solve, SolveFits}
+use Rattle.fm_elim.specs.Elimination.{EliminationOutcome, refuted, point, elimination, solve, SolveFits}
 use Rattle.fm_elim.specs.Worth.{Combines, HoldsAt, IsWorth}
 use Rattle.fm_elim.proofs.Lists.{all_weaker}
 use Rattle.fm_elim.proofs.Multipliers.{IfRefuted, solve_refutes}
@@ -20,7 +20,7 @@ pub inputs_hold : (d : ℤ) (p : ℕ → ℤ) (n : ℕ) (rows : List LinearRow) 
 inputs_hold d p n [] h = tt
 inputs_hold d p n (r ∷ rs) h = (h.0, inputs_hold d p (suc n) rs h.1)
 
-worth_of : (n : ℕ) (rows : List LinearRow) (o : Outcome) → IfRefuted o (Combines (map tightened rows)) → IfPoint o (MeetsRows n (inputs 0 rows)) →
+worth_of : (n : ℕ) (rows : List LinearRow) (o : EliminationOutcome) → IfRefuted o (Combines (map tightened rows)) → IfPoint o (MeetsRows n (inputs 0 rows)) →
     IsWorth n (map tightened rows) o
 worth_of n rows (refuted parts) h m = h
 worth_of n rows (point values) h m = record {
@@ -44,5 +44,5 @@ rows_are_worth n rows v b = is_worth n rows (all_weaker IsRow (λ r. IsRow (tigh
 pub worth_found : (n : ℕ) (rows : List LinearRow) (derived : List DerivedRow) (o : Result Elim ElimFault) → AllByRecursion (λ r. IsRow (tightened r)) rows → RowsBelow n rows →
     derived ≡ inputs 0 rows → Exactly o (λ e. outcome_of e ≡ solve n derived) (SolveFits n derived) → IfOk o (λ e. IsWorth n (map tightened rows) (outcome_of e))
 worth_found n rows derived (Ok e) v b d h =
-    subst (λ (x : Outcome). IsWorth n (map tightened rows) x) (sym (h.1 ∙ ap (λ (xs : List DerivedRow). solve n xs) d)) (is_worth n rows v b)
+    subst (λ (x : EliminationOutcome). IsWorth n (map tightened rows) x) (sym (h.1 ∙ ap (λ (xs : List DerivedRow). solve n xs) d)) (is_worth n rows v b)
 worth_found n rows derived (Err f) v b d h = tt

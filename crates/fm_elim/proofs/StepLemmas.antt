@@ -9,8 +9,8 @@ use Rattle.fm_elim.specs.declared.types.ElimFault.TheVariants.{Past, Memory}
 use Rattle.fm_elim.specs.Answers.{Exactly}
 use Rattle.fm_elim.specs.Quotients.{common}
 use Rattle.fm_elim.specs.Folds.{first, others}
-use Rattle.fm_elim.specs.Derivations.{DerivedRow, nothing, plus_times, PlusTimesFits, at, is_upper}
-use Rattle.fm_elim.specs.Columns.{forced, Eliminated, is_pivot, cleared, ClearedFits, halves, HalvesFit, share, other_share, pair, PairFits, combined, CombinedFits, step_by, StepByFits, step, StepFits}
+use Rattle.fm_elim.specs.Derivations.{DerivedRow, nothing_derived, plus_times, PlusTimesFits, at, is_upper}
+use Rattle.fm_elim.specs.Columns.{forced, Eliminated, is_pivot, cleared, ClearedFits, halves, HalvesFit, share, other_share, pair, PairFits, paired_off, CombinedFits, elimination_step_by, StepByFits, elimination_step, EliminationStepFits}
 use Rattle.fm_elim.proofs.Lists.{all_always, all_first}
 use Rattle.fm_elim.proofs.FractionLaws.{common_is}
 use Rattle.fm_elim.proofs.Points.{Anything}
@@ -32,17 +32,17 @@ exactly_with (Ok x) P F G g h = ((g, h.0), h.1)
 exactly_with (Err Past) P F G g h = λ k. h k.1
 exactly_with (Err Memory) P F G g h = tt
 
-pub pair_exact : (k : ℕ) (u l none first : DerivedRow) (m n : ℤ) (result : Result DerivedRow ElimFault) → none ≡ nothing → m ≡ share k u l → n ≡ other_share k u l →
+pub pair_exact : (k : ℕ) (u l none first : DerivedRow) (m n : ℤ) (result : Result DerivedRow ElimFault) → none ≡ nothing_derived → m ≡ share k u l → n ≡ other_share k u l →
     PlusTimesFits none m u × (first ≡ plus_times none m u) → Exactly result (λ r. r ≡ plus_times first n l) (PlusTimesFits first n l) →
     Exactly result (λ r. r ≡ pair k u l) (PairFits k u l)
 pair_exact k u l none first m n result e f g h x =
-    let h2 : PlusTimesFits nothing (share k u l) u × (first ≡ plus_times nothing (share k u l) u) =
-    subst (λ (z : ℤ). PlusTimesFits nothing z u × (first ≡ plus_times nothing z u)) f
+    let h2 : PlusTimesFits nothing_derived (share k u l) u × (first ≡ plus_times nothing_derived (share k u l) u) =
+    subst (λ (z : ℤ). PlusTimesFits nothing_derived z u × (first ≡ plus_times nothing_derived z u)) f
     (subst (λ (q : DerivedRow). PlusTimesFits q m u × (first ≡ plus_times q m u)) e h) in
-    let x2 : Exactly result (λ r. r ≡ plus_times (plus_times nothing (share k u l) u) (other_share k u l) l) (PlusTimesFits (plus_times nothing (share k u l) u) (other_share k u l) l) =
+    let x2 : Exactly result (λ r. r ≡ plus_times (plus_times nothing_derived (share k u l) u) (other_share k u l) l) (PlusTimesFits (plus_times nothing_derived (share k u l) u) (other_share k u l) l) =
     subst (λ (q : DerivedRow). Exactly result (λ r. r ≡ plus_times q (other_share k u l) l) (PlusTimesFits q (other_share k u l) l)) h2.1
     (subst (λ (z : ℤ). Exactly result (λ r. r ≡ plus_times first z l) (PlusTimesFits first z l)) g x) in
-    exactly_with result (λ r. r ≡ pair k u l) (PlusTimesFits (plus_times nothing (share k u l) u) (other_share k u l) l) (PlusTimesFits nothing (share k u l) u) h2.0 x2
+    exactly_with result (λ r. r ≡ pair k u l) (PlusTimesFits (plus_times nothing_derived (share k u l) u) (other_share k u l) l) (PlusTimesFits nothing_derived (share k u l) u) h2.0 x2
 
 -- ---- the step
 
@@ -54,23 +54,23 @@ found_passes p rows e h =
 
 pub step_forced : (k : ℕ) (rows left : List DerivedRow) (e : DerivedRow) {X : Type 0} (value : X → Eliminated) (result : Result X ElimFault) → first (is_pivot k) rows ≡ Some e → left ≡ others (is_pivot k) rows →
     Exactly result (λ x. value x ≡ record { rows = map (cleared k e) left; aside = forced e }) (AllByRecursion (ClearedFits k e) left) →
-    Exactly result (λ x. value x ≡ step k rows) (StepFits k rows)
+    Exactly result (λ x. value x ≡ elimination_step k rows) (EliminationStepFits k rows)
 step_forced k rows left e {X = X} value result h l x =
-    subst (λ (o : Option DerivedRow). Exactly result (λ y. value y ≡ step_by k o rows) (StepByFits k o rows)) (sym h)
+    subst (λ (o : Option DerivedRow). Exactly result (λ y. value y ≡ elimination_step_by k o rows) (StepByFits k o rows)) (sym h)
     (subst (λ (xs : List DerivedRow). Exactly result (λ y. value y ≡ record { rows = map (cleared k e) xs; aside = forced e }) (AllByRecursion (ClearedFits k e) xs)) l x)
 
 pub step_bounded : (k : ℕ) (rows left all : List DerivedRow) {X : Type 0} (value : X → Eliminated) (result : Result X ElimFault) → first (is_pivot k) rows ≡ None → left ≡ rows →
     AllByRecursion (HalvesFit k) left × (all ≡ flat_map (halves k) left) →
-    Exactly result (λ x. value x ≡ combined k all) (CombinedFits k all) →
-    Exactly result (λ x. value x ≡ step k rows) (StepFits k rows)
+    Exactly result (λ x. value x ≡ paired_off k all) (CombinedFits k all) →
+    Exactly result (λ x. value x ≡ elimination_step k rows) (EliminationStepFits k rows)
 step_bounded k rows left all {X = X} value result h l s x =
     let s2 : AllByRecursion (HalvesFit k) rows × (all ≡ flat_map (halves k) rows) =
     subst (λ (xs : List DerivedRow). AllByRecursion (HalvesFit k) xs × (all ≡ flat_map (halves k) xs)) l s in
-    subst (λ (o : Option DerivedRow). Exactly result (λ y. value y ≡ step_by k o rows) (StepByFits k o rows)) (sym h)
-    (exactly_with result (λ y. value y ≡ combined k (flat_map (halves k) rows)) (CombinedFits k (flat_map (halves k) rows)) (AllByRecursion (HalvesFit k) rows) s2.0
-    (subst (λ (xs : List DerivedRow). Exactly result (λ y. value y ≡ combined k xs) (CombinedFits k xs)) s2.1 x))
+    subst (λ (o : Option DerivedRow). Exactly result (λ y. value y ≡ elimination_step_by k o rows) (StepByFits k o rows)) (sym h)
+    (exactly_with result (λ y. value y ≡ paired_off k (flat_map (halves k) rows)) (CombinedFits k (flat_map (halves k) rows)) (AllByRecursion (HalvesFit k) rows) s2.0
+    (subst (λ (xs : List DerivedRow). Exactly result (λ y. value y ≡ paired_off k xs) (CombinedFits k xs)) s2.1 x))
 
-pub halves_from_step : (k : ℕ) (rows left : List DerivedRow) → first (is_pivot k) rows ≡ None → left ≡ rows → StepFits k rows → AllByRecursion (HalvesFit k) left
+pub halves_from_step : (k : ℕ) (rows left : List DerivedRow) → first (is_pivot k) rows ≡ None → left ≡ rows → EliminationStepFits k rows → AllByRecursion (HalvesFit k) left
 halves_from_step k rows left h l x =
     subst (λ (xs : List DerivedRow). AllByRecursion (HalvesFit k) xs) (sym l)
     (subst (λ (o : Option DerivedRow). StepByFits k o rows) h x).0

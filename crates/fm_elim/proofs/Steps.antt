@@ -8,8 +8,8 @@ use Rattle.lin_rows.specs.declared.types.RowKind.{RowKind}
 use Rattle.lin_rows.specs.declared.types.RowKind.TheVariants.{Le, Eq}
 use Rattle.lin_rows.specs.Sums.{CanScale}
 use Rattle.fm_elim.specs.Folds.{first, others}
-use Rattle.fm_elim.specs.Derivations.{DerivedRow, nothing, plus_times, has, is_upper, is_lower, is_equality}
-use Rattle.fm_elim.specs.Columns.{is_pivot, clearing, cleared, halves, share, other_share, pair, pairs, step_by, step}
+use Rattle.fm_elim.specs.Derivations.{DerivedRow, nothing_derived, plus_times, has, is_upper, is_lower, is_equality}
+use Rattle.fm_elim.specs.Columns.{is_pivot, clearing, cleared, halves, share, other_share, pair, pairs, elimination_step_by, elimination_step}
 use Rattle.fm_elim.proofs.Lists.{all_append, all_weaker, all_map, all_flat_map, all_filter, all_others, all_first}
 
 pub equality_is : (k : RowKind) → is_equality k ≡ true → k ≡ Eq
@@ -17,7 +17,7 @@ equality_is Le e = absurd (cc)
 equality_is Eq e = refl
 
 -- a property of rows that sums keep
-module _ (P : DerivedRow → Type 0) (none : P nothing) (sums : (a : DerivedRow) (m : ℤ) (b : DerivedRow) → CanScale m b.row.kind → P a → P b → P (plus_times a m b)) where
+module _ (P : DerivedRow → Type 0) (none : P nothing_derived) (sums : (a : DerivedRow) (m : ℤ) (b : DerivedRow) → CanScale m b.row.kind → P a → P b → P (plus_times a m b)) where
   pub cleared_keeps : (k : ℕ) (e r : DerivedRow) → e.row.kind ≡ Eq → P e → P r → P (cleared k e r)
   cleared_keeps k e r q h i = by_test (has k r)
     where
@@ -29,23 +29,23 @@ module _ (P : DerivedRow → Type 0) (none : P nothing) (sums : (a : DerivedRow)
   halves_keep k r h = by_test (is_equality r.row.kind && has k r) refl
     where
       by_test : (b : Bool) → (is_equality r.row.kind && has k r) ≡ b →
-          AllByRecursion P (if b then plus_times nothing (pos 1) r ∷ plus_times nothing (negsuc 0) r ∷ [] else r ∷ [])
+          AllByRecursion P (if b then plus_times nothing_derived (pos 1) r ∷ plus_times nothing_derived (negsuc 0) r ∷ [] else r ∷ [])
       by_test true e =
           let q : r.row.kind ≡ Eq = equality_is r.row.kind (and_parts (is_equality r.row.kind) (has k r) e).0 in
-          (sums nothing (pos 1) r (inr q) none h, (sums nothing (negsuc 0) r (inr q) none h, tt))
+          (sums nothing_derived (pos 1) r (inr q) none h, (sums nothing_derived (negsuc 0) r (inr q) none h, tt))
       by_test false e = (h, tt)
 
   pub pair_keeps : (k : ℕ) (u l : DerivedRow) → P u → P l → P (pair k u l)
   pair_keeps k u l h i =
-      sums (plus_times nothing (share k u l) u) (other_share k u l) l (inl (omega (arith, ints)))
-      (sums nothing (share k u l) u (inl (omega (arith, ints))) none h) i
+      sums (plus_times nothing_derived (share k u l) u) (other_share k u l) l (inl (omega (arith, ints)))
+      (sums nothing_derived (share k u l) u (inl (omega (arith, ints))) none h) i
 
   pub pairs_keep : (k : ℕ) (us ls : List DerivedRow) → AllByRecursion P us → AllByRecursion P ls → AllByRecursion P (pairs k us ls)
   pairs_keep k us ls h i =
       all_flat_map P P (λ u. map (pair k u) ls) us (λ u d. all_map P P (pair k u) ls (λ l e. pair_keeps k u l d e) i) h
 
   pub step_by_keeps : (k : ℕ) (o : Option DerivedRow) (rows : List DerivedRow) → MatchOption o (Unit {0}) (λ e. P e × (is_pivot k e ≡ true)) →
-      AllByRecursion P rows → AllByRecursion P (step_by k o rows).rows
+      AllByRecursion P rows → AllByRecursion P (elimination_step_by k o rows).rows
   step_by_keeps k (Some e) rows f h =
       let q : e.row.kind ≡ Eq = equality_is e.row.kind (and_parts (is_equality e.row.kind) _ f.1).0 in
       all_map P P (cleared k e) (others (is_pivot k) rows) (λ r i. cleared_keeps k e r q f.0 i) (all_others P (is_pivot k) rows h)
@@ -59,5 +59,5 @@ module _ (P : DerivedRow → Type 0) (none : P nothing) (sums : (a : DerivedRow)
       (pairs_keep k (filter (is_upper k) all) (filter (is_lower k) all) (taken (is_upper k)) (taken (is_lower k)))
 
   -- each row that is left after a column is eliminated has it
-  pub step_keeps : (k : ℕ) (rows : List DerivedRow) → AllByRecursion P rows → AllByRecursion P (step k rows).rows
+  pub step_keeps : (k : ℕ) (rows : List DerivedRow) → AllByRecursion P rows → AllByRecursion P (elimination_step k rows).rows
   step_keeps k rows h = step_by_keeps k (first (is_pivot k) rows) rows (all_first P (is_pivot k) rows h) h

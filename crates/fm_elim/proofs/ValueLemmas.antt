@@ -17,7 +17,7 @@ use Rattle.fm_elim.specs.Folds.{Where}
 use Rattle.fm_elim.specs.Values.{value_at, term_value, with_term, WithTermFits, sum_of, SumOfFits, end_of, EndFits}
 use Rattle.fm_elim.proofs.StepLemmas.{exactly_with}
 use Rattle.fm_elim.specs.Answers.{Exactly, Gives}
-use Rattle.fm_elim.specs.Quotients.{reduced, whole, plus, minus, times, over, PartsFit, MinusFits, floor, ceiling, nearest}
+use Rattle.fm_elim.specs.Quotients.{reduced, whole, fraction_plus, fraction_minus, fraction_times, fraction_over, FractionFits, MinusFits, floor, ceiling, nearest}
 use Rattle.fm_elim.proofs.FractionLaws.{ratio, lowest, positive_is_not_zero}
 
 -- a fraction of the value n/d is n/d in lowest terms
@@ -25,10 +25,10 @@ pub gives_reduced : (n d : ℤ) (f : Fraction) → d ≢ pos 0 → IsFraction f 
 gives_reduced n d f z v r = (v, only_lowest f (reduced n d) n d z v.lowest r (lowest n d z) (ratio n d))
 
 -- whose parts then fit
-pub parts_fit : (n d : ℤ) (f : Fraction) → Gives (reduced n d) f → PartsFit (reduced n d)
-parts_fit n d f g = subst PartsFit g.1 (g.0.num_fits, g.0.den_fits)
+pub parts_fit : (n d : ℤ) (f : Fraction) → Gives (reduced n d) f → FractionFits (reduced n d)
+parts_fit n d f g = subst FractionFits g.1 (g.0.num_fits, g.0.den_fits)
 
-pub parts_past : (n d : ℤ) → d ≢ pos 0 → IsTooLarge n d → PartsFit (reduced n d) → ⊥
+pub parts_past : (n d : ℤ) → d ≢ pos 0 → IsTooLarge n d → FractionFits (reduced n d) → ⊥
 parts_past n d z t p = t (reduced n d) (record { lowest = lowest n d z; num_fits = p.0; den_fits = p.1 }) (ratio n d)
 
 pub den_nonzero : (a : Fraction) → IsFraction a → a.den ≢ pos 0
@@ -59,34 +59,34 @@ le_test a b h = grind (arith, ints)
 
 -- a sum with one more term
 pub with_term_exact : (k : ℕ) (values : List Fraction) (sum : Fraction) (t : ℕ × ℤ) (factor value product : Fraction) (result : Result Fraction ElimFault) →
-    (t.0 ≡ k → ⊥) → factor ≡ whole t.1 → value ≡ value_at values t.0 → PartsFit (times factor value) × Gives (times factor value) product →
-    Exactly result (Gives (plus sum product)) (SumFits sum product) → Exactly result (Gives (with_term k values sum t)) (WithTermFits k values sum t)
+    (t.0 ≡ k → ⊥) → factor ≡ whole t.1 → value ≡ value_at values t.0 → FractionFits (fraction_times factor value) × Gives (fraction_times factor value) product →
+    Exactly result (Gives (fraction_plus sum product)) (SumFits sum product) → Exactly result (Gives (with_term k values sum t)) (WithTermFits k values sum t)
 with_term_exact k values sum t factor value product result n f v p x =
-    let p2 : PartsFit (term_value values t) × Gives (term_value values t) product =
-    subst (λ (y : Fraction). PartsFit (times (whole t.1) y) × Gives (times (whole t.1) y) product) v
-    (subst (λ (y : Fraction). PartsFit (times y value) × Gives (times y value) product) f p) in
-    let x2 : Exactly result (Gives (plus sum (term_value values t))) (SumFits sum (term_value values t)) =
-    subst (λ (y : Fraction). Exactly result (Gives (plus sum y)) (SumFits sum y)) p2.1.1 x in
-    subst (λ (b : Bool). Exactly result (Gives (if b then sum else plus sum (term_value values t))) (Where (not b) (PartsFit (term_value values t) × SumFits sum (term_value values t))))
+    let p2 : FractionFits (term_value values t) × Gives (term_value values t) product =
+    subst (λ (y : Fraction). FractionFits (fraction_times (whole t.1) y) × Gives (fraction_times (whole t.1) y) product) v
+    (subst (λ (y : Fraction). FractionFits (fraction_times y value) × Gives (fraction_times y value) product) f p) in
+    let x2 : Exactly result (Gives (fraction_plus sum (term_value values t))) (SumFits sum (term_value values t)) =
+    subst (λ (y : Fraction). Exactly result (Gives (fraction_plus sum y)) (SumFits sum y)) p2.1.1 x in
+    subst (λ (b : Bool). Exactly result (Gives (if b then sum else fraction_plus sum (term_value values t))) (Where (not b) (FractionFits (term_value values t) × SumFits sum (term_value values t))))
     (sym (ne_eqb t.0 k n))
-    (exactly_with result (Gives (plus sum (term_value values t))) (SumFits sum (term_value values t)) (PartsFit (term_value values t)) p2.0 x2)
+    (exactly_with result (Gives (fraction_plus sum (term_value values t))) (SumFits sum (term_value values t)) (FractionFits (term_value values t)) p2.0 x2)
 
 -- the end that a row sets
 pub end_exact : (k : ℕ) (values : List Fraction) (r : DerivedRow) (sum bound rest factor : Fraction) (result : Result Fraction ElimFault) →
-    SumOfFits k values r.row.terms × Gives (sum_of k values r.row.terms) sum → bound ≡ whole r.row.bound → MinusFits bound sum × Gives (minus bound sum) rest → factor ≡ whole (at k r) →
-    Exactly result (Gives (over rest factor)) (PartsFit (over rest factor)) → Exactly result (Gives (end_of k values r)) (EndFits k values r)
+    SumOfFits k values r.row.terms × Gives (sum_of k values r.row.terms) sum → bound ≡ whole r.row.bound → MinusFits bound sum × Gives (fraction_minus bound sum) rest → factor ≡ whole (at k r) →
+    Exactly result (Gives (fraction_over rest factor)) (FractionFits (fraction_over rest factor)) → Exactly result (Gives (end_of k values r)) (EndFits k values r)
 end_exact k values r sum bound rest factor result s b m f x =
     let total : Fraction = sum_of k values r.row.terms in
-    let m2 : MinusFits (whole r.row.bound) total × Gives (minus (whole r.row.bound) total) rest =
-    subst (λ (y : Fraction). MinusFits (whole r.row.bound) y × Gives (minus (whole r.row.bound) y) rest) s.1.1
-    (subst (λ (y : Fraction). MinusFits y sum × Gives (minus y sum) rest) b m) in
-    let x2 : Exactly result (Gives (end_of k values r)) (PartsFit (end_of k values r)) =
-    subst (λ (y : Fraction). Exactly result (Gives (over y (whole (at k r)))) (PartsFit (over y (whole (at k r))))) m2.1.1
-    (subst (λ (y : Fraction). Exactly result (Gives (over rest y)) (PartsFit (over rest y))) f x) in
+    let m2 : MinusFits (whole r.row.bound) total × Gives (fraction_minus (whole r.row.bound) total) rest =
+    subst (λ (y : Fraction). MinusFits (whole r.row.bound) y × Gives (fraction_minus (whole r.row.bound) y) rest) s.1.1
+    (subst (λ (y : Fraction). MinusFits y sum × Gives (fraction_minus y sum) rest) b m) in
+    let x2 : Exactly result (Gives (end_of k values r)) (FractionFits (end_of k values r)) =
+    subst (λ (y : Fraction). Exactly result (Gives (fraction_over y (whole (at k r)))) (FractionFits (fraction_over y (whole (at k r))))) m2.1.1
+    (subst (λ (y : Fraction). Exactly result (Gives (fraction_over rest y)) (FractionFits (fraction_over rest y))) f x) in
     by_result result s.0 m2.0 x2
   where
     by_result : (o : Result Fraction ElimFault) → SumOfFits k values r.row.terms → MinusFits (whole r.row.bound) (sum_of k values r.row.terms) →
-        Exactly o (Gives (end_of k values r)) (PartsFit (end_of k values r)) → Exactly o (Gives (end_of k values r)) (EndFits k values r)
+        Exactly o (Gives (end_of k values r)) (FractionFits (end_of k values r)) → Exactly o (Gives (end_of k values r)) (EndFits k values r)
     by_result (Ok y) a c h = (record { sum = a; rest = c; quotient = h.0 }, h.1)
     by_result (Err Past) a c h = λ w. h w.quotient
     by_result (Err Memory) a c h = tt

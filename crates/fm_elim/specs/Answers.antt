@@ -12,7 +12,7 @@ use Rattle.fm_elim.specs.declared.types.Aside.{Aside}
 use Rattle.fm_elim.specs.declared.types.Aside.TheVariants.{Forced, Bounded}
 use Rattle.fm_elim.specs.declared.types.Eliminated as eliminated
 use Rattle.fm_elim.specs.Columns.{SetAside, forced, bounded, Eliminated}
-use Rattle.fm_elim.specs.Elimination.{Outcome, refuted, point}
+use Rattle.fm_elim.specs.Elimination.{EliminationOutcome, refuted, point}
 
 -- a fault of rows as a fault of the elimination
 abbrev pub fault_of : RowFault → ElimFault
@@ -20,7 +20,7 @@ fault_of row_fault.Past = Past
 fault_of row_fault.Memory = Memory
 
 -- what an answer says
-abbrev pub outcome_of : Elim → Outcome
+abbrev pub outcome_of : Elim → EliminationOutcome
 outcome_of (Refuted parts) = refuted parts.items
 outcome_of (Point values) = point values.items
 

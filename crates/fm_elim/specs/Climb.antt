@@ -6,14 +6,14 @@ use Rattle.std.specs.declared.alloc.Global.{Global}
 use Rattle.frac.specs.Fractions.{Fraction}
 use Rattle.fm_elim.specs.Derivations.{DerivedRow, at}
 use Rattle.fm_elim.specs.Columns.{SetAside, forced, bounded}
-use Rattle.fm_elim.specs.Elimination.{Outcome, refuted, point, extended, ExtendedFits, solve, SolveFits}
+use Rattle.fm_elim.specs.Elimination.{EliminationOutcome, refuted, point, extended, ExtendedFits, solve, SolveFits}
 
 -- the outcome at the columns below n, from the outcome that the last column set aside led to
-abbrev pub climb : ℕ → List SetAside → Outcome → Outcome
+abbrev pub climb : ℕ → List SetAside → EliminationOutcome → EliminationOutcome
 climb n [] o = o
 climb n (a ∷ rest) o = extended (n - 1) a (climb (n - 1) rest o)
 
-abbrev pub ClimbFits : ℕ → List SetAside → Outcome → Type 0
+abbrev pub ClimbFits : ℕ → List SetAside → EliminationOutcome → Type 0
 ClimbFits n [] o = Unit {0}
 ClimbFits n (a ∷ rest) o = ClimbFits (n - 1) rest o × ExtendedFits (n - 1) a (climb (n - 1) rest o)
 
@@ -28,7 +28,7 @@ SetColumns n [] = Unit {0}
 SetColumns n (a ∷ rest) = SetsColumn (n - 1) a × SetColumns (n - 1) rest
 
 -- each of n columns has a value or is set aside, where the outcome is a point
-abbrev pub HasHeight : ℕ → List SetAside → Outcome → Type 0
+abbrev pub HasHeight : ℕ → List SetAside → EliminationOutcome → Type 0
 HasHeight n asides (refuted parts) = Unit {0}
 HasHeight n asides (point values) = length values + length asides ≡ n
 
@@ -41,7 +41,7 @@ pub record IsDown (n : ℕ) (given : List DerivedRow) (left : ℕ) (rows : List 
   pub set : SetColumns n asides
 
 -- at the end of the way down
-pub record IsBottom (n : ℕ) (given : List DerivedRow) (asides : List SetAside) (bottom : Outcome) : Type 0 where
+pub record IsBottom (n : ℕ) (given : List DerivedRow) (asides : List SetAside) (bottom : EliminationOutcome) : Type 0 where
   pub value : solve n given ≡ climb n asides bottom
   pub fits : SolveFits n given ↔ ClimbFits n asides bottom
   pub height : HasHeight n asides bottom
@@ -55,6 +55,6 @@ pub record IsUp (n : ℕ) (given asides : List SetAside) (values : List Fraction
   pub set : SetColumns n asides
 
 -- the outcome at the bottom: multipliers of a false row, or a point without columns
-abbrev pub bottom_of : Option (Vec (ℕ × ℤ) Global) → Outcome
+abbrev pub bottom_of : Option (Vec (ℕ × ℤ) Global) → EliminationOutcome
 bottom_of None = point []
 bottom_of (Some parts) = refuted parts.items

@@ -3,7 +3,7 @@ use Rattle.std.specs.Prelude.{◌≡◌, ℕ, ◌/◌, ℤ, pos, negsuc, neg_ℤ
 use Rattle.std.specs.List.{filter, flat_map, AllByRecursion}
 use Rattle.fm_elim.specs.Quotients.{common}
 use Rattle.fm_elim.specs.Folds.{first, others, Where}
-use Rattle.fm_elim.specs.Derivations.{DerivedRow, nothing, plus_times, PlusTimesFits, at, has, is_upper, is_lower, is_equality}
+use Rattle.fm_elim.specs.Derivations.{DerivedRow, nothing_derived, plus_times, PlusTimesFits, at, has, is_upper, is_lower, is_equality}
 
 -- what an eliminated column leaves for its value: the equality that forces it, or the inequalities below and above
 pub data SetAside : Type 0 where
@@ -36,10 +36,10 @@ ClearedFits k e r = Where (has k r) (PlusTimesFits r (clearing k e r) e)
 
 -- the two inequalities that an equality says
 abbrev pub both_halves : DerivedRow → List DerivedRow
-both_halves r = plus_times nothing (pos 1) r ∷ plus_times nothing (negsuc 0) r ∷ []
+both_halves r = plus_times nothing_derived (pos 1) r ∷ plus_times nothing_derived (negsuc 0) r ∷ []
 
 abbrev pub BothHalvesFit : DerivedRow → Type 0
-BothHalvesFit r = PlusTimesFits nothing (pos 1) r × PlusTimesFits nothing (negsuc 0) r
+BothHalvesFit r = PlusTimesFits nothing_derived (pos 1) r × PlusTimesFits nothing_derived (negsuc 0) r
 
 -- an equality with the column becomes two inequalities
 abbrev pub halves : ℕ → DerivedRow → List DerivedRow
@@ -63,11 +63,11 @@ other_share k u l = pos (unsigned_abs (at k u) / common (unsigned_abs (at k u)) 
 
 -- the sum of an upper and a lower bound in which the column cancels
 abbrev pub pair : ℕ → DerivedRow → DerivedRow → DerivedRow
-pair k u l = plus_times (plus_times nothing (share k u l) u) (other_share k u l) l
+pair k u l = plus_times (plus_times nothing_derived (share k u l) u) (other_share k u l) l
 
 abbrev pub PairFits : ℕ → DerivedRow → DerivedRow → Type 0
 PairFits k u l =
-    PlusTimesFits nothing (share k u l) u × PlusTimesFits (plus_times nothing (share k u l) u) (other_share k u l) l
+    PlusTimesFits nothing_derived (share k u l) u × PlusTimesFits (plus_times nothing_derived (share k u l) u) (other_share k u l) l
 
 -- all pairs, upper bounds outermost
 abbrev pub pairs : ℕ → List DerivedRow → List DerivedRow → List DerivedRow
@@ -79,8 +79,8 @@ PairsFit k us ls = AllByRecursion (λ u. AllByRecursion (PairFits k u) ls) us
 -- ---- the step
 
 -- the rows without the column stay, and the pairs follow
-abbrev pub combined : ℕ → List DerivedRow → Eliminated
-combined k rows = record {
+abbrev pub paired_off : ℕ → List DerivedRow → Eliminated
+paired_off k rows = record {
   rows = filter (λ r. not (has k r)) rows ++ pairs k (filter (is_upper k) rows) (filter (is_lower k) rows);
   aside = bounded (filter (is_lower k) rows) (filter (is_upper k) rows);
 }
@@ -88,17 +88,17 @@ combined k rows = record {
 abbrev pub CombinedFits : ℕ → List DerivedRow → Type 0
 CombinedFits k rows = PairsFit k (filter (is_upper k) rows) (filter (is_lower k) rows)
 
-abbrev pub step_by : ℕ → Option DerivedRow → List DerivedRow → Eliminated
-step_by k (Some e) rows = record { rows = map (cleared k e) (others (is_pivot k) rows); aside = forced e }
-step_by k None rows = combined k (flat_map (halves k) rows)
+abbrev pub elimination_step_by : ℕ → Option DerivedRow → List DerivedRow → Eliminated
+elimination_step_by k (Some e) rows = record { rows = map (cleared k e) (others (is_pivot k) rows); aside = forced e }
+elimination_step_by k None rows = paired_off k (flat_map (halves k) rows)
 
 abbrev pub StepByFits : ℕ → Option DerivedRow → List DerivedRow → Type 0
 StepByFits k (Some e) rows = AllByRecursion (ClearedFits k e) (others (is_pivot k) rows)
 StepByFits k None rows = AllByRecursion (HalvesFit k) rows × CombinedFits k (flat_map (halves k) rows)
 
 -- the column k is eliminated
-abbrev pub step : ℕ → List DerivedRow → Eliminated
-step k rows = step_by k (first (is_pivot k) rows) rows
+abbrev pub elimination_step : ℕ → List DerivedRow → Eliminated
+elimination_step k rows = elimination_step_by k (first (is_pivot k) rows) rows
 
-abbrev pub StepFits : ℕ → List DerivedRow → Type 0
-StepFits k rows = StepByFits k (first (is_pivot k) rows) rows
+abbrev pub EliminationStepFits : ℕ → List DerivedRow → Type 0
+EliminationStepFits k rows = StepByFits k (first (is_pivot k) rows) rows

@@ -22,8 +22,8 @@ inputs n [] = []
 inputs n (r ∷ rs) = input n r ∷ inputs (suc n) rs
 
 -- the inequality `0 <= 0`, from no row
-abbrev pub nothing : DerivedRow
-nothing = record {
+abbrev pub nothing_derived : DerivedRow
+nothing_derived = record {
   row = record { terms = []; kind = Le; bound = pos 0 };
   by = record { terms = []; kind = Eq; bound = pos 0 };
 }
@@ -61,13 +61,13 @@ abbrev pub is_false_bound : RowKind → ℤ → Bool
 is_false_bound Le b = int_lt b (pos 0)
 is_false_bound Eq b = not (is_zero b)
 
-abbrev pub is_empty : List (ℕ × ℤ) → Bool
-is_empty [] = true
-is_empty (t ∷ ts) = false
+abbrev pub has_no_terms : List (ℕ × ℤ) → Bool
+has_no_terms [] = true
+has_no_terms (t ∷ ts) = false
 
 -- a row without terms that does not hold
 abbrev pub is_false : DerivedRow → Bool
-is_false r = is_empty r.row.terms && is_false_bound r.row.kind r.row.bound
+is_false r = has_no_terms r.row.terms && is_false_bound r.row.kind r.row.bound
 
 -- The multipliers with which such a row refutes: `0 = b` with `b > 0` refutes by those with the other sign.
 abbrev pub refuting : DerivedRow → List (ℕ × ℤ)

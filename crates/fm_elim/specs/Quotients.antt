@@ -2,7 +2,7 @@
 use Rattle.std.specs.Prelude.{ℕ, zero, suc, ◌/◌, ◌%◌, ℤ, pos, ◌+ℤ◌, ◌-ℤ◌, ◌*ℤ◌, neg_ℤ, Bool, Option, None, Some, unsigned_abs, int_lt, int_le, if◌then◌else◌}
 use Rattle.std.specs.Int.{int_div_euclid, int_max, int_min}
 use Rattle.math_facts.specs.Fits.{Fits}
-use Rattle.frac.specs.Fractions.{Fraction, opposite}
+use Rattle.frac.specs.Fractions.{Fraction, fraction_opposite}
 use Rattle.frac.specs.Signs.{differ_in_sign, with_sign}
 use Rattle.frac.specs.Sums.{SumFits}
 
@@ -27,28 +27,28 @@ abbrev pub whole : ℤ → Fraction
 whole z = record { num = z; den = pos 1 }
 
 -- a + b
-abbrev pub plus : Fraction → Fraction → Fraction
-plus a b = reduced ((a.num *ℤ b.den) +ℤ (b.num *ℤ a.den)) (a.den *ℤ b.den)
+abbrev pub fraction_plus : Fraction → Fraction → Fraction
+fraction_plus a b = reduced ((a.num *ℤ b.den) +ℤ (b.num *ℤ a.den)) (a.den *ℤ b.den)
 
 -- a - b
-abbrev pub minus : Fraction → Fraction → Fraction
-minus a b = reduced ((a.num *ℤ b.den) -ℤ (b.num *ℤ a.den)) (a.den *ℤ b.den)
+abbrev pub fraction_minus : Fraction → Fraction → Fraction
+fraction_minus a b = reduced ((a.num *ℤ b.den) -ℤ (b.num *ℤ a.den)) (a.den *ℤ b.den)
 
 -- a * b
-abbrev pub times : Fraction → Fraction → Fraction
-times a b = reduced (a.num *ℤ b.num) (a.den *ℤ b.den)
+abbrev pub fraction_times : Fraction → Fraction → Fraction
+fraction_times a b = reduced (a.num *ℤ b.num) (a.den *ℤ b.den)
 
 -- a / b
-abbrev pub over : Fraction → Fraction → Fraction
-over a b = reduced (a.num *ℤ b.den) (a.den *ℤ b.num)
+abbrev pub fraction_over : Fraction → Fraction → Fraction
+fraction_over a b = reduced (a.num *ℤ b.den) (a.den *ℤ b.num)
 
 -- both parts fit
-abbrev pub PartsFit : Fraction → Type 0
-PartsFit f = Fits f.num × Fits f.den
+abbrev pub FractionFits : Fraction → Type 0
+FractionFits f = Fits f.num × Fits f.den
 
 -- the numbers that a - b forms fit: those of the sum with -b
 abbrev pub MinusFits : Fraction → Fraction → Type 0
-MinusFits a b = SumFits a (opposite b)
+MinusFits a b = SumFits a (fraction_opposite b)
 
 -- a < b
 abbrev pub is_less : Fraction → Fraction → Bool

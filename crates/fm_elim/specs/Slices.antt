@@ -5,7 +5,7 @@ use Rattle.std.specs.List.{AllByRecursion}
 use Rattle.frac.specs.Fractions.{Fraction, IsLowest}
 use Rattle.lin_rows.specs.Rows.{LinearRow}
 use Rattle.fm_elim.specs.Quotients.{whole}
-use Rattle.fm_elim.specs.Elimination.{Outcome, refuted, point}
+use Rattle.fm_elim.specs.Elimination.{EliminationOutcome, refuted, point}
 use Rattle.fm_elim.specs.Worth.{IsSolvable, MeetsAll}
 
 -- z lies on the way from 0 to j
@@ -37,6 +37,6 @@ pub record IsPoint (n : ℕ) (rows : List LinearRow) (values : List Fraction) : 
   pub meets : MeetsAll n rows values
 
 -- the rows have no rational point where they are refuted, and else the point is the one that is picked
-abbrev pub IsPickedOutcome : ℕ → List LinearRow → Outcome → Type 0
+abbrev pub IsPickedOutcome : ℕ → List LinearRow → EliminationOutcome → Type 0
 IsPickedOutcome n rows (refuted parts) = IsSolvable rows → ⊥
 IsPickedOutcome n rows (point values) = IsPicked (IsPoint n rows) values

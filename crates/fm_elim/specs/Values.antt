@@ -3,7 +3,7 @@ use Rattle.std.specs.Prelude.{ℕ, ℤ, pos, not, List, Option, None, Some, nat_
 use Rattle.std.specs.List.{fold}
 use Rattle.frac.specs.Fractions.{Fraction}
 use Rattle.frac.specs.Sums.{SumFits, ComparisonFits}
-use Rattle.fm_elim.specs.Quotients.{whole, plus, minus, times, over, PartsFit, MinusFits, is_less, nearest}
+use Rattle.fm_elim.specs.Quotients.{whole, fraction_plus, fraction_minus, fraction_times, fraction_over, FractionFits, MinusFits, is_less, nearest}
 use Rattle.fm_elim.specs.Folds.{Where, FoldFits}
 use Rattle.fm_elim.specs.Derivations.{DerivedRow, at}
 use Rattle.fm_elim.specs.Columns.{SetAside, forced, bounded}
@@ -16,14 +16,14 @@ value_at values c = slice_index_or values c (whole (pos 0))
 
 -- the product of a term
 abbrev pub term_value : List Fraction → ℕ × ℤ → Fraction
-term_value values t = times (whole t.1) (value_at values t.0)
+term_value values t = fraction_times (whole t.1) (value_at values t.0)
 
 -- a sum with the next term added, unless it is that of the column
 abbrev pub with_term : ℕ → List Fraction → Fraction → ℕ × ℤ → Fraction
-with_term k values sum t = if nat_eq t.0 k then sum else plus sum (term_value values t)
+with_term k values sum t = if nat_eq t.0 k then sum else fraction_plus sum (term_value values t)
 
 abbrev pub WithTermFits : ℕ → List Fraction → Fraction → ℕ × ℤ → Type 0
-WithTermFits k values sum t = Where (not (nat_eq t.0 k)) (PartsFit (term_value values t) × SumFits sum (term_value values t))
+WithTermFits k values sum t = Where (not (nat_eq t.0 k)) (FractionFits (term_value values t) × SumFits sum (term_value values t))
 
 -- the sum of all products, from 0, in ascending order
 abbrev pub sum_of : ℕ → List Fraction → List (ℕ × ℤ) → Fraction
@@ -36,12 +36,12 @@ SumOfFits k values terms = FoldFits (with_term k values) (WithTermFits k values)
 
 -- the bound less that sum, divided by the column's coefficient
 abbrev pub end_of : ℕ → List Fraction → DerivedRow → Fraction
-end_of k values r = over (minus (whole r.row.bound) (sum_of k values r.row.terms)) (whole (at k r))
+end_of k values r = fraction_over (fraction_minus (whole r.row.bound) (sum_of k values r.row.terms)) (whole (at k r))
 
 pub record EndFits (k : ℕ) (values : List Fraction) (r : DerivedRow) : Type 0 where
   pub sum : SumOfFits k values r.row.terms
   pub rest : MinusFits (whole r.row.bound) (sum_of k values r.row.terms)
-  pub quotient : PartsFit (end_of k values r)
+  pub quotient : FractionFits (end_of k values r)
 
 -- ---- the interval
 
@@ -67,8 +67,8 @@ LessFits (Some best) e = ComparisonFits e best
 abbrev pub raised : ℕ → List Fraction → Option Fraction → DerivedRow → Option Fraction
 raised k values best r = Some (greater_end best (end_of k values r))
 
-abbrev pub lowered : ℕ → List Fraction → Option Fraction → DerivedRow → Option Fraction
-lowered k values best r = Some (less_end best (end_of k values r))
+abbrev pub lowered_end : ℕ → List Fraction → Option Fraction → DerivedRow → Option Fraction
+lowered_end k values best r = Some (less_end best (end_of k values r))
 
 abbrev pub RaisedFits : ℕ → List Fraction → Option Fraction → DerivedRow → Type 0
 RaisedFits k values best r = EndFits k values r × GreaterFits best (end_of k values r)
@@ -81,7 +81,7 @@ abbrev pub lower_end : ℕ → List Fraction → List DerivedRow → Option Frac
 lower_end k values rows = fold (raised k values) None rows
 
 abbrev pub upper_end : ℕ → List Fraction → List DerivedRow → Option Fraction
-upper_end k values rows = fold (lowered k values) None rows
+upper_end k values rows = fold (lowered_end k values) None rows
 
 -- ---- the value
 
@@ -93,4 +93,4 @@ value_of k values (bounded ls us) = nearest (lower_end k values ls) (upper_end k
 abbrev pub ValueFits : ℕ → List Fraction → SetAside → Type 0
 ValueFits k values (forced e) = EndFits k values e
 ValueFits k values (bounded ls us) =
-    FoldFits (raised k values) (RaisedFits k values) None ls × FoldFits (lowered k values) (LoweredFits k values) None us
+    FoldFits (raised k values) (RaisedFits k values) None ls × FoldFits (lowered_end k values) (LoweredFits k values) None us

@@ -6,7 +6,7 @@ use Rattle.frac.specs.Fractions.{Fraction, IsRatio}
 use Rattle.lin_rows.specs.Rows.{LinearRow, AscendsFrom, Stands}
 use Rattle.lin_rows.specs.Combinations.{IsPart, combined}
 use Rattle.fm_elim.specs.Values.{value_at}
-use Rattle.fm_elim.specs.Elimination.{Outcome, refuted, point}
+use Rattle.fm_elim.specs.Elimination.{EliminationOutcome, refuted, point}
 
 -- The combination says `0 <= c` with `c < 0` (Farkas, 1902). Whether its own numbers fit is not said.
 pub record Combines (rows : List LinearRow) (parts : List (ℕ × ℤ)) : Type 0 where
@@ -36,6 +36,6 @@ pub record MeetsAll (n : ℕ) (rows : List LinearRow) (values : List Fraction) :
   pub holds : AllByRecursion (HoldsAt d p) rows
 
 -- the outcome is true of the rows
-abbrev pub IsWorth : ℕ → List LinearRow → Outcome → Type 0
+abbrev pub IsWorth : ℕ → List LinearRow → EliminationOutcome → Type 0
 IsWorth n rows (refuted parts) = Combines rows parts
 IsWorth n rows (point values) = MeetsAll n rows values

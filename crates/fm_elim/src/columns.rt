@@ -7,7 +7,7 @@ ghost use Rattle.lin_rows.specs.declared.types.RowKind.TheVariants.{Eq};
 ghost use Rattle.fm_elim.specs.Answers.{Exactly, eliminated_of};
 ghost use Rattle.fm_elim.specs.Folds.{first, others};
 ghost use Rattle.fm_elim.specs.Derivations.{has, is_upper, is_lower};
-ghost use Rattle.fm_elim.specs.Columns.{forced, is_pivot, cleared, ClearedFits, both_halves, BothHalvesFit, halves, HalvesFit, AreSides, pair, PairFits, pairs, PairsFit, step, StepFits, combined, CombinedFits};
+ghost use Rattle.fm_elim.specs.Columns.{forced, is_pivot, cleared, ClearedFits, both_halves, BothHalvesFit, halves, HalvesFit, AreSides, pair, PairFits, pairs, PairsFit, elimination_step, EliminationStepFits, paired_off, CombinedFits};
 
 use crate::derivations::{nothing, plus_times};
 use crate::numbers::coefficient;
@@ -221,7 +221,7 @@ fn push_all_pairs(
 
 /// The column is eliminated by pairs of inequalities.
 fn by_pairs(alloc: Global, column: u32, rows: Vec<Derived>) -> Result<Eliminated, ElimFault>
-    ensures { Exactly result (λ e. eliminated_of e ≡ combined column rows.items) (CombinedFits column rows.items) }
+    ensures { Exactly result (λ e. eliminated_of e ≡ paired_off column rows.items) (CombinedFits column rows.items) }
 {
     let sides = sorted(alloc, column, rows)?;
     let mut rows = sides.without;
@@ -248,7 +248,7 @@ fn take_pivot(column: u32, rows: &mut Vec<Derived>) -> Option<Derived>
 
 /// The column is eliminated.
 pub fn step(alloc: Global, column: u32, mut rows: Vec<Derived>) -> Result<Eliminated, ElimFault>
-    ensures { Exactly result (λ e. eliminated_of e ≡ step column rows.items) (StepFits column rows.items) }
+    ensures { Exactly result (λ e. eliminated_of e ≡ elimination_step column rows.items) (EliminationStepFits column rows.items) }
 {
     match take_pivot(column, &mut rows) {
         Some(equality) => by_equality(alloc, column, equality, rows),

@@ -6,7 +6,7 @@ ghost use Rattle.lin_rows.specs.Rows.{IsRow};
 ghost use Rattle.lin_rows.specs.Sums.{CanScale};
 ghost use Rattle.lin_rows.specs.Tightening.{tightened};
 ghost use Rattle.fm_elim.specs.Answers.{Exactly};
-ghost use Rattle.fm_elim.specs.Derivations.{input, inputs, nothing, plus_times, PlusTimesFits};
+ghost use Rattle.fm_elim.specs.Derivations.{input, inputs, nothing_derived, plus_times, PlusTimesFits};
 
 use crate::types::{Derived, ElimFault};
 use lin_rows::{Row, RowFault, RowKind, add_scaled, row, tighten};
@@ -24,7 +24,7 @@ pub fn plus_times(alloc: Global, a: &Derived, m: i128, b: &Derived) -> Result<De
 
 /// `0 <= 0`, from no row.
 pub fn nothing(alloc: Global) -> Result<Derived, ElimFault>
-    ensures { Exactly result (λ r. r ≡ nothing) (Unit {0}) }
+    ensures { Exactly result (λ r. r ≡ nothing_derived) (Unit {0}) }
 {
     let inequality = row(alloc, &[], RowKind::Le, 0)?;
     let by = row(alloc, &[], RowKind::Eq, 0)?;

@@ -6,7 +6,7 @@ ghost use Rattle.math_facts.specs.Fits.{Fits};
 ghost use Rattle.frac.specs.Fractions.{IsFraction};
 ghost use Rattle.frac.specs.Sums.{SumFits, ComparisonFits};
 ghost use Rattle.fm_elim.specs.Answers.{Exactly, Gives};
-ghost use Rattle.fm_elim.specs.Quotients.{whole, plus, minus, times, over, PartsFit, MinusFits, is_less, floor, ceiling, nearest};
+ghost use Rattle.fm_elim.specs.Quotients.{whole, fraction_plus, fraction_minus, fraction_times, fraction_over, FractionFits, MinusFits, is_less, floor, ceiling, nearest};
 ghost use Rattle.fm_elim.specs.Values.{greater_end, less_end, GreaterFits, LessFits};
 
 use crate::types::ElimFault;
@@ -26,7 +26,7 @@ pub fn whole(z: i128) -> Result<Frac, ElimFault>
 pub fn plus(a: &Frac, b: &Frac) -> Result<Frac, ElimFault>
     requires left { IsFraction a.now }
     requires right { IsFraction b.now }
-    ensures { Exactly result (Gives (plus a.now b.now)) (SumFits a.now b.now) }
+    ensures { Exactly result (Gives (fraction_plus a.now b.now)) (SumFits a.now b.now) }
 {
     let value = add(a, b)?;
     Ok(value)
@@ -36,7 +36,7 @@ pub fn plus(a: &Frac, b: &Frac) -> Result<Frac, ElimFault>
 pub fn minus(a: &Frac, b: &Frac) -> Result<Frac, ElimFault>
     requires left { IsFraction a.now }
     requires right { IsFraction b.now }
-    ensures { Exactly result (Gives (minus a.now b.now)) (MinusFits a.now b.now) }
+    ensures { Exactly result (Gives (fraction_minus a.now b.now)) (MinusFits a.now b.now) }
 {
     let value = sub(a, b)?;
     Ok(value)
@@ -46,7 +46,7 @@ pub fn minus(a: &Frac, b: &Frac) -> Result<Frac, ElimFault>
 pub fn times(a: &Frac, b: &Frac) -> Result<Frac, ElimFault>
     requires left { IsFraction a.now }
     requires right { IsFraction b.now }
-    ensures { Exactly result (Gives (times a.now b.now)) (PartsFit (times a.now b.now)) }
+    ensures { Exactly result (Gives (fraction_times a.now b.now)) (FractionFits (fraction_times a.now b.now)) }
 {
     let value = mul(a, b)?;
     Ok(value)
@@ -57,7 +57,7 @@ pub fn over(a: &Frac, b: &Frac) -> Result<Frac, ElimFault>
     requires left { IsFraction a.now }
     requires right { IsFraction b.now }
     requires nonzero { b.now.num ≢ pos 0 }
-    ensures { Exactly result (Gives (over a.now b.now)) (PartsFit (over a.now b.now)) }
+    ensures { Exactly result (Gives (fraction_over a.now b.now)) (FractionFits (fraction_over a.now b.now)) }
 {
     let value = div(a, b)?;
     Ok(value)

@@ -7,7 +7,7 @@ ghost use Rattle.frac.specs.Fractions.{IsFraction};
 ghost use Rattle.lin_rows.specs.Rows.{IsCoefficient};
 ghost use Rattle.fm_elim.specs.Answers.{Exactly, Gives, GivesEnd, aside_of};
 ghost use Rattle.fm_elim.specs.Derivations.{at};
-ghost use Rattle.fm_elim.specs.Values.{value_at, with_term, WithTermFits, sum_of, SumOfFits, end_of, EndFits, raised, RaisedFits, lowered, LoweredFits, lower_end, upper_end, value_of, ValueFits};
+ghost use Rattle.fm_elim.specs.Values.{value_at, with_term, WithTermFits, sum_of, SumOfFits, end_of, EndFits, raised, RaisedFits, lowered_end, LoweredFits, lower_end, upper_end, value_of, ValueFits};
 ghost use Rattle.fm_elim.specs.Climb.{SetsColumn};
 ghost use Rattle.fm_elim.specs.Folds.{FoldFits};
 
@@ -98,7 +98,7 @@ fn lowered(
     requires values { AllByRecursion IsFraction values.now }
     requires best { IfSome best IsFraction }
     requires nonzero { at column row.now ≢ pos 0 }
-    ensures { Exactly result (GivesEnd (lowered column values.now best row.now)) (LoweredFits column values.now best row.now) }
+    ensures { Exactly result (GivesEnd (lowered_end column values.now best row.now)) (LoweredFits column values.now best row.now) }
 {
     let end = end_of(column, values, row)?;
     let next = less_end(best, end)?;
@@ -126,7 +126,7 @@ fn upper_end(column: u32, values: &[Frac], rows: &[Derived]) -> Result<Option<Fr
     requires values { AllByRecursion IsFraction values.now }
     requires nonzero { AllByRecursion (λ r. at column r ≢ pos 0) rows.now }
     ensures { Exactly result (GivesEnd (upper_end column values.now rows.now))
-        (FoldFits (lowered column values.now) (LoweredFits column values.now) None rows.now) }
+        (FoldFits (lowered_end column values.now) (LoweredFits column values.now) None rows.now) }
 {
     let mut best = None;
     for row in rows {

@@ -6,7 +6,7 @@ use Rattle.std.proofs.lemmas.Int.{ints, fits_signed_from_abs}
 use Rattle.std.proofs.lemmas.Nat.Gcd.{IsGcd-swap}
 use Rattle.math_facts.specs.Fits.{Fits}
 use Rattle.math_facts.proofs.Whole.{product_comm, product_assoc, product_swap, product_cancel}
-use Rattle.frac.specs.Fractions.{Fraction, IsFraction, IsRatio, opposite}
+use Rattle.frac.specs.Fractions.{Fraction, IsFraction, IsRatio, fraction_opposite}
 use Rattle.frac.proofs.Factors.{product_right_swap, product_inner, product_pairs}
 
 -- ---- signs
@@ -27,7 +27,7 @@ zero_minus z = omega (arith, ints)
 pub FitsSigned-minus : (z : ℤ) → Fits z → FitsSigned w128 (pos 0 -ℤ z)
 FitsSigned-minus z f = fits_signed_from_abs w128 (pos 0 -ℤ z) (subst Fits (sym (zero_minus z)) (Fits-neg z f))
 
-pub opposite_is_fraction : (f : Fraction) → IsFraction f → IsFraction (opposite f)
+pub opposite_is_fraction : (f : Fraction) → IsFraction f → IsFraction (fraction_opposite f)
 opposite_is_fraction f h = record {
   lowest = record {
     positive = h.lowest.positive;
@@ -53,7 +53,7 @@ pub negative_reciprocal : (f : Fraction) → IsFraction f → f.num <ℤ pos 0 �
 negative_reciprocal f h p =
     let l : pos 0 <ℤ neg_ℤ f.num = omega (arith, ints) in
     let k : IsFraction (record { num = neg_ℤ f.den; den = neg_ℤ f.num }) =
-    opposite_is_fraction (record { num = f.den; den = neg_ℤ f.num }) (reciprocal_is_fraction (opposite f) (opposite_is_fraction f h) l) in
+    opposite_is_fraction (record { num = f.den; den = neg_ℤ f.num }) (reciprocal_is_fraction (fraction_opposite f) (opposite_is_fraction f h) l) in
     rw (zero_minus f.den, zero_minus f.num) k
 
 -- ---- a factor of equal value

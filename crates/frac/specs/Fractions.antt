@@ -42,5 +42,5 @@ Compares a b order =
     ((b.num *ℤ a.den) <ℤ (a.num *ℤ b.den))
 
 -- the fraction with the other sign
-abbrev pub opposite : Fraction → Fraction
-opposite f = record { num = neg_ℤ f.num; den = f.den }
+abbrev pub fraction_opposite : Fraction → Fraction
+fraction_opposite f = record { num = neg_ℤ f.num; den = f.den }

@@ -1,5 +1,5 @@
 ghost use Rattle.std.specs.Prelude.{◌≡◌, pos, ◌+ℤ◌, ◌-ℤ◌, ◌*ℤ◌, IfOk, OnOk, OnErr};
-ghost use Rattle.frac.specs.Fractions.{IsFraction, IsRatio, Compares, opposite};
+ghost use Rattle.frac.specs.Fractions.{IsFraction, IsRatio, Compares, fraction_opposite};
 ghost use Rattle.frac.specs.Sums.{ComparisonFits, SumFits};
 
 use crate::numbers::{plus, quotient, reduce, times};
@@ -32,15 +32,15 @@ pub fn sub(a: &Frac, b: &Frac) -> Result<Frac, Past>
     ensures valid { IfOk result IsFraction }
     ensures value { IfOk result (λ f.
         IsRatio f ((a.now.num *ℤ b.now.den) -ℤ (b.now.num *ℤ a.now.den)) (a.now.den *ℤ b.now.den)) }
-    ensures fits { OnOk result (SumFits a.now (opposite b.now)) }
-    ensures past { OnErr result (¬ SumFits a.now (opposite b.now)) }
+    ensures fits { OnOk result (SumFits a.now (fraction_opposite b.now)) }
+    ensures past { OnErr result (¬ SumFits a.now (fraction_opposite b.now)) }
 {
     add(a, &negated(b))
 }
 
 /// The fraction with the other sign.
 fn negated(a: &Frac) -> Frac
-    ensures { result ≡ opposite a.now }
+    ensures { result ≡ fraction_opposite a.now }
 {
     let (numerator, denominator) = a.parts();
     Frac::new(-numerator, denominator)

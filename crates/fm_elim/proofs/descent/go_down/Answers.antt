@@ -1,7 +1,7 @@
 use Rattle.std.proofs.Common.{◌≡◌, ℕ, suc, ◌-◌, List, [], ◌∷◌, map, sym, ap, ◌∙◌, subst, arith}
 use Rattle.std.proofs.lemmas.List.{map-append}
 use Rattle.fm_elim.specs.Answers.{aside_of, eliminated_of}
-use Rattle.fm_elim.specs.Columns.{SetAside, StepFits}
+use Rattle.fm_elim.specs.Columns.{SetAside, EliminationStepFits}
 use Rattle.fm_elim.specs.Elimination.{SolveFits}
 use Rattle.fm_elim.specs.Climb.{IsDown, IsBottom, bottom_of}
 use Rattle.fm_elim.proofs.Climbing.{down_more, down_end, down_past}
@@ -43,6 +43,6 @@ returns-in_err-next c =
     down_set c.args.columns c.args.rows.items c.columns.left c.columns_used-used.result c.columns.rows.items c.columns.asides.items c.set_free.new.asides.items
     c.columns.invariant c.columns_used-used.ensures.bound h f c.in_ok-set_free.ensures in
     exit_step c.from_residual-in_err-next.result (λ b. IsBottom c.args.columns c.args.rows.items (map aside_of b.asides.items) (bottom_of b.refuted))
-    (SolveFits c.args.columns c.args.rows.items) (StepFits k c.columns.rows.items) c.in_err-next.field-0.0
+    (SolveFits c.args.columns c.args.rows.items) (EliminationStepFits k c.columns.rows.items) c.in_err-next.field-0.0
     (down_past c.args.columns c.args.rows.items c.columns_used-used.result k c.columns.rows.items (map aside_of c.set_free.new.asides.items) s l h)
     c.in_err-next.ensures c.from_residual-in_err-next.ensures.1

@@ -1,7 +1,7 @@
 use Rattle.std.proofs.Common.{◌*ℤ◌}
 use Rattle.math_facts.proofs.Whole.{product_nonzero}
 use Rattle.fm_elim.specs.Answers.{Gives}
-use Rattle.fm_elim.specs.Quotients.{over, PartsFit}
+use Rattle.fm_elim.specs.Quotients.{fraction_over, FractionFits}
 use Rattle.fm_elim.proofs.Exits.{exit_past}
 use Rattle.fm_elim.proofs.ValueLemmas.{gives_reduced, parts_fit, parts_past, den_nonzero}
 use Rattle.fm_elim.proofs.fractions.over.Goals as goal
@@ -10,7 +10,7 @@ pub returns-in_err-value : goal.returns-in_err-value
 returns-in_err-value c =
     let a = c.args.a.now in
     let b = c.args.b.now in
-    exit_past c.from_residual.result (Gives (over a b)) (PartsFit (over a b))
+    exit_past c.from_residual.result (Gives (fraction_over a b)) (FractionFits (fraction_over a b))
     (parts_past (a.num *ℤ b.den) (a.den *ℤ b.num) (product_nonzero a.den b.num (den_nonzero a c.requires.left) c.requires.nonzero) c.in_err-value.ensures.past)
     c.from_residual.ensures.1
 
