@@ -10,7 +10,7 @@ use Rattle.lin_rows.specs.Tightening.{tightened}
 use Rattle.lin_rows.specs.Systems.{SomeMember, EachHasMember, Meets, rows_of, groups_of}
 use Rattle.lin_rows.proofs.SystemLaws.{meets_close}
 use Rattle.farkas_check.specs.Nodes.{PlainNode, leaf, cut, cases}
-use Rattle.farkas_check.specs.Refutes.{Goal, at_most, above, with_row, with_member, goal_of, Refute}
+use Rattle.farkas_check.specs.Refutes.{Goal, at_most, above, with_row, goal_with_member, goal_of, Refute}
 use Rattle.fm_elim.specs.Elimination as outcome
 use Rattle.fm_elim.specs.Worth.{Combines, IsWorth}
 use Rattle.fm_elim.proofs.Lists.{all_append, all_parts, all_map}
@@ -203,7 +203,7 @@ advance_cut n left rows s values x e b f l r =
 members_ready : (n left k : ℕ) (rows : List LinearRow) (groups : List (List System)) (members : List System) (ts : List Task) →
     RowsBelow n rows → AllByRecursion StaysTight rows → AllMembers (SystemBelow n) groups → AllByRecursion (SystemBelow n) members →
     (length rows + total (λ m. suc (extent m)) members) + total (λ ms. total (λ m. suc (extent m)) ms) groups + left < 2 ^ 32 →
-    AllByRecursion (IsReady n) ts → AllByRecursion (IsReady n) (map (λ m. record { left = left; goal = with_member (record { rows = rows; groups = groups }) m }) members ++ ts)
+    AllByRecursion (IsReady n) ts → AllByRecursion (IsReady n) (map (λ m. record { left = left; goal = goal_with_member (record { rows = rows; groups = groups }) m }) members ++ ts)
 members_ready n left k rows groups [] ts b t g m l h = h
 members_ready n left k rows groups (s ∷ ss) ts b t g m l h = (
   let o = SystemBelow_open n s m.0 in
@@ -223,18 +223,18 @@ members_ready n left k rows groups (s ∷ ss) ts b t g m l h = (
 )
 
 goals-opened : (left : ℕ) (rows : List LinearRow) (groups : List (List System)) (members : List System) (ts : List Task) →
-    goals_of (opened (task left rows (members ∷ groups)) members groups ++ ts) ≡ map (with_member (record { rows = rows; groups = groups })) members ++ goals_of ts
+    goals_of (opened (task left rows (members ∷ groups)) members groups ++ ts) ≡ map (goal_with_member (record { rows = rows; groups = groups })) members ++ goals_of ts
 goals-opened left rows groups members ts = by_list members
   where
     by_list : (ms : List System) →
-        goals_of (map (λ m. record { left = left; goal = with_member (record { rows = rows; groups = groups }) m }) ms ++ ts) ≡
-        map (with_member (record { rows = rows; groups = groups })) ms ++ goals_of ts
+        goals_of (map (λ m. record { left = left; goal = goal_with_member (record { rows = rows; groups = groups }) m }) ms ++ ts) ≡
+        map (goal_with_member (record { rows = rows; groups = groups })) ms ++ goals_of ts
     by_list [] = refl
-    by_list (m ∷ ms) = ap (λ (gs : List Goal). with_member (record { rows = rows; groups = groups }) m ∷ gs) (by_list ms)
+    by_list (m ∷ ms) = ap (λ (gs : List Goal). goal_with_member (record { rows = rows; groups = groups }) m ∷ gs) (by_list ms)
 
 -- a point that meets a goal with a member meets the goal with the group
 member_met : (point : ℕ → ℤ) (left : ℕ) (rows : List LinearRow) (groups : List (List System)) (ms : List System) (ts : List Task) →
-    SomeMet point (map (λ m. record { left = left; goal = with_member (record { rows = rows; groups = groups }) m }) ms ++ ts) →
+    SomeMet point (map (λ m. record { left = left; goal = goal_with_member (record { rows = rows; groups = groups }) m }) ms ++ ts) →
     (AllByRecursion (Holds point) rows × EachHasMember (Meets point) groups × SomeMember (Meets point) ms) ⊎ SomeMet point ts
 member_met point left rows groups [] ts h = inr h
 member_met point left rows groups (m ∷ ms) ts (inl h) =
@@ -270,7 +270,7 @@ decided-opened n left rows groups members =
     let f : ℕ = total group_count members + over_groups group_count groups in
     let e : over_groups group_count (members ∷ groups) ≡ suc f = omega arith in
     let l : over_groups group_count (members ∷ groups) ≤ suc f = omega arith in
-    let to : System → Task = λ m. record { left = left; goal = with_member (record { rows = rows; groups = groups }) m } in
+    let to : System → Task = λ m. record { left = left; goal = goal_with_member (record { rows = rows; groups = groups }) m } in
     let a : System → Decision = λ m. decide_groups f n left (rows ++ map tightened (rows_of m)) (groups ++ groups_of m) in
     let b : System → Decision = λ m. decide_task n (to m) in
     ap (λ (k : ℕ). decide_groups k n left rows (members ∷ groups)) e ∙
@@ -285,7 +285,7 @@ fits-opened n left rows groups members =
     let f : ℕ = total group_count members + over_groups group_count groups in
     let e : over_groups group_count (members ∷ groups) ≡ suc f = omega arith in
     let l : over_groups group_count (members ∷ groups) ≤ suc f = omega arith in
-    let to : System → Task = λ m. record { left = left; goal = with_member (record { rows = rows; groups = groups }) m } in
+    let to : System → Task = λ m. record { left = left; goal = goal_with_member (record { rows = rows; groups = groups }) m } in
     let a : System → Decision = λ m. decide_groups f n left (rows ++ map tightened (rows_of m)) (groups ++ groups_of m) in
     let b : System → Decision = λ m. decide_task n (to m) in
     ap (λ (k : ℕ). GroupsFit k n left rows (members ∷ groups)) e ∙
@@ -309,7 +309,7 @@ advance_cases n left rows s members groups r =
     let p : TaskFits n t ≡ AllFit n new = fits-opened n left rows groups members in
     let u = UnlessWhole-under node inside Rest in
     let v = EachUntilWhole-append (decide_task n) (TaskFits n) new s.tasks in
-    let gs : List Goal = map (with_member one) members ++ goals_of s.tasks in
+    let gs : List Goal = map (goal_with_member one) members ++ goals_of s.tasks in
     record {
       value =
           ap (λ (d : Decision). beside (found_by s.gap s.nodes) (beside d rest)) q ∙ found_under s.gap s.nodes node inside rest ∙
@@ -339,7 +339,7 @@ values_advance n zero rows s values (Some x) e b w f l r = advance_gap n rows s 
 values_advance n (suc left) rows s values (Some x) e b w f l r =
     advance_cut n left rows s values x e b f (let k : x.0 < 0 + length values = broken_below 0 values x b in omega arith) r
 
-rows_advance : (n left : ℕ) (rows : List LinearRow) (s : Standing) (o : outcome.Outcome) → outcome.elimination n rows ≡ o → whole_outcome o ≡ None → outcome.EliminationFits n rows →
+rows_advance : (n left : ℕ) (rows : List LinearRow) (s : Standing) (o : outcome.EliminationOutcome) → outcome.elimination n rows ≡ o → whole_outcome o ≡ None → outcome.EliminationFits n rows →
     IsWorth n rows o → IsReady n (task left rows []) → Advances n (task left rows []) s (after_outcome (task left rows []) s o)
 rows_advance n left rows s (outcome.refuted parts) e w f v r = advance_leaf n left rows s parts e f v
 rows_advance n left rows s (outcome.point values) e w f v r = values_advance n left rows s values (first_broken 0 values) e refl w f v.columns r

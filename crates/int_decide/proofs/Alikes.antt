@@ -91,14 +91,14 @@ by_values_alike broken own values (Some x) None e f = absurd (let z : ⊥ = cc i
 by_values_alike broken own values (Some x) (Some y) e f =
     let s : (x.0, floor x.1) ≡ (y.0, floor y.1) = cc in ap (λ (p : ℕ × ℤ). broken p.0 p.1) s
 
-by_outcome_alike : (broken : ℕ → ℤ → Decision) (o p : outcome.Outcome) → AreAlike o p → bare (by_outcome broken o) ≡ bare (by_outcome broken p)
+by_outcome_alike : (broken : ℕ → ℤ → Decision) (o p : outcome.EliminationOutcome) → AreAlike o p → bare (by_outcome broken o) ≡ bare (by_outcome broken p)
 by_outcome_alike broken (outcome.refuted own) (outcome.refuted parts) h = refl
 by_outcome_alike broken (outcome.refuted own) (outcome.point values) h = absurd h
 by_outcome_alike broken (outcome.point own) (outcome.refuted parts) h = absurd h
 by_outcome_alike broken (outcome.point own) (outcome.point values) h =
     ap bare (by_values_alike broken own values (first_broken 0 own) (first_broken 0 values) h.cuts h.numbers)
 
-rows_alike : (n d : ℕ) (rows : List LinearRow) (o : outcome.Outcome) → StandsIn n rows o → bare (decide_rows n d rows) ≡ bare (by_outcome (broken_of n d rows) o)
+rows_alike : (n d : ℕ) (rows : List LinearRow) (o : outcome.EliminationOutcome) → StandsIn n rows o → bare (decide_rows n d rows) ≡ bare (by_outcome (broken_of n d rows) o)
 rows_alike n d rows o h =
     ap bare (by_elimination n d rows (outcome.elimination n rows) refl) ∙ by_outcome_alike (broken_of n d rows) (outcome.elimination n rows) o h.alike
 
@@ -182,7 +182,7 @@ values_carry n (suc left) rows s values (Some x) b h w r =
     (rows_alike n (suc left) rows (outcome.point values) h ∙ ap (λ (y : Option (ℕ × Fraction)). bare (by_values (broken_of n (suc left) rows) values y)) b)
     (let k : x.0 < 0 + length values = broken_below 0 values x b in let e : length values ≡ n = h.meets.columns in omega arith) r
 
-rows_carry : (n left : ℕ) (rows : List LinearRow) (s : Standing) (o : outcome.Outcome) → StandsIn n rows o → whole_outcome o ≡ None → IsReady n (task left rows []) →
+rows_carry : (n left : ℕ) (rows : List LinearRow) (s : Standing) (o : outcome.EliminationOutcome) → StandsIn n rows o → whole_outcome o ≡ None → IsReady n (task left rows []) →
     CarriesOn n (task left rows []) s (after_outcome (task left rows []) s o)
 rows_carry n left rows s (outcome.refuted parts) h w r = carries_leaf n left rows s parts h
 rows_carry n left rows s (outcome.point values) h w r = values_carry n left rows s values (first_broken 0 values) refl h w r

@@ -142,7 +142,7 @@ whole_values n left rows values None numbers e b w f =
       fits = cut_fits n left rows values None e b f tt;
     }
 
-whole_rows : (n left : ℕ) (rows : List LinearRow) (o : outcome.Outcome) (numbers : List ℤ) → outcome.elimination n rows ≡ o → whole_outcome o ≡ Some numbers →
+whole_rows : (n left : ℕ) (rows : List LinearRow) (o : outcome.EliminationOutcome) (numbers : List ℤ) → outcome.elimination n rows ≡ o → whole_outcome o ≡ Some numbers →
     outcome.EliminationFits n rows → IsWholeTask n (task left rows []) numbers
 whole_rows n left rows (outcome.refuted parts) numbers e w f = absurd (cc)
 whole_rows n left rows (outcome.point values) numbers e w f = whole_values n left rows values (first_broken 0 values) numbers e refl w f

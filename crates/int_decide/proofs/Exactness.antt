@@ -15,18 +15,18 @@ use Rattle.int_decide.specs.Worth.{IsRefuted}
 use Rattle.int_decide.proofs.Points.{OutcomeWorth, elimination_worth}
 use Rattle.int_decide.proofs.Worths.{IsFineOpen, fine_open}
 
-values_not_refuted : (values : List Fraction) (x : Option (ℕ × Fraction)) → IsRefuted (by_values (λ c k. gap) values x) → ⊥
+pub values_not_refuted : (values : List Fraction) (x : Option (ℕ × Fraction)) → IsRefuted (by_values (λ c k. gap) values x) → ⊥
 values_not_refuted values None h = h
 values_not_refuted values (Some x) h = h
 
-outcome_exact : (n : ℕ) (rows : List LinearRow) (o : outcome.Outcome) → OutcomeWorth n rows o → IsRefuted (by_outcome (λ c k. gap) o) ↔ (IsSolvable rows → ⊥)
+outcome_exact : (n : ℕ) (rows : List LinearRow) (o : outcome.EliminationOutcome) → OutcomeWorth n rows o → IsRefuted (by_outcome (λ c k. gap) o) ↔ (IsSolvable rows → ⊥)
 outcome_exact n rows (outcome.refuted parts) w = (λ r s. no_point rows parts w s, λ s. tt)
 outcome_exact n rows (outcome.point values) w = (
   λ r s. values_not_refuted values (first_broken 0 values) r,
   λ s. absurd (s (record { d = w.d; p = w.p; positive = w.are_values.positive; holds = w.holds })),
 )
 
-groups_none : (f n d : ℕ) (rows : List LinearRow) → decide_groups f n d rows [] ≡ decide_rows n d rows
+pub groups_none : (f n d : ℕ) (rows : List LinearRow) → decide_groups f n d rows [] ≡ decide_rows n d rows
 groups_none zero n d rows = refl
 groups_none (suc f) n d rows = refl
 

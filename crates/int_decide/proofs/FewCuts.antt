@@ -41,7 +41,7 @@ tree_by_values : (d : ℕ) (broken : ℕ → ℤ → Decision) (values : List Fr
 tree_by_values d broken values None f = tt
 tree_by_values d broken values (Some x) f = f x.0 (floor x.1)
 
-tree_by_outcome : (d : ℕ) (broken : ℕ → ℤ → Decision) (o : outcome.Outcome) → ((c : ℕ) (k : ℤ) → IsTreeIf d (broken c k)) → IsTreeIf d (by_outcome broken o)
+tree_by_outcome : (d : ℕ) (broken : ℕ → ℤ → Decision) (o : outcome.EliminationOutcome) → ((c : ℕ) (k : ℤ) → IsTreeIf d (broken c k)) → IsTreeIf d (by_outcome broken o)
 tree_by_outcome d broken (outcome.refuted parts) f = leaf_is_tree d parts
 tree_by_outcome d broken (outcome.point values) f = tree_by_values d broken values (first_broken 0 values) f
 

@@ -27,3 +27,4 @@ pub mod Alikes
 mod SearchSteps
 mod ShownValues
 mod CutSteps
+pub mod RationalPoints

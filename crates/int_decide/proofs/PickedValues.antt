@@ -323,18 +323,18 @@ numbers_alike own values None (Some y) e f = absurd (let z : ⊥ = cc in z)
 numbers_alike own values (Some x) None e f = absurd (let z : ⊥ = cc in z)
 numbers_alike own values (Some x) (Some y) e f = refl
 
-alike_by : (n : ℕ) (rows : List LinearRow) (values : List Fraction) (o : outcome.Outcome) → IsPickedOutcome n rows o → IsPoint n rows values → ArePicked rows 0 values →
+alike_by : (n : ℕ) (rows : List LinearRow) (values : List Fraction) (o : outcome.EliminationOutcome) → IsPickedOutcome n rows o → IsPoint n rows values → ArePicked rows 0 values →
     AreAlike o (outcome.point values)
 alike_by n rows values (outcome.refuted parts) u v a = u (record { d = v.meets.d; p = v.meets.p; positive = v.meets.positive; holds = v.meets.holds })
 alike_by n rows values (outcome.point own) u v a =
     let h : AreCutAlike 0 own values = alike_from n rows rows own values [] 0 own values u v (λ d p r w. r) refl refl refl (u.one.meets.columns ∙ sym v.meets.columns) a in
     record { cuts = h.cuts; numbers = numbers_alike own values (first_broken 0 own) (first_broken 0 values) h.cuts h.same }
 
-refuted_by : (n : ℕ) (rows : List LinearRow) (parts : List (ℕ × ℤ)) (o : outcome.Outcome) → IsPickedOutcome n rows o → (IsSolvable rows → ⊥) → AreAlike o (outcome.refuted parts)
+refuted_by : (n : ℕ) (rows : List LinearRow) (parts : List (ℕ × ℤ)) (o : outcome.EliminationOutcome) → IsPickedOutcome n rows o → (IsSolvable rows → ⊥) → AreAlike o (outcome.refuted parts)
 refuted_by n rows parts (outcome.refuted own) u h = tt
 refuted_by n rows parts (outcome.point own) u h = h (record { d = u.one.meets.d; p = u.one.meets.p; positive = u.one.meets.positive; holds = u.one.meets.holds })
 
-own_outcome : (n : ℕ) (rows : List LinearRow) → AllByRecursion IsRow rows → RowsBelow n rows → map tightened rows ≡ rows → IsPickedOutcome n rows (outcome.elimination n rows)
+pub own_outcome : (n : ℕ) (rows : List LinearRow) → AllByRecursion IsRow rows → RowsBelow n rows → map tightened rows ≡ rows → IsPickedOutcome n rows (outcome.elimination n rows)
 own_outcome n rows v b t = subst (λ (rs : List LinearRow). IsPickedOutcome n rs (outcome.elimination n rows)) t (point_is_picked n rows v b)
 
 -- multipliers stand in where no rational point meets the rows

@@ -40,7 +40,7 @@ pub record MeetsTight (n : ℕ) (rows : List LinearRow) (values : List Fraction)
   pub holds : AllByRecursion (HoldsAt d p) rows
 
 -- the outcome is true of the rows themselves
-abbrev pub OutcomeWorth : ℕ → List LinearRow → outcome.Outcome → Type 0
+abbrev pub OutcomeWorth : ℕ → List LinearRow → outcome.EliminationOutcome → Type 0
 OutcomeWorth n rows (outcome.refuted parts) = Combines rows parts
 OutcomeWorth n rows (outcome.point values) = MeetsTight n rows values
 
@@ -53,7 +53,7 @@ inputs_hold : (d : ℤ) (p : ℕ → ℤ) (k : ℕ) (rows : List LinearRow) → 
 inputs_hold d p k [] h = tt
 inputs_hold d p k (r ∷ rs) h = (h.0, inputs_hold d p (suc k) rs h.1)
 
-worth_of : (n : ℕ) (rows : List LinearRow) (o : outcome.Outcome) → IfRefuted o (Combines (map tightened rows)) → IfPoint o (MeetsRows n (inputs 0 rows)) →
+worth_of : (n : ℕ) (rows : List LinearRow) (o : outcome.EliminationOutcome) → IfRefuted o (Combines (map tightened rows)) → IfPoint o (MeetsRows n (inputs 0 rows)) →
     OutcomeWorth n (map tightened rows) o
 worth_of n rows (outcome.refuted parts) h m = h
 worth_of n rows (outcome.point values) h m = record {

@@ -4,7 +4,7 @@ use Rattle.std.proofs.lemmas.List.{append-nil}
 use Rattle.lin_rows.specs.declared.systems.System.{System}
 use Rattle.lin_rows.specs.Rows.{LinearRow}
 use Rattle.farkas_check.specs.Nodes.{PlainNode, leaf, cut, cases, is_tree}
-use Rattle.farkas_check.specs.Refutes.{Goal, at_most, above, with_row, with_member, goal_of, CasesRefute, Refute, Refutes}
+use Rattle.farkas_check.specs.Refutes.{Goal, at_most, above, with_row, goal_with_member, goal_of, CasesRefute, Refute, Refutes}
 use Rattle.farkas_check.specs.Trees.{Trees, leaf_tree, cut_tree, cases_tree, no_tree, one_more, tree_count, prefixes_of, cuts_on_branch, most_cuts}
 use Rattle.farkas_check.proofs.TreeLaws.{is_tree_is}
 use Rattle.fm_elim.specs.Worth.{Combines}
@@ -57,7 +57,7 @@ cut_first c k ns g a = record {
 }
 
 pub cases_first : (ns : List PlainNode) (rows : List LinearRow) (members : List System) (groups : List (List System)) →
-    RefuteFirst ns (map (with_member (record { rows = rows; groups = groups })) members) →
+    RefuteFirst ns (map (goal_with_member (record { rows = rows; groups = groups })) members) →
     RefuteFirst (cases (length members) ∷ ns) (record { rows = rows; groups = members ∷ groups } ∷ [])
 cases_first ns rows members groups a = record {
   fits = λ rest gs h. a.fits rest gs h;
@@ -112,7 +112,7 @@ cases_are_tree d count ns a = record {
 cases_fit : (refute fit : List Goal → Type 0) (n : ℕ) (rows : List LinearRow) (groups : List (List System)) → ((goals : List Goal) → refute goals → fit goals) →
     CasesRefute refute n rows groups → CasesFit fit rows groups
 cases_fit refute fit n rows [] f r = tt
-cases_fit refute fit n rows (members ∷ groups) f r = f (map (with_member (record { rows = rows; groups = groups })) members) r.1
+cases_fit refute fit n rows (members ∷ groups) f r = f (map (goal_with_member (record { rows = rows; groups = groups })) members) r.1
 
 pub refuted_fits : (ns : List PlainNode) (gs : List Goal) → Refute ns gs → LeavesFit ns gs
 refuted_fits [] gs r = tt

@@ -17,7 +17,7 @@ abbrev pub broken_of : ℕ → ℕ → List LinearRow → ℕ → ℤ → Decisi
 broken_of n zero rows c k = gap
 broken_of n (suc d) rows c k = under (cut c k) (beside (decide_rows n d (rows ++ at_most c k ∷ [])) (decide_rows n d (rows ++ above c k ∷ [])))
 
-pub by_elimination : (n d : ℕ) (rows : List LinearRow) (o : outcome.Outcome) → outcome.elimination n rows ≡ o → decide_rows n d rows ≡ by_outcome (broken_of n d rows) o
+pub by_elimination : (n d : ℕ) (rows : List LinearRow) (o : outcome.EliminationOutcome) → outcome.elimination n rows ≡ o → decide_rows n d rows ≡ by_outcome (broken_of n d rows) o
 by_elimination n zero rows o e = ap (by_outcome (broken_of n zero rows)) e
 by_elimination n (suc d) rows o e = ap (by_outcome (broken_of n (suc d) rows)) e
 
@@ -37,7 +37,7 @@ BrokenFits n (suc d) rows c k =
     RowsFit n d (rows ++ at_most c k ∷ []) × UnlessWhole (decide_rows n d (rows ++ at_most c k ∷ [])) (RowsFit n d (rows ++ above c k ∷ []))
 
 -- the numbers are those of the elimination, and those of both sides of a cut
-pub rows_fit : (n d : ℕ) (rows : List LinearRow) (o : outcome.Outcome) → outcome.elimination n rows ≡ o → outcome.EliminationFits n rows → WhereCut (BrokenFits n d rows) o → RowsFit n d rows
+pub rows_fit : (n d : ℕ) (rows : List LinearRow) (o : outcome.EliminationOutcome) → outcome.elimination n rows ≡ o → outcome.EliminationFits n rows → WhereCut (BrokenFits n d rows) o → RowsFit n d rows
 rows_fit n zero rows o e f w = f
 rows_fit n (suc d) rows o e f w = (f, subst (WhereCut (BrokenFits n (suc d) rows)) (sym e) w)
 

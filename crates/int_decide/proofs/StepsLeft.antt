@@ -4,7 +4,7 @@ use Rattle.std.specs.List.{AllByRecursion}
 use Rattle.lin_rows.specs.declared.systems.System.{System}
 use Rattle.lin_rows.specs.Rows.{LinearRow}
 use Rattle.lin_rows.specs.Systems.{groups_of}
-use Rattle.farkas_check.specs.Refutes.{with_member}
+use Rattle.farkas_check.specs.Refutes.{goal_with_member}
 use Rattle.fm_elim.proofs.Lists.{all_both}
 use Rattle.int_decide.specs.Sizes.{total, over_groups, group_count}
 use Rattle.int_decide.specs.Searching.{Task, opened, cut_count, step_count, goal_groups, steps_left}
@@ -50,7 +50,7 @@ steps-opened left rows members groups =
     let f : ℕ = total group_count members + over_groups group_count groups in
     let e : over_groups group_count (members ∷ groups) ≡ suc f = omega arith in
     let l : over_groups group_count (members ∷ groups) ≤ suc f = omega arith in
-    let to : System → Task = λ m. record { left = left; goal = with_member (record { rows = rows; groups = groups }) m } in
+    let to : System → Task = λ m. record { left = left; goal = goal_with_member (record { rows = rows; groups = groups }) m } in
     let s : total (λ m. step_count f left (groups ++ groups_of m)) members ≡ total (λ m. step_count (over_groups group_count (groups ++ groups_of m)) left (groups ++ groups_of m)) members =
     total_same (λ m. step_count f left (groups ++ groups_of m)) (λ m. step_count (over_groups group_count (groups ++ groups_of m)) left (groups ++ groups_of m))
     (λ m. over_groups group_count (groups ++ groups_of m) ≤ f) members

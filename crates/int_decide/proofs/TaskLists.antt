@@ -5,7 +5,7 @@ use Rattle.lin_rows.specs.declared.systems.System.{System}
 use Rattle.farkas_check.specs.declared.refutations.Node.TheVariants.{Cases}
 use Rattle.farkas_check.specs.Nodes.{cases, plain, plain_nodes}
 use Rattle.farkas_check.specs.Walks.{goal_at_hand, goals_left, OpensGroup}
-use Rattle.farkas_check.specs.Refutes.{Goal, with_member}
+use Rattle.farkas_check.specs.Refutes.{Goal, goal_with_member}
 use Rattle.int_decide.specs.declared.search.Search.{Search}
 use Rattle.int_decide.specs.Sizes.{total, extent}
 use Rattle.int_decide.specs.Searching.{Task, tasks, IsPaired, opened, goal_extent, Opens}
@@ -37,11 +37,11 @@ replicated (suc n) left =
     turned (suc k) = ap (λ (l : List ℕ). left ∷ l) (turned k)
 
 tasks_of_group : (left : ℕ) (g : Goal) (members : List System) (groups : List (List System)) (ls : List ℕ) (gs : List Goal) →
-    tasks (replicate (length members) left ++ ls) (map (with_member (record { rows = g.rows; groups = groups })) members ++ gs) ≡
+    tasks (replicate (length members) left ++ ls) (map (goal_with_member (record { rows = g.rows; groups = groups })) members ++ gs) ≡
     opened (record { left = left; goal = g }) members groups ++ tasks ls gs
 tasks_of_group left g [] groups ls gs = refl
 tasks_of_group left g (m ∷ ms) groups ls gs =
-    ap (λ (ts : List Task). record { left = left; goal = with_member (record { rows = g.rows; groups = groups }) m } ∷ ts) (tasks_of_group left g ms groups ls gs)
+    ap (λ (ts : List Task). record { left = left; goal = goal_with_member (record { rows = g.rows; groups = groups }) m } ∷ ts) (tasks_of_group left g ms groups ls gs)
 
 -- ---- a group is opened
 
@@ -62,8 +62,8 @@ opens_is left n old new o nodes lefts gap paired =
     ap plain_nodes nodes ∙ map-append plain old.nodes.items (Cases n ∷ []) ∙ ap (λ (m : ℕ). plain_nodes old.nodes.items ++ cases m ∷ []) o.count in
     let l : length new.lefts.items ≡ length ls + k = ap length a ∙ length-append ls (replicate k left) ∙ ap (λ (m : ℕ). length ls + m) (length-replicate k left) in
     let m : length (goals_left new.walk) ≡ k + length gs =
-    ap length o.wait ∙ length-append (map (with_member (record { rows = g.rows; groups = o.groups })) o.members) gs ∙
-    ap (λ (x : ℕ). x + length gs) (length-map o.members (with_member (record { rows = g.rows; groups = o.groups }))) in
+    ap length o.wait ∙ length-append (map (goal_with_member (record { rows = g.rows; groups = o.groups })) o.members) gs ∙
+    ap (λ (x : ℕ). x + length gs) (length-map o.members (goal_with_member (record { rows = g.rows; groups = o.groups }))) in
     let p : length ls ≡ length gs = paired in
     record {
       members = o.members;

@@ -44,7 +44,7 @@ whole_is : (n : ℕ) (g : Goal) (values : List Fraction) → IsStep n g values �
 whole_is n g values s = ap (whole_groups n g.rows) s.alone ∙ ap whole_outcome s.found
 
 worth_is : (n : ℕ) (g : Goal) (values : List Fraction) → IsStep n g values → StepIsWorth n g
-worth_is n g values s = λ e. subst (λ (o : outcome.Outcome). IsWorth n (map tightened g.rows) o) (sym s.found) s.worth
+worth_is n g values s = λ e. subst (λ (o : outcome.EliminationOutcome). IsWorth n (map tightened g.rows) o) (sym s.found) s.worth
 
 step_goes : (n left : ℕ) (g : Goal) (values : List Fraction) (old mid new : Search) → IsStep n g values → standing_of mid ≡ standing_of old →
     Breaks (record { left = left; goal = g }) values mid new → Goes n (record { left = left; goal = g }) old new

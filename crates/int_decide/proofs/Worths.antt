@@ -14,7 +14,7 @@ use Rattle.lin_rows.proofs.SystemLaws.{meets_open, meets_close}
 use Rattle.lin_rows.proofs.NegatingLemmas.{negated_holds}
 use Rattle.lin_rows.specs.Points.{point_of}
 use Rattle.farkas_check.specs.Nodes.{PlainNode, cut, cases}
-use Rattle.farkas_check.specs.Refutes.{Goal, at_most, above, with_row, with_member, goal_of, Refutes}
+use Rattle.farkas_check.specs.Refutes.{Goal, at_most, above, with_row, goal_with_member, goal_of, Refutes}
 use Rattle.farkas_check.proofs.Sound.{MeetsGoal}
 use Rattle.fm_elim.specs.Elimination as outcome
 use Rattle.fm_elim.specs.Worth.{Combines, HoldsAt}
@@ -94,7 +94,7 @@ values_worth n d rows broken values (Some x) e m f =
     let c : length values ≡ n = m.columns in
     f x.0 (floor x.1) (omega arith)
 
-outcome_worth : (n d : ℕ) (rows : List LinearRow) (broken : ℕ → ℤ → Decision) (o : outcome.Outcome) → OutcomeWorth n rows o →
+outcome_worth : (n d : ℕ) (rows : List LinearRow) (broken : ℕ → ℤ → Decision) (o : outcome.EliminationOutcome) → OutcomeWorth n rows o →
     ((c : ℕ) (k : ℤ) → c < n → GoalWorth n d (record { rows = rows; groups = [] }) (broken c k)) →
     GoalWorth n d (record { rows = rows; groups = [] }) (by_outcome broken o)
 outcome_worth n d rows broken (outcome.refuted parts) w f = (
@@ -128,7 +128,7 @@ HasNoMember g members = (point : ℕ → ℤ) → MeetsGoal point g → SomeMemb
 -- the decision is true of the goals with each of these members, taken together
 abbrev pub MembersWorth : ℕ → ℕ → Goal → List System → Decision → Type 0
 MembersWorth n d g members (refuted ns) =
-    AreTreesOf d (length members) ns × RefuteFirst ns (map (with_member g) members) × HasNoMember g members
+    AreTreesOf d (length members) ns × RefuteFirst ns (map (goal_with_member g) members) × HasNoMember g members
 MembersWorth n d g members (whole values) = (length values ≡ n) × MeetsGoal (point_of values) g × SomeMember (Meets (point_of values)) members
 MembersWorth n d g members gap = Unit {0}
 
@@ -137,14 +137,14 @@ each_parts P [] hs h = (tt, h)
 each_parts P (g ∷ gs) hs h = let r = each_parts P gs hs h.1 in ((h.0, r.0), r.1)
 
 -- a point that meets a goal with a member meets the goal
-without_member : (point : ℕ → ℤ) (g : Goal) (s : System) → MeetsGoal point (with_member g s) → MeetsGoal point g
+without_member : (point : ℕ → ℤ) (g : Goal) (s : System) → MeetsGoal point (goal_with_member g s) → MeetsGoal point g
 without_member point g s m = record {
   rows = (all_parts (Holds point) g.rows (map tightened (rows_of s)) m.rows).0;
   groups = (each_parts (Meets point) g.groups (groups_of s) m.groups).0;
 }
 
 -- and the member
-meets_member : (point : ℕ → ℤ) (g : Goal) (s : System) → MeetsGoal point (with_member g s) → Meets point s
+meets_member : (point : ℕ → ℤ) (g : Goal) (s : System) → MeetsGoal point (goal_with_member g s) → Meets point s
 meets_member point g s m =
     meets_close point s (
       hold_untightened point (rows_of s) (all_parts (Holds point) g.rows (map tightened (rows_of s)) m.rows).1,
@@ -156,7 +156,7 @@ each_append P [] hs h k = k
 each_append P (g ∷ gs) hs h k = (h.0, each_append P gs hs h.1 k)
 
 -- a point that meets a goal and a system meets the goal with the system as a member
-member_met : (point : ℕ → ℤ) (g : Goal) (s : System) → MeetsGoal point g → Meets point s → MeetsGoal point (with_member g s)
+member_met : (point : ℕ → ℤ) (g : Goal) (s : System) → MeetsGoal point g → Meets point s → MeetsGoal point (goal_with_member g s)
 member_met point g s m h =
     let o = meets_open point s h in
     record {
@@ -164,11 +164,11 @@ member_met point g s m h =
       groups = each_append (Meets point) g.groups (groups_of s) m.groups o.1;
     }
 
-one_more_has_none : (g : Goal) (m : System) (ms : List System) → HasNoPoint (with_member g m) → HasNoMember g ms → HasNoMember g (m ∷ ms)
+one_more_has_none : (g : Goal) (m : System) (ms : List System) → HasNoPoint (goal_with_member g m) → HasNoMember g ms → HasNoMember g (m ∷ ms)
 one_more_has_none g m ms a b point h (inl i) = a point (member_met point g m h i)
 one_more_has_none g m ms a b point h (inr i) = b point h i
 
-one_more_worth : (n d : ℕ) (g : Goal) (m : System) (ms : List System) (a b : Decision) → GoalWorth n d (with_member g m) a → MembersWorth n d g ms b →
+one_more_worth : (n d : ℕ) (g : Goal) (m : System) (ms : List System) (a b : Decision) → GoalWorth n d (goal_with_member g m) a → MembersWorth n d g ms b →
     MembersWorth n d g (m ∷ ms) (beside a b)
 one_more_worth n d g m ms (whole x) b h i = (h.0, without_member (point_of x) g m h.1, inl (meets_member (point_of x) g m h.1))
 one_more_worth n d g m ms gap (whole y) h i = (i.0, i.1, inr i.2)
@@ -178,11 +178,11 @@ one_more_worth n d g m ms (refuted ns) (whole y) h i = (i.0, i.1, inr i.2)
 one_more_worth n d g m ms (refuted ns) gap h i = tt
 one_more_worth n d g m ms (refuted ns) (refuted ls) h i = (
   one_more_tree d (length ms) ns ls h.0 i.0,
-  joined_first ns ls (with_member g m) (map (with_member g) ms) h.1 i.1,
+  joined_first ns ls (goal_with_member g m) (map (goal_with_member g) ms) h.1 i.1,
   one_more_has_none g m ms h.2 i.2,
 )
 
-members_worth : (n d : ℕ) (g : Goal) (decided : System → Decision) (members : List System) → AllByRecursion (λ m. GoalWorth n d (with_member g m) (decided m)) members →
+members_worth : (n d : ℕ) (g : Goal) (decided : System → Decision) (members : List System) → AllByRecursion (λ m. GoalWorth n d (goal_with_member g m) (decided m)) members →
     MembersWorth n d g members (all_beside (map decided members))
 members_worth n d g decided [] h = (no_trees d, none_first, λ point m k. k)
 members_worth n d g decided (m ∷ ms) h =
@@ -237,7 +237,7 @@ groups_worth (suc f) n d rows (g ∷ gs) t b h =
     let one : Goal = record { rows = rows; groups = gs } in
     cases_worth n d rows g gs (all_beside (map decided g))
     (members_worth n d one decided g
-    (all_weaker (IsFine n) (λ m. GoalWorth n d (with_member one m) (decided m)) g
+    (all_weaker (IsFine n) (λ m. GoalWorth n d (goal_with_member one m) (decided m)) g
     (λ m i.
     let o : IsFineOpen n m = fine_open n m i in
     groups_worth f n d (rows ++ map tightened (rows_of m)) (gs ++ groups_of m)

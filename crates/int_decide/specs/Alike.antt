@@ -28,18 +28,18 @@ pub record IsCutAlike (own values : List Fraction) : Type 0 where
   pub numbers : values_if own (first_broken 0 own) ≡ values_if values (first_broken 0 values)
 
 -- both refute, or both are points that are cut alike
-abbrev pub AreAlike : outcome.Outcome → outcome.Outcome → Type 0
+abbrev pub AreAlike : outcome.EliminationOutcome → outcome.EliminationOutcome → Type 0
 AreAlike (outcome.refuted own) (outcome.refuted parts) = Unit {0}
 AreAlike (outcome.refuted own) (outcome.point values) = ⊥
 AreAlike (outcome.point own) (outcome.refuted parts) = ⊥
 AreAlike (outcome.point own) (outcome.point values) = IsCutAlike own values
 
-abbrev pub MeetsIfPoint : ℕ → List LinearRow → outcome.Outcome → Type 0
+abbrev pub MeetsIfPoint : ℕ → List LinearRow → outcome.EliminationOutcome → Type 0
 MeetsIfPoint n rows (outcome.refuted parts) = Unit {0}
 MeetsIfPoint n rows (outcome.point values) = MeetsAll n rows values
 
 -- the outcome stands in for that of the elimination; a point meets the rows
-pub record StandsIn (n : ℕ) (rows : List LinearRow) (o : outcome.Outcome) : Type 0 where
+pub record StandsIn (n : ℕ) (rows : List LinearRow) (o : outcome.EliminationOutcome) : Type 0 where
   pub alike : AreAlike (outcome.elimination n rows) o
   pub meets : MeetsIfPoint n (map tightened rows) o
 
@@ -55,7 +55,7 @@ bare gap = gap
 
 -- how it stands after the goal, where an outcome stands in for that of its elimination
 abbrev pub StandsAfter : ℕ → Task → Standing → Standing → List (List System) → Type 0
-StandsAfter n t old new [] = (o : outcome.Outcome) × (StandsIn n t.goal.rows o × (whole_outcome o ≡ None) × (new ≡ after_outcome t old o))
+StandsAfter n t old new [] = (o : outcome.EliminationOutcome) × (StandsIn n t.goal.rows o × (whole_outcome o ≡ None) × (new ≡ after_outcome t old o))
 StandsAfter n t old new (members ∷ groups) = new ≡ after_cases t old members groups
 
 -- the goal is decided by one step, without a whole point

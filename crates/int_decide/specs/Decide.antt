@@ -25,7 +25,7 @@ by_values broken values None = whole (map (λ f. f.num) values)
 by_values broken values (Some x) = broken x.0 (floor x.1)
 
 -- multipliers that refute are a leaf
-abbrev pub by_outcome : (ℕ → ℤ → Decision) → outcome.Outcome → Decision
+abbrev pub by_outcome : (ℕ → ℤ → Decision) → outcome.EliminationOutcome → Decision
 by_outcome broken (outcome.refuted parts) = refuted (leaf parts ∷ [])
 by_outcome broken (outcome.point values) = by_values broken values (first_broken 0 values)
 

@@ -8,3 +8,4 @@ pub mod Searching
 pub mod CutCounts
 pub mod Picking
 pub mod Alike
+pub mod WithoutCuts

@@ -11,7 +11,7 @@ use Rattle.lin_rows.specs.Negating.{below_opposite}
 use Rattle.lin_rows.specs.Combinations.{RunFits}
 use Rattle.lin_rows.specs.Systems.{rows_of, groups_of}
 use Rattle.farkas_check.specs.Nodes.{PlainNode, leaf, cut, cases}
-use Rattle.farkas_check.specs.Refutes.{Goal, at_most, above, with_row, with_member, goal_of}
+use Rattle.farkas_check.specs.Refutes.{Goal, at_most, above, with_row, goal_with_member, goal_of}
 use Rattle.fm_elim.specs.Elimination as outcome
 use Rattle.int_decide.specs.Decisions.{Decision, UnlessWhole, WhereRefuted}
 use Rattle.int_decide.specs.Sizes.{group_count}
@@ -25,7 +25,7 @@ abbrev pub WhereBroken : (ℕ → ℤ → Type 0) → Option (ℕ × Fraction) �
 WhereBroken P None = Unit {0}
 WhereBroken P (Some x) = P x.0 (floor x.1)
 
-abbrev pub WhereCut : (ℕ → ℤ → Type 0) → outcome.Outcome → Type 0
+abbrev pub WhereCut : (ℕ → ℤ → Type 0) → outcome.EliminationOutcome → Type 0
 WhereCut P (outcome.refuted parts) = Unit {0}
 WhereCut P (outcome.point values) = WhereBroken P (first_broken 0 values)
 
@@ -60,7 +60,7 @@ pub record LeafFits (rows : List LinearRow) (parts : List (ℕ × ℤ)) : Type 0
 
 abbrev pub CasesFit : (List Goal → Type 0) → List LinearRow → List (List System) → Type 0
 CasesFit fit rows [] = Unit {0}
-CasesFit fit rows (members ∷ groups) = fit (map (with_member (record { rows = rows; groups = groups })) members)
+CasesFit fit rows (members ∷ groups) = fit (map (goal_with_member (record { rows = rows; groups = groups })) members)
 
 -- of the trees, one for each goal, in order: the numbers of their leaves, and those of the rows that their cuts add
 abbrev pub LeavesFit : List PlainNode → List Goal → Type 0

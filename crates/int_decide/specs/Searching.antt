@@ -10,7 +10,7 @@ use Rattle.lin_rows.specs.Systems.{rows_of, groups_of, EachHasMember, Meets}
 use Rattle.lin_rows.specs.Points.{point_of}
 use Rattle.farkas_check.specs.Nodes.{PlainNode, leaf, cut, cases, plain_nodes, is_tree}
 use Rattle.farkas_check.specs.Walks.{goals_left}
-use Rattle.farkas_check.specs.Refutes.{Goal, at_most, above, with_row, with_member, goal_of, Refute, Refutes}
+use Rattle.farkas_check.specs.Refutes.{Goal, at_most, above, with_row, goal_with_member, goal_of, Refute, Refutes}
 use Rattle.fm_elim.specs.Elimination as outcome
 use Rattle.fm_elim.specs.Worth.{IsWorth}
 use Rattle.int_decide.specs.declared.search.Search.{Search}
@@ -53,7 +53,7 @@ IsPaired s = length s.lefts.items ≡ length (goals_left s.walk)
 
 -- a goal whose first group is opened
 abbrev pub opened : Task → List System → List (List System) → List Task
-opened t members groups = map (λ m. record { left = t.left; goal = with_member (record { rows = t.goal.rows; groups = groups }) m }) members
+opened t members groups = map (λ m. record { left = t.left; goal = goal_with_member (record { rows = t.goal.rows; groups = groups }) m }) members
 
 -- both sides of a cut
 abbrev pub sides : ℕ → Goal → ℕ → ℤ → List Task
@@ -68,7 +68,7 @@ abbrev pub after_values : Task → Standing → Option (ℕ × Fraction) → Sta
 after_values t s None = s
 after_values t s (Some x) = after_broken t.left t.goal s x.0 (floor x.1)
 
-abbrev pub after_outcome : Task → Standing → outcome.Outcome → Standing
+abbrev pub after_outcome : Task → Standing → outcome.EliminationOutcome → Standing
 after_outcome t s (outcome.refuted parts) = record { gap = s.gap; nodes = s.nodes ++ leaf parts ∷ []; tasks = s.tasks }
 after_outcome t s (outcome.point values) = after_values t s (first_broken 0 values)
 
@@ -88,7 +88,7 @@ abbrev pub values_if : List Fraction → Option (ℕ × Fraction) → Option (Li
 values_if values None = Some (map (λ f. f.num) values)
 values_if values (Some x) = None
 
-abbrev pub whole_outcome : outcome.Outcome → Option (List ℤ)
+abbrev pub whole_outcome : outcome.EliminationOutcome → Option (List ℤ)
 whole_outcome (outcome.refuted parts) = None
 whole_outcome (outcome.point values) = values_if values (first_broken 0 values)
 

@@ -12,9 +12,11 @@ mod proposing;
 mod search;
 mod types;
 mod values;
+mod without_cuts;
 
 pub use accepting::accepted;
 pub use deciding::{decide, plain};
 pub use laws::{decisions_are_sound, group_count_is_enough, rows_are_refuted_exactly};
 pub use measuring::measure;
-pub use types::{Answer, DecideFault};
+pub use types::{Answer, DecideFault, Uncut};
+pub use without_cuts::decide_uncut;

@@ -12,6 +12,17 @@ pub enum Answer {
     Whole(Vec<i128>),
 }
 
+/// What is found out about refutations without cuts.
+#[derive(Drop)]
+pub enum Uncut {
+    /// The tree, which has no cut, refutes the system.
+    Refuted(Refutation),
+    /// Decide refutes the system not without cuts, and this whole point meets it, a value for each column.
+    Met(Vec<i128>),
+    /// Decide refutes the system not without cuts.
+    Unrefuted,
+}
+
 /// Why nothing was found out about a system.
 #[derive(Debug, Drop, Error)]
 pub enum DecideFault {
