@@ -16,3 +16,4 @@ pub mod ClassLemmas
 pub mod VectorLemmas
 pub mod MergeLemmas
 pub mod ReduceLemmas
+mod PlaceLemmas

@@ -1,13 +1,10 @@
 -- Names of states.
-use Rattle.std.proofs.Common.{◌≡◌, ◌∙◌, ◌⊎◌, ◌↔◌, ◌<◌, ◌≤◌, ◌+◌, ℕ, Bool, true, false, cond, List, [], ◌∷◌, ◌++◌, Option, None, Some, length, take, get_or, slice_get, refl, sym, ap, subst, inl, inr, eqb, arith, length-append}
-use Rattle.std.specs.Prelude.{position}
-use Rattle.std.proofs.lemmas.Bool.{eqb-true}
+use Rattle.std.proofs.Common.{◌≡◌, ◌⊎◌, ◌↔◌, ◌<◌, ◌≤◌, ◌+◌, ℕ, Bool, true, false, cond, List, [], ◌∷◌, ◌++◌, Option, None, Some, length, take, get_or, slice_get, refl, sym, ap, subst, inl, inr, arith}
 use Rattle.std.proofs.lemmas.List.{take_more, take_all}
-use Rattle.std.proofs.lemmas.List.Quantifiers.{position-Some}
 use Rattle.nwa_base.specs.Members.{Member}
 use Rattle.nwa_base.proofs.MemberLemmas.{member_front, member_rest, member_split}
-use Rattle.nwa_reduce.specs.Naming.{AreDistinct, name_at, named, IsOrder, IsIndex}
-use Rattle.nwa_reduce.proofs.ListLemmas.{get_push, get_at, past_end, same_some, only_member, distinct_insert, insert_old, insert_new, insert_either}
+use Rattle.nwa_reduce.specs.Naming.{AreDistinct, name_at, named, IsOrder}
+use Rattle.nwa_reduce.proofs.ListLemmas.{past_end, only_member, distinct_insert, insert_old, insert_new, insert_either}
 
 -- of the first states those that are reached are kept
 pub record IsOrderTo (reached front kept : List ℕ) : Type 0 where
@@ -76,45 +73,6 @@ order_whole b start reached ending kept new i l t n e h =
       );
     }
 
-pub index_some : (kept : List ℕ) (names new : List (Option ℕ)) (q x : ℕ) → IsIndex kept names → length names ≡ q → slice_get kept x ≡ Some q →
-    new ≡ names ++ Some x ∷ [] → IsIndex kept new
-index_some kept names new q x h l k e = record {
-  named = λ p y g.
-      elim (get_push names (Some x) p (Some y) (subst (λ (s : List (Option ℕ)). slice_get s p ≡ Some (Some y)) e g)) [
-        | inl o ↦ h.named p y o
-        | inr o ↦
-            let i : x ≡ y = same_some x y o.1 in
-            let j : q ≡ p = sym l ∙ sym o.0 in
-            subst (λ (z : ℕ). slice_get kept y ≡ Some z) j (subst (λ (z : ℕ). slice_get kept z ≡ Some q) i k)
-      ];
-  unnamed = λ p g m.
-      elim (get_push names (Some x) p None (subst (λ (s : List (Option ℕ)). slice_get s p ≡ Some None) e g)) [
-        | inl o ↦ h.unnamed p o m
-        | inr o ↦ let f : Some x ≡ None = o.1 in cc
-      ];
-}
-
-pub index_skips : (kept : List ℕ) (names new : List (Option ℕ)) (q : ℕ) → IsIndex kept names → length names ≡ q → (Member kept q → ⊥) →
-    new ≡ names ++ None ∷ [] → IsIndex kept new
-index_skips kept names new q h l n e = record {
-  named = λ p y g.
-      elim (get_push names None p (Some y) (subst (λ (s : List (Option ℕ)). slice_get s p ≡ Some (Some y)) e g)) [
-        | inl o ↦ h.named p y o
-        | inr o ↦ let f : None ≡ Some y = o.1 in cc
-      ];
-  unnamed = λ p g m.
-      elim (get_push names None p None (subst (λ (s : List (Option ℕ)). slice_get s p ≡ Some None) e g)) [
-        | inl o ↦ h.unnamed p o m
-        | inr o ↦ n (subst (Member kept) (o.0 ∙ l) m)
-      ];
-}
-
--- the place of a state in the list
-pub place_at : (kept : List ℕ) (q x : ℕ) → Some x ≡ position (eqb q) kept → slice_get kept x ≡ Some q
-place_at kept q x e =
-    let r = position-Some (eqb q) kept x 0 (sym e) in
-    get_at kept x 0 r.0 ∙ ap (λ (z : ℕ). Some z) (sym (eqb-true q (get_or kept x 0) r.1))
-
 name_of_at : (o : Option (Option ℕ)) (x : ℕ) → name_at o ≡ Some x → o ≡ Some (Some x)
 name_of_at None x e = let f : None ≡ Some x = e in cc
 name_of_at (Some o) x e = ap (λ (z : Option ℕ). Some z) e
@@ -130,6 +88,3 @@ no_name_at (Some o) e = inr (ap (λ (z : Option ℕ). Some z) e)
 pub no_name : (names : List (Option ℕ)) (q : ℕ) → q < length names → named names q ≡ None → slice_get names q ≡ Some None
 no_name names q l e =
     elim (no_name_at (slice_get names q) e) [ inl n ↦ absurd (let k = past_end names q n in omega arith) | inr f ↦ f ]
-
-pub one_longer : {X : Type 0} (xs new : List X) (x : X) (n : ℕ) → length xs ≡ n → new ≡ xs ++ x ∷ [] → length new ≡ n + 1
-one_longer xs new x n l e = let f = ap length e in omega (arith, length-append xs (x ∷ []))

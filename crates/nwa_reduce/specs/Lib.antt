@@ -3,6 +3,7 @@ pub mod Lean
 pub mod Images
 pub mod Searching
 pub mod Naming
+pub mod Rows
 pub mod Marks
 pub mod Signatures
 pub mod Classes

@@ -1,7 +1,6 @@
 -- What contracts see of classes.
 use Rattle.std.specs.Prelude.{nat_eq}
-use Rattle.std.specs.HashMap.{get}
-use Rattle.nwa_base.specs.Groups.{grouped}
+use Rattle.nwa_reduce.specs.Rows.{row_of}
 use Rattle.nwa_reduce.specs.declared.classing.Classes.{Classes}
 use Rattle.nwa_reduce.specs.Classes.{Classed, lists_of}
 
@@ -9,7 +8,7 @@ use Rattle.nwa_reduce.specs.Classes.{Classed, lists_of}
 unfoldable pub seen : Classes → Classed
 seen s = record {
   nwa = s.nwa.now;
-  returns = λ p. grouped (get nat_eq s.returns.by_key p);
+  returns = λ p. row_of s.returns.rows.items p;
   table = s.table.keys;
   signatures = lists_of s.signatures.keys;
   heads = s.heads.items;

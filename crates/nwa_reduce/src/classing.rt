@@ -6,9 +6,10 @@ ghost use Rattle.std.specs.Prelude.{◌≡◌, ◌<◌, ◌+◌, ◌^◌, length
 
 use crate::marking::{Mark, returns_to};
 use crate::naming::Names;
+use crate::rows::Rows;
 use crate::signing::sign;
 use indexmap::IndexSet;
-use nwa_base::{Groups, Letter, Nwa};
+use nwa_base::{Letter, Nwa};
 use std::alloc::{AllocError, Global};
 
 /// The classes of the first states of an automaton.
@@ -16,7 +17,7 @@ use std::alloc::{AllocError, Global};
 pub struct Classes<'a> {
     alloc: Global,
     nwa: &'a Nwa,
-    returns: Groups<u32, (u32, u32, Letter, u32)>,
+    returns: Rows<(u32, u32, Letter, u32)>,
     table: IndexSet<Mark>,
     signatures: IndexSet<Vec<usize>>,
     /// The first state of each class.
@@ -57,7 +58,7 @@ impl<'a> Classes<'a> {
         let signature = sign(
             self.alloc,
             self.nwa,
-            self.returns.of(&state),
+            self.returns.of(state),
             &mut self.table,
             self.leaders.as_slice(),
             state,

@@ -9,8 +9,10 @@ mod marking;
 mod merging;
 mod naming;
 mod reducing;
+mod rows;
 mod searching;
 mod signing;
+mod states;
 mod stepping;
 mod trimming;
 

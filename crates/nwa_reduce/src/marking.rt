@@ -1,13 +1,13 @@
 //! What tells states apart.
 
 ghost use Rattle.std.specs.Prelude.{◌≡◌, ◌↔◌, ◌⊎◌, ◌++◌, ℕ, nat_eq, IfOk, OnOk};
-ghost use Rattle.std.specs.HashMap.{get};
-ghost use Rattle.nwa_base.specs.Groups.{grouped};
+ghost use Rattle.nwa_reduce.specs.Rows.{row_of};
 ghost use Rattle.nwa_base.specs.Members.{Member};
 ghost use Rattle.nwa_reduce.specs.declared.marking.Mark.{Mark};
 ghost use Rattle.nwa_reduce.specs.Marks.{leader_in, HasMark, backs_before, inside_marks, call_marks, back_marks, before_marks};
 
-use nwa_base::{Groups, Letter, Nwa};
+use crate::rows::Rows;
+use nwa_base::{Letter, Nwa};
 use std::alloc::{AllocError, Global};
 
 /// What a state has. The ends of edges stand by their leaders.
@@ -26,13 +26,10 @@ pub enum Mark {
 }
 
 /// The return edges, grouped by the state before the call.
-pub fn returns_to(
-    alloc: Global,
-    nwa: &Nwa,
-) -> Result<Groups<u32, (u32, u32, Letter, u32)>, AllocError>
-    ensures { IfOk result (λ g. (p : ℕ) → grouped (get nat_eq g.by_key p) ≡ backs_before p nwa.now.backs) }
+pub fn returns_to(alloc: Global, nwa: &Nwa) -> Result<Rows<(u32, u32, Letter, u32)>, AllocError>
+    ensures { IfOk result (λ g. (p : ℕ) → row_of g.rows.items p ≡ backs_before p nwa.now.backs) }
 {
-    let mut groups = Groups::new(alloc);
+    let mut groups = Rows::new(alloc);
     for &edge in nwa.backs() {
         groups.add(edge.1, edge)?;
     }

@@ -8,8 +8,8 @@ loop-state-init c = inserts_none _
 
 pub loop-state-preserved : goal.loop-state-preserved
 loop-state-preserved c =
-    inserts_more _ _ _ c.loop-state.found.keys _ _ _ c.loop-state-test.true (number_there c.loop-state.found.keys _) c.loop-state.invariant
-    c.in_ok-insert_full.ensures.keys
+    inserts_more _ _ _ c.loop-state.found _ _ _ c.loop-state-test.true (number_there c.loop-state.found _) c.loop-state.invariant
+    c.in_ok-insert.ensures
 
 pub returns : goal.returns
 returns c = inserts_all _ _ _ c.loop-state.state-index (omega arith) c.loop-state.invariant

@@ -3,18 +3,18 @@ use Rattle.nwa_reduce.specs.Naming.{IsOrder}
 use Rattle.nwa_reduce.proofs.ListLemmas.{number_there, number_absent}
 use Rattle.nwa_reduce.proofs.NameLemmas.{order_none, order_skips, order_puts, order_whole}
 use Rattle.nwa_reduce.proofs.trimming.ordered.Goals as goal
-use Rattle.nwa_reduce.proofs.trimming.ordered.Goals.{then-contains+in_ok-insert_full, else-contains}
+use Rattle.nwa_reduce.proofs.trimming.ordered.Goals.{then-contains+in_ok-insert, else-contains}
 
 pub loop-state-init : goal.loop-state-init
-loop-state-init c = order_none _ _ c.new-kept.ensures.empty
+loop-state-init c = order_none _ _ c.new-kept.ensures
 
 pub loop-state-preserved : goal.loop-state-preserved
 loop-state-preserved c =
     elim c.if-contains.branch [
-      | then-contains+in_ok-insert_full w ↦
+      | then-contains+in_ok-insert w ↦
           rw w.kept-is
-          (order_puts _ _ _ c.loop-state.kept.keys _ _ _ c.loop-state-test.true (number_there _ _ (sym c.contains.ensures ∙ w.if-contains.true))
-          (number_there c.loop-state.kept.keys _) (number_absent c.loop-state.kept.keys _) w.in_ok-insert_full.ensures.keys c.loop-state.invariant)
+          (order_puts _ _ _ c.loop-state.kept _ _ _ c.loop-state-test.true (number_there _ _ (sym c.contains.ensures ∙ w.if-contains.true))
+          (number_there c.loop-state.kept _) (number_absent c.loop-state.kept _) w.in_ok-insert.ensures c.loop-state.invariant)
       | else-contains w ↦
           rw w.kept-is
           (order_skips _ _ _ _ _ c.loop-state-test.true (number_absent _ _ (sym c.contains.ensures ∙ w.if-contains.false)) c.loop-state.invariant)
@@ -23,6 +23,6 @@ loop-state-preserved c =
 pub returns : goal.returns
 returns c =
     let start = c.start.ensures in
-    subst (λ (n : ℕ). IsOrder n c.args.reached.now.keys c.args.ending.now c.insert_full-2.new.self.keys) start
-    (order_whole _ _ _ _ c.loop-state.kept.keys _ c.loop-state.state-index (omega arith) (number_there c.loop-state.kept.keys _)
-    (number_absent c.loop-state.kept.keys _) c.in_ok-insert_full-2.ensures.keys c.loop-state.invariant)
+    subst (λ (n : ℕ). IsOrder n c.args.reached.now c.args.ending.now c.insert-2.new.self) start
+    (order_whole _ _ _ _ c.loop-state.kept _ c.loop-state.state-index (omega arith) (number_there c.loop-state.kept _)
+    (number_absent c.loop-state.kept _) c.in_ok-insert-2.ensures c.loop-state.invariant)
