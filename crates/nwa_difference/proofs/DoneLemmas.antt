@@ -212,11 +212,13 @@ module _ (s : Stage) (a b : Automaton) (n : ℕ) (v : IsStage s) (first : s.prod
       back = λ k p m x y c r h g f e. (follows_back k p m x c h g f).1 r y e;
     };
     has = record {
-      inside = λ k x e c h g. let i = place (k, x) h in (v.opened x (d.inside i.0 k x i.2 i.1).0).1 c e g;
-      call = λ k x e c h g. let i = place (k, x) h in (v.opened x (d.inside i.0 k x i.2 i.1).0).2 c e g;
+      inside = λ k x e c h g.
+          let i = place (k, x) h in elim ((v.opened x (d.inside i.0 k x i.2 i.1).0).1 c e g) [ inl y ↦ inl y | inr o ↦ inr o.1 ];
+      call = λ k x e c h g.
+          let i = place (k, x) h in elim ((v.opened x (d.inside i.0 k x i.2 i.1).0).2 c e g) [ inl y ↦ inl y | inr o ↦ inr o.1 ];
       back = λ k p m x e c r h g f t.
           elim (follows_back k p m x c h g f).0 [
-            | inl o ↦ (v.joined (x, p) o).2 r e t
+            | inl o ↦ elim ((v.joined (x, p) o).2 r e t) [ inl y ↦ inl y | inr z ↦ inr z.2 ]
             | inr o ↦ absurd (o.1 (first_at s.product p) r e t)
           ];
     };

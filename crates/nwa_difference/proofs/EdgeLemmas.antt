@@ -52,6 +52,7 @@ inside_made p x l e y v i k m n =
       };
       count = v.count;
       small = v.small;
+      covers = v.covers;
       numbers = v.numbers;
       are = record {
         inside = λ z w a h. pushed (InsideIs p) p.product.insides (x, l, y) (z, a, w) (λ q g. v.are.inside q.0 q.2 q.1 g) is h;
@@ -83,7 +84,7 @@ inside_added p x l e y product v i k m n f =
         new_calls = λ q h. inl h;
         new_backs = λ q h. inl h;
       },
-      (y, member_rest p.product.insides ((x, l, y) ∷ []) (x, l, y) (inl refl), n.first),
+      inl (y, member_rest p.product.insides ((x, l, y) ∷ []) (x, l, y) (inl refl), n.first),
     )
 
 -- the product with an edge by a call letter
@@ -108,6 +109,7 @@ call_made p x l e y v i k m n =
       };
       count = v.count;
       small = v.small;
+      covers = v.covers;
       numbers = v.numbers;
       are = record {
         inside = v.are.inside;
@@ -139,7 +141,7 @@ call_added p x l e y product v i k m n f =
             pushed (λ (z : Edge). Member p.product.calls z ⊎ Only x z.0) p.product.calls (x, l, y) q (λ z g. inl g) (inr refl) h;
         new_backs = λ q h. inl h;
       },
-      (y, member_rest p.product.calls ((x, l, y) ∷ []) (x, l, y) (inl refl), n.first),
+      inl (y, member_rest p.product.calls ((x, l, y) ∷ []) (x, l, y) (inl refl), n.first),
     )
 
 -- the product with an edge by a return
@@ -164,6 +166,7 @@ back_made p x w l e y v i o k m n =
       };
       count = v.count;
       small = v.small;
+      covers = v.covers;
       numbers = v.numbers;
       are = record {
         inside = v.are.inside;
@@ -196,5 +199,5 @@ back_added p x w l e y product v i o k m n f =
         new_backs = λ q h.
             pushed (λ (z : BackEdge). Member p.product.backs z ⊎ OnlyReturn x w z.0 z.1) p.product.backs (x, w, l, y) q (λ z g. inl g) (inr (refl, refl)) h;
       },
-      (y, member_rest p.product.backs ((x, w, l, y) ∷ []) (x, w, l, y) (inl refl), n.first),
+      inl (y, member_rest p.product.backs ((x, w, l, y) ∷ []) (x, w, l, y) (inl refl), n.first),
     )

@@ -1,11 +1,13 @@
 -- The states to which letters lead.
-use Rattle.std.proofs.Common.{◌≡◌, ◌∙◌, ◌<◌, ℕ, List, length, sym, ap, subst, slice_index_or}
+use Rattle.std.proofs.Common.{◌≡◌, ◌∙◌, ◌<◌, ℕ, List, length, sym, ap, subst, inl, inr, slice_index_or}
 use Rattle.nwa_base.specs.declared.letters.Letter.{Letter}
 use Rattle.nwa_base.specs.Automata.{Automaton}
 use Rattle.nwa_base.specs.Pairs.{IsInsideOf, IsCallOf, IsBackOf}
 use Rattle.nwa_determinise.specs.Kept.{Kept, set_at, Grows}
-use Rattle.nwa_difference.specs.Making.{Made, first_at, number_at, set_of, IsMade, Extends, Nowhere, NoReturn, IsInsideEnd, IsCallEnd, IsBackEnd}
-use Rattle.nwa_difference.proofs.GrowingLemmas.{set_of_stays, extends_on, sets_extend}
+use Rattle.nwa_difference.specs.Covering.{HasCover, IsCovered, EndsInCover}
+use Rattle.nwa_difference.specs.Making.{Made, first_at, number_at, set_of, IsMade, Extends, Nowhere, NoReturn, IsInsideEnd, IsCallEnd, IsBackEnd, HasInside, HasCall, HasBack}
+use Rattle.nwa_difference.proofs.CoverLemmas.{cover_covers}
+use Rattle.nwa_difference.proofs.GrowingLemmas.{set_of_stays, extends_on, sets_extend, sets_made}
 
 -- the set of a state of the product
 abbrev IsNumber : Made → ℕ → ℕ × ℕ → Type 0
@@ -67,3 +69,67 @@ back_end_is p c sets x w r o l e t y v k h i j n q s f a =
           (subst (λ (z : List (ℕ × ℕ)). IsBackOf p.sets.nwa l (set_at p.sets o.1) z (set_of c y)) (set_there p c x r v g i n)
           (subst (λ (z : List (ℕ × ℕ)). IsBackOf p.sets.nwa l (set_at p.sets o.1) (set_at p.sets r.1) z) (set_new c sets t y f a.2) s)));
     }
+
+-- a set that has the cover of a state covers it
+has_covered : (p : Made) (sets : Kept) (e t : ℕ) → IsMade p → Grows p.sets sets → EndsInCover p.covers e (set_at sets t) →
+    IsCovered p.first sets.nwa e (set_at sets t)
+has_covered p sets e t v k h = record {
+  key = h.1;
+  state = h.0;
+  member = h.3;
+  covers = cover_covers p.first sets.nwa (HasCover p.first sets.nwa p.covers) (sets_made p sets v k).covers e h.0 (inl h.2);
+}
+
+-- the ends that are covered
+pub inside_end_covered : (p : Made) (sets : Kept) (x : ℕ) (r : ℕ × ℕ) (l : Letter) (e t : ℕ) → IsMade p → Grows p.sets sets → x < length p.states →
+    IsNumber p x r → IsInsideOf p.sets.nwa l (set_at p.sets r.1) (set_at sets t) → EndsInCover p.covers e (set_at sets t) →
+    HasInside (record p { sets = sets }) x l e
+inside_end_covered p sets x r l e t v k i n s h =
+    let c : Made = record p { sets = sets } in
+    let g = sets_extend p sets v k in
+    inr (
+      i,
+      record {
+        set = set_at sets t;
+        of =
+            subst (λ (m : Automaton). IsInsideOf m l (set_of c x) (set_at sets t)) (sym g.sets.nwa)
+            (subst (λ (z : List (ℕ × ℕ)). IsInsideOf p.sets.nwa l z (set_at sets t)) (set_there p c x r v g i n) s);
+        covered = has_covered p sets e t v k h;
+      },
+    )
+
+pub call_end_covered : (p : Made) (sets : Kept) (x : ℕ) (r : ℕ × ℕ) (l : Letter) (e t : ℕ) → IsMade p → Grows p.sets sets → x < length p.states →
+    IsNumber p x r → IsCallOf p.sets.nwa l (set_at p.sets r.1) (set_at sets t) → EndsInCover p.covers e (set_at sets t) →
+    HasCall (record p { sets = sets }) x l e
+call_end_covered p sets x r l e t v k i n s h =
+    let c : Made = record p { sets = sets } in
+    let g = sets_extend p sets v k in
+    inr (
+      i,
+      record {
+        set = set_at sets t;
+        of =
+            subst (λ (m : Automaton). IsCallOf m l (set_of c x) (set_at sets t)) (sym g.sets.nwa)
+            (subst (λ (z : List (ℕ × ℕ)). IsCallOf p.sets.nwa l z (set_at sets t)) (set_there p c x r v g i n) s);
+        covered = has_covered p sets e t v k h;
+      },
+    )
+
+pub back_end_covered : (p : Made) (sets : Kept) (x w : ℕ) (r o : ℕ × ℕ) (l : Letter) (e t : ℕ) → IsMade p → Grows p.sets sets → x < length p.states →
+    w < length p.states → IsNumber p x r → IsNumber p w o → IsBackOf p.sets.nwa l (set_at p.sets o.1) (set_at p.sets r.1) (set_at sets t) →
+    EndsInCover p.covers e (set_at sets t) → HasBack (record p { sets = sets }) x w l e
+back_end_covered p sets x w r o l e t v k i j n q s h =
+    let c : Made = record p { sets = sets } in
+    let g = sets_extend p sets v k in
+    inr (
+      i,
+      j,
+      record {
+        set = set_at sets t;
+        of =
+            subst (λ (m : Automaton). IsBackOf m l (set_of c w) (set_of c x) (set_at sets t)) (sym g.sets.nwa)
+            (subst (λ (z : List (ℕ × ℕ)). IsBackOf p.sets.nwa l z (set_of c x) (set_at sets t)) (set_there p c w o v g j q)
+            (subst (λ (z : List (ℕ × ℕ)). IsBackOf p.sets.nwa l (set_at p.sets o.1) z (set_at sets t)) (set_there p c x r v g i n) s));
+        covered = has_covered p sets e t v k h;
+      },
+    )

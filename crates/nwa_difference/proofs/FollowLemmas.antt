@@ -21,7 +21,7 @@ pub record Followed {S X : Type 0} (R : S → S → Type 0) (P : S → X → Typ
 pub followed_none : {S X : Type 0} (R : S → S → Type 0) (P : S → X → Type 0) (s : S) (xs : List X) → R s s → Followed R P s s (take 0 xs)
 followed_none R P s xs v = record { goes = v; each = λ x h. absurd h }
 
-each_more : {X : Type 0} (xs : List X) (y : X) (P Q : X → Type 0) → Each xs P → ((x : X) → P x → Q x) → Q y → Each (xs ++ y ∷ []) Q
+pub each_more : {X : Type 0} (xs : List X) (y : X) (P Q : X → Type 0) → Each xs P → ((x : X) → P x → Q x) → Q y → Each (xs ++ y ∷ []) Q
 each_more xs y P Q h f g x m = elim (member_split xs (y ∷ []) x m) [ inl a ↦ f x (h x a) | inr b ↦ elim b [ inl e ↦ subst Q e g | inr n ↦ absurd n ] ]
 
 pub followed_more : {S X : Type 0} (R : S → S → Type 0) (P : S → X → Type 0) (a b c : S) (xs : List X) (i : ℕ) (d : X) →
@@ -48,7 +48,7 @@ leaves q edges e h =
     let r = filter_member (λ (x : ℕ × Letter × ℕ). eqb x.0 q) edges e h in
     subst (λ (z : ℕ). Member edges (z, e.1, e.2)) (eqb-true e.0 q r.1) r.0
 
-does_leave : (q : ℕ) (edges : List (ℕ × Letter × ℕ)) (a : Letter) (e : ℕ) → Member edges (q, a, e) → Member (leaving q edges) (q, a, e)
+pub does_leave : (q : ℕ) (edges : List (ℕ × Letter × ℕ)) (a : Letter) (e : ℕ) → Member edges (q, a, e) → Member (leaving q edges) (q, a, e)
 does_leave q edges a e h = member_filter (λ (x : ℕ × Letter × ℕ). eqb x.0 q) edges (q, a, e) h (eq-eqb q q refl)
 
 does_enter : (n : ℕ) (edges : List (ℕ × Letter × ℕ)) (p : ℕ) (a : Letter) → Member edges (p, a, n) → Member (entering n edges) (p, a, n)

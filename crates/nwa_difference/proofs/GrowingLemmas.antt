@@ -7,6 +7,7 @@ use Rattle.nwa_base.specs.Automata.{Automaton}
 use Rattle.nwa_base.specs.Pairs.{HasFinal}
 use Rattle.nwa_determinise.specs.Kept.{Kept, set_at, Grows}
 use Rattle.nwa_determinise.proofs.KeptLemmas.{grows_on, set_stays, number_stays}
+use Rattle.nwa_difference.specs.Covering.{HaveCovers}
 use Rattle.nwa_difference.specs.Product.{AreEdges}
 use Rattle.nwa_difference.specs.Making.{Made, first_at, number_at, set_of, Ends, IsMade, Extends, Nowhere, NoReturn}
 use Rattle.nwa_difference.proofs.MakingLemmas.{front_at, are_stay, extends_none}
@@ -92,6 +93,7 @@ sets_made p sets v g =
       automaton = v.automaton;
       count = v.count;
       small = v.small;
+      covers = subst (λ (b : Automaton). HaveCovers p.first b p.covers) (sym g.nwa) v.covers;
       numbers = λ x l. number_stays p.sets sets (number_at p x) g (v.numbers x l);
       are =
           subst (λ (b : Automaton). AreEdges p.first b p.product (first_at p) (λ x. set_at sets (number_at p x))) (sym g.nwa)

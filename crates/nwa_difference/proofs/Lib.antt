@@ -12,3 +12,4 @@ pub mod PairLemmas
 pub mod StageLemmas
 pub mod StepLemmas
 pub mod DoneLemmas
+mod CoverLemmas

@@ -168,6 +168,7 @@ state_made p q s b v m t e =
       automaton = is_automaton p.product b v.automaton;
       count = omega arith;
       small = m;
+      covers = v.covers;
       numbers = λ x i. numbers_right p q s b v t x (omega arith);
       are = are_edges p q s b v;
       finals = λ x i. finals_right p q s b v e x (omega arith);

@@ -1,5 +1,5 @@
 -- The edges of a state of the product, made one after another.
-use Rattle.std.proofs.Common.{◌≡◌, ◌∙◌, ◌↔◌, ◌<◌, ◌==◌, ℕ, List, [], ◌∷◌, length, Bool, true, false, not, get_or, refl, sym, ap, subst, inl, slice_index_or, eqb, eq-eqb, arith}
+use Rattle.std.proofs.Common.{◌≡◌, ◌∙◌, ◌↔◌, ◌<◌, ◌==◌, ℕ, List, [], ◌∷◌, length, Bool, true, false, not, get_or, refl, sym, ap, subst, inl, inr, slice_index_or, eqb, eq-eqb, arith}
 use Rattle.std.proofs.lemmas.Bool.{eqb-true}
 use Rattle.nwa_base.specs.declared.letters.Kind.TheVariants as kinds
 use Rattle.nwa_base.specs.declared.letters.Letter.{Letter}
@@ -7,9 +7,10 @@ use Rattle.nwa_base.specs.Members.{Member}
 use Rattle.nwa_base.specs.Automata.{Automaton, IsEdge, IsBackEdge}
 use Rattle.nwa_base.specs.Edges.{leaving, backs_between, backs_leaving}
 use Rattle.nwa_base.proofs.MemberLemmas.{member_filter, filter_member}
-use Rattle.nwa_difference.specs.Making.{Made, first_at, IsMade, Extends, HasInside, HasCall, HasBack, HasInsides, HasCalls, HasBacks, NoReturns}
+use Rattle.nwa_difference.specs.Covering.{IsInsideCovered, IsCallCovered, IsBackCovered}
+use Rattle.nwa_difference.specs.Making.{Made, first_at, set_of, IsMade, Extends, HasInside, HasCall, HasBack, HasInsides, HasCalls, HasBacks, NoReturns}
 use Rattle.nwa_difference.proofs.MakingLemmas.{all_member}
-use Rattle.nwa_difference.proofs.GrowingLemmas.{first_stays}
+use Rattle.nwa_difference.proofs.GrowingLemmas.{first_stays, set_of_stays, within_stays}
 use Rattle.nwa_difference.proofs.FollowLemmas.{Each, item_leaving, item_between, each_leaving, each_between}
 
 -- the ends of edges are states
@@ -35,18 +36,50 @@ back_within p x w y l v m =
     omega arith
 
 module _ (a b : Made) (P : ℕ → Type 0) (Q : ℕ → ℕ → Type 0) (v : IsMade a) (g : Extends a b P Q) where
+  -- what is covered stays covered
+  inside_covered_stays : (x : ℕ) (l : Letter) (e : ℕ) → x < length a.states → IsInsideCovered a.first a.sets.nwa (set_of a x) l e →
+      IsInsideCovered b.first b.sets.nwa (set_of b x) l e
+  inside_covered_stays x l e i c =
+      subst (λ (m : Automaton). IsInsideCovered m b.sets.nwa (set_of b x) l e) (sym g.first)
+      (subst (λ (m : Automaton). IsInsideCovered a.first m (set_of b x) l e) (sym g.sets.nwa)
+      (subst (λ (s : List (ℕ × ℕ)). IsInsideCovered a.first a.sets.nwa s l e) (sym (set_of_stays a b P Q x v g i)) c))
+
+  call_covered_stays : (x : ℕ) (l : Letter) (e : ℕ) → x < length a.states → IsCallCovered a.first a.sets.nwa (set_of a x) l e →
+      IsCallCovered b.first b.sets.nwa (set_of b x) l e
+  call_covered_stays x l e i c =
+      subst (λ (m : Automaton). IsCallCovered m b.sets.nwa (set_of b x) l e) (sym g.first)
+      (subst (λ (m : Automaton). IsCallCovered a.first m (set_of b x) l e) (sym g.sets.nwa)
+      (subst (λ (s : List (ℕ × ℕ)). IsCallCovered a.first a.sets.nwa s l e) (sym (set_of_stays a b P Q x v g i)) c))
+
+  back_covered_stays : (x w : ℕ) (l : Letter) (e : ℕ) → x < length a.states → w < length a.states →
+      IsBackCovered a.first a.sets.nwa (set_of a w) (set_of a x) l e → IsBackCovered b.first b.sets.nwa (set_of b w) (set_of b x) l e
+  back_covered_stays x w l e i j c =
+      subst (λ (m : Automaton). IsBackCovered m b.sets.nwa (set_of b w) (set_of b x) l e) (sym g.first)
+      (subst (λ (m : Automaton). IsBackCovered a.first m (set_of b w) (set_of b x) l e) (sym g.sets.nwa)
+      (subst (λ (s : List (ℕ × ℕ)). IsBackCovered a.first a.sets.nwa s (set_of b x) l e) (sym (set_of_stays a b P Q w v g j))
+      (subst (λ (s : List (ℕ × ℕ)). IsBackCovered a.first a.sets.nwa (set_of a w) s l e) (sym (set_of_stays a b P Q x v g i)) c)))
+
   -- an edge stays
   inside_stays : (x : ℕ) (l : Letter) (e : ℕ) → HasInside a x l e → HasInside b x l e
   inside_stays x l e h =
-      (h.0, g.insides (x, l, h.0) h.1, first_stays a b P Q h.0 g (inside_within a x h.0 l v h.1) ∙ h.2)
+      elim h [
+        | inl i ↦ inl (i.0, g.insides (x, l, i.0) i.1, first_stays a b P Q i.0 g (inside_within a x i.0 l v i.1) ∙ i.2)
+        | inr c ↦ inr (within_stays a b P Q x g c.0, inside_covered_stays x l e c.0 c.1)
+      ]
 
   call_stays : (x : ℕ) (l : Letter) (e : ℕ) → HasCall a x l e → HasCall b x l e
   call_stays x l e h =
-      (h.0, g.calls (x, l, h.0) h.1, first_stays a b P Q h.0 g (call_within a x h.0 l v h.1) ∙ h.2)
+      elim h [
+        | inl i ↦ inl (i.0, g.calls (x, l, i.0) i.1, first_stays a b P Q i.0 g (call_within a x i.0 l v i.1) ∙ i.2)
+        | inr c ↦ inr (within_stays a b P Q x g c.0, call_covered_stays x l e c.0 c.1)
+      ]
 
   back_stays : (x w : ℕ) (l : Letter) (e : ℕ) → HasBack a x w l e → HasBack b x w l e
   back_stays x w l e h =
-      (h.0, g.backs (x, w, l, h.0) h.1, first_stays a b P Q h.0 g (back_within a x w h.0 l v h.1) ∙ h.2)
+      elim h [
+        | inl i ↦ inl (i.0, g.backs (x, w, l, i.0) i.1, first_stays a b P Q i.0 g (back_within a x w i.0 l v i.1) ∙ i.2)
+        | inr c ↦ inr (within_stays a b P Q x g c.0, within_stays a b P Q w g c.1, back_covered_stays x w l e c.0 c.1 c.2)
+      ]
 
   -- an edge of the first automaton, from the state for which a state stands
   inside_before : (x : ℕ) (l : Letter) (e : ℕ) → x < length a.states → Member b.first.insides (first_at b x, l, e) → Member a.first.insides (first_at a x, l, e)
@@ -141,7 +174,7 @@ not_true : (b c : Bool) → b ≡ c → not b ≡ false → c ≡ true
 not_true true c e f = sym e
 not_true false c e f = let g : true ≡ false = f in cc
 
-is_none : {X : Type 0} (xs : List X) → length xs == 0 ≡ true → (x : X) → Member xs x → ⊥
+pub is_none : {X : Type 0} (xs : List X) → length xs == 0 ≡ true → (x : X) → Member xs x → ⊥
 is_none [] e x m = m
 is_none (y ∷ xs) e x m = absurd (let f : length (y ∷ xs) ≡ 0 = eqb-true (length (y ∷ xs)) 0 e in omega arith)
 

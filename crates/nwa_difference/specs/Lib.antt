@@ -1,3 +1,4 @@
+pub mod Covering
 pub mod Product
 pub mod Making
 pub mod Stages

@@ -1,17 +1,19 @@
 -- The product while it grows.
-use Rattle.std.specs.Prelude.{◌≡◌, ◌^◌, ◌<◌, ◌↔◌, ◌⊎◌, ℕ, List, [], ◌∷◌, ◌++◌, length, slice_index_or}
+use Rattle.std.specs.Prelude.{◌≡◌, ◌^◌, ◌<◌, ◌↔◌, ◌⊎◌, ℕ, List, [], ◌∷◌, ◌++◌, Option, length, slice_index_or}
 use Rattle.nwa_base.specs.declared.letters.Letter.{Letter}
 use Rattle.nwa_base.specs.Members.{Member}
 use Rattle.nwa_base.specs.Automata.{Automaton, IsAutomaton}
 use Rattle.nwa_base.specs.Pairs.{IsInsideOf, IsCallOf, IsBackOf, HasFinal}
 use Rattle.nwa_determinise.specs.Kept.{Kept, set_at, Grows}
+use Rattle.nwa_difference.specs.Covering.{HaveCovers, IsInsideCovered, IsCallCovered, IsBackCovered}
 use Rattle.nwa_difference.specs.Product.{AreEdges}
 
--- the first automaton, the sets of pairs of the second, the product, and for each of its states one of the first automaton and the
--- number of a set
+-- the first automaton, the sets of pairs of the second, covers of states of the first, the product, and for each of its states one of
+-- the first automaton and the number of a set
 pub record Made : Type 0 where
   pub first : Automaton
   pub sets : Kept
+  pub covers : List (Option ℕ)
   pub product : Automaton
   pub states : List (ℕ × ℕ)
 
@@ -31,11 +33,12 @@ set_of p x = set_at p.sets (number_at p x)
 abbrev pub Ends : Automaton → Kept → ℕ → ℕ → Type 0
 Ends first sets q s = Member first.finals q × (HasFinal sets.nwa (set_at sets s) → ⊥)
 
--- the edges are right, the states are final that have to be, and the start stands for the start of both automata
+-- the covers and the edges are right, the states are final that have to be, and the start stands for the start of both automata
 pub record IsMade (p : Made) : Type 0 where
   pub automaton : IsAutomaton p.product
   pub count : length p.states ≡ p.product.states
   pub small : p.product.states < 2 ^ 32
+  pub covers : HaveCovers p.first p.sets.nwa p.covers
   pub numbers : (x : ℕ) → x < length p.states → number_at p x < length p.sets.sets
   pub are : AreEdges p.first p.sets.nwa p.product (first_at p) (set_of p)
   pub finals : (x : ℕ) → x < length p.states → Member p.product.finals x ↔ Ends p.first p.sets (first_at p x) (number_at p x)
@@ -92,17 +95,23 @@ pub record IsBackEnd (p : Made) (x w : ℕ) (l : Letter) (e y : ℕ) : Type 0 wh
   pub first : first_at p y ≡ e
   pub set : IsBackOf p.sets.nwa l (set_of p w) (set_of p x) (set_of p y)
 
--- an edge by the inside letter leads from x to a state that stands for e
+-- an edge by the inside letter leads from x to a state that stands for e, or e is covered
 abbrev pub HasInside : Made → ℕ → Letter → ℕ → Type 0
-HasInside p x l e = (y : ℕ) × Member p.product.insides (x, l, y) × (first_at p y ≡ e)
+HasInside p x l e =
+    ((y : ℕ) × Member p.product.insides (x, l, y) × (first_at p y ≡ e)) ⊎
+    ((x < length p.states) × IsInsideCovered p.first p.sets.nwa (set_of p x) l e)
 
--- an edge by the call letter leads from x to a state that stands for e
+-- an edge by the call letter leads from x to a state that stands for e, or e is covered
 abbrev pub HasCall : Made → ℕ → Letter → ℕ → Type 0
-HasCall p x l e = (y : ℕ) × Member p.product.calls (x, l, y) × (first_at p y ≡ e)
+HasCall p x l e =
+    ((y : ℕ) × Member p.product.calls (x, l, y) × (first_at p y ≡ e)) ⊎
+    ((x < length p.states) × IsCallCovered p.first p.sets.nwa (set_of p x) l e)
 
--- an edge by the return leads from x, where w was the state before the call, to a state that stands for e
+-- an edge by the return leads from x, where w was the state before the call, to a state that stands for e, or e is covered
 abbrev pub HasBack : Made → ℕ → ℕ → Letter → ℕ → Type 0
-HasBack p x w l e = (y : ℕ) × Member p.product.backs (x, w, l, y) × (first_at p y ≡ e)
+HasBack p x w l e =
+    ((y : ℕ) × Member p.product.backs (x, w, l, y) × (first_at p y ≡ e)) ⊎
+    ((x < length p.states) × (w < length p.states) × IsBackCovered p.first p.sets.nwa (set_of p w) (set_of p x) l e)
 
 -- x has all of its inside letters
 abbrev pub HasInsides : Made → ℕ → Type 0

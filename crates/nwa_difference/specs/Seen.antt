@@ -9,7 +9,7 @@ use Rattle.nwa_difference.specs.Stages.{Found, Stage}
 
 -- the automata, the sets and the states of a product
 unfoldable pub seen : Product → Made
-seen p = record { first = p.first.now; sets = p.sets; product = p.nwa; states = p.states.keys }
+seen p = record { first = p.first.now; sets = p.sets; covers = p.covers.items; product = p.nwa; states = p.states.keys }
 
 -- the pairs, the entries of each state and the states of each entry that were gone through, and what has its edges
 unfoldable pub found : Pairs → Found

@@ -1,9 +1,11 @@
 //! The product of an automaton and the sets of pairs of another. It grows while it is searched.
 #![tactic(auto, unfolding(crate::specs::Seen::seen))]
 
-ghost use Rattle.std.specs.Prelude.{◌≡◌, ◌≢◌, ◌<◌, ◌↔◌, ◌∷◌, [], false, IsTrue, Err, IfOk, OnOk, length, slice_index_or, if◌then◌else◌};
+ghost use Rattle.std.specs.Prelude.{◌≡◌, ◌≢◌, ◌<◌, ◌↔◌, ◌∷◌, [], false, IsTrue, Err, IfOk, OnOk, MatchOption, length, slice_index_or, if◌then◌else◌};
 ghost use Rattle.nwa_difference.specs.Making.{Ends};
 
+use crate::covered::{Places, is_covered};
+use crate::covering::covers;
 use indexmap::IndexSet;
 use nwa_base::{Letter, Nwa, NwaFault, empty};
 use nwa_determinise::{Det, det};
@@ -14,6 +16,9 @@ use std::alloc::{AllocError, Global};
 pub struct Product<'a> {
     first: &'a Nwa,
     sets: Det<'a>,
+    /// For states of the first automaton a state of the second that covers it.
+    covers: Vec<Option<u32>>,
+    places: Places,
     states: IndexSet<(u32, u32)>,
     nwa: Nwa,
 }
@@ -28,6 +33,7 @@ impl<'a> Product<'a> {
         ensures { IfOk result (λ p. IsMade (seen p) × ((seen p).first ≡ first.now) × ((seen p).sets.nwa ≡ second.now)) }
     {
         let start = first.start();
+        let covers = covers(alloc, first, second)?;
         let mut sets = det(alloc, second)?;
         let set = sets.start()?;
         let mut states = IndexSet::new(alloc);
@@ -36,6 +42,8 @@ impl<'a> Product<'a> {
         Ok(Product {
             first,
             sets,
+            covers,
+            places: Places::new(alloc),
             states,
             nwa,
         })
@@ -55,6 +63,8 @@ impl<'a> Product<'a> {
         let Product {
             first: _,
             sets: _,
+            covers: _,
+            places: _,
             states: _,
             nwa,
         } = self;
@@ -86,54 +96,87 @@ impl<'a> Product<'a> {
         !self.first.backs_leaving(first).is_empty()
     }
 
-    /// The state for where an inside letter leads from a state and in the first automaton.
-    pub fn inside_end(&mut self, state: u32, letter: Letter, end: u32) -> Result<u32, AllocError>
+    /// The state for where an inside letter leads from a state and in the first automaton, or none where that is covered.
+    fn inside_end(
+        &mut self,
+        state: u32,
+        letter: Letter,
+        end: u32,
+    ) -> Result<Option<u32>, AllocError>
         requires made { IsMade (seen self.old) }
         requires within { state < length (seen self.old).states }
         ensures extends { OnOk result (Extends (seen self.old) (seen self.new) Nowhere NoReturn) }
-        ensures state { IfOk result (IsInsideEnd (seen self.new) state letter end) }
+        ensures state { IfOk result (λ o. MatchOption o (HasInside (seen self.new) state letter end) (IsInsideEnd (seen self.new) state letter end)) }
     {
         let (_, set) = self.parts(state);
         let next = self.sets.on_inside(set, letter)?;
+        if is_covered(
+            &mut self.places,
+            self.covers.as_slice(),
+            &self.sets,
+            end,
+            next,
+        ) {
+            return Ok(None);
+        }
         let to = self.state(end, next)?;
-        Ok(to)
+        Ok(Some(to))
     }
 
-    /// The state for where a call letter leads from a state and in the first automaton.
-    pub fn call_end(&mut self, state: u32, letter: Letter, end: u32) -> Result<u32, AllocError>
+    /// The state for where a call letter leads from a state and in the first automaton, or none where that is covered.
+    fn call_end(&mut self, state: u32, letter: Letter, end: u32) -> Result<Option<u32>, AllocError>
         requires made { IsMade (seen self.old) }
         requires within { state < length (seen self.old).states }
         ensures extends { OnOk result (Extends (seen self.old) (seen self.new) Nowhere NoReturn) }
-        ensures state { IfOk result (IsCallEnd (seen self.new) state letter end) }
+        ensures state { IfOk result (λ o. MatchOption o (HasCall (seen self.new) state letter end) (IsCallEnd (seen self.new) state letter end)) }
     {
         let (_, set) = self.parts(state);
         let next = self.sets.on_call(set, letter)?;
+        if is_covered(
+            &mut self.places,
+            self.covers.as_slice(),
+            &self.sets,
+            end,
+            next,
+        ) {
+            return Ok(None);
+        }
         let to = self.state(end, next)?;
-        Ok(to)
+        Ok(Some(to))
     }
 
-    /// The state for where a return leads from a state and in the first automaton, where `before` was the state before the call.
-    pub fn back_end(
+    /// The state for where a return leads from a state and in the first automaton, or none where that is covered. `before` was the
+    /// state before the call.
+    fn back_end(
         &mut self,
         state: u32,
         before: u32,
         letter: Letter,
         end: u32,
-    ) -> Result<u32, AllocError>
+    ) -> Result<Option<u32>, AllocError>
         requires made { IsMade (seen self.old) }
         requires within { state < length (seen self.old).states }
         requires before { before < length (seen self.old).states }
         ensures extends { OnOk result (Extends (seen self.old) (seen self.new) Nowhere NoReturn) }
-        ensures state { IfOk result (IsBackEnd (seen self.new) state before letter end) }
+        ensures state { IfOk result (λ o. MatchOption o (HasBack (seen self.new) state before letter end) (IsBackEnd (seen self.new) state before letter end)) }
     {
         let (_, set) = self.parts(state);
         let (_, outer) = self.parts(before);
         let next = self.sets.on_back(set, outer, letter)?;
+        if is_covered(
+            &mut self.places,
+            self.covers.as_slice(),
+            &self.sets,
+            end,
+            next,
+        ) {
+            return Ok(None);
+        }
         let to = self.state(end, next)?;
-        Ok(to)
+        Ok(Some(to))
     }
 
-    /// Adds an edge by an inside letter.
+    /// Adds an edge by an inside letter, unless its end is covered.
     pub fn add_inside(&mut self, state: u32, letter: Letter, end: u32) -> Result<(), AllocError>
         requires made { IsMade (seen self.old) }
         requires within { state < length (seen self.old).states }
@@ -141,12 +184,14 @@ impl<'a> Product<'a> {
         ensures { OnOk result (Extends (seen self.old) (seen self.new) (Only state) NoReturn × HasInside (seen self.new) state letter end) }
     {
         let _states = self.first.states();
-        let to = self.inside_end(state, letter, end)?;
+        let Some(to) = self.inside_end(state, letter, end)? else {
+            return Ok(());
+        };
         in_memory(self.nwa.add_inside(state, letter, to))?;
         Ok(())
     }
 
-    /// Adds an edge by a call letter.
+    /// Adds an edge by a call letter, unless its end is covered.
     pub fn add_call(&mut self, state: u32, letter: Letter, end: u32) -> Result<(), AllocError>
         requires made { IsMade (seen self.old) }
         requires within { state < length (seen self.old).states }
@@ -154,12 +199,14 @@ impl<'a> Product<'a> {
         ensures { OnOk result (Extends (seen self.old) (seen self.new) (Only state) NoReturn × HasCall (seen self.new) state letter end) }
     {
         let _states = self.first.states();
-        let to = self.call_end(state, letter, end)?;
+        let Some(to) = self.call_end(state, letter, end)? else {
+            return Ok(());
+        };
         in_memory(self.nwa.add_call(state, letter, to))?;
         Ok(())
     }
 
-    /// Adds an edge by a return, where `before` was the state before the call.
+    /// Adds an edge by a return, unless its end is covered. `before` was the state before the call.
     pub fn add_back(
         &mut self,
         state: u32,
@@ -174,7 +221,9 @@ impl<'a> Product<'a> {
         ensures { OnOk result (Extends (seen self.old) (seen self.new) Nowhere (OnlyReturn state before) × HasBack (seen self.new) state before letter end) }
     {
         let _states = self.first.states();
-        let to = self.back_end(state, before, letter, end)?;
+        let Some(to) = self.back_end(state, before, letter, end)? else {
+            return Ok(());
+        };
         in_memory(self.nwa.add_back(state, before, letter, to))?;
         Ok(())
     }

@@ -1,6 +1,7 @@
+use Rattle.std.proofs.Common.{refl}
 use Rattle.nwa_difference.specs.Seen.{seen}
-use Rattle.nwa_difference.proofs.GrowingLemmas.{sets_made}
-use Rattle.nwa_difference.proofs.EndLemmas.{back_end_is}
+use Rattle.nwa_difference.proofs.GrowingLemmas.{sets_made, sets_extend}
+use Rattle.nwa_difference.proofs.EndLemmas.{both_extend, back_end_is, back_end_covered}
 use Rattle.nwa_difference.proofs.product.Product.back_end.Goals as goal
 
 pub state-requires-clause-made : goal.state-requires-clause-made
@@ -13,3 +14,20 @@ returns-clause-state c =
     back_end_is (seen c.args.self.now) (seen c.state.new.self) c.on_back.new.self c.args.state c.args.before c.parts-set.result c.parts-outer.result
     c.args.letter c.args.end c.in_ok-next.next _ c.requires.made c.on_back.ensures.grows c.in_ok-to.ensures.extends c.requires.within c.requires.before
     c.parts-set.ensures c.parts-outer.ensures c.in_ok-next.ensures.set c.in_ok-to.ensures.sets c.in_ok-to.ensures.state
+
+pub returns-clause-extends : goal.returns-clause-extends
+unfolding seen
+returns-clause-extends c =
+    both_extend (seen c.args.self.now) (seen c.state.new.self) c.on_back.new.self c.requires.made c.on_back.ensures.grows c.in_ok-to.ensures.extends
+
+pub returns-then-is_covered-clause-extends : goal.returns-then-is_covered-clause-extends
+unfolding seen
+returns-then-is_covered-clause-extends c = sets_extend (seen c.args.self.now) c.on_back.new.self c.requires.made c.on_back.ensures.grows
+
+pub returns-then-is_covered-clause-state : goal.returns-then-is_covered-clause-state
+unfolding seen
+returns-then-is_covered-clause-state c =
+    back_end_covered (seen c.args.self.now) c.on_back.new.self c.args.state c.args.before c.parts-set.result c.parts-outer.result c.args.letter c.args.end
+    c.in_ok-next.next c.requires.made c.on_back.ensures.grows c.requires.within c.requires.before c.parts-set.ensures c.parts-outer.ensures
+    c.in_ok-next.ensures.set
+    (rw c.as_slice.ensures.value at (c.if-is_covered.ensures refl))
