@@ -1,10 +1,10 @@
 -- What is found of a word by an answer of Decide on a system of its rows.
-use Rattle.std.proofs.Common.{◌≡◌, ◌∙◌, ℕ, ℤ, List, [], ◌∷◌, length, map, refl, sym, subst}
+use Rattle.std.proofs.Common.{◌≡◌, ◌∙◌, ℕ, suc, ◌+◌, ℤ, List, [], ◌∷◌, length, map, ap, refl, sym, subst, arith}
 use Rattle.std.specs.Prelude.{Result, Ok, Err, IfOk}
 use Rattle.std.specs.declared.alloc.AllocError.{AllocError}
 use Rattle.std.specs.List.{AllByRecursion}
 use Rattle.lin_rows.specs.declared.systems.System.{System}
-use Rattle.lin_rows.specs.Rows.{LinearRow, IsRow, Holds}
+use Rattle.lin_rows.specs.Rows.{LinearRow, IsRow, Holds, RowsBelow}
 use Rattle.lin_rows.specs.Points.{point_of}
 use Rattle.lin_rows.specs.Tightening.{tightened}
 use Rattle.lin_rows.specs.Systems.{Meets, rows_of, groups_of}
@@ -19,13 +19,13 @@ use Rattle.int_decide.specs.Answers.{decision_of, IsWorthOf, OfRefuted, OfWhole,
 use Rattle.int_decide.specs.Decide.{decide, decide_rows, decide_groups}
 use Rattle.int_decide.specs.Decisions.{Decision, refuted, whole, gap, WhereRefuted}
 use Rattle.int_decide.specs.Numbers.{RowsFit, GroupsFit, LeavesFit, DecideFits}
-use Rattle.int_decide.specs.Sizes.{group_count, SystemBelow}
-use Rattle.int_decide.proofs.Opening.{SystemBelow_open}
+use Rattle.int_decide.specs.Sizes.{total, extent, group_count, AllMembers, SystemBelow}
+use Rattle.int_decide.proofs.Opening.{SystemBelow_open, SystemBelow_close, extent_opened}
 use Rattle.difference_rows.specs.Differences.{IsDifference}
 use Rattle.difference_rows.specs.Laws.{DifferencesAreDecided}
 use Rattle.nwa_base.specs.declared.letters.Letter.{Letter}
 use Rattle.letter_acts.specs.Invariant.{Graph}
-use Rattle.path_rows.specs.Paths.{path_of}
+use Rattle.path_rows.specs.Paths.{PlainPath, IsPathOf, path_of}
 use Rattle.path_decide.specs.Decided.{path_goal, RefutesPath, path_decision, PathFits, goal_of_rows, IsRowsRefutation, IsGap, IsAnswer, IsOwn}
 
 -- the system has the rows of the word, and no groups, and n is the number of its columns
@@ -38,6 +38,24 @@ pub record IsSystemOf (g : Graph) (w : List Letter) (n : ℕ) (s : System) : Typ
 pub record AreRowsBelow (n : ℕ) (s : System) : Type 0 where
   pub rows : AllByRecursion IsRow (rows_of s)
   pub below : SystemBelow n s
+
+-- rows without groups are below what their columns are below, and are as many as they are
+rows_are_below : (n : ℕ) (s : System) → groups_of s ≡ [] → RowsBelow n (rows_of s) → SystemBelow n s
+rows_are_below n s e h = SystemBelow_close n s (h, subst (AllMembers (SystemBelow n)) (sym e) tt)
+
+pub rows_are_all : (s : System) → groups_of s ≡ [] → extent s ≡ length (rows_of s)
+rows_are_all s e =
+    extent_opened s ∙ ap (λ (gs : List (List System)). length (rows_of s) + total (λ members. total (λ m. suc (extent m)) members) gs) e ∙
+    (let z : length (rows_of s) + 0 ≡ length (rows_of s) = omega arith in z)
+
+-- the system of a path, with the number of its columns
+pub system_of : (g : Graph) (p : PlainPath) (n : ℕ) (s : System) → IsPathOf g p → rows_of s ≡ p.rows → groups_of s ≡ [] → n ≡ length p.column_at → IsSystemOf g p.word n s
+system_of g p n s h rows groups columns = record { rows = rows ∙ h.rows; groups = groups; columns = columns ∙ ap length h.column_at }
+
+pub path_is_below : (p : PlainPath) (n : ℕ) (s : System) → rows_of s ≡ p.rows → groups_of s ≡ [] → n ≡ length p.column_at → RowsBelow (length p.column_at) p.rows → SystemBelow n s
+path_is_below p n s rows groups columns h =
+    rows_are_below n s groups
+    (subst (λ (rs : List LinearRow). RowsBelow n rs) (sym rows) (subst (λ (m : ℕ). RowsBelow m p.rows) (sym columns) h))
 
 goal_is : (g : Graph) (w : List Letter) (n : ℕ) (s : System) → IsSystemOf g w n s → goal_of s ≡ path_goal g w
 goal_is g w n s h = let a = h.rows in let b = h.groups in cc

@@ -1,18 +1,17 @@
 //! Decide of the rows of a word.
 
-ghost use Rattle.std.specs.Prelude.{◌≡◌, ◌+◌, ◌<◌, ◌^◌, IfOk, IfSome, IsTrue};
+ghost use Rattle.std.specs.Prelude.{◌+◌, ◌<◌, ◌^◌, IfOk, IsTrue, SomeIff};
 ghost use Rattle.std.specs.List.{AllByRecursion};
 ghost use Rattle.lin_rows.specs.Rows.{IsRow};
 ghost use Rattle.lin_rows.specs.Systems.{rows_of};
 ghost use Rattle.letter_acts.specs.Invariant.{Graph};
-ghost use Rattle.int_decide.specs.Sizes.{extent, SystemBelow};
 ghost use Rattle.path_rows.specs.Paths.{IsPathOf};
 ghost use Rattle.path_decide.specs.Decided.{IsAnswer, IsOwn, IsRowsRefutation};
 
 use crate::calls::returned_calls;
 use difference_rows::laws::differences_are_decided;
 use farkas_check::Refutation;
-use int_decide::{Answer, DecideFault, decide, measure, plain};
+use int_decide::{Answer, DecideFault, decide, plain};
 use late_refutations::{Calls, late, lemmas};
 use lin_rows::System;
 use path_rows::PathSystem;
@@ -52,7 +51,7 @@ fn decided(
     let system = path.system();
     know_rows(system);
     differences_are_decided();
-    let Some(columns) = measured(system, path.column_at().len(), depth) else {
+    let Some(columns) = measured(path.column_at().len(), system.rows.as_slice().len(), depth) else {
         return Err(DecideFault::Memory);
     };
     if is_own {
@@ -103,13 +102,12 @@ pub fn lemma_path(
     lemmas(alloc, path.system(), columns, refutation, depth, calls)
 }
 
-/// The number of columns in 32 bits, where what Decide asks of its caller is met.
-fn measured(system: &System, columns: usize, depth: u32) -> Option<u32>
-    ensures { IfSome result (λ n. (n ≡ columns) × SystemBelow n system.now × (extent system.now + depth < 2 ^ 32)) }
+/// The number of columns in 32 bits, which it has to fit, as has the number of rows and cuts.
+fn measured(columns: usize, rows: usize, depth: u32) -> Option<u32>
+    ensures { SomeIff result ((columns < 2 ^ 32) × (rows + depth < 2 ^ 32)) columns }
 {
     let columns = u32::try_from(columns).ok()?;
-    let extent = measure(system, columns)?;
-    extent.checked_add(depth)?;
+    u32::try_from(rows).ok()?.checked_add(depth)?;
     Some(columns)
 }
 

@@ -6,7 +6,7 @@ use Rattle.lin_rows.specs.Rows.{LinearRow}
 use Rattle.letter_acts.specs.Acts.{PlainAct, inside_act, call_act, back_act, Alphabet}
 use Rattle.path_rows.specs.declared.parts.Made.{Made}
 use Rattle.path_rows.specs.declared.drafts.Draft.{Draft}
-use Rattle.path_rows.specs.Versions.{Stage, no_rows, return_part}
+use Rattle.path_rows.specs.Versions.{PathStage, rowless_part, return_part}
 use Rattle.path_rows.specs.Stages.{BackFitsFrom, returned_from, FitsBefore}
 use Rattle.path_rows.specs.Paths.{repeated}
 use Rattle.path_rows.specs.Drafts.{Added, Reads, stage_of}
@@ -22,7 +22,7 @@ fits_last al targets o exit old saved before e h = subst (FitsBefore al targets 
 
 -- what the return makes
 back_makes : (al : Alphabet) (targets : List ℕ) (o : Option PlainAct) (made : ℕ) (here before : List ℕ) (rest : List (List ℕ)) → BackFitsFrom al targets o here before →
-    no_rows (record { made = made; here = returned_from al targets o here before; saved = rest }) ≡ return_part al targets o (record { made = made; here = here; saved = before ∷ rest })
+    rowless_part (record { made = made; here = returned_from al targets o here before; saved = rest }) ≡ return_part al targets o (record { made = made; here = here; saved = before ∷ rest })
 back_makes al targets None made here before rest f = absurd f
 back_makes al targets (Some (inside_act q written helpers rows)) made here before rest f = absurd f
 back_makes al targets (Some (call_act caller callee helpers rows)) made here before rest f = refl
@@ -33,8 +33,8 @@ pub back_reads : (al : Alphabet) (targets : List ℕ) (o : Option PlainAct) (num
     Added m.rows.items m.columns m.here.items number (record old { saved = saved }) new → Reads (return_part al targets o (stage_of old)) number old new
 back_reads al targets o number old new saved before m e f rows columns here a =
     let rest : List (List ℕ) = innermost_first saved.items in
-    let after : Stage = record { made = old.made; here = returned_from al targets o old.here.items before.items; saved = rest } in
-    let whole : no_rows after ≡ return_part al targets o (stage_of old) =
+    let after : PathStage = record { made = old.made; here = returned_from al targets o old.here.items before.items; saved = rest } in
+    let whole : rowless_part after ≡ return_part al targets o (stage_of old) =
     back_makes al targets o old.made old.here.items before.items rest f ∙
     ap (λ (l : List (List ℕ)). return_part al targets o (record { made = old.made; here = old.here.items; saved = l })) (sym (saved_pushed saved.items old.saved.items before e)) in
     subst (λ p. Reads p number old new) whole (record {

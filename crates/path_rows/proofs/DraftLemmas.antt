@@ -10,7 +10,7 @@ use Rattle.letter_acts.specs.Acts.{PlainAct, inside_act, call_act, back_act, Alp
 use Rattle.letter_acts.specs.Invariant.{Graph, alphabet_of}
 use Rattle.path_rows.specs.declared.parts.Made.{Made}
 use Rattle.path_rows.specs.declared.drafts.Draft.{Draft}
-use Rattle.path_rows.specs.Versions.{Stage, Part, rows_in, part_of, act_part, return_part, back_part, call_part}
+use Rattle.path_rows.specs.Versions.{PathStage, Part, part_rows, part_of, act_part, return_part, back_part, call_part}
 use Rattle.path_rows.specs.Paths.{Path, repeated, path_along, path_of, start_frame, first_stage}
 use Rattle.path_rows.specs.Drafts.{IsMade, Added, Reads, LeadsTo, IsDone, IsStart, stage_of}
 use Rattle.path_rows.proofs.LoopLemmas.{same_stage, saved_pushed}
@@ -45,12 +45,12 @@ pub leads_on : (g : Graph) (n : ℕ) (a : Letter) (w : List Letter) (old new : D
 leads_on g n a w old new path r h =
     let al = alphabet_of g in
     let part : Part = part_of al a (stage_of old) in
-    let there : path_along al (suc n) (stage_of new) w ≡ path_along al (suc n) part.after w = ap (λ (p : Stage). path_along al (suc n) p w) r.stage in
+    let there : path_along al (suc n) (stage_of new) w ≡ path_along al (suc n) part.after w = ap (λ (p : PathStage). path_along al (suc n) p w) r.stage in
     let rest : Path = path_along al (suc n) part.after w in
     record {
-      rows = ap (λ (p : Path). new.rows.items ++ p.rows) there ∙ moved old.rows.items new.rows.items (rows_in part) rest.rows path.rows r.rows h.rows;
+      rows = ap (λ (p : Path). new.rows.items ++ p.rows) there ∙ moved old.rows.items new.rows.items (part_rows part) rest.rows path.rows r.rows h.rows;
       row_at = ap (λ (p : Path). new.row_at.items ++ p.row_at) there ∙
-          moved old.row_at.items new.row_at.items (repeated n (length (rows_in part))) rest.row_at path.row_at r.row_at h.row_at;
+          moved old.row_at.items new.row_at.items (repeated n (length (part_rows part))) rest.row_at path.row_at r.row_at h.row_at;
       column_at = ap (λ (p : Path). new.column_at.items ++ p.column_at) there ∙
           moved old.column_at.items new.column_at.items (repeated n part.columns) rest.column_at path.column_at r.column_at h.column_at;
       states = ap (λ (p : Path). map (λ (v : Vec ℕ). v.items) new.states.items ++ p.states) there ∙
@@ -60,7 +60,7 @@ leads_on g n a w old new path r h =
 pub leads_first : (g : Graph) (w : List Letter) (d : Draft) → IsStart (start_frame g) d → LeadsTo g 1 d w (path_of g w)
 leads_first g w d s =
     let frame : Columns = start_frame g in
-    let there : path_along (alphabet_of g) 1 (stage_of d) w ≡ path_along (alphabet_of g) 1 (first_stage frame) w = ap (λ (p : Stage). path_along (alphabet_of g) 1 p w) s.stage in
+    let there : path_along (alphabet_of g) 1 (stage_of d) w ≡ path_along (alphabet_of g) 1 (first_stage frame) w = ap (λ (p : PathStage). path_along (alphabet_of g) 1 p w) s.stage in
     let rest : Path = path_along (alphabet_of g) 1 (first_stage frame) w in
     record {
       rows = ap (λ (p : Path). d.rows.items ++ p.rows) there ∙ ap (λ (l : List LinearRow). l ++ rest.rows) s.rows;
@@ -85,13 +85,13 @@ back_made : (caller callee : Columns) (targets : List ℕ) (made : ℕ) (here : 
 back_made caller callee targets made here [] = omega arith
 back_made caller callee targets made here (v ∷ saved) = omega arith
 
-return_made : (al : Alphabet) (targets : List ℕ) (o : Option PlainAct) (p : Stage) → (return_part al targets o p).after.made ≡ p.made + (return_part al targets o p).columns
+return_made : (al : Alphabet) (targets : List ℕ) (o : Option PlainAct) (p : PathStage) → (return_part al targets o p).after.made ≡ p.made + (return_part al targets o p).columns
 return_made al targets None p = omega arith
 return_made al targets (Some (inside_act q written helpers rows)) p = omega arith
 return_made al targets (Some (call_act caller callee helpers rows)) p = back_made (frame_of al caller) (frame_of al callee) targets p.made p.here p.saved
 return_made al targets (Some (back_act c more)) p = omega arith
 
-act_made : (al : Alphabet) (o : Option PlainAct) (p : Stage) → (act_part al o p).after.made ≡ p.made + (act_part al o p).columns
+act_made : (al : Alphabet) (o : Option PlainAct) (p : PathStage) → (act_part al o p).after.made ≡ p.made + (act_part al o p).columns
 act_made al None p = omega arith
 act_made al (Some (inside_act q written helpers rows)) p = refl
 act_made al (Some (call_act caller callee helpers rows)) p = refl
@@ -102,12 +102,12 @@ length-repeated n zero = refl
 length-repeated n (suc k) = ap suc (length-repeated n k)
 
 pub counted_first : (frame : Columns) (d : Draft) → IsStart frame d → d.made ≡ length d.column_at.items
-counted_first frame d s = ap (λ (p : Stage). p.made) s.stage ∙ sym (ap length s.column_at ∙ length-repeated 0 (length frame))
+counted_first frame d s = ap (λ (p : PathStage). p.made) s.stage ∙ sym (ap length s.column_at ∙ length-repeated 0 (length frame))
 
 pub counted_next : (al : Alphabet) (a : Letter) (n : ℕ) (old new : Draft) → Reads (part_of al a (stage_of old)) n old new → old.made ≡ length old.column_at.items → new.made ≡ length new.column_at.items
 counted_next al a n old new r h =
     let part : Part = part_of al a (stage_of old) in
-    let m : new.made ≡ old.made + part.columns = ap (λ (p : Stage). p.made) r.stage ∙ act_made al (act_of al a) (stage_of old) in
+    let m : new.made ≡ old.made + part.columns = ap (λ (p : PathStage). p.made) r.stage ∙ act_made al (act_of al a) (stage_of old) in
     let l : length new.column_at.items ≡ length old.column_at.items + part.columns =
     ap length r.column_at ∙ length-append old.column_at.items (repeated n part.columns) ∙ ap (λ (k : ℕ). length old.column_at.items + k) (length-repeated n part.columns) in
     omega (arith, m, l, h)

@@ -13,7 +13,7 @@ use Rattle.letter_acts.specs.Acts.{PlainAct, inside_act, call_act, back_act, fra
 use Rattle.letter_acts.specs.Invariant.{Graph, IsGraph, alphabet_of, IsPlaceOf}
 use Rattle.letter_acts.specs.Kept.{Keeps}
 use Rattle.letter_acts.proofs.KnownLemmas.{frames_laid_out, act_found}
-use Rattle.path_rows.specs.Versions.{Stage, Part, part_of, act_part, return_part, inside_part, call_part, back_part, returned}
+use Rattle.path_rows.specs.Versions.{PathStage, Part, part_of, act_part, return_part, inside_part, call_part, back_part, returned}
 use Rattle.path_rows.specs.Stages.{AreVersions, VersionsAt, AreApart, AreSaved, ComesTo, GoesOnBy, InsideFits, CallFits, BackFits, BackFitsFrom, FitsBefore, BackReady}
 use Rattle.path_rows.specs.Drafts.{CanGoOn}
 use Rattle.path_rows.proofs.LayoutLemmas.{laid_out}
@@ -37,7 +37,7 @@ pub record Acts (g : Graph) (a : Letter) : Type 0 where
   pub there : slice_get g.acts a.id ≡ Some act
   pub is : act_of (alphabet_of g) a ≡ Some act
 
-pub acts_of : (g : Graph) → IsGraph g → (a : Letter) (p : Stage) → GoesOnBy g a p → Acts g a
+pub acts_of : (g : Graph) → IsGraph g → (a : Letter) (p : PathStage) → GoesOnBy g a p → Acts g a
 acts_of g ok a p h = by_kind a.kind refl h.places h.follows
   where
     by_kind : (kind : Kind) → a.kind ≡ kind → (places : List ℕ) → Follows g.automaton kind a places h.from h.to (λ rest. Unit {0}) → Acts g a
@@ -58,12 +58,12 @@ act_kind g a act e = ap (λ (b : Letter). b.kind) (act_found (alphabet_of g) a a
 
 -- ---- inside letters
 
-pub record InsideGoes (g : Graph) (a : Letter) (p : Stage) (q : ℕ) (written : List ℕ) (helpers : ℕ) (rows : List LinearRow) : Type 0 where
+pub record InsideGoes (g : Graph) (a : Letter) (p : PathStage) (q : ℕ) (written : List ℕ) (helpers : ℕ) (rows : List LinearRow) : Type 0 where
   pub exists : q < length g.frames
   pub fits : InsideFits written helpers rows p.made p.here
   pub is : part_of (alphabet_of g) a p ≡ inside_part (frame_of (alphabet_of g) q) written helpers rows p
 
-pub inside_goes : (g : Graph) → IsGraph g → (a : Letter) (p : Stage) (q : ℕ) (written : List ℕ) (helpers : ℕ) (rows : List LinearRow) → GoesOnBy g a p →
+pub inside_goes : (g : Graph) → IsGraph g → (a : Letter) (p : PathStage) (q : ℕ) (written : List ℕ) (helpers : ℕ) (rows : List LinearRow) → GoesOnBy g a p →
     slice_get g.acts a.id ≡ Some (inside_act q written helpers rows) → InsideGoes g a p q written helpers rows
 inside_goes g ok a p q written helpers rows h e =
     let k = acts_of g ok a p h in
@@ -86,12 +86,12 @@ inside_goes g ok a p q written helpers rows h e =
 
 -- ---- calls
 
-pub record CallGoes (g : Graph) (a : Letter) (p : Stage) (caller callee helpers : ℕ) (rows : List LinearRow) : Type 0 where
+pub record CallGoes (g : Graph) (a : Letter) (p : PathStage) (caller callee helpers : ℕ) (rows : List LinearRow) : Type 0 where
   pub exists : callee < length g.frames
   pub fits : CallFits (frame_of (alphabet_of g) callee) helpers rows p.made p.here
   pub is : part_of (alphabet_of g) a p ≡ call_part (frame_of (alphabet_of g) callee) helpers rows p
 
-pub call_goes : (g : Graph) → IsGraph g → (a : Letter) (p : Stage) (caller callee helpers : ℕ) (rows : List LinearRow) → GoesOnBy g a p →
+pub call_goes : (g : Graph) → IsGraph g → (a : Letter) (p : PathStage) (caller callee helpers : ℕ) (rows : List LinearRow) → GoesOnBy g a p →
     slice_get g.acts a.id ≡ Some (call_act caller callee helpers rows) → CallGoes g a p caller callee helpers rows
 call_goes g ok a p caller callee helpers rows h e =
     let k = acts_of g ok a p h in
@@ -165,11 +165,11 @@ back_facts g ok a q m e made n here v kind edge at l s apart =
       fits = back_fits lay.0 (frame_of (alphabet_of g) k.known.caller) (frame_of (alphabet_of g) k.known.callee) k.known.helpers k.known.targets here v n made r k.known.acted;
     }
 
-pub record BackGoes (g : Graph) (a : Letter) (p : Stage) (call : ℕ) (targets : List ℕ) : Type 0 where
+pub record BackGoes (g : Graph) (a : Letter) (p : PathStage) (call : ℕ) (targets : List ℕ) : Type 0 where
   pub ready : BackReady (alphabet_of g) targets (slice_get g.acts call) p
   pub is : part_of (alphabet_of g) a p ≡ return_part (alphabet_of g) targets (slice_get g.acts call) p
 
-pub back_goes : (g : Graph) → IsGraph g → (a : Letter) (p : Stage) (call : ℕ) (targets : List ℕ) → GoesOnBy g a p →
+pub back_goes : (g : Graph) → IsGraph g → (a : Letter) (p : PathStage) (call : ℕ) (targets : List ℕ) → GoesOnBy g a p →
     slice_get g.acts a.id ≡ Some (back_act call targets) → BackGoes g a p call targets
 back_goes g ok a p call targets h e =
     let k = acts_of g ok a p h in
@@ -196,7 +196,7 @@ back_goes g ok a p call targets h e =
 
 -- ---- on the way through a word
 
-pub goes_first : (g : Graph) (p : Stage) (a : Letter) (w : List Letter) → CanGoOn g p (a ∷ w) → GoesOnBy g a p
+pub goes_first : (g : Graph) (p : PathStage) (a : Letter) (w : List Letter) → CanGoOn g p (a ∷ w) → GoesOnBy g a p
 goes_first g p a w h = record {
   places = h.places;
   from = h.from;
@@ -233,7 +233,7 @@ after_return g globals caller callee targets here v n made r f (p ∷ places) (u
       s.4,
     ))
 
-back_next : (g : Graph) → IsGraph g → (p : Stage) (a : Letter) (w : List Letter) (q m e : ℕ) (places : List ℕ) → a.kind ≡ kinds.Back → Member g.automaton.backs (q, m, a, e) →
+back_next : (g : Graph) → IsGraph g → (p : PathStage) (a : Letter) (w : List Letter) (q m e : ℕ) (places : List ℕ) → a.kind ≡ kinds.Back → Member g.automaton.backs (q, m, a, e) →
     AcceptsFrom g.automaton places e w → VersionsAt g q p.made p.here → (saved : List (List ℕ)) → p.saved ≡ saved → AreSaved g p.made (m ∷ places) saved p.here →
     CanGoOn g (part_of (alphabet_of g) a p).after w
 back_next g ok p a w q m e places k edge acc at [] i s = absurd s
@@ -261,7 +261,7 @@ back_next g ok p a w q m e places k edge acc at (v ∷ saved) i s =
       accepts = acc;
     })
 
-pub goes_next : (g : Graph) → IsGraph g → (p : Stage) (a : Letter) (w : List Letter) → CanGoOn g p (a ∷ w) → CanGoOn g (part_of (alphabet_of g) a p).after w
+pub goes_next : (g : Graph) → IsGraph g → (p : PathStage) (a : Letter) (w : List Letter) → CanGoOn g p (a ∷ w) → CanGoOn g (part_of (alphabet_of g) a p).after w
 goes_next g ok p a w h = by_kind a.kind refl h.places h.comes h.accepts.1
   where
     by_kind : (kind : Kind) → a.kind ≡ kind → (places : List ℕ) → ComesTo g places h.from p →
@@ -315,7 +315,7 @@ pub kept_graph : (g : Graph) → Keeps g → IsGraph g
 unfolding Keeps
 kept_graph g h = h
 
-pub letter_within : (g : Graph) → Keeps g → (a : Letter) (p : Stage) → GoesOnBy g a p → a.id < length g.acts
+pub letter_within : (g : Graph) → Keeps g → (a : Letter) (p : PathStage) → GoesOnBy g a p → a.id < length g.acts
 letter_within g k a p h = (let e = acts_of g (kept_graph g k) a p h in some_at g.acts a.id e.act e.there)
   where
     some_at : (xs : List PlainAct) (i : ℕ) (x : PlainAct) → slice_get xs i ≡ Some x → i < length xs
@@ -323,13 +323,13 @@ letter_within g k a p h = (let e = acts_of g (kept_graph g k) a p h in some_at g
     some_at (y ∷ ys) zero x e = omega arith
     some_at (y ∷ ys) (suc i) x e = let k = some_at ys i x e in omega (arith, k)
 
-pub inside_asks : (g : Graph) → Keeps g → (a : Letter) (p : Stage) (q : ℕ) (written : List ℕ) (helpers : ℕ) (rows : List LinearRow) (ws : List ℕ) (rs : List LinearRow) → GoesOnBy g a p →
+pub inside_asks : (g : Graph) → Keeps g → (a : Letter) (p : PathStage) (q : ℕ) (written : List ℕ) (helpers : ℕ) (rows : List LinearRow) (ws : List ℕ) (rs : List LinearRow) → GoesOnBy g a p →
     slice_get g.acts a.id ≡ Some (inside_act q written helpers rows) → ws ≡ written → rs ≡ rows → InsideFits ws helpers rs p.made p.here
 inside_asks g k a p q written helpers rows ws rs h e f i =
     let s = (inside_goes g (kept_graph g k) a p q written helpers rows h e).fits in
     subst (λ (l : List ℕ). InsideFits l helpers rs p.made p.here) (sym f) (subst (λ (l : List LinearRow). InsideFits written helpers l p.made p.here) (sym i) s)
 
-pub inside_gives : (g : Graph) → Keeps g → (a : Letter) (p : Stage) (q : ℕ) (written : List ℕ) (helpers : ℕ) (rows : List LinearRow) (frame : Columns) (ws : List ℕ) (rs : List LinearRow) →
+pub inside_gives : (g : Graph) → Keeps g → (a : Letter) (p : PathStage) (q : ℕ) (written : List ℕ) (helpers : ℕ) (rows : List LinearRow) (frame : Columns) (ws : List ℕ) (rs : List LinearRow) →
     GoesOnBy g a p → slice_get g.acts a.id ≡ Some (inside_act q written helpers rows) → frame ≡ frame_of (alphabet_of g) q → ws ≡ written → rs ≡ rows →
     inside_part frame ws helpers rs p ≡ part_of (alphabet_of g) a p
 inside_gives g k a p q written helpers rows frame ws rs h e j f i =
@@ -337,24 +337,24 @@ inside_gives g k a p q written helpers rows frame ws rs h e j f i =
     ap (λ (l : List LinearRow). inside_part (frame_of (alphabet_of g) q) written helpers l p) i ∙
     sym (inside_goes g (kept_graph g k) a p q written helpers rows h e).is
 
-pub call_asks : (g : Graph) → Keeps g → (a : Letter) (p : Stage) (caller callee helpers : ℕ) (rows : List LinearRow) (frame : Columns) (rs : List LinearRow) → GoesOnBy g a p →
+pub call_asks : (g : Graph) → Keeps g → (a : Letter) (p : PathStage) (caller callee helpers : ℕ) (rows : List LinearRow) (frame : Columns) (rs : List LinearRow) → GoesOnBy g a p →
     slice_get g.acts a.id ≡ Some (call_act caller callee helpers rows) → frame ≡ frame_of (alphabet_of g) callee → rs ≡ rows → CallFits frame helpers rs p.made p.here
 call_asks g k a p caller callee helpers rows frame rs h e j i =
     let s = (call_goes g (kept_graph g k) a p caller callee helpers rows h e).fits in
     subst (λ (l : Columns). CallFits l helpers rs p.made p.here) (sym j) (subst (λ (l : List LinearRow). CallFits (frame_of (alphabet_of g) callee) helpers l p.made p.here) (sym i) s)
 
-pub call_gives : (g : Graph) → Keeps g → (a : Letter) (p : Stage) (caller callee helpers : ℕ) (rows : List LinearRow) (frame : Columns) (rs : List LinearRow) → GoesOnBy g a p →
+pub call_gives : (g : Graph) → Keeps g → (a : Letter) (p : PathStage) (caller callee helpers : ℕ) (rows : List LinearRow) (frame : Columns) (rs : List LinearRow) → GoesOnBy g a p →
     slice_get g.acts a.id ≡ Some (call_act caller callee helpers rows) → frame ≡ frame_of (alphabet_of g) callee → rs ≡ rows → call_part frame helpers rs p ≡ part_of (alphabet_of g) a p
 call_gives g k a p caller callee helpers rows frame rs h e j i =
     ap (λ (l : Columns). call_part l helpers rs p) j ∙ ap (λ (l : List LinearRow). call_part (frame_of (alphabet_of g) callee) helpers l p) i ∙
     sym (call_goes g (kept_graph g k) a p caller callee helpers rows h e).is
 
-pub back_asks : (g : Graph) → Keeps g → (a : Letter) (p : Stage) (call : ℕ) (targets ts : List ℕ) → GoesOnBy g a p → slice_get g.acts a.id ≡ Some (back_act call targets) → ts ≡ targets →
+pub back_asks : (g : Graph) → Keeps g → (a : Letter) (p : PathStage) (call : ℕ) (targets ts : List ℕ) → GoesOnBy g a p → slice_get g.acts a.id ≡ Some (back_act call targets) → ts ≡ targets →
     BackReady (alphabet_of g) ts (slice_get g.acts call) p
 back_asks g k a p call targets ts h e i =
     subst (λ (l : List ℕ). BackReady (alphabet_of g) l (slice_get g.acts call) p) (sym i) (back_goes g (kept_graph g k) a p call targets h e).ready
 
-pub back_gives : (g : Graph) → Keeps g → (a : Letter) (p : Stage) (call : ℕ) (targets ts : List ℕ) → GoesOnBy g a p → slice_get g.acts a.id ≡ Some (back_act call targets) → ts ≡ targets →
+pub back_gives : (g : Graph) → Keeps g → (a : Letter) (p : PathStage) (call : ℕ) (targets ts : List ℕ) → GoesOnBy g a p → slice_get g.acts a.id ≡ Some (back_act call targets) → ts ≡ targets →
     return_part (alphabet_of g) ts (slice_get g.acts call) p ≡ part_of (alphabet_of g) a p
 back_gives g k a p call targets ts h e i =
     ap (λ (l : List ℕ). return_part (alphabet_of g) l (slice_get g.acts call) p) i ∙ sym (back_goes g (kept_graph g k) a p call targets h e).is

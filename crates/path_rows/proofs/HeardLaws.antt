@@ -17,7 +17,7 @@ use Rattle.letter_acts.specs.Invariant.{Graph, IsGraph, alphabet_of, IsPlaceOf, 
 use Rattle.letter_acts.proofs.PointLemmas.{state_length}
 use Rattle.letter_acts.proofs.WayLemmas.{leads_with}
 use Rattle.letter_acts.proofs.KnownLemmas.{frames_laid_out}
-use Rattle.path_rows.specs.Versions.{Stage, Part, rows_in, inside_part, call_part, back_part, part_of, act_part, return_part}
+use Rattle.path_rows.specs.Versions.{PathStage, Part, part_rows, inside_part, call_part, back_part, part_of, act_part, return_part}
 use Rattle.path_rows.specs.Paths.{path_along}
 use Rattle.path_rows.specs.Solutions.{read, ActObeyed, ObeyedAlong, BackObeyed, ReturnObeyed}
 use Rattle.path_rows.proofs.ListLemmas.{all_joined, length-read}
@@ -55,7 +55,7 @@ OpenCalls g point (p ∷ before) (b ∷ stack) [] s = ⊥
 OpenCalls g point (p ∷ before) (b ∷ stack) (v ∷ saved) s = (b.values ≡ read point v) × OpenCall g p b s × OpenCalls g point before stack saved b
 
 -- a point at a position of a word: the place, the situation, the open calls
-pub record Comes (g : Graph) (point : ℕ → ℤ) (before : List ℕ) (q : ℕ) (stack : List Situation) (s : Situation) (p : Stage) : Type 0 where
+pub record Comes (g : Graph) (point : ℕ → ℤ) (before : List ℕ) (q : ℕ) (stack : List Situation) (s : Situation) (p : PathStage) : Type 0 where
   pub stands : Stands g q s
   pub values : s.values ≡ read point p.here
   pub open_calls : OpenCalls g point before stack p.saved s
@@ -63,7 +63,7 @@ pub record Comes (g : Graph) (point : ℕ → ℤ) (before : List ℕ) (q : ℕ)
   pub late : (before ≡ []) ⊎ (q ≢ 0)
 
 -- what comes of the rest of a word
-pub record Heard (g : Graph) (point : ℕ → ℤ) (n : ℕ) (stack : List Situation) (s : Situation) (p : Stage) (w : List Letter) : Type 0 where
+pub record Heard (g : Graph) (point : ℕ → ℤ) (n : ℕ) (stack : List Situation) (s : Situation) (p : PathStage) (w : List Letter) : Type 0 where
   pub obeyed : ObeyedAlong point (alphabet_of g) p w
   pub more : List Situation
   pub through : GoesThrough (meaning (alphabet_of g)) stack s w more
@@ -103,16 +103,16 @@ calls_moved g point (p ∷ before) (b ∷ stack) (v ∷ saved) s t e l k o = (o.
 -- ---- letters
 
 -- what comes of a letter whose part is known: where it leads to, and how
-record Moved (g : Graph) (point : ℕ → ℤ) (a : Letter) (before : List ℕ) (stack : List Situation) (s : Situation) (p : Stage) (end : ℕ) (after : List ℕ) : Type 0 where
+record Moved (g : Graph) (point : ℕ → ℤ) (a : Letter) (before : List ℕ) (stack : List Situation) (s : Situation) (p : PathStage) (end : ℕ) (after : List ℕ) : Type 0 where
   obeyed : ActObeyed point (alphabet_of g) (act_of (alphabet_of g) a) p
   situation : Situation
   next : List Situation
   comes : Comes g point after end next situation (part_of (alphabet_of g) a p).after
   leads : Leads (meaning (alphabet_of g)) a.kind a stack s situation (λ st. st ≡ next)
 
-inside_moves : (g : Graph) → IsGraph g → (point : ℕ → ℤ) (a : Letter) (before : List ℕ) (q e : ℕ) (stack : List Situation) (s : Situation) (p : Stage) →
+inside_moves : (g : Graph) → IsGraph g → (point : ℕ → ℤ) (a : Letter) (before : List ℕ) (q e : ℕ) (stack : List Situation) (s : Situation) (p : PathStage) →
     a.kind ≡ Inside → Member g.automaton.insides (q, a, e) → Comes g point before q stack s p →
-    AllByRecursion (Holds point) (rows_in (part_of (alphabet_of g) a p)) → Moved g point a before stack s p e before
+    AllByRecursion (Holds point) (part_rows (part_of (alphabet_of g) a p)) → Moved g point a before stack s p e before
 inside_moves g ok point a before q e stack s p kind edge c h =
     let al = alphabet_of g in
     let k = inside_acts g ok q e a edge in
@@ -122,7 +122,7 @@ inside_moves g ok point a before q e stack s p kind edge c h =
     let state : IsState frame s.values = subst (λ (r : ℕ). IsState (frame_of al r) s.values) same c.stands.state in
     let part : Part = inside_part frame k.known.written k.known.helpers k.known.rows p in
     let obeyed = inside_heard point al k.known.proc k.known.written k.known.helpers k.known.rows p k.known.acted (subst (IsState frame) c.values state)
-    (subst (λ (o : Option PlainAct). AllByRecursion (Holds point) (rows_in (act_part al o p))) k.act_is h) in
+    (subst (λ (o : Option PlainAct). AllByRecursion (Holds point) (part_rows (act_part al o p))) k.act_is h) in
     let t : Situation = record { proc = k.known.proc; values = read point part.after.here } in
     let exists : k.known.proc < length g.frames = k.known.acted.proc_exists in
     let leads : ActInside al (Some act) s t =
@@ -146,9 +146,9 @@ inside_moves g ok point a before q e stack s p kind edge c h =
           (subst (λ (o : Option PlainAct). ActInside al o s t) (sym k.act_is) leads, refl);
     }
 
-call_moves : (g : Graph) → IsGraph g → (point : ℕ → ℤ) (a : Letter) (before : List ℕ) (q e : ℕ) (stack : List Situation) (s : Situation) (p : Stage) →
+call_moves : (g : Graph) → IsGraph g → (point : ℕ → ℤ) (a : Letter) (before : List ℕ) (q e : ℕ) (stack : List Situation) (s : Situation) (p : PathStage) →
     a.kind ≡ Call → Member g.automaton.calls (q, a, e) → Comes g point before q stack s p →
-    AllByRecursion (Holds point) (rows_in (part_of (alphabet_of g) a p)) → Moved g point a before stack s p e (q ∷ before)
+    AllByRecursion (Holds point) (part_rows (part_of (alphabet_of g) a p)) → Moved g point a before stack s p e (q ∷ before)
 call_moves g ok point a before q e stack s p kind edge c h =
     let al = alphabet_of g in
     let k = call_acts g ok q e a edge in
@@ -162,7 +162,7 @@ call_moves g ok point a before q e stack s p kind edge c h =
     let state : IsState caller s.values = subst (λ (r : ℕ). IsState (frame_of al r) s.values) same c.stands.state in
     let part : Part = call_part callee k.known.helpers k.known.rows p in
     let obeyed = call_heard point lay.0 al k.known.caller k.known.callee k.known.helpers k.known.rows p k.known.acted fr fe (subst (IsState caller) c.values state)
-    (subst (λ (o : Option PlainAct). AllByRecursion (Holds point) (rows_in (act_part al o p))) k.act_is h) in
+    (subst (λ (o : Option PlainAct). AllByRecursion (Holds point) (part_rows (act_part al o p))) k.act_is h) in
     let t : Situation = record { proc = k.known.callee; values = read point part.after.here } in
     let led : CallLeads caller callee k.known.helpers k.known.rows s.values t.values =
     subst (λ (v : List ℤ). CallLeads caller callee k.known.helpers k.known.rows v t.values) (sym c.values) obeyed.leads in
@@ -196,7 +196,7 @@ call_moves g ok point a before q e stack s p kind edge c h =
     }
 
 -- the call that a return matches has the act of the letter that the return names
-back_moves : (g : Graph) → IsGraph g → (point : ℕ → ℤ) (a : Letter) (before : List ℕ) (q m e : ℕ) (stack : List Situation) (s : Situation) (p : Stage) →
+back_moves : (g : Graph) → IsGraph g → (point : ℕ → ℤ) (a : Letter) (before : List ℕ) (q m e : ℕ) (stack : List Situation) (s : Situation) (p : PathStage) →
     a.kind ≡ Back → Member g.automaton.backs (q, m, a, e) → Comes g point (m ∷ before) q stack s p →
     Moved g point a (m ∷ before) stack s p e before
 back_moves g ok point a before q m e stack s p kind edge c = by_stack stack p.saved refl c.open_calls
@@ -269,7 +269,7 @@ back_moves g ok point a before q m e stack s p kind edge c = by_stack stack p.sa
 -- ---- words
 
 -- what follows a letter that moves
-heard_on : (g : Graph) (point : ℕ → ℤ) (n : ℕ) (a : Letter) (w : List Letter) (before : List ℕ) (stack : List Situation) (s : Situation) (p : Stage) (end : ℕ) (after : List ℕ) →
+heard_on : (g : Graph) (point : ℕ → ℤ) (n : ℕ) (a : Letter) (w : List Letter) (before : List ℕ) (stack : List Situation) (s : Situation) (p : PathStage) (end : ℕ) (after : List ℕ) →
     s.values ≡ read point p.here → (m : Moved g point a before stack s p end after) →
     Heard g point (suc n) m.next m.situation (part_of (alphabet_of g) a p).after w → Heard g point n stack s p (a ∷ w)
 heard_on g point n a w before stack s p end after e m r = record {
@@ -281,7 +281,7 @@ heard_on g point n a w before stack s p end after e m r = record {
       ap (λ (l : List ℤ). l ∷ map (read point) (path_along (alphabet_of g) (suc n) (part_of (alphabet_of g) a p).after w).states) e;
 }
 
-pub heard : (g : Graph) → IsGraph g → (point : ℕ → ℤ) (w : List Letter) (n : ℕ) (before : List ℕ) (q : ℕ) (stack : List Situation) (s : Situation) (p : Stage) →
+pub heard : (g : Graph) → IsGraph g → (point : ℕ → ℤ) (w : List Letter) (n : ℕ) (before : List ℕ) (q : ℕ) (stack : List Situation) (s : Situation) (p : PathStage) →
     AcceptsFrom g.automaton before q w → Comes g point before q stack s p →
     AllByRecursion (Holds point) (path_along (alphabet_of g) n p w).rows → Heard g point n stack s p w
 heard g ok point [] n before q stack s p acc c h = record {
@@ -292,14 +292,14 @@ heard g ok point [] n before q stack s p acc c h = record {
 }
 heard g ok point (a ∷ w) n before q stack s p acc c h =
     let al = alphabet_of g in
-    let j = (all_joined (Holds point) (rows_in (part_of al a p)) (path_along al (suc n) (part_of al a p).after w).rows).0 h in
+    let j = (all_joined (Holds point) (part_rows (part_of al a p)) (path_along al (suc n) (part_of al a p).after w).rows).0 h in
     by_kind a.kind refl before acc.0 c acc.1 j.0 j.1 (λ before e stack s p acc c h. heard g ok point w (suc n) before e stack s p acc c h)
   where
     by_kind : (kind : Kind) → a.kind ≡ kind → (before : List ℕ) (e : ℕ) → Comes g point before q stack s p →
         Follows g.automaton kind a before q e (λ st. AcceptsFrom g.automaton st e w) →
-        AllByRecursion (Holds point) (rows_in (part_of (alphabet_of g) a p)) →
+        AllByRecursion (Holds point) (part_rows (part_of (alphabet_of g) a p)) →
         AllByRecursion (Holds point) (path_along (alphabet_of g) (suc n) (part_of (alphabet_of g) a p).after w).rows →
-        ((before : List ℕ) (q : ℕ) (stack : List Situation) (s : Situation) (p : Stage) → AcceptsFrom g.automaton before q w → Comes g point before q stack s p →
+        ((before : List ℕ) (q : ℕ) (stack : List Situation) (s : Situation) (p : PathStage) → AcceptsFrom g.automaton before q w → Comes g point before q stack s p →
         AllByRecursion (Holds point) (path_along (alphabet_of g) (suc n) p w).rows → Heard g point (suc n) stack s p w) →
         Heard g point n stack s p (a ∷ w)
     by_kind Inside k before e c f own rest on =

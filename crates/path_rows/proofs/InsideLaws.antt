@@ -13,16 +13,16 @@ use Rattle.letter_acts.specs.Invariant.{MayWrite, InsideIsActed, inside_width}
 use Rattle.letter_acts.proofs.ListLemmas.{all_weaker, some_within}
 use Rattle.letter_acts.proofs.PointLemmas.{state_length, picked_put}
 use Rattle.frame_rows.specs.Rows.{bounds, types_at, columns_from}
-use Rattle.path_rows.specs.Versions.{Stage, rows_in, inside_part}
+use Rattle.path_rows.specs.Versions.{PathStage, part_rows, inside_part}
 use Rattle.path_rows.specs.Solutions.{read, InsideObeyed}
 use Rattle.path_rows.proofs.ListLemmas.{all_joined, columns_split, length-columns_from, length-read, length-read_from, read_written}
 use Rattle.path_rows.proofs.RowLemmas.{rows_read, AreTyped, written_read, put_typed, picked_typed}
 
 -- the columns of the letter's rows
-abbrev names : Stage → ℕ → List ℕ
+abbrev names : PathStage → ℕ → List ℕ
 names p count = p.here ++ columns_from p.made count
 
-names_read : (point : ℕ → ℤ) (p : Stage) (w h : ℕ) →
+names_read : (point : ℕ → ℤ) (p : PathStage) (w h : ℕ) →
     read point (names p (w + h)) ≡ (read point p.here ++ read point (columns_from p.made w)) ++ read point (columns_from (p.made + w) h)
 names_read point p w h =
     map-append point p.here (columns_from p.made (w + h)) ∙
@@ -31,7 +31,7 @@ names_read point p w h =
     sym (append_assoc (read point p.here) (read point (columns_from p.made w)) (read point (columns_from (p.made + w) h)))
 
 -- the letter's own rows, over the state before, the new values and the helpers
-own_read : (point : ℕ → ℤ) (al : Alphabet) (q : ℕ) (written : List ℕ) (helpers : ℕ) (rows : List LinearRow) (p : Stage) →
+own_read : (point : ℕ → ℤ) (al : Alphabet) (q : ℕ) (written : List ℕ) (helpers : ℕ) (rows : List LinearRow) (p : PathStage) →
     InsideIsActed al q written helpers rows → length p.here ≡ length (frame_of al q) →
     AllByRecursion (Holds point) (inside_part (frame_of al q) written helpers rows p).own ↔
     AllByRecursion (Holds (point_of ((read point p.here ++ read point (columns_from p.made (length written))) ++ read point (columns_from (p.made + length written) helpers)))) rows
@@ -45,9 +45,9 @@ own_read point al q written helpers rows p act l =
       λ h. w.1 (subst (λ (v : List ℤ). AllByRecursion (Holds (point_of v)) rows) (sym n) h),
     )
 
-pub inside_heard : (point : ℕ → ℤ) (al : Alphabet) (q : ℕ) (written : List ℕ) (helpers : ℕ) (rows : List LinearRow) (p : Stage) →
+pub inside_heard : (point : ℕ → ℤ) (al : Alphabet) (q : ℕ) (written : List ℕ) (helpers : ℕ) (rows : List LinearRow) (p : PathStage) →
     InsideIsActed al q written helpers rows → IsState (frame_of al q) (read point p.here) →
-    AllByRecursion (Holds point) (rows_in (inside_part (frame_of al q) written helpers rows p)) → InsideObeyed point (frame_of al q) written helpers rows p
+    AllByRecursion (Holds point) (part_rows (inside_part (frame_of al q) written helpers rows p)) → InsideObeyed point (frame_of al q) written helpers rows p
 inside_heard point al q written helpers rows p act s h =
     let l : length p.here ≡ length (frame_of al q) = sym (length-read point p.here) ∙ state_length (frame_of al q) (read point p.here) s in
     let j = (all_joined (Holds point) (inside_part (frame_of al q) written helpers rows p).own (bounds p.made (types_at (frame_of al q) written))).0 h in
@@ -75,9 +75,9 @@ written_within : (frame : Columns) (n : ℕ) (written : List ℕ) → n ≡ leng
 written_within frame n written l h =
     all_weaker (MayWrite frame) (λ c. c < n) (λ c k. let w = some_within (λ v. v.1.constant ≡ false) frame c k in omega (arith, w, l)) written h
 
-pub inside_said : (point : ℕ → ℤ) (al : Alphabet) (q : ℕ) (written : List ℕ) (helpers : ℕ) (rows : List LinearRow) (p : Stage) →
+pub inside_said : (point : ℕ → ℤ) (al : Alphabet) (q : ℕ) (written : List ℕ) (helpers : ℕ) (rows : List LinearRow) (p : PathStage) →
     InsideIsActed al q written helpers rows → InsideObeyed point (frame_of al q) written helpers rows p →
-    AllByRecursion (Holds point) (rows_in (inside_part (frame_of al q) written helpers rows p))
+    AllByRecursion (Holds point) (part_rows (inside_part (frame_of al q) written helpers rows p))
 inside_said point al q written helpers rows p act h =
     let s : List ℤ = read point p.here in
     let ls : length s ≡ length (frame_of al q) = state_length (frame_of al q) s h.leads.before in

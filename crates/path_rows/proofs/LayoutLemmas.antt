@@ -7,7 +7,7 @@ use Rattle.boogie_tree.specs.declared.tree.VarInfo.{VarInfo}
 use Rattle.boogie_tree.specs.declared.tree.Column.TheVariants.{Old, Local}
 use Rattle.letter_acts.specs.Frames.{Columns, IsFrame, added, globals_from, old_columns, locals_from, is_local, globals_of, variables_of, olds_from, olds_of}
 use Rattle.letter_acts.proofs.FrameLemmas.{global_count, olds_are, olds_of_variables}
-use Rattle.path_rows.specs.Versions.{locals_of, old_part}
+use Rattle.path_rows.specs.Versions.{local_columns, old_part}
 use Rattle.frame_rows.specs.Frames.{is_old}
 
 local_globals : (n : ℕ) (vs : List VarInfo) → filter is_local (globals_from n vs) ≡ []
@@ -58,7 +58,7 @@ length-olds n k (v ∷ vs) = length_next (not v.constant) n k v (old_columns (su
 
 -- a frame in its three parts
 pub record LaidOut (globals : List VarInfo) (frame : Columns) : Type 0 where
-  pub parts : frame ≡ globals_from 0 globals ++ (old_part frame ++ locals_of frame)
+  pub parts : frame ≡ globals_from 0 globals ++ (old_part frame ++ local_columns frame)
   pub olds : old_part frame ≡ old_columns 0 globals
   pub global_count : length (globals_of frame) ≡ length (globals_from 0 globals)
   pub variable_count : length (variables_of frame) ≡ length (old_part frame)
@@ -69,7 +69,7 @@ laid_out globals frame f =
     let front : Columns = globals_from 0 globals in
     let olds : Columns = old_columns 0 globals in
     let locals : Columns = locals_from 0 f.locals in
-    let l : locals_of frame ≡ locals =
+    let l : local_columns frame ≡ locals =
     ap (filter is_local) f.columns ∙ filter-append is_local front (olds ++ locals) ∙
     ap (λ (xs : Columns). xs ++ filter is_local (olds ++ locals)) (local_globals 0 globals) ∙ filter-append is_local olds locals ∙
     ap (λ (xs : Columns). xs ++ filter is_local locals) (local_olds 0 globals) ∙ local_locals 0 f.locals in

@@ -16,5 +16,6 @@ pub mod StageLemmas
 pub mod GoingLemmas
 pub mod DraftLemmas
 pub mod MakingLemmas
+mod WithinLaws
 mod BackSteps
 mod CallSteps

@@ -5,7 +5,7 @@ use Rattle.std.specs.Global.{Vec}
 use Rattle.std.proofs.lemmas.List.{take_more, drop_more, length-take-le, map-append, reverse-append}
 use Rattle.lin_rows.specs.Rows.{LinearRow}
 use Rattle.frame_rows.specs.Rows.{equal_row}
-use Rattle.path_rows.specs.Versions.{Stage, entry_rows, written_over}
+use Rattle.path_rows.specs.Versions.{PathStage, entry_rows, written_over}
 use Rattle.path_rows.specs.Paths.{repeated}
 
 -- ---- entry rows
@@ -57,7 +57,7 @@ repeated_next {X} n i old now new e h =
     h ∙ ap (λ (xs : List X). xs ++ n ∷ []) e ∙ append_assoc old (repeated n i) (n ∷ []) ∙
     ap (λ (xs : List X). old ++ xs) (sym (ap (repeated n) (let k : i + 1 ≡ suc i = omega arith in k) ∙ repeated_more n i))
 
-pub same_stage : (a b : Stage) → a.made ≡ b.made → a.here ≡ b.here → a.saved ≡ b.saved → a ≡ b
+pub same_stage : (a b : PathStage) → a.made ≡ b.made → a.here ≡ b.here → a.saved ≡ b.saved → a ≡ b
 same_stage a b e f g = λ i. record { made = e i; here = f i; saved = g i }
 
 -- what is saved last is the innermost

@@ -10,7 +10,7 @@ use Rattle.math_facts.specs.Terms.{dot}
 use Rattle.lin_rows.specs.Rows.{LinearRow, Stands, Holds}
 use Rattle.lin_rows.specs.Points.{point_of}
 use Rattle.nwa_base.specs.Members.{Member}
-use Rattle.letter_acts.specs.Frames.{Columns, IsFrame, added, places, is_global, is_global_column, is_old_column, is_local_column, is_constant, is_variable, is_parameter, is_result, olds_from, old_at, constants_of, variables_of, results_of, olds_of}
+use Rattle.letter_acts.specs.Frames.{Columns, IsFrame, added, places, is_global, is_global_column, is_old_column, is_local_column, is_fixed_column, is_variable, is_parameter, is_result, olds_from, old_at, constants_of, variables_of, result_columns, olds_of}
 use Rattle.letter_acts.specs.Acts.{Alphabet, frame_of}
 use Rattle.letter_acts.specs.Values.{RowsHold}
 use Rattle.letter_acts.specs.Meaning.{CallLeads, InsideLeads, BackLeads}
@@ -59,7 +59,7 @@ all_olds Q n (v ∷ xs) f =
     by_column (Old g) e h = (f 0 n g v (omega arith) refl (ap is_old_column e), h)
     by_column (Local l) e h = h
 
-constant_is : (v : Column × VarInfo) → is_constant v ≡ true → v.1.constant ≡ true
+constant_is : (v : Column × VarInfo) → is_fixed_column v ≡ true → v.1.constant ≡ true
 constant_is v e = by_test (is_global_column v.0) v.1.constant e
   where
     by_test : (a b : Bool) → (a && b) ≡ true → b ≡ true
@@ -130,7 +130,7 @@ pub open_kept : (caller callee : Columns) (helpers : ℕ) (rows : List LinearRow
     IsOpen callee helpers rows b x → IsOpen callee helpers rows b y
 open_kept caller callee helpers rows b x y lb lx n k o = record {
   constants = all_from (λ c. point_of y c ≡ point_of x c) (λ c. point_of x c ≡ point_of b c) (λ c. point_of y c ≡ point_of b c) (λ c e f. e ∙ f) (constants_of callee)
-      (all_places is_constant (λ c. point_of y c ≡ point_of x c) 0 callee
+      (all_places is_fixed_column (λ c. point_of y c ≡ point_of x c) 0 callee
       (λ c d v e g t. (let i : d ≡ c = omega (arith, e) in subst (λ (j : ℕ). point_of y j ≡ point_of x j) (sym i) (k.each c v g (inl (constant_is v t))))))
       o.constants;
   olds = all_from (λ (p : ℕ × ℕ). point_of y p.0 ≡ point_of x p.0) (λ p. point_of x p.0 ≡ point_of b p.1) (λ p. point_of y p.0 ≡ point_of b p.1) (λ p e f. e ∙ f) (olds_of callee)
@@ -147,12 +147,12 @@ open_kept caller callee helpers rows b x y lb lx n k o = record {
 
 -- ---- what opens a call, and what keeps it
 
-constants_too : (P : ℕ → Type 0) (n : ℕ) (xs : Columns) → AllByRecursion P (places is_global n xs) → AllByRecursion P (places is_constant n xs)
+constants_too : (P : ℕ → Type 0) (n : ℕ) (xs : Columns) → AllByRecursion P (places is_global n xs) → AllByRecursion P (places is_fixed_column n xs)
 constants_too P n [] h = tt
 constants_too P n (v ∷ xs) h = by_test (is_global_column v.0) v.1.constant h (constants_too P (suc n) xs)
   where
     by_test : (a b : Bool) → AllByRecursion P (added a n (places is_global (suc n) xs)) →
-        (AllByRecursion P (places is_global (suc n) xs) → AllByRecursion P (places is_constant (suc n) xs)) → AllByRecursion P (added (a && b) n (places is_constant (suc n) xs))
+        (AllByRecursion P (places is_global (suc n) xs) → AllByRecursion P (places is_fixed_column (suc n) xs)) → AllByRecursion P (added (a && b) n (places is_fixed_column (suc n) xs))
     by_test true true h f = (h.0, f h.1)
     by_test true false h f = f h.1
     by_test false b h f = f h
@@ -236,5 +236,5 @@ get_within (y ∷ xs) zero x e = omega arith
 get_within (y ∷ xs) (suc i) x e = let k = get_within xs i x e in omega (arith, k)
 
 -- the results stand in the frame
-pub results_within : (frame : Columns) (n : ℕ) → length frame ≡ n → AllByRecursion (λ c. c < n) (results_of frame)
+pub results_within : (frame : Columns) (n : ℕ) → length frame ≡ n → AllByRecursion (λ c. c < n) (result_columns frame)
 results_within frame n l = all_places is_result (λ c. c < n) 0 frame (λ c d v e g t. (let k = get_within frame c v g in omega (arith, k, e, l)))

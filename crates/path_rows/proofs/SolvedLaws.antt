@@ -9,7 +9,7 @@ use Rattle.lin_rows.specs.Points.{point_of}
 use Rattle.nwa_base.specs.declared.letters.Kind.{Kind}
 use Rattle.nwa_base.specs.declared.letters.Kind.TheVariants.{Inside, Call, Back}
 use Rattle.nwa_base.specs.declared.letters.Letter.{Letter}
-use Rattle.letter_acts.specs.Frames.{Columns, IsState, IsFrame, globals_of, variables_of, results_of, globals_from}
+use Rattle.letter_acts.specs.Frames.{Columns, IsState, IsFrame, globals_of, variables_of, result_columns, globals_from}
 use Rattle.letter_acts.specs.Acts.{PlainAct, inside_act, call_act, back_act, Alphabet, frame_of, act_of}
 use Rattle.letter_acts.specs.Values.{picked, put_all}
 use Rattle.letter_acts.specs.Meaning.{Situation, InsideLeads, CallLeads, BackLeads, ActInside, ActCalls, ActReturns, ReturnsFrom, returned_values}
@@ -19,7 +19,7 @@ use Rattle.letter_acts.specs.Invariant.{Graph, IsGraph, alphabet_of}
 use Rattle.letter_acts.proofs.ListLemmas.{all_weaker, all_append}
 use Rattle.letter_acts.proofs.PointLemmas.{point_of-left, point_of-right, state_length}
 use Rattle.letter_acts.proofs.KnownLemmas.{frames_laid_out}
-use Rattle.path_rows.specs.Versions.{Stage, Part, written_over, entered, returned, locals_of, old_part, inside_part, call_part, back_part, return_part, part_of, act_part}
+use Rattle.path_rows.specs.Versions.{PathStage, Part, written_over, entered_versions, returned, local_columns, old_part, inside_part, call_part, back_part, return_part, part_of, act_part}
 use Rattle.frame_rows.specs.Rows.{columns_from}
 use Rattle.path_rows.specs.Paths.{path_along, first_stage}
 use Rattle.path_rows.specs.Solutions.{read, ActObeyed, ObeyedAlong, BackObeyed, ReturnObeyed}
@@ -70,21 +70,21 @@ pub all_indexed : (P : ℕ → Type 0) (xs is : List ℕ) → AllByRecursion (λ
 all_indexed P xs [] l h = tt
 all_indexed P xs (i ∷ is) l h = (index_in P xs i l.0 h, all_indexed P xs is l.1 h)
 
-pub below_entered : (callee : Columns) (locals olds m : ℕ) (here : List ℕ) → Below m here → olds + length (old_part callee) ≤ m → locals + length (locals_of callee) ≤ m →
-    Below m (entered callee locals olds here)
+pub below_entered : (callee : Columns) (locals olds m : ℕ) (here : List ℕ) → Below m here → olds + length (old_part callee) ≤ m → locals + length (local_columns callee) ≤ m →
+    Below m (entered_versions callee locals olds here)
 below_entered callee locals olds m here h o l =
-    all_append (λ c. c < m) (take (length (globals_of callee)) here) (columns_from olds (length (old_part callee)) ++ columns_from locals (length (locals_of callee)))
+    all_append (λ c. c < m) (take (length (globals_of callee)) here) (columns_from olds (length (old_part callee)) ++ columns_from locals (length (local_columns callee)))
     (all_taken (λ c. c < m) (length (globals_of callee)) here h)
-    (all_append (λ c. c < m) (columns_from olds (length (old_part callee))) (columns_from locals (length (locals_of callee)))
-    (below_columns olds (length (old_part callee)) m o) (below_columns locals (length (locals_of callee)) m l))
+    (all_append (λ c. c < m) (columns_from olds (length (old_part callee))) (columns_from locals (length (local_columns callee)))
+    (below_columns olds (length (old_part callee)) m o) (below_columns locals (length (local_columns callee)) m l))
 
 pub below_returned : (caller callee : Columns) (targets exit before : List ℕ) (m : ℕ) → length callee ≡ length exit → Below m exit → Below m before →
     Below m (returned caller callee targets exit before)
 below_returned caller callee targets exit before m l x b =
     let n : ℕ = length (globals_of caller) in
-    all_written (λ c. c < m) (take n exit ++ drop n before) targets (map (slice_index exit) (results_of callee))
+    all_written (λ c. c < m) (take n exit ++ drop n before) targets (map (slice_index exit) (result_columns callee))
     (all_append (λ c. c < m) (take n exit) (drop n before) (all_taken (λ c. c < m) n exit x) (all_dropped (λ c. c < m) n before b))
-    (all_indexed (λ c. c < m) exit (results_of callee) (results_within callee (length exit) l) x)
+    (all_indexed (λ c. c < m) exit (result_columns callee) (results_within callee (length exit) l) x)
 
 -- ---- values behind others
 
@@ -117,7 +117,7 @@ SavedRead vals m (b ∷ stack) [] = ⊥
 SavedRead vals m (b ∷ stack) (v ∷ saved) = (b.values ≡ read (point_of vals) v) × Below m v × SavedRead vals m stack saved
 
 -- the values of the versions made so far
-pub record Built (vals : List ℤ) (p : Stage) (stack : List Situation) (s : Situation) : Type 0 where
+pub record Built (vals : List ℤ) (p : PathStage) (stack : List Situation) (s : Situation) : Type 0 where
   long : p.made ≡ length vals
   values : s.values ≡ read (point_of vals) p.here
   below : Below p.made p.here
@@ -132,12 +132,12 @@ saved_more vals rest n m (b ∷ stack) (v ∷ saved) e l h =
     (h.0 ∙ sym (read_more vals rest n v e h.1), below_more n m v l h.1, saved_more vals rest n m stack saved e l h.2)
 
 -- what a letter adds
-record Adds (al : Alphabet) (a : Letter) (vals : List ℤ) (p : Stage) (next : List Situation) (t : Situation) : Type 0 where
+record Adds (al : Alphabet) (a : Letter) (vals : List ℤ) (p : PathStage) (next : List Situation) (t : Situation) : Type 0 where
   added : List ℤ
   built : Built (vals ++ added) (part_of al a p).after next t
   obeyed : (rest : List ℤ) → ActObeyed (point_of ((vals ++ added) ++ rest)) al (act_of al a) p
 
-inside_adds : (al : Alphabet) (a : Letter) (vals : List ℤ) (p : Stage) (stack : List Situation) (s t : Situation) → Built vals p stack s →
+inside_adds : (al : Alphabet) (a : Letter) (vals : List ℤ) (p : PathStage) (stack : List Situation) (s t : Situation) → Built vals p stack s →
     (q : ℕ) (written : List ℕ) (helpers : ℕ) (rows : List LinearRow) → act_of al a ≡ Some (inside_act q written helpers rows) →
     InsideLeads (frame_of al q) written helpers rows s.values t.values → Adds al a vals p stack t
 inside_adds al a vals p stack s t b q written helpers rows e m =
@@ -195,7 +195,7 @@ inside_adds al a vals p stack s t b q written helpers rows e m =
       });
     }
 
-call_adds : (globals : List VarInfo) (al : Alphabet) (a : Letter) (vals : List ℤ) (p : Stage) (stack : List Situation) (s t : Situation) → Built vals p stack s →
+call_adds : (globals : List VarInfo) (al : Alphabet) (a : Letter) (vals : List ℤ) (p : PathStage) (stack : List Situation) (s t : Situation) → Built vals p stack s →
     (caller callee helpers : ℕ) (rows : List LinearRow) → IsFrame globals (frame_of al caller) → IsFrame globals (frame_of al callee) →
     act_of al a ≡ Some (call_act caller callee helpers rows) → CallLeads (frame_of al caller) (frame_of al callee) helpers rows s.values t.values → Adds al a vals p (s ∷ stack) t
 call_adds globals al a vals p stack s t b caller callee helpers rows fr fe e m =
@@ -210,7 +210,7 @@ call_adds globals al a vals p stack s t b caller callee helpers rows fr fe e m =
     let lh = m.rows_hold.as_many in
     let lb = b.long in
     let lo : length olds ≡ length (old_part in_callee) = length-map (variables_of in_callee) (point_of s.values) ∙ o.variable_count in
-    let ll : length locals ≡ length (locals_of in_callee) =
+    let ll : length locals ≡ length (local_columns in_callee) =
     (let x1 = state_length in_callee t.values m.after in
     let x2 = ap length m.entered in
     let x3 = length-append (take n s.values) (olds ++ locals) in
@@ -220,25 +220,25 @@ call_adds globals al a vals p stack s t b caller callee helpers rows fr fe e m =
     let x7 = o.global_count in
     let x8 = length-take-le n s.values (omega (arith, x5, x6, x7)) in
     let x9 = ap length o.parts in
-    let y1 = length-append (globals_from 0 globals) (old_part in_callee ++ locals_of in_callee) in
-    let y2 = length-append (old_part in_callee) (locals_of in_callee) in
+    let y1 = length-append (globals_from 0 globals) (old_part in_callee ++ local_columns in_callee) in
+    let y2 = length-append (old_part in_callee) (local_columns in_callee) in
     omega (arith, x1, x2, x3, x4, x7, x8, x9, y1, y2, lo)) in
     let l1 = length-append locals (hs ++ olds) in
     let l2 = length-append hs olds in
     let l3 = length-append vals ext in
     let made : part.after.made ≡ length (vals ++ ext) = omega (arith, lo, ll, lh, lb, l1, l2, l3) in
-    let locals_at : (rest : List ℤ) → read (point_of ((vals ++ ext) ++ rest)) (columns_from p.made (length (locals_of in_callee))) ≡ locals =
+    let locals_at : (rest : List ℤ) → read (point_of ((vals ++ ext) ++ rest)) (columns_from p.made (length (local_columns in_callee))) ≡ locals =
     λ rest.
-    subst (λ (v : List ℤ). read (point_of v) (columns_from p.made (length (locals_of in_callee))) ≡ locals)
+    subst (λ (v : List ℤ). read (point_of v) (columns_from p.made (length (local_columns in_callee))) ≡ locals)
     (ap (λ (v : List ℤ). vals ++ v) (sym (append_assoc locals (hs ++ olds) rest)) ∙ sym (append_assoc vals ext rest))
-    (read_new vals locals ((hs ++ olds) ++ rest) p.made (length (locals_of in_callee)) b.long ll) in
-    let helpers_at : (rest : List ℤ) → read (point_of ((vals ++ ext) ++ rest)) (columns_from (p.made + length (locals_of in_callee)) helpers) ≡ hs =
+    (read_new vals locals ((hs ++ olds) ++ rest) p.made (length (local_columns in_callee)) b.long ll) in
+    let helpers_at : (rest : List ℤ) → read (point_of ((vals ++ ext) ++ rest)) (columns_from (p.made + length (local_columns in_callee)) helpers) ≡ hs =
     λ rest.
     (let la = length-append vals locals in
-    subst (λ (v : List ℤ). read (point_of v) (columns_from (p.made + length (locals_of in_callee)) helpers) ≡ hs)
+    subst (λ (v : List ℤ). read (point_of v) (columns_from (p.made + length (local_columns in_callee)) helpers) ≡ hs)
     (ap (λ (v : List ℤ). (vals ++ locals) ++ v) (sym (append_assoc hs olds rest)) ∙ sym (append_assoc (vals ++ locals) (hs ++ olds) rest) ∙
     ap (λ (v : List ℤ). v ++ rest) (append_assoc vals locals (hs ++ olds)))
-    (read_new (vals ++ locals) hs (olds ++ rest) (p.made + length (locals_of in_callee)) helpers (omega (arith, la, ll, lb)) lh)) in
+    (read_new (vals ++ locals) hs (olds ++ rest) (p.made + length (local_columns in_callee)) helpers (omega (arith, la, ll, lb)) lh)) in
     let olds_are : (rest : List ℤ) → read (point_of ((vals ++ ext) ++ rest)) (columns_from (olds_at in_callee p.made helpers) (length (old_part in_callee))) ≡ olds =
     λ rest.
     (let la = length-append vals locals in
@@ -252,7 +252,7 @@ call_adds globals al a vals p stack s t b caller callee helpers rows fr fe e m =
     let after_at : (rest : List ℤ) → read (point_of ((vals ++ ext) ++ rest)) part.after.here ≡ t.values =
     λ rest.
     (let point : ℕ → ℤ = point_of ((vals ++ ext) ++ rest) in
-    let locals_columns : List ℕ = columns_from p.made (length (locals_of in_callee)) in
+    let locals_columns : List ℕ = columns_from p.made (length (local_columns in_callee)) in
     entry_read point in_callee p.made (olds_at in_callee p.made helpers) p.here ∙
     ap (λ (v : List ℤ). take n v ++ (read point (columns_from (olds_at in_callee p.made helpers) (length (old_part in_callee))) ++ read point locals_columns)) (here_at rest) ∙
     ap (λ (v : List ℤ). take n s.values ++ (v ++ read point locals_columns)) (olds_are rest) ∙
@@ -287,7 +287,7 @@ call_adds globals al a vals p stack s t b caller callee helpers rows fr fe e m =
       });
     }
 
-back_adds : (al : Alphabet) (a : Letter) (vals : List ℤ) (p : Stage) (stack : List Situation) (b s t : Situation) → Built vals p (b ∷ stack) s →
+back_adds : (al : Alphabet) (a : Letter) (vals : List ℤ) (p : PathStage) (stack : List Situation) (b s t : Situation) → Built vals p (b ∷ stack) s →
     (c : ℕ) (targets : List ℕ) (caller callee helpers : ℕ) (rows : List LinearRow) → act_of al a ≡ Some (back_act c targets) →
     slice_get al.acts c ≡ Some (call_act caller callee helpers rows) →
     BackLeads (frame_of al caller) (frame_of al callee) helpers rows targets s.values b.values t.values → Adds al a vals p stack t
@@ -333,14 +333,14 @@ back_adds al a vals p stack b s t built c targets caller callee helpers rows e f
 
 -- ---- letters
 
-inside_letter : (al : Alphabet) (a : Letter) (vals : List ℤ) (p : Stage) (stack : List Situation) (s t : Situation) → Built vals p stack s →
+inside_letter : (al : Alphabet) (a : Letter) (vals : List ℤ) (p : PathStage) (stack : List Situation) (s t : Situation) → Built vals p stack s →
     (o : Option PlainAct) → act_of al a ≡ o → ActInside al o s t → Adds al a vals p stack t
 inside_letter al a vals p stack s t b None e h = absurd h
 inside_letter al a vals p stack s t b (Some (inside_act q written helpers rows)) e h = inside_adds al a vals p stack s t b q written helpers rows e h.2
 inside_letter al a vals p stack s t b (Some (call_act caller callee helpers rows)) e h = absurd h
 inside_letter al a vals p stack s t b (Some (back_act c targets)) e h = absurd h
 
-call_letter : (g : Graph) → IsGraph g → (a : Letter) (vals : List ℤ) (p : Stage) (stack : List Situation) (s t : Situation) → Built vals p stack s →
+call_letter : (g : Graph) → IsGraph g → (a : Letter) (vals : List ℤ) (p : PathStage) (stack : List Situation) (s t : Situation) → Built vals p stack s →
     (o : Option PlainAct) → act_of (alphabet_of g) a ≡ o → ActCalls (alphabet_of g) o s t → Adds (alphabet_of g) a vals p (s ∷ stack) t
 call_letter g ok a vals p stack s t b None e h = absurd h
 call_letter g ok a vals p stack s t b (Some (inside_act q written helpers rows)) e h = absurd h
@@ -349,7 +349,7 @@ call_letter g ok a vals p stack s t b (Some (call_act caller callee helpers rows
     call_adds lay.0 (alphabet_of g) a vals p stack s t b caller callee helpers rows (lay.1 caller h.0.1) (lay.1 callee h.1.1) e h.2
 call_letter g ok a vals p stack s t b (Some (back_act c targets)) e h = absurd h
 
-return_letter : (al : Alphabet) (a : Letter) (vals : List ℤ) (p : Stage) (stack : List Situation) (b s t : Situation) → Built vals p (b ∷ stack) s →
+return_letter : (al : Alphabet) (a : Letter) (vals : List ℤ) (p : PathStage) (stack : List Situation) (b s t : Situation) → Built vals p (b ∷ stack) s →
     (c : ℕ) (targets : List ℕ) → act_of al a ≡ Some (back_act c targets) → (o : Option PlainAct) → slice_get al.acts c ≡ o → ReturnsFrom al targets o s b t → Adds al a vals p stack t
 return_letter al a vals p stack b s t built c targets e None f h = absurd h
 return_letter al a vals p stack b s t built c targets e (Some (inside_act q written helpers rows)) f h = absurd h
@@ -357,7 +357,7 @@ return_letter al a vals p stack b s t built c targets e (Some (call_act caller c
     back_adds al a vals p stack b s t built c targets caller callee helpers rows e f h.3
 return_letter al a vals p stack b s t built c targets e (Some (back_act d more)) f h = absurd h
 
-back_letter : (al : Alphabet) (a : Letter) (vals : List ℤ) (p : Stage) (stack : List Situation) (b s t : Situation) → Built vals p (b ∷ stack) s →
+back_letter : (al : Alphabet) (a : Letter) (vals : List ℤ) (p : PathStage) (stack : List Situation) (b s t : Situation) → Built vals p (b ∷ stack) s →
     (o : Option PlainAct) → act_of al a ≡ o → ActReturns al o s b t → Adds al a vals p stack t
 back_letter al a vals p stack b s t built None e h = absurd h
 back_letter al a vals p stack b s t built (Some (inside_act q written helpers rows)) e h = absurd h
@@ -367,12 +367,12 @@ back_letter al a vals p stack b s t built (Some (back_act c targets)) e h = retu
 -- ---- words
 
 -- values for the rest of a word
-pub record Extends (al : Alphabet) (n : ℕ) (vals : List ℤ) (p : Stage) (s : Situation) (more : List Situation) (w : List Letter) : Type 0 where
+pub record Extends (al : Alphabet) (n : ℕ) (vals : List ℤ) (p : PathStage) (s : Situation) (more : List Situation) (w : List Letter) : Type 0 where
   pub rest : List ℤ
   pub obeyed : ObeyedAlong (point_of (vals ++ rest)) al p w
   pub read_off : map (λ t. t.values) (s ∷ more) ≡ map (read (point_of (vals ++ rest))) (path_along al n p w).states
 
-extended : (al : Alphabet) (n : ℕ) (a : Letter) (w : List Letter) (vals : List ℤ) (p : Stage) (stack next : List Situation) (s t : Situation) (more : List Situation) →
+extended : (al : Alphabet) (n : ℕ) (a : Letter) (w : List Letter) (vals : List ℤ) (p : PathStage) (stack next : List Situation) (s t : Situation) (more : List Situation) →
     Built vals p stack s → (d : Adds al a vals p next t) → Extends al (suc n) (vals ++ d.added) (part_of al a p).after t more w → Extends al n vals p s (t ∷ more) (a ∷ w)
 extended al n a w vals p stack next s t more b d x =
     let z : (vals ++ d.added) ++ x.rest ≡ vals ++ (d.added ++ x.rest) = append_assoc vals d.added x.rest in
@@ -388,7 +388,7 @@ extended al n a w vals p stack next s t more b d x =
           ap (λ (l : List (List ℤ)). s.values ∷ l) f ∙ ap (λ (l : List ℤ). l ∷ map (read (point_of (vals ++ (d.added ++ x.rest)))) states) e);
     }
 
-pub extends : (g : Graph) → IsGraph g → (w : List Letter) (n : ℕ) (vals : List ℤ) (p : Stage) (stack : List Situation) (s : Situation) (more : List Situation) →
+pub extends : (g : Graph) → IsGraph g → (w : List Letter) (n : ℕ) (vals : List ℤ) (p : PathStage) (stack : List Situation) (s : Situation) (more : List Situation) →
     Built vals p stack s → GoesThrough (meaning (alphabet_of g)) stack s w more → Extends (alphabet_of g) n vals p s more w
 extends g ok [] n vals p stack s [] b h = record {
   rest = [];
@@ -402,7 +402,7 @@ extends g ok (a ∷ w) n vals p stack s (t ∷ more) b h =
   where
     by_kind : (kind : Kind) (stack : List Situation) → Built vals p stack s →
         Leads (meaning (alphabet_of g)) kind a stack s t (λ st. GoesThrough (meaning (alphabet_of g)) st t w more) →
-        ((vals : List ℤ) (p : Stage) (stack : List Situation) (t : Situation) → Built vals p stack t → GoesThrough (meaning (alphabet_of g)) stack t w more →
+        ((vals : List ℤ) (p : PathStage) (stack : List Situation) (t : Situation) → Built vals p stack t → GoesThrough (meaning (alphabet_of g)) stack t w more →
         Extends (alphabet_of g) (suc n) vals p t more w) →
         Extends (alphabet_of g) n vals p s (t ∷ more) (a ∷ w)
     by_kind Inside stack b h on =

@@ -10,12 +10,12 @@ use Rattle.boogie_tree.specs.declared.tree.VarInfo.{VarInfo}
 use Rattle.math_facts.specs.Terms.{IsBelow}
 use Rattle.lin_rows.specs.Rows.{LinearRow}
 use Rattle.nwa_base.specs.Members.{Member}
-use Rattle.letter_acts.specs.Frames.{Columns, IsFrame, added, places, is_result, is_parameter, is_local_column, is_old_column, globals_from, old_columns, globals_of, variables_of, results_of}
+use Rattle.letter_acts.specs.Frames.{Columns, IsFrame, added, places, is_result, is_parameter, is_local_column, is_old_column, globals_from, old_columns, globals_of, variables_of, result_columns}
 use Rattle.letter_acts.specs.Acts.{Alphabet, frame_of}
 use Rattle.letter_acts.specs.Invariant.{Graph, alphabet_of, AreDistinct, MayWrite, MayTarget, MayName, InsideIsActed, CallIsActed, BackIsActed, inside_width}
 use Rattle.letter_acts.proofs.ListLemmas.{all_weaker, some_within, below_or_from}
 use Rattle.letter_acts.proofs.FrameLemmas.{variable_below}
-use Rattle.path_rows.specs.Versions.{Stage, written_over, entered, returned, locals_of, old_part, inside_part, call_part}
+use Rattle.path_rows.specs.Versions.{PathStage, written_over, entered_versions, returned, local_columns, old_part, inside_part, call_part}
 use Rattle.frame_rows.specs.Rows.{columns_from, NamesDiffer}
 use Rattle.path_rows.specs.Stages.{AreVersions, AreApart, AreSaved, InsideFits, CallFits, BackFits}
 use Rattle.path_rows.proofs.ListLemmas.{length-columns_from}
@@ -79,7 +79,7 @@ inside_fits al q written helpers rows made here act h =
       };
     }
 
-pub inside_versions : (frame : Columns) (written : List ℕ) (helpers : ℕ) (rows : List LinearRow) (p : Stage) → AreVersions p.made frame p.here →
+pub inside_versions : (frame : Columns) (written : List ℕ) (helpers : ℕ) (rows : List LinearRow) (p : PathStage) → AreVersions p.made frame p.here →
     AreVersions (inside_part frame written helpers rows p).after.made frame (inside_part frame written helpers rows p).after.here
 inside_versions frame written helpers rows p h =
     let news : List ℕ = columns_from p.made (length written) in
@@ -113,7 +113,7 @@ saved_kept g made next (p ∷ places) [] here after l f s = absurd s
 saved_kept g made next (p ∷ places) (v ∷ saved) here after l f s =
     (let k = s.1 in (s.0, omega (arith, k, l), s.2, f s.0 (length (globals_of (frame_of (alphabet_of g) s.2.proc))) v s.1 s.3, s.4))
 
-pub inside_saved : (g : Graph) (places : List ℕ) (frame : Columns) (written : List ℕ) (helpers : ℕ) (rows : List LinearRow) (p : Stage) → AreSaved g p.made places p.saved p.here →
+pub inside_saved : (g : Graph) (places : List ℕ) (frame : Columns) (written : List ℕ) (helpers : ℕ) (rows : List LinearRow) (p : PathStage) → AreSaved g p.made places p.saved p.here →
     AreSaved g (inside_part frame written helpers rows p).after.made places p.saved (inside_part frame written helpers rows p).after.here
 inside_saved g places frame written helpers rows p s =
     let news : List ℕ = columns_from p.made (length written) in
@@ -170,14 +170,14 @@ pub local_is_last : (globals : List VarInfo) (frame : Columns) → IsFrame globa
 local_is_last globals frame f i w e t =
     let o = laid_out globals frame f in
     let front : Columns = globals_from 0 globals in
-    let there : slice_get (front ++ (old_part frame ++ locals_of frame)) i ≡ Some w = ap (λ (c : Columns). slice_get c i) (sym o.parts) ∙ e in
+    let there : slice_get (front ++ (old_part frame ++ local_columns frame)) i ≡ Some w = ap (λ (c : Columns). slice_get c i) (sym o.parts) ∙ e in
     elim (below_or_from i (length front)) [
-      | inl l ↦ absurd (no_local_global 0 globals i w (sym (get_left front (old_part frame ++ locals_of frame) i l) ∙ there) t)
+      | inl l ↦ absurd (no_local_global 0 globals i w (sym (get_left front (old_part frame ++ local_columns frame) i l) ∙ there) t)
       | inr h ↦
           (let k = h.1 in
-          let next : slice_get (old_part frame ++ locals_of frame) h.0 ≡ Some w = sym (get_right front (old_part frame ++ locals_of frame) i h.0 k) ∙ there in
+          let next : slice_get (old_part frame ++ local_columns frame) h.0 ≡ Some w = sym (get_right front (old_part frame ++ local_columns frame) i h.0 k) ∙ there in
           elim (below_or_from h.0 (length (old_part frame))) [
-            | inl l ↦ absurd (no_local_old 0 globals h.0 w (ap (λ (c : Columns). slice_get c h.0) (sym o.olds) ∙ sym (get_left (old_part frame) (locals_of frame) h.0 l) ∙ next) t)
+            | inl l ↦ absurd (no_local_old 0 globals h.0 w (ap (λ (c : Columns). slice_get c h.0) (sym o.olds) ∙ sym (get_left (old_part frame) (local_columns frame) h.0 l) ∙ next) t)
             | inr r ↦ (let j = r.1 in omega (arith, k, j))
           ])
     ]
@@ -205,11 +205,11 @@ named_once here made locals width helpers names w d l a b (of_helper i x h e) (o
 named_once here made locals width helpers names w d l a b (of_helper i x h e) (of_helper j y g f) z = omega (arith, h, g, e, f, z)
 
 call_named : (globals : List VarInfo) (caller callee : Columns) (helpers made : ℕ) (here : List ℕ) → CallFrames globals caller callee here → (c : ℕ) → MayName caller callee helpers c →
-    Named here made (length (locals_of callee)) (length callee) helpers
-    (here ++ (entered callee made (olds_at callee made helpers) here ++ columns_from (made + length (locals_of callee)) helpers)) c
+    Named here made (length (local_columns callee)) (length callee) helpers
+    (here ++ (entered_versions callee made (olds_at callee made helpers) here ++ columns_from (made + length (local_columns callee)) helpers)) c
 call_named globals caller callee helpers made here f c m =
-    let entry : List ℕ = entered callee made (olds_at callee made helpers) here in
-    let hs : List ℕ = columns_from (made + length (locals_of callee)) helpers in
+    let entry : List ℕ = entered_versions callee made (olds_at callee made helpers) here in
+    let hs : List ℕ = columns_from (made + length (local_columns callee)) helpers in
     let el = entered_length globals caller callee here f made (olds_at callee made helpers) in
     let lh = f.long in
     let w = m.within in
@@ -225,14 +225,14 @@ call_named globals caller callee helpers made here f c m =
                 let o = laid_out globals callee f.to_frame in
                 let front : List ℕ = take (length (globals_of callee)) here in
                 let os : List ℕ = columns_from (olds_at callee made helpers) (length (old_part callee)) in
-                let ls : List ℕ = columns_from made (length (locals_of callee)) in
+                let ls : List ℕ = columns_from made (length (local_columns callee)) in
                 let fl = length-take-le (length (globals_of callee)) here
                 (let g1 = o.global_count in let g2 = (laid_out globals caller f.from_frame).long in omega (arith, g1, g2, lh)) in
                 let gc = o.global_count in
                 let ol = length-columns_from (olds_at callee made helpers) (length (old_part callee)) in
                 let a1 = length-append front (os ++ ls) in
                 let a2 = length-append os ls in
-                let ll = length-columns_from made (length (locals_of callee)) in
+                let ll = length-columns_from made (length (local_columns callee)) in
                 let s = below_or_from r.0 (length front + length os) in
                 elim s [
                   | inl z ↦ absurd (omega (arith, z, fl, gc, ol, last, at))
@@ -241,13 +241,13 @@ call_named globals caller callee helpers made here f c m =
                       of_parameter z.0 (omega (arith, y, l, a1, a2, ll)) (omega (arith, e, y, a1, a2, ll, el))
                       (index_right here (entry ++ hs) c r.0 e ∙ index_left entry hs r.0 l ∙
                       index_right front (os ++ ls) r.0 (length os + z.0) (omega (arith, y)) ∙ index_right os ls (length os + z.0) z.0 refl ∙
-                      columns_at made (length (locals_of callee)) z.0 (omega (arith, y, l, a1, a2, ll))))
+                      columns_at made (length (local_columns callee)) z.0 (omega (arith, y, l, a1, a2, ll))))
                 ])
             | inr h ↦
                 (let k = h.1 in
                 of_helper h.0 (omega (arith, w, lh, el, e, k)) (omega (arith, e, k, el))
                 (index_right here (entry ++ hs) c r.0 e ∙ index_right entry hs r.0 h.0 k ∙
-                columns_at (made + length (locals_of callee)) helpers h.0 (omega (arith, w, lh, el, e, k))))
+                columns_at (made + length (local_columns callee)) helpers h.0 (omega (arith, w, lh, el, e, k))))
           ])
     ]
 
@@ -262,11 +262,11 @@ call_fits globals al caller callee helpers rows made here act fr fe h =
     let gc = o.global_count in
     let lh = h.long in
     let p = ap length o.parts in
-    let q = length-append (globals_from 0 globals) (old_part in_callee ++ locals_of in_callee) in
-    let r = length-append (old_part in_callee) (locals_of in_callee) in
+    let q = length-append (globals_from 0 globals) (old_part in_callee ++ local_columns in_callee) in
+    let r = length-append (old_part in_callee) (local_columns in_callee) in
     let n = act.numbers_fit in
     let k = length-globals_from 0 globals in
-    let names : List ℕ = here ++ (entered in_callee made (olds_at in_callee made helpers) here ++ columns_from (made + length (locals_of in_callee)) helpers) in
+    let names : List ℕ = here ++ (entered_versions in_callee made (olds_at in_callee made helpers) here ++ columns_from (made + length (local_columns in_callee)) helpers) in
     record {
       globals = omega (arith, long, gc, lh);
       variables = all_in (variables_of in_callee) (λ c m. (let b = variable_below globals in_callee fe c m in omega (arith, b, long, k, lh)));
@@ -278,7 +278,7 @@ call_fits globals al caller callee helpers rows made here act fr fe h =
             (call_names_length globals (frame_of al caller) in_callee helpers (record { made = made; here = here; saved = [] }) f)
             (call_below (frame_of al caller) in_callee helpers rows act.may_name);
         differ = rows_differ names (MayName (frame_of al caller) in_callee helpers)
-            (λ a b x y z. named_once here made (length (locals_of in_callee)) (length in_callee) helpers names h.below h.differ (omega (arith, p, q, r)) a b
+            (λ a b x y z. named_once here made (length (local_columns in_callee)) (length in_callee) helpers names h.below h.differ (omega (arith, p, q, r)) a b
             (call_named globals (frame_of al caller) in_callee helpers made here f a x) (call_named globals (frame_of al caller) in_callee helpers made here f b y) z)
             rows act.may_name;
       };
@@ -288,7 +288,7 @@ call_fits globals al caller callee helpers rows made here act fr fe h =
     all_in [] f = tt
     all_in (x ∷ xs) f = (f x (inl refl), all_in xs (λ c m. f c (inr m)))
 
-pub call_versions : (globals : List VarInfo) (caller callee : Columns) (helpers : ℕ) (rows : List LinearRow) (p : Stage) → IsFrame globals caller → IsFrame globals callee →
+pub call_versions : (globals : List VarInfo) (caller callee : Columns) (helpers : ℕ) (rows : List LinearRow) (p : PathStage) → IsFrame globals caller → IsFrame globals callee →
     AreVersions p.made caller p.here → AreVersions (call_part callee helpers rows p).after.made callee (call_part callee helpers rows p).after.here
 call_versions globals caller callee helpers rows p fr fe h =
     let f : CallFrames globals caller callee p.here = record { from_frame = fr; to_frame = fe; long = h.long } in
@@ -296,13 +296,13 @@ call_versions globals caller callee helpers rows p fr fe h =
     let next : ℕ = (call_part callee helpers rows p).after.made in
     let front : List ℕ = take (length (globals_of callee)) p.here in
     let os : List ℕ = columns_from olds (length (old_part callee)) in
-    let ls : List ℕ = columns_from p.made (length (locals_of callee)) in
+    let ls : List ℕ = columns_from p.made (length (local_columns callee)) in
     record {
       long = entered_length globals caller callee p.here f p.made olds;
       below = below_entered callee p.made olds next p.here (below_more p.made next p.here (omega arith) h.below) (omega arith) (omega arith);
       differ = distinct_joined front (os ++ ls) (distinct_taken (length (globals_of callee)) p.here h.differ)
-          (distinct_joined os ls (columns_distinct olds (length (old_part callee))) (columns_distinct p.made (length (locals_of callee)))
-          (λ c m k. (let a = (columns_within olds (length (old_part callee)) c m).0 in let b = (columns_within p.made (length (locals_of callee)) c k).1 in omega (arith, a, b))))
+          (distinct_joined os ls (columns_distinct olds (length (old_part callee))) (columns_distinct p.made (length (local_columns callee)))
+          (λ c m k. (let a = (columns_within olds (length (old_part callee)) c m).0 in let b = (columns_within p.made (length (local_columns callee)) c k).1 in omega (arith, a, b))))
           (λ c m k.
           let t = taken_at (length (globals_of callee)) p.here c m in
           let w = t.2 in
@@ -310,12 +310,12 @@ call_versions globals caller callee helpers rows p fr fe h =
           let l = index_below p.made p.here t.0 t.2 h.below in
           elim (member_joined os ls c k) [
             | inl x ↦ (let a = (columns_within olds (length (old_part callee)) c x).0 in omega (arith, a, l, e))
-            | inr x ↦ (let a = (columns_within p.made (length (locals_of callee)) c x).0 in omega (arith, a, l, e))
+            | inr x ↦ (let a = (columns_within p.made (length (local_columns callee)) c x).0 in omega (arith, a, l, e))
           ]);
     }
 
 -- the callee's versions are apart from the caller's
-pub call_apart : (globals : List VarInfo) (caller callee : Columns) (helpers : ℕ) (rows : List LinearRow) (p : Stage) → IsFrame globals caller → IsFrame globals callee →
+pub call_apart : (globals : List VarInfo) (caller callee : Columns) (helpers : ℕ) (rows : List LinearRow) (p : PathStage) → IsFrame globals caller → IsFrame globals callee →
     AreVersions p.made caller p.here → AreApart p.made (length (globals_of caller)) (call_part callee helpers rows p).after.here p.here
 call_apart globals caller callee helpers rows p fr fe h j l =
     let f : CallFrames globals caller callee p.here = record { from_frame = fr; to_frame = fe; long = h.long } in
@@ -327,11 +327,11 @@ call_apart globals caller callee helpers rows p fr fe h j l =
     let front : List ℕ = take (length (globals_of callee)) p.here in
     let fl = length-take-le (length (globals_of callee)) p.here (omega (arith, g1, long, lh)) in
     let os : List ℕ = columns_from olds (length (old_part callee)) in
-    let ls : List ℕ = columns_from p.made (length (locals_of callee)) in
+    let ls : List ℕ = columns_from p.made (length (local_columns callee)) in
     let a1 = length-append front (os ++ ls) in
     let a2 = length-append os ls in
     let ol = length-columns_from olds (length (old_part callee)) in
-    let ll = length-columns_from p.made (length (locals_of callee)) in
+    let ll = length-columns_from p.made (length (local_columns callee)) in
     elim (below_or_from j (length front)) [
       | inl b ↦ inr (omega (arith, b, fl, g1, g2), index_left front (os ++ ls) j b ∙ index_taken (length (globals_of callee)) p.here j (omega (arith, b, fl)))
       | inr r ↦
@@ -342,7 +342,7 @@ call_apart globals caller callee helpers rows p fr fe h j l =
                 inl (omega (arith, s)))
             | inr z ↦
                 (let k = z.1 in
-                let s = index_right front (os ++ ls) j r.0 e ∙ index_right os ls r.0 z.0 k ∙ columns_at p.made (length (locals_of callee)) z.0 (omega (arith, l, a1, a2, e, k, ll)) in
+                let s = index_right front (os ++ ls) j r.0 e ∙ index_right os ls r.0 z.0 k ∙ columns_at p.made (length (local_columns callee)) z.0 (omega (arith, l, a1, a2, e, k, ll)) in
                 inl (omega (arith, s)))
           ])
     ]
@@ -359,7 +359,7 @@ pub record Returns (globals : List VarInfo) (caller callee : Columns) (targets e
   pub apart : AreApart m (length (globals_of caller)) exit before
 
 -- a result stands behind the globals
-results_behind : (globals : List VarInfo) (caller callee : Columns) → IsFrame globals caller → IsFrame globals callee → (r : ℕ) → Member (results_of callee) r → length (globals_of caller) ≤ r
+results_behind : (globals : List VarInfo) (caller callee : Columns) → IsFrame globals caller → IsFrame globals callee → (r : ℕ) → Member (result_columns callee) r → length (globals_of caller) ≤ r
 results_behind globals caller callee fr fe r m =
     let a = at_place is_result 0 callee r m in
     let e = a.2 in
@@ -429,11 +429,11 @@ base_differs globals caller callee targets exit before m made r =
 
 -- a result's version is later than those before the call
 result_later : (globals : List VarInfo) (caller callee : Columns) (targets exit before : List ℕ) (m made : ℕ) → Returns globals caller callee targets exit before m made →
-    (c : ℕ) → Member (map (slice_index exit) (results_of callee)) c → m ≤ c
+    (c : ℕ) → Member (map (slice_index exit) (result_columns callee)) c → m ≤ c
 result_later globals caller callee targets exit before m made r c h =
-    let i = indexed_member exit (results_of callee) c h in
+    let i = indexed_member exit (result_columns callee) c h in
     let b = results_behind globals caller callee r.from_frame r.to_frame i.0 i.1 in
-    let w = member_below (length exit) (results_of callee) i.0 i.1 (results_within callee (length exit) (sym r.exit_versions.long)) in
+    let w = member_below (length exit) (result_columns callee) i.0 i.1 (results_within callee (length exit) (sym r.exit_versions.long)) in
     let e = i.2 in
     elim (r.apart i.0 w) [
       | inl z ↦ omega (arith, z, e)
@@ -444,19 +444,19 @@ pub back_versions : (globals : List VarInfo) (caller callee : Columns) (targets 
     AreVersions made caller (returned caller callee targets exit before)
 back_versions globals caller callee targets exit before m made r =
     let n : ℕ = length (globals_of caller) in
-    let news : List ℕ = map (slice_index exit) (results_of callee) in
+    let news : List ℕ = map (slice_index exit) (result_columns callee) in
     let base : List ℕ = base_of caller exit before in
     record {
       long = length_written base targets news ∙ (base_length globals caller callee targets exit before m made r).1 ∙ r.before_versions.long;
       below = below_returned caller callee targets exit before made (sym r.exit_versions.long) r.exit_versions.below
           (below_more m made before r.earlier r.before_versions.below);
       differ = distinct_written base targets news (base_differs globals caller callee targets exit before m made r)
-          (distinct_indexed exit (results_of callee) r.exit_versions.differ (places_distinct is_result 0 callee) (results_within callee (length exit) (sym r.exit_versions.long)))
+          (distinct_indexed exit (result_columns callee) r.exit_versions.differ (places_distinct is_result 0 callee) (results_within callee (length exit) (sym r.exit_versions.long)))
           (λ c x y.
           let later = result_later globals caller callee targets exit before m made r c y in
-          let i = indexed_member exit (results_of callee) c y in
+          let i = indexed_member exit (result_columns callee) c y in
           let behind = results_behind globals caller callee r.from_frame r.to_frame i.0 i.1 in
-          let w = member_below (length exit) (results_of callee) i.0 i.1 (results_within callee (length exit) (sym r.exit_versions.long)) in
+          let w = member_below (length exit) (result_columns callee) i.0 i.1 (results_within callee (length exit) (sym r.exit_versions.long)) in
           elim (member_joined (take n exit) (drop n before) c x) [
             | inl z ↦
                 (let a = taken_at n exit c z in
@@ -475,7 +475,7 @@ back_versions globals caller callee targets exit before m made r =
 pub back_apart : (globals : List VarInfo) (caller callee : Columns) (targets exit before : List ℕ) (m made : ℕ) → Returns globals caller callee targets exit before m made →
     (k n : ℕ) (v : List ℕ) → k ≤ m → n ≡ length (globals_of caller) → AreApart k n before v → AreApart k n (returned caller callee targets exit before) v
 back_apart globals caller callee targets exit before m made r k n v l i a =
-    let news : List ℕ = map (slice_index exit) (results_of callee) in
+    let news : List ℕ = map (slice_index exit) (result_columns callee) in
     let base : List ℕ = base_of caller exit before in
     apart_written k n base targets news v (λ c x. (let b = result_later globals caller callee targets exit before m made r c x in omega (arith, b, l)))
     (λ j w.

@@ -8,18 +8,18 @@ use Rattle.letter_acts.specs.Invariant.{Graph, alphabet_of}
 use Rattle.frame_rows.specs.Rows.{bounds, types_of}
 use Rattle.path_rows.specs.declared.parts.Made.{Made}
 use Rattle.path_rows.specs.declared.drafts.Draft.{Draft}
-use Rattle.path_rows.specs.Versions.{Stage, Part, rows_in}
+use Rattle.path_rows.specs.Versions.{PathStage, Part, part_rows}
 use Rattle.path_rows.specs.Paths.{Path, repeated, first_stage, path_along}
 use Rattle.path_rows.specs.Stages.{ComesTo}
 
 -- the rows, columns and versions are those of the part
 pub record IsMade (part : Part) (m : Made) : Type 0 where
-  pub rows : m.rows.items ≡ rows_in part
+  pub rows : m.rows.items ≡ part_rows part
   pub columns : m.columns ≡ part.columns
   pub here : m.here.items ≡ part.after.here
 
 -- where a draft has come to; the versions that were saved last are those before the innermost call
-abbrev pub stage_of : Draft → Stage
+abbrev pub stage_of : Draft → PathStage
 stage_of d = record { made = d.made; here = d.here.items; saved = reverse (map (λ v. v.items) d.saved.items) }
 
 -- the draft of no letter, at the start in a frame
@@ -44,8 +44,8 @@ pub record Added (more : List LinearRow) (columns : ℕ) (next : List ℕ) (numb
 -- the new draft is the old one with what a letter of that number made behind
 pub record Reads (part : Part) (number : ℕ) (old new : Draft) : Type 0 where
   pub stage : stage_of new ≡ part.after
-  pub rows : new.rows.items ≡ old.rows.items ++ rows_in part
-  pub row_at : new.row_at.items ≡ old.row_at.items ++ repeated number (length (rows_in part))
+  pub rows : new.rows.items ≡ old.rows.items ++ part_rows part
+  pub row_at : new.row_at.items ≡ old.row_at.items ++ repeated number (length (part_rows part))
   pub column_at : new.column_at.items ≡ old.column_at.items ++ repeated number part.columns
   pub states : map (λ v. v.items) new.states.items ≡ map (λ v. v.items) old.states.items ++ old.here.items ∷ []
 
@@ -64,7 +64,7 @@ pub record IsDone (d : Draft) (path : Path) : Type 0 where
   pub states : map (λ v. v.items) d.states.items ++ d.here.items ∷ [] ≡ path.states
 
 -- the automaton accepts the rest of the word from where the draft has come to
-pub record CanGoOn (g : Graph) (p : Stage) (w : List Letter) : Type 0 where
+pub record CanGoOn (g : Graph) (p : PathStage) (w : List Letter) : Type 0 where
   pub places : List ℕ
   pub from : ℕ
   pub comes : ComesTo g places from p

@@ -8,7 +8,7 @@ use Rattle.letter_acts.specs.Acts.{PlainAct, inside_act, call_act, back_act, Alp
 use Rattle.letter_acts.specs.Meaning.{Situation, InsideLeads, CallLeads, BackLeads}
 use Rattle.letter_acts.specs.Feasible.{Obeys}
 use Rattle.letter_acts.specs.Invariant.{Graph, alphabet_of}
-use Rattle.path_rows.specs.Versions.{Stage, locals_of, inside_part, call_part, back_part, part_of}
+use Rattle.path_rows.specs.Versions.{PathStage, local_columns, inside_part, call_part, back_part, part_of}
 use Rattle.frame_rows.specs.Rows.{columns_from}
 use Rattle.path_rows.specs.Paths.{start_frame, first_stage, path_of}
 
@@ -18,15 +18,15 @@ read point columns = map point columns
 
 -- an inside act leads from the state that the point has to the next, with the values and helpers that the point has at the
 -- columns that the letter makes
-pub record InsideObeyed (point : ℕ → ℤ) (frame : Columns) (written : List ℕ) (helpers : ℕ) (rows : List LinearRow) (p : Stage) : Type 0 where
+pub record InsideObeyed (point : ℕ → ℤ) (frame : Columns) (written : List ℕ) (helpers : ℕ) (rows : List LinearRow) (p : PathStage) : Type 0 where
   pub leads : InsideLeads frame written helpers rows (read point p.here) (read point (inside_part frame written helpers rows p).after.here)
   pub news : leads.news ≡ read point (columns_from p.made (length written))
   pub helped : leads.rows_hold.helpers ≡ read point (columns_from (p.made + length written) helpers)
 
 -- a call leads from the state that the point has in the caller to that in the callee, with the point's helpers
-pub record CallObeyed (point : ℕ → ℤ) (caller callee : Columns) (helpers : ℕ) (rows : List LinearRow) (p : Stage) : Type 0 where
+pub record CallObeyed (point : ℕ → ℤ) (caller callee : Columns) (helpers : ℕ) (rows : List LinearRow) (p : PathStage) : Type 0 where
   pub leads : CallLeads caller callee helpers rows (read point p.here) (read point (call_part callee helpers rows p).after.here)
-  pub helped : leads.rows_hold.helpers ≡ read point (columns_from (p.made + length (locals_of callee)) helpers)
+  pub helped : leads.rows_hold.helpers ≡ read point (columns_from (p.made + length (local_columns callee)) helpers)
 
 -- a return leads from the states that the point has at the exit and before the call to the state that it has after
 abbrev pub BackObeyed : (ℕ → ℤ) → Columns → Columns → ℕ → List LinearRow → List ℕ → ℕ → List ℕ → List (List ℕ) → Type 0
@@ -35,7 +35,7 @@ BackObeyed point caller callee helpers rows targets made exit (before ∷ saved)
     BackLeads caller callee helpers rows targets (read point exit) (read point before)
     (read point (back_part caller callee targets made exit (before ∷ saved)).after.here)
 
-abbrev pub ReturnObeyed : (ℕ → ℤ) → Alphabet → List ℕ → Option PlainAct → Stage → Type 0
+abbrev pub ReturnObeyed : (ℕ → ℤ) → Alphabet → List ℕ → Option PlainAct → PathStage → Type 0
 ReturnObeyed point al targets None p = ⊥
 ReturnObeyed point al targets (Some (inside_act q written helpers rows)) p = ⊥
 ReturnObeyed point al targets (Some (call_act caller callee helpers rows)) p =
@@ -43,14 +43,14 @@ ReturnObeyed point al targets (Some (call_act caller callee helpers rows)) p =
 ReturnObeyed point al targets (Some (back_act c more)) p = ⊥
 
 -- a letter with this act leads as the point says
-abbrev pub ActObeyed : (ℕ → ℤ) → Alphabet → Option PlainAct → Stage → Type 0
+abbrev pub ActObeyed : (ℕ → ℤ) → Alphabet → Option PlainAct → PathStage → Type 0
 ActObeyed point al None p = ⊥
 ActObeyed point al (Some (inside_act q written helpers rows)) p = InsideObeyed point (frame_of al q) written helpers rows p
 ActObeyed point al (Some (call_act caller callee helpers rows)) p = CallObeyed point (frame_of al caller) (frame_of al callee) helpers rows p
 ActObeyed point al (Some (back_act c targets)) p = ReturnObeyed point al targets (slice_get al.acts c) p
 
 -- each letter does
-abbrev pub ObeyedAlong : (ℕ → ℤ) → Alphabet → Stage → List Letter → Type 0
+abbrev pub ObeyedAlong : (ℕ → ℤ) → Alphabet → PathStage → List Letter → Type 0
 ObeyedAlong point al p [] = Unit {0}
 ObeyedAlong point al p (a ∷ w) = ActObeyed point al (act_of al a) p × ObeyedAlong point al (part_of al a p).after w
 

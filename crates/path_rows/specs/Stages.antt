@@ -4,10 +4,10 @@ use Rattle.std.specs.List.{AllByRecursion}
 use Rattle.lin_rows.specs.Rows.{LinearRow}
 use Rattle.nwa_base.specs.declared.letters.Letter.{Letter}
 use Rattle.nwa_base.specs.Acceptance.{Follows}
-use Rattle.letter_acts.specs.Frames.{Columns, globals_of, variables_of, results_of}
+use Rattle.letter_acts.specs.Frames.{Columns, globals_of, variables_of, result_columns}
 use Rattle.letter_acts.specs.Acts.{PlainAct, inside_act, call_act, back_act, Alphabet, frame_of}
 use Rattle.letter_acts.specs.Invariant.{Graph, alphabet_of, IsPlaceOf, AreDistinct}
-use Rattle.path_rows.specs.Versions.{Stage, entered, returned, locals_of, old_part}
+use Rattle.path_rows.specs.Versions.{PathStage, entered_versions, returned, local_columns, old_part}
 use Rattle.frame_rows.specs.Rows.{columns_from, RowsAreNamed}
 
 -- a version for each column of the frame: they are made, and no two are equal
@@ -37,12 +37,12 @@ AreSaved g made (p ∷ places) (v ∷ saved) here =
     (m : ℕ) × (m ≤ made) × (s : VersionsAt g p m v) × AreApart m (length (globals_of (frame_of (alphabet_of g) s.proc))) here v × AreSaved g m places saved v
 
 -- the path has come to a place of the automaton, with these places before the open calls
-pub record ComesTo (g : Graph) (places : List ℕ) (q : ℕ) (p : Stage) : Type 0 where
+pub record ComesTo (g : Graph) (places : List ℕ) (q : ℕ) (p : PathStage) : Type 0 where
   pub here : VersionsAt g q p.made p.here
   pub saved : AreSaved g p.made places p.saved p.here
 
 -- the automaton goes on by the letter from where the path has come to
-pub record GoesOnBy (g : Graph) (a : Letter) (p : Stage) : Type 0 where
+pub record GoesOnBy (g : Graph) (a : Letter) (p : PathStage) : Type 0 where
   pub places : List ℕ
   pub from : ℕ
   pub to : ℕ
@@ -63,9 +63,9 @@ pub record CallFits (callee : Columns) (helpers : ℕ) (rows : List LinearRow) (
   pub variables : AllByRecursion (λ c. c < length here) (variables_of callee)
   pub variable_count : length (variables_of callee) ≡ length (old_part callee)
   pub counted : length callee + helpers ≤ 2 ^ 32
-  pub part_count : length (locals_of callee) + length (old_part callee) ≤ length callee
+  pub part_count : length (local_columns callee) + length (old_part callee) ≤ length callee
   pub named : RowsAreNamed
-      (here ++ (entered callee made (made + length (locals_of callee) + helpers) here ++ columns_from (made + length (locals_of callee)) helpers)) rows
+      (here ++ (entered_versions callee made (made + length (local_columns callee) + helpers) here ++ columns_from (made + length (local_columns callee)) helpers)) rows
 
 -- the same of a return
 pub record BackFits (caller callee : Columns) (targets exit before : List ℕ) : Type 0 where
@@ -73,7 +73,7 @@ pub record BackFits (caller callee : Columns) (targets exit before : List ℕ) :
   pub callee_count : length callee ≤ 2 ^ 32
   pub in_exit : length (globals_of caller) ≤ length exit
   pub in_before : length (globals_of caller) ≤ length before
-  pub results_in : AllByRecursion (λ c. c < length exit) (results_of callee)
+  pub results_in : AllByRecursion (λ c. c < length exit) (result_columns callee)
   pub targets_in : AllByRecursion (λ c. c < length before) targets
 
 -- of a return with these targets, whose call has this act
@@ -96,5 +96,5 @@ abbrev pub FitsBefore : Alphabet → List ℕ → Option PlainAct → List ℕ �
 FitsBefore al targets o exit [] = ⊥
 FitsBefore al targets o exit (before ∷ saved) = BackFitsFrom al targets o exit before
 
-abbrev pub BackReady : Alphabet → List ℕ → Option PlainAct → Stage → Type 0
+abbrev pub BackReady : Alphabet → List ℕ → Option PlainAct → PathStage → Type 0
 BackReady al targets o p = FitsBefore al targets o p.here p.saved

@@ -207,6 +207,7 @@ impl Draft {
                 written,
                 helpers,
                 rows,
+                ..
             } => {
                 let frame = icfg.columns(*proc);
                 self.read_inside(alloc, frame, written, *helpers, rows, number)

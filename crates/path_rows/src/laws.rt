@@ -2,14 +2,12 @@
 
 ghost use Rattle.std.specs.Prelude.{◌≡◌, ◌↔◌, [], ◌∷◌, ℕ, ℤ, List};
 ghost use Rattle.std.specs.List.{AllByRecursion};
-ghost use Rattle.lin_rows.specs.declared.systems.System.{System};
 ghost use Rattle.lin_rows.specs.Rows.{Holds};
-ghost use Rattle.lin_rows.specs.Systems.{Meets, rows_of, groups_of};
 ghost use Rattle.nwa_base.specs.declared.letters.Letter.{Letter};
 ghost use Rattle.nwa_base.specs.Automata.{IsAutomaton};
 ghost use Rattle.nwa_base.specs.Acceptance.{Accepts};
 ghost use Rattle.letter_acts.specs.Meaning.{Situation};
-ghost use Rattle.letter_acts.specs.Feasible.{Obeys, IsFeasible};
+ghost use Rattle.letter_acts.specs.Feasible.{Obeys};
 ghost use Rattle.letter_acts.specs.Invariant.{Graph, IsGraph, alphabet_of, IsPlaceOf};
 ghost use Rattle.path_rows.specs.Paths.{path_of};
 ghost use Rattle.path_rows.specs.Solutions.{Solves, ReadOff, SolvedBy};
@@ -32,15 +30,4 @@ pub fn solutions_are_read_off()
 pub fn obeying_states_are_solved()
     ensures { (g : Graph) (w : List Letter) (first : Situation) (more : List Situation) → IsGraph g → IsAutomaton g.automaton → Accepts g.automaton w →
         Obeys (alphabet_of g) w first more → (w ≡ [] → IsPlaceOf g.place_procs first.proc g.automaton.start) → SolvedBy g w (first ∷ more) }
-{}
-
-/// The rows of an accepted word hold at some whole point exactly where the word is feasible.
-pub fn rows_are_exact()
-    ensures { (g : Graph) (w : List Letter) → IsGraph g → IsAutomaton g.automaton → Accepts g.automaton w →
-        ((point : ℕ → ℤ) × AllByRecursion (Holds point) (path_of g w).rows) ↔ IsFeasible (alphabet_of g) w }
-{}
-
-/// A point meets a system without groups exactly where its rows hold there.
-pub fn rows_alone_are_met()
-    ensures { (s : System) (point : ℕ → ℤ) → groups_of s ≡ [] → Meets point s ↔ AllByRecursion (Holds point) (rows_of s) }
 {}

@@ -1,6 +1,6 @@
 ghost use Rattle.std.specs.Prelude.{◌≡◌, ◌↔◌, ◌<◌, ◌≤◌, ◌^◌, ℕ, ℤ, IfOk, OnOk, length};
 ghost use Rattle.std.specs.List.{AllByRecursion};
-ghost use Rattle.lin_rows.specs.Rows.{Holds};
+ghost use Rattle.lin_rows.specs.Rows.{Holds, RowsBelow};
 ghost use Rattle.nwa_base.specs.Automata.{IsAutomaton};
 ghost use Rattle.nwa_base.specs.Acceptance.{Accepts};
 ghost use Rattle.letter_acts.specs.Feasible.{IsFeasible};
@@ -51,6 +51,7 @@ fn read_word(alloc: Global, icfg: &Icfg, word: &Word) -> Result<Draft, AllocErro
     ensures done { IfOk result (λ d. IsDone d (path_of icfg.now word.now)) }
     ensures letters { OnOk result (length word.now < 2 ^ 32) }
     ensures columns { IfOk result (λ d. length d.column_at.items ≤ 2 ^ 32) }
+    ensures within { IfOk result (λ d. RowsBelow (length d.column_at.items) d.rows.items) }
 {
     let letters = word.letters();
     if letters.len() > u32::MAX as usize {
@@ -68,6 +69,7 @@ fn finished(icfg: &Icfg, word: &Word, draft: Draft) -> Result<PathSystem, AllocE
     requires accepted { Accepts icfg.now.automaton word.now }
     requires done { IsDone draft (path_of icfg.now word.now) }
     requires columns { length draft.column_at.items ≤ 2 ^ 32 }
+    requires within { RowsBelow (length draft.column_at.items) draft.rows.items }
     ensures word { IfOk result (λ p. p.word ≡ word.now) }
     ensures value { IfOk result (IsPathOf icfg.now) }
     ensures exact { IfOk result (λ p. ((point : ℕ → ℤ) × AllByRecursion (Holds point) p.rows) ↔ IsFeasible (alphabet_of icfg.now) word.now) }

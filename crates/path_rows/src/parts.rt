@@ -4,7 +4,7 @@ ghost use Rattle.std.specs.Prelude.{◌≡◌, ◌+◌, ◌<◌, ◌≤◌, ◌^
 ghost use Rattle.std.specs.List.{AllByRecursion};
 ghost use Rattle.letter_acts.specs.Frames.{variables_of};
 ghost use Rattle.frame_rows.specs.Rows.{renamed, bounds, types_at, types_of, columns_from, RowsAreNamed};
-ghost use Rattle.path_rows.specs.Versions.{inside_part, call_part, written_over, entered, entry_rows, locals_of, old_part};
+ghost use Rattle.path_rows.specs.Versions.{inside_part, call_part, written_over, entered_versions, entry_rows, local_columns, old_part};
 ghost use Rattle.path_rows.specs.Stages.{InsideFits, CallFits};
 ghost use Rattle.path_rows.specs.Drafts.{IsMade};
 
@@ -161,7 +161,7 @@ struct CalleeTypes {
 
 /// The types of the columns that a call of this frame makes.
 fn callee_types(alloc: Global, callee: &[(Column, VarInfo)]) -> Result<CalleeTypes, AllocError>
-    ensures locals { IfOk result (λ t. t.locals.items ≡ types_of (locals_of callee.now)) }
+    ensures locals { IfOk result (λ t. t.locals.items ≡ types_of (local_columns callee.now)) }
     ensures olds { IfOk result (λ t. t.olds.items ≡ types_of (old_part callee.now)) }
 {
     let locals = types_in(alloc, callee, Class::Local)?;
@@ -197,7 +197,7 @@ fn call_made(
     made: usize,
     here: &[Col],
 ) -> Result<Made, AllocError>
-    requires locals { types.now.locals.items ≡ types_of (locals_of callee.now) }
+    requires locals { types.now.locals.items ≡ types_of (local_columns callee.now) }
     requires olds { types.now.olds.items ≡ types_of (old_part callee.now) }
     requires fits { CallFits callee.now helpers rows.now made here.now }
     requires room { made ≤ 2 ^ 32 }

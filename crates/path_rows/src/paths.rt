@@ -28,7 +28,8 @@ impl Model for PathSystem {
 }
 
 impl PathSystem {
-    ghost use Rattle.std.specs.Prelude.{[], map};
+    ghost use Rattle.std.specs.Prelude.{[], map, length};
+    ghost use Rattle.lin_rows.specs.Rows.{RowsBelow};
     ghost use Rattle.lin_rows.specs.Systems.{rows_of, groups_of};
     ghost use Rattle.path_rows.specs.Paths.{IsPath, KeepsPath};
 
@@ -59,10 +60,11 @@ impl PathSystem {
         &self.word
     }
 
-    /// Its rows, as a system without groups.
+    /// Its rows, as a system without groups, over the columns of the path.
     pub fn system(&self) -> &System
         ensures rows { rows_of result.now ≡ self.now.rows }
         ensures groups { groups_of result.now ≡ [] }
+        ensures within { RowsBelow (length self.now.column_at) self.now.rows }
         ensures valid { IsPath self.now }
     {
         &self.system

@@ -2,8 +2,8 @@
 
 ghost use Rattle.std.specs.Prelude.{◌≡◌, ◌+◌, ◌<◌, ◌≤◌, ◌^◌, ◌++◌, IfOk, OnOk, map, length, take, drop, slice_index};
 ghost use Rattle.std.specs.List.{AllByRecursion};
-ghost use Rattle.letter_acts.specs.Frames.{globals_of, results_of};
-ghost use Rattle.path_rows.specs.Versions.{written_over, entered, returned, locals_of, old_part};
+ghost use Rattle.letter_acts.specs.Frames.{globals_of, result_columns};
+ghost use Rattle.path_rows.specs.Versions.{written_over, entered_versions, returned, local_columns, old_part};
 
 use boogie_tree::{Column, VarInfo};
 use frame_rows::{Class, add_columns, numbers_of};
@@ -45,11 +45,11 @@ pub(crate) fn entered(
 ) -> Result<Vec<Col>, AllocError>
     requires numbers { length callee.now ≤ 2 ^ 32 }
     requires globals { length (globals_of callee.now) ≤ length here.now }
-    requires local_count { locals.1 ≡ length (locals_of callee.now) }
+    requires local_count { locals.1 ≡ length (local_columns callee.now) }
     requires old_count { olds.1 ≡ length (old_part callee.now) }
     requires locals_fit { locals.0 + locals.1 ≤ 2 ^ 32 }
     requires olds_fit { olds.0 + olds.1 ≤ 2 ^ 32 }
-    ensures { IfOk result (λ v. v.items ≡ entered callee.now locals.0 olds.0 here.now) }
+    ensures { IfOk result (λ v. v.items ≡ entered_versions callee.now locals.0 olds.0 here.now) }
 {
     let globals = global_count(alloc, callee)?;
     let mut entry = Vec::from_slice(alloc, &here[..globals])?;
@@ -71,7 +71,7 @@ pub(crate) fn returned(
     requires callee_numbers { length callee.now ≤ 2 ^ 32 }
     requires in_exit { length (globals_of caller.now) ≤ length exit.now }
     requires in_before { length (globals_of caller.now) ≤ length before.now }
-    requires results { AllByRecursion (λ c. c < length exit.now) (results_of callee.now) }
+    requires results { AllByRecursion (λ c. c < length exit.now) (result_columns callee.now) }
     requires targets { AllByRecursion (λ c. c < length before.now) targets.now }
     ensures { IfOk result (λ v. v.items ≡ returned caller.now callee.now targets.now exit.now before.now) }
 {
@@ -100,9 +100,9 @@ fn write_results(
     after: &mut [Col],
 ) -> Result<(), AllocError>
     requires numbers { length callee.now ≤ 2 ^ 32 }
-    requires results { AllByRecursion (λ c. c < length exit.now) (results_of callee.now) }
+    requires results { AllByRecursion (λ c. c < length exit.now) (result_columns callee.now) }
     requires targets { AllByRecursion (λ c. c < length after.old) targets.now }
-    ensures { OnOk result (after.new ≡ written_over after.old targets.now (map (slice_index exit.now) (results_of callee.now))) }
+    ensures { OnOk result (after.new ≡ written_over after.old targets.now (map (slice_index exit.now) (result_columns callee.now))) }
 {
     let results = numbers_of(alloc, callee, Class::Outcome)?;
     let news = picked(alloc, exit, &results)?;

@@ -1,5 +1,6 @@
-use Rattle.std.proofs.Common.{◌∙◌, sym, ap, subst}
+use Rattle.std.proofs.Common.{◌∙◌, List, length, sym, ap, subst}
 use Rattle.nwa_base.specs.Automata.{IsAutomaton}
+use Rattle.lin_rows.specs.Rows.{LinearRow, RowsBelow}
 use Rattle.lin_rows.specs.Systems.{members_of, rows_of}
 use Rattle.path_rows.specs.Paths.{PlainPath, IsPathOf}
 use Rattle.path_rows.proofs.MakingLemmas.{made_path, path_exact}
@@ -13,6 +14,7 @@ new-path-requires c = record {
         c.in_ok-letters.ensures c.system-rows.ensures.rows c.in_ok-push.ensures.items,
   );
   no_groups = c.system-rows.ensures.groups ∙ ap members_of c.new-groups.ensures.items;
+  within = subst (λ (rows : List LinearRow). RowsBelow (length c.args.draft.column_at.items) rows) (sym c.system-rows.ensures.rows) c.requires.within;
 }
 
 pub returns-clause-value : goal.returns-clause-value

@@ -2,7 +2,7 @@ use Rattle.std.proofs.Common.{get_or, sym, subst}
 use Rattle.nwa_base.specs.declared.letters.Letter.{Letter}
 use Rattle.nwa_base.specs.declared.letters.Kind.TheVariants.{Inside}
 use Rattle.nwa_base.specs.Acceptance.{Accepts}
-use Rattle.path_rows.proofs.MakingLemmas.{read_none, goes_at, read_next, read_all, same_front, columns_told_apart}
+use Rattle.path_rows.proofs.MakingLemmas.{read_none, goes_at, read_next, read_all, read_within, same_front, columns_told_apart}
 use Rattle.path_rows.proofs.making.read_word.Goals as goal
 
 pub loop-i-init : goal.loop-i-init
@@ -30,3 +30,6 @@ returns-clause-done c =
 
 pub returns-clause-columns : goal.returns-clause-columns
 returns-clause-columns c = columns_told_apart c.args.icfg.now c.letters-letters.result.now c.loop-i.i c.loop-i.draft c.loop-i.invariant
+
+pub returns-clause-within : goal.returns-clause-within
+returns-clause-within c = read_within c.args.icfg.now c.letters-letters.result.now c.loop-i.i c.loop-i.draft c.loop-i.invariant
