@@ -4,3 +4,4 @@ mod ProvingLaws
 mod MeetingLaws
 mod UnrefutedLaws
 mod PieceLaws
+mod FalseRowLaws

@@ -1,7 +1,6 @@
 -- What is answered of triples.
-use Rattle.std.proofs.Common.{◌≡◌, ◌↔◌, List, [], ◌∷◌, map, Option, None, Some, Result, Ok, Err, IsSome, IfSome, IfOk, Vec, Global, sym, ap, subst, ◌∙◌}
+use Rattle.std.proofs.Common.{◌≡◌, List, [], ◌∷◌, map, Option, None, Some, Result, Ok, IfOk, Vec, Global, sym, ap, subst, ◌∙◌}
 use Rattle.std.specs.List.{AllZip}
-use Rattle.std.proofs.lemmas.Bool.{false≢true}
 use Rattle.letter_acts.specs.Acts.{Alphabet}
 use Rattle.farkas_check.specs.Nodes.{PlainNode}
 use Rattle.int_decide.specs.Worth.{IsTreeOf}
@@ -12,20 +11,10 @@ use Rattle.hoare_check.specs.Decided.{IsProofFor, MayProve}
 use Rattle.triple_rows.specs.Cuts.{columns_of}
 use Rattle.hoare_check.proofs.CutLaws.{uncut_within}
 
-module _ (al : Alphabet) (triple : Triple) (nodes : List PlainNode) (a : Agrees al triple) (r : IsRefuted al triple nodes) (t : IsTreeOf 0 nodes) where
-  may_prove : (o : Option PlainProof) → (IsSome o ↔ IsRefuted al triple nodes) →
-      IfSome o (λ p. p ≡ record { triple = triple; refutation = nodes }) → MayProve al triple o
-  may_prove None found value = λ u. false≢true (found.1 r)
-  may_prove (Some p) found value = (
-    ap (λ (q : PlainProof). q.triple) value,
-    subst (IsProofFor al) (sym value) (record { agrees = a; over = r; within = uncut_within (columns_of al triple) nodes t }),
-  )
-
-  -- a refutation without cuts is a proof
-  pub uncut_proves : {E : Type 0} (o : Result (Option PlainProof) E) → IfOk o (λ x. IsSome x ↔ IsRefuted al triple nodes) →
-      IfOk o (λ x. IfSome x (λ p. p ≡ record { triple = triple; refutation = nodes })) → IfOk o (MayProve al triple)
-  uncut_proves (Ok x) found value = may_prove x found value
-  uncut_proves (Err e) found value = tt
+-- a refutation without cuts is a proof
+pub uncut_proves : (al : Alphabet) (triple : Triple) (nodes : List PlainNode) → Agrees al triple → IsRefuted al triple nodes → IsTreeOf 0 nodes →
+    IsProofFor al (record { triple = triple; refutation = nodes })
+uncut_proves al triple nodes a r t = record { agrees = a; over = r; within = uncut_within (columns_of al triple) nodes t }
 
 -- ---- all of them
 

@@ -5,8 +5,8 @@ use Rattle.lin_rows.specs.declared.systems.System.{System}
 use Rattle.lin_rows.specs.Rows.{IsRow}
 use Rattle.lin_rows.specs.Systems.{Meets, groups_of}
 use Rattle.letter_acts.specs.Acts.{Alphabet}
-use Rattle.int_decide.specs.Decisions.{Decision}
 use Rattle.int_decide.specs.Sizes.{AllMembers, AllRows, SystemBelow}
+use Rattle.int_decide.specs.WithoutCuts.{IsNotRefuted}
 use Rattle.int_decide.specs.Worth.{IsRefuted}
 use Rattle.int_decide.proofs.Opening.{AllRows_close}
 use Rattle.int_decide.proofs.Worths.{refuted_has_no_point}
@@ -42,3 +42,9 @@ met_unrefuted al triple s n e f h b point m r =
     let k = r.refuted s h in
     refuted_has_no_point (columns_of al triple) 0 s point (rows_fit (system_of al triple) s f h) (subst (λ (c : ℕ). SystemBelow c s) e b)
     (subst IsRefuted (sym k.refuted) tt) m
+
+-- nor is one whose system Decide does not refute without cuts
+pub uncut_unrefuted : (al : Alphabet) (triple : Triple) (s : System) (n : ℕ) → n ≡ columns_of al triple → IsSystem (system_of al triple) s → IsNotRefuted n s → RefutesUncut al triple → ⊥
+uncut_unrefuted al triple s n e h u r =
+    let k = r.refuted s h in
+    subst (λ (c : ℕ). IsNotRefuted c s) e u (subst IsRefuted (sym k.refuted) tt) k.numbers

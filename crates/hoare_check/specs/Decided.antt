@@ -1,5 +1,5 @@
 -- When Decide without cuts refutes the system of a triple, and what may be answered of a triple.
-use Rattle.std.specs.Prelude.{◌≡◌, ℕ, ◌+◌, ◌<◌, List, Option, None, Some}
+use Rattle.std.specs.Prelude.{◌≡◌, ℕ, List, Option, None, Some}
 use Rattle.std.specs.List.{AllByRecursion}
 use Rattle.lin_rows.specs.declared.systems.System.{System}
 use Rattle.letter_acts.specs.Acts.{Alphabet}
@@ -29,7 +29,7 @@ pub record IsProofFor (al : Alphabet) (p : PlainProof) : Type 0 where
   pub within : AreCutsWithin al p.triple p.refutation
 
 -- Decide of the system over so many columns, without cuts, is a refutation, and all its numbers fit.
-pub record IsRefutedBy (columns : ℕ) (s : System) : Type 0 where
+pub record IsRefutedByDecide (columns : ℕ) (s : System) : Type 0 where
   pub nodes : List PlainNode
   pub refuted : decide columns 0 s ≡ refuted nodes
   pub numbers : DecideFits columns 0 s
@@ -37,7 +37,7 @@ pub record IsRefutedBy (columns : ℕ) (s : System) : Type 0 where
 -- Decide without cuts refutes the triple's system, and all numbers of the system and of Decide fit.
 pub record RefutesUncut (al : Alphabet) (triple : Triple) : Type 0 where
   pub fits : PlainFits (system_of al triple)
-  pub refuted : (s : System) → IsSystem (system_of al triple) s → IsRefutedBy (columns_of al triple) s
+  pub refuted : (s : System) → IsSystem (system_of al triple) s → IsRefutedByDecide (columns_of al triple) s
 
 -- What may be answered of a triple: a proof of it, or none where Decide without cuts does not refute its system within the numbers that fit.
 abbrev pub MayProve : Alphabet → Triple → Option PlainProof → Type 0

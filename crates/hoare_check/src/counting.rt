@@ -1,15 +1,14 @@
 //! How many columns the system of a triple has.
 
-ghost use Rattle.std.specs.Prelude.{◌≡◌, ◌+◌, Some, filter, length, not};
+ghost use Rattle.std.specs.Prelude.{◌+◌, Some, length};
 ghost use Rattle.letter_acts.specs.Acts.{plain_act};
-ghost use Rattle.letter_acts.specs.Frames.{is_variable, variables_of};
-ghost use Rattle.letter_acts.specs.Invariant.{alphabet_of, is_global_at, written_by};
+ghost use Rattle.letter_acts.specs.Invariant.{alphabet_of, written_by};
 ghost use Rattle.hoare_check.specs.Counts.{IsCount};
 ghost use Rattle.triple_rows.specs.Cuts.{inside_columns, call_columns, back_columns, columns_of};
 ghost use Rattle.letter_acts.specs.Widths.{back_width};
 
 use boogie_tree::{Column, VarInfo};
-use letter_acts::{Act, Icfg};
+use letter_acts::{Act, Icfg, count_local_targets, count_variables};
 use triple_rows::Triple;
 
 /// The sum, where it has 32 bits.
@@ -17,49 +16,6 @@ fn plus(count: u32, more: usize) -> Option<u32>
     ensures { IsCount (count + more) result }
 {
     count.checked_add(u32::try_from(more).ok()?)
-}
-
-/// Whether a column is that of a global that may change.
-fn is_variable(column: &(Column, VarInfo)) -> bool
-    ensures { result ≡ is_variable column.now }
-{
-    matches!(column.0, Column::Global(_)) && !column.1.constant
-}
-
-/// How many globals may change.
-fn variables(frame: &[(Column, VarInfo)]) -> usize
-    ensures { result ≡ length (variables_of frame.now) }
-{
-    let mut count = 0;
-    for column in frame {
-        if is_variable(column) {
-            count += 1;
-        }
-    }
-    count
-}
-
-/// Whether a column is that of a constant or global.
-fn is_global(frame: &[(Column, VarInfo)], column: u32) -> bool
-    ensures { result ≡ is_global_at frame.now column }
-{
-    match frame.get(column as usize) {
-        Some((Column::Global(_), _)) => true,
-        Some(_) | None => false,
-    }
-}
-
-/// How many targets are no globals.
-fn local_targets(frame: &[(Column, VarInfo)], targets: &[u32]) -> usize
-    ensures { result ≡ length (filter (λ t. not (is_global_at frame.now t)) targets.now) }
-{
-    let mut count = 0;
-    for target in targets {
-        if !is_global(frame, *target) {
-            count += 1;
-        }
-    }
-    count
 }
 
 fn inside_columns(icfg: &Icfg, act: &Act) -> Option<u32>
@@ -70,7 +26,7 @@ fn inside_columns(icfg: &Icfg, act: &Act) -> Option<u32>
             proc,
             written,
             helpers,
-            rows: _,
+            ..
         } => {
             let frame = plus(0, icfg.columns(*proc).len())?;
             plus(frame, written.len())?.checked_add(*helpers)
@@ -87,7 +43,7 @@ fn call_columns(icfg: &Icfg, act: &Act) -> Option<u32>
             caller,
             callee,
             helpers,
-            rows: _,
+            ..
         } => {
             let frame = plus(0, icfg.columns(*caller).len())?;
             plus(frame, icfg.columns(*callee).len())?.checked_add(*helpers)
@@ -101,8 +57,8 @@ fn call_columns(icfg: &Icfg, act: &Act) -> Option<u32>
 fn written(frame: &[(Column, VarInfo)], targets: &[u32]) -> Option<u32>
     ensures { IsCount (length (written_by frame.now targets.now)) result }
 {
-    let globals = plus(0, variables(frame))?;
-    plus(globals, local_targets(frame, targets))
+    let globals = plus(0, count_variables(frame))?;
+    plus(globals, count_local_targets(frame, targets))
 }
 
 /// Of a return with these targets from a call with this act.
@@ -114,7 +70,7 @@ fn back_width(icfg: &Icfg, targets: &[u32], act: &Act) -> Option<u32>
             caller,
             callee,
             helpers,
-            rows: _,
+            ..
         } => {
             let before = icfg.columns(*caller);
             let frame = plus(0, icfg.columns(*callee).len())?;

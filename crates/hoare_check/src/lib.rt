@@ -3,6 +3,7 @@
 
 mod counting;
 mod cuts;
+mod false_rows;
 mod meeting;
 mod proving;
 

@@ -9,15 +9,16 @@ ghost use Rattle.triple_rows.specs.Triples.{Agrees, IsRefuted, system_of};
 ghost use Rattle.hoare_check.specs.Decided.{MayProve, RefutesUncut};
 
 use crate::counting::columns_of;
+use crate::false_rows::leaf_of_false_row;
 use crate::meeting::is_met_by_one;
 use farkas_check::Refutation;
-use int_decide::{Answer, DecideFault, decide, measure};
+use int_decide::{Uncut, decide_uncut, measure};
 use letter_acts::Icfg;
 use lin_rows::{RowFault, System};
 use rayon::prelude::*;
 use std::alloc::{AllocError, Global};
 use std::thread::Threads;
-use triple_rows::{Proof, Triple, proof, systems_of};
+use triple_rows::{Proof, Triple, systems_of};
 
 /// How many pieces many triples are split into, at least.
 const PIECES: usize = 8;
@@ -46,7 +47,8 @@ fn prove_at(
     ensures { IfOk result (MayProve (alphabet_of icfg.now) triple) }
 {
     match refuted_at(alloc, icfg, &triple, points)? {
-        Some(refutation) => proof(alloc, icfg, triple, refutation),
+        // what was checked against the triple's system is not checked again
+        Some(refutation) => Ok(Some(Proof::new(triple, refutation))),
         None => Ok(None),
     }
 }
@@ -85,6 +87,26 @@ fn decided_at(
         (RefutesUncut (alphabet_of icfg.now) triple.now → ⊥)
         (λ nodes. IsRefuted (alphabet_of icfg.now) triple.now nodes × IsTreeOf 0 nodes)) }
 {
+    if let Some(refutation) = leaf_of_false_row(alloc, system)? {
+        return Ok(Some(refutation));
+    }
+    tried_at(alloc, icfg, triple, system, points)
+}
+
+/// The same, where no row says by itself that the triple is valid.
+fn tried_at(
+    alloc: Global,
+    icfg: &Icfg,
+    triple: &Triple,
+    system: &System,
+    points: &mut Vec<Vec<i128>>,
+) -> Result<Option<Refutation>, AllocError>
+    requires fits { PlainFits (system_of (alphabet_of icfg.now) triple.now) }
+    requires system { IsSystem (system_of (alphabet_of icfg.now) triple.now) system.now }
+    ensures { IfOk result (λ found. MatchOption found
+        (RefutesUncut (alphabet_of icfg.now) triple.now → ⊥)
+        (λ nodes. IsRefuted (alphabet_of icfg.now) triple.now nodes × IsTreeOf 0 nodes)) }
+{
     let Some(columns) = columns_of(icfg, triple) else {
         return Err(AllocError);
     };
@@ -95,14 +117,13 @@ fn decided_at(
     if is_met_by_one(system, points) {
         return Ok(None);
     }
-    match decide(alloc, system, columns, 0) {
-        Ok(Answer::Refuted(refutation)) => Ok(Some(refutation)),
-        Ok(Answer::Whole(point)) => {
+    match decide_uncut(alloc, system, columns)? {
+        Uncut::Refuted(refutation) => Ok(Some(refutation)),
+        Uncut::Met(point) => {
             points.push(point)?;
             Ok(None)
         }
-        Err(DecideFault::Gap) | Err(DecideFault::Past) => Ok(None),
-        Err(DecideFault::Memory) => Err(AllocError),
+        Uncut::Unrefuted => Ok(None),
     }
 }
 

@@ -7,7 +7,7 @@ use Rattle.math_facts.specs.Terms.{IsBelow}
 use Rattle.lin_rows.specs.Rows.{LinearRow, Holds}
 use Rattle.lin_rows.specs.Points.{point_of}
 use Rattle.nwa_base.specs.Members.{Member}
-use Rattle.letter_acts.specs.Frames.{Columns, constants_of, variables_of, results_of, olds_of}
+use Rattle.letter_acts.specs.Frames.{Columns, constants_of, variables_of, result_columns, olds_of}
 use Rattle.letter_acts.specs.Values.{picked, RowsHold, HoldBeyond}
 use Rattle.letter_acts.specs.Reading.{taken, BackReads, is_listed}
 use Rattle.letter_acts.specs.Invariant.{call_width, written_by}
@@ -197,7 +197,7 @@ back_parts caller callee rows targets exit before to =
     only_rows (map (λ g. equal_row (after_column (length callee) (length callee + length caller) (written_by caller targets) g) g)
     (filter (λ g. not (is_listed targets g)) (variables_of caller))) ∷
     only_rows (map (λ p. equal_row (after_column (length callee) (length callee + length caller) (written_by caller targets) p.0) p.1)
-    (taken targets (results_of callee))) ∷
+    (taken targets (result_columns callee))) ∷
     denied (after_column (length callee) (length callee + length caller) (written_by caller targets)) to ∷
     only_rows (bounds 0 (types_of callee)) ∷
     only_rows (bounds (length callee) (types_of caller)) ∷
@@ -255,7 +255,7 @@ back_met caller callee helpers rows targets exit before to k i none x b t r hx h
                   (
                     ((globals_tied point caller callee targets written x b t p k.ties.variables).1 r.globals, tt),
                     (
-                      ((results_tied point caller callee written x b t (taken targets (results_of callee)) p k.ties.taken).1 r.results, tt),
+                      ((results_tied point caller callee written x b t (taken targets (result_columns callee)) p k.ties.taken).1 r.results, tt),
                       (
                         d,
                         (
@@ -330,7 +330,7 @@ back_found caller callee helpers rows targets exit before to k i valid point met
       olds = (olds_tied point caller callee written x b t p k.ties.olds).0 parts.1.1.1.0.0;
       rows_hold = hold;
       globals = (globals_tied point caller callee targets written x b t p k.ties.variables).0 parts.1.1.1.1.1.0.0;
-      results = (results_tied point caller callee written x b t (taken targets (results_of callee)) p k.ties.taken).0 parts.1.1.1.1.1.1.0.0;
+      results = (results_tied point caller callee written x b t (taken targets (result_columns callee)) p k.ties.taken).0 parts.1.1.1.1.1.1.0.0;
       others = λ c f g. same c (λ h. elim (k.written_are c h) [ inl v ↦ f v | inr v ↦ g v ]);
     } in
     state_denied point after n t to p.at_end k.to_over i parts.1.1.1.1.1.1.1.0

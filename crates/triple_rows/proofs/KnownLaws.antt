@@ -8,7 +8,7 @@ use Rattle.boogie_tree.specs.declared.tree.VarInfo.{VarInfo}
 use Rattle.math_facts.specs.Terms.{IsBelow}
 use Rattle.lin_rows.specs.Rows.{LinearRow}
 use Rattle.nwa_base.specs.Members.{Member}
-use Rattle.letter_acts.specs.Frames.{Columns, IsFrame, added, places, is_global, is_constant, is_variable, is_result, is_old_column, globals_of, constants_of, variables_of, results_of, olds_of}
+use Rattle.letter_acts.specs.Frames.{Columns, IsFrame, added, places, is_global, is_fixed_column, is_variable, is_result, is_old_column, globals_of, constants_of, variables_of, result_columns, olds_of}
 use Rattle.letter_acts.specs.Reading.{taken}
 use Rattle.letter_acts.specs.Acts.{Alphabet, frame_of}
 use Rattle.letter_acts.specs.Invariant.{AreDistinct, MayWrite, MayTarget, MayName, InsideIsActed, BackIsActed, call_width, is_global_at, written_by}
@@ -238,12 +238,12 @@ back_is_read globals caller callee helpers rows targets exit before to fr fe a r
     let exist = targets_exist caller targets a.may_target in
     record {
       ties = record {
-        constants = all_pairs (λ c. c < length callee) (λ c. c < length caller) (constants_of callee) (places_below is_constant 0 (length callee) callee (omega arith))
-            (same_places_below (constants_of callee) (constants_of caller) (length caller) g.constants (places_below is_constant 0 (length caller) caller (omega arith)));
+        constants = all_pairs (λ c. c < length callee) (λ c. c < length caller) (constants_of callee) (places_below is_fixed_column 0 (length callee) callee (omega arith))
+            (same_places_below (constants_of callee) (constants_of caller) (length caller) g.constants (places_below is_fixed_column 0 (length caller) caller (omega arith)));
         olds = olds_within caller callee g;
         variables = all_pairs (λ c. c < length caller) (λ c. c < length callee) (variables_of caller) variables
             (same_places_below (variables_of caller) (variables_of callee) (length callee) (sym g.variables) (places_below is_variable 0 (length callee) callee (omega arith)));
-        taken = all_taken (λ c. c < length caller) (λ c. c < length callee) targets (results_of callee) exist
+        taken = all_taken (λ c. c < length caller) (λ c. c < length callee) targets (result_columns callee) exist
             (places_below is_result 0 (length callee) callee (omega arith));
       };
       distinct = distinct_joined (variables_of caller) locals (places_distinct is_variable 0 caller)

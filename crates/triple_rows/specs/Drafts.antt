@@ -4,7 +4,7 @@ use Rattle.lin_rows.specs.declared.systems.System.{System}
 use Rattle.lin_rows.specs.Rows.{LinearRow}
 use Rattle.lin_rows.specs.Negating.{negated}
 use Rattle.lin_rows.specs.Systems.{members_of}
-use Rattle.letter_acts.specs.Frames.{Columns, constants_of, variables_of, results_of, olds_of}
+use Rattle.letter_acts.specs.Frames.{Columns, constants_of, variables_of, result_columns, olds_of}
 use Rattle.letter_acts.specs.Reading.{taken, is_listed}
 use Rattle.letter_acts.specs.Invariant.{written_by}
 use Rattle.triple_rows.specs.declared.drafts.Draft.{Draft}
@@ -61,5 +61,5 @@ return_ties caller callee rows targets =
     only_rows (map (λ o. equal_row o.0 (m + o.1)) (olds_of callee)) ∷
     only_rows (map (renamed (call_column m n (length written))) rows) ∷
     only_rows (map (λ g. equal_row (after g) g) (filter (λ g. not (is_listed targets g)) (variables_of caller))) ∷
-    only_rows (map (λ p. equal_row (after p.0) p.1) (taken targets (results_of callee))) ∷
+    only_rows (map (λ p. equal_row (after p.0) p.1) (taken targets (result_columns callee))) ∷
     [])

@@ -4,7 +4,7 @@ use Rattle.std.specs.List.{AllByRecursion}
 use Rattle.math_facts.specs.Terms.{IsBelow}
 use Rattle.lin_rows.specs.Rows.{LinearRow}
 use Rattle.nwa_base.specs.Members.{Member}
-use Rattle.letter_acts.specs.Frames.{Columns, globals_of, constants_of, variables_of, results_of, olds_of}
+use Rattle.letter_acts.specs.Frames.{Columns, globals_of, constants_of, variables_of, result_columns, olds_of}
 use Rattle.letter_acts.specs.Reading.{taken}
 use Rattle.letter_acts.specs.Invariant.{AreDistinct, inside_width, call_width, written_by}
 use Rattle.triple_rows.specs.Predicates.{Formula, IsOver, HasInequalities}
@@ -34,7 +34,7 @@ pub record TiesAreWithin (caller callee : Columns) (targets : List ℕ) : Type 0
   pub constants : AllByRecursion (λ c. (c < length callee) × (c < length caller)) (constants_of callee)
   pub olds : AllByRecursion (λ o. (o.0 < length callee) × (o.1 < length caller)) (olds_of callee)
   pub variables : AllByRecursion (λ g. (g < length caller) × (g < length callee)) (variables_of caller)
-  pub taken : AllByRecursion (λ p. (p.0 < length caller) × (p.1 < length callee)) (taken targets (results_of callee))
+  pub taken : AllByRecursion (λ p. (p.0 < length caller) × (p.1 < length callee)) (taken targets (result_columns callee))
 
 -- what is known of a return act, of its call, and of the predicates
 pub record BackIsRead (caller callee : Columns) (helpers : ℕ) (rows : List LinearRow) (targets : List ℕ) (exit before to : Formula) : Type 0 where

@@ -7,7 +7,7 @@ use Rattle.lin_rows.specs.Rows.{LinearRow, IsRow, Holds}
 use Rattle.lin_rows.specs.Negating.{negated}
 use Rattle.lin_rows.specs.Tightening.{never}
 use Rattle.lin_rows.specs.Systems.{rows_of, groups_of}
-use Rattle.letter_acts.specs.Frames.{Columns, globals_of, constants_of, variables_of, results_of, olds_of}
+use Rattle.letter_acts.specs.Frames.{Columns, globals_of, constants_of, variables_of, result_columns, olds_of}
 use Rattle.letter_acts.specs.Reading.{taken, is_listed}
 use Rattle.letter_acts.specs.Invariant.{written_by}
 use Rattle.frame_rows.specs.Rows.{renamed, equal_row, bounds, types_of, types_at}
@@ -187,7 +187,7 @@ back_system caller callee rows targets exit before to =
     only_rows (map (λ o. equal_row o.0 (m + o.1)) (olds_of callee)) ∷
     only_rows (map (renamed (call_column m n (length written))) rows) ∷
     only_rows (map (λ g. equal_row (after g) g) (filter (λ g. not (is_listed targets g)) (variables_of caller))) ∷
-    only_rows (map (λ p. equal_row (after p.0) p.1) (taken targets (results_of callee))) ∷
+    only_rows (map (λ p. equal_row (after p.0) p.1) (taken targets (result_columns callee))) ∷
     denied after to ∷
     only_rows (bounds 0 (types_of callee)) ∷
     only_rows (bounds m (types_of caller)) ∷

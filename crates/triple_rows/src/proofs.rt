@@ -24,8 +24,8 @@ impl Model for Proof {
 impl Proof {
     ghost use Rattle.triple_rows.specs.Proofs.{IsProof};
 
-    /// A triple with what refutes its system.
-    pub(crate) fn new(triple: Triple, refutation: Refutation) -> Self
+    /// A triple with what is known to refute its system.
+    pub fn new(triple: Triple, refutation: Refutation) -> Self
         requires { IsProof (record { triple = triple; refutation = refutation }) }
         ensures { result ≡ record { triple = triple; refutation = refutation } }
     {

@@ -145,6 +145,7 @@ fn return_system(
             callee,
             helpers,
             rows,
+            ..
         } => return_triple(
             alloc,
             icfg.columns(*caller),

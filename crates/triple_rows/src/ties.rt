@@ -3,7 +3,7 @@
 ghost use Rattle.std.specs.Prelude.{◌+◌, ◌<◌, ◌≤◌, ◌^◌, OnOk, map, filter, not, length, slice_index};
 ghost use Rattle.std.specs.List.{AllByRecursion};
 ghost use Rattle.math_facts.specs.Terms.{IsBelow};
-ghost use Rattle.letter_acts.specs.Frames.{places, olds_of, variables_of, results_of};
+ghost use Rattle.letter_acts.specs.Frames.{places, olds_of, variables_of, result_columns};
 ghost use Rattle.letter_acts.specs.Reading.{taken, is_listed};
 ghost use Rattle.letter_acts.specs.Invariant.{AreDistinct};
 ghost use Rattle.triple_rows.specs.Systems.{PlainFits, only_rows};
@@ -163,9 +163,9 @@ pub(crate) fn add_results(
     draft: &mut Draft,
 ) -> Result<(), AllocError>
     requires numbers { length frame.now ≤ 2 ^ 32 }
-    requires within { AllByRecursion (λ p. (p.0 < length left.now) × (p.1 < length right.now)) (taken targets.now (results_of frame.now)) }
-    ensures adds { OnOk result (Adds (only_rows (map (λ p. equal_row (slice_index left.now p.0) (slice_index right.now p.1)) (taken targets.now (results_of frame.now)))) draft.old draft.new) }
-    ensures fits { OnOk result (PlainFits (only_rows (map (λ p. equal_row (slice_index left.now p.0) (slice_index right.now p.1)) (taken targets.now (results_of frame.now))))) }
+    requires within { AllByRecursion (λ p. (p.0 < length left.now) × (p.1 < length right.now)) (taken targets.now (result_columns frame.now)) }
+    ensures adds { OnOk result (Adds (only_rows (map (λ p. equal_row (slice_index left.now p.0) (slice_index right.now p.1)) (taken targets.now (result_columns frame.now)))) draft.old draft.new) }
+    ensures fits { OnOk result (PlainFits (only_rows (map (λ p. equal_row (slice_index left.now p.0) (slice_index right.now p.1)) (taken targets.now (result_columns frame.now))))) }
 {
     let results = numbers_of(alloc, frame, Class::Outcome)?;
     add_pairs(alloc, &taken(alloc, targets, &results)?, left, right, draft)

@@ -34,6 +34,7 @@ no_graph : Graph
 no_graph = record {
   automaton = record { states = 0; start = 0; finals = []; insides = []; calls = []; backs = [] };
   acts = [];
+  marks = [];
   frames = [];
   names = [];
   place_procs = [];

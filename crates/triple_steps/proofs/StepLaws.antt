@@ -13,15 +13,15 @@ use Rattle.letter_acts.specs.Acts.{PlainAct, inside_act, call_act, back_act, pla
 use Rattle.letter_acts.specs.Invariant.{Graph, IsActed, alphabet_of}
 use Rattle.letter_acts.specs.Kept.{Keeps}
 use Rattle.letter_acts.proofs.KnownLemmas.{act_found}
-use Rattle.path_rows.specs.Versions.{Stage, Part, part_of, act_part, locals_of, old_part}
+use Rattle.path_rows.specs.Versions.{PathStage, Part, part_of, act_part, local_columns, old_part}
 use Rattle.path_rows.specs.Paths.{repeated, start_frame, first_stage, path_along, path_of}
 use Rattle.farkas_check.specs.Trees.{Tree}
 use Rattle.nested_predicates.specs.Stamps.{stamp_of, callee_stamp, column_stamps, call_stamps, stamps_along, stamps_of}
-use Rattle.nested_predicates.specs.Positions.{Scope, has_return, Position, position_at, positions_along, positions_of}
+use Rattle.nested_predicates.specs.Positions.{CallScope, has_return, Position, position_at, positions_along, positions_of}
 use Rattle.nested_predicates.proofs.WordLaws.{later, split_first}
 use Rattle.nested_refutations.specs.Numbers as numbers
 use Rattle.nested_refutations.specs.Walked.{inside_gaps, call_gaps, return_gaps, back_gaps}
-use Rattle.nested_refutations.specs.Numbers.{here, read_on, step_by, steps_back, steps_along, steps_of}
+use Rattle.nested_refutations.specs.Numbers.{position_here, read_on, step_by, steps_back, steps_along, steps_of}
 use Rattle.triple_steps.specs.declared.readings.Reading.{Reading}
 use Rattle.triple_steps.specs.declared.readings.OpenCall.{OpenCall}
 use Rattle.triple_steps.specs.declared.making.Step.{Step}
@@ -36,11 +36,11 @@ repeated_counted : (x n : ℕ) → length (repeated x n) ≡ n
 repeated_counted x zero = refl
 repeated_counted x (suc n) = ap suc (repeated_counted x n)
 
-columns_counted : (al : Alphabet) (n : ℕ) (o : Option PlainAct) (p : Stage) → length (column_stamps al n o (act_part al o p)) ≡ (act_part al o p).columns
+columns_counted : (al : Alphabet) (n : ℕ) (o : Option PlainAct) (p : PathStage) → length (column_stamps al n o (act_part al o p)) ≡ (act_part al o p).columns
 columns_counted al n None p = repeated_counted (stamp_of n) 0
 columns_counted al n (Some (inside_act q written helpers rows)) p = repeated_counted (stamp_of n) (length written + helpers)
 columns_counted al n (Some (call_act caller callee helpers rows)) p =
-    let l : ℕ = length (locals_of (frame_of al callee)) in
+    let l : ℕ = length (local_columns (frame_of al callee)) in
     let o : ℕ = length (old_part (frame_of al callee)) in
     let a = repeated_counted (callee_stamp n) l in
     let b = repeated_counted (stamp_of n) helpers in
@@ -52,7 +52,7 @@ columns_counted al n (Some (call_act caller callee helpers rows)) p =
     omega (arith, a, b, c, d, e)
 columns_counted al n (Some (back_act c targets)) p = repeated_counted (stamp_of n) (act_part al (Some (back_act c targets)) p).columns
 
-columns_along : (al : Alphabet) (n : ℕ) (p : Stage) (w : List Letter) → length (stamps_along al n p w).columns ≡ length (path_along al n p w).column_at
+columns_along : (al : Alphabet) (n : ℕ) (p : PathStage) (w : List Letter) → length (stamps_along al n p w).columns ≡ length (path_along al n p w).column_at
 columns_along al n p [] = refl
 columns_along al n p (a ∷ w) =
     let part : Part = part_of al a p in
@@ -102,25 +102,25 @@ back_counted g letter call targets caller callee helpers rows from_frame to_fram
 
 -- the counts of a definition's reading are those of the code's
 same_inside : (g : Graph) (w : List Letter) (t : Tree) (letter : ℕ) (r : numbers.Reading) (s : Reading) (to : Position) (frame : Columns) (written : List ℕ) (helpers : ℕ) (rows : List LinearRow) (f : Step) →
-    IsReading g w r s → IsStep g w t (numbers.inside_step g w t letter (suc s.letters) s.rows s.made (here r) to frame written helpers rows) f →
-    IsStep g w t (numbers.inside_step g w t letter (suc r.letters) r.rows r.stage.made (here r) to frame written helpers rows) f
+    IsReading g w r s → IsStep g w t (numbers.inside_step g w t letter (suc s.letters) s.rows s.made (position_here r) to frame written helpers rows) f →
+    IsStep g w t (numbers.inside_step g w t letter (suc r.letters) r.rows r.stage.made (position_here r) to frame written helpers rows) f
 same_inside g w t letter r s to frame written helpers rows f h k =
-    subst (λ (n : ℕ). IsStep g w t (numbers.inside_step g w t letter (suc n) r.rows r.stage.made (here r) to frame written helpers rows) f) (sym h.letters)
-    (subst (λ (n : ℕ). IsStep g w t (numbers.inside_step g w t letter (suc s.letters) n r.stage.made (here r) to frame written helpers rows) f) (sym h.rows)
-    (subst (λ (n : ℕ). IsStep g w t (numbers.inside_step g w t letter (suc s.letters) s.rows n (here r) to frame written helpers rows) f) (sym h.made) k))
+    subst (λ (n : ℕ). IsStep g w t (numbers.inside_step g w t letter (suc n) r.rows r.stage.made (position_here r) to frame written helpers rows) f) (sym h.letters)
+    (subst (λ (n : ℕ). IsStep g w t (numbers.inside_step g w t letter (suc s.letters) n r.stage.made (position_here r) to frame written helpers rows) f) (sym h.rows)
+    (subst (λ (n : ℕ). IsStep g w t (numbers.inside_step g w t letter (suc s.letters) s.rows n (position_here r) to frame written helpers rows) f) (sym h.made) k))
 
 pub inside_by : (g : Graph) (w rest : List Letter) (t : Tree) (a : Letter) (r : numbers.Reading) (s : Reading) (to : Position) (q : ℕ) (written : List ℕ) (helpers : ℕ) (rows : List LinearRow)
     (frame : Columns) (ws : List ℕ) (count : ℕ) (f : Step) → act_of (alphabet_of g) a ≡ Some (inside_act q written helpers rows) → frame ≡ frame_of (alphabet_of g) q → ws ≡ written → length rows ≡ count →
-    IsInsideStep s frame ws helpers count f → IsReading g w r s → IsAt g w r.letters (here r) → IsAt g w (suc r.letters) to → IsStepBy g w t a rest r to f
+    IsInsideStep s frame ws helpers count f → IsReading g w r s → IsAt g w r.letters (position_here r) → IsAt g w (suc r.letters) to → IsStepBy g w t a rest r to f
 inside_by g w rest t a r s to q written helpers rows frame ws count f e k m n h is at_from at_to =
     let al : Alphabet = alphabet_of g in
-    let step : numbers.Step = numbers.inside_step g w t a.id (suc r.letters) r.rows r.stage.made (here r) to (frame_of al q) written helpers rows in
-    let given : IsStep g w t (numbers.inside_step g w t a.id (suc s.letters) s.rows s.made (here r) to frame ws helpers rows) f =
-    h g w t a.id (here r) to rows n (inside_counted g a q written helpers rows count e n) (subst (λ (x : ℕ). IsAt g w x (here r)) is.letters at_from)
+    let step : numbers.Step = numbers.inside_step g w t a.id (suc r.letters) r.rows r.stage.made (position_here r) to (frame_of al q) written helpers rows in
+    let given : IsStep g w t (numbers.inside_step g w t a.id (suc s.letters) s.rows s.made (position_here r) to frame ws helpers rows) f =
+    h g w t a.id (position_here r) to rows n (inside_counted g a q written helpers rows count e n) (subst (λ (x : ℕ). IsAt g w x (position_here r)) is.letters at_from)
     (subst (λ (x : ℕ). IsAt g w (suc x) to) is.letters at_to) in
-    let framed : IsStep g w t (numbers.inside_step g w t a.id (suc s.letters) s.rows s.made (here r) to (frame_of al q) written helpers rows) f =
-    subst (λ (x : Columns). IsStep g w t (numbers.inside_step g w t a.id (suc s.letters) s.rows s.made (here r) to x written helpers rows) f) k
-    (subst (λ (x : List ℕ). IsStep g w t (numbers.inside_step g w t a.id (suc s.letters) s.rows s.made (here r) to frame x helpers rows) f) m given) in
+    let framed : IsStep g w t (numbers.inside_step g w t a.id (suc s.letters) s.rows s.made (position_here r) to (frame_of al q) written helpers rows) f =
+    subst (λ (x : Columns). IsStep g w t (numbers.inside_step g w t a.id (suc s.letters) s.rows s.made (position_here r) to x written helpers rows) f) k
+    (subst (λ (x : List ℕ). IsStep g w t (numbers.inside_step g w t a.id (suc s.letters) s.rows s.made (position_here r) to frame x helpers rows) f) m given) in
     record {
       step = step;
       alone = ap (λ (o : Option PlainAct). step_by g w t a.id o rest r to) e;
@@ -129,24 +129,24 @@ inside_by g w rest t a r s to q written helpers rows frame ws count f e k m n h 
 
 pub call_by : (g : Graph) (w rest : List Letter) (t : Tree) (a : Letter) (r : numbers.Reading) (s : Reading) (to : Position) (caller callee helpers : ℕ) (rows : List LinearRow) (returns : Bool)
     (from_frame to_frame : Columns) (count : ℕ) (f : Step) → act_of (alphabet_of g) a ≡ Some (call_act caller callee helpers rows) → from_frame ≡ frame_of (alphabet_of g) caller →
-    to_frame ≡ frame_of (alphabet_of g) callee → length rows ≡ count → returns ≡ has_return 0 rest → IsCallStep s returns from_frame to_frame helpers count f → IsReading g w r s → IsAt g w r.letters (here r) →
+    to_frame ≡ frame_of (alphabet_of g) callee → length rows ≡ count → returns ≡ has_return 0 rest → IsCallStep s returns from_frame to_frame helpers count f → IsReading g w r s → IsAt g w r.letters (position_here r) →
     IsAt g w (suc r.letters) to → IsStepBy g w t a rest r to f
 call_by g w rest t a r s to caller callee helpers rows returns from_frame to_frame count f e k m n b h is at_from at_to =
     let al : Alphabet = alphabet_of g in
-    let given : IsStep g w t (numbers.call_step g w t a.id (suc s.letters) s.rows s.made returns (here r) to from_frame to_frame helpers rows) f =
-    h g w t a.id (here r) to rows n (call_counted g a caller callee helpers rows to_frame count e m n) (subst (λ (x : ℕ). IsAt g w x (here r)) is.letters at_from)
+    let given : IsStep g w t (numbers.call_step g w t a.id (suc s.letters) s.rows s.made returns (position_here r) to from_frame to_frame helpers rows) f =
+    h g w t a.id (position_here r) to rows n (call_counted g a caller callee helpers rows to_frame count e m n) (subst (λ (x : ℕ). IsAt g w x (position_here r)) is.letters at_from)
     (subst (λ (x : ℕ). IsAt g w (suc x) to) is.letters at_to) in
-    let framed : IsStep g w t (numbers.call_step g w t a.id (suc s.letters) s.rows s.made (has_return 0 rest) (here r) to (frame_of al caller) (frame_of al callee) helpers rows) f =
-    subst (λ (x : Bool). IsStep g w t (numbers.call_step g w t a.id (suc s.letters) s.rows s.made x (here r) to (frame_of al caller) (frame_of al callee) helpers rows) f) b
-    (subst (λ (x : Columns). IsStep g w t (numbers.call_step g w t a.id (suc s.letters) s.rows s.made returns (here r) to x (frame_of al callee) helpers rows) f) k
-    (subst (λ (x : Columns). IsStep g w t (numbers.call_step g w t a.id (suc s.letters) s.rows s.made returns (here r) to from_frame x helpers rows) f) m given)) in
+    let framed : IsStep g w t (numbers.call_step g w t a.id (suc s.letters) s.rows s.made (has_return 0 rest) (position_here r) to (frame_of al caller) (frame_of al callee) helpers rows) f =
+    subst (λ (x : Bool). IsStep g w t (numbers.call_step g w t a.id (suc s.letters) s.rows s.made x (position_here r) to (frame_of al caller) (frame_of al callee) helpers rows) f) b
+    (subst (λ (x : Columns). IsStep g w t (numbers.call_step g w t a.id (suc s.letters) s.rows s.made returns (position_here r) to x (frame_of al callee) helpers rows) f) k
+    (subst (λ (x : Columns). IsStep g w t (numbers.call_step g w t a.id (suc s.letters) s.rows s.made returns (position_here r) to from_frame x helpers rows) f) m given)) in
     record {
-      step = numbers.call_step g w t a.id (suc r.letters) r.rows r.stage.made (has_return 0 rest) (here r) to (frame_of al caller) (frame_of al callee) helpers rows;
+      step = numbers.call_step g w t a.id (suc r.letters) r.rows r.stage.made (has_return 0 rest) (position_here r) to (frame_of al caller) (frame_of al callee) helpers rows;
       alone = ap (λ (o : Option PlainAct). step_by g w t a.id o rest r to) e;
       is_step =
-          subst (λ (x : ℕ). IsStep g w t (numbers.call_step g w t a.id (suc x) r.rows r.stage.made (has_return 0 rest) (here r) to (frame_of al caller) (frame_of al callee) helpers rows) f) (sym is.letters)
-          (subst (λ (x : ℕ). IsStep g w t (numbers.call_step g w t a.id (suc s.letters) x r.stage.made (has_return 0 rest) (here r) to (frame_of al caller) (frame_of al callee) helpers rows) f) (sym is.rows)
-          (subst (λ (x : ℕ). IsStep g w t (numbers.call_step g w t a.id (suc s.letters) s.rows x (has_return 0 rest) (here r) to (frame_of al caller) (frame_of al callee) helpers rows) f) (sym is.made) framed));
+          subst (λ (x : ℕ). IsStep g w t (numbers.call_step g w t a.id (suc x) r.rows r.stage.made (has_return 0 rest) (position_here r) to (frame_of al caller) (frame_of al callee) helpers rows) f) (sym is.letters)
+          (subst (λ (x : ℕ). IsStep g w t (numbers.call_step g w t a.id (suc s.letters) x r.stage.made (has_return 0 rest) (position_here r) to (frame_of al caller) (frame_of al callee) helpers rows) f) (sym is.rows)
+          (subst (λ (x : ℕ). IsStep g w t (numbers.call_step g w t a.id (suc s.letters) s.rows x (has_return 0 rest) (position_here r) to (frame_of al caller) (frame_of al callee) helpers rows) f) (sym is.made) framed));
     }
 
 -- the act with a number, as it is stored
@@ -191,11 +191,11 @@ last_call xs ys c e h =
     first_call (reverse xs) c c front (let n = length-reverse xs in omega (arith, n, some))
 
 pub back_by : (g : Graph) (w rest : List Letter) (t : Tree) (a : Letter) (r : numbers.Reading) (s : Reading) (to : Position) (call : ℕ) (targets ts : List ℕ) (c : OpenCall) (more : List OpenCall) (f : Step) →
-    act_of (alphabet_of g) a ≡ Some (back_act call targets) → ts ≡ targets → reverse s.calls.items ≡ c ∷ more → IsStepBack g s c call ts f → IsReading g w r s → IsAt g w r.letters (here r) →
+    act_of (alphabet_of g) a ≡ Some (back_act call targets) → ts ≡ targets → reverse s.calls.items ≡ c ∷ more → IsStepBack g s c call ts f → IsReading g w r s → IsAt g w r.letters (position_here r) →
     IsAt g w (suc r.letters) to → IsStepBy g w t a rest r to f
 back_by g w rest t a r s to call targets ts c more f e m k h is at_from at_to =
     let same : IsStepBack g s c call targets f = subst (λ (x : List ℕ). IsStepBack g s c call x f) m h in
-    let found = back_open g w t a.id s c call targets r.calls more (here r) to f (act_found (alphabet_of g) a (back_act call targets) e).0 (subst (AreCalls g w r.calls) k is.calls) (subst (λ (x : ℕ). IsAt g w x (here r)) is.letters at_from)
+    let found = back_open g w t a.id s c call targets r.calls more (position_here r) to f (act_found (alphabet_of g) a (back_act call targets) e).0 (subst (AreCalls g w r.calls) k is.calls) (subst (λ (x : ℕ). IsAt g w x (position_here r)) is.letters at_from)
     (subst (λ (x : ℕ). IsAt g w (suc x) to) is.letters at_to) same in
     record { step = found.0; alone = ap (λ (o : Option PlainAct). step_by g w t a.id o rest r to) e ∙ found.1; is_step = found.2 }
 
@@ -253,13 +253,13 @@ got_front [] (suc i) x rest e = absurd (cc)
 got_front (y ∷ ys) zero x rest e = cc
 got_front (y ∷ ys) (suc i) x rest e = got_front ys i x rest e
 
-stands_at : (g : Graph) (w v : List Letter) (i n : ℕ) (p : Stage) (scopes : List Scope) → n ≡ i → drop i (positions_of g w) ≡ positions_along (alphabet_of g) n p scopes v → IsAt g w n (position_at n p scopes)
+stands_at : (g : Graph) (w v : List Letter) (i n : ℕ) (p : PathStage) (scopes : List CallScope) → n ≡ i → drop i (positions_of g w) ≡ positions_along (alphabet_of g) n p scopes v → IsAt g w n (position_at n p scopes)
 stands_at g w v i n p scopes e h =
     subst (λ (k : ℕ). slice_get (positions_of g w) k ≡ Some (position_at n p scopes)) (sym e)
     (got_front (positions_of g w) i (position_at n p scopes) (later (alphabet_of g) n p scopes v) (h ∙ split_first (alphabet_of g) n p scopes v))
 
 -- where the word stands
-pub here_at : (g : Graph) (w : List Letter) (total i : ℕ) (s : Reading) (found : List Step) (h : StepsRead g w total i s found) → IsAt g w h.reading.letters (here h.reading)
+pub here_at : (g : Graph) (w : List Letter) (total i : ℕ) (s : Reading) (found : List Step) (h : StepsRead g w total i s found) → IsAt g w h.reading.letters (position_here h.reading)
 here_at g w total i s found h = stands_at g w (drop i w) i h.reading.letters h.reading.stage h.reading.scopes h.number h.positions
 
 pub front_is : (w : List Letter) (i : ℕ) (a d : Letter) → i < length w → a ≡ get_or w i d → drop i w ≡ a ∷ drop (i + 1) w
@@ -272,12 +272,12 @@ positions_next : (g : Graph) (w : List Letter) (total i : ℕ) (a : Letter) (s :
 positions_next g w total i a s found h f =
     let al : Alphabet = alphabet_of g in
     let next : numbers.Reading = read_on al a (drop (i + 1) w) h.reading in
-    dropped_once (positions_of g w) i (here h.reading) (positions_along al next.letters next.stage next.scopes (drop (i + 1) w))
+    dropped_once (positions_of g w) i (position_here h.reading) (positions_along al next.letters next.stage next.scopes (drop (i + 1) w))
     (subst (λ (v : List Letter). drop i (positions_of g w) ≡ positions_along al h.reading.letters h.reading.stage h.reading.scopes v) f h.positions)
 
 -- and that behind it
 pub next_at : (g : Graph) (w : List Letter) (total i : ℕ) (a : Letter) (s : Reading) (found : List Step) (h : StepsRead g w total i s found) → drop i w ≡ a ∷ drop (i + 1) w →
-    IsAt g w (suc h.reading.letters) (here (read_on (alphabet_of g) a (drop (i + 1) w) h.reading))
+    IsAt g w (suc h.reading.letters) (position_here (read_on (alphabet_of g) a (drop (i + 1) w) h.reading))
 next_at g w total i a s found h f =
     let next : numbers.Reading = read_on (alphabet_of g) a (drop (i + 1) w) h.reading in
     stands_at g w (drop (i + 1) w) (i + 1) next.letters next.stage next.scopes (let n = h.number in omega (arith, n)) (positions_next g w total i a s found h f)
@@ -303,7 +303,7 @@ act_there None h = absurd (cc)
 act_there (Some act) h = (act, refl)
 
 pub steps_next : (g : Graph) (w : List Letter) (total i : ℕ) (a : Letter) (s new : Reading) (found more : List Step) (f : Step) (h : StepsRead g w total i s found) → drop i w ≡ a ∷ drop (i + 1) w →
-    IsSome (act_of (alphabet_of g) a) → ((t : Tree) → IsStepBy g w t a (drop (i + 1) w) h.reading (here (read_on (alphabet_of g) a (drop (i + 1) w) h.reading)) f) →
+    IsSome (act_of (alphabet_of g) a) → ((t : Tree) → IsStepBy g w t a (drop (i + 1) w) h.reading (position_here (read_on (alphabet_of g) a (drop (i + 1) w) h.reading)) f) →
     IsReading g w (read_on (alphabet_of g) a (drop (i + 1) w) h.reading) new → more ≡ found ++ f ∷ [] → FitColumns total f.columns → StepsRead g w total (i + 1) new more
 steps_next g w total i a s new found more f h e act steps is m fit =
     let al : Alphabet = alphabet_of g in

@@ -8,7 +8,7 @@ use Rattle.letter_acts.specs.Frames.{Columns, is_variable}
 use Rattle.letter_acts.specs.Acts.{back_act, Alphabet, act_of}
 use Rattle.letter_acts.specs.Invariant.{Graph, alphabet_of, BackIsActedFrom}
 use Rattle.frame_rows.specs.Rows.{bounds, types_at}
-use Rattle.path_rows.specs.Versions.{locals_of, old_part}
+use Rattle.path_rows.specs.Versions.{local_columns, old_part}
 use Rattle.path_rows.specs.Paths.{start_frame, first_stage}
 use Rattle.farkas_check.specs.Trees.{Tree}
 use Rattle.nested_predicates.specs.Positions.{Position, positions_of, start_scope}
@@ -69,8 +69,8 @@ pub record PassesInside (s : Reading) (frame : Columns) (written : List ℕ) (he
 -- a call is
 pub record PassesCall (s : Reading) (callee : Columns) (helpers count : ℕ) (new : Reading) : Type 0 where
   pub letters : new.letters ≡ s.letters + 1
-  pub rows : new.rows ≡ s.rows + (count + (length (filter is_variable callee) + (numbers.bounds_in (locals_of callee) + numbers.bounds_in (old_part callee))))
-  pub made : new.made ≡ s.made + (length (locals_of callee) + (helpers + length (old_part callee)))
+  pub rows : new.rows ≡ s.rows + (count + (length (filter is_variable callee) + (numbers.bounds_in (local_columns callee) + numbers.bounds_in (old_part callee))))
+  pub made : new.made ≡ s.made + (length (local_columns callee) + (helpers + length (old_part callee)))
   pub calls : new.calls.items ≡ s.calls.items ++ record { at = s.letters; rows = s.rows; made = s.made } ∷ []
 
 -- a return is

@@ -1,7 +1,7 @@
 -- The rows of the system of a letter's triple, section by section: what multiplier each has at a leaf of the refutation.
 use Rattle.std.specs.Prelude.{◌≡◌, ℕ, ◌+◌, not, List, [], ◌∷◌, ◌++◌, filter, length, Option, None, Some, slice_get}
 use Rattle.nwa_base.specs.declared.letters.Letter.{Letter}
-use Rattle.letter_acts.specs.Frames.{Columns, globals_of, constants_of, variables_of, results_of, olds_of}
+use Rattle.letter_acts.specs.Frames.{Columns, globals_of, constants_of, variables_of, result_columns, olds_of}
 use Rattle.letter_acts.specs.Invariant.{Graph}
 use Rattle.letter_acts.specs.Reading.{taken, is_listed}
 use Rattle.farkas_check.specs.Trees.{Tree}
@@ -64,7 +64,7 @@ call_counts callee count = 0 ∷ (length (globals_of callee) + length (olds_of c
 abbrev pub back_counts : Columns → Columns → List ℕ → ℕ → List ℕ
 back_counts caller callee targets count =
     let kept = filter (λ c. not (is_listed targets c)) (variables_of caller) in
-    0 ∷ 0 ∷ (length (constants_of callee) + length (olds_of callee) + count + length kept + length (taken targets (results_of callee))) ∷ []
+    0 ∷ 0 ∷ (length (constants_of callee) + length (olds_of callee) + count + length kept + length (taken targets (result_columns callee))) ∷ []
 
 -- sections are added, none of them a claim's
 pub record AddsNoClaim (old new : List Section) : Type 0 where

@@ -5,7 +5,7 @@ ghost use Rattle.nwa_base.specs.declared.letters.Letter.{Letter};
 ghost use Rattle.letter_acts.specs.Frames.{Columns};
 ghost use Rattle.letter_acts.specs.Invariant.{Graph};
 ghost use Rattle.frame_rows.specs.Rows.{bounds, types_at};
-ghost use Rattle.path_rows.specs.Versions.{locals_of, old_part};
+ghost use Rattle.path_rows.specs.Versions.{local_columns, old_part};
 ghost use Rattle.farkas_check.specs.Trees.{Tree};
 ghost use Rattle.nested_refutations.specs.Refutations.{View};
 ghost use Rattle.nested_refutations.specs.Numbers.{bounds_in, before_bounds, callee_bounds};
@@ -29,7 +29,7 @@ pub(crate) fn bounds_in(frame: &[(Column, VarInfo)]) -> Result<usize, AllocError
 
 /// How many bound its parameters, results and locals.
 pub(crate) fn local_bounds(frame: &[(Column, VarInfo)]) -> Result<usize, AllocError>
-    ensures { IfOk result (λ n. n ≡ bounds_in (locals_of frame.now)) }
+    ensures { IfOk result (λ n. n ≡ bounds_in (local_columns frame.now)) }
 {
     let booleans = bool_local_count(frame);
     sum(booleans, booleans)

@@ -2,11 +2,11 @@
 
 ghost use Rattle.std.specs.Prelude.{◌≡◌, ◌++◌, ◌∷◌, [], IfOk, OnOk, List, length, map, filter, not, suc, slice_get, ◌+◌, if◌then◌else◌};
 ghost use Rattle.nwa_base.specs.declared.letters.Letter.{Letter};
-ghost use Rattle.letter_acts.specs.Frames.{globals_of, constants_of, variables_of, results_of, olds_of};
+ghost use Rattle.letter_acts.specs.Frames.{globals_of, constants_of, variables_of, result_columns, olds_of};
 ghost use Rattle.letter_acts.specs.Invariant.{Graph, Take};
 ghost use Rattle.letter_acts.specs.Reading.{taken, is_listed};
 ghost use Rattle.frame_rows.specs.Rows.{bounds, types_at};
-ghost use Rattle.path_rows.specs.Versions.{locals_of, old_part};
+ghost use Rattle.path_rows.specs.Versions.{local_columns, old_part};
 ghost use Rattle.farkas_check.specs.Trees.{Tree};
 ghost use Rattle.nested_refutations.specs.Refutations.{View, target_tie, source_tie, opposite_tie};
 ghost use Rattle.nested_refutations.specs.Numbers.{spares, branch_rows, bounds_in, before_bounds, callee_bounds, made_by_call};
@@ -156,7 +156,7 @@ fn call_sections(
     callee: &[(Column, VarInfo)],
     rows: usize,
 ) -> Result<Vec<Section>, AllocError>
-    ensures roles { IfOk result (λ ss. (g : Graph) (w : List Letter) (t : Tree) (v : View) → roles_in g w t v ss.items ≡ claim_roles g w t v 0 (slice_get v.claims 0) ++ map target_tie (globals_of callee.now) ++ (if returns then map (λ o. opposite_tie o.1) (olds_of callee.now) else branch_rows (reading.now.rows + rows) (length (olds_of callee.now))) ++ (if returns then spares rows else branch_rows reading.now.rows rows) ++ claim_roles g w t v 1 (slice_get v.claims 1) ++ (if returns then spares (bounds_in caller.now) else before_bounds (suc reading.now.letters) caller.now) ++ callee_bounds (reading.now.rows + rows + length (old_part callee.now)) (reading.now.rows + rows + length (old_part callee.now) + bounds_in (locals_of callee.now)) callee.now) }
+    ensures roles { IfOk result (λ ss. (g : Graph) (w : List Letter) (t : Tree) (v : View) → roles_in g w t v ss.items ≡ claim_roles g w t v 0 (slice_get v.claims 0) ++ map target_tie (globals_of callee.now) ++ (if returns then map (λ o. opposite_tie o.1) (olds_of callee.now) else branch_rows (reading.now.rows + rows) (length (olds_of callee.now))) ++ (if returns then spares rows else branch_rows reading.now.rows rows) ++ claim_roles g w t v 1 (slice_get v.claims 1) ++ (if returns then spares (bounds_in caller.now) else before_bounds (suc reading.now.letters) caller.now) ++ callee_bounds (reading.now.rows + rows + length (old_part callee.now)) (reading.now.rows + rows + length (old_part callee.now) + bounds_in (local_columns callee.now)) callee.now) }
     ensures stand { IfOk result (λ ss. ClaimsStand ss.items (0 ∷ 1 ∷ []) (call_counts callee.now rows)) }
 {
     let mut sections = Vec::new(alloc);
@@ -194,7 +194,7 @@ fn add_call_bounds(
     callee: &[(Column, VarInfo)],
     rows: usize,
 ) -> Result<(), AllocError>
-    ensures { OnOk result (AddsRoles sections.old.items sections.new.items ((if returns then spares (bounds_in caller.now) else before_bounds (suc reading.now.letters) caller.now) ++ callee_bounds (reading.now.rows + rows + length (old_part callee.now)) (reading.now.rows + rows + length (old_part callee.now) + bounds_in (locals_of callee.now)) callee.now)) }
+    ensures { OnOk result (AddsRoles sections.old.items sections.new.items ((if returns then spares (bounds_in caller.now) else before_bounds (suc reading.now.letters) caller.now) ++ callee_bounds (reading.now.rows + rows + length (old_part callee.now)) (reading.now.rows + rows + length (old_part callee.now) + bounds_in (local_columns callee.now)) callee.now)) }
 {
     let local = sum(sum(reading.rows, rows)?, old_count(callee))?;
     let old = sum(local, local_bounds(callee)?)?;
@@ -265,7 +265,7 @@ pub(crate) fn back_step(
     rows: usize,
     targets: &[u32],
 ) -> Result<Step, AllocError>
-    requires { Take caller.now callee.now targets.now (results_of callee.now) }
+    requires { Take caller.now callee.now targets.now (result_columns callee.now) }
     ensures step { IfOk result (IsBackStep reading.now call caller.now callee.now helpers rows targets.now) }
     ensures fit { IfOk result (λ s. FitColumns total s.columns) }
 {
@@ -335,8 +335,8 @@ fn back_sections(
     targets: &[u32],
     written: &[u32],
 ) -> Result<Vec<Section>, AllocError>
-    requires { Take caller.now callee.now targets.now (results_of callee.now) }
-    ensures roles { IfOk result (λ ss. (g : Graph) (w : List Letter) (t : Tree) (v : View) → roles_in g w t v ss.items ≡ claim_roles g w t v 0 (slice_get v.claims 0) ++ claim_roles g w t v 1 (slice_get v.claims 1) ++ map source_tie (constants_of callee.now) ++ map (λ o. source_tie o.0) (olds_of callee.now) ++ branch_rows call.rows rows ++ map target_tie (filter (λ c. not (is_listed targets.now c)) (variables_of caller.now)) ++ map (λ p. target_tie p.0) (taken targets.now (results_of callee.now)) ++ claim_roles g w t v 2 (slice_get v.claims 2) ++ spares (bounds_in callee.now) ++ before_bounds (suc call.at) caller.now ++ spares (length (bounds 0 (types_at caller.now written.now)))) }
+    requires { Take caller.now callee.now targets.now (result_columns callee.now) }
+    ensures roles { IfOk result (λ ss. (g : Graph) (w : List Letter) (t : Tree) (v : View) → roles_in g w t v ss.items ≡ claim_roles g w t v 0 (slice_get v.claims 0) ++ claim_roles g w t v 1 (slice_get v.claims 1) ++ map source_tie (constants_of callee.now) ++ map (λ o. source_tie o.0) (olds_of callee.now) ++ branch_rows call.rows rows ++ map target_tie (filter (λ c. not (is_listed targets.now c)) (variables_of caller.now)) ++ map (λ p. target_tie p.0) (taken targets.now (result_columns callee.now)) ++ claim_roles g w t v 2 (slice_get v.claims 2) ++ spares (bounds_in callee.now) ++ before_bounds (suc call.at) caller.now ++ spares (length (bounds 0 (types_at caller.now written.now)))) }
     ensures stand { IfOk result (λ ss. ClaimsStand ss.items (0 ∷ 1 ∷ 2 ∷ []) (back_counts caller.now callee.now targets.now rows)) }
 {
     let mut sections = Vec::new(alloc);
@@ -358,8 +358,8 @@ fn tie_back(
     rows: usize,
     targets: &[u32],
 ) -> Result<(), AllocError>
-    requires { Take caller.now callee.now targets.now (results_of callee.now) }
-    ensures { OnOk result (AddsRoles sections.old.items sections.new.items (map source_tie (constants_of callee.now) ++ map (λ o. source_tie o.0) (olds_of callee.now) ++ branch_rows call.rows rows ++ map target_tie (filter (λ c. not (is_listed targets.now c)) (variables_of caller.now)) ++ map (λ p. target_tie p.0) (taken targets.now (results_of callee.now)))) }
+    requires { Take caller.now callee.now targets.now (result_columns callee.now) }
+    ensures { OnOk result (AddsRoles sections.old.items sections.new.items (map source_tie (constants_of callee.now) ++ map (λ o. source_tie o.0) (olds_of callee.now) ++ branch_rows call.rows rows ++ map target_tie (filter (λ c. not (is_listed targets.now c)) (variables_of caller.now)) ++ map (λ p. target_tie p.0) (taken targets.now (result_columns callee.now)))) }
 {
     tie_constants(alloc, sections, callee)?;
     tie_olds(alloc, sections, callee)?;

@@ -11,7 +11,7 @@ ghost use Rattle.nested_predicates.specs.Stamps.{stamps_of};
 ghost use Rattle.nested_predicates.specs.Positions.{Position, has_return};
 ghost use Rattle.nested_predicates.specs.Walking.{return_tests};
 ghost use Rattle.nested_refutations.specs.Numbers as numbers;
-ghost use Rattle.nested_refutations.specs.Numbers.{here, steps_of};
+ghost use Rattle.nested_refutations.specs.Numbers.{position_here, steps_of};
 ghost use Rattle.triple_steps.specs.Steps.{FitColumns, AreSteps};
 ghost use Rattle.triple_steps.specs.Readings.{IsAt, IsReading, FindsCall, IsStepBy, IsReturnOf, IsStepBack};
 
@@ -77,7 +77,7 @@ fn step_of(
 ) -> Result<Step, AllocError>
     requires letter { IsSome (act_of (alphabet_of icfg.now) letter) }
     requires finds { FindsCall letter.kind (reverse reading.now.calls.items) }
-    ensures step { IfOk result (λ f. (w : List Letter) (t : Tree) (rest : List Letter) (r : numbers.Reading) (to : Position) → IsReading icfg.now w r reading.now → IsAt icfg.now w r.letters (here r) → IsAt icfg.now w (suc r.letters) to → returns ≡ has_return 0 rest → IsStepBy icfg.now w t letter rest r to f) }
+    ensures step { IfOk result (λ f. (w : List Letter) (t : Tree) (rest : List Letter) (r : numbers.Reading) (to : Position) → IsReading icfg.now w r reading.now → IsAt icfg.now w r.letters (position_here r) → IsAt icfg.now w (suc r.letters) to → returns ≡ has_return 0 rest → IsStepBy icfg.now w t letter rest r to f) }
     ensures fit { IfOk result (λ f. FitColumns total f.columns) }
 {
     let _valid = icfg.acts();
@@ -87,6 +87,7 @@ fn step_of(
             written,
             helpers,
             rows,
+            ..
         } => {
             let frame = icfg.columns(*proc);
             inside_step(alloc, reading, total, frame, written, *helpers, rows.len())
@@ -96,6 +97,7 @@ fn step_of(
             callee,
             helpers,
             rows,
+            ..
         } => {
             let caller = icfg.columns(*caller);
             let callee = icfg.columns(*callee);
@@ -140,6 +142,7 @@ fn step_back(
                 callee,
                 helpers,
                 rows,
+                ..
             },
         ) => {
             let caller = icfg.columns(*caller);

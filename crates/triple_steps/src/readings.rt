@@ -5,9 +5,9 @@ ghost use Rattle.nwa_base.specs.declared.letters.Letter.{Letter};
 ghost use Rattle.letter_acts.specs.Frames.{is_variable};
 ghost use Rattle.letter_acts.specs.Acts.{act_of};
 ghost use Rattle.letter_acts.specs.Invariant.{Graph, alphabet_of};
-ghost use Rattle.path_rows.specs.Versions.{locals_of, old_part};
+ghost use Rattle.path_rows.specs.Versions.{local_columns, old_part};
 ghost use Rattle.path_rows.specs.Paths.{start_frame};
-ghost use Rattle.nested_refutations.specs.Numbers.{here, read_on, bounds_in};
+ghost use Rattle.nested_refutations.specs.Numbers.{position_here, read_on, bounds_in};
 
 use crate::bounds::{bounds_at, bounds_in, local_bounds, old_bounds};
 use crate::columns::sum;
@@ -54,7 +54,7 @@ impl Reading {
     /// Goes on by a letter.
     pub(crate) fn go_on(&mut self, icfg: &Icfg, letter: Letter) -> Result<(), AllocError>
         requires { IsSome (act_of (alphabet_of icfg.now) letter) }
-        ensures { OnOk result ((w : List Letter) (rest : List Letter) (r : numbers.Reading) → IsReading icfg.now w r self.old → IsAt icfg.now w r.letters (here r) → IsReading icfg.now w (read_on (alphabet_of icfg.now) letter rest r) self.new) }
+        ensures { OnOk result ((w : List Letter) (rest : List Letter) (r : numbers.Reading) → IsReading icfg.now w r self.old → IsAt icfg.now w r.letters (position_here r) → IsReading icfg.now w (read_on (alphabet_of icfg.now) letter rest r) self.new) }
     {
         match act_at(icfg, letter) {
             Act::Inside {
@@ -62,6 +62,7 @@ impl Reading {
                 written,
                 helpers,
                 rows,
+                ..
             } => self.pass_inside(icfg.columns(*proc), written, *helpers, rows.len()),
             Act::Call {
                 callee,
@@ -126,7 +127,7 @@ impl Reading {
 
 /// How many rows a call with so many of its own makes.
 fn call_rows(callee: &[(Column, VarInfo)], rows: usize) -> Result<usize, AllocError>
-    ensures { IfOk result (λ n. n ≡ rows + (length (filter is_variable callee.now) + (bounds_in (locals_of callee.now) + bounds_in (old_part callee.now)))) }
+    ensures { IfOk result (λ n. n ≡ rows + (length (filter is_variable callee.now) + (bounds_in (local_columns callee.now) + bounds_in (old_part callee.now)))) }
 {
     let bounds = sum(local_bounds(callee)?, old_bounds(callee)?)?;
     sum(rows, sum(variable_count(callee), bounds)?)
@@ -134,7 +135,7 @@ fn call_rows(callee: &[(Column, VarInfo)], rows: usize) -> Result<usize, AllocEr
 
 /// How many columns a call with so many helpers makes.
 fn call_columns(callee: &[(Column, VarInfo)], helpers: u32) -> Result<usize, AllocError>
-    ensures { IfOk result (λ n. n ≡ length (locals_of callee.now) + (helpers + length (old_part callee.now))) }
+    ensures { IfOk result (λ n. n ≡ length (local_columns callee.now) + (helpers + length (old_part callee.now))) }
 {
     sum(
         local_count(callee),

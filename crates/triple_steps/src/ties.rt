@@ -2,7 +2,7 @@
 
 ghost use Rattle.std.specs.Prelude.{◌≡◌, ℕ, ◌++◌, not, IfOk, OnOk, map, filter};
 ghost use Rattle.std.specs.HashSet.{contains};
-ghost use Rattle.letter_acts.specs.Frames.{globals_of, constants_of, variables_of, results_of, olds_of};
+ghost use Rattle.letter_acts.specs.Frames.{globals_of, constants_of, variables_of, result_columns, olds_of};
 ghost use Rattle.letter_acts.specs.Invariant.{Take, written_by, is_global_at};
 ghost use Rattle.letter_acts.specs.Reading.{taken, is_listed};
 ghost use Rattle.nested_refutations.specs.Refutations.{target_tie, source_tie};
@@ -104,8 +104,8 @@ pub(crate) fn tie_results(
     callee: &[(Column, VarInfo)],
     targets: &[u32],
 ) -> Result<(), AllocError>
-    requires { Take caller.now callee.now targets.now (results_of callee.now) }
-    ensures { OnOk result (AddsRoles sections.old.items sections.new.items (map (λ p. target_tie p.0) (taken targets.now (results_of callee.now)))) }
+    requires { Take caller.now callee.now targets.now (result_columns callee.now) }
+    ensures { OnOk result (AddsRoles sections.old.items sections.new.items (map (λ p. target_tie p.0) (taken targets.now (result_columns callee.now)))) }
 {
     let _ = caller;
     let _ = callee;

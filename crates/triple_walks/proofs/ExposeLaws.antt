@@ -5,7 +5,7 @@ use Rattle.std.proofs.lemmas.List.{append-nil, map-append, reverse-append, rever
 use Rattle.farkas_check.specs.Trees.{Tree, leaf_tree, cut_tree, cases_tree}
 use Rattle.nested_predicates.specs.Stamps.{column_stamp}
 use Rattle.nested_predicates.specs.Sums.{Branch}
-use Rattle.nested_refutations.specs.Refutations.{Spot, Claim, low_side, high_side, side_of, truth_in, left_at, Asked, one_part, both_parts, some_part, asked_at, Exposed, parts_exposed, unless_truth, atom_exposed, exposed}
+use Rattle.nested_refutations.specs.Refutations.{TreeSpot, Claim, low_side, high_side, side_of, truth_in, formula_at, Asked, one_part, both_parts, some_part, asked_at, Exposed, parts_exposed, unless_truth, atom_exposed, exposed}
 use Rattle.triple_walks.specs.Spots.{sides_in}
 use Rattle.triple_walks.specs.Claims.{left_of, asked_in}
 use Rattle.triple_walks.specs.Telling.{IsNode, Tells, IsExposed}
@@ -28,11 +28,11 @@ found_last e =
     ap (λ (l : List ℕ). record { leaves = e.leaves; groups = l }) (append-nil e.groups)
 
 -- what a claim gives at these nodes
-abbrev pub all_given : List ℕ → Claim → List Spot → Found
+abbrev pub all_given : List ℕ → Claim → List TreeSpot → Found
 all_given columns c [] = none_found
 all_given columns c (s ∷ ss) = with_found (numbers_of (exposed columns c s.node s.branch s.tree)) (all_given columns c ss)
 
-given_append : (columns : List ℕ) (c : Claim) (ss zs : List Spot) → all_given columns c (ss ++ zs) ≡ with_found (all_given columns c ss) (all_given columns c zs)
+given_append : (columns : List ℕ) (c : Claim) (ss zs : List TreeSpot) → all_given columns c (ss ++ zs) ≡ with_found (all_given columns c ss) (all_given columns c zs)
 given_append columns c [] zs = refl
 given_append columns c (s ∷ ss) zs =
     ap (λ (f : Found). with_found (numbers_of (exposed columns c s.node s.branch s.tree)) f) (given_append columns c ss zs) ∙
@@ -41,8 +41,8 @@ given_append columns c (s ∷ ss) zs =
 -- ---- one node
 
 -- what is found at the node, and given at the parts that are asked, is what the claim gives
-pub record Exposes (columns : List ℕ) (x : code_trees.Tree) (c : Claim) (y : code_claims.Claim) (s : Spot) : Type 0 where
-  pub spots : List Spot
+pub record Exposes (columns : List ℕ) (x : code_trees.Tree) (c : Claim) (y : code_claims.Claim) (s : TreeSpot) : Type 0 where
+  pub spots : List TreeSpot
   pub parts : parts_at x y s.node ≡ map (λ z. z.node) spots
   pub tells : AllByRecursion (λ z. Tells columns x z c y) spots
   pub same : with_found (found_at x y s.node) (all_given columns c spots) ≡ numbers_of (exposed columns c s.node s.branch s.tree)
@@ -55,27 +55,27 @@ no_parts : (o : Option Bool) → parts_unless o [] ≡ []
 no_parts None = refl
 no_parts (Some v) = refl
 
-abbrev spots_of : Option Bool → Asked → Spot → Spot → List Spot
+abbrev spots_of : Option Bool → Asked → TreeSpot → TreeSpot → List TreeSpot
 spots_of (Some v) asked low high = []
 spots_of None (one_part side) low high = side_of side low high ∷ []
 spots_of None both_parts low high = low ∷ high ∷ []
 spots_of None some_part low high = []
 
-cut_parts : (o : Option Bool) (asked : Asked) (low high : Spot) → parts_unless o (parts_at_cut asked (low.node, high.node)) ≡ map (λ z. z.node) (spots_of o asked low high)
+cut_parts : (o : Option Bool) (asked : Asked) (low high : TreeSpot) → parts_unless o (parts_at_cut asked (low.node, high.node)) ≡ map (λ z. z.node) (spots_of o asked low high)
 cut_parts (Some v) asked low high = refl
 cut_parts None (one_part false) low high = refl
 cut_parts None (one_part true) low high = refl
 cut_parts None both_parts low high = refl
 cut_parts None some_part low high = refl
 
-cut_tells : (P : Spot → Type 0) (o : Option Bool) (asked : Asked) (low high : Spot) → P low → P high → AllByRecursion P (spots_of o asked low high)
+cut_tells : (P : TreeSpot → Type 0) (o : Option Bool) (asked : Asked) (low high : TreeSpot) → P low → P high → AllByRecursion P (spots_of o asked low high)
 cut_tells P (Some v) asked low high h k = tt
 cut_tells P None (one_part false) low high h k = (h, tt)
 cut_tells P None (one_part true) low high h k = (k, tt)
 cut_tells P None both_parts low high h k = (h, (k, tt))
 cut_tells P None some_part low high h k = tt
 
-cut_found : (columns : List ℕ) (c : Claim) (o : Option Bool) (asked : Asked) (s low high : Spot) →
+cut_found : (columns : List ℕ) (c : Claim) (o : Option Bool) (asked : Asked) (s low high : TreeSpot) →
     with_found (found_unless o (found_at_cut asked s.node)) (all_given columns c (spots_of o asked low high)) ≡
     numbers_of (unless_truth o (parts_exposed asked s (exposed columns c low.node low.branch low.tree) (exposed columns c high.node high.branch high.tree)))
 cut_found columns c (Some v) asked s low high = refl
@@ -85,7 +85,7 @@ cut_found columns c None both_parts s low high =
     let e : Exposed = exposed columns c low.node low.branch low.tree in
     let f : Exposed = exposed columns c high.node high.branch high.tree in
     ap (λ (z : Found). with_found (numbers_of e) z) (found_last (numbers_of f)) ∙
-    ap (λ (l : List ℕ). record { leaves = e.leaves ++ f.leaves; groups = l }) (sym (map-append (λ (z : Spot). z.node) e.groups f.groups))
+    ap (λ (l : List ℕ). record { leaves = e.leaves ++ f.leaves; groups = l }) (sym (map-append (λ (z : TreeSpot). z.node) e.groups f.groups))
 cut_found columns c None some_part s low high = refl
 
 abbrev ExposesAt : List ℕ → code_trees.Tree → Claim → code_claims.Claim → ℕ → Branch → Tree → Type 0
@@ -94,7 +94,7 @@ ExposesAt columns x c y n b t = Exposes columns x c y (spot n b t)
 at_node : (columns : List ℕ) (x : code_trees.Tree) (c : Claim) (y : code_claims.Claim) (n : ℕ) (b : Branch) (t : Tree) → Tells columns x (spot n b t) c y → ExposesAt columns x c y n b t
 at_node columns x c y n b (leaf_tree parts) h =
     let k : IsNode columns x c y (spot n b (leaf_tree parts)) = h.nodes in
-    let o : Option Bool = truth_in (left_at columns c b (leaf_tree parts)) in
+    let o : Option Bool = truth_in (formula_at columns c b (leaf_tree parts)) in
     record {
       spots = [];
       parts =
@@ -106,10 +106,10 @@ at_node columns x c y n b (leaf_tree parts) h =
           ap (λ (z : Option (ℕ × ℕ)). with_found (found_unless o (found_open z (asked_in x y n) n)) none_found) k.sides ∙ leaf_found n o;
     }
 at_node columns x c y n b (cut_tree col k t u) h =
-    let low : Spot = low_side columns n b col k t in
-    let high : Spot = high_side columns n b col k t u in
-    let o : Option Bool = truth_in (left_at columns c b (cut_tree col k t u)) in
-    let asked : Asked = asked_at c (column_stamp columns col) (truth_in (left_at columns c low.branch t)) (truth_in (left_at columns c high.branch u)) in
+    let low : TreeSpot = low_side columns n b col k t in
+    let high : TreeSpot = high_side columns n b col k t u in
+    let o : Option Bool = truth_in (formula_at columns c b (cut_tree col k t u)) in
+    let asked : Asked = asked_at c (column_stamp columns col) (truth_in (formula_at columns c low.branch t)) (truth_in (formula_at columns c high.branch u)) in
     let a : asked_in x y n (low.node, high.node) ≡ asked = asked_told columns x n b col k t u c y h in
     let left : left_of y n ≡ o = h.nodes.0.left in
     let sides : sides_in x n ≡ Some (low.node, high.node) = h.nodes.0.sides in
@@ -120,7 +120,7 @@ at_node columns x c y n b (cut_tree col k t u) h =
           ap (λ (z : Option Bool). parts_unless z (parts_open (sides_in x n) (asked_in x y n))) left ∙
           ap (λ (z : Option (ℕ × ℕ)). parts_unless o (parts_open z (asked_in x y n))) sides ∙
           ap (λ (z : Asked). parts_unless o (parts_at_cut z (low.node, high.node))) a ∙ cut_parts o asked low high;
-      tells = cut_tells (λ (z : Spot). Tells columns x z c y) o asked low high (record { is_denied = h.is_denied; nodes = h.nodes.1 }) (record { is_denied = h.is_denied; nodes = h.nodes.2 });
+      tells = cut_tells (λ (z : TreeSpot). Tells columns x z c y) o asked low high (record { is_denied = h.is_denied; nodes = h.nodes.1 }) (record { is_denied = h.is_denied; nodes = h.nodes.2 });
       same =
           ap (λ (z : Option Bool). with_found (found_unless z (found_open (sides_in x n) (asked_in x y n) n)) given) left ∙
           ap (λ (z : Option (ℕ × ℕ)). with_found (found_unless o (found_open z (asked_in x y n) n)) given) sides ∙
@@ -128,7 +128,7 @@ at_node columns x c y n b (cut_tree col k t u) h =
     }
 at_node columns x c y n b (cases_tree ts) h = absurd h.nodes
 
-exposes : (columns : List ℕ) (x : code_trees.Tree) (c : Claim) (y : code_claims.Claim) (s : Spot) → Tells columns x s c y → Exposes columns x c y s
+exposes : (columns : List ℕ) (x : code_trees.Tree) (c : Claim) (y : code_claims.Claim) (s : TreeSpot) → Tells columns x s c y → Exposes columns x c y s
 exposes columns x c y s h =
     let k : ExposesAt columns x c y s.node s.branch s.tree = at_node columns x c y s.node s.branch s.tree (record { is_denied = h.is_denied; nodes = h.nodes }) in
     record { spots = k.spots; parts = k.parts; tells = k.tells; same = k.same }
@@ -136,13 +136,13 @@ exposes columns x c y s h =
 -- ---- the loop over the nodes that are left
 
 -- what has been found, and what is given at the nodes that are left, is what the claim gives
-pub record IsLeftToGive (columns : List ℕ) (x : code_trees.Tree) (c : Claim) (y : code_claims.Claim) (s : Spot) (left : List ℕ) (e : Found) : Type 0 where
-  pub spots : List Spot
+pub record IsLeftToGive (columns : List ℕ) (x : code_trees.Tree) (c : Claim) (y : code_claims.Claim) (s : TreeSpot) (left : List ℕ) (e : Found) : Type 0 where
+  pub spots : List TreeSpot
   pub nodes : reverse left ≡ map (λ z. z.node) spots
   pub tells : AllByRecursion (λ z. Tells columns x z c y) spots
   pub same : with_found e (all_given columns c spots) ≡ numbers_of (exposed columns c s.node s.branch s.tree)
 
-pub left_first : (columns : List ℕ) (x : code_trees.Tree) (c : Claim) (y : code_claims.Claim) (s : Spot) (node : ℕ) (left : List ℕ) (e : Found) → node ≡ s.node → Tells columns x s c y →
+pub left_first : (columns : List ℕ) (x : code_trees.Tree) (c : Claim) (y : code_claims.Claim) (s : TreeSpot) (node : ℕ) (left : List ℕ) (e : Found) → node ≡ s.node → Tells columns x s c y →
     left ≡ [] ++ node ∷ [] → e ≡ none_found → IsLeftToGive columns x c y s left e
 left_first columns x c y s node left e n h l f = record {
   spots = s ∷ [];
@@ -161,16 +161,16 @@ left_reversed : (popped after parts : List ℕ) → after ≡ popped ++ reverse 
 left_reversed popped after parts e =
     ap reverse e ∙ reverse-append popped (reverse parts) ∙ ap (λ (l : List ℕ). l ++ reverse popped) (reverse-reverse parts)
 
-pub left_next : (columns : List ℕ) (x : code_trees.Tree) (c : Claim) (y : code_claims.Claim) (s : Spot) (node : ℕ) (left popped after : List ℕ) (e f : Found) → left ≡ popped ++ node ∷ [] →
+pub left_next : (columns : List ℕ) (x : code_trees.Tree) (c : Claim) (y : code_claims.Claim) (s : TreeSpot) (node : ℕ) (left popped after : List ℕ) (e f : Found) → left ≡ popped ++ node ∷ [] →
     after ≡ popped ++ reverse (parts_at x y node) → f ≡ with_found e (found_at x y node) → IsLeftToGive columns x c y s left e → IsLeftToGive columns x c y s after f
 left_next columns x c y s node left popped after e f l a g h =
     by_spots h.spots (sym (ap reverse l ∙ reverse-append popped (node ∷ [])) ∙ h.nodes) h.tells h.same
   where
-    by_spots : (ss : List Spot) → node ∷ reverse popped ≡ map (λ z. z.node) ss → AllByRecursion (λ z. Tells columns x z c y) ss →
+    by_spots : (ss : List TreeSpot) → node ∷ reverse popped ≡ map (λ z. z.node) ss → AllByRecursion (λ z. Tells columns x z c y) ss →
         with_found e (all_given columns c ss) ≡ numbers_of (exposed columns c s.node s.branch s.tree) → IsLeftToGive columns x c y s after f
     by_spots [] q t m = absurd (no_cons node (reverse popped) q)
     by_spots (z ∷ ss) q t m =
-        let two = same_tail node z.node (reverse popped) (map (λ (v : Spot). v.node) ss) q in
+        let two = same_tail node z.node (reverse popped) (map (λ (v : TreeSpot). v.node) ss) q in
         let k : Exposes columns x c y z = exposes columns x c y z t.0 in
         let found : Found = found_at x y z.node in
         record {
@@ -178,8 +178,8 @@ left_next columns x c y s node left popped after e f l a g h =
           nodes =
               left_reversed popped after (parts_at x y node) a ∙ ap (λ (n : ℕ). parts_at x y n ++ reverse popped) two.0 ∙
               ap (λ (v : List ℕ). v ++ reverse popped) k.parts ∙ ap (λ (v : List ℕ). map (λ z. z.node) k.spots ++ v) two.1 ∙
-              sym (map-append (λ (v : Spot). v.node) k.spots ss);
-          tells = all_with (λ (v : Spot). Tells columns x v c y) k.spots ss k.tells t.1;
+              sym (map-append (λ (v : TreeSpot). v.node) k.spots ss);
+          tells = all_with (λ (v : TreeSpot). Tells columns x v c y) k.spots ss k.tells t.1;
           same =
               ap (λ (v : Found). with_found v (all_given columns c (k.spots ++ ss))) (g ∙ ap (λ (n : ℕ). with_found e (found_at x y n)) two.0) ∙
               ap (λ (v : Found). with_found (with_found e found) v) (given_append columns c k.spots ss) ∙
@@ -194,13 +194,13 @@ none_left old new n e t i =
     let k : n - 1 ≡ 0 = omega (arith, e) in
     let z : new ≡ [] = t ∙ ap (λ (m : ℕ). take m old) k in i ∙ ap (λ (xs : List _). xs ++ []) z
 
-pub left_done : (columns : List ℕ) (x : code_trees.Tree) (c : Claim) (y : code_claims.Claim) (s : Spot) (left : List ℕ) (e : code.Exposed) → left ≡ [] →
+pub left_done : (columns : List ℕ) (x : code_trees.Tree) (c : Claim) (y : code_claims.Claim) (s : TreeSpot) (left : List ℕ) (e : code.Exposed) → left ≡ [] →
     IsLeftToGive columns x c y s left (found_of e) → IsExposed (exposed columns c s.node s.branch s.tree) e
 left_done columns x c y s left e l h = by_spots h.spots (sym (ap reverse l) ∙ h.nodes) h.same
   where
-    by_spots : (ss : List Spot) → [] ≡ map (λ z. z.node) ss → with_found (found_of e) (all_given columns c ss) ≡ numbers_of (exposed columns c s.node s.branch s.tree) →
+    by_spots : (ss : List TreeSpot) → [] ≡ map (λ z. z.node) ss → with_found (found_of e) (all_given columns c ss) ≡ numbers_of (exposed columns c s.node s.branch s.tree) →
         IsExposed (exposed columns c s.node s.branch s.tree) e
     by_spots [] q m =
         let k : found_of e ≡ numbers_of (exposed columns c s.node s.branch s.tree) = sym (found_last (found_of e)) ∙ m in
         record { leaves = ap (λ (f : Found). f.leaves) k; groups = ap (λ (f : Found). f.groups) k }
-    by_spots (z ∷ ss) q m = absurd (no_cons z.node (map (λ (v : Spot). v.node) ss) (sym q))
+    by_spots (z ∷ ss) q m = absurd (no_cons z.node (map (λ (v : TreeSpot). v.node) ss) (sym q))

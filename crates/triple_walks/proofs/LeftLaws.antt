@@ -11,11 +11,11 @@ use Rattle.triple_rows.specs.Predicates.{Formula}
 use Rattle.nested_predicates.specs.Stamps.{column_stamp}
 use Rattle.nested_predicates.specs.Positions.{Position, is_counted}
 use Rattle.nested_predicates.specs.Sums.{Branch, terms_from, coefficients_at, bound_at, inequality}
-use Rattle.nested_predicates.specs.Joins.{joined, joined_at, simplified}
+use Rattle.nested_predicates.specs.Joins.{joined_formulas, joined_at, simplified}
 use Rattle.nested_predicates.specs.Bases.{node_of as sum_node}
 use Rattle.nested_predicates.specs.Layouts.{leaf_node}
 use Rattle.nested_predicates.specs.Tables.{cut_node_at, row_of_node}
-use Rattle.nested_refutations.specs.Refutations.{Spot, Claim, truth_in, left_at, low_side, high_side}
+use Rattle.nested_refutations.specs.Refutations.{TreeSpot, Claim, truth_in, formula_at, low_side, high_side}
 use Rattle.nested_refutations.proofs.TruthLaws.{decided as decided_there, cut_truth}
 use Rattle.triple_walks.specs.Spots.{HasNoCases, listed, node_of, IsTree, in_row}
 use Rattle.triple_walks.specs.Claims.{lefts_of, decided, left_here, behind_here, left_in, behind_in}
@@ -111,7 +111,7 @@ sum_left (t ∷ ts) z rs = refl
 
 cut_left : (c : Bool) (x y : Formula) (rs : List (Option Bool)) →
     left_here (if c then Or 2 else And 2) (truth_in (simplified x) ∷ truth_in (simplified y) ∷ rs) ∷
-    behind_here (if c then Or 2 else And 2) (truth_in (simplified x) ∷ truth_in (simplified y) ∷ rs) ≡ truth_in (simplified (joined c x y)) ∷ rs
+    behind_here (if c then Or 2 else And 2) (truth_in (simplified x) ∷ truth_in (simplified y) ∷ rs) ≡ truth_in (simplified (joined_formulas c x y)) ∷ rs
 cut_left true x y rs =
     ap (λ (o : Option Bool). o ∷ rs) (same_decided true (truth_in (simplified x)) (truth_in (simplified y)) ∙ sym (cut_truth true x y))
 cut_left false x y rs =
@@ -122,15 +122,15 @@ abbrev rows_of : List ℕ → List Position → ℕ → Branch → Tree → List
 rows_of columns qs n b t = listed (λ s. row_of_node columns qs (node_of s.tree) s.branch) columns n b t
 
 left_tree : (columns : List ℕ) (qs : List Position) (p : ℕ) (c : Claim) → slice_get qs p ≡ Some c.position → (n : ℕ) (b : Branch) (t : Tree) (ns : List (Option PredNode)) → HasNoCases t →
-    lefts_roots (heads p (rows_of columns qs n b t) ++ ns) ≡ truth_in (left_at columns c b t) ∷ lefts_roots ns
+    lefts_roots (heads p (rows_of columns qs n b t) ++ ns) ≡ truth_in (formula_at columns c b t) ∷ lefts_roots ns
 left_tree columns qs p c e n b (leaf_tree parts) ns h =
     let rs : List (Option Bool) = lefts_roots ns in
     ap (λ (o : Option PredNode). left_in o rs ∷ behind_in o rs) (got_mapped (leaf_node b parts) qs p c.position e) ∙
     sum_left (terms_from 0 (coefficients_at b parts c.position)) (bound_at b parts c.position) rs
 left_tree columns qs p c e n b (cut_tree col k t u) ns h =
     let s : ℕ = column_stamp columns col in
-    let low : Spot = low_side columns n b col k t in
-    let high : Spot = high_side columns n b col k t u in
+    let low : TreeSpot = low_side columns n b col k t in
+    let high : TreeSpot = high_side columns n b col k t u in
     let o : Option PredNode = slice_get (map (cut_node_at s) qs) p in
     let x : List (List PredNode) = rows_of columns qs low.node low.branch t in
     let y : List (List PredNode) = rows_of columns qs high.node high.branch u in
@@ -152,32 +152,32 @@ same_head : {X : Type 0} (x y : X) (xs ys : List X) → x ∷ xs ≡ y ∷ ys �
 same_head x y xs ys e = cc
 
 lefts_tree : (columns : List ℕ) (qs : List Position) (p : ℕ) (c : Claim) → slice_get qs p ≡ Some c.position → (n : ℕ) (b : Branch) (t : Tree) (ns : List (Option PredNode)) → HasNoCases t →
-    lefts_from (heads p (rows_of columns qs n b t) ++ ns) ≡ listed (λ s. truth_in (left_at columns c s.branch s.tree)) columns n b t ++ lefts_from ns
+    lefts_from (heads p (rows_of columns qs n b t) ++ ns) ≡ listed (λ s. truth_in (formula_at columns c s.branch s.tree)) columns n b t ++ lefts_from ns
 lefts_tree columns qs p c e n b (leaf_tree parts) ns h =
     let rs : List (Option Bool) = lefts_roots ns in
     let o : Option PredNode = slice_get (map (leaf_node b parts) qs) p in
     ap (λ (v : Option Bool). v ∷ lefts_from ns)
-    (same_head (left_in o rs) (truth_in (left_at columns c b (leaf_tree parts))) (behind_in o rs) rs (left_tree columns qs p c e n b (leaf_tree parts) ns h))
+    (same_head (left_in o rs) (truth_in (formula_at columns c b (leaf_tree parts))) (behind_in o rs) rs (left_tree columns qs p c e n b (leaf_tree parts) ns h))
 lefts_tree columns qs p c e n b (cut_tree col k t u) ns h =
     let s : ℕ = column_stamp columns col in
-    let low : Spot = low_side columns n b col k t in
-    let high : Spot = high_side columns n b col k t u in
+    let low : TreeSpot = low_side columns n b col k t in
+    let high : TreeSpot = high_side columns n b col k t u in
     let o : Option PredNode = slice_get (map (cut_node_at s) qs) p in
     let x : List (List PredNode) = rows_of columns qs low.node low.branch t in
     let y : List (List PredNode) = rows_of columns qs high.node high.branch u in
-    let left = λ (z : Spot). truth_in (left_at columns c z.branch z.tree) in
+    let left = λ (z : TreeSpot). truth_in (formula_at columns c z.branch z.tree) in
     let l : List (Option Bool) = listed left columns low.node low.branch t in
     let r : List (Option Bool) = listed left columns high.node high.branch u in
     let all : List (Option PredNode) = heads p (x ++ y) ++ ns in
-    let here : left_in o (lefts_roots all) ≡ truth_in (left_at columns c b (cut_tree col k t u)) =
-    same_head (left_in o (lefts_roots all)) (truth_in (left_at columns c b (cut_tree col k t u))) (behind_in o (lefts_roots all)) (lefts_roots ns)
+    let here : left_in o (lefts_roots all) ≡ truth_in (formula_at columns c b (cut_tree col k t u)) =
+    same_head (left_in o (lefts_roots all)) (truth_in (formula_at columns c b (cut_tree col k t u))) (behind_in o (lefts_roots all)) (lefts_roots ns)
     (left_tree columns qs p c e n b (cut_tree col k t u) ns h) in
     let behind : lefts_from all ≡ (l ++ r) ++ lefts_from ns =
     ap (λ (z : List (Option PredNode)). lefts_from (z ++ ns)) (map-append (λ r. slice_get r p) x y) ∙
     ap (λ (z : List (Option PredNode)). lefts_from z) (append_assoc (heads p x) (heads p y) ns) ∙
     lefts_tree columns qs p c e low.node low.branch t (heads p y ++ ns) h.0 ∙
     ap (λ (z : List (Option Bool)). l ++ z) (lefts_tree columns qs p c e high.node high.branch u ns h.1) ∙ sym (append_assoc l r (lefts_from ns)) in
-    ap (λ (v : Option Bool). v ∷ lefts_from all) here ∙ ap (λ (z : List (Option Bool)). truth_in (left_at columns c b (cut_tree col k t u)) ∷ z) behind
+    ap (λ (v : Option Bool). v ∷ lefts_from all) here ∙ ap (λ (z : List (Option Bool)). truth_in (formula_at columns c b (cut_tree col k t u)) ∷ z) behind
 lefts_tree columns qs p c e n b (cases_tree ts) ns h = absurd h
 
 pub lefts_are : (x : code.Tree) (p i : ℕ) (lefts turned roots : List (Option Bool)) → length x.table.items ≤ i → AreLefts x.table.items p i lefts roots → turned ≡ reverse lefts →

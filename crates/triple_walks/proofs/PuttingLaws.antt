@@ -11,7 +11,7 @@ use Rattle.frame_rows.specs.Rows.{columns_from}
 use Rattle.nested_predicates.specs.Stamps.{stamps_of}
 use Rattle.nested_predicates.specs.Positions.{Position, positions_of}
 use Rattle.nested_predicates.specs.Sums.{Branch, root_of}
-use Rattle.nested_refutations.specs.Refutations.{Claim, Spot, truth_in, left_at, Exposed, exposed, Role, spare, branch_row, atom_at, View, Goes, stops_at, atom_roles, is_used, of_claim}
+use Rattle.nested_refutations.specs.Refutations.{Claim, TreeSpot, truth_in, formula_at, Exposed, exposed, Role, spare, branch_row, atom_at, View, Gathered, stops_at, atom_roles, is_used, of_claim}
 use Rattle.nested_refutations.specs.Numbers.{Step, spares, branch_rows, groups_from, begins}
 use Rattle.nested_refutations.specs.Walked.{gaps_of, is_truth, false_row, TakesOr, IsWalked, AreWalkedFrom}
 use Rattle.nested_refutations.specs.Waiting.{GroupsWait, StepWaits}
@@ -138,14 +138,14 @@ claims_made x f i ys all y l h m e g w t s nodes tree step =
 
 -- ---- a claim that is false
 
-told_none : (columns : List ℕ) (x : code_trees.Tree) (s : Spot) (cs : List Claim) (ys : List claims.Claim) (i : ℕ) → AllTell columns x s cs ys → slice_get cs i ≡ None → slice_get ys i ≡ None
+told_none : (columns : List ℕ) (x : code_trees.Tree) (s : TreeSpot) (cs : List Claim) (ys : List claims.Claim) (i : ℕ) → AllTell columns x s cs ys → slice_get cs i ≡ None → slice_get ys i ≡ None
 told_none columns x s [] [] i h e = refl
 told_none columns x s [] (y ∷ ys) i h e = absurd h
 told_none columns x s (c ∷ cs) [] i h e = refl
 told_none columns x s (c ∷ cs) (y ∷ ys) zero h e = absurd (cc)
 told_none columns x s (c ∷ cs) (y ∷ ys) (suc i) h e = told_none columns x s cs ys i h.1 e
 
-told_here : (v : View) (x : code.Guide) (s : Spot) (i : ℕ) (c : Claim) (y : claims.Claim) → Known v x s → slice_get x.claims.now i ≡ Some y → slice_get v.claims i ≡ Some c → Tells v.columns x.tree.now s c y
+told_here : (v : View) (x : code.Guide) (s : TreeSpot) (i : ℕ) (c : Claim) (y : claims.Claim) → Known v x s → slice_get x.claims.now i ≡ Some y → slice_get v.claims i ≡ Some c → Tells v.columns x.tree.now s c y
 told_here v x s i c y known ey ec =
     let told = told_at v.columns x.tree.now s v.claims x.claims.now i c known.claims ec in
     subst (Tells v.columns x.tree.now s c) (some_same (slice_get x.claims.now i) told.0 y told.1 ey) told.2
@@ -163,10 +163,10 @@ false_is g w t v x i y z known e ez = by_claim (slice_get v.claims i) refl
     by_claim (Some c) n =
         let tells : Tells v.columns x.tree.now (root_spot g w t) c y = told_here v x (root_spot g w t) i c y known e n in
         let node = tells_here v.columns x.tree.now (root_spot g w t) c y tells in
-        ez ∙ ap (λ (o : Option Bool). is_refuted y.denied o) node.left ∙ ap (λ (d : Bool). is_refuted d (truth_in (left_at v.columns c (root_of g w) t))) tells.is_denied ∙
-        refuted_is c.is_denied (truth_in (left_at v.columns c (root_of g w) t))
+        ez ∙ ap (λ (o : Option Bool). is_refuted y.denied o) node.left ∙ ap (λ (d : Bool). is_refuted d (truth_in (formula_at v.columns c (root_of g w) t))) tells.is_denied ∙
+        refuted_is c.is_denied (truth_in (formula_at v.columns c (root_of g w) t))
 
-claim_none : (v : View) (x : code.Guide) (s : Spot) (i : ℕ) → Known v x s → slice_get x.claims.now i ≡ None → slice_get v.claims i ≡ None
+claim_none : (v : View) (x : code.Guide) (s : TreeSpot) (i : ℕ) → Known v x s → slice_get x.claims.now i ≡ None → slice_get v.claims i ≡ None
 claim_none v x s i known e = by_claim (slice_get v.claims i) refl
   where
     by_claim : (o : Option Claim) → slice_get v.claims i ≡ o → o ≡ None
@@ -193,7 +193,7 @@ claim_absent g w t v x i h known e = none_added h ∙ ap (λ (o : Option Claim).
 
 pub claim_given : (g : Graph) (w : List Letter) (t : Tree) (v : View) (x : code.Guide) (i : ℕ) (y : claims.Claim) (used : Bool) (e : found.Exposed) (a b : PlainGoal) → IsLed v x → Known v x (root_spot g w t) →
     slice_get x.claims.now i ≡ Some y →
-    ((columns : List ℕ) (k : Claim) (s : Spot) → 0 ≡ s.node → Tells columns x.tree.now s k y → IsExposed (exposed columns k s.node s.branch s.tree) e) → used ≡ not (x.returns && nat_eq i 0) →
+    ((columns : List ℕ) (k : Claim) (s : TreeSpot) → 0 ≡ s.node → Tells columns x.tree.now s k y → IsExposed (exposed columns k s.node s.branch s.tree) e) → used ≡ not (x.returns && nat_eq i 0) →
     b ≡ with_exposed i used e.leaves.items e.groups.items a → b ≡ with_section g w t v (sections.Claim i) a
 claim_given g w t v x i y used e a b led known ey f eu eb = by_claim (slice_get v.claims i) refl
   where
@@ -212,7 +212,7 @@ claim_given g w t v x i y used e a b led known ey f eu eb = by_claim (slice_get 
 -- ---- sections one after another
 
 -- the groups of the claims
-abbrev pub groups_in : Graph → List Letter → Tree → View → List Section → List (ℕ × Spot)
+abbrev pub groups_in : Graph → List Letter → Tree → View → List Section → List (ℕ × TreeSpot)
 groups_in g w t v [] = []
 groups_in g w t v (s ∷ ss) = section_groups g w t v s ++ groups_in g w t v ss
 
@@ -238,7 +238,7 @@ section_put : (g : Graph) (w : List Letter) (t : Tree) (v : View) (all rest : Li
     IsPutSoFar g w t v all rest (with_section g w t v s h)
 section_put g w t v all rest s h e put =
     let mine : List Role = section_roles g w t v s in
-    let waits : List (ℕ × Spot) = section_groups g w t v s in
+    let waits : List (ℕ × TreeSpot) = section_groups g w t v s in
     record {
       roles = append_assoc h.roles mine (roles_in g w t v rest) ∙ put.roles;
       groups = append_assoc h.groups (map number_of waits) (map number_of (groups_in g w t v rest)) ∙
@@ -299,7 +299,7 @@ row_is g w t v k m j (sections.Claim i ∷ ss) [] f e = absurd (cc)
 row_is g w t v k m j (sections.Claim i ∷ ss) (c ∷ cs) f e =
     let found : slice_get v.claims i ≡ Some c = stand_first v j c cs f i (first_same i j (claims_in ss) (columns_from (suc j) (length cs)) e) in
     let leaves : List ℕ = (exposed v.columns c 0 (root_of g w) t).leaves in
-    let wrong : Bool = is_truth (truth_in (left_at v.columns c (root_of g w) t)) c.is_denied in
+    let wrong : Bool = is_truth (truth_in (formula_at v.columns c (root_of g w) t)) c.is_denied in
     let rest : false_row g w t v (k + m + length leaves) (gaps_in 0 ss) cs ≡ false_at g w t v (k + m + length leaves + 0) ss =
     row_is g w t v (k + m + length leaves) 0 (suc j) ss cs (stand_next v j c cs f) (rest_same i j (claims_in ss) (columns_from (suc j) (length cs)) e) in
     let counted : length (atom_roles (is_used v i) i leaves) ≡ length leaves = atoms_counted (is_used v i) i leaves in
@@ -322,9 +322,9 @@ groups_are g w t v j (sections.Claim i ∷ ss) [] f e = absurd (cc)
 groups_are g w t v j (sections.Claim i ∷ ss) (c ∷ cs) f e =
     let same : i ≡ j = first_same i j (claims_in ss) (columns_from (suc j) (length cs)) e in
     let found : slice_get v.claims i ≡ Some c = stand_first v j c cs f i same in
-    let waits : List Spot = (exposed v.columns c 0 (root_of g w) t).groups in
+    let waits : List TreeSpot = (exposed v.columns c 0 (root_of g w) t).groups in
     ap (λ (o : Option Claim). claim_groups g w t v i o ++ groups_in g w t v ss) found ∙ ap (λ (n : ℕ). of_claim n waits ++ groups_in g w t v ss) same ∙
-    ap (λ (l : List (ℕ × Spot)). of_claim j waits ++ l)
+    ap (λ (l : List (ℕ × TreeSpot)). of_claim j waits ++ l)
     (groups_are g w t v (suc j) ss cs (stand_next v j c cs f) (rest_same i j (claims_in ss) (columns_from (suc j) (length cs)) e))
 groups_are g w t v j (sections.Spare count ∷ ss) cs f e = groups_are g w t v j ss cs f e
 groups_are g w t v j (sections.Rows first count ∷ ss) cs f e = groups_are g w t v j ss cs f e
@@ -366,11 +366,11 @@ put_false g w t s ss k nodes laid row e =
 -- what the walk puts down, where no claim is false
 pub put_walked : (g : Graph) (w : List Letter) (t : Tree) (s : Step) (x : code.Guide) (ss : List Section) (i : ℕ) (h : PlainGoal) (nodes : List PlainNode) → IsLed s.view x →
     IsThere s.view x (root_spot g w t) (record { node = 0; depth = 0 }) → IsLaid g w t s ss → StepWaits g w t s → length ss ≤ i → IsPutSoFar g w t s.view ss (drop i ss) h →
-    ((v : View) (b : Goes) (z : Spot) → IsLed v x → IsAtHand v x b h → IsThere v x z (record { node = 0; depth = 0 }) → GroupsWait v b (stops_at v b.taken z) →
+    ((v : View) (b : Gathered) (z : TreeSpot) → IsLed v x → IsAtHand v x b h → IsThere v x z (record { node = 0; depth = 0 }) → GroupsWait v b (stops_at v b.taken z) →
     AreWalkedFrom v b (stops_at v b.taken z) nodes) → IsPutFor g w t s nodes
 put_walked g w t s x ss i h nodes led there laid waits l so_far run =
     let v : View = s.view in
-    let first : Goes = begins g w t s in
+    let first : Gathered = begins g w t s in
     let put : IsPutSoFar g w t v ss [] h = subst (λ (r : List Section). IsPutSoFar g w t v ss r h) (drop_all i ss l) so_far in
     let none : false_row g w t v 0 (gaps_of (alphabet_of g) s.triple) v.claims ≡ None = laid_row g w t s ss laid ∙ put.row in
     let counted : length (gaps_of (alphabet_of g) s.triple) ≡ length v.claims =

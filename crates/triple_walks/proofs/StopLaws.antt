@@ -10,7 +10,7 @@ use Rattle.lin_rows.specs.Rows.{LinearRow}
 use Rattle.nested_predicates.specs.Stamps.{column_stamp}
 use Rattle.nested_predicates.specs.Positions.{is_counted}
 use Rattle.nested_predicates.specs.Sums.{Branch}
-use Rattle.nested_refutations.specs.Refutations.{Claim, Spot, low_side, high_side, truth_in, left_at, Asked, one_part, both_parts, some_part, asked_at, View, Meeting, own_cut, told_by, meets, taken_at, Stop, at_cut, followed, stop_at, stops, stops_at}
+use Rattle.nested_refutations.specs.Refutations.{Claim, TreeSpot, low_side, high_side, truth_in, formula_at, Asked, one_part, both_parts, some_part, asked_at, View, Meeting, own_cut, told_by, meeting_of, taken_at, Stop, at_cut, followed, stop_at, stops, stops_at}
 use Rattle.triple_walks.specs.Spots.{node_in, is_counted_in, sides_in, with_second, second_of}
 use Rattle.triple_walks.specs.Telling.{Tells, AllTell, IsKnown}
 use Rattle.triple_walks.specs.Stops.{taken_of, IsPlace, IsStop, counted_by, teller, way_asked, way_by, way_told}
@@ -119,11 +119,11 @@ at_source : (z : Bool) (i : ℕ) (c : Claim) (m : Meeting) (o : Option ℕ) → 
 at_source true i c m o e = refl
 at_source false i c m o e = e
 
-pub teller_is : (returns : Bool) (i : ℕ) (cs : List Claim) (stamp : ℕ) → number_told (meets returns i cs stamp) ≡ teller returns i (map (λ c. is_counted c.position stamp) cs)
+pub teller_is : (returns : Bool) (i : ℕ) (cs : List Claim) (stamp : ℕ) → number_told (meeting_of returns i cs stamp) ≡ teller returns i (map (λ c. is_counted c.position stamp) cs)
 teller_is returns i [] stamp = refl
 teller_is returns i (c ∷ []) stamp = at_target (is_counted c.position stamp) i c
 teller_is returns i (c ∷ d ∷ cs) stamp =
-    at_source (not returns && is_counted c.position stamp) i c (meets returns (suc i) (d ∷ cs) stamp) (teller returns (suc i) (map (λ e. is_counted e.position stamp) (d ∷ cs)))
+    at_source (not returns && is_counted c.position stamp) i c (meeting_of returns (suc i) (d ∷ cs) stamp) (teller returns (suc i) (map (λ e. is_counted e.position stamp) (d ∷ cs)))
     (teller_is returns (suc i) (d ∷ cs) stamp)
 
 -- the claim stands at its number, from number i on
@@ -144,11 +144,11 @@ in_source : (z : Bool) (i : ℕ) (c : Claim) (cs : List Claim) (m : Meeting) →
 in_source true i c cs m h = (0, (let e : i ≡ i + 0 = omega arith in e), refl)
 in_source false i c cs m h = further i c cs m h
 
-told_in : (returns : Bool) (i : ℕ) (cs : List Claim) (stamp : ℕ) → IsIn i cs (meets returns i cs stamp)
+told_in : (returns : Bool) (i : ℕ) (cs : List Claim) (stamp : ℕ) → IsIn i cs (meeting_of returns i cs stamp)
 told_in returns i [] stamp = tt
 told_in returns i (c ∷ []) stamp = in_target (is_counted c.position stamp) i c
 told_in returns i (c ∷ d ∷ cs) stamp =
-    in_source (not returns && is_counted c.position stamp) i c (d ∷ cs) (meets returns (suc i) (d ∷ cs) stamp) (told_in returns (suc i) (d ∷ cs) stamp)
+    in_source (not returns && is_counted c.position stamp) i c (d ∷ cs) (meeting_of returns (suc i) (d ∷ cs) stamp) (told_in returns (suc i) (d ∷ cs) stamp)
 
 -- ---- at a cut
 
@@ -163,7 +163,7 @@ all_counted columns x n b col k t u (c ∷ cs) (y ∷ ys) h =
 
 -- the spot at which it goes on, from which it stops at the same
 pub record GoesOn (v : View) (taken : List (ℕ × ℕ × Bool)) (nodes : List PlainNode) (x : code_trees.Tree) (ys : List code.Claim) (rows depth part : ℕ) (stop : Stop) : Type 0 where
-  pub next : Spot
+  pub next : TreeSpot
   pub node : part ≡ next.node
   pub depth_is : length next.branch.rows ≡ rows + depth
   pub known : IsKnown v.columns nodes x v.claims ys next
@@ -190,13 +190,13 @@ pub record IsHere (v : View) (nodes : List PlainNode) (x : code_trees.Tree) (ys 
   pub known : IsKnown v.columns nodes x v.claims ys (spot p.node b t)
 
 module _ (v : View) (taken : List (ℕ × ℕ × Bool)) (nodes : List PlainNode) (x : code_trees.Tree) (ys : List code.Claim) (rows : ℕ) (p : place.Spot) (b : Branch) (col : ℕ) (k : ℤ) (t u : trees.Tree) where
-  abbrev low : Spot
+  abbrev low : TreeSpot
   low = low_side v.columns p.node b col k t
 
-  abbrev high : Spot
+  abbrev high : TreeSpot
   high = high_side v.columns p.node b col k t u
 
-  abbrev here : Spot
+  abbrev here : TreeSpot
   here = spot p.node b (cut_tree col k t u)
 
   abbrev IsSo : Stop → Way → Type 0
@@ -241,12 +241,12 @@ module _ (v : View) (taken : List (ℕ × ℕ × Bool)) (nodes : List PlainNode)
 
   by_claim : (j : ℕ) (c : Claim) (y : code.Claim) → slice_get ys j ≡ Some y → Tells v.columns x here c y → IsHere v nodes x ys rows b (cut_tree col k t u) p →
       IsSo
-      (followed (asked_at c (column_stamp v.columns col) (truth_in (left_at v.columns c low.branch t)) (truth_in (left_at v.columns c high.branch u))) (taken_at j p.node taken) here
+      (followed (asked_at c (column_stamp v.columns col) (truth_in (formula_at v.columns c low.branch t)) (truth_in (formula_at v.columns c high.branch u))) (taken_at j p.node taken) here
       (stops_at v taken low)
       (stops_at v taken high))
       (way_by x (slice_get ys j) (taken_at j p.node taken) p.node (low.node, high.node))
   by_claim j c y e told h =
-      let asked : Asked = asked_at c (column_stamp v.columns col) (truth_in (left_at v.columns c low.branch t)) (truth_in (left_at v.columns c high.branch u)) in
+      let asked : Asked = asked_at c (column_stamp v.columns col) (truth_in (formula_at v.columns c low.branch t)) (truth_in (formula_at v.columns c high.branch u)) in
       let member : Option Bool = taken_at j p.node taken in
       as_way (followed asked member here (stops_at v taken low) (stops_at v taken high)) (way_by x (slice_get ys j) member p.node (low.node, high.node)) (way_asked asked member (low.node, high.node))
       (ap (λ (o : Option code.Claim). way_by x o member p.node (low.node, high.node)) e ∙
@@ -255,7 +255,7 @@ module _ (v : View) (taken : List (ℕ × ℕ × Bool)) (nodes : List PlainNode)
 
   abbrev follow : ℕ → Claim → Stop
   follow i c =
-      followed (asked_at c (column_stamp v.columns col) (truth_in (left_at v.columns c low.branch t)) (truth_in (left_at v.columns c high.branch u))) (taken_at i p.node taken) here
+      followed (asked_at c (column_stamp v.columns col) (truth_in (formula_at v.columns c low.branch t)) (truth_in (formula_at v.columns c high.branch u))) (taken_at i p.node taken) here
       (stops_at v taken low)
       (stops_at v taken high)
 
@@ -271,7 +271,7 @@ module _ (v : View) (taken : List (ℕ × ℕ × Bool)) (nodes : List PlainNode)
       IsSo (stops v taken p.node b (cut_tree col k t u)) way
   cut_way way e h =
       let stamp : ℕ = column_stamp v.columns col in
-      let m : Meeting = meets v.returns 0 v.claims stamp in
+      let m : Meeting = meeting_of v.returns 0 v.claims stamp in
       as_way (stop_at m follow (at_cut (length b.rows) col k low high)) way (way_told x ys taken (number_told m) p.node (low.node, high.node))
       (e ∙
       ap (λ (l : List Bool). way_told x ys taken (teller v.returns 0 l) p.node (low.node, high.node)) (all_counted v.columns x p.node b col k t u v.claims ys h.known.claims) ∙
@@ -281,20 +281,20 @@ module _ (v : View) (taken : List (ℕ × ℕ × Bool)) (nodes : List PlainNode)
 -- ---- at any node
 
 module _ (v : View) (taken : List (ℕ × ℕ × Bool)) (nodes : List PlainNode) (x : code_trees.Tree) (ys : List code.Claim) (rows : ℕ) (p : place.Spot) where
-  known_as : (s : Spot) → IsPlace v.columns nodes x v.claims ys rows s p → IsHere v nodes x ys rows s.branch s.tree p
+  known_as : (s : TreeSpot) → IsPlace v.columns nodes x v.claims ys rows s p → IsHere v nodes x ys rows s.branch s.tree p
   known_as s h = record {
     depth_is = h.depth;
     known = subst (λ (n : ℕ). IsKnown v.columns nodes x v.claims ys (spot n s.branch s.tree)) (sym h.node)
         (record { spelled = h.known.spelled; sides = h.known.sides; claims = all_same s v.claims ys h.known.claims });
   }
     where
-      all_same : (s : Spot) (cs : List Claim) (zs : List code.Claim) → AllTell v.columns x s cs zs → AllTell v.columns x (spot s.node s.branch s.tree) cs zs
+      all_same : (s : TreeSpot) (cs : List Claim) (zs : List code.Claim) → AllTell v.columns x s cs zs → AllTell v.columns x (spot s.node s.branch s.tree) cs zs
       all_same s cs zs a = a
 
   sides_here : (b : Branch) (t : trees.Tree) → IsHere v nodes x ys rows b t p → sides_in x p.node ≡ with_second p.node (second_of p.node t)
-  sides_here b t h = everywhere_here (λ (z : Spot). sides_in x z.node ≡ with_second z.node (second_of z.node z.tree)) v.columns p.node b t h.known.sides
+  sides_here b t h = everywhere_here (λ (z : TreeSpot). sides_in x z.node ≡ with_second z.node (second_of z.node z.tree)) v.columns p.node b t h.known.sides
 
-  same_stop : (s : Spot) → IsPlace v.columns nodes x v.claims ys rows s p → stops_at v taken s ≡ stops v taken p.node s.branch s.tree
+  same_stop : (s : TreeSpot) → IsPlace v.columns nodes x v.claims ys rows s p → stops_at v taken s ≡ stops v taken p.node s.branch s.tree
   same_stop s h = ap (λ (n : ℕ). stops v taken n s.branch s.tree) (sym h.node)
 
   leaf_at : (b : Branch) (t : trees.Tree) → with_second p.node (second_of p.node t) ≡ None → IsHere v nodes x ys rows b t p →
@@ -303,7 +303,7 @@ module _ (v : View) (taken : List (ℕ × ℕ × Bool)) (nodes : List PlainNode)
   leaf_at b (cut_tree col k t u) e h = absurd (none_some _ (sym e))
   leaf_at b (cases_tree ts) e h = absurd h.known.spelled
 
-  pub leaf_stop : (s : Spot) → IsPlace v.columns nodes x v.claims ys rows s p → sides_in x p.node ≡ None → IsStop v.columns nodes x v.claims ys rows (stops_at v taken s) (Leaf p.node)
+  pub leaf_stop : (s : TreeSpot) → IsPlace v.columns nodes x v.claims ys rows s p → sides_in x p.node ≡ None → IsStop v.columns nodes x v.claims ys rows (stops_at v taken s) (Leaf p.node)
   leaf_stop s h e =
       let k : IsHere v nodes x ys rows s.branch s.tree p = known_as s h in
       subst (λ (z : Stop). IsStop v.columns nodes x v.claims ys rows z (Leaf p.node)) (sym (same_stop s h)) (leaf_at s.branch s.tree (sym (sides_here s.branch s.tree k) ∙ e) k)
@@ -317,7 +317,7 @@ module _ (v : View) (taken : List (ℕ × ℕ × Bool)) (nodes : List PlainNode)
       cut_way v taken nodes x ys rows p b col k t u way (w ∙ ap (λ (z : ℕ × ℕ). way_told x ys taken (teller v.returns 0 (counted_by x p.node ys)) p.node z) (sym two)) h
   way_at_cut b (cases_tree ts) sides way e w h = absurd h.known.spelled
 
-  pub way_is : (s : Spot) (sides : ℕ × ℕ) (way : Way) → IsPlace v.columns nodes x v.claims ys rows s p → sides_in x p.node ≡ Some sides →
+  pub way_is : (s : TreeSpot) (sides : ℕ × ℕ) (way : Way) → IsPlace v.columns nodes x v.claims ys rows s p → sides_in x p.node ≡ Some sides →
       way ≡ way_told x ys taken (teller v.returns 0 (counted_by x p.node ys)) p.node sides → IsWay v taken nodes x ys rows p (stops_at v taken s) way
   way_is s sides way h e w =
       let k : IsHere v nodes x ys rows s.branch s.tree p = known_as s h in
@@ -327,7 +327,7 @@ module _ (v : View) (taken : List (ℕ × ℕ × Bool)) (nodes : List PlainNode)
 
 -- the place is that of a spot from which the refutation stops at the same
 pub record IsOnWay (v : View) (taken : List (ℕ × ℕ × Bool)) (nodes : List PlainNode) (x : code_trees.Tree) (ys : List code.Claim) (rows : ℕ) (stop : Stop) (p : place.Spot) : Type 0 where
-  pub at : Spot
+  pub at : TreeSpot
   pub place_is : IsPlace v.columns nodes x v.claims ys rows at p
   pub same : stop ≡ stops_at v taken at
 

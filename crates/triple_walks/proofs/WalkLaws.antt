@@ -8,7 +8,7 @@ use Rattle.farkas_check.specs.Nodes.{PlainNode, leaf, cut, cases, plain, plain_n
 use Rattle.farkas_check.specs.Trees.{Tree, leaf_tree, cut_tree, cases_tree, prefix_of}
 use Rattle.farkas_check.specs.declared.refutations.Node.{Node}
 use Rattle.nested_predicates.specs.Sums.{Branch, terms_from}
-use Rattle.nested_refutations.specs.Refutations.{Claim, Spot, side_of, low_side, high_side, Exposed, exposed, Role, View, Goes, multipliers, Stop, at_leaf, at_cut, at_group, nowhere, stops_at, with_own, atom_roles, is_used, of_claim, with_member, member_taken, opened, leaf_of}
+use Rattle.nested_refutations.specs.Refutations.{Claim, TreeSpot, side_of, low_side, high_side, Exposed, exposed, Role, View, Gathered, multipliers, Stop, at_leaf, at_cut, at_group, nowhere, stops_at, with_own, atom_roles, is_used, of_claim, with_member, member_taken, opened, leaf_of}
 use Rattle.nested_refutations.specs.Walked.{ComesTo, AreWalkedFrom}
 use Rattle.nested_refutations.specs.Waiting.{IsNotEmpty, AfterOpening, HasGroupAlong, GroupsWait}
 use Rattle.nested_refutations.proofs.PutLaws.{comes_first, comes_leaf, comes_cut, comes_cases, comes_last}
@@ -50,7 +50,7 @@ all_joined P [] ys h k = k
 all_joined P (x ∷ xs) ys h k = (h.0, all_joined P xs ys h.1 k)
 
 -- the numbers of a group, and those of a claim's at a cut
-abbrev pub number_of : ℕ × Spot → ℕ × ℕ
+abbrev pub number_of : ℕ × TreeSpot → ℕ × ℕ
 number_of p = (p.0, p.1.node)
 
 abbrev with_claim : ℕ → ℕ → ℕ × ℕ
@@ -95,37 +95,37 @@ keeps_given a b c t i used leaves groups d e =
 -- ---- a part begins
 
 -- the claim of a member is there, and so are the sides of its cut
-pub member_claimed : (v : View) (x : code.Guide) (t : member.Taken) (g h : Goes) → TakesMember v x t g h → slice_get x.claims.now t.claim ≡ None → ⊥
+pub member_claimed : (v : View) (x : code.Guide) (t : member.Taken) (g h : Gathered) → TakesMember v x t g h → slice_get x.claims.now t.claim ≡ None → ⊥
 member_claimed v x t g h m e =
     let told = told_at v.columns x.tree.now m.side v.claims x.claims.now t.claim m.claim m.known.claims m.found in
     none_some (slice_get x.claims.now t.claim) told.0 e told.1
 
-pub member_sided : (v : View) (x : code.Guide) (t : member.Taken) (g h : Goes) → TakesMember v x t g h → sides_in x.tree.now t.node ≡ None → ⊥
+pub member_sided : (v : View) (x : code.Guide) (t : member.Taken) (g h : Gathered) → TakesMember v x t g h → sides_in x.tree.now t.node ≡ None → ⊥
 member_sided v x t g h m e = none_some (sides_in x.tree.now t.node) (m.first, m.second) e m.sides
 
 cut_is : (t : Tree) → IsCut t → IsCutTree t
 cut_is t c = subst IsCutTree (sym c.is_cut) tt
 
-groups_known : (v : View) (x : code.Guide) (i : ℕ) (c : Claim) → slice_get v.claims i ≡ Some c → (ss : List Spot) → AllByRecursion (Known v x) ss → AllByRecursion HasCut ss →
+groups_known : (v : View) (x : code.Guide) (i : ℕ) (c : Claim) → slice_get v.claims i ≡ Some c → (ss : List TreeSpot) → AllByRecursion (Known v x) ss → AllByRecursion HasCut ss →
     AllByRecursion (IsGroup v x) (of_claim i ss)
 groups_known v x i c e [] h k = tt
 groups_known v x i c e (s ∷ ss) h k = (record { claim = c; found = e; is_cut = cut_is s.tree k.0; known = h.0 }, groups_known v x i c e ss h.1 k.1)
 
-pub of_claim_numbers : (i : ℕ) (ss : List Spot) → map (with_claim i) (map (λ z. z.node) ss) ≡ map number_of (of_claim i ss)
+pub of_claim_numbers : (i : ℕ) (ss : List TreeSpot) → map (with_claim i) (map (λ z. z.node) ss) ≡ map number_of (of_claim i ss)
 of_claim_numbers i [] = refl
 of_claim_numbers i (s ∷ ss) = ap (λ (l : List (ℕ × ℕ)). (i, s.node) ∷ l) (of_claim_numbers i ss)
 
 -- what a claim gives at a node: its rows and groups are those of the definition
-pub groups_joined : (v : View) (x : code.Guide) (i : ℕ) (c : Claim) (s : Spot) (first : ℕ) (all : List (ℕ × ℕ)) (waits : List (ℕ × Spot)) (groups : List ℕ) → slice_get v.claims i ≡ Some c → Known v x s →
+pub groups_joined : (v : View) (x : code.Guide) (i : ℕ) (c : Claim) (s : TreeSpot) (first : ℕ) (all : List (ℕ × ℕ)) (waits : List (ℕ × TreeSpot)) (groups : List ℕ) → slice_get v.claims i ≡ Some c → Known v x s →
     first ≤ length all → drop first all ≡ map number_of waits → groups ≡ map (λ z. z.node) (exposed v.columns c s.node s.branch s.tree).groups →
     drop first (all ++ map (with_claim i) groups) ≡ map number_of (waits ++ of_claim i (exposed v.columns c s.node s.branch s.tree).groups)
 groups_joined v x i c s first all waits groups found known opened e d =
-    let more : List Spot = (exposed v.columns c s.node s.branch s.tree).groups in
+    let more : List TreeSpot = (exposed v.columns c s.node s.branch s.tree).groups in
     drop-append-le first all (map (with_claim i) groups) opened ∙ ap (λ (l : List (ℕ × ℕ)). l ++ map (with_claim i) groups) e ∙
     ap (λ (l : List ℕ). map number_of waits ++ map (with_claim i) l) d ∙ ap (λ (l : List (ℕ × ℕ)). map number_of waits ++ l) (of_claim_numbers i more) ∙
     sym (map-append number_of waits (of_claim i more))
 
-pub groups_known_at : (v : View) (x : code.Guide) (i : ℕ) (c : Claim) (s : Spot) → slice_get v.claims i ≡ Some c → Known v x s →
+pub groups_known_at : (v : View) (x : code.Guide) (i : ℕ) (c : Claim) (s : TreeSpot) → slice_get v.claims i ≡ Some c → Known v x s →
     AllByRecursion (IsGroup v x) (of_claim i (exposed v.columns c s.node s.branch s.tree).groups)
 groups_known_at v x i c s found known =
     groups_known v x i c found (exposed v.columns c s.node s.branch s.tree).groups (known_groups v.columns (plain_nodes x.nodes.now) x.tree.now v.claims x.claims.now c s known)
@@ -134,12 +134,12 @@ groups_known_at v x i c s found known =
 pub used_is : (v : View) (x : code.Guide) (i : ℕ) (used : Bool) → IsLed v x → used ≡ not (x.returns && nat_eq i 0) → used ≡ is_used v i
 used_is v x i used led e = e ∙ ap (λ (b : Bool). not (b && nat_eq i 0)) (sym led.returns)
 
-pub member_given : (v : View) (x : code.Guide) (t : member.Taken) (g h : Goes) (a b c : PlainGoal) (y : claims.Claim) (sides : ℕ × ℕ) (node : ℕ) (used : Bool) (e : found.Exposed) → IsLed v x →
+pub member_given : (v : View) (x : code.Guide) (t : member.Taken) (g h : Gathered) (a b c : PlainGoal) (y : claims.Claim) (sides : ℕ × ℕ) (node : ℕ) (used : Bool) (e : found.Exposed) → IsLed v x →
     b ≡ with_taken (taken_of t) a → slice_get x.claims.now t.claim ≡ Some y → sides_in x.tree.now t.node ≡ Some sides → node ≡ side_of t.second sides.0 sides.1 →
-    ((columns : List ℕ) (k : Claim) (s : Spot) → node ≡ s.node → Tells columns x.tree.now s k y → IsExposed (exposed columns k s.node s.branch s.tree) e) → used ≡ not (x.returns && nat_eq t.claim 0) →
+    ((columns : List ℕ) (k : Claim) (s : TreeSpot) → node ≡ s.node → Tells columns x.tree.now s k y → IsExposed (exposed columns k s.node s.branch s.tree) e) → used ≡ not (x.returns && nat_eq t.claim 0) →
     c ≡ with_exposed t.claim used e.leaves.items e.groups.items b → IsAtHand v x g a → TakesMember v x t g h → IsAtHand v x h c
 member_given v x t g h a b c y sides node used e led eb ey es en f eu ec at m =
-    let s : Spot = m.side in
+    let s : TreeSpot = m.side in
     let i : ℕ = t.claim in
     let more : Exposed = exposed v.columns m.claim s.node s.branch s.tree in
     let told = told_at v.columns x.tree.now s v.claims x.claims.now i m.claim m.known.claims m.found in
@@ -152,7 +152,7 @@ member_given v x t g h a b c y sides node used e led eb ey es en f eu ec at m =
     let from : PlainGoal = with_exposed i used e.leaves.items e.groups.items (with_taken (taken_of t) a) in
     let l = length-append a.groups (map (with_claim i) e.groups.items) in
     let o = at.goal.opened in
-    subst (λ (z : Goes). IsAtHand v x z c) (sym m.goes)
+    subst (λ (z : Gathered). IsAtHand v x z c) (sym m.goes)
     (subst (IsAtHand v x (with_member v i m.claim t.node t.second s g)) (sym (ec ∙ ap (with_exposed i used e.leaves.items e.groups.items) eb))
     (record {
       goal = record {
@@ -167,7 +167,7 @@ member_given v x t g h a b c y sides node used e led eb ey es en f eu ec at m =
 
 -- ---- parts that wait
 
-pub waiting_kept : (v : View) (x : code.Guide) (a b : PlainGoal) → Keeps a b → (ws : List part.Waiting) (ps : List (Goes × Stop)) → AreWaiting v x a ws ps → AreWaiting v x b ws ps
+pub waiting_kept : (v : View) (x : code.Guide) (a b : PlainGoal) → Keeps a b → (ws : List part.Waiting) (ps : List (Gathered × Stop)) → AreWaiting v x a ws ps → AreWaiting v x b ws ps
 waiting_kept v x a b k [] [] h = tt
 waiting_kept v x a b k [] (p ∷ ps) h = absurd h
 waiting_kept v x a b k (w ∷ ws) [] h = absurd h
@@ -183,7 +183,7 @@ back_here g =
     same_goal _ _ _ _ g.first _ _ (take_all (length g.roles) g.roles (omega arith)) (take_all (length g.groups) g.groups (omega arith)) (take_all (length g.taken) g.taken (omega arith))
 
 -- one more part waits, from the goal at hand on
-pub waits_more : (v : View) (x : code.Guide) (g : PlainGoal) (w : part.Waiting) (h : Goes) (stop : Stop) (ws : List part.Waiting) (ps : List (Goes × Stop)) → w.mark ≡ mark_of g →
+pub waits_more : (v : View) (x : code.Guide) (g : PlainGoal) (w : part.Waiting) (h : Gathered) (stop : Stop) (ws : List part.Waiting) (ps : List (Gathered × Stop)) → w.mark ≡ mark_of g →
     IsWaiting v x g w h stop → AreWaiting v x g ws ps → AreWaiting v x g (w ∷ ws) ((h, stop) ∷ ps)
 waits_more v x g w h stop ws ps e is are =
     let back : gone_back w.mark g ≡ g = ap (λ (m : mark.Mark). gone_back m g) e ∙ back_here g in (
@@ -194,13 +194,13 @@ waits_more v x g w h stop ws ps e is are =
 
 -- ---- from a part that waited on
 
-pub part_comes : (v : View) (x : code.Guide) (first : Goes) (from : Stop) (next : part.Waiting) (old here new : walks.Walk) → IsLed v x → ComesNext v x first from next old →
+pub part_comes : (v : View) (x : code.Guide) (first : Gathered) (from : Stop) (next : part.Waiting) (old here new : walks.Walk) → IsLed v x → ComesNext v x first from next old →
     plain_goal here.goal ≡ gone_back next.mark (plain_goal old.goal) → Keeps (plain_goal here.goal) (plain_goal new.goal) →
-    ((g h : Goes) → IsAtHand v x g (plain_goal here.goal) → IsBegun v x next.begin g h → IsAtHand v x h (plain_goal new.goal)) → new.nodes.items ≡ old.nodes.items → new.waiting.items ≡ old.waiting.items →
-    (h : Goes) × (s : Spot) × IsThere v x s next.spot × IsComing v x first from h (stops_at v h.taken s) new
+    ((g h : Gathered) → IsAtHand v x g (plain_goal here.goal) → IsBegun v x next.begin g h → IsAtHand v x h (plain_goal new.goal)) → new.nodes.items ≡ old.nodes.items → new.waiting.items ≡ old.waiting.items →
+    (h : Gathered) × (s : TreeSpot) × IsThere v x s next.spot × IsComing v x first from h (stops_at v h.taken s) new
 part_comes v x first from next old here new led c e k f en ew =
     let w : IsWaiting v x (gone_back next.mark (plain_goal old.goal)) next c.here.0 c.here.1 = c.waiting.1 in
-    let h : Goes = c.here.0 in
+    let h : Gathered = c.here.0 in
     let back : gone_back next.mark (plain_goal old.goal) ≡ plain_goal here.goal = sym e in (
       h,
       w.spot,
@@ -218,9 +218,9 @@ part_comes v x first from next old here new led c e k f en ew =
     )
 
 -- where the refutation stops, with the members that were taken
-pub stop_is : (v : View) (x : code.Guide) (h : Goes) (s : Spot) (p : place.Spot) (g : goals.Goal) (taken : List member.Taken) (f to : stop_found.Stop) → IsLed v x → IsThere v x s p → IsAtHand v x h (plain_goal g) →
+pub stop_is : (v : View) (x : code.Guide) (h : Gathered) (s : TreeSpot) (p : place.Spot) (g : goals.Goal) (taken : List member.Taken) (f to : stop_found.Stop) → IsLed v x → IsThere v x s p → IsAtHand v x h (plain_goal g) →
     taken ≡ g.taken.items → f ≡ to →
-    ((w : View) (nodes : List PlainNode) (rows : ℕ) (z : Spot) → w.returns ≡ x.returns → IsPlace w.columns nodes x.tree.now w.claims x.claims.now rows z p →
+    ((w : View) (nodes : List PlainNode) (rows : ℕ) (z : TreeSpot) → w.returns ≡ x.returns → IsPlace w.columns nodes x.tree.now w.claims x.claims.now rows z p →
     IsStop w.columns nodes x.tree.now w.claims x.claims.now rows (stops_at w (reverse (map taken_of taken)) z) f) → StopsThere v x (stops_at v h.taken s) to
 stop_is v x h s p g taken f to led there at et ef stops =
     let members : reverse (map taken_of taken) ≡ h.taken = ap (λ (l : List member.Taken). reverse (map taken_of l)) et ∙ at.goal.taken in
@@ -245,7 +245,7 @@ leaf_there v x (at_cut r col k low high) m h e = absurd h
 leaf_there v x (at_group s) m h e = absurd h
 leaf_there v x nowhere m h e = absurd h
 
-pub leaf_put : (v : View) (x : code.Guide) (first h : Goes) (from stop : Stop) (m : ℕ) (old new : walks.Walk) (parts found : List (ℕ × ℤ)) (put : Node) (roles : List row.Role) → StopsThere v x stop (stopped.Leaf m) →
+pub leaf_put : (v : View) (x : code.Guide) (first h : Gathered) (from stop : Stop) (m : ℕ) (old new : walks.Walk) (parts found : List (ℕ × ℤ)) (put : Node) (roles : List row.Role) → StopsThere v x stop (stopped.Leaf m) →
     IsComing v x first from h stop old → parts_in (slice_get (plain_nodes x.nodes.now) m) ≡ Some parts →
     ((w : View) (b : Branch) → AllTell w.columns x.tree.now (record { node = m; branch = b; tree = leaf_tree parts }) w.claims x.claims.now →
     found ≡ terms_from 0 (multipliers w m b parts (map role_of roles))) → roles ≡ old.goal.roles.items → plain put ≡ leaf found → new.nodes.items ≡ old.nodes.items ++ put ∷ [] → new.goal ≡ old.goal →
@@ -294,7 +294,7 @@ cut_sided v x (at_group s) p led h e = absurd h
 cut_sided v x nowhere p led h e = absurd h
 
 -- a side of a cut waits
-side_waits : (v : View) (x : code.Guide) (g : PlainGoal) (h : Goes) (r row col : ℕ) (k : ℤ) (side : Bool) (low high : Spot) (w : part.Waiting) → r ≡ row → w.begin ≡ Side row → IsAtHand v x h g →
+side_waits : (v : View) (x : code.Guide) (g : PlainGoal) (h : Gathered) (r row col : ℕ) (k : ℤ) (side : Bool) (low high : TreeSpot) (w : part.Waiting) → r ≡ row → w.begin ≡ Side row → IsAtHand v x h g →
     IsThere v x (side_of side low high) w.spot → GroupsWait v h (at_cut r col k low high) →
     IsWaiting v x g w (with_own v r col k side h) (stops_at v h.taken (side_of side low high))
 side_waits v x g h r row col k side low high w e b at there groups = record {
@@ -309,11 +309,11 @@ side_waits v x g h r row col k side low high w e b at there groups = record {
 }
 
 -- the places of the sides
-side_there : (v : View) (x : code.Guide) (s : Spot) (p q : place.Spot) (b : Branch) → length b.rows ≡ x.rows + p.depth → length s.branch.rows ≡ length b.rows + 1 → q.node ≡ s.node → q.depth ≡ p.depth + 1 →
+side_there : (v : View) (x : code.Guide) (s : TreeSpot) (p q : place.Spot) (b : Branch) → length b.rows ≡ x.rows + p.depth → length s.branch.rows ≡ length b.rows + 1 → q.node ≡ s.node → q.depth ≡ p.depth + 1 →
     Known v x s → IsThere v x s q
 side_there v x s p q b e f n d k = record { node = n; depth = omega (arith, e, f, d); known = k }
 
-pub cut_put : (v : View) (x : code.Guide) (first h : Goes) (from stop : Stop) (p : place.Spot) (old new : walks.Walk) (c col row : ℕ) (k : ℤ) (sides : ℕ × ℕ) (put : Node) (low_at high_at : place.Spot)
+pub cut_put : (v : View) (x : code.Guide) (first h : Gathered) (from stop : Stop) (p : place.Spot) (old new : walks.Walk) (c col row : ℕ) (k : ℤ) (sides : ℕ × ℕ) (put : Node) (low_at high_at : place.Spot)
     (low_part high_part : part.Waiting) → IsLed v x → StopsThere v x stop (stopped.Cut p) → IsComing v x first from h stop old → cut_in (slice_get (plain_nodes x.nodes.now) p.node) ≡ Some (c, k) →
     sides_in x.tree.now p.node ≡ Some sides → col ≡ column_place x.columns.now c → plain put ≡ cut col k → row ≡ x.rows + p.depth → low_at.node ≡ sides.0 → low_at.depth ≡ p.depth + 1 →
     high_at.node ≡ sides.1 → high_at.depth ≡ p.depth + 1 → low_part ≡ record { spot = low_at; begin = Side row; mark = mark_of (plain_goal old.goal) } →
@@ -326,8 +326,8 @@ cut_put v x first h from (at_cut r c0 k0 low high) p old new c col row k sides p
     let nodes : List PlainNode = plain_nodes x.nodes.now in
     let g : PlainGoal = plain_goal old.goal in
     let b : Branch = at.branch in
-    let to_low : Spot = low_side v.columns p.node b c0 k0 at.first in
-    let to_high : Spot = high_side v.columns p.node b c0 k0 at.first at.second in
+    let to_low : TreeSpot = low_side v.columns p.node b c0 k0 at.first in
+    let to_high : TreeSpot = high_side v.columns p.node b c0 k0 at.first at.second in
     let pair : (c0, k0) ≡ (c, k) = some_same (cut_in (slice_get nodes p.node)) (c0, k0) (c, k) (ap cut_in at.here.known.spelled.0) ec in
     let read : sides ≡ (suc p.node, suc p.node + length (prefix_of at.first)) =
     some_same (sides_in x.tree.now p.node) sides (suc p.node, suc p.node + length (prefix_of at.first)) es at.here.known.sides.0 in
@@ -337,11 +337,11 @@ cut_put v x first h from (at_cut r c0 k0 low high) p old new c col row k sides p
     sym (ap plain_nodes en ∙ map_push plain old.nodes.items put ∙ ap (λ (z : PlainNode). plain_nodes old.nodes.items ++ z ∷ []) put_is) in
     let at_row : r ≡ row = at.row ∙ at.here.depth ∙ sym erow in
     let low_there : IsThere v x low low_at =
-    subst (λ (s : Spot). IsThere v x s low_at) (sym at.low_is)
+    subst (λ (s : TreeSpot). IsThere v x s low_at) (sym at.low_is)
     (side_there v x to_low p low_at b at.here.depth (length-append b.rows _) (eln ∙ ap (λ (q : ℕ × ℕ). q.0) read) eld
     (known_low v.columns nodes x.tree.now v.claims x.claims.now p.node b c0 k0 at.first at.second at.here.known)) in
     let high_there : IsThere v x high high_at =
-    subst (λ (s : Spot). IsThere v x s high_at) (sym at.high_is)
+    subst (λ (s : TreeSpot). IsThere v x s high_at) (sym at.high_is)
     (side_there v x to_high p high_at b at.here.depth (length-append b.rows _) (ehn ∙ ap (λ (q : ℕ × ℕ). q.1) read) ehd
     (known_high v.columns nodes x.tree.now v.claims x.claims.now p.node b c0 k0 at.first at.second at.here.known)) in
     let low_waits : IsWaiting v x g low_part (with_own v r c0 k0 false h) (stops_at v h.taken low) =
@@ -350,7 +350,7 @@ cut_put v x first h from (at_cut r c0 k0 low high) p old new c col row k sides p
     let high_waits : IsWaiting v x g high_part (with_own v r c0 k0 true h) (stops_at v h.taken high) =
     side_waits v x g h r row c0 k0 true low high high_part at_row (ap (λ (z : part.Waiting). z.begin) ehp) coming.goal
     (subst (IsThere v x high) (sym (ap (λ (z : part.Waiting). z.spot) ehp)) high_there) coming.groups in
-    let left : List (Goes × Stop) = (with_own v r c0 k0 false h, stops_at v h.taken low) ∷ (with_own v r c0 k0 true h, stops_at v h.taken high) ∷ coming.left in
+    let left : List (Gathered × Stop) = (with_own v r c0 k0 false h, stops_at v h.taken low) ∷ (with_own v r c0 k0 true h, stops_at v h.taken high) ∷ coming.left in
     let all : AreWaiting v x g (low_part ∷ high_part ∷ reverse old.waiting.items) left =
     waits_more v x g low_part (with_own v r c0 k0 false h) (stops_at v h.taken low) (high_part ∷ reverse old.waiting.items) ((with_own v r c0 k0 true h, stops_at v h.taken high) ∷ coming.left) (ap (λ (z : part.Waiting). z.mark) elp) low_waits
     (waits_more v x g high_part (with_own v r c0 k0 true h) (stops_at v h.taken high) (reverse old.waiting.items) coming.left (ap (λ (z : part.Waiting). z.mark) ehp) high_waits coming.waiting) in
@@ -383,12 +383,12 @@ first_at [] n y e = absurd (cc)
 first_at (x ∷ l) zero y e = ap (λ z. z ∷ l) (some_same (Some x) x y refl e)
 first_at (x ∷ l) (suc n) y e = first_at l n y e
 
-no_groups : (ps : List (ℕ × Spot)) → [] ≡ map number_of ps → IsNotEmpty ps → ⊥
+no_groups : (ps : List (ℕ × TreeSpot)) → [] ≡ map number_of ps → IsNotEmpty ps → ⊥
 no_groups [] e h = h
 no_groups (p ∷ ps) e h = absurd (cc)
 
 -- at a group one waits
-pub group_there : (v : View) (x : code.Guide) (first h : Goes) (from stop : Stop) (p : place.Spot) (old : walks.Walk) → StopsThere v x stop (stopped.Group p) → IsComing v x first from h stop old →
+pub group_there : (v : View) (x : code.Guide) (first h : Gathered) (from stop : Stop) (p : place.Spot) (old : walks.Walk) → StopsThere v x stop (stopped.Group p) → IsComing v x first from h stop old →
     slice_get (plain_goal old.goal).groups (plain_goal old.goal).first ≡ None → ⊥
 group_there v x first h from (at_leaf n b parts) p old at coming e = absurd at
 group_there v x first h from (at_cut r col k low high) p old at coming e = absurd at
@@ -400,10 +400,10 @@ abbrev member_of : group.Group → Bool → member.Taken
 member_of g side = record { claim = g.claim; node = g.node; second = side }
 
 -- the first group is opened: what is left, and what comes with each of its members
-record Opens (v : View) (x : code.Guide) (h : Goes) (g : group.Group) (b : PlainGoal) : Type 0 where
-  pub rest : Goes
+record Opens (v : View) (x : code.Guide) (h : Gathered) (g : group.Group) (b : PlainGoal) : Type 0 where
+  pub rest : Gathered
   pub at : IsAtHand v x rest b
-  pub next : Bool → Goes
+  pub next : Bool → Gathered
   pub opened_is : (side : Bool) → opened v side h h.groups ≡ Some (next side)
   pub takes : (side : Bool) → TakesMember v x (member_of g side) rest (next side)
 
@@ -417,15 +417,15 @@ side_known : (v : View) (x : code.Guide) (side : Bool) (n : ℕ) (b : Branch) (c
 side_known v x false n b c k t u h = known_low v.columns (plain_nodes x.nodes.now) x.tree.now v.claims x.claims.now n b c k t u h
 side_known v x true n b c k t u h = known_high v.columns (plain_nodes x.nodes.now) x.tree.now v.claims x.claims.now n b c k t u h
 
-opens_cut : (v : View) (x : code.Guide) (h : Goes) (a b : PlainGoal) (g : group.Group) → IsLed v x → IsAtHand v x h a → b ≡ record a { first = suc a.first } → a.first < length a.groups →
-    (i n : ℕ) (d : Branch) (tree : Tree) (rest : List (ℕ × Spot)) → h.groups ≡ (i, record { node = n; branch = d; tree = tree }) ∷ rest → i ≡ g.claim → n ≡ g.node →
+opens_cut : (v : View) (x : code.Guide) (h : Gathered) (a b : PlainGoal) (g : group.Group) → IsLed v x → IsAtHand v x h a → b ≡ record a { first = suc a.first } → a.first < length a.groups →
+    (i n : ℕ) (d : Branch) (tree : Tree) (rest : List (ℕ × TreeSpot)) → h.groups ≡ (i, record { node = n; branch = d; tree = tree }) ∷ rest → i ≡ g.claim → n ≡ g.node →
     drop (suc a.first) a.groups ≡ map number_of rest → (c : Claim) → slice_get v.claims i ≡ Some c → IsCutTree tree → Known v x (record { node = n; branch = d; tree = tree }) →
     AllByRecursion (IsGroup v x) rest → Opens v x h g b
 opens_cut v x h a b g led at eb l i n d (leaf_tree parts) rest e ei en ed c found is known others = absurd is
 opens_cut v x h a b g led at eb l i n d (cases_tree ts) rest e ei en ed c found is known others = absurd is
 opens_cut v x h a b g led at eb l i n d (cut_tree col k t u) rest e ei en ed c found is known others =
-    let to : Bool → Spot = λ side. side_of side (low_side v.columns n d col k t) (high_side v.columns n d col k t u) in
-    let left : Goes = record h { groups = rest } in
+    let to : Bool → TreeSpot = λ side. side_of side (low_side v.columns n d col k t) (high_side v.columns n d col k t u) in
+    let left : Gathered = record h { groups = rest } in
     record {
       rest = left;
       at = subst (IsAtHand v x left) (sym eb) (record { goal = record { roles = at.goal.roles; groups = ed; opened = omega (arith, l); taken = at.goal.taken }; groups = others });
@@ -444,8 +444,8 @@ opens_cut v x h a b g led at eb l i n d (cut_tree col k t u) rest e ei en ed c f
       };
     }
 
-opens_first : (v : View) (x : code.Guide) (h : Goes) (a b : PlainGoal) (g : group.Group) → IsLed v x → IsAtHand v x h a → b ≡ record a { first = suc a.first } → a.first < length a.groups →
-    (waits : List (ℕ × Spot)) → h.groups ≡ waits → group_of g ∷ drop (suc a.first) a.groups ≡ map number_of waits → AllByRecursion (IsGroup v x) waits → Opens v x h g b
+opens_first : (v : View) (x : code.Guide) (h : Gathered) (a b : PlainGoal) (g : group.Group) → IsLed v x → IsAtHand v x h a → b ≡ record a { first = suc a.first } → a.first < length a.groups →
+    (waits : List (ℕ × TreeSpot)) → h.groups ≡ waits → group_of g ∷ drop (suc a.first) a.groups ≡ map number_of waits → AllByRecursion (IsGroup v x) waits → Opens v x h g b
 opens_first v x h a b g led at eb l [] e f known = absurd (cc)
 opens_first v x h a b g led at eb l (p ∷ rest) e f known =
     let same : group_of g ≡ number_of p = cc in
@@ -458,13 +458,13 @@ below_length [] n y e = absurd (cc)
 below_length (x ∷ l) zero y e = omega arith
 below_length (x ∷ l) (suc n) y e = let h = below_length l n y e in omega (arith, h)
 
-group_opens : (v : View) (x : code.Guide) (h : Goes) (a b : PlainGoal) (g : group.Group) → IsLed v x → IsAtHand v x h a → slice_get a.groups a.first ≡ Some (group_of g) →
+group_opens : (v : View) (x : code.Guide) (h : Gathered) (a b : PlainGoal) (g : group.Group) → IsLed v x → IsAtHand v x h a → slice_get a.groups a.first ≡ Some (group_of g) →
     b ≡ without_first (slice_get a.groups a.first) a → Opens v x h g b
 group_opens v x h a b g led at e eb =
     opens_first v x h a b g led at (eb ∙ ap (λ (o : Option (ℕ × ℕ)). without_first o a) e) (below_length a.groups a.first (group_of g) e) h.groups refl
     (sym (first_at a.groups a.first (group_of g) e) ∙ at.goal.groups) at.groups
 
-member_waits : (v : View) (x : code.Guide) (h : Goes) (g : group.Group) (b : PlainGoal) (s : Spot) (p : place.Spot) (w : part.Waiting) (side : Bool) (o : Opens v x h g b) → IsThere v x s p → w.spot ≡ p →
+member_waits : (v : View) (x : code.Guide) (h : Gathered) (g : group.Group) (b : PlainGoal) (s : TreeSpot) (p : place.Spot) (w : part.Waiting) (side : Bool) (o : Opens v x h g b) → IsThere v x s p → w.spot ≡ p →
     w.begin ≡ Member (member_of g side) → GroupsWait v h (at_group s) → IsWaiting v x b w (o.next side) (stops_at v (o.next side).taken s)
 member_waits v x h g b s p w side o there ep eb groups = record {
   before = o.rest;
@@ -473,14 +473,14 @@ member_waits v x h g b s p w side o there ep eb groups = record {
   spot = s;
   there = subst (IsThere v x s) (sym ep) there;
   stops = refl;
-  groups = λ sides. subst (λ (z : Option Goes). AfterOpening z (λ y. HasGroupAlong v sides y (stops_at v y.taken s))) (o.opened_is side) (groups (side ∷ sides));
+  groups = λ sides. subst (λ (z : Option Gathered). AfterOpening z (λ y. HasGroupAlong v sides y (stops_at v y.taken s))) (o.opened_is side) (groups (side ∷ sides));
 }
 
 keeps_first : (a b : PlainGoal) (o : Option (ℕ × ℕ)) → b ≡ without_first o a → Keeps a b
 keeps_first a b None e = subst (Keeps a) (sym e) (keeps_same a)
 keeps_first a b (Some group) e = subst (Keeps a) (sym e) (λ m w. (record { roles = w.roles; groups = w.groups; taken = w.taken }, refl))
 
-pub group_put : (v : View) (x : code.Guide) (first h : Goes) (from stop : Stop) (p : place.Spot) (old new : walks.Walk) (mid : goals.Goal) (g : group.Group) (put : Node) (first_part second_part : part.Waiting) →
+pub group_put : (v : View) (x : code.Guide) (first h : Gathered) (from stop : Stop) (p : place.Spot) (old new : walks.Walk) (mid : goals.Goal) (g : group.Group) (put : Node) (first_part second_part : part.Waiting) →
     IsLed v x → StopsThere v x stop (stopped.Group p) → IsComing v x first from h stop old → slice_get (plain_goal old.goal).groups (plain_goal old.goal).first ≡ Some (group_of g) →
     plain_goal mid ≡ without_first (slice_get (plain_goal old.goal).groups (plain_goal old.goal).first) (plain_goal old.goal) → plain put ≡ cases 2 →
     first_part ≡ record { spot = p; begin = Member (record { claim = g.claim; node = g.node; second = false }); mark = mark_of (plain_goal mid) } →
@@ -493,13 +493,13 @@ group_put v x first h from (at_group s) p old new mid g put first_part second_pa
     let a : PlainGoal = plain_goal old.goal in
     let b : PlainGoal = plain_goal mid in
     let o : Opens v x h g b = group_opens v x h a b g led coming.goal e em in
-    let one : Goes = o.next false in
-    let two : Goes = o.next true in
+    let one : Gathered = o.next false in
+    let two : Gathered = o.next true in
     let to_one : Stop = stops_at v one.taken s in
     let to_two : Stop = stops_at v two.taken s in
     let listed : plain_nodes old.nodes.items ++ cases 2 ∷ [] ≡ plain_nodes new.nodes.items =
     sym (ap plain_nodes en ∙ map_push plain old.nodes.items put ∙ ap (λ (z : PlainNode). plain_nodes old.nodes.items ++ z ∷ []) eput) in
-    let left : List (Goes × Stop) = (one, to_one) ∷ (two, to_two) ∷ coming.left in
+    let left : List (Gathered × Stop) = (one, to_one) ∷ (two, to_two) ∷ coming.left in
     let one_waits : IsWaiting v x b first_part one to_one =
     member_waits v x h g b s p first_part false o at (ap (λ (z : part.Waiting). z.spot) ef) (ap (λ (z : part.Waiting). z.begin) ef) coming.groups in
     let two_waits : IsWaiting v x b second_part two to_two =
@@ -519,7 +519,7 @@ group_put v x first h from (at_group s) p old new mid g put first_part second_pa
 -- ---- the whole walk
 
 -- it begins at the root
-pub walk_begins : (v : View) (x : code.Guide) (h : Goes) (s : Spot) (g : goals.Goal) (new : walks.Walk) → IsAtHand v x h (plain_goal g) → IsThere v x s (record { node = 0; depth = 0 }) →
+pub walk_begins : (v : View) (x : code.Guide) (h : Gathered) (s : TreeSpot) (g : goals.Goal) (new : walks.Walk) → IsAtHand v x h (plain_goal g) → IsThere v x s (record { node = 0; depth = 0 }) →
     GroupsWait v h (stops_at v h.taken s) → new.goal ≡ g → new.nodes.items ≡ [] →
     new.waiting.items ≡ record { spot = record { node = 0; depth = 0 }; begin = Root; mark = mark_of (plain_goal g) } ∷ [] → HasCome v x h (stops_at v h.taken s) new
 walk_begins v x h s g new at there groups eg en ew =
@@ -534,12 +534,12 @@ walk_begins v x h s g new at there groups eg en ew =
     }
 
 -- it goes on with the last part
-pub walk_next : (v : View) (x : code.Guide) (first : Goes) (from : Stop) (next : part.Waiting) (old new : walks.Walk) → HasCome v x first from old → reverse old.waiting.items ≡ next ∷ reverse new.waiting.items →
+pub walk_next : (v : View) (x : code.Guide) (first : Gathered) (from : Stop) (next : part.Waiting) (old new : walks.Walk) → HasCome v x first from old → reverse old.waiting.items ≡ next ∷ reverse new.waiting.items →
     new.goal ≡ old.goal → new.nodes.items ≡ old.nodes.items → ComesNext v x first from next new
 walk_next v x first from next old new h e eg en =
     by_left h.left h.comes (subst (λ (l : List part.Waiting). AreWaiting v x (plain_goal old.goal) l h.left) e h.waiting)
   where
-    by_left : (left : List (Goes × Stop)) → ComesTo v first from (plain_nodes old.nodes.items) left → AreWaiting v x (plain_goal old.goal) (next ∷ reverse new.waiting.items) left →
+    by_left : (left : List (Gathered × Stop)) → ComesTo v first from (plain_nodes old.nodes.items) left → AreWaiting v x (plain_goal old.goal) (next ∷ reverse new.waiting.items) left →
         ComesNext v x first from next new
     by_left [] comes waits = absurd waits
     by_left (p ∷ left) comes waits = record {
@@ -550,9 +550,9 @@ walk_next v x first from next old new h e eg en =
     }
 
 -- it ends where no part waits
-pub walk_ends : (v : View) (x : code.Guide) (first : Goes) (from : Stop) (w : walks.Walk) → HasCome v x first from w → w.waiting.items ≡ [] → AreWalkedFrom v first from (plain_nodes w.nodes.items)
+pub walk_ends : (v : View) (x : code.Guide) (first : Gathered) (from : Stop) (w : walks.Walk) → HasCome v x first from w → w.waiting.items ≡ [] → AreWalkedFrom v first from (plain_nodes w.nodes.items)
 walk_ends v x first from w h e = by_left h.left h.comes (subst (λ (l : List part.Waiting). AreWaiting v x (plain_goal w.goal) (reverse l) h.left) e h.waiting)
   where
-    by_left : (left : List (Goes × Stop)) → ComesTo v first from (plain_nodes w.nodes.items) left → AreWaiting v x (plain_goal w.goal) [] left → AreWalkedFrom v first from (plain_nodes w.nodes.items)
+    by_left : (left : List (Gathered × Stop)) → ComesTo v first from (plain_nodes w.nodes.items) left → AreWaiting v x (plain_goal w.goal) [] left → AreWalkedFrom v first from (plain_nodes w.nodes.items)
     by_left [] comes waits = comes_last v first from (plain_nodes w.nodes.items) comes
     by_left (p ∷ left) comes waits = absurd waits

@@ -6,7 +6,7 @@ use Rattle.triple_rows.specs.declared.predicates.PredNode.TheVariants.{Truth, At
 use Rattle.nested_predicates.specs.Positions.{Position}
 use Rattle.nested_predicates.specs.Sums.{Branch}
 use Rattle.nested_predicates.specs.Simplifying.{is_same}
-use Rattle.nested_refutations.specs.Refutations.{Claim, truth_in, left_at, Asked, one_part, both_parts, some_part, each_asked, some_asked}
+use Rattle.nested_refutations.specs.Refutations.{Claim, truth_in, formula_at, Asked, one_part, both_parts, some_part, each_asked, some_asked}
 use Rattle.triple_walks.specs.Spots.{listed, node_in, is_counted_in}
 use Rattle.triple_walks.specs.declared.trees.Tree as code_trees
 use Rattle.triple_walks.specs.declared.claims.Claim as code
@@ -17,7 +17,7 @@ use Rattle.triple_walks.specs.declared.claims.Asked.TheVariants.{OnePart, BothPa
 
 -- what is left of a claim's predicate at each node, if it is a truth value
 abbrev pub lefts_of : List ℕ → Claim → Branch → Tree → List (Option Bool)
-lefts_of columns c b t = listed (λ s. truth_in (left_at columns c s.branch s.tree)) columns 0 b t
+lefts_of columns c b t = listed (λ s. truth_in (formula_at columns c s.branch s.tree)) columns 0 b t
 
 -- of two parts at a cut, which a part that has this truth value decides
 abbrev pub decided : Bool → Option Bool → Option Bool → Option Bool

@@ -1,6 +1,6 @@
 -- The goal at hand on the walk of a triple: what each of its rows is, the groups, and the members that were taken.
 use Rattle.std.specs.Prelude.{◌≡◌, ℕ, suc, ◌+◌, ◌≤◌, Bool, List, [], ◌∷◌, ◌++◌, map, reverse, take, drop, length, Option, None, Some}
-use Rattle.nested_refutations.specs.Refutations.{Role, spare, atom_at, branch_row, atom_roles, Goes}
+use Rattle.nested_refutations.specs.Refutations.{Role, spare, atom_at, branch_row, atom_roles, Gathered}
 use Rattle.triple_steps.specs.Sections.{tie_role}
 use Rattle.triple_walks.specs.Stops.{taken_of}
 use Rattle.triple_walks.specs.declared.goals.Role as row
@@ -59,7 +59,7 @@ gone_back m g = record { roles = take m.roles g.roles; groups = take m.groups g.
 -- ---- the goal of the definition
 
 -- the goal at hand is this one
-pub record IsGoal (h : Goes) (g : PlainGoal) : Type 0 where
+pub record IsGoal (h : Gathered) (g : PlainGoal) : Type 0 where
   pub roles : g.roles ≡ h.roles
   pub groups : drop g.first g.groups ≡ map (λ p. (p.0, p.1.node)) h.groups
   pub opened : g.first ≤ length g.groups

@@ -6,7 +6,7 @@ use Rattle.nwa_base.specs.declared.letters.Letter.{Letter}
 use Rattle.letter_acts.specs.Invariant.{Graph, alphabet_of}
 use Rattle.frame_rows.specs.Rows.{columns_from}
 use Rattle.nested_predicates.specs.Sums.{root_of}
-use Rattle.nested_refutations.specs.Refutations.{Claim, Spot, truth_in, left_at, exposed, View, of_claim}
+use Rattle.nested_refutations.specs.Refutations.{Claim, TreeSpot, truth_in, formula_at, exposed, View, of_claim}
 use Rattle.nested_refutations.specs.Numbers.{Step}
 use Rattle.nested_refutations.specs.Walked.{gaps_of, is_truth, IsPutDown}
 use Rattle.triple_steps.specs.Sections.{section_roles, roles_in, gaps_in, claims_in}
@@ -31,7 +31,7 @@ pub record IsPutFor (g : Graph) (w : List Letter) (t : Tree) (s : Step) (nodes :
 -- ---- the sections of a system
 
 -- the root of the word's tree
-abbrev pub root_spot : Graph → List Letter → Tree → Spot
+abbrev pub root_spot : Graph → List Letter → Tree → TreeSpot
 root_spot g w t = record { node = 0; branch = root_of g w; tree = t }
 
 -- the system of the step's triple has these sections
@@ -43,7 +43,7 @@ pub record IsLaid (g : Graph) (w : List Letter) (t : Tree) (s : Step) (sections 
 -- the claim is false, if there is one
 abbrev pub is_false_of : Graph → List Letter → Tree → View → Option Claim → Bool
 is_false_of g w t v None = false
-is_false_of g w t v (Some c) = is_truth (truth_in (left_at v.columns c (root_of g w) t)) c.is_denied
+is_false_of g w t v (Some c) = is_truth (truth_in (formula_at v.columns c (root_of g w) t)) c.is_denied
 
 -- the section is that of a claim that is false
 abbrev pub is_false_in : Graph → List Letter → Tree → View → Section → Bool
@@ -53,12 +53,12 @@ is_false_in g w t v (sections.Rows first count) = false
 is_false_in g w t v (sections.Tie tie) = false
 
 -- the groups of the claim with this number, if there is one
-abbrev pub claim_groups : Graph → List Letter → Tree → View → ℕ → Option Claim → List (ℕ × Spot)
+abbrev pub claim_groups : Graph → List Letter → Tree → View → ℕ → Option Claim → List (ℕ × TreeSpot)
 claim_groups g w t v i None = []
 claim_groups g w t v i (Some c) = of_claim i (exposed v.columns c 0 (root_of g w) t).groups
 
 -- those of a section
-abbrev pub section_groups : Graph → List Letter → Tree → View → Section → List (ℕ × Spot)
+abbrev pub section_groups : Graph → List Letter → Tree → View → Section → List (ℕ × TreeSpot)
 section_groups g w t v (sections.Claim i) = claim_groups g w t v i (slice_get v.claims i)
 section_groups g w t v (sections.Spare count) = []
 section_groups g w t v (sections.Rows first count) = []

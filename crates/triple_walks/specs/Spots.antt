@@ -8,7 +8,7 @@ use Rattle.triple_rows.specs.declared.predicates.PredNode.TheVariants.{Truth, At
 use Rattle.nested_predicates.specs.Positions.{Position}
 use Rattle.nested_predicates.specs.Sums.{Branch}
 use Rattle.nested_predicates.specs.Tables.{row_of_node}
-use Rattle.nested_refutations.specs.Refutations.{Spot, low_side, high_side}
+use Rattle.nested_refutations.specs.Refutations.{TreeSpot, low_side, high_side}
 use Rattle.triple_walks.specs.declared.trees.Tree as code
 
 -- ---- the tree
@@ -20,7 +20,7 @@ HasNoCases (cut_tree c k t u) = HasNoCases t × HasNoCases u
 HasNoCases (cases_tree ts) = ⊥
 
 -- a fact holds of each node of the tree that stands at a number, and there are no cases
-abbrev pub Everywhere : (Spot → Type 0) → List ℕ → ℕ → Branch → Tree → Type 0
+abbrev pub Everywhere : (TreeSpot → Type 0) → List ℕ → ℕ → Branch → Tree → Type 0
 Everywhere P columns n b (leaf_tree parts) = P (record { node = n; branch = b; tree = leaf_tree parts })
 Everywhere P columns n b (cut_tree c k t u) =
     let low = low_side columns n b c k t in
@@ -29,7 +29,7 @@ Everywhere P columns n b (cut_tree c k t u) =
 Everywhere P columns n b (cases_tree ts) = ⊥
 
 -- what there is of each node, in the order of the prefix list
-abbrev pub listed : {X : Type 0} → (Spot → X) → List ℕ → ℕ → Branch → Tree → List X
+abbrev pub listed : {X : Type 0} → (TreeSpot → X) → List ℕ → ℕ → Branch → Tree → List X
 listed f columns n b (leaf_tree parts) = f (record { node = n; branch = b; tree = leaf_tree parts }) ∷ []
 listed f columns n b (cut_tree c k t u) =
     let low = low_side columns n b c k t in

@@ -4,7 +4,7 @@ use Rattle.farkas_check.specs.Nodes.{PlainNode}
 use Rattle.farkas_check.specs.Trees as trees
 use Rattle.farkas_check.specs.Trees.{leaf_tree, cut_tree}
 use Rattle.nested_predicates.specs.Sums.{Branch}
-use Rattle.nested_refutations.specs.Refutations.{side_of, Claim, Spot, low_side, high_side, Asked, one_part, both_parts, some_part, taken_at, Stop, at_leaf, at_cut, at_group, nowhere}
+use Rattle.nested_refutations.specs.Refutations.{side_of, Claim, TreeSpot, low_side, high_side, Asked, one_part, both_parts, some_part, taken_at, Stop, at_leaf, at_cut, at_group, nowhere}
 use Rattle.triple_walks.specs.Spots.{node_in, is_counted_in}
 use Rattle.triple_walks.specs.Claims.{asked_in}
 use Rattle.triple_walks.specs.Telling.{IsKnown}
@@ -21,13 +21,13 @@ abbrev pub taken_of : member.Taken → ℕ × ℕ × Bool
 taken_of t = (t.claim, t.node, t.second)
 
 -- The place is the node's: so many rows stand on each branch before any cut.
-pub record IsPlace (columns : List ℕ) (nodes : List PlainNode) (x : code_trees.Tree) (cs : List Claim) (ys : List code.Claim) (rows : ℕ) (s : Spot) (p : place.Spot) : Type 0 where
+pub record IsPlace (columns : List ℕ) (nodes : List PlainNode) (x : code_trees.Tree) (cs : List Claim) (ys : List code.Claim) (rows : ℕ) (s : TreeSpot) (p : place.Spot) : Type 0 where
   pub node : p.node ≡ s.node
   pub depth : length s.branch.rows ≡ rows + p.depth
   pub known : IsKnown columns nodes x cs ys s
 
 -- a cut with these sides stands there
-pub record IsCutThere (columns : List ℕ) (nodes : List PlainNode) (x : code_trees.Tree) (cs : List Claim) (ys : List code.Claim) (rows r col : ℕ) (k : ℤ) (low high : Spot) (p : place.Spot) : Type 0 where
+pub record IsCutThere (columns : List ℕ) (nodes : List PlainNode) (x : code_trees.Tree) (cs : List Claim) (ys : List code.Claim) (rows r col : ℕ) (k : ℤ) (low high : TreeSpot) (p : place.Spot) : Type 0 where
   pub branch : Branch
   pub first : trees.Tree
   pub second : trees.Tree

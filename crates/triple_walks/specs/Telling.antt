@@ -9,7 +9,7 @@ use Rattle.nested_predicates.specs.Positions.{Position}
 use Rattle.nested_predicates.specs.Sums.{Branch}
 use Rattle.nested_predicates.specs.Layouts.{leaf_node}
 use Rattle.nested_predicates.specs.Tables.{cut_node_at}
-use Rattle.nested_refutations.specs.Refutations.{Claim, Spot, truth_in, left_at, Exposed}
+use Rattle.nested_refutations.specs.Refutations.{Claim, TreeSpot, truth_in, formula_at, Exposed}
 use Rattle.triple_walks.specs.Spots.{Everywhere, node_of, second_of, with_second, sides_in, node_in}
 use Rattle.triple_walks.specs.Claims.{left_of}
 use Rattle.triple_walks.specs.declared.trees.Tree as code_trees
@@ -23,25 +23,25 @@ node_at columns q b (cut_tree c k t u) = cut_node_at (column_stamp columns c) q
 node_at columns q b (cases_tree ts) = Truth false
 
 -- what is read of a node for a claim
-pub record IsNode (columns : List ℕ) (x : code_trees.Tree) (c : Claim) (y : code.Claim) (s : Spot) : Type 0 where
+pub record IsNode (columns : List ℕ) (x : code_trees.Tree) (c : Claim) (y : code.Claim) (s : TreeSpot) : Type 0 where
   pub sides : sides_in x s.node ≡ with_second s.node (second_of s.node s.tree)
   pub node : node_in x s.node y.position ≡ Some (node_at columns c.position s.branch s.tree)
-  pub left : left_of y s.node ≡ truth_in (left_at columns c s.branch s.tree)
+  pub left : left_of y s.node ≡ truth_in (formula_at columns c s.branch s.tree)
 
 -- the claim is this one, at each node from one on
-pub record Tells (columns : List ℕ) (x : code_trees.Tree) (s : Spot) (c : Claim) (y : code.Claim) : Type 0 where
+pub record Tells (columns : List ℕ) (x : code_trees.Tree) (s : TreeSpot) (c : Claim) (y : code.Claim) : Type 0 where
   pub is_denied : y.denied ≡ c.is_denied
   pub nodes : Everywhere (IsNode columns x c y) columns s.node s.branch s.tree
 
 -- each claim is this one
-abbrev pub AllTell : List ℕ → code_trees.Tree → Spot → List Claim → List code.Claim → Type 0
+abbrev pub AllTell : List ℕ → code_trees.Tree → TreeSpot → List Claim → List code.Claim → Type 0
 AllTell columns x s [] [] = Unit {0}
 AllTell columns x s [] (y ∷ ys) = ⊥
 AllTell columns x s (c ∷ cs) [] = ⊥
 AllTell columns x s (c ∷ cs) (y ∷ ys) = Tells columns x s c y × AllTell columns x s cs ys
 
 -- the nodes and their parts are those of the word's refutation, and the claims these, at each node from one on
-pub record IsKnown (columns : List ℕ) (nodes : List PlainNode) (x : code_trees.Tree) (cs : List Claim) (ys : List code.Claim) (s : Spot) : Type 0 where
+pub record IsKnown (columns : List ℕ) (nodes : List PlainNode) (x : code_trees.Tree) (cs : List Claim) (ys : List code.Claim) (s : TreeSpot) : Type 0 where
   pub spelled : Everywhere (λ z. slice_get nodes z.node ≡ Some (node_of z.tree)) columns s.node s.branch s.tree
   pub sides : Everywhere (λ z. sides_in x z.node ≡ with_second z.node (second_of z.node z.tree)) columns s.node s.branch s.tree
   pub claims : AllTell columns x s cs ys

@@ -2,7 +2,7 @@
 
 ghost use Rattle.std.specs.Prelude.{◌≡◌, ◌++◌, ℕ, List, IfOk, OnOk, reverse};
 ghost use Rattle.nested_refutations.specs.Refutations as refutations;
-ghost use Rattle.nested_refutations.specs.Refutations.{Spot, side_of};
+ghost use Rattle.nested_refutations.specs.Refutations.{TreeSpot, side_of};
 ghost use Rattle.triple_walks.specs.Spots.{sides_in};
 ghost use Rattle.triple_walks.specs.Claims.{asked_of, asked_in};
 ghost use Rattle.triple_walks.specs.Exposing.{found_of, with_found, found_at_cut, parts_at_cut, found_open, parts_open, found_at, parts_at};
@@ -26,7 +26,7 @@ pub(crate) fn exposed_at(
     claim: &Claim,
     node: usize,
 ) -> Result<Exposed, AllocError>
-    ensures { IfOk result (λ e. (columns : List ℕ) (c : refutations.Claim) (s : Spot) → node ≡ s.node → Tells columns tree.now s c claim.now → IsExposed (refutations.exposed columns c s.node s.branch s.tree) e) }
+    ensures { IfOk result (λ e. (columns : List ℕ) (c : refutations.Claim) (s : TreeSpot) → node ≡ s.node → Tells columns tree.now s c claim.now → IsExposed (refutations.exposed columns c s.node s.branch s.tree) e) }
 {
     let mut found = Exposed {
         leaves: Vec::new(alloc),

@@ -81,7 +81,7 @@ pub(crate) fn stop_from(
     taken: &[Taken],
     from: Spot,
 ) -> Result<Stop, AllocError>
-    ensures { IfOk result (λ p. (v : View) (nodes : List PlainNode) (rows : ℕ) (s : refutations.Spot) → v.returns ≡ returns → IsPlace v.columns nodes tree.now v.claims claims.now rows s from → IsStop v.columns nodes tree.now v.claims claims.now rows (stops_at v (reverse (map taken_of taken.now)) s) p) }
+    ensures { IfOk result (λ p. (v : View) (nodes : List PlainNode) (rows : ℕ) (s : refutations.TreeSpot) → v.returns ≡ returns → IsPlace v.columns nodes tree.now v.claims claims.now rows s from → IsStop v.columns nodes tree.now v.claims claims.now rows (stops_at v (reverse (map taken_of taken.now)) s) p) }
 {
     let mut spot = from;
     for _i in 0..u64::MAX {

@@ -3,7 +3,7 @@
 ghost use Rattle.std.specs.Prelude.{◌≡◌, ◌+◌, ◌++◌, ◌∷◌, [], ℕ, List, None, Some, IfOk, OnOk, MatchOption, slice_get};
 ghost use Rattle.std.specs.List.{AllByRecursion};
 ghost use Rattle.farkas_check.specs.Nodes.{plain_nodes};
-ghost use Rattle.nested_refutations.specs.Refutations.{View, Goes, stops_at};
+ghost use Rattle.nested_refutations.specs.Refutations.{View, Gathered, stops_at};
 ghost use Rattle.nested_refutations.specs.Refutations as refutations;
 ghost use Rattle.nested_refutations.specs.Walked.{AreWalkedFrom};
 ghost use Rattle.nested_refutations.specs.Waiting.{GroupsWait};
@@ -69,7 +69,7 @@ struct Walk {
 pub(crate) fn run(alloc: Global, guide: &Guide, goal: Goal) -> Result<Vec<Node>, AllocError>
     requires placed { AllByRecursion (IsPlaced guide.now.columns.now) (plain_nodes guide.now.nodes.now) }
     requires ascend { AllByRecursion Ascends (plain_nodes guide.now.nodes.now) }
-    ensures { IfOk result (λ f. (v : View) (h : Goes) (s : refutations.Spot) → IsLed v guide.now → IsAtHand v guide.now h (plain_goal goal) → IsThere v guide.now s (record { node = 0; depth = 0 }) → GroupsWait v h (stops_at v h.taken s) → AreWalkedFrom v h (stops_at v h.taken s) (plain_nodes f.items)) }
+    ensures { IfOk result (λ f. (v : View) (h : Gathered) (s : refutations.TreeSpot) → IsLed v guide.now → IsAtHand v guide.now h (plain_goal goal) → IsThere v guide.now s (record { node = 0; depth = 0 }) → GroupsWait v h (stops_at v h.taken s) → AreWalkedFrom v h (stops_at v h.taken s) (plain_nodes f.items)) }
 {
     let mut walk = Walk {
         goal,
@@ -89,7 +89,7 @@ pub(crate) fn run(alloc: Global, guide: &Guide, goal: Goal) -> Result<Vec<Node>,
 /// Goes on with a part: its row, or its member.
 fn begin_with(alloc: Global, guide: &Guide, goal: &mut Goal, begin: Begin) -> Result<(), AllocError>
     ensures keeps { OnOk result (Keeps (plain_goal goal.old) (plain_goal goal.new)) }
-    ensures goal { OnOk result ((v : View) (g h : Goes) → IsLed v guide.now → IsAtHand v guide.now g (plain_goal goal.old) → IsBegun v guide.now begin g h → IsAtHand v guide.now h (plain_goal goal.new)) }
+    ensures goal { OnOk result ((v : View) (g h : Gathered) → IsLed v guide.now → IsAtHand v guide.now g (plain_goal goal.old) → IsBegun v guide.now begin g h → IsAtHand v guide.now h (plain_goal goal.new)) }
 {
     match begin {
         Begin::Root => Ok(()),
@@ -101,7 +101,7 @@ fn begin_with(alloc: Global, guide: &Guide, goal: &mut Goal, begin: Begin) -> Re
 /// Takes a member of a group.
 fn choose(alloc: Global, guide: &Guide, goal: &mut Goal, member: Taken) -> Result<(), AllocError>
     ensures keeps { OnOk result (Keeps (plain_goal goal.old) (plain_goal goal.new)) }
-    ensures goal { OnOk result ((v : View) (g h : Goes) → IsLed v guide.now → IsAtHand v guide.now g (plain_goal goal.old) → TakesMember v guide.now member g h → IsAtHand v guide.now h (plain_goal goal.new)) }
+    ensures goal { OnOk result ((v : View) (g h : Gathered) → IsLed v guide.now → IsAtHand v guide.now g (plain_goal goal.old) → TakesMember v guide.now member g h → IsAtHand v guide.now h (plain_goal goal.new)) }
 {
     goal.take(member)?;
     let Some(claim) = claim_at(guide.claims, member.claim) else {
@@ -167,7 +167,7 @@ impl Walk {
     fn go_on(&mut self, alloc: Global, guide: &Guide, next: Waiting) -> Result<(), AllocError>
         requires placed { AllByRecursion (IsPlaced guide.now.columns.now) (plain_nodes guide.now.nodes.now) }
         requires ascend { AllByRecursion Ascends (plain_nodes guide.now.nodes.now) }
-        ensures { OnOk result ((v : View) (first : Goes) (from : refutations.Stop) → IsLed v guide.now → ComesNext v guide.now first from next self.old → HasCome v guide.now first from self.new) }
+        ensures { OnOk result ((v : View) (first : Gathered) (from : refutations.Stop) → IsLed v guide.now → ComesNext v guide.now first from next self.old → HasCome v guide.now first from self.new) }
     {
         self.goal.go_back(next.mark);
         begin_with(alloc, guide, &mut self.goal, next.begin)?;
@@ -178,7 +178,7 @@ impl Walk {
     fn put_down(&mut self, alloc: Global, guide: &Guide, spot: Spot) -> Result<(), AllocError>
         requires placed { AllByRecursion (IsPlaced guide.now.columns.now) (plain_nodes guide.now.nodes.now) }
         requires ascend { AllByRecursion Ascends (plain_nodes guide.now.nodes.now) }
-        ensures { OnOk result ((v : View) (first h : Goes) (from : refutations.Stop) (s : refutations.Spot) → IsLed v guide.now → IsThere v guide.now s spot → IsComing v guide.now first from h (stops_at v h.taken s) self.old → HasCome v guide.now first from self.new) }
+        ensures { OnOk result ((v : View) (first h : Gathered) (from : refutations.Stop) (s : refutations.TreeSpot) → IsLed v guide.now → IsThere v guide.now s spot → IsComing v guide.now first from h (stops_at v h.taken s) self.old → HasCome v guide.now first from self.new) }
     {
         match stop_from(
             guide.tree,
@@ -196,7 +196,7 @@ impl Walk {
     /// Puts down a leaf.
     fn put_leaf(&mut self, alloc: Global, guide: &Guide, node: usize) -> Result<(), AllocError>
         requires ascend { AllByRecursion Ascends (plain_nodes guide.now.nodes.now) }
-        ensures { OnOk result ((v : View) (first h : Goes) (from stop : refutations.Stop) → IsLed v guide.now → StopsThere v guide.now stop (stopped.Leaf node) → IsComing v guide.now first from h stop self.old → HasCome v guide.now first from self.new) }
+        ensures { OnOk result ((v : View) (first h : Gathered) (from stop : refutations.Stop) → IsLed v guide.now → StopsThere v guide.now stop (stopped.Leaf node) → IsComing v guide.now first from h stop self.old → HasCome v guide.now first from self.new) }
     {
         let Some(parts) = parts_at(guide.nodes, node) else {
             return Ok(());
@@ -216,7 +216,7 @@ impl Walk {
     /// Puts down an own cut.
     fn put_cut(&mut self, guide: &Guide, place: Spot) -> Result<(), AllocError>
         requires placed { AllByRecursion (IsPlaced guide.now.columns.now) (plain_nodes guide.now.nodes.now) }
-        ensures { OnOk result ((v : View) (first h : Goes) (from stop : refutations.Stop) → IsLed v guide.now → StopsThere v guide.now stop (stopped.Cut place) → IsComing v guide.now first from h stop self.old → HasCome v guide.now first from self.new) }
+        ensures { OnOk result ((v : View) (first h : Gathered) (from stop : refutations.Stop) → IsLed v guide.now → StopsThere v guide.now stop (stopped.Cut place) → IsComing v guide.now first from h stop self.old → HasCome v guide.now first from self.new) }
     {
         let Some((col, k)) = cut_at(guide.nodes, place.node) else {
             return Ok(());
@@ -234,7 +234,7 @@ impl Walk {
 
     /// Opens the first group.
     fn open_group(&mut self, place: Spot) -> Result<(), AllocError>
-        ensures { OnOk result ((v : View) (x : guides.Guide) (first h : Goes) (from stop : refutations.Stop) → IsLed v x → StopsThere v x stop (stopped.Group place) → IsComing v x first from h stop self.old → HasCome v x first from self.new) }
+        ensures { OnOk result ((v : View) (x : guides.Guide) (first h : Gathered) (from stop : refutations.Stop) → IsLed v x → StopsThere v x stop (stopped.Group place) → IsComing v x first from h stop self.old → HasCome v x first from self.new) }
     {
         let Some(group) = self.goal.take_group() else {
             return Ok(());

@@ -2,7 +2,7 @@ use Rattle.std.proofs.Common.{◌≡◌, ◌+◌, ◌<◌, ℕ, Bool, true, List
 use Rattle.std.specs.Prelude.{filter}
 use Rattle.std.specs.List.{AllByRecursion}
 use Rattle.lin_rows.specs.Rows.{LinearRow}
-use Rattle.letter_acts.specs.Frames.{constants_of, variables_of, results_of, olds_of}
+use Rattle.letter_acts.specs.Frames.{constants_of, variables_of, result_columns, olds_of}
 use Rattle.letter_acts.specs.Reading.{taken, is_listed}
 use Rattle.letter_acts.specs.Invariant.{written_by}
 use Rattle.letter_acts.proofs.ListLemmas.{all_weaker}
@@ -40,7 +40,7 @@ add_results-requires-clause-within c =
     let m = length c.args.callee.now in
     let n = length c.args.caller.now in
     within_tables n m (after_column m (m + n) (written_by c.args.caller.now c.args.targets.now)) (λ c. c) c.args.at_end.now c.args.at_exit.now (λ (p : ℕ × ℕ). p.0) (λ p. p.1)
-    (taken c.args.targets.now (results_of c.args.callee.now)) c.requires.tables.end c.requires.tables.exit c.requires.within.taken
+    (taken c.args.targets.now (result_columns c.args.callee.now)) c.requires.tables.end c.requires.tables.exit c.requires.within.taken
 
 pub returns-clause-adds : goal.returns-clause-adds
 returns-clause-adds c =
@@ -62,7 +62,7 @@ returns-clause-adds c =
     let olds = ties_by_tables m n (λ c. c) (λ c. m + c) x b (λ (o : ℕ × ℕ). o.0) (λ o. o.1) (olds_of callee) c.requires.within.olds c.requires.tables.exit c.requires.tables.call in
     let rows = rows_by_table (length c.args.in_rows.now) (call_column m n (length written)) c.args.in_rows.now c.args.rows.now c.requires.rows_within c.requires.tables.rows in
     let globals = ties_by_tables n m after (λ c. c) t x (λ (g : ℕ). g) (λ g. g) (filter test vs) kept c.requires.tables.end c.requires.tables.exit in
-    let results = ties_by_tables n m after (λ c. c) t x (λ (p : ℕ × ℕ). p.0) (λ p. p.1) (taken targets (results_of callee)) c.requires.within.taken c.requires.tables.end c.requires.tables.exit in
+    let results = ties_by_tables n m after (λ c. c) t x (λ (p : ℕ × ℕ). p.0) (λ p. p.1) (taken targets (result_columns callee)) c.requires.within.taken c.requires.tables.end c.requires.tables.exit in
     let d0 : Draft = c.args.draft.now in
     let d1 : Draft = c.add_class.new.draft in
     let d2 : Draft = c.add_olds.new.draft in
@@ -110,7 +110,7 @@ returns-clause-fits c =
     let olds = ties_by_tables m n (λ c. c) (λ c. m + c) x b (λ (o : ℕ × ℕ). o.0) (λ o. o.1) (olds_of callee) c.requires.within.olds c.requires.tables.exit c.requires.tables.call in
     let rows = rows_by_table (length c.args.in_rows.now) (call_column m n (length written)) c.args.in_rows.now c.args.rows.now c.requires.rows_within c.requires.tables.rows in
     let globals = ties_by_tables n m after (λ c. c) t x (λ (g : ℕ). g) (λ g. g) (filter test vs) kept c.requires.tables.end c.requires.tables.exit in
-    let results = ties_by_tables n m after (λ c. c) t x (λ (p : ℕ × ℕ). p.0) (λ p. p.1) (taken targets (results_of callee)) c.requires.within.taken c.requires.tables.end c.requires.tables.exit in (
+    let results = ties_by_tables n m after (λ c. c) t x (λ (p : ℕ × ℕ). p.0) (λ p. p.1) (taken targets (result_columns callee)) c.requires.within.taken c.requires.tables.end c.requires.tables.exit in (
       subst (λ (rows : List LinearRow). PlainFits (only_rows rows)) constants c.in_ok-add_class.ensures.fits,
       (
         subst (λ (rows : List LinearRow). PlainFits (only_rows rows)) olds c.in_ok-add_olds.ensures.fits,

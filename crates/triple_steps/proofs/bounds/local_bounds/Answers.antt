@@ -1,5 +1,5 @@
 use Rattle.std.proofs.Common.{◌≡◌, ℕ, ◌+◌}
-use Rattle.path_rows.specs.Versions.{locals_of}
+use Rattle.path_rows.specs.Versions.{local_columns}
 use Rattle.nested_refutations.specs.Numbers.{bounds_in}
 use Rattle.nested_predicates.proofs.BaseLaws.{if_ok}
 use Rattle.triple_steps.proofs.BoundLaws.{bounds_twice}
@@ -8,4 +8,4 @@ use Rattle.triple_steps.proofs.bounds.local_bounds.Goals as goal
 pub returns : goal.returns
 returns c =
     let b : ℕ = c.bool_local_count-booleans.result in
-    if_ok (λ (n : ℕ). n ≡ b + b) (λ (n : ℕ). n ≡ bounds_in (locals_of c.args.frame.now)) (λ n e. bounds_twice (locals_of c.args.frame.now) b n c.bool_local_count-booleans.ensures e) c.sum.result c.sum.ensures
+    if_ok (λ (n : ℕ). n ≡ b + b) (λ (n : ℕ). n ≡ bounds_in (local_columns c.args.frame.now)) (λ n e. bounds_twice (local_columns c.args.frame.now) b n c.bool_local_count-booleans.ensures e) c.sum.result c.sum.ensures

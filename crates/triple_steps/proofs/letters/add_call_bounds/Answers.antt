@@ -1,6 +1,6 @@
 use Rattle.std.proofs.Common.{◌≡◌, ◌∙◌, ◌+◌, ℕ, suc, List, length, ap, arith}
 use Rattle.std.specs.Prelude.{if◌then◌else◌}
-use Rattle.path_rows.specs.Versions.{locals_of, old_part}
+use Rattle.path_rows.specs.Versions.{local_columns, old_part}
 use Rattle.nested_refutations.specs.Refutations.{Role}
 use Rattle.nested_refutations.specs.Numbers.{spares, bounds_in, before_bounds, callee_bounds}
 use Rattle.triple_steps.specs.declared.sections.Section.{Section}
@@ -19,7 +19,7 @@ returns c =
     let callee = c.args.callee.now in
     let r = c.args.reading.now in
     let local_row : ℕ = r.rows + c.args.rows + length (old_part callee) in
-    let old_row : ℕ = local_row + bounds_in (locals_of callee) in
+    let old_row : ℕ = local_row + bounds_in (local_columns callee) in
     let local : c.in_ok-local.local ≡ local_row =
     c.in_ok-local.ensures ∙ ap (λ (n : ℕ). n + c.old_count.result) c.in_ok-sum.ensures ∙ ap (λ (n : ℕ). r.rows + c.args.rows + n) c.old_count.ensures in
     let older : c.in_ok-old.old ≡ old_row =

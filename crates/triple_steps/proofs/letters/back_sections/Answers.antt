@@ -1,7 +1,7 @@
 use Rattle.std.proofs.Common.{◌≡◌, ℕ, ◌+◌, List, [], ◌∷◌, length, refl, ap, arith}
 use Rattle.std.specs.Prelude.{filter, not}
 use Rattle.std.proofs.lemmas.List.{length-map}
-use Rattle.letter_acts.specs.Frames.{constants_of, variables_of, results_of, olds_of}
+use Rattle.letter_acts.specs.Frames.{constants_of, variables_of, result_columns, olds_of}
 use Rattle.letter_acts.specs.Reading.{taken, is_listed}
 use Rattle.nested_refutations.specs.Refutations.{target_tie, source_tie}
 use Rattle.triple_steps.specs.declared.sections.Section.TheVariants.{Claim}
@@ -24,7 +24,7 @@ returns-clause-stand c =
     let callee = c.args.callee.now in
     let rows = c.args.rows in
     let kept : List ℕ = filter (λ x. not (is_listed c.args.targets.now x)) (variables_of c.args.caller.now) in
-    let results : List (ℕ × ℕ) = taken c.args.targets.now (results_of callee) in
+    let results : List (ℕ × ℕ) = taken c.args.targets.now (result_columns callee) in
     let constants : ℕ = length (constants_of callee) in
     let olds : ℕ = length (olds_of callee) in
     let ties : ℕ = constants + olds + rows + length kept + length results in

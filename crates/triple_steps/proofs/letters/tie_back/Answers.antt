@@ -1,6 +1,6 @@
 use Rattle.std.proofs.Common.{◌++◌, ℕ, List, map, refl}
 use Rattle.std.specs.Prelude.{filter, not}
-use Rattle.letter_acts.specs.Frames.{constants_of, variables_of, results_of, olds_of}
+use Rattle.letter_acts.specs.Frames.{constants_of, variables_of, result_columns, olds_of}
 use Rattle.letter_acts.specs.Reading.{taken, is_listed}
 use Rattle.nested_refutations.specs.Refutations.{Role, target_tie, source_tie}
 use Rattle.nested_refutations.specs.Numbers.{branch_rows}
@@ -24,7 +24,7 @@ returns c =
     let olds : List Role = map (λ (o : ℕ × ℕ). source_tie o.0) (olds_of callee) in
     let own : List Role = branch_rows c.args.call.rows c.args.rows in
     let kept : List Role = map target_tie (filter (λ x. not (is_listed c.args.targets.now x)) (variables_of c.args.caller.now)) in
-    let results : List Role = map (λ (p : ℕ × ℕ). target_tie p.0) (taken c.args.targets.now (results_of callee)) in
+    let results : List Role = map (λ (p : ℕ × ℕ). target_tie p.0) (taken c.args.targets.now (result_columns callee)) in
     on_ok (AddsRoles fourth new results) _
     (λ h. adds_both old fourth new (constants ++ olds ++ own ++ kept) results
     (adds_both old three fourth (constants ++ olds ++ own) kept

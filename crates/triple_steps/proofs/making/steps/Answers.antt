@@ -10,7 +10,7 @@ use Rattle.nested_predicates.proofs.LetterLaws.{accepted_letters}
 use Rattle.nested_predicates.proofs.LeafLaws.{letter_is, within_word}
 use Rattle.nested_predicates.proofs.StampCounts.{letter_at}
 use Rattle.nested_predicates.proofs.WordLaws.{test_at, tests_counted}
-use Rattle.nested_refutations.specs.Numbers.{here, read_on}
+use Rattle.nested_refutations.specs.Numbers.{position_here, read_on}
 use Rattle.triple_steps.specs.declared.making.Step.{Step}
 use Rattle.triple_steps.specs.Steps.{FitColumns}
 use Rattle.triple_steps.proofs.StepLaws.{steps_start, steps_next, steps_done, here_at, next_at, finds_call, front_is, total_is}
@@ -67,7 +67,7 @@ loop-i-preserved c =
     letter_at (λ x. IsSome (act_of (alphabet_of g) x)) c.letters-letters.result.now c.loop-i.i d c.loop-i-test.true
     (accepted_letters g c.acts-valid.ensures.valid c.letters-letters.result.now w c.requires.path.accepted k) in
     steps_next g w total c.loop-i.i a c.loop-i.reading c.go_on.new.self c.loop-i.steps.items c.push.new.self.items c.in_ok-step.step h f known
-    (λ t. c.in_ok-step.ensures.step w t rest h.reading (here (read_on (alphabet_of g) a rest h.reading)) h.is_reading at
+    (λ t. c.in_ok-step.ensures.step w t rest h.reading (position_here (read_on (alphabet_of g) a rest h.reading)) h.is_reading at
     (next_at g w total c.loop-i.i a c.loop-i.reading c.loop-i.steps.items h f)
     (ap (λ (x : List Bool). get_or x c.loop-i.i false) c.requires.returned ∙ test_at w c.loop-i.i l))
     (c.in_ok-go_on.ensures w rest h.reading h.is_reading at) c.in_ok-push.ensures.items c.in_ok-step.ensures.fit

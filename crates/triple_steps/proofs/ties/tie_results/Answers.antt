@@ -1,5 +1,5 @@
 use Rattle.std.proofs.Common.{◌≡◌, ◌++◌, List, ℕ, map}
-use Rattle.letter_acts.specs.Frames.{results_of}
+use Rattle.letter_acts.specs.Frames.{result_columns}
 use Rattle.letter_acts.specs.Reading.{taken}
 use Rattle.nested_refutations.specs.Refutations.{target_tie}
 use Rattle.triple_steps.specs.declared.sections.Tie.TheVariants.{Target}
@@ -13,7 +13,7 @@ pub returns : goal.returns
 returns c =
     let old : List Section = c.args.sections.now.items in
     let new : List Section = c.tie_targets.new.sections.items in
-    on_ok (new ≡ old ++ map (λ (x : ℕ). Tie (Target x)) c.args.targets.now) (AddsRoles old new (map (λ (p : ℕ × ℕ). target_tie p.0) (taken c.args.targets.now (results_of c.args.callee.now))))
-    (λ e. adds_same old new (map target_tie c.args.targets.now) (map (λ (p : ℕ × ℕ). target_tie p.0) (taken c.args.targets.now (results_of c.args.callee.now)))
-    (taken_targets c.args.caller.now c.args.callee.now c.args.targets.now (results_of c.args.callee.now) c.requires)
+    on_ok (new ≡ old ++ map (λ (x : ℕ). Tie (Target x)) c.args.targets.now) (AddsRoles old new (map (λ (p : ℕ × ℕ). target_tie p.0) (taken c.args.targets.now (result_columns c.args.callee.now))))
+    (λ e. adds_same old new (map target_tie c.args.targets.now) (map (λ (p : ℕ × ℕ). target_tie p.0) (taken c.args.targets.now (result_columns c.args.callee.now)))
+    (taken_targets c.args.caller.now c.args.callee.now c.args.targets.now (result_columns c.args.callee.now) c.requires)
     (adds_tied old new (λ (x : ℕ). Target x) c.args.targets.now e)) c.tie_targets.result c.tie_targets.ensures

@@ -7,5 +7,5 @@ use Rattle.triple_walks.proofs.StopLaws.{IsOnWay}
 use Rattle.triple_walks.proofs.stops.stop_from.Given as goal
 
 abbrev pub invariant-loop-i : goal.invariant-loop-i
-invariant-loop-i l = (v : View) (nodes : List PlainNode) (rows : ℕ) (s : refutations.Spot) → v.returns ≡ l.returns → IsPlace v.columns nodes l.tree v.claims l.claims rows s l.fn.from →
+invariant-loop-i l = (v : View) (nodes : List PlainNode) (rows : ℕ) (s : refutations.TreeSpot) → v.returns ≡ l.returns → IsPlace v.columns nodes l.tree v.claims l.claims rows s l.fn.from →
     IsOnWay v (reverse (map taken_of l.taken)) nodes l.tree l.claims rows (stops_at v (reverse (map taken_of l.taken)) s) l.spot
