@@ -1,0 +1,13 @@
+pub mod Examples
+pub mod Squeezing
+pub mod SpanLemmas
+pub mod LetterLemmas
+pub mod NarrowLemmas
+pub mod FreedLemmas
+pub mod WidenedLemmas
+pub mod MeanLemmas
+pub mod ToldLemmas
+pub mod CalledLemmas
+pub mod TableLemmas
+pub mod LetterAnswers
+pub mod FrameAnswers
