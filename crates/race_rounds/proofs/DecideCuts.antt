@@ -9,7 +9,7 @@ use Rattle.farkas_check.specs.Refutes.{at_most, above}
 use Rattle.farkas_check.specs.Trees.{Tree, prefix_of}
 use Rattle.fm_elim.specs.Folds.{first}
 use Rattle.fm_elim.specs.Derivations.{DerivedRow, inputs, is_false}
-use Rattle.fm_elim.specs.Columns.{SetAside, step}
+use Rattle.fm_elim.specs.Columns.{SetAside, elimination_step}
 use Rattle.fm_elim.specs.Values.{value_of}
 use Rattle.fm_elim.specs.Elimination as outcome
 use Rattle.int_decide.specs.Decisions.{Decision, refuted, whole, gap, beside, under, WhereRefuted}
@@ -28,15 +28,15 @@ use Rattle.nested_itp.proofs.CutLaws.{tree_cuts}
 
 -- ---- a point of the elimination has a value for each column
 
-abbrev pub HasValues : ℕ → outcome.Outcome → Type 0
+abbrev pub HasValues : ℕ → outcome.EliminationOutcome → Type 0
 HasValues n (outcome.refuted parts) = Unit {0}
 HasValues n (outcome.point values) = length values ≡ n
 
-values_unless_false : (n : ℕ) (f : Option DerivedRow) (o : outcome.Outcome) → HasValues n o → HasValues n (outcome.unless_false f o)
+values_unless_false : (n : ℕ) (f : Option DerivedRow) (o : outcome.EliminationOutcome) → HasValues n o → HasValues n (outcome.unless_false f o)
 values_unless_false n None o h = h
 values_unless_false n (Some r) o h = tt
 
-values_extended : (k : ℕ) (aside : SetAside) (o : outcome.Outcome) → HasValues k o → HasValues (suc k) (outcome.extended k aside o)
+values_extended : (k : ℕ) (aside : SetAside) (o : outcome.EliminationOutcome) → HasValues k o → HasValues (suc k) (outcome.extended k aside o)
 values_extended k aside (outcome.refuted parts) h = tt
 values_extended k aside (outcome.point values) h =
     let more : List Fraction = value_of k values aside ∷ [] in
@@ -48,8 +48,8 @@ values_extended k aside (outcome.point values) h =
 values_solved : (n : ℕ) (rows : List DerivedRow) → HasValues n (outcome.solve n rows)
 values_solved zero rows = values_unless_false zero (first is_false rows) (outcome.point []) refl
 values_solved (suc k) rows =
-    values_unless_false (suc k) (first is_false rows) (outcome.extended k (step k rows).aside (outcome.solve k (step k rows).rows))
-    (values_extended k (step k rows).aside (outcome.solve k (step k rows).rows) (values_solved k (step k rows).rows))
+    values_unless_false (suc k) (first is_false rows) (outcome.extended k (elimination_step k rows).aside (outcome.solve k (elimination_step k rows).rows))
+    (values_extended k (elimination_step k rows).aside (outcome.solve k (elimination_step k rows).rows) (values_solved k (elimination_step k rows).rows))
 
 -- ---- so the first that is not whole is at one of them
 
@@ -87,7 +87,7 @@ values_within : (n : ℕ) (broken : ℕ → ℤ → Decision) (values : List Fra
 values_within n broken values None f h = tt
 values_within n broken values (Some x) f h = f x.0 (floor x.1) h
 
-outcome_within : (n : ℕ) (broken : ℕ → ℤ → Decision) (o : outcome.Outcome) → ((c : ℕ) (k : ℤ) → c < n → CutsWithin n (broken c k)) → HasValues n o →
+outcome_within : (n : ℕ) (broken : ℕ → ℤ → Decision) (o : outcome.EliminationOutcome) → ((c : ℕ) (k : ℤ) → c < n → CutsWithin n (broken c k)) → HasValues n o →
     CutsWithin n (by_outcome broken o)
 outcome_within n broken (outcome.refuted parts) f h = (tt, tt)
 outcome_within n broken (outcome.point values) f h =

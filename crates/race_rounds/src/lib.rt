@@ -7,9 +7,11 @@ mod deviating;
 mod failing;
 mod limits;
 mod plans;
+mod recursion;
 mod refining;
 mod seeking;
 mod settling;
+mod sizes;
 
 pub use limits::{Limits, Round};
 pub use seeking::{Seeker, kept_word};

@@ -73,7 +73,7 @@ fn automaton_chosen<R: Threads + Sync>(
     requires depth { depth ≤ 64 }
     ensures { IfOk result (λ o. IfSome o (IsEvidence icfg.now path.now.word)) }
 {
-    let first = chosen(alloc, path, refutation, depth, choice)?;
+    let first = chosen(alloc, icfg, path, refutation, depth, choice)?;
     automaton_under(rt, alloc, icfg, path, &first)
 }
 
