@@ -16,7 +16,7 @@ use Rattle.proof_names.specs.Items.{Names}
 use Rattle.proof_names.specs.declared.outlines.Listed.{Listed}
 use Rattle.proof_names.specs.declared.outlines.NamedTriple.{NamedTriple}
 use Rattle.proof_names.specs.declared.outlines.NamedStep.{NamedStep}
-use Rattle.proof_names.specs.Outlines.{Node, Sketch}
+use Rattle.proof_names.specs.Outlines.{OutlineNode, Sketch}
 use Rattle.proof_spell.specs.declared.drafts.Shown.{Shown}
 use Rattle.proof_spell.specs.Correspond.{Correspond}
 use Rattle.proof_spell.specs.Drafts.{PlainShown, plain, MayBeShown, MayBeSpelled}
@@ -50,7 +50,7 @@ all_may g preds cs needed shown k ts = all_from_members (MayBeShown g preds) sho
     let e = ts.each t m in
     one_may g preds e.0.proofs t (λ p n. all_of_member (IsProofFor (alphabet_of g)) e.0.proofs p (all_of_member (IsCertified (alphabet_of g)) cs e.0 k e.1).proofs n) e.2)
 
-pub unwound : (g : Graph) (preds : List Scoped) (cs : List Certificate) (union : Automaton) (nodes : List Node) (steps : Automaton) (needed : List Listed) (shown : List PlainShown) → IsGraph g →
+pub unwound : (g : Graph) (preds : List Scoped) (cs : List Certificate) (union : Automaton) (nodes : List OutlineNode) (steps : Automaton) (needed : List Listed) (shown : List PlainShown) → IsGraph g →
     IsAutomaton g.automaton → AllByRecursion (IsCertified (alphabet_of g)) cs → StartHasBody g → AreListed g preds → AreAllNumbered g preds cs → IsUnionOf preds cs union →
     AreNeeded union nodes steps needed → AreTriplesOf preds cs needed shown → IsExploring g.automaton union nodes steps → AreOpened g.automaton nodes steps (length nodes) →
     IsUnwound g (automata_of cs) (record { preds = preds; triples = shown; nodes = nodes; steps = steps })
@@ -198,11 +198,11 @@ pub reached_said : (g : Graph) (cs : List Certificate) (preds other : List Scope
     Outlines g s (draft_of (unwinding_of other same u)) → AreReachable s
 reached_said g cs preds other triples same u p s o = λ n l.
     subst (λ (ts : List NamedStep). IsReachable ts n) (sym o.steps)
-    (all_reached (nodes_of u.nodes.items) u.steps p.unwound.exploring.tree p.unwound.exploring.part p.unwound.exploring.reached n (subst (λ (xs : List Node). n < length xs) o.nodes l))
+    (all_reached (nodes_of u.nodes.items) u.steps p.unwound.exploring.tree p.unwound.exploring.part p.unwound.exploring.reached n (subst (λ (xs : List OutlineNode). n < length xs) o.nodes l))
 
 pub order_said : (g : Graph) (cs : List Certificate) (preds other : List Scoped) (triples same : List Shown) (u : Unwound) → AreParts g cs preds triples u → (s : Sketch) →
     Outlines g s (draft_of (unwinding_of other same u)) → AreInOrder s
-order_said g cs preds other triples same u p s o = subst (λ (xs : List Node). PlacesAscend xs) (sym o.nodes) p.unwound.ascend
+order_said g cs preds other triples same u p s o = subst (λ (xs : List OutlineNode). PlacesAscend xs) (sym o.nodes) p.unwound.ascend
 
 -- the numbers of outlined triples are those of the draft
 numbers_outlined : (g : Graph) (preds : List Scoped) (os : List NamedTriple) (ts : List PlainShown) → Correspond (IsOutlined g (slice_get preds)) os ts → map (λ (t : NamedTriple). t.listed) os ≡ listed_in ts
@@ -224,5 +224,5 @@ used_said g cs preds other triples same u p e s o = λ t m.
     (member_map (λ (x : NamedTriple). x.listed) s.triples t m) in
     let x = member_from_map (λ (y : PlainShown). y.listed) (map plain triples) t.listed l in
     let n : Member p.needed t.listed = subst (λ (k : Listed). Member p.needed k) x.2 (p.once.within x.0 x.1) in
-    subst (λ (xs : List Node). IsUsed s.steps xs t.listed) (sym o.nodes)
+    subst (λ (xs : List OutlineNode). IsUsed s.steps xs t.listed) (sym o.nodes)
     (subst (λ (ts : List NamedStep). IsUsed ts (nodes_of u.nodes.items) t.listed) (sym o.steps) (p.need.used t.listed n))

@@ -74,14 +74,6 @@ pub filter_map_joined : {X Y : Type 0} (f : X → Option Y) (xs ys : List X) →
 filter_map_joined f [] ys = refl
 filter_map_joined f (x ∷ xs) ys = first_joined (f x) (filter_map f (xs ++ ys)) (filter_map f xs) (filter_map f ys) (filter_map_joined f xs ys)
 
--- one image more
-pub mapped_next : {X Y : Type 0} (f : X → Y) (old new : List Y) (xs : List X) (i : ℕ) (x d : X) (y : Y) → i < length xs → x ≡ get_or xs i d → y ≡ f x →
-    new ≡ (old ++ map f (take i xs)) ++ y ∷ [] → new ≡ old ++ map f (take (i + 1) xs)
-mapped_next f old new xs i x d y l e is n =
-    let t : take (i + 1) xs ≡ take i xs ++ x ∷ [] = take_more xs i d l ∙ (λ j. take i xs ++ sym e j ∷ []) in
-    let m : map f (take (i + 1) xs) ≡ map f (take i xs) ++ f x ∷ [] = ap (map f) t ∙ map_joined f (take i xs) (x ∷ []) in
-    n ∙ append_assoc old (map f (take i xs)) (y ∷ []) ∙ (λ j. old ++ (map f (take i xs) ++ is j ∷ [])) ∙ ap (λ (k : List _). old ++ k) (sym m)
-
 -- what is made of one member more, if something is
 pub passed_next : {X Y : Type 0} (f : X → Option Y) (old : List Y) (xs : List X) (i : ℕ) (x d : X) → i < length xs → x ≡ get_or xs i d →
     old ++ filter_map f (take (i + 1) xs) ≡ (old ++ filter_map f (take i xs)) ++ cons_option (f x) []

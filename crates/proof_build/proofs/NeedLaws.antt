@@ -10,7 +10,7 @@ use Rattle.nwa_base.proofs.MemberLemmas.{member_front, member_rest, member_split
 use Rattle.proof_names.specs.declared.outlines.Listed.{Listed}
 use Rattle.proof_names.specs.declared.outlines.Listed.TheVariants.{Back}
 use Rattle.proof_names.specs.declared.outlines.NamedStep.TheVariants as steps
-use Rattle.proof_names.specs.Outlines.{Node}
+use Rattle.proof_names.specs.Outlines.{OutlineNode}
 use Rattle.proof_unwind.specs.declared.spots.Spot.{Spot}
 use Rattle.proof_unwind.specs.Spots.{nodes_of}
 use Rattle.proof_unwind.specs.Unwindings.{node_at}
@@ -38,10 +38,10 @@ next_front xs i d x l m = subst (λ (ys : List _). Member ys x) (sym (take_more 
 
 -- ---- the predicates of a node
 
-pub preds_there : (nodes : List Node) (n : ℕ) (x : Node) → slice_get nodes n ≡ Some x → x.preds ≡ (node_at nodes n).preds
-preds_there nodes n x e = sym (ap (λ (y : Node). y.preds) (node_is nodes n x e))
+pub preds_there : (nodes : List OutlineNode) (n : ℕ) (x : OutlineNode) → slice_get nodes n ≡ Some x → x.preds ≡ (node_at nodes n).preds
+preds_there nodes n x e = sym (ap (λ (y : OutlineNode). y.preds) (node_is nodes n x e))
 
-pub no_preds : (nodes : List Node) (n : ℕ) → slice_get nodes n ≡ None → [] ≡ (node_at nodes n).preds
+pub no_preds : (nodes : List OutlineNode) (n : ℕ) → slice_get nodes n ≡ None → [] ≡ (node_at nodes n).preds
 no_preds [] n e = refl
 no_preds (x ∷ nodes) zero e = absurd (cc)
 no_preds (x ∷ nodes) (suc n) e = no_preds nodes n e
@@ -174,11 +174,11 @@ backs_still edges exit before a after i old mid l h n = record {
 
 -- ---- one step more
 
-pub steps_none : (edges : List (ℕ × Letter × ℕ)) (numbers : Numbers) (nodes : List Node) (old : List Listed) → NotesSteps edges numbers nodes [] old old
+pub steps_none : (edges : List (ℕ × Letter × ℕ)) (numbers : Numbers) (nodes : List OutlineNode) (old : List Listed) → NotesSteps edges numbers nodes [] old old
 steps_none edges numbers nodes old = record { kept = λ t m. m; used = λ t m. inl m; all = λ n a k e r m f. absurd e }
 
 -- what the next step needs is noted
-pub steps_more : (edges : List (ℕ × Letter × ℕ)) (numbers : Numbers) (nodes : List Node) (ss : List (ℕ × Letter × ℕ)) (i : ℕ) (d : ℕ × Letter × ℕ) (before after : List ℕ) (old mid new : List Listed) →
+pub steps_more : (edges : List (ℕ × Letter × ℕ)) (numbers : Numbers) (nodes : List OutlineNode) (ss : List (ℕ × Letter × ℕ)) (i : ℕ) (d : ℕ × Letter × ℕ) (before after : List ℕ) (old mid new : List Listed) →
     i < length ss → NotesSteps edges numbers nodes (take i ss) old mid → before ≡ (node_at nodes (get_or ss i d).0).preds → after ≡ (node_at nodes (get_or ss i d).2).preds →
     NotesAll edges numbers before (get_or ss i d).1 after mid new → NotesSteps edges numbers nodes (take (i + 1) ss) old new
 steps_more edges numbers nodes ss i d before after old mid new l h be af n =
@@ -208,10 +208,10 @@ steps_more edges numbers nodes ss i d before after old mid new l h be af n =
         subst (λ (t : ℕ × Letter × ℕ). NotesAll edges numbers (node_at nodes t.0).preds t.1 (node_at nodes t.2).preds mid new) o k in
         j.all r m f
 
-pub back_steps_none : (edges : List (ℕ × ℕ × Letter × ℕ)) (nodes : List Node) (old : List Listed) → NotesBackSteps edges nodes [] old old
+pub back_steps_none : (edges : List (ℕ × ℕ × Letter × ℕ)) (nodes : List OutlineNode) (old : List Listed) → NotesBackSteps edges nodes [] old old
 back_steps_none edges nodes old = record { kept = λ t m. m; used = λ t m. inl m; all = λ x c a k e r m f. absurd e }
 
-pub back_steps_more : (edges : List (ℕ × ℕ × Letter × ℕ)) (nodes : List Node) (ss : List (ℕ × ℕ × Letter × ℕ)) (i : ℕ) (d : ℕ × ℕ × Letter × ℕ) (exit before after : List ℕ) (old mid new : List Listed) →
+pub back_steps_more : (edges : List (ℕ × ℕ × Letter × ℕ)) (nodes : List OutlineNode) (ss : List (ℕ × ℕ × Letter × ℕ)) (i : ℕ) (d : ℕ × ℕ × Letter × ℕ) (exit before after : List ℕ) (old mid new : List Listed) →
     i < length ss → NotesBackSteps edges nodes (take i ss) old mid → exit ≡ (node_at nodes (get_or ss i d).0).preds → before ≡ (node_at nodes (get_or ss i d).1).preds →
     after ≡ (node_at nodes (get_or ss i d).3).preds → NotesBacks edges exit before (get_or ss i d).2 after mid new → NotesBackSteps edges nodes (take (i + 1) ss) old new
 back_steps_more edges nodes ss i d exit before after old mid new l h ex be af n =
@@ -251,19 +251,19 @@ back_steps_more edges nodes ss i d exit before after old mid new l h ex be af n 
 
 -- ---- all together
 
-inside_used : (nodes : List Node) (s : Automaton) (t : Listed) → IsUseIn inside_numbers nodes s.insides t → IsUsed (steps_of s) nodes t
+inside_used : (nodes : List OutlineNode) (s : Automaton) (t : Listed) → IsUseIn inside_numbers nodes s.insides t → IsUsed (steps_of s) nodes t
 inside_used nodes s t u = subst (λ (x : Listed). IsUsed (steps_of s) nodes x) (sym u.uses.is)
     (steps.Step u.before u.letter.id u.after, inside_step_in s u.before u.letter u.after u.step, (refl, u.uses.has, u.uses.ends))
 
-call_used : (nodes : List Node) (s : Automaton) (t : Listed) → IsUseIn call_numbers nodes s.calls t → IsUsed (steps_of s) nodes t
+call_used : (nodes : List OutlineNode) (s : Automaton) (t : Listed) → IsUseIn call_numbers nodes s.calls t → IsUsed (steps_of s) nodes t
 call_used nodes s t u = subst (λ (x : Listed). IsUsed (steps_of s) nodes x) (sym u.uses.is)
     (steps.Step u.before u.letter.id u.after, call_step_in s u.before u.letter u.after u.step, (refl, u.uses.has, u.uses.ends))
 
-back_used : (nodes : List Node) (s : Automaton) (t : Listed) → IsBackUseIn nodes s.backs t → IsUsed (steps_of s) nodes t
+back_used : (nodes : List OutlineNode) (s : Automaton) (t : Listed) → IsBackUseIn nodes s.backs t → IsUsed (steps_of s) nodes t
 back_used nodes s t u = subst (λ (x : Listed). IsUsed (steps_of s) nodes x) (sym u.uses.is)
     (steps.Back u.exit u.before u.letter.id u.after, back_step_in s u.exit u.before u.letter u.after u.step, (refl, u.uses.has, u.uses.called, u.uses.ends))
 
-pub all_needed : (union : Automaton) (nodes : List Node) (s : Automaton) (one two three : List Listed) → NotesSteps union.insides inside_numbers nodes s.insides [] one →
+pub all_needed : (union : Automaton) (nodes : List OutlineNode) (s : Automaton) (one two three : List Listed) → NotesSteps union.insides inside_numbers nodes s.insides [] one →
     NotesSteps union.calls call_numbers nodes s.calls one two → NotesBackSteps union.backs nodes s.backs two three → AreNeeded union nodes s three
 all_needed union nodes s one two three i c b = record {
   used = λ t m. elim (b.used t m) [

@@ -22,7 +22,7 @@ use Rattle.proof_names.specs.declared.outlines.Listed.TheVariants.{Inside, Call,
 use Rattle.proof_names.specs.declared.outlines.NamedTriple.{NamedTriple}
 use Rattle.proof_names.specs.declared.outlines.NamedStep.{NamedStep}
 use Rattle.proof_names.specs.declared.outlines.NamedStep.TheVariants as steps
-use Rattle.proof_names.specs.Outlines.{Node, Sketch}
+use Rattle.proof_names.specs.Outlines.{OutlineNode, Sketch}
 use Rattle.proof_names.specs.Items.{Names}
 use Rattle.proof_spell.specs.Correspond.{Correspond}
 use Rattle.proof_spell.specs.Drafts.{PlainShown, MayBeShown}
@@ -69,13 +69,13 @@ same_steps a b l m c d e = (cc, cc, cc)
 module _ (g : Graph) (bs : List Automaton) (u : Unwinding) (i : IsGraph g) (m : IsAutomaton g.automaton) (h : IsUnwound g bs u) (s : Sketch) (o : Outlines g s (draft_of u)) where
   -- ---- nodes and steps of the sketch
 
-  node_of : (n : ℕ) (x : Node) → IsNode s n x → (n < length u.nodes) × (node_at u.nodes n ≡ x)
+  node_of : (n : ℕ) (x : OutlineNode) → IsNode s n x → (n < length u.nodes) × (node_at u.nodes n ≡ x)
   node_of n x e =
-      let f : slice_get u.nodes n ≡ Some x = subst (λ (l : List Node). slice_get l n ≡ Some x) o.nodes e in
+      let f : slice_get u.nodes n ≡ Some x = subst (λ (l : List OutlineNode). slice_get l n ≡ Some x) o.nodes e in
       (within u.nodes n x f, node_is u.nodes n x f)
 
   is_node : (n : ℕ) → n < length u.nodes → IsNode s n (node_at u.nodes n)
-  is_node n l = subst (λ (k : List Node). slice_get k n ≡ Some (node_at u.nodes n)) (sym o.nodes) (node_there u.nodes n l)
+  is_node n l = subst (λ (k : List OutlineNode). slice_get k n ≡ Some (node_at u.nodes n)) (sym o.nodes) (node_there u.nodes n l)
 
   step_member : (t : NamedStep) → Member (steps_of u.steps) t → Member s.steps t
   step_member t e = subst (λ (l : List NamedStep). Member l t) (sym o.steps) e
@@ -111,18 +111,18 @@ module _ (g : Graph) (bs : List Automaton) (u : Unwinding) (i : IsGraph g) (m : 
   -- ---- the start, and nodes at error places
 
   start : HasStart s
-  start = subst (λ (l : List Node). HasStartIn l) (sym o.nodes) (0, bare, h.start, record { itself = refl; at = refl; bare = refl })
+  start = subst (λ (l : List OutlineNode). HasStartIn l) (sym o.nodes) (0, bare, h.start, record { itself = refl; at = refl; bare = refl })
 
-  errors : AreCovering g.automaton bs → (n : ℕ) (x : Node) → IsNode s n x → ErrorIsFalse g.automaton x
+  errors : AreCovering g.automaton bs → (n : ℕ) (x : OutlineNode) → IsNode s n x → ErrorIsFalse g.automaton x
   errors c n x e =
       let k = node_of n x e in
-      let z : node_place_in u.nodes 0 ≡ 0 = ap (λ (y : Node). y.place) (first_is g bs u i m h) in
-      subst (λ (y : Node). ErrorIsFalse g.automaton y) k.1
+      let z : node_place_in u.nodes 0 ≡ 0 = ap (λ (y : OutlineNode). y.place) (first_is g bs u i m h) in
+      subst (λ (y : OutlineNode). ErrorIsFalse g.automaton y) k.1
       (λ f. error_has_false g.automaton h.tree u.nodes u.steps bs n (entry_of u.nodes n) i.procedures.start z h.along h.part h.spread c (h.reached n k.0) f)
 
   -- ---- steps are sound
 
-  inside_sound : (n : ℕ) (a : Letter) (k : ℕ) → Member u.steps.insides (n, a, k) → (before to : Node) → node_at u.nodes n ≡ before → node_at u.nodes k ≡ to →
+  inside_sound : (n : ℕ) (a : Letter) (k : ℕ) → Member u.steps.insides (n, a, k) → (before to : OutlineNode) → node_at u.nodes n ≡ before → node_at u.nodes k ≡ to →
       StepIsSound g s a.id before k to (slice_get g.acts a.id)
   inside_sound n a k e before to p q =
       let d = h.along.insides n a k e in
@@ -136,9 +136,9 @@ module _ (g : Graph) (bs : List Automaton) (u : Unwinding) (i : IsGraph g) (m : 
       } in
       subst (λ (c : Option PlainAct). StepIsSound g s a.id before k to c) (sym w.act)
       (subst (λ (b : Letter). InsideIsSound g s b before to) (sym l)
-      (subst (λ (x : Node). InsideIsSound g s a before x) q (subst (λ (x : Node). InsideIsSound g s a x (node_at u.nodes k)) p one)))
+      (subst (λ (x : OutlineNode). InsideIsSound g s a before x) q (subst (λ (x : OutlineNode). InsideIsSound g s a x (node_at u.nodes k)) p one)))
 
-  call_sound : (n : ℕ) (a : Letter) (k : ℕ) → Member u.steps.calls (n, a, k) → (before to : Node) → node_at u.nodes n ≡ before → node_at u.nodes k ≡ to →
+  call_sound : (n : ℕ) (a : Letter) (k : ℕ) → Member u.steps.calls (n, a, k) → (before to : OutlineNode) → node_at u.nodes n ≡ before → node_at u.nodes k ≡ to →
       StepIsSound g s a.id before k to (slice_get g.acts a.id)
   call_sound n a k e before to p q =
       let d = h.along.calls n a k e in
@@ -152,9 +152,9 @@ module _ (g : Graph) (bs : List Automaton) (u : Unwinding) (i : IsGraph g) (m : 
       } in
       subst (λ (c : Option PlainAct). StepIsSound g s a.id before k to c) (sym w.act)
       (subst (λ (b : Letter). CallIsSound g s b before k to) (sym l)
-      (subst (λ (x : Node). CallIsSound g s a before k x) q (subst (λ (x : Node). CallIsSound g s a x k (node_at u.nodes k)) p one)))
+      (subst (λ (x : OutlineNode). CallIsSound g s a before k x) q (subst (λ (x : OutlineNode). CallIsSound g s a x k (node_at u.nodes k)) p one)))
 
-  back_sound : (x c : ℕ) (r : Letter) (k : ℕ) → Member u.steps.backs (x, c, r, k) → (exit before to : Node) → node_at u.nodes x ≡ exit → node_at u.nodes c ≡ before → node_at u.nodes k ≡ to →
+  back_sound : (x c : ℕ) (r : Letter) (k : ℕ) → Member u.steps.backs (x, c, r, k) → (exit before to : OutlineNode) → node_at u.nodes x ≡ exit → node_at u.nodes c ≡ before → node_at u.nodes k ≡ to →
       ReturnIsSound g s r.id exit c before to (slice_get g.acts r.id)
   back_sound x c r k e exit before to p q v =
       let d = h.along.backs x c r k e in
@@ -170,8 +170,8 @@ module _ (g : Graph) (bs : List Automaton) (u : Unwinding) (i : IsGraph g) (m : 
       } in
       subst (λ (b : Option PlainAct). ReturnIsSound g s r.id exit c before to b) (sym w.act)
       (subst (λ (b : Letter). BackIsSound g s b exit c before to) (sym l)
-      (subst (λ (y : Node). BackIsSound g s r exit c before y) v (subst (λ (y : Node). BackIsSound g s r exit c y (node_at u.nodes k)) q
-      (subst (λ (y : Node). BackIsSound g s r y c (node_at u.nodes c) (node_at u.nodes k)) p one))))
+      (subst (λ (y : OutlineNode). BackIsSound g s r exit c before y) v (subst (λ (y : OutlineNode). BackIsSound g s r exit c y (node_at u.nodes k)) q
+      (subst (λ (y : OutlineNode). BackIsSound g s r y c (node_at u.nodes c) (node_at u.nodes k)) p one))))
 
   sound_in : (t : NamedStep) → Member (steps_of u.steps) t → IsSound g s t
   sound_in t e = elim (member_split (map step_of u.steps.insides) (map step_of u.steps.calls ++ map back_of u.steps.backs) t e) [
@@ -199,10 +199,10 @@ module _ (g : Graph) (bs : List Automaton) (u : Unwinding) (i : IsGraph g) (m : 
         record { number = w.number; end = node_at u.nodes w.number; stands = is_node w.number (h.along.calls n a w.number w.step).to; at = w.at; step = call_member n a w.number w.step };
   }
 
-  steps_due : (n : ℕ) (x : Node) → IsNode s n x → IsOpen x → HasSteps g s n x
+  steps_due : (n : ℕ) (x : OutlineNode) → IsNode s n x → IsOpen x → HasSteps g s n x
   steps_due n x e =
       let k = node_of n x e in
-      subst (λ (y : Node). IsOpen y → HasSteps g s n y) k.1 (λ f. has_steps n k.0 f)
+      subst (λ (y : OutlineNode). IsOpen y → HasSteps g s n y) k.1 (λ f. has_steps n k.0 f)
 
   -- the step by the call letter of a return edge is a call step
   call_step : (c l e : ℕ) (caller callee helpers : ℕ) (rows : List LinearRow) → slice_get g.acts l ≡ Some (call_act caller callee helpers rows) → Member (steps_of u.steps) (steps.Step c l e) →
@@ -232,12 +232,12 @@ module _ (g : Graph) (bs : List Automaton) (u : Unwinding) (i : IsGraph g) (m : 
       let v = h.closed.backs x c l k f q t.0 t.1 r e b t.2 in
       record { number = v.number; end = node_at u.nodes v.number; stands = is_node v.number (h.along.backs x c r v.number v.back).to; at = v.at; back = back_member x c r v.number v.back }
 
-  backs_due : (n : ℕ) (x : Node) → IsNode s n x → IsOpen x → HasBacks g s n x
+  backs_due : (n : ℕ) (x : OutlineNode) → IsNode s n x → IsOpen x → HasBacks g s n x
   backs_due n x e =
       let k = node_of n x e in
-      subst (λ (y : Node). IsOpen y → HasBacks g s n y) k.1 (λ f c before p q r d b j.
+      subst (λ (y : OutlineNode). IsOpen y → HasBacks g s n y) k.1 (λ f c before p q r d b j.
       let v = node_of c before p in
-      has_backs n k.0 f c v.0 (subst (λ (y : Node). IsOpen y) (sym v.1) q) r d (subst (λ (y : Node). Member g.automaton.backs (node_place_in u.nodes n, y.place, r, d)) (sym v.1) b) j)
+      has_backs n k.0 f c v.0 (subst (λ (y : OutlineNode). IsOpen y) (sym v.1) q) r d (subst (λ (y : OutlineNode). Member g.automaton.backs (node_place_in u.nodes n, y.place, r, d)) (sym v.1) b) j)
 
   pub proves : AreCovering g.automaton bs → (a : Content) → Names g a s → Proves g a
   proves c a n = record {

@@ -7,7 +7,7 @@ use Rattle.nwa_base.specs.Automata.{Automaton}
 use Rattle.nwa_base.proofs.MemberLemmas.{member_front, member_rest, member_map}
 use Rattle.proof_names.specs.declared.outlines.NamedStep.{NamedStep}
 use Rattle.proof_names.specs.declared.outlines.NamedStep.TheVariants as steps
-use Rattle.proof_names.specs.Outlines.{Node}
+use Rattle.proof_names.specs.Outlines.{OutlineNode}
 use Rattle.proof_unwind.specs.Unwindings.{entry_of, IsReached, IsPart}
 use Rattle.proof_build.specs.Unwindings.{step_of, back_of, steps_of}
 use Rattle.proof_build.specs.Sketches.{sources, IsLedTo, AreFoundInTurn, IsReachable}
@@ -58,7 +58,7 @@ back_reached all x c l k m h i =
     record { step = steps.Back x c l k; among = m; leads = refl; begins = (member_front h.0 i.0 x h.1, (member_rest h.0 i.0 c i.1, tt)) } in
     (k ∷ (h.0 ++ i.0), inl refl, (inr e, turns_joined all h.0 i.0 h.2 i.2))
 
-pub all_reached : (nodes : List Node) (s tree : Automaton) → IsPart tree s → ((n : ℕ) → n < length nodes → IsReached tree (entry_of nodes n) n) → (n : ℕ) → n < length nodes →
+pub all_reached : (nodes : List OutlineNode) (s tree : Automaton) → IsPart tree s → ((n : ℕ) → n < length nodes → IsReached tree (entry_of nodes n) n) → (n : ℕ) → n < length nodes →
     IsReachable (steps_of s) n
 all_reached nodes s tree p r n l = kept_everywhere tree (IsReachable (steps_of s)) (entry_of nodes n) n (record {
   insides = λ q a k e h. step_reached (steps_of s) q a.id k (inside_step_in s q a k (p.insides q a k e)) h;

@@ -21,7 +21,7 @@ use Rattle.proof_names.specs.declared.outlines.Listed.{Listed}
 use Rattle.proof_names.specs.declared.outlines.Listed.TheVariants.{Inside, Call, Back}
 use Rattle.proof_names.specs.declared.outlines.NamedStep.{NamedStep}
 use Rattle.proof_names.specs.Naming.{scoped_at, triple_at, IsPredOf, MayBegin, IsNodeIn, StepIsIn, ReturnIsIn, BackIsIn, IsInScope}
-use Rattle.proof_names.specs.Outlines.{Node}
+use Rattle.proof_names.specs.Outlines.{OutlineNode}
 use Rattle.proof_spell.specs.Drafts as drafts
 use Rattle.proof_spell.specs.Drafts.{PlainShown, MayBeShown, MayStand, MayBeSpelled}
 use Rattle.proof_check.proofs.NamedLaws.{inside_two, call_two, back_three}
@@ -118,7 +118,7 @@ back_target g preds q b r l c caller callee helpers targets rows t act call m e 
 -- ---- what each node keeps
 
 -- the node's place and that of its entry node are of one procedure, of which its predicates are
-record Stands (g : Graph) (preds : List Scoped) (nodes : List Node) (n : ℕ) : Type 0 where
+record Stands (g : Graph) (preds : List Scoped) (nodes : List OutlineNode) (n : ℕ) : Type 0 where
   proc : ℕ
   exists : IsPlaceOf g.place_procs proc (node_place_in nodes n)
   scoped : AllByRecursion (IsPredOf (slice_get preds) proc) (node_at nodes n).preds
@@ -128,7 +128,7 @@ record Stands (g : Graph) (preds : List Scoped) (nodes : List Node) (n : ℕ) : 
   begins : MayBegin g proc (node_place_in nodes (entry_of nodes n))
 
 -- a node with the entry node of another one of its procedure
-with_entry : (g : Graph) (preds : List Scoped) (nodes : List Node) (n k p : ℕ) → Stands g preds nodes n → entry_of nodes k ≡ entry_of nodes n → IsPlaceOf g.place_procs p (node_place_in nodes n) →
+with_entry : (g : Graph) (preds : List Scoped) (nodes : List OutlineNode) (n k p : ℕ) → Stands g preds nodes n → entry_of nodes k ≡ entry_of nodes n → IsPlaceOf g.place_procs p (node_place_in nodes n) →
     IsPlaceOf g.place_procs p (node_place_in nodes k) → AllByRecursion (IsPredOf (slice_get preds) p) (node_at nodes k).preds → Stands g preds nodes k
 with_entry g preds nodes n k p s e a b c =
     let q : s.proc ≡ p = same_proc g.place_procs s.proc p (node_place_in nodes n) s.exists a in
@@ -189,14 +189,14 @@ module _ (g : Graph) (bs : List Automaton) (u : Unwinding) (i : IsGraph g) (m : 
   first_stands =
       let l : 0 < length g.place_procs = (let a = m.start in let b = i.procedures.start in let c = i.procedures.place_procs in omega arith) in
       let p = something_at g.place_procs 0 l in
-      let z : node_place_in u.nodes 0 ≡ 0 = ap (λ (x : Node). x.place) first_is in
-      let f : entry_of u.nodes 0 ≡ 0 = ap (λ (x : Node). x.entry) first_is in
+      let z : node_place_in u.nodes 0 ≡ 0 = ap (λ (x : OutlineNode). x.place) first_is in
+      let f : entry_of u.nodes 0 ≡ 0 = ap (λ (x : OutlineNode). x.entry) first_is in
       let y : 0 ≡ entry_of u.nodes 0 = sym f in
       let b : IsPlaceOf g.place_procs p.0 (node_place_in u.nodes 0) = subst (λ (x : ℕ). IsPlaceOf g.place_procs p.0 x) (sym z) p.1 in
       record {
         proc = p.0;
         exists = b;
-        scoped = subst (λ (x : Node). AllByRecursion (IsPredOf (slice_get u.preds) p.0) x.preds) (sym first_is) tt;
+        scoped = subst (λ (x : OutlineNode). AllByRecursion (IsPredOf (slice_get u.preds) p.0) x.preds) (sym first_is) tt;
         there = subst (λ (x : ℕ). x < length u.nodes) y (within u.nodes 0 bare h.start);
         itself = ap (entry_of u.nodes) f;
         belongs = subst (λ (x : ℕ). IsPlaceOf g.place_procs p.0 (node_place_in u.nodes x)) y b;
@@ -210,12 +210,12 @@ module _ (g : Graph) (bs : List Automaton) (u : Unwinding) (i : IsGraph g) (m : 
     backs = λ x c r k e s t. back_stands x c r k (h.part.backs x c r k e) t;
   }) first_stands (h.reached n l)
 
-  node_stands : (n : ℕ) (x : Node) → slice_get u.nodes n ≡ Some x → MayStand g u.preds u.nodes n x
+  node_stands : (n : ℕ) (x : OutlineNode) → slice_get u.nodes n ≡ Some x → MayStand g u.preds u.nodes n x
   node_stands n x e =
       let l = within u.nodes n x e in
       let s = stands n l in
       let k : node_at u.nodes n ≡ x = node_is u.nodes n x e in
-      subst (λ (y : Node). MayStand g u.preds u.nodes n y) k (record {
+      subst (λ (y : OutlineNode). MayStand g u.preds u.nodes n y) k (record {
         proc = s.proc;
         exists = s.exists;
         ascend = h.ascend n l;
@@ -228,7 +228,7 @@ module _ (g : Graph) (bs : List Automaton) (u : Unwinding) (i : IsGraph g) (m : 
 
   node_in : (p n : ℕ) → n < length u.nodes → IsPlaceOf g.place_procs p (node_place_in u.nodes n) → IsNodeIn g (drafts.node_place u.nodes) p n
   node_in p n l b =
-      let e : drafts.node_place u.nodes n ≡ Some (node_place_in u.nodes n) = ap (option_map (λ (x : Node). x.place)) (node_there u.nodes n l) in
+      let e : drafts.node_place u.nodes n ≡ Some (node_place_in u.nodes n) = ap (option_map (λ (x : OutlineNode). x.place)) (node_there u.nodes n l) in
       subst (λ (o : Option ℕ). IsSomeAnd o (IsPlaceOf g.place_procs p)) (sym e) b
 
   inside_in_scope : (n : ℕ) (a : Letter) (k : ℕ) → Member u.steps.insides (n, a, k) → IsInScope g (drafts.node_place u.nodes) (step_of (n, a, k))

@@ -19,8 +19,8 @@ use Rattle.itp_automaton.specs.Certified.{Certificate, IsCertified}
 use Rattle.itp_automaton.specs.Making.{named_in}
 use Rattle.proof_names.specs.declared.outlines.Listed.{Listed}
 use Rattle.proof_names.specs.declared.outlines.Listed.TheVariants.{Inside, Call, Back}
-use Rattle.proof_names.specs.Columns.{has_entry}
-use Rattle.proof_names.specs.Outlines.{Node}
+use Rattle.proof_names.specs.Columns.{is_some_entry}
+use Rattle.proof_names.specs.Outlines.{OutlineNode}
 use Rattle.proof_spell.specs.Drafts.{PlainShown}
 use Rattle.proof_check.specs.Steps.{IsOf}
 use Rattle.proof_unwind.specs.Unwindings.{node_at, node_place_in, entry_of, bare, Claims, Spreads}
@@ -62,8 +62,8 @@ back_procs g o exit before after c targets caller callee helpers rows e f h =
     let l : ReturnAgrees (alphabet_of g) (Some (call_act caller callee helpers rows)) exit before after = subst (λ (x : Option PlainAct). ReturnAgrees (alphabet_of g) x exit before after) f k in
     (l.0.proc, l.1.proc, l.2.proc)
 
-entered : (o : Option (Option ℕ)) (e : ℕ) → o ≡ Some (Some e) → IsTrue (has_entry o)
-entered o e h = subst (λ (x : Option (Option ℕ)). IsTrue (has_entry x)) (sym h) refl
+entered : (o : Option (Option ℕ)) (e : ℕ) → o ≡ Some (Some e) → IsTrue (is_some_entry o)
+entered o e h = subst (λ (x : Option (Option ℕ)). IsTrue (is_some_entry x)) (sym h) refl
 
 of_body : (g : Graph) (s : Scoped) (p : ℕ) → s.proc ≡ p → HasBody g p → HasBody g s.proc
 of_body g s p e h = subst (λ (x : ℕ). HasBody g x) (sym e) h
@@ -77,7 +77,7 @@ some_place : (procs : List ℕ) (a : Automaton) → a.start < a.states → a.sta
 some_place procs a l s e = omega arith
 
 -- the place of the node belongs to a procedure with a body
-abbrev HasPlace : Graph → List Node → ℕ → Type 0
+abbrev HasPlace : Graph → List OutlineNode → ℕ → Type 0
 HasPlace g nodes n = (p : ℕ) × IsPlaceOf g.place_procs p (node_place_in nodes n) × HasBody g p
 
 abbrev number_in : (ℕ → Option ℕ) → ℕ → ℕ
@@ -86,7 +86,7 @@ number_in number q = unwrap_or (number q) 0
 is_in : (number : ℕ → Option ℕ) (q k : ℕ) → number q ≡ Some k → number_in number q ≡ k
 is_in number q k e = ap (λ (o : Option ℕ). unwrap_or o 0) e
 
-module _ (g : Graph) (preds : List Scoped) (cs : List Certificate) (union : Automaton) (nodes : List Node) (steps : Automaton) (i : IsGraph g) (m : IsAutomaton g.automaton)
+module _ (g : Graph) (preds : List Scoped) (cs : List Certificate) (union : Automaton) (nodes : List OutlineNode) (steps : Automaton) (i : IsGraph g) (m : IsAutomaton g.automaton)
     (certified : AllByRecursion (IsCertified (alphabet_of g)) cs) (body : StartHasBody g) (listed : AreListed g preds) (numbered : AreAllNumbered g preds cs) (united : IsUnionOf preds cs union)
     (exploring : IsExploring g.automaton union nodes steps) where
   body_of : (n p : ℕ) → HasPlace g nodes n → IsPlaceOf g.place_procs p (node_place_in nodes n) → HasBody g p
@@ -96,7 +96,7 @@ module _ (g : Graph) (preds : List Scoped) (cs : List Certificate) (union : Auto
   first_has =
       let p = something_at g.place_procs 0 (some_place g.place_procs g.automaton m.start i.procedures.start i.procedures.place_procs) in
       let f : node_at nodes 0 ≡ bare = node_is nodes 0 bare exploring.first in
-      let z : node_place_in nodes 0 ≡ 0 = ap (λ (x : Node). x.place) f in
+      let z : node_place_in nodes 0 ≡ 0 = ap (λ (x : OutlineNode). x.place) f in
       (p.0, subst (λ (x : ℕ). IsPlaceOf g.place_procs p.0 x) (sym z) p.1, body p.0 p.1)
 
   inside_has : (n : ℕ) (a : Letter) (k : ℕ) → Member steps.insides (n, a, k) → HasPlace g nodes n → HasPlace g nodes k

@@ -198,9 +198,6 @@ listed_there g preds needed shown p t n d i e h k =
 
 -- ---- answers
 
-abbrev Lacks : List Scoped → Scoped → Type 0
-Lacks preds s = (k : ℕ) → IsNumberOf preds s k → ⊥
-
 -- ---- triples that are added one by one
 
 pub shows_none : (preds : List Scoped) (needed : List Listed) (old : List PlainShown) → Shows preds needed [] old old

@@ -9,7 +9,7 @@ use Rattle.nwa_base.specs.Members.{Member}
 use Rattle.nwa_base.specs.Automata.{Automaton}
 use Rattle.nwa_base.specs.Acceptance.{Follows, AcceptsFrom, Accepts, Moves}
 use Rattle.nwa_base.proofs.WayLemmas.{moves_join, moves_below}
-use Rattle.proof_names.specs.Outlines.{Node}
+use Rattle.proof_names.specs.Outlines.{OutlineNode}
 use Rattle.proof_spell.specs.Correspond.{Correspond}
 use Rattle.proof_check.specs.Steps.{IsOf, IsOpen}
 use Rattle.proof_unwind.specs.Unwindings.{node_at, node_place_in, IsAlong, IsReached, IsPart, Claims, Spreads}
@@ -17,12 +17,12 @@ use Rattle.proof_build.specs.Unwound.{AreCovering}
 
 -- ---- nodes by number
 
-pub node_is : (nodes : List Node) (n : ℕ) (x : Node) → slice_get nodes n ≡ Some x → node_at nodes n ≡ x
+pub node_is : (nodes : List OutlineNode) (n : ℕ) (x : OutlineNode) → slice_get nodes n ≡ Some x → node_at nodes n ≡ x
 node_is [] n x e = absurd (cc)
 node_is (y ∷ nodes) zero x e = cc
 node_is (y ∷ nodes) (suc n) x e = node_is nodes n x e
 
-pub node_there : (nodes : List Node) (n : ℕ) → n < length nodes → slice_get nodes n ≡ Some (node_at nodes n)
+pub node_there : (nodes : List OutlineNode) (n : ℕ) → n < length nodes → slice_get nodes n ≡ Some (node_at nodes n)
 node_there [] n l = absurd (omega arith)
 node_there (y ∷ nodes) zero l = refl
 node_there (y ∷ nodes) (suc n) l = node_there nodes n (omega arith)
@@ -62,10 +62,10 @@ whole_way t entry n r =
 
 -- ---- places
 
-abbrev places : List Node → List ℕ → List ℕ
+abbrev places : List OutlineNode → List ℕ → List ℕ
 places nodes stack = map (node_place_in nodes) stack
 
-place_step : (m t : Automaton) (nodes : List Node) (s : Automaton) (k : Kind) (a : Letter) (before : List ℕ) (n r : ℕ) (R S : List ℕ → Type 0) → IsAlong m nodes s → IsPart t s →
+place_step : (m t : Automaton) (nodes : List OutlineNode) (s : Automaton) (k : Kind) (a : Letter) (before : List ℕ) (n r : ℕ) (R S : List ℕ → Type 0) → IsAlong m nodes s → IsPart t s →
     ((stack : List ℕ) → R stack → S (places nodes stack)) → Follows t k a before n r R → Follows m k a (places nodes before) (node_place_in nodes n) (node_place_in nodes r) S
 place_step m t nodes s kinds.Inside a before n r R S al p g f = ((al.insides n a r (p.insides n a r f.0)).edge, g before f.1)
 place_step m t nodes s kinds.Call a before n r R S al p g f = ((al.calls n a r (p.calls n a r f.0)).edge, g (n ∷ before) f.1)
@@ -73,7 +73,7 @@ place_step m t nodes s kinds.Back a [] n r R S al p g f = absurd f
 place_step m t nodes s kinds.Back a (c ∷ before) n r R S al p g f = ((al.backs n c a r (p.backs n c a r f.0)).edge, g before f.1)
 
 -- a word to a node at a final place is accepted
-pub places_accept : (m t : Automaton) (nodes : List Node) (s : Automaton) (w : List Letter) (before after : List ℕ) (n e : ℕ) → IsAlong m nodes s → IsPart t s →
+pub places_accept : (m t : Automaton) (nodes : List OutlineNode) (s : Automaton) (w : List Letter) (before after : List ℕ) (n e : ℕ) → IsAlong m nodes s → IsPart t s →
     Moves t before n w after e → Member m.finals (node_place_in nodes e) → AcceptsFrom m (places nodes before) (node_place_in nodes n) w
 places_accept m t nodes s [] before after n e al p v f = subst (λ (q : ℕ). Member m.finals (node_place_in nodes q)) (sym v.1) f
 places_accept m t nodes s (a ∷ w) before after n e al p v f = (
@@ -84,14 +84,14 @@ places_accept m t nodes s (a ∷ w) before after n e al p v f = (
 
 -- ---- claims
 
-abbrev Have : List Node → (ℕ → ℕ) → List ℕ → List ℕ → Type 0
+abbrev Have : List OutlineNode → (ℕ → ℕ) → List ℕ → List ℕ → Type 0
 Have nodes number stack states = Correspond (λ (n : ℕ) (q : ℕ). Claims (node_at nodes n) (number q)) stack states
 
-open_has : (x : Node) (k : ℕ) → IsOpen x → Claims x k → IsOf k x
+open_has : (x : OutlineNode) (k : ℕ) → IsOpen x → Claims x k → IsOf k x
 open_has x k o (inl f) = absurd (o f)
 open_has x k o (inr h) = h
 
-claim_step : (b t : Automaton) (nodes : List Node) (number : ℕ → ℕ) (k : Kind) (a : Letter) (before states : List ℕ) (n r q e : ℕ) (R S : List ℕ → Type 0) → Spreads b t nodes number →
+claim_step : (b t : Automaton) (nodes : List OutlineNode) (number : ℕ → ℕ) (k : Kind) (a : Letter) (before states : List ℕ) (n r q e : ℕ) (R S : List ℕ → Type 0) → Spreads b t nodes number →
     Have nodes number before states → Claims (node_at nodes n) (number q) → Follows t k a before n r R → Follows b k a states q e S →
     (stack : List ℕ) × (others : List ℕ) × Have nodes number stack others × Claims (node_at nodes r) (number e) × R stack × S others
 claim_step b t nodes number kinds.Inside a before states n r q e R S h c p f g =
@@ -106,13 +106,13 @@ claim_step b t nodes number kinds.Back a (d ∷ before) (o ∷ states) n r q e R
     let s = h.backs n d a r f.0 in
     (before, states, c.1, s.2 q o e g.0 (open_has (node_at nodes n) (number q) s.0 p) (open_has (node_at nodes d) (number o) s.1 c.0), f.1, g.1)
 
-false_claimed : (x : Node) (k : ℕ) → k ≡ 1 → Claims x k → Member x.preds 1
+false_claimed : (x : OutlineNode) (k : ℕ) → k ≡ 1 → Claims x k → Member x.preds 1
 false_claimed x k e (inl f) = f
 false_claimed x k e (inr (inl z)) = absurd (omega (arith, e, z))
 false_claimed x k e (inr (inr h)) = subst (λ (j : ℕ). Member x.preds j) e h
 
 -- where the automaton accepts the word, its end has false
-claimed_along : (b t : Automaton) (nodes : List Node) (number : ℕ → ℕ) (w : List Letter) (before after states : List ℕ) (n e q : ℕ) → Spreads b t nodes number →
+claimed_along : (b t : Automaton) (nodes : List OutlineNode) (number : ℕ → ℕ) (w : List Letter) (before after states : List ℕ) (n e q : ℕ) → Spreads b t nodes number →
     Have nodes number before states → Claims (node_at nodes n) (number q) → Moves t before n w after e → AcceptsFrom b states q w → Member (node_at nodes e).preds 1
 claimed_along b t nodes number [] before after states n e q h c p m a =
     false_claimed (node_at nodes e) (number q) (h.finals q a) (subst (λ (k : ℕ). Claims (node_at nodes k) (number q)) m.1 p)
@@ -121,7 +121,7 @@ claimed_along b t nodes number (l ∷ w) before after states n e q h c p m a =
     claimed_along b t nodes number w s.0 after s.1 m.0 e a.0 h s.2 s.3 s.4 s.5
 
 -- each node at a final place has false
-pub error_has_false : (m t : Automaton) (nodes : List Node) (s : Automaton) (bs : List Automaton) (n entry : ℕ) → m.start ≡ 0 → node_place_in nodes 0 ≡ 0 → IsAlong m nodes s → IsPart t s →
+pub error_has_false : (m t : Automaton) (nodes : List OutlineNode) (s : Automaton) (bs : List Automaton) (n entry : ℕ) → m.start ≡ 0 → node_place_in nodes 0 ≡ 0 → IsAlong m nodes s → IsPart t s →
     ((b : Automaton) → Member bs b → (number : ℕ → ℕ) × Spreads b t nodes number) → AreCovering m bs → IsReached t entry n → Member m.finals (node_place_in nodes n) →
     Member (node_at nodes n).preds 1
 error_has_false m t nodes s bs n entry st z al p sp co r f =

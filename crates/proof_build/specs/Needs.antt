@@ -5,7 +5,7 @@ use Rattle.nwa_base.specs.Members.{Member}
 use Rattle.nwa_base.specs.Automata.{Automaton}
 use Rattle.proof_names.specs.declared.outlines.Listed.{Listed}
 use Rattle.proof_names.specs.declared.outlines.Listed.TheVariants.{Inside, Call, Back}
-use Rattle.proof_names.specs.Outlines.{Node}
+use Rattle.proof_names.specs.Outlines.{OutlineNode}
 use Rattle.proof_unwind.specs.Unwindings.{node_at}
 use Rattle.proof_build.specs.Unwindings.{steps_of}
 use Rattle.proof_build.specs.Sketches.{IsUsed}
@@ -81,14 +81,14 @@ pub record NotesBacks (edges : List (ℕ × ℕ × Letter × ℕ)) (exit before 
 -- ---- what all steps need
 
 -- the triple is one that a step needs
-pub record IsUseIn (numbers : Numbers) (nodes : List Node) (steps : List (ℕ × Letter × ℕ)) (t : Listed) : Type 0 where
+pub record IsUseIn (numbers : Numbers) (nodes : List OutlineNode) (steps : List (ℕ × Letter × ℕ)) (t : Listed) : Type 0 where
   pub before : ℕ
   pub letter : Letter
   pub after : ℕ
   pub step : Member steps (before, letter, after)
   pub uses : IsUse numbers (node_at nodes before).preds letter (node_at nodes after).preds t
 
-pub record IsBackUseIn (nodes : List Node) (steps : List (ℕ × ℕ × Letter × ℕ)) (t : Listed) : Type 0 where
+pub record IsBackUseIn (nodes : List OutlineNode) (steps : List (ℕ × ℕ × Letter × ℕ)) (t : Listed) : Type 0 where
   pub exit : ℕ
   pub before : ℕ
   pub letter : Letter
@@ -97,20 +97,20 @@ pub record IsBackUseIn (nodes : List Node) (steps : List (ℕ × ℕ × Letter �
   pub uses : IsBackUse (node_at nodes exit).preds (node_at nodes before).preds letter (node_at nodes after).preds t
 
 -- for each step and each predicate of its end to which an edge leads the triple of one is noted, and only such triples are
-pub record NotesSteps (edges : List (ℕ × Letter × ℕ)) (numbers : Numbers) (nodes : List Node) (steps : List (ℕ × Letter × ℕ)) (old new : List Listed) : Type 0 where
+pub record NotesSteps (edges : List (ℕ × Letter × ℕ)) (numbers : Numbers) (nodes : List OutlineNode) (steps : List (ℕ × Letter × ℕ)) (old new : List Listed) : Type 0 where
   pub kept : (t : Listed) → Member old t → Member new t
   pub used : (t : Listed) → Member new t → Member old t ⊎ IsUseIn numbers nodes steps t
   pub all : (n : ℕ) (a : Letter) (k : ℕ) → Member steps (n, a, k) → (r : ℕ) → Member (node_at nodes k).preds r → Leads edges (node_at nodes n).preds a r →
       IsNoted edges numbers new (node_at nodes n).preds a r
 
-pub record NotesBackSteps (edges : List (ℕ × ℕ × Letter × ℕ)) (nodes : List Node) (steps : List (ℕ × ℕ × Letter × ℕ)) (old new : List Listed) : Type 0 where
+pub record NotesBackSteps (edges : List (ℕ × ℕ × Letter × ℕ)) (nodes : List OutlineNode) (steps : List (ℕ × ℕ × Letter × ℕ)) (old new : List Listed) : Type 0 where
   pub kept : (t : Listed) → Member old t → Member new t
   pub used : (t : Listed) → Member new t → Member old t ⊎ IsBackUseIn nodes steps t
   pub all : (x c : ℕ) (a : Letter) (k : ℕ) → Member steps (x, c, a, k) → (r : ℕ) → Member (node_at nodes k).preds r →
       BackLeads edges (node_at nodes x).preds (node_at nodes c).preds a r → IsBackNoted edges new (node_at nodes x).preds (node_at nodes c).preds a r
 
 -- of a union and an unwinding by it: the triples of some of its edges, all of which steps use
-pub record AreNeeded (union : Automaton) (nodes : List Node) (s : Automaton) (noted : List Listed) : Type 0 where
+pub record AreNeeded (union : Automaton) (nodes : List OutlineNode) (s : Automaton) (noted : List Listed) : Type 0 where
   pub used : (t : Listed) → Member noted t → IsUsed (steps_of s) nodes t
   pub insides : (n : ℕ) (a : Letter) (k : ℕ) → Member s.insides (n, a, k) → (r : ℕ) → Member (node_at nodes k).preds r → Leads union.insides (node_at nodes n).preds a r →
       IsNoted union.insides inside_numbers noted (node_at nodes n).preds a r

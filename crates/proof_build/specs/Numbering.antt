@@ -7,14 +7,14 @@ use Rattle.triple_rows.specs.declared.triples.Scoped.{Scoped}
 use Rattle.triple_rows.specs.Proofs.{PlainProof}
 use Rattle.itp_automaton.specs.Certified.{Certificate, IsTruthAt}
 use Rattle.itp_automaton.specs.Making.{named_in}
-use Rattle.proof_names.specs.Columns.{has_entry}
+use Rattle.proof_names.specs.Columns.{is_some_entry}
 use Rattle.proof_names.specs.Naming.{scoped_at}
 use Rattle.proof_spell.specs.Drafts.{MayBeNamed}
 
 -- ---- procedures with bodies
 
 abbrev pub HasBody : Graph → ℕ → Type 0
-HasBody g p = IsTrue (has_entry (slice_get g.entries p))
+HasBody g p = IsTrue (is_some_entry (slice_get g.entries p))
 
 -- the procedure in which the graph starts has a body
 abbrev pub StartHasBody : Graph → Type 0

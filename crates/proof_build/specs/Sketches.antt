@@ -9,7 +9,7 @@ use Rattle.proof_names.specs.declared.outlines.Listed.TheVariants.{Inside, Call,
 use Rattle.proof_names.specs.declared.outlines.NamedTriple.{NamedTriple}
 use Rattle.proof_names.specs.declared.outlines.NamedStep.{NamedStep}
 use Rattle.proof_names.specs.declared.outlines.NamedStep.TheVariants as steps
-use Rattle.proof_names.specs.Outlines.{Node, Sketch}
+use Rattle.proof_names.specs.Outlines.{OutlineNode, Sketch}
 use Rattle.proof_names.specs.Items.{Names}
 use Rattle.proof_check.specs.Steps.{IsOf}
 use Rattle.proof_unwind.specs.Unwindings.{node_at}
@@ -60,14 +60,14 @@ AreInOrder s = PlacesAscend s.nodes
 
 -- the step goes by the triple's letter from a node that has its source to one that has its target; a back from an exit and a node before
 -- the call that have its sources
-abbrev pub IsUsedBy : List Node → Listed → NamedStep → Type 0
+abbrev pub IsUsedBy : List OutlineNode → Listed → NamedStep → Type 0
 IsUsedBy nodes (Inside q l r) (steps.Step n a k) = (a ≡ l) × IsOf q (node_at nodes n) × Member (node_at nodes k).preds r
 IsUsedBy nodes (Call q l r) (steps.Step n a k) = (a ≡ l) × IsOf q (node_at nodes n) × Member (node_at nodes k).preds r
 IsUsedBy nodes (Back q p l r) (steps.Back x c a k) = (a ≡ l) × IsOf q (node_at nodes x) × IsOf p (node_at nodes c) × Member (node_at nodes k).preds r
 IsUsedBy nodes t s = ⊥
 
 -- one of the steps uses it
-abbrev pub IsUsed : List NamedStep → List Node → Listed → Type 0
+abbrev pub IsUsed : List NamedStep → List OutlineNode → Listed → Type 0
 IsUsed all nodes t = (s : NamedStep) × Member all s × IsUsedBy nodes t s
 
 -- each triple is used

@@ -8,7 +8,7 @@ use Rattle.proof_names.specs.declared.outlines.Listed.{Listed}
 use Rattle.proof_names.specs.declared.outlines.Listed.TheVariants.{Inside, Call, Back}
 use Rattle.proof_names.specs.declared.outlines.NamedStep.{NamedStep}
 use Rattle.proof_names.specs.declared.outlines.NamedStep.TheVariants as steps
-use Rattle.proof_names.specs.Outlines.{Node}
+use Rattle.proof_names.specs.Outlines.{OutlineNode}
 use Rattle.proof_spell.specs.Drafts.{PlainShown, Draft}
 use Rattle.proof_check.specs.Steps.{IsOf}
 use Rattle.proof_unwind.specs.Unwindings.{node_at}
@@ -18,7 +18,7 @@ use Rattle.proof_unwind.specs.Unwindings.{node_at}
 pub record Unwinding : Type 0 where
   pub preds : List Scoped
   pub triples : List PlainShown
-  pub nodes : List Node
+  pub nodes : List OutlineNode
   pub steps : Automaton
 
 -- ---- what an annotation says of it
@@ -42,7 +42,7 @@ abbrev pub HasTriple : List PlainShown → Listed → Type 0
 HasTriple triples numbers = (t : PlainShown) × Member triples t × (t.listed ≡ numbers)
 
 -- each predicate of the end of a step is the target of a listed triple of its letter whose sources are true or in the nodes before
-pub record IsShown (triples : List PlainShown) (nodes : List Node) (s : Automaton) : Type 0 where
+pub record IsShown (triples : List PlainShown) (nodes : List OutlineNode) (s : Automaton) : Type 0 where
   pub insides : (n : ℕ) (a : Letter) (k : ℕ) → Member s.insides (n, a, k) → (r : ℕ) → Member (node_at nodes k).preds r →
       (q : ℕ) × HasTriple triples (Inside q a.id r) × IsOf q (node_at nodes n)
   pub calls : (n : ℕ) (a : Letter) (k : ℕ) → Member s.calls (n, a, k) → (r : ℕ) → Member (node_at nodes k).preds r →

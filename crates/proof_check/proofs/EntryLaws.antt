@@ -11,8 +11,8 @@ use Rattle.proof_names.specs.declared.outlines.Listed.TheVariants.{Inside, Call,
 use Rattle.proof_names.specs.declared.outlines.NamedTriple.{NamedTriple}
 use Rattle.proof_names.specs.declared.outlines.NamedStep.{NamedStep}
 use Rattle.proof_names.specs.declared.outlines.NamedStep.TheVariants as steps
-use Rattle.proof_names.specs.Outlines.{Node, Sketch}
-use Rattle.proof_check.specs.Steps.{StepsTo, BacksTo}
+use Rattle.proof_names.specs.Outlines.{OutlineNode, Sketch}
+use Rattle.proof_check.specs.Steps.{HasStepTo, BacksTo}
 use Rattle.proof_check.specs.Plans.{AreGroups, IsTest, InsideSource, CallSource, BackSource, Entering, Stepped, Landed, BackLanded}
 use Rattle.proof_check.proofs.IndexLaws.{Enters, HasGroups, HasKeys, TellsKeys}
 
@@ -150,16 +150,16 @@ step_keys moves has h k = (
 pub seen_enters : (moves : List NamedStep) (k : ℕ × ℕ × ℕ) → Enters step_key moves k → Enters entering_entry moves (k.2, (k.0, k.1))
 seen_enters moves k n = (n.0, n.1, ap entering_entry (step_is n.0 k n.2))
 
-abbrev pub landed_key : List Node → NamedStep → Option (ℕ × ℕ × ℕ)
+abbrev pub landed_key : List OutlineNode → NamedStep → Option (ℕ × ℕ × ℕ)
 landed_key nodes (steps.Step n l m) = option_map (λ x. (n, l, x.place)) (slice_get nodes m)
 landed_key nodes (steps.Back x c l m) = None
 
-abbrev pub back_landed_key : List Node → NamedStep → Option (ℕ × ℕ × ℕ × ℕ)
+abbrev pub back_landed_key : List OutlineNode → NamedStep → Option (ℕ × ℕ × ℕ × ℕ)
 back_landed_key nodes (steps.Step n l m) = None
 back_landed_key nodes (steps.Back x c l m) = option_map (λ y. (x, c, l, y.place)) (slice_get nodes m)
 
-landed_at : (s : Sketch) (n l m : ℕ) (k : ℕ × ℕ × ℕ) (o : Option Node) → slice_get s.nodes m ≡ o → option_map (λ x. (n, l, x.place)) o ≡ Some k →
-    Member s.steps (steps.Step n l m) → StepsTo s k.0 k.1 k.2
+landed_at : (s : Sketch) (n l m : ℕ) (k : ℕ × ℕ × ℕ) (o : Option OutlineNode) → slice_get s.nodes m ≡ o → option_map (λ x. (n, l, x.place)) o ≡ Some k →
+    Member s.steps (steps.Step n l m) → HasStepTo s k.0 k.1 k.2
 landed_at s n l m k None g e h = absurd (cc)
 landed_at s n l m k (Some x) g e h =
     let p = same_Some (n, l, x.place) k e in
@@ -171,7 +171,7 @@ landed_at s n l m k (Some x) g e h =
       step = subst (λ (j : ℕ × ℕ × ℕ). Member s.steps (steps.Step j.0 j.1 m)) p h;
     }
 
-landed_by : (s : Sketch) (t : NamedStep) (k : ℕ × ℕ × ℕ) → landed_key s.nodes t ≡ Some k → Member s.steps t → StepsTo s k.0 k.1 k.2
+landed_by : (s : Sketch) (t : NamedStep) (k : ℕ × ℕ × ℕ) → landed_key s.nodes t ≡ Some k → Member s.steps t → HasStepTo s k.0 k.1 k.2
 landed_by s (steps.Step n l m) k e h = landed_at s n l m k (slice_get s.nodes m) refl e h
 landed_by s (steps.Back x c l m) k e h = absurd (cc)
 
@@ -181,11 +181,11 @@ landed_keys s has h k = (
   λ r. (h k).1 (
     steps.Step k.0 k.1 r.number,
     r.step,
-    ap (option_map (λ (x : Node). (k.0, k.1, x.place))) r.stands ∙ ap (λ (q : ℕ). Some (k.0, k.1, q)) r.at,
+    ap (option_map (λ (x : OutlineNode). (k.0, k.1, x.place))) r.stands ∙ ap (λ (q : ℕ). Some (k.0, k.1, q)) r.at,
   ),
 )
 
-back_landed_at : (s : Sketch) (x c l m : ℕ) (k : ℕ × ℕ × ℕ × ℕ) (o : Option Node) → slice_get s.nodes m ≡ o → option_map (λ y. (x, c, l, y.place)) o ≡ Some k →
+back_landed_at : (s : Sketch) (x c l m : ℕ) (k : ℕ × ℕ × ℕ × ℕ) (o : Option OutlineNode) → slice_get s.nodes m ≡ o → option_map (λ y. (x, c, l, y.place)) o ≡ Some k →
     Member s.steps (steps.Back x c l m) → BacksTo s k.0 k.1 k.2 k.3
 back_landed_at s x c l m k None g e h = absurd (cc)
 back_landed_at s x c l m k (Some y) g e h =
@@ -208,7 +208,7 @@ back_landed_keys s has h k = (
   λ r. (h k).1 (
     steps.Back k.0 k.1 k.2 r.number,
     r.back,
-    ap (option_map (λ (y : Node). (k.0, k.1, k.2, y.place))) r.stands ∙ ap (λ (q : ℕ). Some (k.0, k.1, k.2, q)) r.at,
+    ap (option_map (λ (y : OutlineNode). (k.0, k.1, k.2, y.place))) r.stands ∙ ap (λ (q : ℕ). Some (k.0, k.1, k.2, q)) r.at,
   ),
 )
 
@@ -241,19 +241,19 @@ not_back (Back x b l r) h = absurd (h x b l r refl)
 
 -- ---- the place at the end
 
-pub at_place : (o : Option Node) (n l p : ℕ) → Some p ≡ option_map (λ (x : Node). x.place) o → option_map {U = ℕ × ℕ × ℕ} (λ (x : Node). (n, l, x.place)) o ≡ Some (n, l, p)
+pub at_place : (o : Option OutlineNode) (n l p : ℕ) → Some p ≡ option_map (λ (x : OutlineNode). x.place) o → option_map {U = ℕ × ℕ × ℕ} (λ (x : OutlineNode). (n, l, x.place)) o ≡ Some (n, l, p)
 at_place None n l p e = absurd (cc)
 at_place (Some x) n l p e = let q : x.place ≡ p = sym (same_Some p x.place e) in ap (λ (k : ℕ). Some (n, l, k)) q
 
-pub at_no_place : (o : Option Node) (n l : ℕ) → None ≡ option_map (λ (x : Node). x.place) o → option_map {U = ℕ × ℕ × ℕ} (λ (x : Node). (n, l, x.place)) o ≡ None
+pub at_no_place : (o : Option OutlineNode) (n l : ℕ) → None ≡ option_map (λ (x : OutlineNode). x.place) o → option_map {U = ℕ × ℕ × ℕ} (λ (x : OutlineNode). (n, l, x.place)) o ≡ None
 at_no_place None n l e = refl
 at_no_place (Some x) n l e = absurd (cc)
 
-pub back_at_place : (o : Option Node) (x c l p : ℕ) → Some p ≡ option_map (λ (y : Node). y.place) o → option_map {U = ℕ × ℕ × ℕ × ℕ} (λ (y : Node). (x, c, l, y.place)) o ≡ Some (x, c, l, p)
+pub back_at_place : (o : Option OutlineNode) (x c l p : ℕ) → Some p ≡ option_map (λ (y : OutlineNode). y.place) o → option_map {U = ℕ × ℕ × ℕ × ℕ} (λ (y : OutlineNode). (x, c, l, y.place)) o ≡ Some (x, c, l, p)
 back_at_place None x c l p e = absurd (cc)
 back_at_place (Some y) x c l p e = let q : y.place ≡ p = sym (same_Some p y.place e) in ap (λ (k : ℕ). Some (x, c, l, k)) q
 
-pub back_at_no_place : (o : Option Node) (x c l : ℕ) → None ≡ option_map (λ (y : Node). y.place) o → option_map {U = ℕ × ℕ × ℕ × ℕ} (λ (y : Node). (x, c, l, y.place)) o ≡ None
+pub back_at_no_place : (o : Option OutlineNode) (x c l : ℕ) → None ≡ option_map (λ (y : OutlineNode). y.place) o → option_map {U = ℕ × ℕ × ℕ × ℕ} (λ (y : OutlineNode). (x, c, l, y.place)) o ≡ None
 back_at_no_place None x c l e = refl
 back_at_no_place (Some y) x c l e = absurd (cc)
 

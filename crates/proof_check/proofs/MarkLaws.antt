@@ -6,7 +6,7 @@ use Rattle.nwa_base.specs.Members.{Member}
 use Rattle.nwa_base.proofs.MemberLemmas.{member_front, member_rest, member_split}
 use Rattle.letter_acts.proofs.ListLemmas.{below_or_from}
 use Rattle.triple_rows.proofs.ListLaws.{within}
-use Rattle.proof_names.specs.Outlines.{Node}
+use Rattle.proof_names.specs.Outlines.{OutlineNode}
 use Rattle.proof_check.specs.Plans.{IsTest, Marked, MarksAll, HasPred}
 use Rattle.proof_check.proofs.IndexLaws.{TellsKeys, GainsKey, either_key, key_here, key_there, next_taken}
 
@@ -39,10 +39,10 @@ pub marks_end : (old new : ℕ × ℕ → Bool) (n i : ℕ) (preds : List ℕ) �
 marks_end old new n i preds h l = subst (λ ps. MarksAll old n ps new) (take_all i preds l) h
 
 -- the first nodes are marked
-abbrev pub MarkedBelow : List Node → ℕ → (ℕ × ℕ → Bool) → Type 0
+abbrev pub MarkedBelow : List OutlineNode → ℕ → (ℕ × ℕ → Bool) → Type 0
 MarkedBelow nodes i has = (k : ℕ × ℕ) → (has k ≡ true) ↔ ((k.0 < i) × HasPred nodes k.0 k.1)
 
-pub marked_on : (nodes : List Node) (i : ℕ) (x : Node) (old new : ℕ × ℕ → Bool) → MarkedBelow nodes i old → slice_get nodes i ≡ Some x → MarksAll old i x.preds new →
+pub marked_on : (nodes : List OutlineNode) (i : ℕ) (x : OutlineNode) (old new : ℕ × ℕ → Bool) → MarkedBelow nodes i old → slice_get nodes i ≡ Some x → MarksAll old i x.preds new →
     MarkedBelow nodes (i + 1) new
 marked_on nodes i x old new h g m k = (there, back)
   where
@@ -58,7 +58,7 @@ marked_on nodes i x old new h g m k = (there, back)
     here e p =
         let s : slice_get nodes i ≡ Some p.0 = subst (λ (n : ℕ). slice_get nodes n ≡ Some p.0) e p.1 in
         let c : p.0 ≡ x = cc in
-        (m k).1 (inr (e, subst (λ (y : Node). Member y.preds k.1) c p.2))
+        (m k).1 (inr (e, subst (λ (y : OutlineNode). Member y.preds k.1) c p.2))
 
     back : (k.0 < i + 1) × HasPred nodes k.0 k.1 → new k ≡ true
     back b = elim (below_or_from k.0 i) [
@@ -66,5 +66,5 @@ marked_on nodes i x old new h g m k = (there, back)
       | inr r ↦ here (let l = b.0 in let e = r.1 in omega (arith, l, e)) b.1
     ]
 
-pub marked_all : (nodes : List Node) (i : ℕ) (has : ℕ × ℕ → Bool) → MarkedBelow nodes i has → i ≡ length nodes → IsTest (Marked nodes) has
+pub marked_all : (nodes : List OutlineNode) (i : ℕ) (has : ℕ × ℕ → Bool) → MarkedBelow nodes i has → i ≡ length nodes → IsTest (Marked nodes) has
 marked_all nodes i has h e k = (λ t. ((h k).0 t).1, λ p. (h k).1 (let l = within nodes k.0 p.0 p.1 in omega (arith, l, e), p))

@@ -25,7 +25,7 @@ use Rattle.proof_names.specs.declared.outlines.Listed.TheVariants.{Inside, Call,
 use Rattle.proof_names.specs.declared.outlines.NamedStep.{NamedStep}
 use Rattle.proof_names.specs.declared.outlines.NamedStep.TheVariants as steps
 use Rattle.proof_names.specs.Naming.{scoped_at, triple_at}
-use Rattle.proof_names.specs.Outlines.{Node, Sketch}
+use Rattle.proof_names.specs.Outlines.{OutlineNode, Sketch}
 use Rattle.proof_check.specs.Steps.{IsNode, IsOf, IsOpen, Lists, StepIsSound, ReturnIsSound, IsSound, HasSteps, HasBacks}
 use Rattle.proof_check.specs.Proves.{HasStart}
 use Rattle.proof_check.proofs.NamedLaws.{inside_two, call_two, back_three}
@@ -44,18 +44,18 @@ pub record IsProved (g : Graph) (preds : ℕ → Option Scoped) (numbers : Liste
 pub record Facts (g : Graph) (preds : ℕ → Option Scoped) (s : Sketch) : Type 0 where
   pub graph : IsGraph g
   pub proved : (numbers : Listed) → Lists s.triples numbers → IsProved g preds numbers
-  pub errors : (n : ℕ) (x : Node) → IsNode s n x → Member g.automaton.finals x.place → Member x.preds 1
+  pub errors : (n : ℕ) (x : OutlineNode) → IsNode s n x → Member g.automaton.finals x.place → Member x.preds 1
   pub sound : (t : NamedStep) → Member s.steps t → IsSound g s t
-  pub steps : (n : ℕ) (x : Node) → IsNode s n x → IsOpen x → HasSteps g s n x
-  pub backs : (n : ℕ) (x : Node) → IsNode s n x → IsOpen x → HasBacks g s n x
+  pub steps : (n : ℕ) (x : OutlineNode) → IsNode s n x → IsOpen x → HasSteps g s n x
+  pub backs : (n : ℕ) (x : OutlineNode) → IsNode s n x → IsOpen x → HasBacks g s n x
 
 -- the node is at the place, and each of its predicates holds of the situation
-record Describes (preds : ℕ → Option Scoped) (x : Node) (c : ℕ × Situation) : Type 0 where
+record Describes (preds : ℕ → Option Scoped) (x : OutlineNode) (c : ℕ × Situation) : Type 0 where
   at : c.0 ≡ x.place
   holds : (k : ℕ) → Member x.preds k → HoldsAt preds k c.1
 
 -- a configuration on the stack is described by a node from which a step leads by the call letter to the entry node of the callee
-record IsOpenCall (g : Graph) (preds : ℕ → Option Scoped) (s : Sketch) (entry : ℕ) (c : ℕ × Situation) (n : ℕ) (x : Node) : Type 0 where
+record IsOpenCall (g : Graph) (preds : ℕ → Option Scoped) (s : Sketch) (entry : ℕ) (c : ℕ × Situation) (n : ℕ) (x : OutlineNode) : Type 0 where
   stands : IsNode s n x
   describes : Describes preds x c
   letter : Letter
@@ -65,7 +65,7 @@ record IsOpenCall (g : Graph) (preds : ℕ → Option Scoped) (s : Sketch) (entr
 
 abbrev AreLinked : Graph → (ℕ → Option Scoped) → Sketch → ℕ → List (ℕ × Situation) → Type 0
 AreLinked g preds s entry [] = Unit {0}
-AreLinked g preds s entry (c ∷ stack) = (n : ℕ) × (x : Node) × IsOpenCall g preds s entry c n x × AreLinked g preds s x.entry stack
+AreLinked g preds s entry (c ∷ stack) = (n : ℕ) × (x : OutlineNode) × IsOpenCall g preds s entry c n x × AreLinked g preds s x.entry stack
 
 false_holds_not : (preds : ℕ → Option Scoped) (s : Situation) → HoldsAt preds 1 s → ⊥
 false_holds_not preds s h =
@@ -77,11 +77,11 @@ true_holds : (preds : ℕ → Option Scoped) (s : Situation) → HoldsAt preds 0
 true_holds preds s = (truth_of s.proc true, refl, (refl, tt))
 
 -- a node that describes something lacks false
-describes_open : (preds : ℕ → Option Scoped) (x : Node) (c : ℕ × Situation) → Describes preds x c → IsOpen x
+describes_open : (preds : ℕ → Option Scoped) (x : OutlineNode) (c : ℕ × Situation) → Describes preds x c → IsOpen x
 describes_open preds x c d h = false_holds_not preds c.1 (d.holds 1 h)
 
 -- a source that is true or in the node holds
-source_holds : (preds : ℕ → Option Scoped) (x : Node) (c : ℕ × Situation) (q : ℕ) → Describes preds x c → IsOf q x → HoldsAt preds q c.1
+source_holds : (preds : ℕ → Option Scoped) (x : OutlineNode) (c : ℕ × Situation) (q : ℕ) → Describes preds x c → IsOf q x → HoldsAt preds q c.1
 source_holds preds x c q d (inl e) = subst (λ (k : ℕ). HoldsAt preds k c.1) (sym e) (true_holds preds c.1)
 source_holds preds x c q d (inr h) = d.holds q h
 
@@ -148,9 +148,9 @@ inside_shown g preds p l q r written helpers rows s t e h v hold =
     holds_so preds p r w.other t w.second i.1 (valid s t h (same_holds preds p q w.one s w.first i.0 hold))
 
 -- the end of a sound step by an inside letter describes what the letter leads to
-inside_step : (g : Graph) (preds : ℕ → Option Scoped) (s : Sketch) → Facts g preds s → (n : ℕ) (x : Node) (c d : ℕ × Situation) (stack : List (ℕ × Situation)) (a : Letter) →
+inside_step : (g : Graph) (preds : ℕ → Option Scoped) (s : Sketch) → Facts g preds s → (n : ℕ) (x : OutlineNode) (c d : ℕ × Situation) (stack : List (ℕ × Situation)) (a : Letter) →
     IsNode s n x → Describes preds x c → AreLinked g preds s x.entry stack → Member g.automaton.insides (c.0, a, d.0) → ActInside (alphabet_of g) (act_of (alphabet_of g) a) c.1 d.1 →
-    (m : ℕ) × (y : Node) × IsNode s m y × Describes preds y d × AreLinked g preds s y.entry stack
+    (m : ℕ) × (y : OutlineNode) × IsNode s m y × Describes preds y d × AreLinked g preds s y.entry stack
 inside_step g preds s f n x c d stack a i u k edge act =
     let known = inside_edge_known g f.graph c.0 d.0 a edge in
     let found = letter_inside g a c.1 d.1 act in
@@ -189,9 +189,9 @@ call_shown g preds caller callee l q r helpers rows s t e h v hold =
     let valid : IsValid (alphabet_of g) (triples.Call w.one l w.other) = subst (λ (x : Triple). IsValid (alphabet_of g) x) (sym w.made) v.valid in
     holds_so preds callee r w.other t w.second i.1 (valid s t h (same_holds preds caller q w.one s w.first i.0 hold))
 
-call_step : (g : Graph) (preds : ℕ → Option Scoped) (s : Sketch) → Facts g preds s → (n : ℕ) (x : Node) (c d : ℕ × Situation) (stack : List (ℕ × Situation)) (a : Letter) →
+call_step : (g : Graph) (preds : ℕ → Option Scoped) (s : Sketch) → Facts g preds s → (n : ℕ) (x : OutlineNode) (c d : ℕ × Situation) (stack : List (ℕ × Situation)) (a : Letter) →
     IsNode s n x → Describes preds x c → AreLinked g preds s x.entry stack → Member g.automaton.calls (c.0, a, d.0) → ActCalls (alphabet_of g) (act_of (alphabet_of g) a) c.1 d.1 →
-    (m : ℕ) × (y : Node) × IsNode s m y × Describes preds y d × AreLinked g preds s y.entry (c ∷ stack)
+    (m : ℕ) × (y : OutlineNode) × IsNode s m y × Describes preds y d × AreLinked g preds s y.entry (c ∷ stack)
 call_step g preds s f n x c d stack a i u k edge act =
     let known = call_edge_known g f.graph c.0 d.0 a edge in
     let found = letter_calls g a c.1 d.1 act in
@@ -251,14 +251,14 @@ back_shown g preds l x b r c targets caller callee helpers rows at_exit at_call 
     holds_so preds caller r w.to at_end w.third i.2
     (valid at_exit at_call at_end h (same_holds preds callee x w.exit at_exit w.first i.0 hx) (same_holds preds caller b w.before at_call w.second i.1 hb))
 
-back_step : (g : Graph) (preds : ℕ → Option Scoped) (s : Sketch) → Facts g preds s → (n : ℕ) (x : Node) (c b d : ℕ × Situation) (stack : List (ℕ × Situation)) (a : Letter) →
+back_step : (g : Graph) (preds : ℕ → Option Scoped) (s : Sketch) → Facts g preds s → (n : ℕ) (x : OutlineNode) (c b d : ℕ × Situation) (stack : List (ℕ × Situation)) (a : Letter) →
     a.kind ≡ kinds.Back → IsNode s n x → Describes preds x c → AreLinked g preds s x.entry (b ∷ stack) →
     Member g.automaton.backs (c.0, b.0, a, d.0) → ActReturns (alphabet_of g) (act_of (alphabet_of g) a) c.1 b.1 d.1 →
-    (m : ℕ) × (y : Node) × IsNode s m y × Describes preds y d × AreLinked g preds s y.entry stack
+    (m : ℕ) × (y : OutlineNode) × IsNode s m y × Describes preds y d × AreLinked g preds s y.entry stack
 back_step g preds s f n x c b d stack a kind i u k edge act =
     let known = back_edge_known g f.graph c.0 b.0 d.0 a kind edge in
     let found = letter_returns g a c.1 b.1 d.1 act in
-    let caller : Node = k.1 in
+    let caller : OutlineNode = k.1 in
     let called = k.2 in
     let one : called.letter.id ≡ a.call = f.graph.edges.one_call.both b.0 c.0 called.to d.0 called.letter a called.edge edge in
     let joined : Member s.steps (steps.Step k.0 a.call x.entry) = subst (λ (l : ℕ). Member s.steps (steps.Step k.0 l x.entry)) one called.step in
@@ -287,7 +287,7 @@ back_step g preds s f n x c b d stack a kind i u k edge act =
 -- a node that describes where the machine is, and is linked to its stack
 record Follows (g : Graph) (preds : ℕ → Option Scoped) (s : Sketch) (stack : List (ℕ × Situation)) (c : ℕ × Situation) : Type 0 where
   number : ℕ
-  node : Node
+  node : OutlineNode
   stands : IsNode s number node
   describes : Describes preds node c
   linked : AreLinked g preds s node.entry stack

@@ -16,7 +16,7 @@ use Rattle.proof_names.specs.declared.outlines.NamedTriple.{NamedTriple}
 use Rattle.proof_names.specs.Pairs.{ArePaired}
 use Rattle.proof_names.specs.Naming.{triple_at, NamesTriple, NamesNode, NamesStep}
 use Rattle.proof_names.specs.Items.{Names, IsNamed, IsFirstUnnamed, pred_at, place_at, first_triple, first_node, first_step, item_count}
-use Rattle.proof_names.specs.Outlines.{Node, Sketch}
+use Rattle.proof_names.specs.Outlines.{OutlineNode, Sketch}
 use Rattle.proof_check.specs.declared.rejects.Reject.{Reject}
 use Rattle.proof_check.specs.declared.rejects.Reject.TheVariants.{At}
 use Rattle.proof_check.specs.declared.rejects.RejectCause.{RejectCause}
@@ -54,7 +54,7 @@ triple_one g preds line t u n m =
     let p = n.proof ∙ sym m.proof in
     λ i. record { listed = l i; triple = r i; proof = p i }
 
-node_one : (g : Graph) (preds : ℕ → Option Scoped) (lines : List form.Node) (k : ℕ) (line : form.Node) (x y : Node) → NamesNode g preds lines k line x →
+node_one : (g : Graph) (preds : ℕ → Option Scoped) (lines : List form.Node) (k : ℕ) (line : form.Node) (x y : OutlineNode) → NamesNode g preds lines k line x →
     NamesNode g preds lines k line y → x ≡ y
 node_one g preds lines k line x y n m =
     let p : x.place ≡ y.place = same_Some x.place y.place (sym n.place ∙ m.place) in

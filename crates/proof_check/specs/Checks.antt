@@ -4,7 +4,7 @@ use Rattle.letter_acts.specs.Invariant.{Graph}
 use Rattle.proof_form.specs.Annotations.{Content}
 use Rattle.proof_names.specs.declared.outlines.NamedTriple.{NamedTriple}
 use Rattle.proof_names.specs.declared.outlines.NamedStep.{NamedStep}
-use Rattle.proof_names.specs.Outlines.{Node, Sketch}
+use Rattle.proof_names.specs.Outlines.{OutlineNode, Sketch}
 use Rattle.proof_names.specs.Items.{IsNamed, Names, first_triple, first_node, first_step, item_count}
 use Rattle.proof_check.specs.declared.rejects.Reject.{Reject}
 use Rattle.proof_check.specs.declared.rejects.Reject.TheVariants.{At, Memory}
@@ -14,15 +14,15 @@ use Rattle.proof_check.specs.Steps.{IsNode, IsOpen, IsSound, HasSteps, HasBacks}
 use Rattle.proof_check.specs.Proves.{IsShown, HasStart, ErrorIsFalse}
 
 -- the node has each step and each back that it has to have
-abbrev pub IsCovered : Graph → Sketch → ℕ → Node → Type 0
+abbrev pub IsCovered : Graph → Sketch → ℕ → OutlineNode → Type 0
 IsCovered g s n x = IsOpen x → HasSteps g s n x × HasBacks g s n x
 
 -- item i passes the check, where its lines name this; items that a check does not speak of pass it
 abbrev pub PassesIn : Graph → Content → Sketch → RejectCause → ℕ → Type 0
 PassesIn g a s BadTriple i = (k : ℕ) (t : NamedTriple) → i ≡ first_triple a + k → slice_get s.triples k ≡ Some t → IsShown g t
 PassesIn g a s NoStart i = i ≡ item_count a → HasStart s
-PassesIn g a s OpenError i = (n : ℕ) (x : Node) → i ≡ first_node a + n → IsNode s n x → ErrorIsFalse g.automaton x
-PassesIn g a s MissingStep i = (n : ℕ) (x : Node) → i ≡ first_node a + n → IsNode s n x → IsCovered g s n x
+PassesIn g a s OpenError i = (n : ℕ) (x : OutlineNode) → i ≡ first_node a + n → IsNode s n x → ErrorIsFalse g.automaton x
+PassesIn g a s MissingStep i = (n : ℕ) (x : OutlineNode) → i ≡ first_node a + n → IsNode s n x → IsCovered g s n x
 PassesIn g a s BadStep i = (k : ℕ) (t : NamedStep) → i ≡ first_step a + k → slice_get s.steps k ≡ Some t → IsSound g s t
 PassesIn g a s BadName i = Unit {0}
 

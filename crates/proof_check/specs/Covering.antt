@@ -4,13 +4,13 @@ use Rattle.nwa_base.specs.declared.letters.Letter.{Letter}
 use Rattle.nwa_base.specs.Members.{Member}
 use Rattle.letter_acts.specs.Invariant.{Graph}
 use Rattle.proof_names.specs.declared.outlines.NamedStep.{NamedStep}
-use Rattle.proof_names.specs.Outlines.{Node, Sketch}
-use Rattle.proof_check.specs.Steps.{IsNode, IsOpen, StepsTo, BacksTo}
+use Rattle.proof_names.specs.Outlines.{OutlineNode, Sketch}
+use Rattle.proof_check.specs.Steps.{IsNode, IsOpen, HasStepTo, BacksTo}
 use Rattle.proof_check.specs.Sound.{StepExists}
 
 -- a step leads from node n to the end of each of the edges, by its letter
 abbrev pub HasStepsAlong : Sketch → ℕ → List (ℕ × Letter × ℕ) → Type 0
-HasStepsAlong s n edges = (q : ℕ) (a : Letter) (e : ℕ) → Member edges (q, a, e) → StepsTo s n a.id e
+HasStepsAlong s n edges = (q : ℕ) (a : Letter) (e : ℕ) → Member edges (q, a, e) → HasStepTo s n a.id e
 
 -- a back leads from the exit x, with node c before the call, to the end of each of the edges whose return names the call letter
 abbrev pub HasBacksAlong : Sketch → ℕ → ℕ → ℕ → List (ℕ × ℕ × Letter × ℕ) → Type 0
@@ -23,5 +23,5 @@ AllExist s = (t : NamedStep) → Member s.steps t → StepExists s t
 -- node c has false, or a back leads from the exit x at the place to the end of each return edge there that names the call letter
 abbrev pub HasBacksFrom : Graph → Sketch → ℕ → ℕ → ℕ → ℕ → Type 0
 HasBacksFrom g s x place c call =
-    (before : Node) → IsNode s c before → IsOpen before → (r : Letter) (e : ℕ) → Member g.automaton.backs (place, before.place, r, e) →
+    (before : OutlineNode) → IsNode s c before → IsOpen before → (r : Letter) (e : ℕ) → Member g.automaton.backs (place, before.place, r, e) →
     r.call ≡ call → BacksTo s x c r.id e

@@ -5,15 +5,15 @@ use Rattle.proof_names.specs.declared.outlines.Listed.TheVariants.{Inside, Call,
 use Rattle.proof_names.specs.declared.outlines.NamedTriple.{NamedTriple}
 use Rattle.proof_names.specs.declared.outlines.NamedStep.{NamedStep}
 use Rattle.proof_names.specs.declared.outlines.NamedStep.TheVariants as steps
-use Rattle.proof_names.specs.Outlines.{Node, Sketch}
-use Rattle.proof_check.specs.Steps.{Lists, StepsTo, BacksTo}
+use Rattle.proof_names.specs.Outlines.{OutlineNode, Sketch}
+use Rattle.proof_check.specs.Steps.{Lists, HasStepTo, BacksTo}
 
 -- node n exists and has the predicate
-abbrev pub HasPred : List Node → ℕ → ℕ → Type 0
-HasPred nodes n k = (x : Node) × (slice_get nodes n ≡ Some x) × Member x.preds k
+abbrev pub HasPred : List OutlineNode → ℕ → ℕ → Type 0
+HasPred nodes n k = (x : OutlineNode) × (slice_get nodes n ≡ Some x) × Member x.preds k
 
 -- the predicate is true, or one of node n
-abbrev pub IsOfNode : List Node → ℕ → ℕ → Type 0
+abbrev pub IsOfNode : List OutlineNode → ℕ → ℕ → Type 0
 IsOfNode nodes k n = (k ≡ 0) ⊎ HasPred nodes n k
 
 -- the groups of a key are what a list relates to it
@@ -36,14 +36,14 @@ BackSource triples k s = Lists triples (Back s.0 s.1 k.0 k.1)
 abbrev pub Entering : List NamedStep → ℕ → ℕ × ℕ → Type 0
 Entering moves m s = Member moves (steps.Step s.0 s.1 m)
 
-abbrev pub Marked : List Node → ℕ × ℕ → Type 0
+abbrev pub Marked : List OutlineNode → ℕ × ℕ → Type 0
 Marked nodes k = HasPred nodes k.0 k.1
 
 abbrev pub Stepped : List NamedStep → ℕ × ℕ × ℕ → Type 0
 Stepped moves k = Member moves (steps.Step k.0 k.1 k.2)
 
 abbrev pub Landed : Sketch → ℕ × ℕ × ℕ → Type 0
-Landed s k = StepsTo s k.0 k.1 k.2
+Landed s k = HasStepTo s k.0 k.1 k.2
 
 abbrev pub BackLanded : Sketch → ℕ × ℕ × ℕ × ℕ → Type 0
 BackLanded s k = BacksTo s k.0 k.1 k.2 k.3

@@ -10,7 +10,7 @@ use Rattle.triple_rows.specs.Triples.{IsRefuted}
 use Rattle.proof_form.specs.Annotations.{Content}
 use Rattle.proof_names.specs.declared.outlines.NamedTriple.{NamedTriple}
 use Rattle.proof_names.specs.declared.outlines.NamedStep.{NamedStep}
-use Rattle.proof_names.specs.Outlines.{Node, Sketch}
+use Rattle.proof_names.specs.Outlines.{OutlineNode, Sketch}
 use Rattle.proof_names.specs.Items.{Names}
 use Rattle.proof_check.specs.Steps.{IsNode, IsOpen, IsSound, HasSteps, HasBacks}
 
@@ -24,20 +24,20 @@ abbrev pub IsShown : Graph → NamedTriple → Type 0
 IsShown g t = IsRefutedBy (alphabet_of g) t.triple t.proof
 
 -- node n is an entry node at place 0 without predicates
-pub record IsStart (n : ℕ) (x : Node) : Type 0 where
+pub record IsStart (n : ℕ) (x : OutlineNode) : Type 0 where
   pub itself : x.entry ≡ n
   pub at : x.place ≡ 0
   pub bare : x.preds ≡ []
 
 -- some entry node at place 0 has no predicate
-abbrev pub HasStartIn : List Node → Type 0
-HasStartIn nodes = (n : ℕ) × (x : Node) × (slice_get nodes n ≡ Some x) × IsStart n x
+abbrev pub HasStartIn : List OutlineNode → Type 0
+HasStartIn nodes = (n : ℕ) × (x : OutlineNode) × (slice_get nodes n ≡ Some x) × IsStart n x
 
 abbrev pub HasStart : Sketch → Type 0
 HasStart s = HasStartIn s.nodes
 
 -- at an error place, which is a final state, the node has false
-abbrev pub ErrorIsFalse : Automaton → Node → Type 0
+abbrev pub ErrorIsFalse : Automaton → OutlineNode → Type 0
 ErrorIsFalse m x = Member m.finals x.place → Member x.preds 1
 
 -- The annotation proves the graph.
@@ -50,10 +50,10 @@ pub record Proves (g : Graph) (a : Content) : Type 0 where
   -- some entry node at place 0 has no predicate
   pub start : HasStart sketch
   -- each node at an error place has false
-  pub errors : (n : ℕ) (x : Node) → IsNode sketch n x → ErrorIsFalse g.automaton x
+  pub errors : (n : ℕ) (x : OutlineNode) → IsNode sketch n x → ErrorIsFalse g.automaton x
   -- each step and each back is sound
   pub sound : (t : NamedStep) → Member sketch.steps t → IsSound g sketch t
   -- each node without false has a step for each inside or call edge from its place
-  pub steps : (n : ℕ) (x : Node) → IsNode sketch n x → IsOpen x → HasSteps g sketch n x
+  pub steps : (n : ℕ) (x : OutlineNode) → IsNode sketch n x → IsOpen x → HasSteps g sketch n x
   -- each exit node without false has a back for each return edge and each call node without false that is joined to its entry node
-  pub backs : (n : ℕ) (x : Node) → IsNode sketch n x → IsOpen x → HasBacks g sketch n x
+  pub backs : (n : ℕ) (x : OutlineNode) → IsNode sketch n x → IsOpen x → HasBacks g sketch n x

@@ -6,7 +6,7 @@ use Rattle.letter_acts.specs.Invariant.{Graph}
 use Rattle.proof_names.specs.declared.outlines.Listed.TheVariants.{Inside, Call, Back}
 use Rattle.proof_names.specs.declared.outlines.NamedStep.{NamedStep}
 use Rattle.proof_names.specs.declared.outlines.NamedStep.TheVariants as steps
-use Rattle.proof_names.specs.Outlines.{Node, Sketch}
+use Rattle.proof_names.specs.Outlines.{OutlineNode, Sketch}
 use Rattle.proof_check.specs.Steps.{IsNode, Lists, InsideIsSound, CallIsSound, BackIsSound, StepIsSound, ReturnIsSound}
 use Rattle.proof_check.specs.Plans.{IsOfNode}
 
@@ -39,22 +39,22 @@ StepExists s (steps.Back x c l m) = (x < length s.nodes) × (c < length s.nodes)
 
 -- the step from node n by the letter to node m is sound, as one by an inside letter
 abbrev pub InsideIsSoundAt : Graph → Sketch → ℕ → Letter → ℕ → Type 0
-InsideIsSoundAt g s n a m = (before end : Node) → IsNode s n before → IsNode s m end → InsideIsSound g s a before end
+InsideIsSoundAt g s n a m = (before end : OutlineNode) → IsNode s n before → IsNode s m end → InsideIsSound g s a before end
 
 -- the same as one by a call letter
 abbrev pub CallIsSoundAt : Graph → Sketch → ℕ → Letter → ℕ → Type 0
-CallIsSoundAt g s n a m = (before end : Node) → IsNode s n before → IsNode s m end → CallIsSound g s a before m end
+CallIsSoundAt g s n a m = (before end : OutlineNode) → IsNode s n before → IsNode s m end → CallIsSound g s a before m end
 
 -- the back from the exit x, with node c before the call, by the return letter to node m is sound
 abbrev pub BackIsSoundAt : Graph → Sketch → ℕ → ℕ → Letter → ℕ → Type 0
 BackIsSoundAt g s x c a m =
-    (exit before end : Node) → IsNode s x exit → IsNode s c before → IsNode s m end → BackIsSound g s a exit c before end
+    (exit before end : OutlineNode) → IsNode s x exit → IsNode s c before → IsNode s m end → BackIsSound g s a exit c before end
 
 -- the step from node n by letter l to node m is sound, by its letter's act
 abbrev pub StepIsSoundAt : Graph → Sketch → ℕ → ℕ → ℕ → Type 0
-StepIsSoundAt g s n l m = (before end : Node) → IsNode s n before → IsNode s m end → StepIsSound g s l before m end (slice_get g.acts l)
+StepIsSoundAt g s n l m = (before end : OutlineNode) → IsNode s n before → IsNode s m end → StepIsSound g s l before m end (slice_get g.acts l)
 
 -- the same of a back
 abbrev pub ReturnIsSoundAt : Graph → Sketch → ℕ → ℕ → ℕ → ℕ → Type 0
 ReturnIsSoundAt g s x c l m =
-    (exit before end : Node) → IsNode s x exit → IsNode s c before → IsNode s m end → ReturnIsSound g s l exit c before end (slice_get g.acts l)
+    (exit before end : OutlineNode) → IsNode s x exit → IsNode s c before → IsNode s m end → ReturnIsSound g s l exit c before end (slice_get g.acts l)

@@ -3,7 +3,7 @@
 ghost use Rattle.std.specs.Prelude.{◌≡◌, ◌↔◌, ◌<◌, ℕ, length, IsTrue};
 ghost use Rattle.nwa_base.specs.Members.{Member};
 ghost use Rattle.nwa_base.specs.Edges.{backs_between};
-ghost use Rattle.proof_names.specs.Outlines.{Node};
+ghost use Rattle.proof_names.specs.Outlines.{OutlineNode};
 ghost use Rattle.proof_check.specs.Steps.{IsNode, HasSteps, HasBacks};
 ghost use Rattle.proof_check.specs.Covering.{HasStepsAlong, HasBacksAlong, HasBacksFrom, AllExist};
 ghost use Rattle.proof_check.specs.Checks.{IsCovered};
@@ -27,7 +27,7 @@ fn has_steps_along(plan: &Plan<'_>, number: usize, edges: &[(u32, Letter, u32)])
 
 /// Whether the node has a step for each inside and call edge from its place.
 fn has_steps(icfg: &Icfg, plan: &Plan<'_>, number: usize, place: u32) -> bool
-    ensures { (x : Node) → x.place ≡ place → IsTrue result ↔ HasSteps icfg.now plan.now number x }
+    ensures { (x : OutlineNode) → x.place ≡ place → IsTrue result ↔ HasSteps icfg.now plan.now number x }
 {
     has_steps_along(plan, number, icfg.nwa().insides_leaving(place))
         && has_steps_along(plan, number, icfg.nwa().calls_leaving(place))
@@ -80,7 +80,7 @@ fn has_backs_from(
 /// call letter to its entry node.
 fn has_backs(icfg: &Icfg, plan: &Plan<'_>, number: usize, place: u32, entry: usize) -> bool
     requires { AllExist plan.now }
-    ensures { (x : Node) → x.place ≡ place → x.entry ≡ entry → IsTrue result ↔ HasBacks icfg.now plan.now number x }
+    ensures { (x : OutlineNode) → x.place ≡ place → x.entry ≡ entry → IsTrue result ↔ HasBacks icfg.now plan.now number x }
 {
     if icfg.nwa().backs_leaving(place).is_empty() {
         return true;
@@ -97,7 +97,7 @@ fn has_backs(icfg: &Icfg, plan: &Plan<'_>, number: usize, place: u32, entry: usi
 fn is_covered(icfg: &Icfg, plan: &Plan<'_>, number: usize) -> bool
     requires exist { AllExist plan.now }
     requires node { number < length plan.now.nodes }
-    ensures { (x : Node) → IsNode plan.now number x → IsTrue result ↔ IsCovered icfg.now plan.now number x }
+    ensures { (x : OutlineNode) → IsNode plan.now number x → IsTrue result ↔ IsCovered icfg.now plan.now number x }
 {
     let node = plan.node(number);
     plan.has(number, 1)

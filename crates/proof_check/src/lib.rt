@@ -5,7 +5,6 @@
 mod checking;
 mod covering;
 mod index;
-pub mod laws;
 mod places;
 mod plan;
 mod refuting;

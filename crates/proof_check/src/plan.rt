@@ -58,7 +58,7 @@ impl<'a> Plan<'a> {
     ghost use Rattle.proof_names.specs.declared.outlines.Listed.TheVariants.{Inside, Call, Back};
     ghost use Rattle.proof_names.specs.declared.outlines.NamedStep.TheVariants.{Step};
     ghost use Rattle.proof_names.specs.Outlines.{node, sketch};
-    ghost use Rattle.proof_check.specs.Steps.{Lists, StepsTo, BacksTo};
+    ghost use Rattle.proof_check.specs.Steps.{Lists, HasStepTo, BacksTo};
     ghost use Rattle.proof_check.specs.Plans.{HasPred, IsOfNode};
 
     /// What the outline has.
@@ -159,7 +159,7 @@ impl<'a> Plan<'a> {
 
     /// Whether a step leads from the node by the letter to a node at the place.
     pub(crate) fn leads_to(&self, from: usize, letter: u32, place: u32) -> bool
-        ensures { IsTrue result ↔ StepsTo self.now from letter place }
+        ensures { IsTrue result ↔ HasStepTo self.now from letter place }
     {
         self.landed.contains(&(from, letter, place))
     }

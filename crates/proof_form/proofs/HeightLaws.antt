@@ -5,7 +5,7 @@ use Rattle.std.proofs.lemmas.Bool.{le-leb}
 use Rattle.std.proofs.lemmas.Bool.Decides.{nat_tests}
 use Rattle.std.proofs.lemmas.List.{drop_more, drop_all, drop-map, reverse-append, append-nil}
 use Rattle.proof_form.specs.declared.predicates.PNode.{PNode}
-use Rattle.proof_form.specs.Predicates.{PredicateNode, atom, and_of, or_of, plain, parts, highest, height_of, heights, are_low}
+use Rattle.proof_form.specs.Predicates.{PredicateNode, atom, and_of, or_of, plain_predicate_node, parts, highest, height_of, heights, are_low}
 use Rattle.proof_form.proofs.CountLaws.{and_false}
 
 -- Taking heights away
@@ -74,50 +74,50 @@ too_deep (suc i) (n ∷ ns) h = rw (too_deep i ns h) refl
 -- The heights of the nodes from the place on, none of which nests too deep.
 pub record Low (nodes : List PNode) (left : ℕ) (now : List ℕ) : Type 0 where
   pub within : left ≤ length nodes
-  pub heights_are : reverse now ≡ heights (map plain (drop left nodes))
-  pub low : are_low (map plain (drop left nodes)) ≡ true
+  pub heights_are : reverse now ≡ heights (map plain_predicate_node (drop left nodes))
+  pub low : are_low (map plain_predicate_node (drop left nodes)) ≡ true
 
 pub low_begins : (nodes : List PNode) (left : ℕ) (now : List ℕ) → left ≡ length nodes → now ≡ [] → Low nodes left now
 low_begins nodes left now e f = let none = drop_all left nodes (omega arith) in
-    record { within = omega arith; heights_are = ap reverse f ∙ ap (λ ns. heights (map plain ns)) (sym none); low = ap (λ ns. are_low (map plain ns)) none }
+    record { within = omega arith; heights_are = ap reverse f ∙ ap (λ ns. heights (map plain_predicate_node ns)) (sym none); low = ap (λ ns. are_low (map plain_predicate_node ns)) none }
 
 -- the node before the place, its parts' heights taken away
 pub record Next (nodes : List PNode) (left i : ℕ) (n : PNode) (below : ℕ) (others : List ℕ) : Type 0 where
   pub node : drop i nodes ≡ n ∷ drop left nodes
-  pub height : height_of (plain n) (below ∷ []) ≡ height_of (plain n) (take (parts (plain n)) (heights (map plain (drop left nodes))))
-  pub rest : reverse others ≡ drop (parts (plain n)) (heights (map plain (drop left nodes)))
-  pub low : are_low (map plain (drop left nodes)) ≡ true
+  pub height : height_of (plain_predicate_node n) (below ∷ []) ≡ height_of (plain_predicate_node n) (take (parts (plain_predicate_node n)) (heights (map plain_predicate_node (drop left nodes))))
+  pub rest : reverse others ≡ drop (parts (plain_predicate_node n)) (heights (map plain_predicate_node (drop left nodes)))
+  pub low : are_low (map plain_predicate_node (drop left nodes)) ≡ true
 
-pub next : (nodes : List PNode) (left i : ℕ) (n : PNode) (now others : List ℕ) (below asked : ℕ) → left ≡ i + 1 → n ≡ get_or nodes i n → Low nodes left now → asked ≡ parts (plain n)
+pub next : (nodes : List PNode) (left i : ℕ) (n : PNode) (now others : List ℕ) (below asked : ℕ) → left ≡ i + 1 → n ≡ get_or nodes i n → Low nodes left now → asked ≡ parts (plain_predicate_node n)
     → below ≡ highest (take asked (reverse now)) → reverse others ≡ drop asked (reverse now) → Next nodes left i n below others
 next nodes left i n now others below asked l e h a b o =
     let w = h.within in
-    let taken : below ≡ highest (take (parts (plain n)) (heights (map plain (drop left nodes)))) =
-    b ∙ ap (λ (k : ℕ). highest (take k (reverse now))) a ∙ ap (λ hs. highest (take (parts (plain n)) hs)) h.heights_are in
+    let taken : below ≡ highest (take (parts (plain_predicate_node n)) (heights (map plain_predicate_node (drop left nodes)))) =
+    b ∙ ap (λ (k : ℕ). highest (take k (reverse now))) a ∙ ap (λ hs. highest (take (parts (plain_predicate_node n)) hs)) h.heights_are in
     record {
       node = drop_more nodes i n (omega arith) ∙ ap (λ m. m ∷ drop (i + 1) nodes) (sym e) ∙ ap (λ (j : ℕ). n ∷ drop j nodes) (sym l);
-      height = height_by_highest (plain n) (take (parts (plain n)) (heights (map plain (drop left nodes)))) below taken;
-      rest = o ∙ ap (λ (k : ℕ). drop k (reverse now)) a ∙ ap (λ hs. drop (parts (plain n)) hs) h.heights_are;
+      height = height_by_highest (plain_predicate_node n) (take (parts (plain_predicate_node n)) (heights (map plain_predicate_node (drop left nodes)))) below taken;
+      rest = o ∙ ap (λ (k : ℕ). drop k (reverse now)) a ∙ ap (λ hs. drop (parts (plain_predicate_node n)) hs) h.heights_are;
       low = h.low;
     }
 
 not_low : (h : ℕ) → (h ≤ 200 → ⊥) → nat_le h 200 ≡ false
 not_low h over = grind (arith, nat_tests)
 
-pub low_stops : (nodes : List PNode) (left i : ℕ) (n : PNode) (below : ℕ) (others : List ℕ) → Next nodes left i n below others → (height_of (plain n) (below ∷ []) ≤ 200 → ⊥) → are_low (map plain nodes) ≡ false
+pub low_stops : (nodes : List PNode) (left i : ℕ) (n : PNode) (below : ℕ) (others : List ℕ) → Next nodes left i n below others → (height_of (plain_predicate_node n) (below ∷ []) ≤ 200 → ⊥) → are_low (map plain_predicate_node nodes) ≡ false
 low_stops nodes left i n below others x over =
-    let deep : nat_le (height_of (plain n) (take (parts (plain n)) (heights (map plain (drop left nodes))))) 200 ≡ false = ap (λ (h : ℕ). nat_le h 200) (sym x.height) ∙ not_low (height_of (plain n) (below ∷ [])) over in
-    let here : are_low (map plain (drop i nodes)) ≡ false = ap (λ ns. are_low (map plain ns)) x.node ∙ rw deep (and_false (are_low (map plain (drop left nodes)))) in
-    too_deep i (map plain nodes) (ap are_low (drop-map plain i nodes) ∙ here)
+    let deep : nat_le (height_of (plain_predicate_node n) (take (parts (plain_predicate_node n)) (heights (map plain_predicate_node (drop left nodes))))) 200 ≡ false = ap (λ (h : ℕ). nat_le h 200) (sym x.height) ∙ not_low (height_of (plain_predicate_node n) (below ∷ [])) over in
+    let here : are_low (map plain_predicate_node (drop i nodes)) ≡ false = ap (λ ns. are_low (map plain_predicate_node ns)) x.node ∙ rw deep (and_false (are_low (map plain_predicate_node (drop left nodes)))) in
+    too_deep i (map plain_predicate_node nodes) (ap are_low (drop-map plain_predicate_node i nodes) ∙ here)
 
 pub low_goes_on : (nodes : List PNode) (left i : ℕ) (n : PNode) (below : ℕ) (others more : List ℕ) (h : ℕ) → left ≡ i + 1 → left ≤ length nodes → Next nodes left i n below others
-    → (height_of (plain n) (below ∷ []) ≤ 200) × (h ≡ height_of (plain n) (below ∷ [])) → more ≡ others ++ h ∷ [] → Low nodes i more
+    → (height_of (plain_predicate_node n) (below ∷ []) ≤ 200) × (h ≡ height_of (plain_predicate_node n) (below ∷ [])) → more ≡ others ++ h ∷ [] → Low nodes i more
 low_goes_on nodes left i n below others more h l w x fits p =
-    let is : h ≡ height_of (plain n) (take (parts (plain n)) (heights (map plain (drop left nodes)))) = fits.1 ∙ x.height in
-    let fine = le-leb (height_of (plain n) (take (parts (plain n)) (heights (map plain (drop left nodes))))) 200 (let a = fits.0 in let b = x.height in omega arith) in
-    let both : (are_low (map plain (drop left nodes)) && nat_le (height_of (plain n) (take (parts (plain n)) (heights (map plain (drop left nodes))))) 200) ≡ true = rw (x.low, fine) refl in
+    let is : h ≡ height_of (plain_predicate_node n) (take (parts (plain_predicate_node n)) (heights (map plain_predicate_node (drop left nodes)))) = fits.1 ∙ x.height in
+    let fine = le-leb (height_of (plain_predicate_node n) (take (parts (plain_predicate_node n)) (heights (map plain_predicate_node (drop left nodes))))) 200 (let a = fits.0 in let b = x.height in omega arith) in
+    let both : (are_low (map plain_predicate_node (drop left nodes)) && nat_le (height_of (plain_predicate_node n) (take (parts (plain_predicate_node n)) (heights (map plain_predicate_node (drop left nodes))))) 200) ≡ true = rw (x.low, fine) refl in
     record {
       within = omega arith;
-      heights_are = ap reverse p ∙ reverse-append others (h ∷ []) ∙ ap (λ hs. h ∷ hs) x.rest ∙ ap (λ (k : ℕ). k ∷ drop (parts (plain n)) (heights (map plain (drop left nodes)))) is ∙ ap (λ ns. heights (map plain ns)) (sym x.node);
-      low = ap (λ ns. are_low (map plain ns)) x.node ∙ both;
+      heights_are = ap reverse p ∙ reverse-append others (h ∷ []) ∙ ap (λ hs. h ∷ hs) x.rest ∙ ap (λ (k : ℕ). k ∷ drop (parts (plain_predicate_node n)) (heights (map plain_predicate_node (drop left nodes)))) is ∙ ap (λ ns. heights (map plain_predicate_node ns)) (sym x.node);
+      low = ap (λ ns. are_low (map plain_predicate_node ns)) x.node ∙ both;
     }

@@ -7,7 +7,7 @@ use Rattle.std.proofs.lemmas.Bool.Decides.{nat_tests}
 use Rattle.std.proofs.lemmas.Int.{ints}
 use Rattle.std.proofs.Math.Nat.{mul-le-mul_left, pow-suc, pow-le-pow_right, one-le-pow}
 use Rattle.boogie_tree.specs.Names.{is_digit}
-use Rattle.proof_form.specs.Numerals.{has_one_spelling, is_numeral, comes_before, is_less, is_below}
+use Rattle.proof_form.specs.Numerals.{has_one_spelling, is_numeral, comes_before, digits_are_less, numeral_is_below}
 use Rattle.proof_form.specs.NumberValues.{number, value}
 use Rattle.proof_form.proofs.RunLaws.{both_hold}
 
@@ -117,7 +117,7 @@ strictly_more : (a b : ℕ) → a ≤ b → (b ≡ a → ⊥) → a < b
 strictly_more a b l ne = omega arith
 
 less_number : (m n : Bool) (ds es : List ℕ) → Digits ds → Digits es → has_one_spelling m ds ≡ true → has_one_spelling n es ≡ true
-    → (is_less ds es ≡ true → number ds < number es) × (is_less ds es ≡ false → number es ≤ number ds)
+    → (digits_are_less ds es ≡ true → number ds < number es) × (digits_are_less ds es ≡ false → number es ≤ number ds)
 less_number m n ds es h k o q =
     (yes (nat_lt (length ds) (length es)) refl (nat_eq (length ds) (length es)) refl, no_less (nat_lt (length ds) (length es)) refl (nat_eq (length ds) (length es)) refl)
   where
@@ -173,12 +173,12 @@ below_zero (d ∷ (e ∷ ds)) h o =
     let p = one-le-pow (length (d ∷ (e ∷ ds)) - 1) 10 (omega arith) in omega arith
 
 pub below_by_value : (m : Bool) (ds : List ℕ) (n : Bool) (es : List ℕ) → is_numeral (record { negative = m; digits = ds }) ≡ true → is_numeral (record { negative = n; digits = es }) ≡ true
-    → (is_below (record { negative = m; digits = ds }) (record { negative = n; digits = es }) ≡ true) ↔ (value (record { negative = m; digits = ds }) <ℤ value (record { negative = n; digits = es }))
+    → (numeral_is_below (record { negative = m; digits = ds }) (record { negative = n; digits = es }) ≡ true) ↔ (value (record { negative = m; digits = ds }) <ℤ value (record { negative = n; digits = es }))
 below_by_value true ds true es h k =
     let a = both_hold (list_all is_digit ds) _ h in
     let b = both_hold (list_all is_digit es) _ k in
     let l = less_number true true es ds b.0 a.0 b.1 a.1 in
-    (λ e. opposite_less (number es) (number ds) (l.0 e), λ p. test_holds (is_less es ds) _ (λ f. not_opposite_less (number ds) (number es) (l.1 f)) p)
+    (λ e. opposite_less (number es) (number ds) (l.0 e), λ p. test_holds (digits_are_less es ds) _ (λ f. not_opposite_less (number ds) (number es) (l.1 f)) p)
 below_by_value true ds false es h k =
     let a = both_hold (list_all is_digit ds) _ h in
     (λ e. negative_less (number ds) (number es) (below_zero ds a.0 a.1), λ p. refl)
@@ -187,4 +187,4 @@ below_by_value false ds false es h k =
     let a = both_hold (list_all is_digit ds) _ h in
     let b = both_hold (list_all is_digit es) _ k in
     let l = less_number false false ds es a.0 b.0 a.1 b.1 in
-    (λ e. whole_less (number ds) (number es) (l.0 e), λ p. test_holds (is_less ds es) _ (λ f. not_whole_less (number ds) (number es) (l.1 f)) p)
+    (λ e. whole_less (number ds) (number es) (l.0 e), λ p. test_holds (digits_are_less ds es) _ (λ f. not_whole_less (number ds) (number es) (l.1 f)) p)

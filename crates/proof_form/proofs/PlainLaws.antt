@@ -10,7 +10,7 @@ use Rattle.boogie_tree.specs.Names.{is_spelled}
 use Rattle.proof_form.specs.declared.numerals.Numeral.{Numeral}
 use Rattle.proof_form.specs.declared.lines.StepLine.{StepLine}
 use Rattle.proof_form.specs.declared.lines.StepLine.TheVariants as steps
-use Rattle.proof_form.specs.Numerals.{is_numeral, is_zero, numeral_text}
+use Rattle.proof_form.specs.Numerals.{is_numeral, is_zero_text, numeral_text}
 use Rattle.proof_form.specs.Reading.{is_word_byte, is_number_byte}
 use Rattle.proof_form.specs.Trees.{texts, tree_text}
 use Rattle.proof_form.specs.Predicates as predicates
@@ -88,21 +88,21 @@ module _ {X : Type 0} (head : X → List ℕ) (parts : X → ℕ) (test : X → 
 plain_part : (p : Numeral × Numeral) → is_part p ≡ true → Plain (part_text p)
 plain_part p h = let k = both_hold (is_numeral p.0) _ h in plain_append (numeral_text p.0) (58 ∷ numeral_text p.1) (plain_numeral p.0 k.0) (plain_numeral p.1 k.1)
 
-refutation_head : (n : RefutationNode) → refutations.is_node n ≡ true → Plain (refutations.head n)
+refutation_head : (n : RefutationNode) → refutations.is_refutation_node n ≡ true → Plain (refutations.refutation_head n)
 refutation_head (refutations.leaf ps) h = plain_all part_text is_part plain_part ps (both_hold (refutations.is_some_list ps) _ h).1
 refutation_head (refutations.cut c k) h = let b = both_hold (is_numeral c) _ h in plain_append (numeral_text c) (32 ∷ numeral_text k) (plain_numeral c b.0) (plain_numeral k b.1)
 refutation_head (refutations.cases n) h = refl
 
 pub plain_refutation : (ns : List RefutationNode) → is_refutation ns ≡ true → Plain (refutation_text ns)
-plain_refutation ns h = plain_tree refutations.head refutations.parts refutations.is_node refutation_head ns (both_hold (list_all refutations.is_node ns) _ h).0
+plain_refutation ns h = plain_tree refutations.refutation_head refutations.refutation_parts refutations.is_refutation_node refutation_head ns (both_hold (list_all refutations.is_refutation_node ns) _ h).0
 
 plain_term : (t : Numeral × List ℕ) → is_term t ≡ true → Plain (term_text t)
 plain_term t h =
     let k = both_hold (is_numeral t.0) _ h in
-    let j = both_hold (not (is_zero t.0.digits)) _ k.1 in
+    let j = both_hold (not (is_zero_text t.0.digits)) _ k.1 in
     plain_append (numeral_text t.0) (32 ∷ t.1) (plain_numeral t.0 k.0) (all_weaker is_word_byte is_inside word_byte t.1 (column_is_word t.1 j.1))
 
-predicate_head : (n : PredicateNode) → predicates.is_node n ≡ true → Plain (predicates.head n)
+predicate_head : (n : PredicateNode) → predicates.is_predicate_node n ≡ true → Plain (predicates.head n)
 predicate_head (predicates.atom b ts) h =
     let k = both_hold (is_numeral b) _ h in
     plain_append (numeral_text b) (flat_map term_text ts) (plain_numeral b k.0) (plain_all term_text is_term plain_term ts (both_hold (refutations.is_some_list ts) _ k.1).1)
@@ -110,7 +110,7 @@ predicate_head (predicates.and_of n) h = refl
 predicate_head (predicates.or_of n) h = refl
 
 pub plain_predicate : (ns : List PredicateNode) → is_predicate ns ≡ true → Plain (predicate_text ns)
-plain_predicate ns h = plain_tree predicates.head predicates.parts predicates.is_node predicate_head ns (both_hold (list_all predicates.is_node ns) _ h).0
+plain_predicate ns h = plain_tree predicates.head predicates.parts predicates.is_predicate_node predicate_head ns (both_hold (list_all predicates.is_predicate_node ns) _ h).0
 
 -- Lines
 

@@ -5,7 +5,7 @@ use Rattle.std.proofs.lemmas.Bool.{eqb-true, ltb-true}
 use Rattle.std.proofs.lemmas.List.{append-nil}
 use Rattle.std.proofs.lemmas.Option.{some_pair_parts, cond_some, same_Some}
 use Rattle.proof_form.specs.declared.numerals.Numeral.{Numeral}
-use Rattle.proof_form.specs.Numerals.{is_numeral, is_zero, numeral_text}
+use Rattle.proof_form.specs.Numerals.{is_numeral, is_zero_text, numeral_text}
 use Rattle.proof_form.specs.Reading.{after, number_at, word_at, is_number_byte, item_follows, many, more_follow, all_read}
 use Rattle.proof_form.specs.Trees.{is_tree}
 use Rattle.proof_form.specs.TreeReading.{Part, opens, closes, part_text, nodes_of}
@@ -38,7 +38,7 @@ pub term_reads : (t : Numeral × List ℕ) (rest : List ℕ) → spec.is_term t 
 unfolding term_at
 term_reads t rest h stops =
     let k = both_hold (is_numeral t.0) _ h in
-    let j = both_hold (not (is_zero t.0.digits)) _ k.1 in
+    let j = both_hold (not (is_zero_text t.0.digits)) _ k.1 in
     let behind = 32 ∷ (t.1 ++ rest) in
     let grouped : spec.term_text t ++ rest ≡ 32 ∷ (numeral_text t.0 ++ behind) = ap (λ r. 32 ∷ r) (append_assoc (numeral_text t.0) (32 ∷ t.1) rest) in
     let first = number_reads t.0 behind k.0 refl in
@@ -49,7 +49,7 @@ term_reads t rest h stops =
 
 -- the node as it is opened is in the grammar
 abbrev Opens : PredicateNode → Type 0
-Opens (atom bound terms) = spec.is_node (atom bound terms) ≡ true
+Opens (atom bound terms) = spec.is_predicate_node (atom bound terms) ≡ true
 Opens (and_of c) = c ≡ 0
 Opens (or_of c) = c ≡ 0
 
@@ -96,7 +96,7 @@ no_number : (ts : List (Numeral × List ℕ)) (rest : List ℕ) → Stops rest �
 no_number [] rest s = s.number
 no_number (t ∷ ts) rest s = refl
 
-atom_reads : (bound : Numeral) (ts : List (Numeral × List ℕ)) (rest : List ℕ) → spec.is_node (atom bound ts) ≡ true → Follows rest → atom_at ((numeral_text bound ++ flat_map spec.term_text ts) ++ rest) ≡ Some (opens (atom bound ts), rest)
+atom_reads : (bound : Numeral) (ts : List (Numeral × List ℕ)) (rest : List ℕ) → spec.is_predicate_node (atom bound ts) ≡ true → Follows rest → atom_at ((numeral_text bound ++ flat_map spec.term_text ts) ++ rest) ≡ Some (opens (atom bound ts), rest)
 atom_reads bound ts rest h f =
     let k = both_hold (is_numeral bound) _ h in
     let j = both_hold (is_some_list ts) _ k.1 in
@@ -151,19 +151,19 @@ predicate_spells bs ns h =
     let ps = bind_some (pieces_of bs) (nodes_of with_parts) ns h in
     pieces_spell bs ps.0 ps.1 ∙ nodes_spell spec.head spec.parts with_parts sets ps.0 ns ps.2
 
-node_opens : (n : PredicateNode) → spec.is_node n ≡ true → OpensAs spec.head spec.parts Opens with_parts n
+node_opens : (n : PredicateNode) → spec.is_predicate_node n ≡ true → OpensAs spec.head spec.parts Opens with_parts n
 node_opens (atom bound ts) h = record { bare = atom bound ts; is = h; counted = refl; head_is = refl; small = omega arith }
 node_opens (and_of n) h = record { bare = and_of 0; is = refl; counted = refl; head_is = refl; small = ltb-true n (2 ^ 32) (both_hold (nat_le 2 n) _ h).1 }
 node_opens (or_of n) h = record { bare = or_of 0; is = refl; counted = refl; head_is = refl; small = ltb-true n (2 ^ 32) (both_hold (nat_le 2 n) _ h).1 }
 
-nodes_open : (ns : List PredicateNode) → list_all spec.is_node ns ≡ true → AllByRecursion (OpensAs spec.head spec.parts Opens with_parts) ns
+nodes_open : (ns : List PredicateNode) → list_all spec.is_predicate_node ns ≡ true → AllByRecursion (OpensAs spec.head spec.parts Opens with_parts) ns
 nodes_open [] h = tt
-nodes_open (n ∷ ns) h = let k = both_hold (spec.is_node n) _ h in (node_opens n k.0, nodes_open ns k.1)
+nodes_open (n ∷ ns) h = let k = both_hold (spec.is_predicate_node n) _ h in (node_opens n k.0, nodes_open ns k.1)
 
 -- what is spelled so is read
 pub predicate_reads : (ns : List PredicateNode) → spec.is_predicate ns ≡ true → predicate_of (spec.predicate_text ns) ≡ Some ns
 unfolding predicate_of
 predicate_reads ns h =
-    let k = both_hold (list_all spec.is_node ns) _ h in
+    let k = both_hold (list_all spec.is_predicate_node ns) _ h in
     let w = tree_is_made spec.head spec.parts Opens with_parts ns (nodes_open ns k.0) (both_hold (is_tree spec.parts ns) _ k.1).0 in
     ap predicate_of (sym w.spelled) ∙ rw (pieces_read w.pieces w.are) w.made

@@ -46,8 +46,8 @@ part_reads p rest h stops =
 
 -- the node as it is opened is in the grammar
 abbrev Opens : RefutationNode → Type 0
-Opens (leaf ps) = spec.is_node (leaf ps) ≡ true
-Opens (cut column k) = spec.is_node (cut column k) ≡ true
+Opens (leaf ps) = spec.is_refutation_node (leaf ps) ≡ true
+Opens (cut column k) = spec.is_refutation_node (cut column k) ≡ true
 Opens (cases c) = c ≡ 0
 
 -- what may follow a piece
@@ -55,7 +55,7 @@ record Follows (rest : List ℕ) : Type 0 where
   stops : Stops rest
   no_item : item_follows rest ≡ false
 
-piece_spells : (bs : List ℕ) (p : Part RefutationNode) (rest : List ℕ) → piece_at bs ≡ Some (p, rest) → bs ≡ part_text spec.head p ++ rest
+piece_spells : (bs : List ℕ) (p : Part RefutationNode) (rest : List ℕ) → piece_at bs ≡ Some (p, rest) → bs ≡ part_text spec.refutation_head p ++ rest
 unfolding piece_at
 piece_spells bs p rest h = elim (which_read (after (codes ")") bs) end_at _ (p, rest) h) [
   | inl e ↦ after_spells (codes ")") bs e.0 e.1 ∙ end_spells e.0 p rest e.2
@@ -71,13 +71,13 @@ piece_spells bs p rest h = elim (which_read (after (codes ")") bs) end_at _ (p, 
   ]
 ]
   where
-    end_spells : (r : List ℕ) (p : Part RefutationNode) (rest : List ℕ) → end_at r ≡ Some (p, rest) → 41 ∷ r ≡ part_text spec.head p ++ rest
-    end_spells r p rest e = let q = some_pair_parts closes p r rest e in ap (λ t. 41 ∷ t) q.1 ∙ ap (λ t. part_text spec.head t ++ rest) q.0
+    end_spells : (r : List ℕ) (p : Part RefutationNode) (rest : List ℕ) → end_at r ≡ Some (p, rest) → 41 ∷ r ≡ part_text spec.refutation_head p ++ rest
+    end_spells r p rest e = let q = some_pair_parts closes p r rest e in ap (λ t. 41 ∷ t) q.1 ∙ ap (λ t. part_text spec.refutation_head t ++ rest) q.0
 
-    cases_spell : (r : List ℕ) (p : Part RefutationNode) (rest : List ℕ) → cases_at r ≡ Some (p, rest) → codes " (cases" ++ r ≡ part_text spec.head p ++ rest
-    cases_spell r p rest e = let q = some_pair_parts (opens (cases 0)) p r rest e in ap (λ t. codes " (cases" ++ t) q.1 ∙ ap (λ t. part_text spec.head t ++ rest) q.0
+    cases_spell : (r : List ℕ) (p : Part RefutationNode) (rest : List ℕ) → cases_at r ≡ Some (p, rest) → codes " (cases" ++ r ≡ part_text spec.refutation_head p ++ rest
+    cases_spell r p rest e = let q = some_pair_parts (opens (cases 0)) p r rest e in ap (λ t. codes " (cases" ++ t) q.1 ∙ ap (λ t. part_text spec.refutation_head t ++ rest) q.0
 
-    cut_spells : (r : List ℕ) (p : Part RefutationNode) (rest : List ℕ) → cut_at r ≡ Some (p, rest) → codes " (cut " ++ r ≡ part_text spec.head p ++ rest
+    cut_spells : (r : List ℕ) (p : Part RefutationNode) (rest : List ℕ) → cut_at r ≡ Some (p, rest) → codes " (cut " ++ r ≡ part_text spec.refutation_head p ++ rest
     cut_spells r p rest e =
         let column = number_at r in
         let s = bind_some (after (codes " ") column.1) (number_of_cut column.0) (p, rest) e in
@@ -85,22 +85,22 @@ piece_spells bs p rest h = elim (which_read (after (codes ")") bs) end_at _ (p, 
         let q = some_pair_parts (opens (cut column.0 k.0)) p k.1 rest s.2 in
         let all : r ≡ numeral_text column.0 ++ (32 ∷ (numeral_text k.0 ++ k.1)) = number_spells r ∙ ap (λ t. numeral_text column.0 ++ t) (after_spells (codes " ") column.1 s.0 s.1 ∙ ap (λ t. 32 ∷ t) (number_spells s.0)) in
         let grouped : r ≡ (numeral_text column.0 ++ (32 ∷ numeral_text k.0)) ++ k.1 = all ∙ sym (append_assoc (numeral_text column.0) (32 ∷ numeral_text k.0) k.1) in
-        ap (λ t. codes " (cut " ++ t) grouped ∙ ap (λ t. part_text spec.head (opens (cut column.0 k.0)) ++ t) q.1 ∙ ap (λ t. part_text spec.head t ++ rest) q.0
+        ap (λ t. codes " (cut " ++ t) grouped ∙ ap (λ t. part_text spec.refutation_head (opens (cut column.0 k.0)) ++ t) q.1 ∙ ap (λ t. part_text spec.refutation_head t ++ rest) q.0
 
-    leaf_spells : (r : List ℕ) (p : Part RefutationNode) (rest : List ℕ) → leaf_at r ≡ Some (p, rest) → codes " (leaf" ++ r ≡ part_text spec.head p ++ rest
+    leaf_spells : (r : List ℕ) (p : Part RefutationNode) (rest : List ℕ) → leaf_at r ≡ Some (p, rest) → codes " (leaf" ++ r ≡ part_text spec.refutation_head p ++ rest
     leaf_spells r p rest e =
         let ps = bind_some (parts_at r) _ (p, rest) e in
         let q = some_pair_parts (opens (leaf ps.0.0)) p ps.0.1 rest ps.2 in
         let all = many_spell part_at item_follows spec.part_text part_spells (length r) r ps.0.0 ps.0.1 ps.1 in
-        ap (λ t. codes " (leaf" ++ t) all ∙ ap (λ t. part_text spec.head (opens (leaf ps.0.0)) ++ t) q.1 ∙ ap (λ t. part_text spec.head t ++ rest) q.0
+        ap (λ t. codes " (leaf" ++ t) all ∙ ap (λ t. part_text spec.refutation_head (opens (leaf ps.0.0)) ++ t) q.1 ∙ ap (λ t. part_text spec.refutation_head t ++ rest) q.0
 
-leaf_reads : (ps : List (Numeral × Numeral)) (rest : List ℕ) → spec.is_node (leaf ps) ≡ true → Follows rest → parts_at (flat_map spec.part_text ps ++ rest) ≡ Some (ps, rest)
+leaf_reads : (ps : List (Numeral × Numeral)) (rest : List ℕ) → spec.is_refutation_node (leaf ps) ≡ true → Follows rest → parts_at (flat_map spec.part_text ps ++ rest) ≡ Some (ps, rest)
 leaf_reads ps rest h f =
     let k = both_hold (spec.is_some_list ps) _ h in
     (many_read part_at item_follows spec.part_text (λ p. spec.is_part p ≡ true) Stops (λ p r v s. part_reads p r v s)
     (length (flat_map spec.part_text ps ++ rest)) ps rest (no_more_texts spec.part_text rest (λ p. omega arith) ps) (each_passes spec.is_part ps k.1) f.stops f.no_item).0
 
-cut_reads : (column k : Numeral) (rest : List ℕ) → spec.is_node (cut column k) ≡ true → Follows rest → cut_at ((numeral_text column ++ 32 ∷ numeral_text k) ++ rest) ≡ Some (opens (cut column k), rest)
+cut_reads : (column k : Numeral) (rest : List ℕ) → spec.is_refutation_node (cut column k) ≡ true → Follows rest → cut_at ((numeral_text column ++ 32 ∷ numeral_text k) ++ rest) ≡ Some (opens (cut column k), rest)
 cut_reads column k rest h f =
     let both = both_hold (is_numeral column) _ h in
     let behind = 32 ∷ (numeral_text k ++ rest) in
@@ -109,32 +109,32 @@ cut_reads column k rest h f =
     let second = number_reads k rest both.1 f.stops.number in
     ap cut_at grouped ∙ rw (first, second) refl
 
-piece_reads : (p : Part RefutationNode) (rest : List ℕ) → PartIs spec.head spec.parts Opens p → Follows rest
-    → (more_follow (part_text spec.head p ++ rest) ≡ true) × (piece_at (part_text spec.head p ++ rest) ≡ Some (p, rest)) × Follows (part_text spec.head p ++ rest)
+piece_reads : (p : Part RefutationNode) (rest : List ℕ) → PartIs spec.refutation_head spec.refutation_parts Opens p → Follows rest
+    → (more_follow (part_text spec.refutation_head p ++ rest) ≡ true) × (piece_at (part_text spec.refutation_head p ++ rest) ≡ Some (p, rest)) × Follows (part_text spec.refutation_head p ++ rest)
 unfolding piece_at
 piece_reads closes rest v f = (refl, refl, record { stops = end_stops rest; no_item = refl })
 piece_reads (opens (leaf ps)) rest v f = (refl, rw (leaf_reads ps rest v f) refl, record { stops = space_stops _; no_item = refl })
 piece_reads (opens (cut column k)) rest v f = (refl, rw (cut_reads column k rest v f) refl, record { stops = space_stops _; no_item = refl })
 piece_reads (opens (cases c)) rest v f = (refl, ap (λ (n : ℕ). Some (opens (cases n), rest)) (sym v), record { stops = space_stops _; no_item = refl })
 
-pieces_spell : (bs : List ℕ) (ps : List (Part RefutationNode)) → pieces_of bs ≡ Some ps → bs ≡ flat_map (part_text spec.head) ps
+pieces_spell : (bs : List ℕ) (ps : List (Part RefutationNode)) → pieces_of bs ≡ Some ps → bs ≡ flat_map (part_text spec.refutation_head) ps
 unfolding pieces_of
 pieces_spell bs ps h =
     let x = bind_some (many piece_at more_follow (length bs) bs) all_read ps h in
-    let all = many_spell piece_at more_follow (part_text spec.head) piece_spells (length bs) bs x.0.0 x.0.1 x.1 in
+    let all = many_spell piece_at more_follow (part_text spec.refutation_head) piece_spells (length bs) bs x.0.0 x.0.1 x.1 in
     let whole = all_was_read x.0.0 ps x.0.1 x.2 in
-    all ∙ ap (λ r. flat_map (part_text spec.head) x.0.0 ++ r) whole.0 ∙ append-nil (flat_map (part_text spec.head) x.0.0) ∙ ap (flat_map (part_text spec.head)) whole.1
+    all ∙ ap (λ r. flat_map (part_text spec.refutation_head) x.0.0 ++ r) whole.0 ∙ append-nil (flat_map (part_text spec.refutation_head) x.0.0) ∙ ap (flat_map (part_text spec.refutation_head)) whole.1
 
-pieces_read : (ps : List (Part RefutationNode)) → AllByRecursion (PartIs spec.head spec.parts Opens) ps → pieces_of (flat_map (part_text spec.head) ps) ≡ Some ps
+pieces_read : (ps : List (Part RefutationNode)) → AllByRecursion (PartIs spec.refutation_head spec.refutation_parts Opens) ps → pieces_of (flat_map (part_text spec.refutation_head) ps) ≡ Some ps
 unfolding pieces_of
 pieces_read ps v =
-    let text = flat_map (part_text spec.head) ps in
-    let r = many_read piece_at more_follow (part_text spec.head) (PartIs spec.head spec.parts Opens) Follows piece_reads (length text) ps []
-    (no_more_texts_alone (part_text spec.head) some_text ps) v (record { stops = nothing_stops; no_item = refl }) refl in
+    let text = flat_map (part_text spec.refutation_head) ps in
+    let r = many_read piece_at more_follow (part_text spec.refutation_head) (PartIs spec.refutation_head spec.refutation_parts Opens) Follows piece_reads (length text) ps []
+    (no_more_texts_alone (part_text spec.refutation_head) some_text ps) v (record { stops = nothing_stops; no_item = refl }) refl in
     let whole = subst (λ bs. many piece_at more_follow (length text) bs ≡ Some (ps, [])) (append-nil text) r.0 in
     rw whole refl
   where
-    some_text : (p : Part RefutationNode) → 0 < length (part_text spec.head p)
+    some_text : (p : Part RefutationNode) → 0 < length (part_text spec.refutation_head p)
     some_text closes = omega arith
     some_text (opens (leaf ps)) = omega arith
     some_text (opens (cut column k)) = omega arith
@@ -142,31 +142,31 @@ pieces_read ps v =
 
 -- Refutations
 
-sets : (n m : RefutationNode) (c : ℕ) → with_parts n c ≡ Some m → (spec.head m ≡ spec.head n) × (spec.parts m ≡ c)
-sets (leaf ps) m c h = let k = cond_some (nat_eq c 0) (leaf ps) m h in (ap spec.head (sym k.1), ap spec.parts (sym k.1) ∙ sym (eqb-true c 0 k.0))
-sets (cut column k) m c h = let j = cond_some (nat_eq c 2) (cut column k) m h in (ap spec.head (sym j.1), ap spec.parts (sym j.1) ∙ sym (eqb-true c 2 j.0))
-sets (cases n) m c h = let e = same_Some (cases c) m h in (ap spec.head (sym e), ap spec.parts (sym e))
+sets : (n m : RefutationNode) (c : ℕ) → with_parts n c ≡ Some m → (spec.refutation_head m ≡ spec.refutation_head n) × (spec.refutation_parts m ≡ c)
+sets (leaf ps) m c h = let k = cond_some (nat_eq c 0) (leaf ps) m h in (ap spec.refutation_head (sym k.1), ap spec.refutation_parts (sym k.1) ∙ sym (eqb-true c 0 k.0))
+sets (cut column k) m c h = let j = cond_some (nat_eq c 2) (cut column k) m h in (ap spec.refutation_head (sym j.1), ap spec.refutation_parts (sym j.1) ∙ sym (eqb-true c 2 j.0))
+sets (cases n) m c h = let e = same_Some (cases c) m h in (ap spec.refutation_head (sym e), ap spec.refutation_parts (sym e))
 
 -- what is read is spelled so
 pub refutation_spells : (bs : List ℕ) (ns : List RefutationNode) → refutation_of bs ≡ Some ns → bs ≡ spec.refutation_text ns
 unfolding refutation_of
 refutation_spells bs ns h =
     let ps = bind_some (pieces_of bs) (nodes_of with_parts) ns h in
-    pieces_spell bs ps.0 ps.1 ∙ nodes_spell spec.head spec.parts with_parts sets ps.0 ns ps.2
+    pieces_spell bs ps.0 ps.1 ∙ nodes_spell spec.refutation_head spec.refutation_parts with_parts sets ps.0 ns ps.2
 
-node_opens : (n : RefutationNode) → spec.is_node n ≡ true → OpensAs spec.head spec.parts Opens with_parts n
+node_opens : (n : RefutationNode) → spec.is_refutation_node n ≡ true → OpensAs spec.refutation_head spec.refutation_parts Opens with_parts n
 node_opens (leaf ps) h = record { bare = leaf ps; is = h; counted = refl; head_is = refl; small = omega arith }
 node_opens (cut column k) h = record { bare = cut column k; is = h; counted = refl; head_is = refl; small = omega arith }
 node_opens (cases n) h = record { bare = cases 0; is = refl; counted = refl; head_is = refl; small = ltb-true n (2 ^ 32) h }
 
-nodes_open : (ns : List RefutationNode) → list_all spec.is_node ns ≡ true → AllByRecursion (OpensAs spec.head spec.parts Opens with_parts) ns
+nodes_open : (ns : List RefutationNode) → list_all spec.is_refutation_node ns ≡ true → AllByRecursion (OpensAs spec.refutation_head spec.refutation_parts Opens with_parts) ns
 nodes_open [] h = tt
-nodes_open (n ∷ ns) h = let k = both_hold (spec.is_node n) _ h in (node_opens n k.0, nodes_open ns k.1)
+nodes_open (n ∷ ns) h = let k = both_hold (spec.is_refutation_node n) _ h in (node_opens n k.0, nodes_open ns k.1)
 
 -- what is spelled so is read
 pub refutation_reads : (ns : List RefutationNode) → spec.is_refutation ns ≡ true → refutation_of (spec.refutation_text ns) ≡ Some ns
 unfolding refutation_of
 refutation_reads ns h =
-    let k = both_hold (list_all spec.is_node ns) _ h in
-    let w = tree_is_made spec.head spec.parts Opens with_parts ns (nodes_open ns k.0) k.1 in
+    let k = both_hold (list_all spec.is_refutation_node ns) _ h in
+    let w = tree_is_made spec.refutation_head spec.refutation_parts Opens with_parts ns (nodes_open ns k.0) k.1 in
     ap refutation_of (sym w.spelled) ∙ rw (pieces_read w.pieces w.are) w.made

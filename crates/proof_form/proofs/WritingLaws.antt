@@ -39,11 +39,11 @@ viewed_texts view text (x ∷ xs) = ap (λ t. text (view x) ++ t) (viewed_texts 
 pub whole_predicate : (p : Pred) (nodes : List PredicateNode) → nodes ≡ p.nodes → is_pred p ≡ true → is_tree predicates.parts nodes ≡ true
 whole_predicate p nodes e h =
     let a = both_hold (is_spelled p.proc) _ h in
-    let b = both_hold (list_all predicates.is_node p.nodes) _ a.1 in
+    let b = both_hold (list_all predicates.is_predicate_node p.nodes) _ a.1 in
     let c = both_hold (is_tree predicates.parts p.nodes) _ b.1 in rw e c.0
 
-pub whole_refutation : (proof nodes : List RefutationNode) → nodes ≡ proof → is_refutation proof ≡ true → is_tree refutations.parts nodes ≡ true
-whole_refutation proof nodes e h = let a = both_hold (list_all refutations.is_node proof) _ h in rw e a.1
+pub whole_refutation : (proof nodes : List RefutationNode) → nodes ≡ proof → is_refutation proof ≡ true → is_tree refutations.refutation_parts nodes ≡ true
+whole_refutation proof nodes e h = let a = both_hold (list_all refutations.is_refutation_node proof) _ h in rw e a.1
 
 pub proof_of_three : (a b c d : Bool) → (a && (b && (c && d))) ≡ true → d ≡ true
 proof_of_three a b c d h = (both_hold c d (both_hold b (c && d) (both_hold a (b && (c && d)) h).1).1).1
@@ -56,13 +56,13 @@ pub written_after : (old word more out all : List ℕ) → out ≡ old ++ word �
 written_after old word more out all e f = f ∙ ap (λ o. o ++ more) e ∙ append_assoc old word more
 
 -- the refutation of a triple in the grammar
-pub whole_inside : (t : Triple) (from letter to : Numeral) (proof nodes : List RefutationNode) → t ≡ inside_triple from letter to proof → nodes ≡ proof → is_triple t ≡ true → is_tree refutations.parts nodes ≡ true
+pub whole_inside : (t : Triple) (from letter to : Numeral) (proof nodes : List RefutationNode) → t ≡ inside_triple from letter to proof → nodes ≡ proof → is_triple t ≡ true → is_tree refutations.refutation_parts nodes ≡ true
 whole_inside t from letter to proof nodes e f h = whole_refutation proof nodes f (proof_of_three (is_numeral from) (is_numeral letter) (is_numeral to) (is_refutation proof) (ap is_triple (sym e) ∙ h))
 
-pub whole_call : (t : Triple) (from letter to : Numeral) (proof nodes : List RefutationNode) → t ≡ call_triple from letter to proof → nodes ≡ proof → is_triple t ≡ true → is_tree refutations.parts nodes ≡ true
+pub whole_call : (t : Triple) (from letter to : Numeral) (proof nodes : List RefutationNode) → t ≡ call_triple from letter to proof → nodes ≡ proof → is_triple t ≡ true → is_tree refutations.refutation_parts nodes ≡ true
 whole_call t from letter to proof nodes e f h = whole_refutation proof nodes f (proof_of_three (is_numeral from) (is_numeral letter) (is_numeral to) (is_refutation proof) (ap is_triple (sym e) ∙ h))
 
-pub whole_back : (t : Triple) (exit before letter to : Numeral) (proof nodes : List RefutationNode) → t ≡ back_triple exit before letter to proof → nodes ≡ proof → is_triple t ≡ true → is_tree refutations.parts nodes ≡ true
+pub whole_back : (t : Triple) (exit before letter to : Numeral) (proof nodes : List RefutationNode) → t ≡ back_triple exit before letter to proof → nodes ≡ proof → is_triple t ≡ true → is_tree refutations.refutation_parts nodes ≡ true
 whole_back t exit before letter to proof nodes e f h = whole_refutation proof nodes f (proof_of_four (is_numeral exit) (is_numeral before) (is_numeral letter) (is_numeral to) (is_refutation proof) (ap is_triple (sym e) ∙ h))
 
 -- the line of a return

@@ -10,7 +10,7 @@ use Rattle.proof_form.specs.declared.lines.TripleLine.TheVariants as triples
 use Rattle.proof_form.specs.declared.lines.NodeLine.{NodeLine}
 use Rattle.proof_form.specs.declared.lines.StepLine.{StepLine}
 use Rattle.proof_form.specs.declared.lines.StepLine.TheVariants as steps
-use Rattle.proof_form.specs.Numerals.{is_numeral, is_zero, is_below, numeral_text}
+use Rattle.proof_form.specs.Numerals.{is_numeral, is_zero_text, numeral_is_below, numeral_text}
 use Rattle.proof_form.specs.Predicates as predicates
 use Rattle.proof_form.specs.Predicates.{PredicateNode, is_predicate, predicate_text}
 use Rattle.proof_form.specs.Refutations as refutations
@@ -33,12 +33,12 @@ pub record Node : Type 0 where
   pub preds : List Numeral
 
 abbrev pub pred : PredLine → Pred
-pred p = record { proc = p.proc; nodes = map predicates.plain p.nodes.items }
+pred p = record { proc = p.proc; nodes = map predicates.plain_predicate_node p.nodes.items }
 
 abbrev pub triple : TripleLine → Triple
-triple (triples.Inside from letter to proof) = inside_triple from letter to (map refutations.plain proof.items)
-triple (triples.Call from letter to proof) = call_triple from letter to (map refutations.plain proof.items)
-triple (triples.Back exit before letter to proof) = back_triple exit before letter to (map refutations.plain proof.items)
+triple (triples.Inside from letter to proof) = inside_triple from letter to (map refutations.plain_refutation_node proof.items)
+triple (triples.Call from letter to proof) = call_triple from letter to (map refutations.plain_refutation_node proof.items)
+triple (triples.Back exit before letter to proof) = back_triple exit before letter to (map refutations.plain_refutation_node proof.items)
 
 abbrev pub node : NodeLine → Node
 node n = record { place = n.place; entry = n.entry; preds = n.preds.items }
@@ -84,11 +84,11 @@ is_triple (back_triple exit before letter to proof) =
 abbrev pub ascend : List Numeral → Bool
 ascend [] = true
 ascend (k ∷ []) = true
-ascend (k ∷ (l ∷ ks)) = is_below k l && ascend (l ∷ ks)
+ascend (k ∷ (l ∷ ks)) = numeral_is_below k l && ascend (l ∷ ks)
 
 -- a numeral other than 0
 abbrev pub is_named : Numeral → Bool
-is_named k = is_numeral k && not (is_zero k.digits)
+is_named k = is_numeral k && not (is_zero_text k.digits)
 
 -- the predicates of a node ascend, and true is none of them
 abbrev pub is_node : Node → Bool

@@ -19,10 +19,10 @@ abbrev pub numeral_text : Numeral → List ℕ
 numeral_text n = if n.negative then 45 ∷ n.digits else n.digits
 
 -- it is the numeral of 0
-abbrev pub is_zero : List ℕ → Bool
-is_zero [] = false
-is_zero (d ∷ []) = nat_eq d 48
-is_zero (d ∷ e ∷ ds) = false
+abbrev pub is_zero_text : List ℕ → Bool
+is_zero_text [] = false
+is_zero_text (d ∷ []) = nat_eq d 48
+is_zero_text (d ∷ e ∷ ds) = false
 
 -- of as many digits, the first that differ decide
 abbrev pub comes_before : List ℕ → List ℕ → Bool
@@ -31,11 +31,11 @@ comes_before (d ∷ ds) [] = false
 comes_before (d ∷ ds) (e ∷ es) = nat_lt d e || (nat_eq d e && comes_before ds es)
 
 -- fewer digits, or as many that come before
-abbrev pub is_less : List ℕ → List ℕ → Bool
-is_less ds es = nat_lt (length ds) (length es) || (nat_eq (length ds) (length es) && comes_before ds es)
+abbrev pub digits_are_less : List ℕ → List ℕ → Bool
+digits_are_less ds es = nat_lt (length ds) (length es) || (nat_eq (length ds) (length es) && comes_before ds es)
 
 -- the number of the first is below that of the second
-abbrev pub is_below : Numeral → Numeral → Bool
-is_below a b =
-    if a.negative then (if b.negative then is_less b.digits a.digits else true)
-    else (if b.negative then false else is_less a.digits b.digits)
+abbrev pub numeral_is_below : Numeral → Numeral → Bool
+numeral_is_below a b =
+    if a.negative then (if b.negative then digits_are_less b.digits a.digits else true)
+    else (if b.negative then false else digits_are_less a.digits b.digits)

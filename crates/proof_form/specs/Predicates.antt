@@ -5,7 +5,7 @@ use Rattle.proof_form.specs.declared.numerals.Numeral.{Numeral}
 use Rattle.proof_form.specs.declared.predicates.PNode.{PNode}
 use Rattle.proof_form.specs.declared.predicates.PNode.TheVariants.{Atom, And, Or}
 use Rattle.proof_form.specs.Names.{is_column}
-use Rattle.proof_form.specs.Numerals.{is_numeral, is_zero, numeral_text}
+use Rattle.proof_form.specs.Numerals.{is_numeral, is_zero_text, numeral_text}
 use Rattle.proof_form.specs.Trees.{is_tree, tree_text}
 use Rattle.proof_form.specs.Refutations.{is_some_list}
 
@@ -15,10 +15,10 @@ pub data PredicateNode : Type 0 where
   and_of : ℕ → PredicateNode
   or_of : ℕ → PredicateNode
 
-abbrev pub plain : PNode → PredicateNode
-plain (Atom bound terms) = atom bound terms.items
-plain (And n) = and_of n
-plain (Or n) = or_of n
+abbrev pub plain_predicate_node : PNode → PredicateNode
+plain_predicate_node (Atom bound terms) = atom bound terms.items
+plain_predicate_node (And n) = and_of n
+plain_predicate_node (Or n) = or_of n
 
 -- how many predicates stand behind a node
 abbrev pub parts : PredicateNode → ℕ
@@ -38,17 +38,17 @@ head (or_of n) = codes " (or"
 
 -- no coefficient is 0
 abbrev pub is_term : Numeral × List ℕ → Bool
-is_term t = is_numeral t.0 && (not (is_zero t.0.digits) && is_column t.1)
+is_term t = is_numeral t.0 && (not (is_zero_text t.0.digits) && is_column t.1)
 
 -- two parts or more, and fewer than 2 ^ 32
 abbrev pub is_count : ℕ → Bool
 is_count n = nat_le 2 n && nat_lt n (2 ^ 32)
 
 -- an atom has a term or more
-abbrev pub is_node : PredicateNode → Bool
-is_node (atom bound terms) = is_numeral bound && (is_some_list terms && list_all is_term terms)
-is_node (and_of n) = is_count n
-is_node (or_of n) = is_count n
+abbrev pub is_predicate_node : PredicateNode → Bool
+is_predicate_node (atom bound terms) = is_numeral bound && (is_some_list terms && list_all is_term terms)
+is_predicate_node (and_of n) = is_count n
+is_predicate_node (or_of n) = is_count n
 
 abbrev pub highest : List ℕ → ℕ
 highest [] = 0
@@ -76,7 +76,7 @@ are_low (n ∷ ns) = are_low ns && nat_le (height_of n (take (parts n) (heights 
 
 -- the nodes are one whole tree
 abbrev pub is_predicate : List PredicateNode → Bool
-is_predicate ns = list_all is_node ns && (is_tree parts ns && are_low ns)
+is_predicate ns = list_all is_predicate_node ns && (is_tree parts ns && are_low ns)
 
 -- a space, and the tree
 abbrev pub predicate_text : List PredicateNode → List ℕ

@@ -4,7 +4,7 @@ ghost use Rattle.std.specs.Prelude.{◌≡◌, ◌+◌, ◌<◌, ◌^◌, ◌↔
 ghost use Rattle.proof_form.specs.declared.numerals.Numeral.{Numeral};
 ghost use Rattle.proof_form.specs.declared.lines.StepLine.{StepLine};
 ghost use Rattle.std.specs.Prelude.{◌<ℤ◌};
-ghost use Rattle.proof_form.specs.Numerals.{is_numeral, numeral_text, is_below};
+ghost use Rattle.proof_form.specs.Numerals.{is_numeral, numeral_text, numeral_is_below};
 ghost use Rattle.proof_form.specs.NumberValues.{value};
 ghost use Rattle.proof_form.specs.Forests.{Tree, HasParts, prefix_of, text_of};
 ghost use Rattle.proof_form.specs.Trees.{is_tree, tree_text};
@@ -51,7 +51,7 @@ pub fn prefix_lists_are_trees()
 
 /// Numerals of the grammar are compared by their numbers.
 pub fn numerals_are_compared_by_value()
-    ensures { (a b : Numeral) → IsTrue (is_numeral a) → IsTrue (is_numeral b) → IsTrue (is_below a b) ↔ (value a <ℤ value b) }
+    ensures { (a b : Numeral) → IsTrue (is_numeral a) → IsTrue (is_numeral b) → IsTrue (numeral_is_below a b) ↔ (value a <ℤ value b) }
 {}
 
 /// The first wrong line is the first with which no text of an annotation begins, or the one behind lines that are no whole text.

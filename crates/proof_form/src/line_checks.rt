@@ -26,7 +26,7 @@ pub(crate) fn is_pred(alloc: Global, line: &PredLine) -> Result<bool, AllocError
 /// Whether three numerals and a refutation are in the grammar.
 fn are_proved(first: &Numeral, second: &Numeral, third: &Numeral, proof: &[RNode]) -> bool
     ensures { result ≡ (numerals.is_numeral first.now && (numerals.is_numeral second.now && (numerals.is_numeral third.now
-        && refutations.is_refutation (map refutations.plain proof.now)))) }
+        && refutations.is_refutation (map refutations.plain_refutation_node proof.now)))) }
 {
     is_numeral(first) && is_numeral(second) && is_numeral(third) && is_refutation(proof)
 }

@@ -42,9 +42,9 @@ fn push_proved(
     third: &Numeral,
     proof: &[RNode],
 ) -> Result<(), AllocError>
-    requires { IsTrue (is_tree refutations.parts (map refutations.plain proof.now)) }
+    requires { IsTrue (is_tree refutations.refutation_parts (map refutations.plain_refutation_node proof.now)) }
     ensures { OnOk result (out.new.items ≡ out.old.items ++ (word.now ++ (spec.spaced first.now ++ (spec.spaced second.now ++ (spec.spaced third.now
-        ++ refutations.refutation_text (map refutations.plain proof.now)))))) }
+        ++ refutations.refutation_text (map refutations.plain_refutation_node proof.now)))))) }
 {
     out.extend_from_slice(word)?;
     push_spaced(out, first)?;

@@ -33,7 +33,7 @@ pub(crate) fn is_numeral(numeral: &Numeral) -> bool
 
 /// Whether it is the numeral of 0.
 pub(crate) fn is_zero(numeral: &Numeral) -> bool
-    ensures { result ≡ spec.is_zero numeral.now.digits }
+    ensures { result ≡ spec.is_zero_text numeral.now.digits }
 {
     matches!(numeral.digits.bytes(), [b'0'])
 }
@@ -53,14 +53,14 @@ fn comes_before(first: &[u8], second: &[u8]) -> bool
 
 /// Whether the number of the first digits is less, where no zero stands in front.
 fn is_less(first: &[u8], second: &[u8]) -> bool
-    ensures { result ≡ spec.is_less first.now second.now }
+    ensures { result ≡ spec.digits_are_less first.now second.now }
 {
     first.len() < second.len() || first.len() == second.len() && comes_before(first, second)
 }
 
 /// Whether the number of the first numeral is below that of the second.
 pub(crate) fn is_below(first: &Numeral, second: &Numeral) -> bool
-    ensures { result ≡ spec.is_below first.now second.now }
+    ensures { result ≡ spec.numeral_is_below first.now second.now }
 {
     match (first.negative, second.negative) {
         (true, true) => is_less(second.digits.bytes(), first.digits.bytes()),

@@ -69,7 +69,7 @@ fn terms_at(alloc: Global, bytes: &[u8]) -> Result<(Vec<(Numeral, Text)>, &[u8])
 
 /// Reads what stands behind `(le `, before the end of the atom.
 fn atom_at(alloc: Global, bytes: &[u8]) -> Result<(Piece<PNode>, &[u8]), Refusal>
-    ensures { Gives (λ x. (part spec.plain x.0, x.1.now)) result (reading.atom_at bytes.now) }
+    ensures { Gives (λ x. (part spec.plain_predicate_node x.0, x.1.now)) result (reading.atom_at bytes.now) }
 {
     let (bound, rest) = number_at(alloc, bytes)?;
     let (terms, rest) = terms_at(alloc, rest)?;
@@ -79,7 +79,7 @@ fn atom_at(alloc: Global, bytes: &[u8]) -> Result<(Piece<PNode>, &[u8]), Refusal
 /// Reads a piece of the text of a predicate.
 #[tactic(auto, unfolding(crate::specs::PredicateReading::piece_at))]
 fn piece_at(alloc: Global, bytes: &[u8]) -> Result<(Piece<PNode>, &[u8]), Refusal>
-    ensures { Gives (λ x. (part spec.plain x.0, x.1.now)) result (reading.piece_at bytes.now) }
+    ensures { Gives (λ x. (part spec.plain_predicate_node x.0, x.1.now)) result (reading.piece_at bytes.now) }
 {
     if let Some(rest) = text_at(bytes, b")") {
         return Ok((Piece::Closes, rest));
@@ -96,7 +96,7 @@ fn piece_at(alloc: Global, bytes: &[u8]) -> Result<(Piece<PNode>, &[u8]), Refusa
 
 /// The node with so many predicates behind it.
 fn with_parts(node: PNode, count: u32) -> Result<PNode, Refusal>
-    ensures { Gives spec.plain result (reading.with_parts (spec.plain node) count) }
+    ensures { Gives spec.plain_predicate_node result (reading.with_parts (spec.plain_predicate_node node) count) }
 {
     match node {
         PNode::Atom { bound, terms } if count == 0 => Ok(PNode::Atom { bound, terms }),
@@ -109,7 +109,7 @@ fn with_parts(node: PNode, count: u32) -> Result<PNode, Refusal>
 /// Reads the pieces that the bytes are.
 #[tactic(auto, unfolding(crate::specs::PredicateReading::pieces_of))]
 fn pieces_of(alloc: Global, bytes: &[u8]) -> Result<Vec<Piece<PNode>>, Refusal>
-    ensures { Gives (λ v. map (part spec.plain) v.items) result (reading.pieces_of bytes.now) }
+    ensures { Gives (λ v. map (part spec.plain_predicate_node) v.items) result (reading.pieces_of bytes.now) }
 {
     let mut pieces = Vec::new(alloc);
     let mut rest = bytes;
@@ -133,8 +133,8 @@ fn add_piece(
     counts: &mut Vec<u32>,
     nodes: &mut Vec<PNode>,
 ) -> Result<(), Refusal>
-    ensures { Gives (λ _. built spec.plain counts.new.items nodes.new.items) result
-        (with_part reading.with_parts (part spec.plain piece) (built spec.plain counts.old.items nodes.old.items)) }
+    ensures { Gives (λ _. built spec.plain_predicate_node counts.new.items nodes.new.items) result
+        (with_part reading.with_parts (part spec.plain_predicate_node piece) (built spec.plain_predicate_node counts.old.items nodes.old.items)) }
 {
     match piece {
         Piece::Closes => counts.push(0)?,
@@ -148,8 +148,8 @@ fn add_piece(
 
 /// The nodes of the tree whose pieces these are.
 fn nodes_of(alloc: Global, mut pieces: Vec<Piece<PNode>>) -> Result<Vec<PNode>, Refusal>
-    ensures { Gives (λ v. map spec.plain v.items) result
-        (nodes_of reading.with_parts (map (part spec.plain) pieces.items)) }
+    ensures { Gives (λ v. map spec.plain_predicate_node v.items) result
+        (nodes_of reading.with_parts (map (part spec.plain_predicate_node) pieces.items)) }
 {
     let mut counts = Vec::new(alloc);
     counts.push(0)?;
@@ -167,7 +167,7 @@ fn nodes_of(alloc: Global, mut pieces: Vec<Piece<PNode>>) -> Result<Vec<PNode>, 
 /// The nodes of the predicate that the bytes are, with a space before it.
 #[tactic(auto, unfolding(crate::specs::PredicateReading::predicate_of))]
 pub(crate) fn predicate_of(alloc: Global, bytes: &[u8]) -> Result<Vec<PNode>, Refusal>
-    ensures { Gives (λ v. map spec.plain v.items) result (reading.predicate_of bytes.now) }
+    ensures { Gives (λ v. map spec.plain_predicate_node v.items) result (reading.predicate_of bytes.now) }
 {
     nodes_of(alloc, pieces_of(alloc, bytes)?)
 }
@@ -195,7 +195,7 @@ fn is_count(count: u32) -> bool
 
 /// Whether the node is in the grammar.
 fn is_node(node: &PNode) -> bool
-    ensures { result ≡ spec.is_node (spec.plain node.now) }
+    ensures { result ≡ spec.is_predicate_node (spec.plain_predicate_node node.now) }
 {
     match node {
         PNode::Atom { bound, terms } => {
@@ -207,7 +207,7 @@ fn is_node(node: &PNode) -> bool
 
 /// How many predicates stand behind a node.
 fn parts(node: &PNode) -> u32
-    ensures { result ≡ spec.parts (spec.plain node.now) }
+    ensures { result ≡ spec.parts (spec.plain_predicate_node node.now) }
 {
     match node {
         PNode::Atom { .. } => 0,
@@ -217,7 +217,7 @@ fn parts(node: &PNode) -> u32
 
 /// Whether the nodes are one whole tree.
 fn is_whole(nodes: &[PNode]) -> bool
-    ensures { result ≡ is_tree spec.parts (map spec.plain nodes.now) }
+    ensures { result ≡ is_tree spec.parts (map spec.plain_predicate_node nodes.now) }
 {
     let mut count: u64 = 0;
     let mut left = nodes.len();
@@ -234,7 +234,7 @@ fn is_whole(nodes: &[PNode]) -> bool
 
 /// Whether each node is in the grammar.
 fn are_nodes(nodes: &[PNode]) -> bool
-    ensures { result ≡ list_all (λ n. spec.is_node (spec.plain n)) nodes.now }
+    ensures { result ≡ list_all (λ n. spec.is_predicate_node (spec.plain_predicate_node n)) nodes.now }
 {
     nodes.iter().all(|node| is_node(node))
 }
@@ -256,7 +256,7 @@ fn take_highest(heights: &mut Vec<u32>, count: u32) -> u32
 
 /// How deep `and` and `or` nest in a node whose parts nest so deep, if that is not too deep.
 fn height_of(node: &PNode, below: u32) -> Option<u32>
-    ensures { SomeIff result (spec.height_of (spec.plain node.now) (below ∷ []) ≤ 200) (spec.height_of (spec.plain node.now) (below ∷ [])) }
+    ensures { SomeIff result (spec.height_of (spec.plain_predicate_node node.now) (below ∷ []) ≤ 200) (spec.height_of (spec.plain_predicate_node node.now) (below ∷ [])) }
 {
     match node {
         PNode::Atom { .. } => Some(0),
@@ -267,7 +267,7 @@ fn height_of(node: &PNode, below: u32) -> Option<u32>
 
 /// Whether `and` and `or` nest nowhere too deep.
 fn are_low(alloc: Global, nodes: &[PNode]) -> Result<bool, AllocError>
-    ensures { IfOk result (λ r. r ≡ spec.are_low (map spec.plain nodes.now)) }
+    ensures { IfOk result (λ r. r ≡ spec.are_low (map spec.plain_predicate_node nodes.now)) }
 {
     let mut heights = Vec::new(alloc);
     let mut left = nodes.len();
@@ -285,7 +285,7 @@ fn are_low(alloc: Global, nodes: &[PNode]) -> Result<bool, AllocError>
 
 /// Whether the nodes are those of a predicate in the grammar.
 pub(crate) fn is_predicate(alloc: Global, nodes: &[PNode]) -> Result<bool, AllocError>
-    ensures { IfOk result (λ r. r ≡ spec.is_predicate (map spec.plain nodes.now)) }
+    ensures { IfOk result (λ r. r ≡ spec.is_predicate (map spec.plain_predicate_node nodes.now)) }
 {
     if !are_nodes(nodes) {
         return Ok(false);
@@ -318,7 +318,7 @@ fn push_terms(out: &mut Vec<u8>, terms: &[(Numeral, Text)]) -> Result<(), AllocE
 
 /// Writes what stands before the parts of a node.
 fn push_head(out: &mut Vec<u8>, node: &PNode) -> Result<(), AllocError>
-    ensures { OnOk result (out.new.items ≡ out.old.items ++ spec.head (spec.plain node.now)) }
+    ensures { OnOk result (out.new.items ≡ out.old.items ++ spec.head (spec.plain_predicate_node node.now)) }
 {
     match node {
         PNode::Atom { bound, terms } => {
@@ -333,8 +333,8 @@ fn push_head(out: &mut Vec<u8>, node: &PNode) -> Result<(), AllocError>
 
 /// Writes a predicate, with a space before it.
 pub(crate) fn push_predicate(out: &mut Vec<u8>, nodes: &[PNode]) -> Result<(), AllocError>
-    requires { IsTrue (is_tree spec.parts (map spec.plain nodes.now)) }
-    ensures { OnOk result (out.new.items ≡ out.old.items ++ spec.predicate_text (map spec.plain nodes.now)) }
+    requires { IsTrue (is_tree spec.parts (map spec.plain_predicate_node nodes.now)) }
+    ensures { OnOk result (out.new.items ≡ out.old.items ++ spec.predicate_text (map spec.plain_predicate_node nodes.now)) }
 {
     let mut outer = Vec::new(*out.allocator());
     let mut left = 1;

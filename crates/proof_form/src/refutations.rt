@@ -61,7 +61,7 @@ fn parts_at(alloc: Global, bytes: &[u8]) -> Result<(Vec<(Numeral, Numeral)>, &[u
 
 /// Reads what stands behind `(leaf`, before the end of the leaf.
 fn leaf_at(alloc: Global, bytes: &[u8]) -> Result<(Piece<RNode>, &[u8]), Refusal>
-    ensures { Gives (λ x. (part spec.plain x.0, x.1.now)) result (reading.leaf_at bytes.now) }
+    ensures { Gives (λ x. (part spec.plain_refutation_node x.0, x.1.now)) result (reading.leaf_at bytes.now) }
 {
     let (parts, rest) = parts_at(alloc, bytes)?;
     Ok((Piece::Opens(RNode::Leaf(parts)), rest))
@@ -69,7 +69,7 @@ fn leaf_at(alloc: Global, bytes: &[u8]) -> Result<(Piece<RNode>, &[u8]), Refusal
 
 /// Reads what stands behind `(cut `, before the trees of the cut.
 fn cut_at(alloc: Global, bytes: &[u8]) -> Result<(Piece<RNode>, &[u8]), Refusal>
-    ensures { Gives (λ x. (part spec.plain x.0, x.1.now)) result (reading.cut_at bytes.now) }
+    ensures { Gives (λ x. (part spec.plain_refutation_node x.0, x.1.now)) result (reading.cut_at bytes.now) }
 {
     let (col, rest) = number_before(alloc, bytes, b" ")?;
     let (k, rest) = number_at(alloc, rest)?;
@@ -79,7 +79,7 @@ fn cut_at(alloc: Global, bytes: &[u8]) -> Result<(Piece<RNode>, &[u8]), Refusal>
 /// Reads a piece of the text of a refutation.
 #[tactic(auto, unfolding(crate::specs::RefutationReading::piece_at))]
 fn piece_at(alloc: Global, bytes: &[u8]) -> Result<(Piece<RNode>, &[u8]), Refusal>
-    ensures { Gives (λ x. (part spec.plain x.0, x.1.now)) result (reading.piece_at bytes.now) }
+    ensures { Gives (λ x. (part spec.plain_refutation_node x.0, x.1.now)) result (reading.piece_at bytes.now) }
 {
     if let Some(rest) = text_at(bytes, b")") {
         return Ok((Piece::Closes, rest));
@@ -96,7 +96,7 @@ fn piece_at(alloc: Global, bytes: &[u8]) -> Result<(Piece<RNode>, &[u8]), Refusa
 
 /// The node with so many trees behind it.
 fn with_parts(node: RNode, count: u32) -> Result<RNode, Refusal>
-    ensures { Gives spec.plain result (reading.with_parts (spec.plain node) count) }
+    ensures { Gives spec.plain_refutation_node result (reading.with_parts (spec.plain_refutation_node node) count) }
 {
     match node {
         RNode::Leaf(parts) if count == 0 => Ok(RNode::Leaf(parts)),
@@ -109,7 +109,7 @@ fn with_parts(node: RNode, count: u32) -> Result<RNode, Refusal>
 /// Reads the pieces that the bytes are.
 #[tactic(auto, unfolding(crate::specs::RefutationReading::pieces_of))]
 fn pieces_of(alloc: Global, bytes: &[u8]) -> Result<Vec<Piece<RNode>>, Refusal>
-    ensures { Gives (λ v. map (part spec.plain) v.items) result (reading.pieces_of bytes.now) }
+    ensures { Gives (λ v. map (part spec.plain_refutation_node) v.items) result (reading.pieces_of bytes.now) }
 {
     let mut pieces = Vec::new(alloc);
     let mut rest = bytes;
@@ -133,8 +133,8 @@ fn add_piece(
     counts: &mut Vec<u32>,
     nodes: &mut Vec<RNode>,
 ) -> Result<(), Refusal>
-    ensures { Gives (λ _. built spec.plain counts.new.items nodes.new.items) result
-        (with_part reading.with_parts (part spec.plain piece) (built spec.plain counts.old.items nodes.old.items)) }
+    ensures { Gives (λ _. built spec.plain_refutation_node counts.new.items nodes.new.items) result
+        (with_part reading.with_parts (part spec.plain_refutation_node piece) (built spec.plain_refutation_node counts.old.items nodes.old.items)) }
 {
     match piece {
         Piece::Closes => counts.push(0)?,
@@ -148,8 +148,8 @@ fn add_piece(
 
 /// The nodes of the tree whose pieces these are.
 fn nodes_of(alloc: Global, mut pieces: Vec<Piece<RNode>>) -> Result<Vec<RNode>, Refusal>
-    ensures { Gives (λ v. map spec.plain v.items) result
-        (nodes_of reading.with_parts (map (part spec.plain) pieces.items)) }
+    ensures { Gives (λ v. map spec.plain_refutation_node v.items) result
+        (nodes_of reading.with_parts (map (part spec.plain_refutation_node) pieces.items)) }
 {
     let mut counts = Vec::new(alloc);
     counts.push(0)?;
@@ -167,7 +167,7 @@ fn nodes_of(alloc: Global, mut pieces: Vec<Piece<RNode>>) -> Result<Vec<RNode>, 
 /// The nodes of the refutation that the bytes are, with a space before it.
 #[tactic(auto, unfolding(crate::specs::RefutationReading::refutation_of))]
 pub(crate) fn refutation_of(alloc: Global, bytes: &[u8]) -> Result<Vec<RNode>, Refusal>
-    ensures { Gives (λ v. map spec.plain v.items) result (reading.refutation_of bytes.now) }
+    ensures { Gives (λ v. map spec.plain_refutation_node v.items) result (reading.refutation_of bytes.now) }
 {
     nodes_of(alloc, pieces_of(alloc, bytes)?)
 }
@@ -188,7 +188,7 @@ fn are_parts(parts: &[(Numeral, Numeral)]) -> bool
 
 /// Whether the node is in the grammar.
 fn is_node(node: &RNode) -> bool
-    ensures { result ≡ spec.is_node (spec.plain node.now) }
+    ensures { result ≡ spec.is_refutation_node (spec.plain_refutation_node node.now) }
 {
     match node {
         RNode::Leaf(parts) => !parts.is_empty() && are_parts(parts),
@@ -202,7 +202,7 @@ fn is_node(node: &RNode) -> bool
 
 /// How many trees stand behind a node.
 fn parts(node: &RNode) -> u32
-    ensures { result ≡ spec.parts (spec.plain node.now) }
+    ensures { result ≡ spec.refutation_parts (spec.plain_refutation_node node.now) }
 {
     match node {
         RNode::Leaf(_) => 0,
@@ -213,7 +213,7 @@ fn parts(node: &RNode) -> u32
 
 /// Whether the nodes are one whole tree.
 fn is_whole(nodes: &[RNode]) -> bool
-    ensures { result ≡ is_tree spec.parts (map spec.plain nodes.now) }
+    ensures { result ≡ is_tree spec.refutation_parts (map spec.plain_refutation_node nodes.now) }
 {
     let mut count: u64 = 0;
     let mut left = nodes.len();
@@ -230,14 +230,14 @@ fn is_whole(nodes: &[RNode]) -> bool
 
 /// Whether each node is in the grammar.
 fn are_nodes(nodes: &[RNode]) -> bool
-    ensures { result ≡ list_all (λ n. spec.is_node (spec.plain n)) nodes.now }
+    ensures { result ≡ list_all (λ n. spec.is_refutation_node (spec.plain_refutation_node n)) nodes.now }
 {
     nodes.iter().all(|node| is_node(node))
 }
 
 /// Whether the nodes are those of a refutation in the grammar.
 pub(crate) fn is_refutation(nodes: &[RNode]) -> bool
-    ensures { result ≡ spec.is_refutation (map spec.plain nodes.now) }
+    ensures { result ≡ spec.is_refutation (map spec.plain_refutation_node nodes.now) }
 {
     are_nodes(nodes) && is_whole(nodes)
 }
@@ -264,7 +264,7 @@ fn push_parts(out: &mut Vec<u8>, parts: &[(Numeral, Numeral)]) -> Result<(), All
 
 /// Writes what stands before the parts of a node.
 fn push_head(out: &mut Vec<u8>, node: &RNode) -> Result<(), AllocError>
-    ensures { OnOk result (out.new.items ≡ out.old.items ++ spec.head (spec.plain node.now)) }
+    ensures { OnOk result (out.new.items ≡ out.old.items ++ spec.refutation_head (spec.plain_refutation_node node.now)) }
 {
     match node {
         RNode::Leaf(parts) => {
@@ -283,8 +283,8 @@ fn push_head(out: &mut Vec<u8>, node: &RNode) -> Result<(), AllocError>
 
 /// Writes a refutation, with a space before it.
 pub(crate) fn push_refutation(out: &mut Vec<u8>, nodes: &[RNode]) -> Result<(), AllocError>
-    requires { IsTrue (is_tree spec.parts (map spec.plain nodes.now)) }
-    ensures { OnOk result (out.new.items ≡ out.old.items ++ spec.refutation_text (map spec.plain nodes.now)) }
+    requires { IsTrue (is_tree spec.refutation_parts (map spec.plain_refutation_node nodes.now)) }
+    ensures { OnOk result (out.new.items ≡ out.old.items ++ spec.refutation_text (map spec.plain_refutation_node nodes.now)) }
 {
     let mut outer = Vec::new(*out.allocator());
     let mut left = 1;

@@ -18,13 +18,13 @@ use Rattle.letter_acts.specs.Frames.{Columns}
 use Rattle.proof_form.specs.declared.numerals.Numeral.{Numeral}
 use Rattle.proof_form.specs.NumberValues.{number}
 use Rattle.proof_form.specs.Names.{is_column}
-use Rattle.proof_form.specs.Numerals.{is_numeral, is_zero, has_one_spelling}
+use Rattle.proof_form.specs.Numerals.{is_numeral, is_zero_text, has_one_spelling}
 use Rattle.proof_form.specs.Predicates.{is_term}
 use Rattle.proof_form.proofs.RunLaws.{both_hold}
-use Rattle.proof_names.specs.Numbers.{number_in, below, signed}
+use Rattle.proof_names.specs.Numbers.{number_in, if_below, signed}
 use Rattle.proof_names.specs.Options.{both, all_some}
 use Rattle.proof_names.specs.Columns.{column_named}
-use Rattle.proof_names.specs.Predicates.{term_named, ascend, if_there, row_named}
+use Rattle.proof_names.specs.Predicates.{term_named, terms_ascend, if_there, row_named}
 use Rattle.proof_names.proofs.AllLaws.{front_of}
 
 -- ---- numbers
@@ -48,7 +48,7 @@ below_is_below limit n m false t e = absurd (cc)
 -- a numeral's number fits where it is found
 pub number_fits : (n : Numeral) (z : ℤ) → number_in n ≡ Some z → Fits z
 number_fits n z e =
-    signed_of n (below (2 ^ 127) (number n.digits)) z (λ m h. below_is_below (2 ^ 127) (number n.digits) m (nat_lt (number n.digits) (2 ^ 127)) refl h) e
+    signed_of n (if_below (2 ^ 127) (number n.digits)) z (λ m h. below_is_below (2 ^ 127) (number n.digits) m (nat_lt (number n.digits) (2 ^ 127)) refl h) e
 
 digit_at_least : (d : ℕ) → is_digit d ≡ true → 48 ≤ d
 digit_at_least d h = leb-true 48 d (both_hold (nat_le 48 d) (nat_le d 57) h).0
@@ -71,7 +71,7 @@ above_zero_digit d h n =
     not_both false e n = false≢true e
 
 -- digits that are not those of 0 write a positive number
-positive_digits : (negative : Bool) (ds : List ℕ) → list_all is_digit ds ≡ true → has_one_spelling negative ds ≡ true → not (is_zero ds) ≡ true → 0 < number ds
+positive_digits : (negative : Bool) (ds : List ℕ) → list_all is_digit ds ≡ true → has_one_spelling negative ds ≡ true → not (is_zero_text ds) ≡ true → 0 < number ds
 positive_digits negative [] a s z = absurd (false≢true s)
 positive_digits negative (d ∷ []) a s z =
     let b = both_hold (is_digit d) true a in
@@ -105,8 +105,8 @@ both_of (Some x) (Some y) t e = let k : (x, y) ≡ t = cc in record { first = ap
 term_is : (frame : Columns) (t : Numeral × List ℕ) (u : ℕ × ℤ) → is_term t ≡ true → term_named frame t ≡ Some u → IsCoefficient u
 term_is frame t u g e =
     let b = both_of (column_named frame t.1) (number_in t.0) u e in
-    let i = both_hold (is_numeral t.0) (not (is_zero t.0.digits) && is_column t.1) g in
-    let j = both_hold (not (is_zero t.0.digits)) (is_column t.1) i.1 in
+    let i = both_hold (is_numeral t.0) (not (is_zero_text t.0.digits) && is_column t.1) g in
+    let j = both_hold (not (is_zero_text t.0.digits)) (is_column t.1) i.1 in
     let k = both_hold (list_all is_digit t.0.digits) (has_one_spelling t.0.negative t.0.digits) i.0 in
     record {
       is_not_zero = signed_some_not_zero t.0 (number t.0.digits) (nat_lt (number t.0.digits) (2 ^ 127)) u.1 (positive_digits t.0.negative t.0.digits k.0 k.1 j.0) b.second;
@@ -124,30 +124,30 @@ terms_are frame (t ∷ terms) ts g e =
 
 -- ---- order
 
-ascends_from : (low : ℕ) (t : ℕ × ℤ) (ts : List (ℕ × ℤ)) → low ≤ t.0 → ascend (t ∷ ts) ≡ true → AscendsFrom low (t ∷ ts)
+ascends_from : (low : ℕ) (t : ℕ × ℤ) (ts : List (ℕ × ℤ)) → low ≤ t.0 → terms_ascend (t ∷ ts) ≡ true → AscendsFrom low (t ∷ ts)
 ascends_from low t [] l e = (l, tt)
 ascends_from low t (u ∷ us) l e =
-    let b = both_hold (nat_lt t.0 u.0) (ascend (u ∷ us)) e in
+    let b = both_hold (nat_lt t.0 u.0) (terms_ascend (u ∷ us)) e in
     (l, ascends_from (t.0 + 1) u us (let k = ltb-true t.0 u.0 b.0 in omega (arith, k)) b.1)
 
-ascending : (ts : List (ℕ × ℤ)) → ascend ts ≡ true → AscendsFrom 0 ts
+ascending : (ts : List (ℕ × ℤ)) → terms_ascend ts ≡ true → AscendsFrom 0 ts
 ascending [] e = tt
 ascending (t ∷ ts) e = ascends_from 0 t ts (omega arith) e
 
-few_ascend : (ts : List (ℕ × ℤ)) (k : ℕ) → length ts ≤ suc k → ascend (drop k ts) ≡ true
-few_ascend [] k l = ap ascend (drop_all k [] (omega arith))
+few_ascend : (ts : List (ℕ × ℤ)) (k : ℕ) → length ts ≤ suc k → terms_ascend (drop k ts) ≡ true
+few_ascend [] k l = ap terms_ascend (drop_all k [] (omega arith))
 few_ascend (t ∷ []) zero l = refl
 few_ascend (t ∷ u ∷ us) zero l = absurd (omega arith)
 few_ascend (t ∷ ts) (suc k) l = few_ascend ts k (omega arith)
 
-pub ascends_end : (ts : List (ℕ × ℤ)) (i : ℕ) → ascend ts ≡ ascend (drop (i - 1) ts) → 1 ≤ i → length ts ≤ i → true ≡ ascend ts
+pub ascends_end : (ts : List (ℕ × ℤ)) (i : ℕ) → terms_ascend ts ≡ terms_ascend (drop (i - 1) ts) → 1 ≤ i → length ts ≤ i → true ≡ terms_ascend ts
 ascends_end ts zero h o l = absurd (omega arith)
-ascends_end ts (suc k) h o l = let e : suc k - 1 ≡ k = omega arith in sym (h ∙ ap (λ (j : ℕ). ascend (drop j ts)) e ∙ few_ascend ts k l)
+ascends_end ts (suc k) h o l = let e : suc k - 1 ≡ k = omega arith in sym (h ∙ ap (λ (j : ℕ). terms_ascend (drop j ts)) e ∙ few_ascend ts k l)
 
 -- ---- the row
 
 -- terms in order, none of them 0, are added up to themselves
-pub row_is : (ts : List (ℕ × ℤ)) (bound : ℤ) → ascend ts ≡ true → AllByRecursion IsCoefficient ts →
+pub row_is : (ts : List (ℕ × ℤ)) (bound : ℤ) → terms_ascend ts ≡ true → AllByRecursion IsCoefficient ts →
     ◌≡◌ {A = LinearRow} (row_of ts Le bound) (record { terms = ts; kind = Le; bound = bound })
 row_is ts bound a c =
     let t : ts ≡ summed ts = terms_are_summed ts ts (record { ascends = ascending ts a; coefficients = c }) (λ k. refl) in
@@ -176,7 +176,7 @@ first_fit (suc n) [] h = tt
 first_fit (suc n) (t ∷ ts) h = (h.0, first_fit n ts h.1)
 
 -- and all their sums fit
-pub sums_fit : (ts : List (ℕ × ℤ)) (bound : ℤ) → ascend ts ≡ true → AllByRecursion IsCoefficient ts → Fits bound → SumsFit ts bound
+pub sums_fit : (ts : List (ℕ × ℤ)) (bound : ℤ) → terms_ascend ts ≡ true → AllByRecursion IsCoefficient ts → Fits bound → SumsFit ts bound
 sums_fit ts bound a c b = record {
   each = each_fits ts c;
   sums = λ k n. column_fits 0 k (take n ts) (first_ascend 0 n ts (ascending ts a)) (first_fit n ts (each_fits ts c));
@@ -187,7 +187,7 @@ sums_fit ts bound a c b = record {
 
 -- the row of the terms and the bound that were found
 pub row_named_is : (frame : Columns) (bound : Numeral) (terms : List (Numeral × List ℕ)) (ts : List (ℕ × ℤ)) (b : ℤ) (row : LinearRow) → list_all is_term terms ≡ true →
-    Some ts ≡ all_some (map (term_named frame) terms) → Some b ≡ number_in bound → ascend ts ≡ true → row ≡ row_of ts Le b → Some row ≡ row_named frame bound terms
+    Some ts ≡ all_some (map (term_named frame) terms) → Some b ≡ number_in bound → terms_ascend ts ≡ true → row ≡ row_of ts Le b → Some row ≡ row_named frame bound terms
 row_named_is frame bound terms ts b row g e n a r =
     let k = row_is ts b a (terms_are frame terms ts g (sym e)) in
     ap Some (r ∙ k) ∙ ap (λ (x : Bool). if x then Some (record { terms = ts; kind = Le; bound = b }) else None) (sym a) ∙
@@ -195,5 +195,5 @@ row_named_is frame bound terms ts b row g e n a r =
 
 -- it has no number that does not fit
 pub row_fits : (frame : Columns) (bound : Numeral) (terms : List (Numeral × List ℕ)) (ts : List (ℕ × ℤ)) (b : ℤ) → list_all is_term terms ≡ true →
-    Some ts ≡ all_some (map (term_named frame) terms) → Some b ≡ number_in bound → ascend ts ≡ true → SumsFit ts b
+    Some ts ≡ all_some (map (term_named frame) terms) → Some b ≡ number_in bound → terms_ascend ts ≡ true → SumsFit ts b
 row_fits frame bound terms ts b g e n a = sums_fit ts b a (terms_are frame terms ts g (sym e)) (number_fits bound b (sym n))

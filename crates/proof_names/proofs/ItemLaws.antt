@@ -13,7 +13,7 @@ use Rattle.proof_names.specs.declared.outlines.NamedStep.{NamedStep}
 use Rattle.proof_names.specs.Pairs.{ArePaired, IsAt}
 use Rattle.proof_names.specs.Predicates.{pred_named}
 use Rattle.proof_names.specs.Naming.{NamesTriple, NamesNode, NamesStep}
-use Rattle.proof_names.specs.Outlines.{Node, Sketch}
+use Rattle.proof_names.specs.Outlines.{OutlineNode, Sketch}
 use Rattle.proof_names.specs.Items.{pred_at, place_at, first_triple, first_node, first_step, IsNamed, IsFirstUnnamed, Names}
 
 -- ---- the stages
@@ -24,7 +24,7 @@ PredsIn g k line s = pred_named g line ≡ Some s
 abbrev pub TriplesIn : Graph → Content → ℕ → form.Triple → NamedTriple → Type 0
 TriplesIn g a k line t = NamesTriple g (pred_at g a) line t
 
-abbrev pub NodesIn : Graph → Content → ℕ → form.Node → Node → Type 0
+abbrev pub NodesIn : Graph → Content → ℕ → form.Node → OutlineNode → Type 0
 NodesIn g a n line x = NamesNode g (pred_at g a) a.nodes n line x
 
 abbrev pub StepsIn : Graph → Content → ℕ → StepLine → NamedStep → Type 0
@@ -67,7 +67,7 @@ in_triples g a i j e l h = record {
 }
 
 in_nodes : (g : Graph) (a : Content) (i j : ℕ) → i ≡ first_node a + j → j < length a.nodes →
-    ((line : form.Node) → slice_get a.nodes j ≡ Some line → (x : Node) × NodesIn g a j line x) → IsNamed g a i
+    ((line : form.Node) → slice_get a.nodes j ≡ Some line → (x : OutlineNode) × NodesIn g a j line x) → IsNamed g a i
 in_nodes g a i j e l h = record {
   preds = λ line s. absurd (let w = within a.preds i line s in omega (arith, e, w));
   triples = λ k line f s. absurd (let w = within a.triples k line s in omega (arith, e, f, w));

@@ -8,7 +8,7 @@ use Rattle.triple_rows.specs.declared.triples.Scoped.{Scoped}
 use Rattle.proof_form.specs.Lines as form
 use Rattle.proof_names.specs.Numbers.{index_in, short_in}
 use Rattle.proof_names.specs.Options.{all_some}
-use Rattle.proof_names.specs.Outlines.{Node}
+use Rattle.proof_names.specs.Outlines.{OutlineNode}
 use Rattle.proof_names.specs.Naming.{IsPredOf, IsEntryIn, MayBegin, NamesNode}
 
 same_value : {X : Type 0} (o : Option X) (x y : X) → Some x ≡ o → o ≡ Some y → x ≡ y
@@ -18,12 +18,12 @@ pub no_value : {X : Type 0} (o : Option X) (x : X) → None ≡ o → o ≡ Some
 no_value o x e f = let k : None ≡ Some x = e ∙ f in absurd (cc)
 
 pub no_preds : (g : Graph) (preds : ℕ → Option Scoped) (lines : List form.Node) (n : ℕ) (line : form.Node) → None ≡ all_some (map index_in line.preds) →
-    (x : Node) → NamesNode g preds lines n line x → ⊥
+    (x : OutlineNode) → NamesNode g preds lines n line x → ⊥
 no_preds g preds lines n line e x h = no_value (all_some (map index_in line.preds)) x.preds e h.preds_are
 
 pub named_preds : (g : Graph) (preds : ℕ → Option Scoped) (lines : List form.Node) (n : ℕ) (line : form.Node) (place p : ℕ) (numbers : List ℕ) →
     Some place ≡ short_in line.place → Some p ≡ slice_get g.place_procs place → Some numbers ≡ all_some (map index_in line.preds) →
-    (x : Node) → NamesNode g preds lines n line x → AllByRecursion (IsPredOf preds p) numbers
+    (x : OutlineNode) → NamesNode g preds lines n line x → AllByRecursion (IsPredOf preds p) numbers
 named_preds g preds lines n line place p numbers e f k x h =
     let a : place ≡ x.place = same_value (short_in line.place) place x.place e h.place in
     let b : p ≡ h.proc = same_value (slice_get g.place_procs place) p h.proc f (ap (slice_get g.place_procs) a ∙ h.exists) in
@@ -32,7 +32,7 @@ named_preds g preds lines n line place p numbers e f k x h =
 
 pub named_entry : (g : Graph) (preds : ℕ → Option Scoped) (lines : List form.Node) (n : ℕ) (line : form.Node) (place p entry : ℕ) →
     Some place ≡ short_in line.place → Some p ≡ slice_get g.place_procs place → Some entry ≡ index_in line.entry →
-    (x : Node) → NamesNode g preds lines n line x → IsEntryIn g p lines entry × (entry ≡ n → MayBegin g p place)
+    (x : OutlineNode) → NamesNode g preds lines n line x → IsEntryIn g p lines entry × (entry ≡ n → MayBegin g p place)
 named_entry g preds lines n line place p entry e f k x h =
     let a : place ≡ x.place = same_value (short_in line.place) place x.place e h.place in
     let b : p ≡ h.proc = same_value (slice_get g.place_procs place) p h.proc f (ap (slice_get g.place_procs) a ∙ h.exists) in

@@ -6,7 +6,7 @@ use Rattle.std.proofs.lemmas.List.{drop_more}
 use Rattle.std.proofs.lemmas.Bool.{ltb-false}
 use Rattle.std.proofs.lemmas.Bool.Decides.{nat_tests}
 use Rattle.proof_form.specs.NumberValues.{number}
-use Rattle.proof_names.specs.Numbers.{with_digit, below}
+use Rattle.proof_names.specs.Numbers.{with_digit, if_below}
 
 -- the number of the first digits, in front of the others, is that of all
 pub record Reads (digits : List ℕ) (i v : ℕ) : Type 0 where
@@ -40,37 +40,37 @@ reads_least digits i v h =
     let w = h.whole in
     omega arith
 
-pub below_not : (limit n : ℕ) → limit ≤ n → below limit n ≡ None
+pub below_not : (limit n : ℕ) → limit ≤ n → if_below limit n ≡ None
 below_not limit n h = grind (arith, nat_tests)
 
 below_test : (limit n m : ℕ) (b : Bool) → (if b then Some n else None) ≡ Some m → n ≡ m
 below_test limit n m true e = cc
 below_test limit n m false e = absurd (cc)
 
-pub below_some : (limit n m : ℕ) → below limit n ≡ Some m → n ≡ m
+pub below_some : (limit n m : ℕ) → if_below limit n ≡ Some m → n ≡ m
 below_some limit n m e = below_test limit n m (nat_lt n limit) e
 
 below_none_test : (limit n : ℕ) (b : Bool) → nat_lt n limit ≡ b → (if b then Some n else None) ≡ None → limit ≤ n
 below_none_test limit n true t e = absurd (cc)
 below_none_test limit n false t e = ltb-false n limit t
 
-pub below_none : (limit n : ℕ) → below limit n ≡ None → limit ≤ n
+pub below_none : (limit n : ℕ) → if_below limit n ≡ None → limit ≤ n
 below_none limit n e = below_none_test limit n (nat_lt n limit) refl e
 
 -- one digit more was read
-pub reads_next : (digits : List ℕ) (i v w : ℕ) → Reads digits i v → i < length digits → below (2 ^ 128) (with_digit v (get_or digits i 0)) ≡ Some w → Reads digits (i + 1) w
+pub reads_next : (digits : List ℕ) (i v w : ℕ) → Reads digits i v → i < length digits → if_below (2 ^ 128) (with_digit v (get_or digits i 0)) ≡ Some w → Reads digits (i + 1) w
 reads_next digits i v w h l e =
     let k = below_some (2 ^ 128) (with_digit v (get_or digits i 0)) w e in
     subst (λ (x : ℕ). Reads digits (i + 1) x) k (reads_on digits i v (get_or digits i 0) h l refl)
 
 -- the first digits are at least the limit
-pub over : (limit : ℕ) (digits : List ℕ) (i v w : ℕ) → Reads digits i v → i < length digits → below (2 ^ 128) (with_digit v (get_or digits i 0)) ≡ Some w → limit ≤ w →
+pub over : (limit : ℕ) (digits : List ℕ) (i v w : ℕ) → Reads digits i v → i < length digits → if_below (2 ^ 128) (with_digit v (get_or digits i 0)) ≡ Some w → limit ≤ w →
     limit ≤ number digits
 over limit digits i v w h l e m = let k = reads_least digits (i + 1) w (reads_next digits i v w h l e) in omega (arith, m, k)
 
 -- the first digits do not fit the type
 pub too_many : (limit : ℕ) (digits : List ℕ) (i v : ℕ) (o : Option ℕ) → limit ≤ 2 ^ 127 → Reads digits i v → i < length digits →
-    o ≡ below (2 ^ 128) (with_digit v (get_or digits i 0)) → o ≡ None → below limit (number digits) ≡ None
+    o ≡ if_below (2 ^ 128) (with_digit v (get_or digits i 0)) → o ≡ None → if_below limit (number digits) ≡ None
 too_many limit digits i v o f h l e n =
     let k = below_none (2 ^ 128) (with_digit v (get_or digits i 0)) (sym e ∙ n) in
     let m = reads_least digits (i + 1) (with_digit v (get_or digits i 0)) (reads_on digits i v (get_or digits i 0) h l refl) in

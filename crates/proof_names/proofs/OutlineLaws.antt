@@ -18,7 +18,7 @@ use Rattle.proof_names.specs.Numbers.{short_in}
 use Rattle.proof_names.specs.Pairs.{ArePaired, IsAt}
 use Rattle.proof_names.specs.Predicates.{pred_named}
 use Rattle.proof_names.specs.Naming.{NamesTriple, NamesNode, NamesStep}
-use Rattle.proof_names.specs.Outlines.{Node, node, named_place}
+use Rattle.proof_names.specs.Outlines.{OutlineNode, node, named_place}
 use Rattle.proof_names.specs.Items.{pred_at, place_at, first_triple, first_node, first_step, IsFirstUnnamed}
 use Rattle.proof_names.proofs.PairLaws.{same_at, map_same, got_of_map}
 use Rattle.proof_names.proofs.ItemLaws.{PredsIn, TriplesIn, NodesIn, StepsIn, all_named, stops_in_preds, stops_in_triples, stops_in_nodes, stops_in_steps}
@@ -31,15 +31,15 @@ same_preds g a ps h =
     λ k. sym (map_same (slice_get ps k)) ∙ same_at (pred_named g) (λ s. s) (PredsIn g) a.preds ps (λ j x y r. r) h k in
     λ i k. e k i
 
-place_kept : (o : Option NamedNode) → option_map (λ x. x.place) o ≡ option_map (λ (x : Node). x.place) (option_map node o)
+place_kept : (o : Option NamedNode) → option_map (λ x. x.place) o ≡ option_map (λ (x : OutlineNode). x.place) (option_map node o)
 place_kept None = refl
 place_kept (Some x) = refl
 
 pub same_places : (g : Graph) (a : Content) (nodes : List NamedNode) → ArePaired (NodesIn g a) a.nodes (map node nodes) → named_place nodes ≡ place_at a
 same_places g a nodes h =
     let e : (k : ℕ) → named_place nodes k ≡ place_at a k =
-    λ k. place_kept (slice_get nodes k) ∙ ap (option_map (λ (x : Node). x.place)) (sym (got_of_map node nodes k)) ∙
-    same_at (λ (line : form.Node). short_in line.place) (λ (x : Node). x.place) (NodesIn g a) a.nodes (map node nodes) (λ j x y r. r.place) h k in
+    λ k. place_kept (slice_get nodes k) ∙ ap (option_map (λ (x : OutlineNode). x.place)) (sym (got_of_map node nodes k)) ∙
+    same_at (λ (line : form.Node). short_in line.place) (λ (x : OutlineNode). x.place) (NodesIn g a) a.nodes (map node nodes) (λ j x y r. r.place) h k in
     λ i k. e k i
 
 -- ---- stages that end
@@ -54,7 +54,7 @@ triples_end g a ps lines ts p e h =
     subst (λ (l : List form.Triple). ArePaired (TriplesIn g a) l ts) e
     (subst (λ (f : ℕ → Option Scoped). ArePaired (λ k line t. NamesTriple g f line t) (map form.triple lines) ts) (same_preds g a ps p) h)
 
-pub nodes_end : (g : Graph) (a : Content) (ps : List Scoped) (lines : List NodeLine) (ns : List Node) → ArePaired (PredsIn g) a.preds ps → map form.node lines ≡ a.nodes →
+pub nodes_end : (g : Graph) (a : Content) (ps : List Scoped) (lines : List NodeLine) (ns : List OutlineNode) → ArePaired (PredsIn g) a.preds ps → map form.node lines ≡ a.nodes →
     ArePaired (NamesNode g (slice_get ps) (map form.node lines)) (map form.node lines) ns → ArePaired (NodesIn g a) a.nodes ns
 nodes_end g a ps lines ns p e h =
     subst (λ (l : List form.Node). ArePaired (NamesNode g (pred_at g a) l) l ns) e

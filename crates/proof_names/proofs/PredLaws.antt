@@ -23,33 +23,33 @@ use Rattle.proof_names.specs.Predicates.{node_named, scoped_of, scoped_named, pr
 use Rattle.proof_names.proofs.AllLaws.{mapped_twice}
 use Rattle.proof_names.proofs.SpelledLaws.{nodes_spell}
 
-nodes_as : (frame : Columns) (ns : List PNode) (o : Option (List PredNode)) → o ≡ all_some (map (λ n. node_named frame (form.plain n)) ns) →
-    o ≡ all_some (map (node_named frame) (map form.plain ns))
-nodes_as frame ns o e = e ∙ ap all_some (sym (mapped_twice (node_named frame) form.plain ns))
+nodes_as : (frame : Columns) (ns : List PNode) (o : Option (List PredNode)) → o ≡ all_some (map (λ n. node_named frame (form.plain_predicate_node n)) ns) →
+    o ≡ all_some (map (node_named frame) (map form.plain_predicate_node ns))
+nodes_as frame ns o e = e ∙ ap all_some (sym (mapped_twice (node_named frame) form.plain_predicate_node ns))
 
 pub named_as : (g : Graph) (line : PredLine) (p : ℕ) (o : Option (List PredNode)) → Some p ≡ procedure_named g line.proc →
-    o ≡ all_some (map (λ n. node_named (frame_of (alphabet_of g) p) (form.plain n)) line.nodes.items) → option_map (scoped_of p) o ≡ pred_named g (lines.pred line)
+    o ≡ all_some (map (λ n. node_named (frame_of (alphabet_of g) p) (form.plain_predicate_node n)) line.nodes.items) → option_map (scoped_of p) o ≡ pred_named g (lines.pred line)
 named_as g line p o h e =
-    ap (option_map (scoped_of p)) (nodes_as (frame_of (alphabet_of g) p) line.nodes.items o e) ∙ ap (scoped_named g (map form.plain line.nodes.items)) h
+    ap (option_map (scoped_of p)) (nodes_as (frame_of (alphabet_of g) p) line.nodes.items o e) ∙ ap (scoped_named g (map form.plain_predicate_node line.nodes.items)) h
 
 pub line_spells : (g : Graph) (line : PredLine) (p : ℕ) (nodes : List PredNode) → IsTrue (lines.is_pred (lines.pred line)) →
-    Some nodes ≡ all_some (map (λ n. node_named (frame_of (alphabet_of g) p) (form.plain n)) line.nodes.items) → SpellsPredicate nodes
+    Some nodes ≡ all_some (map (λ n. node_named (frame_of (alphabet_of g) p) (form.plain_predicate_node n)) line.nodes.items) → SpellsPredicate nodes
 line_spells g line p nodes h e =
-    let b = both_hold (is_spelled line.proc) (form.is_predicate (map form.plain line.nodes.items)) h in
-    nodes_spell (frame_of (alphabet_of g) p) (map form.plain line.nodes.items) nodes b.1 (sym (nodes_as (frame_of (alphabet_of g) p) line.nodes.items (Some nodes) e))
+    let b = both_hold (is_spelled line.proc) (form.is_predicate (map form.plain_predicate_node line.nodes.items)) h in
+    nodes_spell (frame_of (alphabet_of g) p) (map form.plain_predicate_node line.nodes.items) nodes b.1 (sym (nodes_as (frame_of (alphabet_of g) p) line.nodes.items (Some nodes) e))
 
-pub nodes_hold : (line : PredLine) (ns : List PNode) → IsTrue (lines.is_pred (lines.pred line)) → ns ≡ line.nodes.items → IsTrue (list_all (λ n. form.is_node (form.plain n)) ns)
+pub nodes_hold : (line : PredLine) (ns : List PNode) → IsTrue (lines.is_pred (lines.pred line)) → ns ≡ line.nodes.items → IsTrue (list_all (λ n. form.is_predicate_node (form.plain_predicate_node n)) ns)
 nodes_hold line ns h e =
-    let b = both_hold (is_spelled line.proc) (form.is_predicate (map form.plain line.nodes.items)) h in
-    let d = both_hold (list_all form.is_node (map form.plain line.nodes.items))
-    (is_tree form.parts (map form.plain line.nodes.items) && form.are_low (map form.plain line.nodes.items)) b.1 in
-    ap (list_all (λ n. form.is_node (form.plain n))) e ∙ sym (list_all-map form.is_node form.plain line.nodes.items) ∙ d.0
+    let b = both_hold (is_spelled line.proc) (form.is_predicate (map form.plain_predicate_node line.nodes.items)) h in
+    let d = both_hold (list_all form.is_predicate_node (map form.plain_predicate_node line.nodes.items))
+    (is_tree form.parts (map form.plain_predicate_node line.nodes.items) && form.are_low (map form.plain_predicate_node line.nodes.items)) b.1 in
+    ap (list_all (λ n. form.is_predicate_node (form.plain_predicate_node n))) e ∙ sym (list_all-map form.is_predicate_node form.plain_predicate_node line.nodes.items) ∙ d.0
 
 -- the nodes that were found over the columns and the nodes of the line
 pub columns_are : {frame given : Columns} {ns items : List PNode} {o : Option (List PredNode)} → frame ≡ given → ns ≡ items →
-    o ≡ all_some (map (λ n. node_named frame (form.plain n)) ns) → o ≡ all_some (map (λ n. node_named given (form.plain n)) items)
+    o ≡ all_some (map (λ n. node_named frame (form.plain_predicate_node n)) ns) → o ≡ all_some (map (λ n. node_named given (form.plain_predicate_node n)) items)
 columns_are {frame} {given} {ns} {items} {o} e f h =
-    h ∙ ap (λ (c : Columns). all_some (map (λ n. node_named c (form.plain n)) ns)) e ∙ ap (λ (l : List PNode). all_some (map (λ n. node_named given (form.plain n)) l)) f
+    h ∙ ap (λ (c : Columns). all_some (map (λ n. node_named c (form.plain_predicate_node n)) ns)) e ∙ ap (λ (l : List PNode). all_some (map (λ n. node_named given (form.plain_predicate_node n)) l)) f
 
 pub truth_spells : (b : Bool) → SpellsPredicate (Truth b ∷ [])
 truth_spells b = (truth b, refl, inl tt)

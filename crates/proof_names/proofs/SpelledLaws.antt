@@ -19,7 +19,7 @@ use Rattle.triple_rows.specs.Predicates.{Formula, Formulas, formula_count, IsTre
 use Rattle.proof_form.specs.declared.numerals.Numeral.{Numeral}
 use Rattle.proof_form.specs.Trees.{is_tree}
 use Rattle.proof_form.specs.Forests.{Tree, Forest, tree, no_tree, one_more, size, HasParts, HaveParts, prefix_of, prefixes_of}
-use Rattle.proof_form.specs.Predicates.{PredicateNode, atom, and_of, or_of, parts, is_term, is_node, highest, height_of, with_height, heights, are_low, is_predicate}
+use Rattle.proof_form.specs.Predicates.{PredicateNode, atom, and_of, or_of, parts, is_term, is_predicate_node, highest, height_of, with_height, heights, are_low, is_predicate}
 use Rattle.proof_form.specs.Refutations.{is_some_list}
 use Rattle.proof_form.specs.Lines as form
 use Rattle.proof_form.specs.Numerals.{is_numeral}
@@ -28,7 +28,7 @@ use Rattle.proof_form.proofs.ForestLaws.{whole_is_tree}
 use Rattle.proof_names.specs.Numbers.{number_in}
 use Rattle.proof_names.specs.Options.{both, all_some}
 use Rattle.proof_names.specs.Columns.{procedure_named}
-use Rattle.proof_names.specs.Predicates.{term_named, ascend, if_there, row_named, node_named, scoped_of, scoped_named, pred_named}
+use Rattle.proof_names.specs.Predicates.{term_named, terms_ascend, if_there, row_named, node_named, scoped_of, scoped_named, pred_named}
 use Rattle.proof_names.proofs.AllLaws.{front_of, parted}
 
 -- ---- heights
@@ -93,7 +93,7 @@ row_is_atom : (ts : Option (List (ℕ × ℤ))) (b : Option ℤ) (row : LinearRo
 row_is_atom None b row h e = absurd (cc)
 row_is_atom (Some ts) None row h e = absurd (cc)
 row_is_atom (Some ts) (Some b) row h e =
-    let k = in_order (ts, b) (ascend ts) row e in
+    let k = in_order (ts, b) (terms_ascend ts) row e in
     record { inequality = k.0; has_term = λ n. h ts refl (sym k.1 ∙ n) }
 
 record IsAtomOf (m : PredNode) : Type 0 where
@@ -128,7 +128,7 @@ all_of_append f (x ∷ xs) ys h =
     let r = all_of_append f xs ys b.1 in
     (rw (b.0, r.0) refl, r.1)
 
-node_grown : (frame : Columns) (n : PredicateNode) (ts : Forest PredicateNode) (m : PredNode) (ms : List PredNode) → parts n ≡ size ts → is_node n ≡ true →
+node_grown : (frame : Columns) (n : PredicateNode) (ts : Forest PredicateNode) (m : PredNode) (ms : List PredNode) → parts n ≡ size ts → is_predicate_node n ≡ true →
     node_named frame n ≡ Some m → AllGrown ts ms → Grown (tree n ts) (m ∷ ms)
 node_grown frame (atom bound terms) ts m ms p g e a =
     let i = both_hold (is_numeral bound) (is_some_list terms && list_all is_term terms) g in
@@ -172,20 +172,20 @@ node_grown frame (or_of k) ts m ms p g e a =
     }
 
 mutual
-  tree_grown : (frame : Columns) (t : Tree PredicateNode) (ms : List PredNode) → HasParts parts t → list_all is_node (prefix_of t) ≡ true →
+  tree_grown : (frame : Columns) (t : Tree PredicateNode) (ms : List PredNode) → HasParts parts t → list_all is_predicate_node (prefix_of t) ≡ true →
       all_some (map (node_named frame) (prefix_of t)) ≡ Some ms → Grown t ms
   tree_grown frame (tree n ts) ms h g e =
       let f = front_of (node_named frame n) (all_some (map (node_named frame) (prefixes_of ts))) ms e in
-      let b = both_hold (is_node n) (list_all is_node (prefixes_of ts)) g in
+      let b = both_hold (is_predicate_node n) (list_all is_predicate_node (prefixes_of ts)) g in
       let w = node_grown frame n ts f.first f.rest h.0 b.0 f.is (forest_grown frame ts f.rest h.1 b.1 f.others) in
       record { formula = w.formula; spelled = w.spelled ∙ sym f.joined; is_tree = w.is_tree; nested = w.nested }
 
-  forest_grown : (frame : Columns) (ts : Forest PredicateNode) (ms : List PredNode) → HaveParts parts ts → list_all is_node (prefixes_of ts) ≡ true →
+  forest_grown : (frame : Columns) (ts : Forest PredicateNode) (ms : List PredNode) → HaveParts parts ts → list_all is_predicate_node (prefixes_of ts) ≡ true →
       all_some (map (node_named frame) (prefixes_of ts)) ≡ Some ms → AllGrown ts ms
   forest_grown frame no_tree ms h g e = record { formulas = preds.no_formula; spelled = cc; counted = refl; are_trees = tt; nested = refl }
   forest_grown frame (one_more t ts) ms h g e =
       let p = parted (node_named frame) (prefix_of t) (prefixes_of ts) ms e in
-      let b = all_of_append is_node (prefix_of t) (prefixes_of ts) g in
+      let b = all_of_append is_predicate_node (prefix_of t) (prefixes_of ts) g in
       let one = tree_grown frame t p.front h.0 b.0 p.first in
       let all = forest_grown frame ts p.rest h.1 b.1 p.others in
       record {
@@ -199,10 +199,10 @@ mutual
 -- the nodes of a predicate of the grammar, with their columns named, spell a predicate
 pub nodes_spell : (frame : Columns) (ns : List PredicateNode) (ms : List PredNode) → IsTrue (is_predicate ns) → all_some (map (node_named frame) ns) ≡ Some ms → SpellsPredicate ms
 nodes_spell frame ns ms g e =
-    let b = both_hold (list_all is_node ns) (is_tree parts ns && are_low ns) g in
+    let b = both_hold (list_all is_predicate_node ns) (is_tree parts ns && are_low ns) g in
     let c = both_hold (is_tree parts ns) (are_low ns) b.1 in
     let t = whole_is_tree parts ns c.0 in
-    let w = tree_grown frame t.0 ms t.1 (subst (λ l. list_all is_node l ≡ true) (sym t.2) b.0) (subst (λ l. all_some (map (node_named frame) l) ≡ Some ms) (sym t.2) e) in
+    let w = tree_grown frame t.0 ms t.1 (subst (λ l. list_all is_predicate_node l ≡ true) (sym t.2) b.0) (subst (λ l. all_some (map (node_named frame) l) ≡ Some ms) (sym t.2) e) in
     let low = low_tree t.0 t.1 (subst (λ l. are_low l ≡ true) (sym t.2) c.1) in
     let n = w.nested in
     (w.formula, w.spelled, inr (w.is_tree, omega (arith, n, low)))

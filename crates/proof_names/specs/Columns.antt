@@ -6,7 +6,7 @@ use Rattle.boogie_tree.specs.declared.tree.Column.TheVariants.{Global, Old, Loca
 use Rattle.boogie_tree.specs.declared.tree.VarInfo.{VarInfo}
 use Rattle.letter_acts.specs.Frames.{Columns}
 use Rattle.letter_acts.specs.Invariant.{Graph}
-use Rattle.proof_names.specs.Numbers.{below}
+use Rattle.proof_names.specs.Numbers.{if_below}
 
 -- what stands before the name of a column: `g:` of a constant or global, `o:` of an old value, `l:` of a local
 abbrev pub mark : Column → List ℕ
@@ -20,17 +20,17 @@ column_text c = mark c.0 ++ c.1.name
 
 -- the column of the frame that the text names; columns have numbers of 32 bits
 abbrev pub column_named : Columns → List ℕ → Option ℕ
-column_named frame text = option_and_then (below (2 ^ 32)) (position (λ c. bytes_eq (column_text c) text) frame)
+column_named frame text = option_and_then (if_below (2 ^ 32)) (position (λ c. bytes_eq (column_text c) text) frame)
 
 -- the procedure has a place where its body begins
-abbrev pub has_entry : Option (Option ℕ) → Bool
-has_entry None = false
-has_entry (Some None) = false
-has_entry (Some (Some place)) = true
+abbrev pub is_some_entry : Option (Option ℕ) → Bool
+is_some_entry None = false
+is_some_entry (Some None) = false
+is_some_entry (Some (Some place)) = true
 
 -- the procedure, if it has a body
 abbrev pub with_body : List (Option ℕ) → ℕ → Option ℕ
-with_body entries p = if has_entry (slice_get entries p) then below (2 ^ 32) p else None
+with_body entries p = if is_some_entry (slice_get entries p) then if_below (2 ^ 32) p else None
 
 -- the procedure that the text names, if it has a body; procedures have numbers of 32 bits
 abbrev pub procedure_named : Graph → List ℕ → Option ℕ

@@ -12,7 +12,7 @@ use Rattle.proof_names.specs.Numbers.{short_in}
 use Rattle.proof_names.specs.Pairs.{ArePaired}
 use Rattle.proof_names.specs.Predicates.{pred_named}
 use Rattle.proof_names.specs.Naming.{NamesTriple, NamesNode, NamesStep}
-use Rattle.proof_names.specs.Outlines.{Node, Sketch}
+use Rattle.proof_names.specs.Outlines.{OutlineNode, Sketch}
 
 -- the predicate that line k of the predicates names
 abbrev pub pred_at : Graph → Content → ℕ → Option Scoped
@@ -45,7 +45,7 @@ pub record IsNamed (g : Graph) (a : Content) (i : ℕ) : Type 0 where
   pub triples : (k : ℕ) (line : form.Triple) → i ≡ first_triple a + k → slice_get a.triples k ≡ Some line →
       (t : NamedTriple) × NamesTriple g (pred_at g a) line t
   pub nodes : (n : ℕ) (line : form.Node) → i ≡ first_node a + n → slice_get a.nodes n ≡ Some line →
-      (x : Node) × NamesNode g (pred_at g a) a.nodes n line x
+      (x : OutlineNode) × NamesNode g (pred_at g a) a.nodes n line x
   pub steps : (k : ℕ) (line : StepLine) → i ≡ first_step a + k → slice_get a.steps k ≡ Some line →
       (s : NamedStep) × NamesStep g (place_at a) line s
 

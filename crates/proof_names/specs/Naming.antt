@@ -21,8 +21,8 @@ use Rattle.proof_names.specs.declared.outlines.NamedStep.{NamedStep}
 use Rattle.proof_names.specs.declared.outlines.NamedStep.TheVariants as steps
 use Rattle.proof_names.specs.Numbers.{index_in, short_in}
 use Rattle.proof_names.specs.Options.{both, all_some}
-use Rattle.proof_names.specs.Refutations.{is_named, refutation_of}
-use Rattle.proof_names.specs.Outlines.{Node}
+use Rattle.proof_names.specs.Refutations.{refutation_is_named, refutation_of}
+use Rattle.proof_names.specs.Outlines.{OutlineNode}
 
 -- ---- predicates by number
 
@@ -105,7 +105,7 @@ pub record NamesTriple (g : Graph) (preds : ℕ → Option Scoped) (line : form.
   pub numbers : listed_of line ≡ Some t.listed
   pub triple : triple_at g.acts preds t.listed ≡ Some t.triple
   pub agrees : Agrees (alphabet_of g) t.triple
-  pub named : IsTrue (is_named (width (alphabet_of g) (slice_get g.acts (letter_in t.listed))) (proof_in line))
+  pub named : IsTrue (refutation_is_named (width (alphabet_of g) (slice_get g.acts (letter_in t.listed))) (proof_in line))
   pub proof : t.proof ≡ refutation_of (proof_in line)
 
 -- ---- nodes
@@ -129,7 +129,7 @@ MayBegin g p place = (place ≡ 0) ⊎ (slice_get g.entries p ≡ Some (Some pla
 
 -- Line n of the nodes names a node: its place exists, its predicates exist and are of the procedure of the place, its entry
 -- node is one, of the same procedure, and if it is an entry node itself, its place is 0 or an entry place.
-pub record NamesNode (g : Graph) (preds : ℕ → Option Scoped) (lines : List form.Node) (n : ℕ) (line : form.Node) (x : Node) : Type 0 where
+pub record NamesNode (g : Graph) (preds : ℕ → Option Scoped) (lines : List form.Node) (n : ℕ) (line : form.Node) (x : OutlineNode) : Type 0 where
   pub proc : ℕ
   pub place : short_in line.place ≡ Some x.place
   pub exists : IsPlaceOf g.place_procs proc x.place

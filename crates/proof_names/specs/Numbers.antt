@@ -9,12 +9,12 @@ abbrev pub with_digit : ℕ → ℕ → ℕ
 with_digit n digit = n * 10 + (digit - 48)
 
 -- the number, if it is below the limit
-abbrev pub below : ℕ → ℕ → Option ℕ
-below limit n = if nat_lt n limit then Some n else None
+abbrev pub if_below : ℕ → ℕ → Option ℕ
+if_below limit n = if nat_lt n limit then Some n else None
 
 -- the number of a numeral that is not negative, if it is below the limit
 abbrev pub count_in : ℕ → Numeral → Option ℕ
-count_in limit n = if n.negative then None else below limit (number n.digits)
+count_in limit n = if n.negative then None else if_below limit (number n.digits)
 
 -- a number by which a member of a list is named: no list has 2^64 members
 abbrev pub index_in : Numeral → Option ℕ
@@ -30,4 +30,4 @@ signed n m = if n.negative then neg_ℤ (pos m) else pos m
 
 -- the number of a numeral, if it fits: its magnitude is below 2^127
 abbrev pub number_in : Numeral → Option ℤ
-number_in n = option_map (signed n) (below (2 ^ 127) (number n.digits))
+number_in n = option_map (signed n) (if_below (2 ^ 127) (number n.digits))

@@ -7,12 +7,12 @@ use Rattle.proof_names.specs.declared.outlines.NamedStep.{NamedStep}
 use Rattle.proof_names.specs.declared.outlines.Outline.{Outline}
 
 -- a node: its place, its entry node, and its predicates
-pub record Node : Type 0 where
+pub record OutlineNode : Type 0 where
   pub place : ℕ
   pub entry : ℕ
   pub preds : List ℕ
 
-abbrev pub node : NamedNode → Node
+abbrev pub node : NamedNode → OutlineNode
 node n = record { place = n.place; entry = n.entry; preds = n.preds.items }
 
 -- the place of the node with this number
@@ -22,7 +22,7 @@ named_place nodes n = option_map (λ x. x.place) (slice_get nodes n)
 -- what all lines name
 pub record Sketch : Type 0 where
   pub triples : List NamedTriple
-  pub nodes : List Node
+  pub nodes : List OutlineNode
   pub steps : List NamedStep
 
 abbrev pub sketch : Outline → Sketch

@@ -21,14 +21,14 @@ abbrev pub term_named : Columns → (Numeral × List ℕ) → Option (ℕ × ℤ
 term_named frame t = both (column_named frame t.1) (number_in t.0)
 
 -- each column stands before the next in the frame
-abbrev pub ascend : List (ℕ × ℤ) → Bool
-ascend [] = true
-ascend (t ∷ []) = true
-ascend (t ∷ (u ∷ us)) = nat_lt t.0 u.0 && ascend (u ∷ us)
+abbrev pub terms_ascend : List (ℕ × ℤ) → Bool
+terms_ascend [] = true
+terms_ascend (t ∷ []) = true
+terms_ascend (t ∷ (u ∷ us)) = nat_lt t.0 u.0 && terms_ascend (u ∷ us)
 
 -- the inequality with these terms, if they are in the order of the frame
 abbrev pub row_in_order : (List (ℕ × ℤ) × ℤ) → Option LinearRow
-row_in_order r = if ascend r.0 then Some (record { terms = r.0; kind = Le; bound = r.1 }) else None
+row_in_order r = if terms_ascend r.0 then Some (record { terms = r.0; kind = Le; bound = r.1 }) else None
 
 abbrev pub if_there : Option (List (ℕ × ℤ) × ℤ) → Option LinearRow
 if_there None = None

@@ -23,19 +23,19 @@ node_is_named columns (leaf parts) = list_all part_fits parts
 node_is_named columns (cut c k) = is_below columns (index_in c) && is_some (number_in k)
 node_is_named columns (cases n) = true
 
-abbrev pub is_named : ℕ → List RefutationNode → Bool
-is_named columns nodes = list_all (node_is_named columns) nodes
+abbrev pub refutation_is_named : ℕ → List RefutationNode → Bool
+refutation_is_named columns nodes = list_all (node_is_named columns) nodes
 
 -- a part of a leaf; none where its row is negative or has no number of 32 bits
-abbrev pub part_of : (Numeral × Numeral) → Option (ℕ × ℤ)
-part_of p = both (short_in p.0) (number_in p.1)
+abbrev pub named_part : (Numeral × Numeral) → Option (ℕ × ℤ)
+named_part p = both (short_in p.0) (number_in p.1)
 
 abbrev pub cut_of : Option (ℕ × ℤ) → Option PlainNode
 cut_of None = None
 cut_of (Some c) = Some (nodes.cut c.0 c.1)
 
 abbrev pub node_of : RefutationNode → Option PlainNode
-node_of (leaf parts) = option_map nodes.leaf (all_some (map part_of parts))
+node_of (leaf parts) = option_map nodes.leaf (all_some (map named_part parts))
 node_of (cut c k) = cut_of (both (short_in c) (number_in k))
 node_of (cases n) = Some (nodes.cases n)
 

@@ -2,7 +2,7 @@
 
 ghost use Rattle.std.specs.Prelude.{◌≡◌, ◌^◌, [], ◌∷◌, bytes_eq, position, slice_get};
 ghost use Rattle.proof_names.specs.Columns as spec;
-ghost use Rattle.proof_names.specs.Numbers.{below};
+ghost use Rattle.proof_names.specs.Numbers.{if_below};
 
 use boogie_tree::{Column, Text, VarInfo};
 use letter_acts::Icfg;
@@ -37,7 +37,7 @@ fn column_place(frame: &[(Column, VarInfo)], text: &[u8]) -> Option<usize>
 
 /// The number in 32 bits, if it fits them.
 fn in_32_bits(place: usize) -> Option<u32>
-    ensures { result ≡ below (2 ^ 32) place }
+    ensures { result ≡ if_below (2 ^ 32) place }
 {
     match u32::try_from(place) {
         Ok(number) => Some(number),
@@ -64,7 +64,7 @@ fn procedure_place(names: &[Text], name: &[u8]) -> Option<usize>
 
 /// Whether the procedure has a place where its body begins.
 fn has_entry(entries: &[Option<u32>], place: usize) -> bool
-    ensures { result ≡ spec.has_entry (slice_get entries.now place) }
+    ensures { result ≡ spec.is_some_entry (slice_get entries.now place) }
 {
     match entries.get(place) {
         Some(Some(_)) => true,

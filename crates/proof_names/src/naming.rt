@@ -9,7 +9,7 @@ ghost use Rattle.proof_names.specs.declared.outlines.NamedTriple.{NamedTriple};
 ghost use Rattle.proof_names.specs.declared.outlines.NamedStep.{NamedStep};
 ghost use Rattle.proof_names.specs.Pairs.{ArePaired, IsAt};
 ghost use Rattle.proof_names.specs.Predicates as spec;
-ghost use Rattle.proof_names.specs.Outlines.{Node, node, named_place, sketch};
+ghost use Rattle.proof_names.specs.Outlines.{OutlineNode, node, named_place, sketch};
 ghost use Rattle.proof_names.specs.Naming.{NamesTriple, NamesNode, NamesStep};
 ghost use Rattle.proof_names.specs.Items.{IsFirstUnnamed, Names};
 

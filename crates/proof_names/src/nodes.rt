@@ -6,7 +6,7 @@ ghost use Rattle.std.specs.Option.{option_map};
 ghost use Rattle.proof_form.specs.Lines as form;
 ghost use Rattle.proof_names.specs.Numbers as numbers;
 ghost use Rattle.proof_names.specs.Options.{all_some};
-ghost use Rattle.proof_names.specs.Outlines.{Node, node};
+ghost use Rattle.proof_names.specs.Outlines.{OutlineNode, node};
 ghost use Rattle.proof_names.specs.Naming.{IsPredOf, IsLineIn, IsEntryIn, MayBegin, NamesNode};
 
 use crate::numbers::{index_in, short_in};
@@ -108,7 +108,7 @@ pub(crate) fn node_named(
     line: &NodeLine,
 ) -> Result<Option<NamedNode>, AllocError>
     ensures { IfOk result (λ o. MatchOption o
-        ((x : Node) → NamesNode icfg.now (slice_get preds.now) (map form.node lines.now) number (form.node line.now) x → ⊥)
+        ((x : OutlineNode) → NamesNode icfg.now (slice_get preds.now) (map form.node lines.now) number (form.node line.now) x → ⊥)
         (λ x. NamesNode icfg.now (slice_get preds.now) (map form.node lines.now) number (form.node line.now) (node x))) }
 {
     let (Some(place), Some(entry)) = (short_in(&line.place), index_in(&line.entry)) else {

@@ -19,7 +19,7 @@ const SHORT: u128 = 1 << 32;
 /// The number of the digits, if it is below the limit.
 fn number_below(digits: &[u8], limit: u128) -> Option<u128>
     requires { limit ≤ 2 ^ 127 }
-    ensures { result ≡ spec.below limit (number digits.now) }
+    ensures { result ≡ spec.if_below limit (number digits.now) }
 {
     let mut value: u128 = 0;
     for digit in digits {
@@ -33,7 +33,7 @@ fn number_below(digits: &[u8], limit: u128) -> Option<u128>
 
 /// The number with one digit more behind it, if it fits the type.
 fn with_digit(value: u128, digit: u8) -> Option<u128>
-    ensures { result ≡ spec.below (2 ^ 128) (with_digit value digit) }
+    ensures { result ≡ spec.if_below (2 ^ 128) (with_digit value digit) }
 {
     value
         .checked_mul(10)?

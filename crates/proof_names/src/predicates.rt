@@ -44,7 +44,7 @@ fn terms_named(
 
 /// Whether each column stands before the next in the frame.
 fn ascend(terms: &[(u32, i128)]) -> bool
-    ensures { result ≡ spec.ascend terms.now }
+    ensures { result ≡ spec.terms_ascend terms.now }
 {
     for i in 1..terms.len() {
         if terms[i - 1].0 >= terms[i].0 {
@@ -85,8 +85,8 @@ fn node_named(
     frame: &[(Column, VarInfo)],
     node: &PNode,
 ) -> Result<Option<PredNode>, AllocError>
-    requires { IsTrue (form.is_node (form.plain node.now)) }
-    ensures { IfOk result (λ o. o ≡ spec.node_named frame.now (form.plain node.now)) }
+    requires { IsTrue (form.is_predicate_node (form.plain_predicate_node node.now)) }
+    ensures { IfOk result (λ o. o ≡ spec.node_named frame.now (form.plain_predicate_node node.now)) }
 {
     match node {
         PNode::Atom { bound, terms } => match row_named(alloc, frame, bound, terms)? {
@@ -104,8 +104,8 @@ fn nodes_named(
     frame: &[(Column, VarInfo)],
     nodes: &[PNode],
 ) -> Result<Option<Vec<PredNode>>, AllocError>
-    requires { IsTrue (list_all (λ n. form.is_node (form.plain n)) nodes.now) }
-    ensures { IfOk result (λ o. option_map (λ v. v.items) o ≡ all_some (map (λ n. spec.node_named frame.now (form.plain n)) nodes.now)) }
+    requires { IsTrue (list_all (λ n. form.is_predicate_node (form.plain_predicate_node n)) nodes.now) }
+    ensures { IfOk result (λ o. option_map (λ v. v.items) o ≡ all_some (map (λ n. spec.node_named frame.now (form.plain_predicate_node n)) nodes.now)) }
 {
     let mut named = Vec::with_capacity(alloc, nodes.len())?;
     for node in nodes {

@@ -27,7 +27,7 @@ fn parts_fit(parts: &[(Numeral, Numeral)]) -> bool
 
 /// Whether the node's numbers fit, and a cut is at one of so many columns.
 fn node_is_named(columns: usize, node: &RNode) -> bool
-    ensures { result ≡ spec.node_is_named columns (form.plain node.now) }
+    ensures { result ≡ spec.node_is_named columns (form.plain_refutation_node node.now) }
 {
     match node {
         RNode::Leaf(parts) => parts_fit(parts),
@@ -40,13 +40,13 @@ fn node_is_named(columns: usize, node: &RNode) -> bool
 
 /// Whether the numbers of all nodes fit, and each cut is at one of so many columns.
 pub(crate) fn is_named(columns: usize, nodes: &[RNode]) -> bool
-    ensures { result ≡ list_all (λ n. spec.node_is_named columns (form.plain n)) nodes.now }
+    ensures { result ≡ list_all (λ n. spec.node_is_named columns (form.plain_refutation_node n)) nodes.now }
 {
     nodes.iter().all(|node| node_is_named(columns, node))
 }
 
 fn part_of(part: &(Numeral, Numeral)) -> Option<(u32, i128)>
-    ensures { result ≡ spec.part_of part.now }
+    ensures { result ≡ spec.named_part part.now }
 {
     Some((short_in(&part.0)?, number_in(&part.1)?))
 }
@@ -55,7 +55,7 @@ fn parts_of(
     alloc: Global,
     parts: &[(Numeral, Numeral)],
 ) -> Result<Option<Vec<(u32, i128)>>, AllocError>
-    ensures { IfOk result (λ o. option_map (λ v. v.items) o ≡ all_some (map spec.part_of parts.now)) }
+    ensures { IfOk result (λ o. option_map (λ v. v.items) o ≡ all_some (map spec.named_part parts.now)) }
 {
     let mut named = Vec::with_capacity(alloc, parts.len())?;
     for part in parts {
@@ -68,7 +68,7 @@ fn parts_of(
 }
 
 fn node_of(alloc: Global, node: &RNode) -> Result<Option<Node>, AllocError>
-    ensures { IfOk result (λ o. option_map plain o ≡ spec.node_of (form.plain node.now)) }
+    ensures { IfOk result (λ o. option_map plain o ≡ spec.node_of (form.plain_refutation_node node.now)) }
 {
     match node {
         RNode::Leaf(parts) => match parts_of(alloc, parts)? {
@@ -84,7 +84,7 @@ fn node_of(alloc: Global, node: &RNode) -> Result<Option<Node>, AllocError>
 }
 
 fn nodes_of(alloc: Global, nodes: &[RNode]) -> Result<Option<Vec<Node>>, AllocError>
-    ensures { IfOk result (λ o. option_map (λ v. plain_nodes v.items) o ≡ all_some (map (λ n. spec.node_of (form.plain n)) nodes.now)) }
+    ensures { IfOk result (λ o. option_map (λ v. plain_nodes v.items) o ≡ all_some (map (λ n. spec.node_of (form.plain_refutation_node n)) nodes.now)) }
 {
     let mut named = Vec::with_capacity(alloc, nodes.len())?;
     for node in nodes {
@@ -101,8 +101,8 @@ pub(crate) fn refutation_of(
     alloc: Global,
     nodes: &[RNode],
 ) -> Result<Option<Refutation>, AllocError>
-    requires { IsTrue (form.is_refutation (map form.plain nodes.now)) }
-    ensures { IfOk result (λ o. o ≡ spec.refutation_of (map form.plain nodes.now)) }
+    requires { IsTrue (form.is_refutation (map form.plain_refutation_node nodes.now)) }
+    ensures { IfOk result (λ o. o ≡ spec.refutation_of (map form.plain_refutation_node nodes.now)) }
 {
     match nodes_of(alloc, nodes)? {
         Some(nodes) => Ok(tree(nodes)),

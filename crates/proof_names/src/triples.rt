@@ -1,8 +1,7 @@
 //! The triples that lines name.
 
-ghost use Rattle.std.specs.Prelude.{◌≡◌, ◌≤◌, ◌^◌, Some, map, filter, count_by, length, not, IsTrue, IfOk, MatchOption, slice_get};
-ghost use Rattle.letter_acts.specs.Frames.{is_global, is_variable};
-ghost use Rattle.letter_acts.specs.Invariant.{alphabet_of, is_global_at, written_by, BackIsActedFrom};
+ghost use Rattle.std.specs.Prelude.{◌≡◌, ◌≤◌, ◌^◌, Some, map, length, IsTrue, IfOk, MatchOption, slice_get};
+ghost use Rattle.letter_acts.specs.Invariant.{alphabet_of, written_by, BackIsActedFrom};
 ghost use Rattle.proof_form.specs.Lines as lines;
 ghost use Rattle.proof_form.specs.Refutations as form;
 ghost use Rattle.triple_rows.specs.Triples.{truth_of};
@@ -17,7 +16,7 @@ use crate::numbers::{index_in, short_in};
 use crate::outlines::{Listed, NamedTriple};
 use crate::refutations::{is_named, refutation_of};
 use boogie_tree::{Column, VarInfo};
-use letter_acts::{Act, Icfg};
+use letter_acts::{Act, Icfg, count_local_targets, count_variables};
 use proof_form::{RNode, TripleLine};
 use std::alloc::{AllocError, Global};
 use triple_rows::{PredNode, Scoped, Triple, agrees, pred};
@@ -93,7 +92,7 @@ fn listed_of(line: &TripleLine) -> Option<Listed>
 }
 
 fn proof_in(line: &TripleLine) -> &[RNode]
-    ensures { map form.plain result.now ≡ spec.proof_in (lines.triple line.now) }
+    ensures { map form.plain_refutation_node result.now ≡ spec.proof_in (lines.triple line.now) }
 {
     match line {
         TripleLine::Inside { proof, .. }
@@ -226,45 +225,7 @@ fn written_count(frame: &[(Column, VarInfo)], targets: &[u32]) -> usize
     requires { length (written_by frame.now targets.now) ≤ 2 ^ 32 }
     ensures { result ≡ length (written_by frame.now targets.now) }
 {
-    variable_count(frame) + local_targets(frame, targets)
-}
-
-/// How many globals may change.
-fn variable_count(frame: &[(Column, VarInfo)]) -> usize
-    ensures { result ≡ count_by is_variable frame.now }
-{
-    frame
-        .iter()
-        .filter(|column| is_global(column) && !column.1.constant)
-        .count()
-}
-
-/// How many targets are no globals.
-fn local_targets(frame: &[(Column, VarInfo)], targets: &[u32]) -> usize
-    ensures { result ≡ length (filter (λ t. not (is_global_at frame.now t)) targets.now) }
-{
-    targets
-        .iter()
-        .filter(|target| !is_global_at(frame, **target))
-        .count()
-}
-
-fn is_global(column: &(Column, VarInfo)) -> bool
-    ensures { result ≡ is_global column.now }
-{
-    match column.0 {
-        Column::Global(_) => true,
-        Column::Old(_) | Column::Local(_) => false,
-    }
-}
-
-fn is_global_at(frame: &[(Column, VarInfo)], column: u32) -> bool
-    ensures { result ≡ is_global_at frame.now column }
-{
-    match frame.get(column as usize) {
-        Some(column) => is_global(column),
-        None => false,
-    }
+    count_variables(frame) + count_local_targets(frame, targets)
 }
 
 /// How many columns the system of a return has, by its call letter and its targets.
@@ -333,8 +294,8 @@ fn with_proof(
     triple: Triple,
     nodes: &[RNode],
 ) -> Result<NamedTriple, AllocError>
-    requires { IsTrue (form.is_refutation (map form.plain nodes.now)) }
-    ensures { IfOk result (λ t. t ≡ record { listed = listed; triple = triple; proof = refutation_of (map form.plain nodes.now) }) }
+    requires { IsTrue (form.is_refutation (map form.plain_refutation_node nodes.now)) }
+    ensures { IfOk result (λ t. t ≡ record { listed = listed; triple = triple; proof = refutation_of (map form.plain_refutation_node nodes.now) }) }
 {
     let proof = refutation_of(alloc, nodes)?;
     Ok(NamedTriple {

@@ -24,13 +24,13 @@ use Rattle.proof_form.specs.declared.numerals.Numeral.{Numeral}
 use Rattle.proof_form.specs.declared.predicates.PNode.{PNode}
 use Rattle.proof_form.specs.Names.{is_column}
 use Rattle.proof_form.specs.Predicates as form
-use Rattle.proof_form.specs.Predicates.{PredicateNode, atom, and_of, or_of, is_term, is_node, parts, height_of, heights, are_low}
+use Rattle.proof_form.specs.Predicates.{PredicateNode, atom, and_of, or_of, is_term, is_predicate_node, parts, height_of, heights, are_low}
 use Rattle.proof_form.specs.Trees.{is_tree, tree_count, have_parts}
 use Rattle.proof_form.specs.Refutations.{is_some_list}
 use Rattle.proof_names.specs.Numbers.{number_in}
 use Rattle.proof_names.specs.Options.{both, all_some}
 use Rattle.proof_names.specs.Columns.{column_text, column_named}
-use Rattle.proof_names.specs.Predicates.{term_named, ascend, row_named, node_named, if_there, row_in_order, scoped_of, scoped_named}
+use Rattle.proof_names.specs.Predicates.{term_named, terms_ascend, row_named, node_named, if_there, row_in_order, scoped_of, scoped_named}
 use Rattle.proof_spell.specs.Correspond.{Correspond}
 use Rattle.proof_spell.specs.Drafts.{MayBeNamed}
 use Rattle.proof_spell.specs.Spelled.{Writes, SpellsPred}
@@ -61,14 +61,14 @@ some_first R [] [] h n = absurd (n refl)
 some_first R [] (y ∷ ys) h n = absurd h
 some_first R (x ∷ xs) ys h n = refl
 
-ascending : (low : ℕ) (ts : List (ℕ × ℤ)) → AscendsFrom low ts → ascend ts ≡ true
+ascending : (low : ℕ) (ts : List (ℕ × ℤ)) → AscendsFrom low ts → terms_ascend ts ≡ true
 ascending low [] h = refl
 ascending low (t ∷ []) h = refl
 ascending low (t ∷ u ∷ us) h =
     let l : t.0 < u.0 = (let k = h.1.0 in omega arith) in
     rw (lt-ltb t.0 u.0 l, ascending (t.0 + 1) (u ∷ us) h.1) refl
 
-in_order : (ts : List (ℕ × ℤ)) (bound : ℤ) → ascend ts ≡ true → row_in_order (ts, bound) ≡ Some (record { terms = ts; kind = Le; bound = bound })
+in_order : (ts : List (ℕ × ℤ)) (bound : ℤ) → terms_ascend ts ≡ true → row_in_order (ts, bound) ≡ Some (record { terms = ts; kind = Le; bound = bound })
 in_order ts bound h = rw h refl
 
 same_row : (r : LinearRow) → r.kind ≡ Le → ◌≡◌ {A = LinearRow} (record { terms = r.terms; kind = Le; bound = r.bound }) r
@@ -171,19 +171,19 @@ all_shaped (n ∷ ns) (m ∷ ms) h =
 -- ---- the line
 
 pub pred_spelled : (g : Graph) (name : List ℕ) (nodes : List PNode) (s : Scoped) → Keeps g → MayBeNamed g s → SpellsPredicate s.pred → s.proc < 2 ^ 32 →
-    slice_get g.names s.proc ≡ Some name → Correspond (λ n. SpellsNode (frame_of (alphabet_of g) s.proc) (form.plain n)) nodes s.pred →
-    SpellsPred g (record { proc = name; nodes = map form.plain nodes }) s
+    slice_get g.names s.proc ≡ Some name → Correspond (λ n. SpellsNode (frame_of (alphabet_of g) s.proc) (form.plain_predicate_node n)) nodes s.pred →
+    SpellsPred g (record { proc = name; nodes = map form.plain_predicate_node nodes }) s
 pred_spelled g name nodes s k m p l e c =
     let frame : Columns = frame_of (alphabet_of g) s.proc in
     let w = tree_of (length frame) s.pred p m.over m.no_truth in
-    let v : Correspond (SpellsNode frame) (map form.plain nodes) s.pred = viewed (SpellsNode frame) form.plain nodes s.pred c in
-    let a : all_some (map (node_named frame) (map form.plain nodes)) ≡ Some s.pred = all_values (SpellsNode frame) (node_named frame) (λ x y h. h.named) (map form.plain nodes) s.pred v in
-    let h = all_shaped (map form.plain nodes) s.pred (weaker (SpellsNode frame) IsShaped (λ x y h. shaped frame x y h.named) (map form.plain nodes) s.pred v) in
+    let v : Correspond (SpellsNode frame) (map form.plain_predicate_node nodes) s.pred = viewed (SpellsNode frame) form.plain_predicate_node nodes s.pred c in
+    let a : all_some (map (node_named frame) (map form.plain_predicate_node nodes)) ≡ Some s.pred = all_values (SpellsNode frame) (node_named frame) (λ x y h. h.named) (map form.plain_predicate_node nodes) s.pred v in
+    let h = all_shaped (map form.plain_predicate_node nodes) s.pred (weaker (SpellsNode frame) IsShaped (λ x y h. shaped frame x y h.named) (map form.plain_predicate_node nodes) s.pred v) in
     let t = shape_is_tree w.formula w.nested in
-    let one : is_tree parts (map form.plain nodes) ≡ true =
+    let one : is_tree parts (map form.plain_predicate_node nodes) ≡ true =
     rw (h.whole, h.counted) (subst (λ (x : List PredNode). is_tree parts (shapes x) ≡ true) w.spelled t.0) in
-    let low : are_low (map form.plain nodes) ≡ true = h.low ∙ subst (λ (x : List PredNode). are_low (shapes x) ≡ true) w.spelled t.1 in
+    let low : are_low (map form.plain_predicate_node nodes) ≡ true = h.low ∙ subst (λ (x : List PredNode). are_low (shapes x) ≡ true) w.spelled t.1 in
     record {
-      valid = rw (procedure_valid g s.proc name k e, all_pass (SpellsNode frame) is_node (λ x y h. h.valid) (map form.plain nodes) s.pred v, one, low) refl;
-      named = ap (scoped_named g (map form.plain nodes)) (procedure_found g s.proc name k m.body e l) ∙ ap (option_map (scoped_of s.proc)) a;
+      valid = rw (procedure_valid g s.proc name k e, all_pass (SpellsNode frame) is_predicate_node (λ x y h. h.valid) (map form.plain_predicate_node nodes) s.pred v, one, low) refl;
+      named = ap (scoped_named g (map form.plain_predicate_node nodes)) (procedure_found g s.proc name k m.body e l) ∙ ap (option_map (scoped_of s.proc)) a;
     }

@@ -8,7 +8,7 @@ use Rattle.lin_rows.specs.Rows.{LinearRow}
 use Rattle.lin_rows.specs.Combinations.{Contradicts}
 use Rattle.farkas_check.specs.Nodes as nodes
 use Rattle.farkas_check.specs.Nodes.{PlainNode}
-use Rattle.farkas_check.specs.Refutes.{Goal, Refute, CasesRefute, with_member, with_row, at_most, above, goal_of}
+use Rattle.farkas_check.specs.Refutes.{Goal, Refute, CasesRefute, goal_with_member, with_row, at_most, above, goal_of}
 use Rattle.letter_acts.specs.Invariant.{Graph, alphabet_of}
 use Rattle.triple_rows.specs.declared.triples.Scoped.{Scoped}
 use Rattle.triple_rows.proofs.ListLaws.{all_mapped, all_at, within, something_at}
@@ -26,7 +26,7 @@ use Rattle.proof_names.specs.Pairs.{ArePaired}
 use Rattle.proof_names.specs.Predicates.{pred_named}
 use Rattle.proof_names.specs.Naming.{NamesTriple, NamesNode, NamesStep, IsEntryIn, IsInScope, width, letter_in}
 use Rattle.proof_names.specs.declared.outlines.NamedNode.{NamedNode}
-use Rattle.proof_names.specs.Outlines.{Node, Sketch, node}
+use Rattle.proof_names.specs.Outlines.{OutlineNode, Sketch, node}
 use Rattle.proof_names.specs.Items.{Names, pred_at, place_at}
 use Rattle.proof_names.proofs.PairLaws.{same_at, map_same}
 use Rattle.proof_spell.specs.declared.drafts.Shown.{Shown}
@@ -55,7 +55,7 @@ have_numbers columns (nodes.cases n ∷ ns) (g ∷ gs) r w = by_groups g.groups 
     by_groups : (groups : List (List System)) → ((goals : List Goal) → Refute ns goals → AllByRecursion HasNumbers ns) → CasesRefute (λ goals. Refute ns (goals ++ gs)) n g.rows groups →
         AllByRecursion HasNumbers (nodes.cases n ∷ ns)
     by_groups [] f r = absurd r
-    by_groups (members ∷ groups) f r = (tt, f (map (with_member (record { rows = g.rows; groups = groups })) members ++ gs) r.1)
+    by_groups (members ∷ groups) f r = (tt, f (map (goal_with_member (record { rows = g.rows; groups = groups })) members ++ gs) r.1)
 
 pub shown_has_numbers : (g : Graph) (preds : List Scoped) (t : PlainShown) → MayBeShown g preds t → AllByRecursion HasNumbers t.proof
 shown_has_numbers g preds t m =
@@ -75,13 +75,13 @@ same_preds g a ps c =
     λ k. sym (map_same (slice_get ps k)) ∙ same_at (pred_named g) (λ (s : Scoped). s) (PredIs g) a.preds ps (λ j x y r. r) (preds_paired g a.preds ps c) k in
     λ i k. e k i
 
-abbrev PlaceIs : ℕ → form.Node → Node → Type 0
+abbrev PlaceIs : ℕ → form.Node → OutlineNode → Type 0
 PlaceIs k line x = short_in line.place ≡ Some x.place
 
-same_places : (a : Content) (ns : List Node) → Correspond SpellsNode a.nodes ns → node_place ns ≡ place_at a
+same_places : (a : Content) (ns : List OutlineNode) → Correspond SpellsNode a.nodes ns → node_place ns ≡ place_at a
 same_places a ns c =
     let e : (k : ℕ) → node_place ns k ≡ place_at a k =
-    same_at (λ (line : form.Node). short_in line.place) (λ (x : Node). x.place) PlaceIs a.nodes ns (λ j x y r. r)
+    same_at (λ (line : form.Node). short_in line.place) (λ (x : OutlineNode). x.place) PlaceIs a.nodes ns (λ j x y r. r)
     (paired SpellsNode PlaceIs a.nodes ns c (λ k x y p q r. r.place)) in
     λ i k. e k i
 
@@ -113,7 +113,7 @@ triples_named g preds (line ∷ lines) (t ∷ ts) h c = (
 
 -- ---- nodes
 
-entry_named : (g : Graph) (p : ℕ) (lines : List form.Node) (ns : List Node) (n : ℕ) → Correspond SpellsNode lines ns → IsEntryOf g p ns n → IsEntryIn g p lines n
+entry_named : (g : Graph) (p : ℕ) (lines : List form.Node) (ns : List OutlineNode) (n : ℕ) → Correspond SpellsNode lines ns → IsEntryOf g p ns n → IsEntryIn g p lines n
 entry_named g p lines ns n c e =
     let l = within ns n e.node e.stands in
     let k = counted SpellsNode lines ns c in
@@ -126,7 +126,7 @@ entry_named g p lines ns n c e =
       belongs = record { place = e.node.place; number = r.place; belongs = e.belongs };
     }
 
-node_named : (g : Graph) (preds : List Scoped) (lines : List form.Node) (ns : List Node) (n : ℕ) (line : form.Node) (x : Node) → Correspond SpellsNode lines ns → SpellsNode line x →
+node_named : (g : Graph) (preds : List Scoped) (lines : List form.Node) (ns : List OutlineNode) (n : ℕ) (line : form.Node) (x : OutlineNode) → Correspond SpellsNode lines ns → SpellsNode line x →
     MayStand g preds ns n x → NamesNode g (slice_get preds) lines n line x
 node_named g preds lines ns n line x c r m = record {
   proc = m.proc;
@@ -190,9 +190,9 @@ every : {X : Type 0} (P : X → Type 0) (xs : List X) → ((k : ℕ) (x : X) →
 every P [] h = tt
 every P (x ∷ xs) h = (h 0 x refl, every P xs (λ k y e. h (suc k) y e))
 
-pub all_ascend : (g : Graph) (preds : List Scoped) (ns : List NamedNode) → ((n : ℕ) (x : Node) → slice_get (map node ns) n ≡ Some x → MayStand g preds (map node ns) n x) →
+pub all_ascend : (g : Graph) (preds : List Scoped) (ns : List NamedNode) → ((n : ℕ) (x : OutlineNode) → slice_get (map node ns) n ≡ Some x → MayStand g preds (map node ns) n x) →
     AllByRecursion (λ n. AscendFrom 1 n.preds.items) ns
-all_ascend g preds ns h = (all_mapped (λ (x : Node). AscendFrom 1 x.preds) node ns).0 (every (λ (x : Node). AscendFrom 1 x.preds) (map node ns) (λ k x e. (h k x e).ascend))
+all_ascend g preds ns h = (all_mapped (λ (x : OutlineNode). AscendFrom 1 x.preds) node ns).0 (every (λ (x : OutlineNode). AscendFrom 1 x.preds) (map node ns) (λ k x e. (h k x e).ascend))
 
 pub lists_spell : (g : Graph) (ps : List PredLine) (ts : List TripleLine) (ns : List NodeLine) (ss : List StepLine) (preds : List Scoped) (triples : List Shown) (nodes : List NamedNode)
     (steps : List NamedStep) → Correspond (λ line. SpellsPred g (form.pred line)) ps preds → Correspond (λ line t. SpellsTriple (form.triple line) (plain t)) ts triples →

@@ -17,8 +17,8 @@ use Rattle.letter_acts.specs.Invariant.{Graph, alphabet_of, AreDistinct, names_w
 use Rattle.letter_acts.specs.Kept.{Keeps}
 use Rattle.triple_rows.proofs.ListLaws.{within, all_at}
 use Rattle.proof_form.specs.Names.{is_column}
-use Rattle.proof_names.specs.Numbers.{below}
-use Rattle.proof_names.specs.Columns.{mark, column_text, column_named, has_entry, with_body, procedure_named}
+use Rattle.proof_names.specs.Numbers.{if_below}
+use Rattle.proof_names.specs.Columns.{mark, column_text, column_named, is_some_entry, with_body, procedure_named}
 use Rattle.proof_spell.specs.Nodes.{IsReadable}
 
 -- ---- the place of a text among texts that differ
@@ -234,19 +234,19 @@ readable g p k = by_frame (slice_get g.frames p) refl
     by_frame None e = no_columns
     by_frame (Some frame) e = frame_readable k.frames.globals frame (all_at (IsFrame k.frames.globals) g.frames p frame e k.frames.laid_out) (all_at HasNames g.frames p frame e k.names.columns)
 
-below_is : (limit n : ℕ) → n < limit → below limit n ≡ Some n
+below_is : (limit n : ℕ) → n < limit → if_below limit n ≡ Some n
 below_is limit n l = rw (lt-ltb n limit l) refl
 
 -- the text of a column names it
 pub column_found : (frame : Columns) (k : ℕ) (c : Column × VarInfo) → IsReadable frame → slice_get frame k ≡ Some c → k < 2 ^ 32 → column_named frame (column_text c) ≡ Some k
-column_found frame k c r e l = ap (option_and_then (below (2 ^ 32))) (position_is column_text frame k c r.differ e) ∙ below_is (2 ^ 32) k l
+column_found frame k c r e l = ap (option_and_then (if_below (2 ^ 32))) (position_is column_text frame k c r.differ e) ∙ below_is (2 ^ 32) k l
 
 mapped_same : (xs : List (List ℕ)) → map (λ (x : List ℕ). x) xs ≡ xs
 mapped_same [] = refl
 mapped_same (x ∷ xs) = ap (λ l. x ∷ l) (mapped_same xs)
 
 -- the name of a procedure with a body names it
-pub procedure_found : (g : Graph) (p : ℕ) (name : List ℕ) → Keeps g → has_entry (slice_get g.entries p) ≡ true → slice_get g.names p ≡ Some name → p < 2 ^ 32 →
+pub procedure_found : (g : Graph) (p : ℕ) (name : List ℕ) → Keeps g → is_some_entry (slice_get g.entries p) ≡ true → slice_get g.names p ≡ Some name → p < 2 ^ 32 →
     procedure_named g name ≡ Some p
 unfolding Keeps
 procedure_found g p name k h e l =
@@ -257,12 +257,12 @@ pub procedure_valid : (g : Graph) (p : ℕ) (name : List ℕ) → Keeps g → sl
 unfolding Keeps
 procedure_valid g p name k e = all_at (λ n. IsTrue (is_spelled n)) g.names p name e k.names.spelled
 
-entry_exists : (o : Option (Option ℕ)) → has_entry o ≡ true → (x : Option ℕ) × (o ≡ Some x)
+entry_exists : (o : Option (Option ℕ)) → is_some_entry o ≡ true → (x : Option ℕ) × (o ≡ Some x)
 entry_exists None h = absurd (false≢true h)
 entry_exists (Some x) h = (x, refl)
 
 -- a procedure with a body has a name
-pub name_exists : (g : Graph) (p : ℕ) → Keeps g → has_entry (slice_get g.entries p) ≡ true → p < length g.names
+pub name_exists : (g : Graph) (p : ℕ) → Keeps g → is_some_entry (slice_get g.entries p) ≡ true → p < length g.names
 unfolding Keeps
 name_exists g p k h =
     let x = entry_exists (slice_get g.entries p) h in

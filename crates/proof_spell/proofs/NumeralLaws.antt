@@ -13,9 +13,9 @@ use Rattle.math_facts.specs.Fits.{Fits}
 use Rattle.boogie_tree.specs.Names.{is_digit}
 use Rattle.proof_form.specs.declared.numerals.Numeral.{Numeral}
 use Rattle.proof_form.specs.NumberValues.{number, value}
-use Rattle.proof_form.specs.Numerals.{is_numeral, is_zero, has_one_spelling}
+use Rattle.proof_form.specs.Numerals.{is_numeral, is_zero_text, has_one_spelling}
 use Rattle.proof_form.proofs.RunLaws.{both_hold}
-use Rattle.proof_names.specs.Numbers.{index_in, short_in, number_in, count_in, below, signed}
+use Rattle.proof_names.specs.Numbers.{index_in, short_in, number_in, count_in, if_below, signed}
 use Rattle.proof_spell.specs.Spelled.{is_negative, Writes, WritesIndex, WritesShort}
 
 -- ---- digits
@@ -111,7 +111,7 @@ integer_writes z b ds f s e =
 
 -- ---- what a numeral is read as
 
-below_is : (limit n : ℕ) → n < limit → below limit n ≡ Some n
+below_is : (limit n : ℕ) → n < limit → if_below limit n ≡ Some n
 below_is limit n l = rw (lt-ltb n limit l) refl
 
 counted : (limit : ℕ) (m : Numeral) (k : ℕ) → k < limit → m.negative ≡ false → number m.digits ≡ k → count_in limit m ≡ Some k
@@ -133,10 +133,10 @@ writes_value m z w = rw (w.sign, w.size) (signed_is z)
 
 pub writes_number : (m : Numeral) (z : ℤ) → Writes m z → Fits z → number_in m ≡ Some z
 writes_number m z w f =
-    let e : below (2 ^ 127) (number m.digits) ≡ Some (unsigned_abs z) = rw w.size (below_is (2 ^ 127) (unsigned_abs z) f) in
+    let e : if_below (2 ^ 127) (number m.digits) ≡ Some (unsigned_abs z) = rw w.size (below_is (2 ^ 127) (unsigned_abs z) f) in
     ap (option_map (signed m)) e ∙ ap Some (rw w.sign (signed_is z))
 
-zero_is : (ds : List ℕ) → is_zero ds ≡ true → number ds ≡ 0
+zero_is : (ds : List ℕ) → is_zero_text ds ≡ true → number ds ≡ 0
 zero_is [] e = absurd (false≢true e)
 zero_is (d ∷ []) e = let k = eqb-true d 48 e in omega arith
 zero_is (d ∷ x ∷ ds) e = absurd (false≢true e)
@@ -150,8 +150,8 @@ not_of true h = absurd (h refl)
 not_of false h = refl
 
 -- a numeral of another number is not that of 0
-pub writes_not_zero : (m : Numeral) (z : ℤ) → Writes m z → z ≢ pos 0 → not (is_zero m.digits) ≡ true
-writes_not_zero m z w n = not_of (is_zero m.digits) (λ e. n (no_size z (sym w.size ∙ zero_is m.digits e)))
+pub writes_not_zero : (m : Numeral) (z : ℤ) → Writes m z → z ≢ pos 0 → not (is_zero_text m.digits) ≡ true
+writes_not_zero m z w n = not_of (is_zero_text m.digits) (λ e. n (no_size z (sym w.size ∙ zero_is m.digits e)))
 
 pub sign_is : (z : ℤ) → lt_z z (pos 0) ≡ is_negative z
 sign_is (pos n) = grind (arith, nat_tests)

@@ -10,10 +10,10 @@ use Rattle.farkas_check.specs.Nodes.{PlainNode, branches, are_trees}
 use Rattle.proof_form.specs.declared.numerals.Numeral.{Numeral}
 use Rattle.proof_form.specs.Trees.{tree_count, have_parts}
 use Rattle.proof_form.specs.Refutations as form
-use Rattle.proof_form.specs.Refutations.{RefutationNode, leaf, cut, cases, parts, is_part, is_some_list, is_refutation}
+use Rattle.proof_form.specs.Refutations.{RefutationNode, leaf, cut, cases, refutation_parts, is_part, is_some_list, is_refutation}
 use Rattle.proof_names.specs.Numbers.{short_in, number_in}
 use Rattle.proof_names.specs.Options.{both, all_some}
-use Rattle.proof_names.specs.Refutations.{part_fits, is_named, part_of, cut_of, node_of, refutation_of}
+use Rattle.proof_names.specs.Refutations.{part_fits, refutation_is_named, named_part, cut_of, node_of, refutation_of}
 use Rattle.proof_spell.specs.Correspond.{Correspond}
 use Rattle.proof_spell.specs.Drafts.{IsWithin}
 use Rattle.proof_spell.specs.Spelled.{Writes}
@@ -41,7 +41,7 @@ some_parts (p ∷ ps) qs h n = refl
 pub leaf_spelled : (ps : List (Numeral × Numeral)) (qs : List (ℕ × ℤ)) → qs ≢ [] → Correspond SpellsPart ps qs → SpellsBranch (leaf ps) (nodes.leaf qs)
 leaf_spelled ps qs n c = record {
   valid = rw (some_parts ps qs c n, all_pass SpellsPart is_part (λ x y h. h.valid) ps qs c) refl;
-  named = ap (option_map nodes.leaf) (all_values SpellsPart part_of (λ x y h. h.named) ps qs c);
+  named = ap (option_map nodes.leaf) (all_values SpellsPart named_part (λ x y h. h.named) ps qs c);
   fits = λ columns t. all_pass SpellsPart part_fits (λ x y h. h.fits) ps qs c;
 }
 
@@ -56,14 +56,14 @@ cut_branches None m e = absurd (cc)
 cut_branches (Some c) m e = let k : nodes.cut c.0 c.1 ≡ m = cc in ap branches (sym k)
 
 -- a node has as many trees below it as its line says
-branches_are : (n : RefutationNode) (m : PlainNode) → node_of n ≡ Some m → branches m ≡ parts n
-branches_are (leaf ps) m e = leaf_branches (all_some (map part_of ps)) m e
+branches_are : (n : RefutationNode) (m : PlainNode) → node_of n ≡ Some m → branches m ≡ refutation_parts n
+branches_are (leaf ps) m e = leaf_branches (all_some (map named_part ps)) m e
 branches_are (cut c k) m e = cut_branches (both (short_in c) (number_in k)) m e
 branches_are (cases n) m e = let k : nodes.cases n ≡ m = cc in ap branches (sym k)
 
 record Counts (ns : List RefutationNode) (k : ℕ) : Type 0 where
-  whole : have_parts parts ns ≡ true
-  counted : tree_count parts ns ≡ k
+  whole : have_parts refutation_parts ns ≡ true
+  counted : tree_count refutation_parts ns ≡ k
 
 are_counted : (ns : List RefutationNode) (ms : List PlainNode) (k : ℕ) → Correspond SpellsBranch ns ms → are_trees k ms ≡ true → Counts ns k
 are_counted [] [] k c h = record { whole = refl; counted = sym (eqb-true k 0 h) }
@@ -72,20 +72,20 @@ are_counted (n ∷ ns) [] k c h = absurd c
 are_counted (n ∷ ns) (m ∷ ms) zero c h = absurd (false≢true h)
 are_counted (n ∷ ns) (m ∷ ms) (suc k) c h =
     let r = are_counted ns ms (branches m + k) c.1 h in
-    let b : branches m ≡ parts n = branches_are n m c.0.named in
-    let t : tree_count parts ns ≡ branches m + k = r.counted in
-    let l : nat_le (parts n) (tree_count parts ns) ≡ true = le-leb (parts n) (tree_count parts ns) (omega (arith, b, t)) in
+    let b : branches m ≡ refutation_parts n = branches_are n m c.0.named in
+    let t : tree_count refutation_parts ns ≡ branches m + k = r.counted in
+    let l : nat_le (refutation_parts n) (tree_count refutation_parts ns) ≡ true = le-leb (refutation_parts n) (tree_count refutation_parts ns) (omega (arith, b, t)) in
     record { whole = rw (r.whole, l) refl; counted = omega (arith, b, t) }
 
 pub refutation_valid : (ns : List RefutationNode) (ms : List PlainNode) → Correspond SpellsBranch ns ms → nodes.is_tree ms ≡ true → is_refutation ns ≡ true
 refutation_valid ns ms c h =
     let k = are_counted ns ms 1 c h in
-    rw (all_pass SpellsBranch form.is_node (λ x y b. b.valid) ns ms c, k.whole, k.counted) refl
+    rw (all_pass SpellsBranch form.is_refutation_node (λ x y b. b.valid) ns ms c, k.whole, k.counted) refl
 
 pub refutation_named : (ns : List RefutationNode) (ms : List PlainNode) → Correspond SpellsBranch ns ms → refutation_of ns ≡ Some ms
 refutation_named ns ms c = all_values SpellsBranch node_of (λ x y b. b.named) ns ms c
 
-pub refutation_fits : (columns : ℕ) (ns : List RefutationNode) (ms : List PlainNode) → Correspond SpellsBranch ns ms → AllByRecursion (IsWithin columns) ms → is_named columns ns ≡ true
+pub refutation_fits : (columns : ℕ) (ns : List RefutationNode) (ms : List PlainNode) → Correspond SpellsBranch ns ms → AllByRecursion (IsWithin columns) ms → refutation_is_named columns ns ≡ true
 refutation_fits columns [] [] c h = refl
 refutation_fits columns [] (m ∷ ms) c h = refl
 refutation_fits columns (n ∷ ns) [] c h = absurd c

@@ -9,7 +9,7 @@ use Rattle.farkas_check.specs.Nodes as nodes
 use Rattle.proof_form.specs.declared.numerals.Numeral.{Numeral}
 use Rattle.proof_form.specs.declared.refutations.RNode.{RNode}
 use Rattle.proof_form.specs.declared.lines.StepLine.TheVariants as steps
-use Rattle.proof_form.specs.Numerals.{is_below}
+use Rattle.proof_form.specs.Numerals.{numeral_is_below}
 use Rattle.proof_form.specs.NumberValues.{value}
 use Rattle.proof_form.specs.Refutations as form
 use Rattle.proof_form.specs.Lines.{ascend, is_named, inside_triple, call_triple, back_triple}
@@ -46,51 +46,51 @@ four x p l r i h k j t u v w =
 
 -- a refutation as it is spelled
 pub record IsProof (proof : List RNode) (ms : List PlainNode) : Type 0 where
-  pub spelled : Correspond (λ n. SpellsBranch (form.plain n)) proof ms
+  pub spelled : Correspond (λ n. SpellsBranch (form.plain_refutation_node n)) proof ms
   pub whole : nodes.is_tree ms ≡ true
 
-nodes_are : (proof : List RNode) (ms : List PlainNode) → IsProof proof ms → Correspond SpellsBranch (map form.plain proof) ms
-nodes_are proof ms p = viewed SpellsBranch form.plain proof ms p.spelled
+nodes_are : (proof : List RNode) (ms : List PlainNode) → IsProof proof ms → Correspond SpellsBranch (map form.plain_refutation_node proof) ms
+nodes_are proof ms p = viewed SpellsBranch form.plain_refutation_node proof ms p.spelled
 
 pub inside_spelled : (q l r : Numeral) (proof : List RNode) (i k j : ℕ) (ms : List PlainNode) → WritesIndex q i → WritesShort l k → WritesIndex r j →
-    IsProof proof ms → SpellsTriple (inside_triple q l r (map form.plain proof)) (record { listed = Inside i k j; proof = ms })
+    IsProof proof ms → SpellsTriple (inside_triple q l r (map form.plain_refutation_node proof)) (record { listed = Inside i k j; proof = ms })
 inside_spelled q l r proof i k j ms u v w p =
     let n = nodes_are proof ms p in
     record {
-      valid = rw (u.writes.valid, v.writes.valid, w.writes.valid, refutation_valid (map form.plain proof) ms n p.whole) refl;
+      valid = rw (u.writes.valid, v.writes.valid, w.writes.valid, refutation_valid (map form.plain_refutation_node proof) ms n p.whole) refl;
       numbers = ap (option_map (λ (t : ℕ × (ℕ × ℕ)). Inside t.0 t.1.0 t.1.1)) (three q l r i k j u v w);
-      proof = refutation_named (map form.plain proof) ms n;
-      named = λ columns h. refutation_fits columns (map form.plain proof) ms n h;
+      proof = refutation_named (map form.plain_refutation_node proof) ms n;
+      named = λ columns h. refutation_fits columns (map form.plain_refutation_node proof) ms n h;
     }
 
 pub call_spelled : (q l r : Numeral) (proof : List RNode) (i k j : ℕ) (ms : List PlainNode) → WritesIndex q i → WritesShort l k → WritesIndex r j →
-    IsProof proof ms → SpellsTriple (call_triple q l r (map form.plain proof)) (record { listed = Call i k j; proof = ms })
+    IsProof proof ms → SpellsTriple (call_triple q l r (map form.plain_refutation_node proof)) (record { listed = Call i k j; proof = ms })
 call_spelled q l r proof i k j ms u v w p =
     let n = nodes_are proof ms p in
     record {
-      valid = rw (u.writes.valid, v.writes.valid, w.writes.valid, refutation_valid (map form.plain proof) ms n p.whole) refl;
+      valid = rw (u.writes.valid, v.writes.valid, w.writes.valid, refutation_valid (map form.plain_refutation_node proof) ms n p.whole) refl;
       numbers = ap (option_map (λ (t : ℕ × (ℕ × ℕ)). Call t.0 t.1.0 t.1.1)) (three q l r i k j u v w);
-      proof = refutation_named (map form.plain proof) ms n;
-      named = λ columns h. refutation_fits columns (map form.plain proof) ms n h;
+      proof = refutation_named (map form.plain_refutation_node proof) ms n;
+      named = λ columns h. refutation_fits columns (map form.plain_refutation_node proof) ms n h;
     }
 
 pub back_spelled : (x p l r : Numeral) (proof : List RNode) (i h k j : ℕ) (ms : List PlainNode) → WritesIndex x i → WritesIndex p h → WritesShort l k → WritesIndex r j →
     IsProof proof ms →
-    SpellsTriple (back_triple x p l r (map form.plain proof)) (record { listed = Back i h k j; proof = ms })
+    SpellsTriple (back_triple x p l r (map form.plain_refutation_node proof)) (record { listed = Back i h k j; proof = ms })
 back_spelled x p l r proof i h k j ms t u v w f =
     let n = nodes_are proof ms f in
     record {
-      valid = rw (t.writes.valid, u.writes.valid, v.writes.valid, w.writes.valid, refutation_valid (map form.plain proof) ms n f.whole) refl;
+      valid = rw (t.writes.valid, u.writes.valid, v.writes.valid, w.writes.valid, refutation_valid (map form.plain_refutation_node proof) ms n f.whole) refl;
       numbers = ap (option_map (λ (t : (ℕ × ℕ) × (ℕ × ℕ)). Back t.0.0 t.0.1 t.1.0 t.1.1)) (four x p l r i h k j t u v w);
-      proof = refutation_named (map form.plain proof) ms n;
-      named = λ columns q. refutation_fits columns (map form.plain proof) ms n q;
+      proof = refutation_named (map form.plain_refutation_node proof) ms n;
+      named = λ columns q. refutation_fits columns (map form.plain_refutation_node proof) ms n q;
     }
 
 -- ---- steps
 
 -- ---- nodes
 
-below_of : (a b : Numeral) (i j : ℕ) → Writes a (pos i) → Writes b (pos j) → i < j → is_below a b ≡ true
+below_of : (a b : Numeral) (i j : ℕ) → Writes a (pos i) → Writes b (pos j) → i < j → numeral_is_below a b ≡ true
 below_of a b i j u v l =
     let h : value a <ℤ value b = rw (writes_value a (pos i) u, writes_value b (pos j) v) (whole i j l) in
     (below_by_value a.negative a.digits b.negative b.digits u.valid v.valid).1 h

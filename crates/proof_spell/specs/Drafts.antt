@@ -12,10 +12,10 @@ use Rattle.triple_rows.specs.declared.triples.Triple.{Triple}
 use Rattle.triple_rows.specs.Triples.{Agrees, IsRefuted}
 use Rattle.proof_names.specs.declared.outlines.Listed.{Listed}
 use Rattle.proof_names.specs.declared.outlines.NamedStep.{NamedStep}
-use Rattle.proof_names.specs.Columns.{has_entry}
+use Rattle.proof_names.specs.Columns.{is_some_entry}
 use Rattle.proof_names.specs.Naming.{IsPredOf, MayBegin, IsInScope, triple_at, letter_in, width}
 use Rattle.proof_names.specs.declared.outlines.NamedNode.{NamedNode}
-use Rattle.proof_names.specs.Outlines.{Node, node}
+use Rattle.proof_names.specs.Outlines.{OutlineNode, node}
 use Rattle.proof_spell.specs.declared.drafts.Shown.{Shown}
 
 -- a triple by its numbers, and what refutes its system
@@ -27,7 +27,7 @@ pub record PlainShown : Type 0 where
 pub record Draft : Type 0 where
   pub preds : List Scoped
   pub triples : List PlainShown
-  pub nodes : List Node
+  pub nodes : List OutlineNode
   pub steps : List NamedStep
 
 abbrev pub plain : Shown → PlainShown
@@ -41,7 +41,7 @@ draft preds triples nodes steps = record { preds = preds; triples = map plain tr
 
 -- A line can name the predicate: it is no truth value, and is over the columns of a procedure that has a body.
 pub record MayBeNamed (g : Graph) (s : Scoped) : Type 0 where
-  pub body : IsTrue (has_entry (slice_get g.entries s.proc))
+  pub body : IsTrue (is_some_entry (slice_get g.entries s.proc))
   pub over : IsOver (length (frame_of (alphabet_of g) s.proc)) (formula_of s.pred)
   pub no_truth : IsTruth (formula_of s.pred) → ⊥
 
@@ -70,15 +70,15 @@ AscendFrom n [] = Unit {0}
 AscendFrom n (k ∷ ks) = (n ≤ k) × AscendFrom (k + 1) ks
 
 -- the number is that of an entry node, at a place of the procedure
-pub record IsEntryOf (g : Graph) (p : ℕ) (nodes : List Node) (n : ℕ) : Type 0 where
-  pub node : Node
+pub record IsEntryOf (g : Graph) (p : ℕ) (nodes : List OutlineNode) (n : ℕ) : Type 0 where
+  pub node : OutlineNode
   pub stands : slice_get nodes n ≡ Some node
   pub itself : node.entry ≡ n
   pub belongs : IsPlaceOf g.place_procs p node.place
 
 -- Node n may stand among the nodes: its place exists, its predicates ascend, true is none of them, and they are of the procedure of the
 -- place, its entry node is one, of the same procedure, and if it is an entry node itself, its place is 0 or an entry place.
-pub record MayStand (g : Graph) (preds : List Scoped) (nodes : List Node) (n : ℕ) (x : Node) : Type 0 where
+pub record MayStand (g : Graph) (preds : List Scoped) (nodes : List OutlineNode) (n : ℕ) (x : OutlineNode) : Type 0 where
   pub proc : ℕ
   pub exists : IsPlaceOf g.place_procs proc x.place
   pub ascend : AscendFrom 1 x.preds
@@ -89,12 +89,12 @@ pub record MayStand (g : Graph) (preds : List Scoped) (nodes : List Node) (n : �
 -- ---- all
 
 -- the place of the node with this number
-abbrev pub node_place : List Node → ℕ → Option ℕ
+abbrev pub node_place : List OutlineNode → ℕ → Option ℕ
 node_place nodes n = option_map (λ x. x.place) (slice_get nodes n)
 
 -- lines can say all of it
 pub record MayBeSpelled (g : Graph) (d : Draft) : Type 0 where
   pub preds : AllByRecursion (MayBeNamed g) d.preds
   pub triples : AllByRecursion (MayBeShown g d.preds) d.triples
-  pub nodes : (n : ℕ) (x : Node) → slice_get d.nodes n ≡ Some x → MayStand g d.preds d.nodes n x
+  pub nodes : (n : ℕ) (x : OutlineNode) → slice_get d.nodes n ≡ Some x → MayStand g d.preds d.nodes n x
   pub steps : AllByRecursion (IsInScope g (node_place d.nodes)) d.steps

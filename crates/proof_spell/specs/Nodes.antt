@@ -19,7 +19,7 @@ use Rattle.proof_form.specs.Refutations as refs
 use Rattle.proof_form.specs.Refutations.{RefutationNode, is_part}
 use Rattle.proof_names.specs.Columns.{column_text}
 use Rattle.proof_names.specs.Predicates.{term_named, node_named}
-use Rattle.proof_names.specs.Refutations.{part_fits, part_of, node_of, node_is_named}
+use Rattle.proof_names.specs.Refutations.{part_fits, named_part, node_of, node_is_named}
 use Rattle.proof_spell.specs.Drafts.{IsWithin}
 
 -- ---- predicates
@@ -48,7 +48,7 @@ IsNodeWithin columns (Or n) = 2 ≤ n
 
 -- a node of the grammar names this one
 pub record SpellsNode (frame : Columns) (n : PredicateNode) (m : PredNode) : Type 0 where
-  pub valid : IsTrue (preds.is_node n)
+  pub valid : IsTrue (preds.is_predicate_node n)
   pub named : node_named frame n ≡ Some m
 
 -- ---- refutations
@@ -63,10 +63,10 @@ HasNumbers (nodes.cases n) = Unit {0}
 pub record SpellsPart (p : Numeral × Numeral) (q : ℕ × ℤ) : Type 0 where
   pub valid : IsTrue (is_part p)
   pub fits : IsTrue (part_fits p)
-  pub named : part_of p ≡ Some q
+  pub named : named_part p ≡ Some q
 
 -- a node of the grammar has these numbers, and is one over so many columns where this one is
 pub record SpellsBranch (n : RefutationNode) (m : PlainNode) : Type 0 where
-  pub valid : IsTrue (refs.is_node n)
+  pub valid : IsTrue (refs.is_refutation_node n)
   pub named : node_of n ≡ Some m
   pub fits : (columns : ℕ) → IsWithin columns m → IsTrue (node_is_named columns n)

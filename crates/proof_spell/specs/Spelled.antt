@@ -15,9 +15,9 @@ use Rattle.proof_names.specs.declared.outlines.NamedTriple.{NamedTriple}
 use Rattle.proof_names.specs.Numbers.{index_in, short_in}
 use Rattle.proof_names.specs.Options.{all_some}
 use Rattle.proof_names.specs.Predicates.{pred_named}
-use Rattle.proof_names.specs.Refutations.{is_named, refutation_of}
+use Rattle.proof_names.specs.Refutations.{refutation_is_named, refutation_of}
 use Rattle.proof_names.specs.Naming.{listed_of, proof_in, step_of, triple_at}
-use Rattle.proof_names.specs.Outlines.{Node, Sketch}
+use Rattle.proof_names.specs.Outlines.{OutlineNode, Sketch}
 use Rattle.proof_spell.specs.Correspond.{Correspond}
 use Rattle.proof_spell.specs.Drafts.{PlainShown, Draft, IsWithin}
 
@@ -53,10 +53,10 @@ pub record SpellsTriple (line : form.Triple) (t : PlainShown) : Type 0 where
   pub valid : IsTrue (is_triple line)
   pub numbers : listed_of line ≡ Some t.listed
   pub proof : refutation_of (proof_in line) ≡ Some t.proof
-  pub named : (columns : ℕ) → AllByRecursion (IsWithin columns) t.proof → IsTrue (is_named columns (proof_in line))
+  pub named : (columns : ℕ) → AllByRecursion (IsWithin columns) t.proof → IsTrue (refutation_is_named columns (proof_in line))
 
 -- a line of the grammar has these numbers
-pub record SpellsNode (line : form.Node) (x : Node) : Type 0 where
+pub record SpellsNode (line : form.Node) (x : OutlineNode) : Type 0 where
   pub valid : IsTrue (is_node line)
   pub place : short_in line.place ≡ Some x.place
   pub entry : index_in line.entry ≡ Some x.entry

@@ -6,7 +6,7 @@ ghost use Rattle.triple_rows.specs.Predicates.{IsAtom};
 ghost use Rattle.math_facts.specs.Terms.{IsBelow};
 ghost use Rattle.proof_form.specs.Predicates as form;
 ghost use Rattle.proof_form.specs.Lines as lines;
-ghost use Rattle.proof_names.specs.Columns.{has_entry};
+ghost use Rattle.proof_names.specs.Columns.{is_some_entry};
 ghost use Rattle.proof_spell.specs.Correspond.{Correspond};
 ghost use Rattle.proof_spell.specs.Drafts.{MayBeNamed};
 ghost use Rattle.proof_spell.specs.Nodes.{IsReadable, IsTermWithin, SpellsTerm, IsNodeWithin, SpellsNode};
@@ -58,7 +58,7 @@ fn atom_line(alloc: Global, frame: &[(Column, VarInfo)], row: &Row) -> Result<PN
     requires readable { IsReadable frame.now }
     requires atom { IsAtom row.now }
     requires within { IsBelow (length frame.now) row.now.terms }
-    ensures { IfOk result (λ n. SpellsNode frame.now (form.plain n) (PredNode.Atom row.now)) }
+    ensures { IfOk result (λ n. SpellsNode frame.now (form.plain_predicate_node n) (PredNode.Atom row.now)) }
 {
     let terms = term_lines(alloc, frame, row.terms())?;
     let bound = integer(alloc, row.bound())?;
@@ -73,7 +73,7 @@ fn node_line(
 ) -> Result<PNode, AllocError>
     requires readable { IsReadable frame.now }
     requires within { IsNodeWithin (length frame.now) node.now }
-    ensures { IfOk result (λ n. SpellsNode frame.now (form.plain n) node.now) }
+    ensures { IfOk result (λ n. SpellsNode frame.now (form.plain_predicate_node n) node.now) }
 {
     match node {
         PredNode::Truth(_) => unreachable!(),
@@ -91,7 +91,7 @@ fn node_lines(
 ) -> Result<Vec<PNode>, AllocError>
     requires readable { IsReadable frame.now }
     requires within { AllByRecursion (IsNodeWithin (length frame.now)) nodes.now }
-    ensures { IfOk result (λ v. Correspond (λ n. SpellsNode frame.now (form.plain n)) v.items nodes.now) }
+    ensures { IfOk result (λ v. Correspond (λ n. SpellsNode frame.now (form.plain_predicate_node n)) v.items nodes.now) }
 {
     let mut lines = Vec::with_capacity(alloc, nodes.len())?;
     for node in nodes {
@@ -102,7 +102,7 @@ fn node_lines(
 
 /// The name of a procedure.
 fn name_of(icfg: &Icfg, proc: u32) -> Result<Text, AllocError>
-    requires { IsTrue (has_entry (slice_get icfg.now.entries proc)) }
+    requires { IsTrue (is_some_entry (slice_get icfg.now.entries proc)) }
     ensures { IfOk result (λ n. slice_get icfg.now.names proc ≡ Some n) }
 {
     icfg.names()[proc as usize].copy()

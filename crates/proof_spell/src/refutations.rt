@@ -38,7 +38,7 @@ fn part_lines(alloc: Global, parts: &[(u32, i128)]) -> Result<Vec<(Numeral, Nume
 /// A node of a refutation.
 fn node_line(alloc: Global, node: &Node) -> Result<RNode, AllocError>
     requires { HasNumbers (plain node.now) }
-    ensures { IfOk result (λ n. SpellsBranch (form.plain n) (plain node.now)) }
+    ensures { IfOk result (λ n. SpellsBranch (form.plain_refutation_node n) (plain node.now)) }
 {
     match node {
         Node::Leaf(parts) => Ok(RNode::Leaf(part_lines(alloc, parts)?)),
@@ -53,7 +53,7 @@ fn node_line(alloc: Global, node: &Node) -> Result<RNode, AllocError>
 /// The nodes of a refutation.
 pub(crate) fn node_lines(alloc: Global, refutation: &Refutation) -> Result<Vec<RNode>, AllocError>
     requires { AllByRecursion HasNumbers refutation.now }
-    ensures spells { IfOk result (λ v. Correspond (λ n. SpellsBranch (form.plain n)) v.items refutation.now) }
+    ensures spells { IfOk result (λ v. Correspond (λ n. SpellsBranch (form.plain_refutation_node n)) v.items refutation.now) }
     ensures whole { IsTrue (is_tree refutation.now) }
 {
     let nodes = refutation.nodes();

@@ -44,7 +44,7 @@ fn inside_line(
     to: usize,
     proof: Vec<RNode>,
 ) -> Result<TripleLine, AllocError>
-    ensures { (ns : List PlainNode) → Correspond (λ n. SpellsBranch (form.plain n)) proof.items ns → IsTrue (is_tree ns) →
+    ensures { (ns : List PlainNode) → Correspond (λ n. SpellsBranch (form.plain_refutation_node n)) proof.items ns → IsTrue (is_tree ns) →
         IfOk result (λ line. SpellsTriple (lines.triple line) (record { listed = Inside from letter to; proof = ns })) }
 {
     let (from, letter, to) = move_numerals(alloc, from, letter, to)?;
@@ -64,7 +64,7 @@ fn call_line(
     to: usize,
     proof: Vec<RNode>,
 ) -> Result<TripleLine, AllocError>
-    ensures { (ns : List PlainNode) → Correspond (λ n. SpellsBranch (form.plain n)) proof.items ns → IsTrue (is_tree ns) →
+    ensures { (ns : List PlainNode) → Correspond (λ n. SpellsBranch (form.plain_refutation_node n)) proof.items ns → IsTrue (is_tree ns) →
         IfOk result (λ line. SpellsTriple (lines.triple line) (record { listed = Call from letter to; proof = ns })) }
 {
     let (from, letter, to) = move_numerals(alloc, from, letter, to)?;
@@ -85,7 +85,7 @@ fn back_line(
     to: usize,
     proof: Vec<RNode>,
 ) -> Result<TripleLine, AllocError>
-    ensures { (ns : List PlainNode) → Correspond (λ n. SpellsBranch (form.plain n)) proof.items ns → IsTrue (is_tree ns) →
+    ensures { (ns : List PlainNode) → Correspond (λ n. SpellsBranch (form.plain_refutation_node n)) proof.items ns → IsTrue (is_tree ns) →
         IfOk result (λ line. SpellsTriple (lines.triple line) (record { listed = Back exit before letter to; proof = ns })) }
 {
     let exit = index(alloc, exit)?;

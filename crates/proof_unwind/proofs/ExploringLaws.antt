@@ -6,7 +6,7 @@ use Rattle.nwa_base.specs.declared.letters.Letter.{Letter}
 use Rattle.nwa_base.specs.Members.{Member}
 use Rattle.nwa_base.specs.Automata.{Automaton}
 use Rattle.nwa_base.proofs.MemberLemmas.{member_front, member_rest}
-use Rattle.proof_names.specs.Outlines.{Node}
+use Rattle.proof_names.specs.Outlines.{OutlineNode}
 use Rattle.proof_spell.specs.Drafts.{AscendFrom}
 use Rattle.proof_check.specs.Steps.{IsOf, IsOpen}
 use Rattle.proof_unwind.specs.Unwindings.{node_at, node_place_in, entry_of, IsInsideStep, IsCallStep, IsBackStep, IsAlong, IsReached, IsPart, Claims, Spreads, bare}
@@ -56,7 +56,7 @@ both_back t s x c r k p = record {
 
 -- ---- claims
 
-claims_of : (Follows : ℕ → Type 0) (x : Node) (preds : List ℕ) → AreFollowing Follows preds → x.preds ≡ preds → (r : ℕ) → Follows r → Claims x r
+claims_of : (Follows : ℕ → Type 0) (x : OutlineNode) (preds : List ℕ) → AreFollowing Follows preds → x.preds ≡ preds → (r : ℕ) → Follows r → Claims x r
 claims_of Follows x preds f e r h = by_case (f.complete r h)
   where
     by_case : Member preds 1 ⊎ (r ≡ 0) ⊎ Member preds r → Claims x r
@@ -64,7 +64,7 @@ claims_of Follows x preds f e r h = by_case (f.complete r h)
     by_case (inr (inl z)) = inr (inl z)
     by_case (inr (inr m)) = inr (inr (subst (λ (l : List ℕ). Member l r) (sym e) m))
 
-spread_inside : (b t : Automaton) (nodes : List Node) (n : ℕ) (a : Letter) (k : ℕ) → Spreads b t nodes (λ q. q) → IsOpen (node_at nodes n) →
+spread_inside : (b t : Automaton) (nodes : List OutlineNode) (n : ℕ) (a : Letter) (k : ℕ) → Spreads b t nodes (λ q. q) → IsOpen (node_at nodes n) →
     ((r : ℕ) → InsideFollows b a (node_at nodes n) r → Claims (node_at nodes k) r) → Spreads b (with_inside t (n, a, k)) nodes (λ q. q)
 spread_inside b t nodes n a k h o f = record {
   start = h.start;
@@ -75,7 +75,7 @@ spread_inside b t nodes n a k h o f = record {
   backs = h.backs;
 }
 
-spread_call : (b t : Automaton) (nodes : List Node) (n : ℕ) (a : Letter) (k : ℕ) → Spreads b t nodes (λ q. q) → IsOpen (node_at nodes n) →
+spread_call : (b t : Automaton) (nodes : List OutlineNode) (n : ℕ) (a : Letter) (k : ℕ) → Spreads b t nodes (λ q. q) → IsOpen (node_at nodes n) →
     ((r : ℕ) → CallFollows b a (node_at nodes n) r → Claims (node_at nodes k) r) → Spreads b (with_call t (n, a, k)) nodes (λ q. q)
 spread_call b t nodes n a k h o f = record {
   start = h.start;
@@ -86,7 +86,7 @@ spread_call b t nodes n a k h o f = record {
   backs = h.backs;
 }
 
-spread_back : (b t : Automaton) (nodes : List Node) (x c : ℕ) (r : Letter) (k : ℕ) → Spreads b t nodes (λ q. q) → IsOpen (node_at nodes x) → IsOpen (node_at nodes c) →
+spread_back : (b t : Automaton) (nodes : List OutlineNode) (x c : ℕ) (r : Letter) (k : ℕ) → Spreads b t nodes (λ q. q) → IsOpen (node_at nodes x) → IsOpen (node_at nodes c) →
     ((j : ℕ) → BackFollows b r (node_at nodes x) (node_at nodes c) j → Claims (node_at nodes k) j) → Spreads b (with_back t (x, c, r, k)) nodes (λ q. q)
 spread_back b t nodes x c r k h o p f = record {
   start = h.start;
@@ -100,7 +100,7 @@ spread_back b t nodes x c r k h o p f = record {
 
 -- ---- to a node that is there
 
-pub covered_inside : (m b : Automaton) (nodes : List Node) (s : Automaton) (n : ℕ) (a : Letter) (k : ℕ) → IsExploring m b nodes s → IsInsideStep m nodes n a k →
+pub covered_inside : (m b : Automaton) (nodes : List OutlineNode) (s : Automaton) (n : ℕ) (a : Letter) (k : ℕ) → IsExploring m b nodes s → IsInsideStep m nodes n a k →
     ((r : ℕ) → Member (node_at nodes k).preds r → InsideFollows b a (node_at nodes n) r) → IsExploring m b nodes (with_inside s (n, a, k))
 covered_inside m b nodes s n a k h d f = record {
   first = h.first;
@@ -119,7 +119,7 @@ covered_inside m b nodes s n a k h d f = record {
   spread = h.spread;
 }
 
-pub covered_back : (m b : Automaton) (nodes : List Node) (s : Automaton) (x c : ℕ) (r : Letter) (k : ℕ) → IsExploring m b nodes s → IsBackStep m nodes s x c r k →
+pub covered_back : (m b : Automaton) (nodes : List OutlineNode) (s : Automaton) (x c : ℕ) (r : Letter) (k : ℕ) → IsExploring m b nodes s → IsBackStep m nodes s x c r k →
     ((j : ℕ) → Member (node_at nodes k).preds j → BackFollows b r (node_at nodes x) (node_at nodes c) j) → IsExploring m b nodes (with_back s (x, c, r, k))
 covered_back m b nodes s x c r k h d f = record {
   first = h.first;
@@ -138,7 +138,7 @@ covered_back m b nodes s x c r k h d f = record {
   spread = h.spread;
 }
 
-pub covered_call : (m b : Automaton) (nodes : List Node) (s : Automaton) (n : ℕ) (a : Letter) (k : ℕ) → IsExploring m b nodes s → IsCallStep m nodes n a k → IsOpen (node_at nodes n) →
+pub covered_call : (m b : Automaton) (nodes : List OutlineNode) (s : Automaton) (n : ℕ) (a : Letter) (k : ℕ) → IsExploring m b nodes s → IsCallStep m nodes n a k → IsOpen (node_at nodes n) →
     AreFollowing (CallFollows b a (node_at nodes n)) (node_at nodes k).preds → IsExploring m b nodes (with_call s (n, a, k))
 covered_call m b nodes s n a k h d o f = record {
   first = h.first;
@@ -161,7 +161,7 @@ covered_call m b nodes s n a k h d o f = record {
 -- ---- with a new node
 
 -- nodes and steps with one node more, which no step leads to yet
-record WithNode (m b : Automaton) (nodes : List Node) (s : Automaton) (x : Node) (h : IsExploring m b nodes s) : Type 0 where
+record WithNode (m b : Automaton) (nodes : List OutlineNode) (s : Automaton) (x : OutlineNode) (h : IsExploring m b nodes s) : Type 0 where
   first : slice_get (nodes ++ x ∷ []) 0 ≡ Some bare
   states : (with_state s).states ≡ length (nodes ++ x ∷ [])
   along : IsAlong m (nodes ++ x ∷ []) s
@@ -169,12 +169,12 @@ record WithNode (m b : Automaton) (nodes : List Node) (s : Automaton) (x : Node)
   ascend : (n : ℕ) → n < length (nodes ++ x ∷ []) → AscendFrom 1 (node_at (nodes ++ x ∷ []) n).preds
   spread : Spreads b h.tree (nodes ++ x ∷ []) (λ q. q)
 
-first_stays : (nodes : List Node) (x : Node) → slice_get nodes 0 ≡ Some bare → slice_get (nodes ++ x ∷ []) 0 ≡ Some bare
+first_stays : (nodes : List OutlineNode) (x : OutlineNode) → slice_get nodes 0 ≡ Some bare → slice_get (nodes ++ x ∷ []) 0 ≡ Some bare
 first_stays [] x e = absurd (cc)
 first_stays (y ∷ nodes) x e = e
 
 -- each number of a node is one of the old nodes or the new one
-pub old_or_new : (P : ℕ → Type 0) (nodes : List Node) (x : Node) → ((n : ℕ) → n < length nodes → P n) → P (length nodes) → (n : ℕ) → n < length (nodes ++ x ∷ []) → P n
+pub old_or_new : (P : ℕ → Type 0) (nodes : List OutlineNode) (x : OutlineNode) → ((n : ℕ) → n < length nodes → P n) → P (length nodes) → (n : ℕ) → n < length (nodes ++ x ∷ []) → P n
 old_or_new P nodes x h p n l = elim (cases_lt n (length nodes)) [
   | inl k ↦ h n k
   | inr k ↦ let e : length (nodes ++ x ∷ []) ≡ length nodes + 1 = more_long nodes x in let q : length nodes ≡ n = omega (arith, e, k, l) in subst P q p
@@ -185,37 +185,37 @@ old_or_new P nodes x h p n l = elim (cases_lt n (length nodes)) [
     cases_lt zero (suc j) = inl (omega arith)
     cases_lt (suc i) (suc j) = elim (cases_lt i j) [ inl k ↦ inl (omega arith) | inr k ↦ inr (omega arith) ]
 
-with_node : (m b : Automaton) (nodes : List Node) (s : Automaton) (x : Node) (h : IsExploring m b nodes s) → AscendFrom 1 x.preds → WithNode m b nodes s x h
+with_node : (m b : Automaton) (nodes : List OutlineNode) (s : Automaton) (x : OutlineNode) (h : IsExploring m b nodes s) → AscendFrom 1 x.preds → WithNode m b nodes s x h
 with_node m b nodes s x h a = record {
   first = first_stays nodes x h.first;
   states = let e = more_long nodes x in let k = h.states in omega (arith, e, k);
   along = along_more m nodes x s h.along;
   shown = shown_more m b nodes x s h.along h.shown;
   ascend = old_or_new (λ n. AscendFrom 1 (node_at (nodes ++ x ∷ []) n).preds) nodes x
-      (λ n l. subst (λ (y : Node). AscendFrom 1 y.preds) (sym (more_at nodes x n l)) (h.ascend n l)) (subst (λ (y : Node). AscendFrom 1 y.preds) (sym (last_at nodes x)) a);
+      (λ n l. subst (λ (y : OutlineNode). AscendFrom 1 y.preds) (sym (more_at nodes x n l)) (h.ascend n l)) (subst (λ (y : OutlineNode). AscendFrom 1 y.preds) (sym (last_at nodes x)) a);
   spread = spread_more m b h.tree nodes x s h.along h.part h.spread;
 }
 
-old_reached : (nodes : List Node) (x : Node) (t u : Automaton) (n : ℕ) → n < length nodes → IsPart t u → IsReached t (entry_of nodes n) n → IsReached u (entry_of (nodes ++ x ∷ []) n) n
-old_reached nodes x t u n l p r = subst (λ (y : Node). IsReached u y.entry n) (sym (more_at nodes x n l)) (reached_more t u (entry_of nodes n) n p r)
+old_reached : (nodes : List OutlineNode) (x : OutlineNode) (t u : Automaton) (n : ℕ) → n < length nodes → IsPart t u → IsReached t (entry_of nodes n) n → IsReached u (entry_of (nodes ++ x ∷ []) n) n
+old_reached nodes x t u n l p r = subst (λ (y : OutlineNode). IsReached u y.entry n) (sym (more_at nodes x n l)) (reached_more t u (entry_of nodes n) n p r)
 
-pub fresh_inside : (m b : Automaton) (nodes : List Node) (s : Automaton) (n : ℕ) (a : Letter) (x : Node) → IsExploring m b nodes s → n < length nodes → IsOpen (node_at nodes n) →
+pub fresh_inside : (m b : Automaton) (nodes : List OutlineNode) (s : Automaton) (n : ℕ) (a : Letter) (x : OutlineNode) → IsExploring m b nodes s → n < length nodes → IsOpen (node_at nodes n) →
     a.kind ≡ kinds.Inside → Member m.insides (node_place_in nodes n, a, x.place) → x.entry ≡ entry_of nodes n → AreFollowing (InsideFollows b a (node_at nodes n)) x.preds →
     IsExploring m b (nodes ++ x ∷ []) (with_inside (with_state s) (n, a, length nodes))
 fresh_inside m b nodes s n a x h l o kind e en f =
     let K : ℕ = length nodes in
-    let new : List Node = nodes ++ x ∷ [] in
+    let new : List OutlineNode = nodes ++ x ∷ [] in
     let w = with_node m b nodes s x h f.ascend in
     let old : node_at new n ≡ node_at nodes n = more_at nodes x n l in
     let last : node_at new K ≡ x = last_at nodes x in
     let d : IsInsideStep m new n a K = record {
       «from» = longer nodes x n l;
       to = let q = more_long nodes x in omega (arith, q);
-      edge = subst (λ (y : Node). Member m.insides (y.place, a, node_place_in new K)) (sym old) (subst (λ (y : Node). Member m.insides (node_place_in nodes n, a, y.place)) (sym last) e);
-      entry = ap (λ (y : Node). y.entry) last ∙ en ∙ ap (λ (y : Node). y.entry) (sym old);
+      edge = subst (λ (y : OutlineNode). Member m.insides (y.place, a, node_place_in new K)) (sym old) (subst (λ (y : OutlineNode). Member m.insides (node_place_in nodes n, a, y.place)) (sym last) e);
+      entry = ap (λ (y : OutlineNode). y.entry) last ∙ en ∙ ap (λ (y : OutlineNode). y.entry) (sym old);
     } in
-    let follows : AreFollowing (InsideFollows b a (node_at new n)) x.preds = subst (λ (y : Node). AreFollowing (InsideFollows b a y) x.preds) (sym old) f in
-    let opens : IsOpen (node_at new n) = subst (λ (y : Node). IsOpen y) (sym old) o in
+    let follows : AreFollowing (InsideFollows b a (node_at new n)) x.preds = subst (λ (y : OutlineNode). AreFollowing (InsideFollows b a y) x.preds) (sym old) f in
+    let opens : IsOpen (node_at new n) = subst (λ (y : OutlineNode). IsOpen y) (sym old) o in
     let t : Automaton = with_inside h.tree (n, a, K) in
     record {
       first = w.first;
@@ -236,7 +236,7 @@ fresh_inside m b nodes s n a x h l o kind e en f =
       }) d;
       shown = record {
         insides = step_more (λ q c k. (r : ℕ) → Member (node_at new k).preds r → InsideFollows b c (node_at new q) r) s.insides n a K w.shown.insides
-            (λ r i. follows.sound r (subst (λ (y : Node). Member y.preds r) last i));
+            (λ r i. follows.sound r (subst (λ (y : OutlineNode). Member y.preds r) last i));
         calls = w.shown.calls;
         backs = w.shown.backs;
       };
@@ -245,15 +245,15 @@ fresh_inside m b nodes s n a x h l o kind e en f =
       part = let p = both_inside h.tree s n a K h.part in record { insides = p.insides; calls = p.calls; backs = p.backs };
       all_calls = h.all_calls;
       reached = old_or_new (λ q. IsReached t (entry_of new q) q) nodes x (λ q i. old_reached nodes x h.tree t q i (more_inside h.tree (n, a, K)) (h.reached q i))
-          (subst (λ (q : ℕ). IsReached t q K) (sym (ap (λ (y : Node). y.entry) last ∙ en))
+          (subst (λ (q : ℕ). IsReached t q K) (sym (ap (λ (y : OutlineNode). y.entry) last ∙ en))
           (reached_inside t (entry_of nodes n) n a K (reached_more h.tree t (entry_of nodes n) n (more_inside h.tree (n, a, K)) (h.reached n l)) kind
           (member_rest h.tree.insides ((n, a, K) ∷ []) (n, a, K) (inl refl))));
       spread = spread_inside b h.tree new n a K w.spread opens
-          (claims_of (InsideFollows b a (node_at new n)) (node_at new K) x.preds follows (ap (λ (y : Node). y.preds) last));
+          (claims_of (InsideFollows b a (node_at new n)) (node_at new K) x.preds follows (ap (λ (y : OutlineNode). y.preds) last));
     }
 
 -- steps along with one state more
-state_along : (m : Automaton) (nodes : List Node) (s : Automaton) → IsAlong m nodes s → IsAlong m nodes (with_state s)
+state_along : (m : Automaton) (nodes : List OutlineNode) (s : Automaton) → IsAlong m nodes s → IsAlong m nodes (with_state s)
 state_along m nodes s h = record {
   insides = h.insides;
   calls = h.calls;
@@ -261,24 +261,24 @@ state_along m nodes s h = record {
       record { exit = z.exit; before = z.before; to = z.to; edge = z.edge; entry = z.entry; letter = z.letter; joined = z.joined; names = z.names };
 }
 
-pub fresh_call : (m b : Automaton) (nodes : List Node) (s : Automaton) (n : ℕ) (a : Letter) (x : Node) → IsExploring m b nodes s → n < length nodes → IsOpen (node_at nodes n) →
+pub fresh_call : (m b : Automaton) (nodes : List OutlineNode) (s : Automaton) (n : ℕ) (a : Letter) (x : OutlineNode) → IsExploring m b nodes s → n < length nodes → IsOpen (node_at nodes n) →
     a.kind ≡ kinds.Call → Member m.calls (node_place_in nodes n, a, x.place) → x.entry ≡ length nodes → AreFollowing (CallFollows b a (node_at nodes n)) x.preds →
     IsExploring m b (nodes ++ x ∷ []) (with_call (with_state s) (n, a, length nodes))
 fresh_call m b nodes s n a x h l o kind e en f =
     let K : ℕ = length nodes in
-    let new : List Node = nodes ++ x ∷ [] in
+    let new : List OutlineNode = nodes ++ x ∷ [] in
     let w = with_node m b nodes s x h f.ascend in
     let old : node_at new n ≡ node_at nodes n = more_at nodes x n l in
     let last : node_at new K ≡ x = last_at nodes x in
-    let own : entry_of new K ≡ K = ap (λ (y : Node). y.entry) last ∙ en in
+    let own : entry_of new K ≡ K = ap (λ (y : OutlineNode). y.entry) last ∙ en in
     let d : IsCallStep m new n a K = record {
       «from» = longer nodes x n l;
       to = let q = more_long nodes x in omega (arith, q);
-      edge = subst (λ (y : Node). Member m.calls (y.place, a, node_place_in new K)) (sym old) (subst (λ (y : Node). Member m.calls (node_place_in nodes n, a, y.place)) (sym last) e);
+      edge = subst (λ (y : OutlineNode). Member m.calls (y.place, a, node_place_in new K)) (sym old) (subst (λ (y : OutlineNode). Member m.calls (node_place_in nodes n, a, y.place)) (sym last) e);
       entry = own;
     } in
-    let follows : AreFollowing (CallFollows b a (node_at new n)) x.preds = subst (λ (y : Node). AreFollowing (CallFollows b a y) x.preds) (sym old) f in
-    let opens : IsOpen (node_at new n) = subst (λ (y : Node). IsOpen y) (sym old) o in
+    let follows : AreFollowing (CallFollows b a (node_at new n)) x.preds = subst (λ (y : OutlineNode). AreFollowing (CallFollows b a y) x.preds) (sym old) f in
+    let opens : IsOpen (node_at new n) = subst (λ (y : OutlineNode). IsOpen y) (sym old) o in
     let t : Automaton = with_call h.tree (n, a, K) in
     record {
       first = w.first;
@@ -287,7 +287,7 @@ fresh_call m b nodes s n a x h l o kind e en f =
       shown = record {
         insides = w.shown.insides;
         calls = step_more (λ q c k. (r : ℕ) → Member (node_at new k).preds r → CallFollows b c (node_at new q) r) s.calls n a K w.shown.calls
-            (λ r i. follows.sound r (subst (λ (y : Node). Member y.preds r) last i));
+            (λ r i. follows.sound r (subst (λ (y : OutlineNode). Member y.preds r) last i));
         backs = w.shown.backs;
       };
       ascend = w.ascend;
@@ -300,16 +300,16 @@ fresh_call m b nodes s n a x h l o kind e en f =
           (reached_call t (entry_of nodes n) n a K (reached_more h.tree t (entry_of nodes n) n (more_call h.tree (n, a, K)) (h.reached n l)) kind
           (member_rest h.tree.calls ((n, a, K) ∷ []) (n, a, K) (inl refl))));
       spread = spread_call b h.tree new n a K w.spread opens
-          (claims_of (CallFollows b a (node_at new n)) (node_at new K) x.preds follows (ap (λ (y : Node). y.preds) last));
+          (claims_of (CallFollows b a (node_at new n)) (node_at new K) x.preds follows (ap (λ (y : OutlineNode). y.preds) last));
     }
 
-pub fresh_back : (m b : Automaton) (nodes : List Node) (s : Automaton) (y c : ℕ) (a r : Letter) (x : Node) → IsExploring m b nodes s → y < length nodes → c < length nodes →
+pub fresh_back : (m b : Automaton) (nodes : List OutlineNode) (s : Automaton) (y c : ℕ) (a r : Letter) (x : OutlineNode) → IsExploring m b nodes s → y < length nodes → c < length nodes →
     IsOpen (node_at nodes y) → IsOpen (node_at nodes c) → a.kind ≡ kinds.Call → r.kind ≡ kinds.Back → Member s.calls (c, a, entry_of nodes y) → r.call ≡ a.id →
     Member m.backs (node_place_in nodes y, node_place_in nodes c, r, x.place) → x.entry ≡ entry_of nodes c → AreFollowing (BackFollows b r (node_at nodes y) (node_at nodes c)) x.preds →
     IsExploring m b (nodes ++ x ∷ []) (with_back (with_state s) (y, c, r, length nodes))
 fresh_back m b nodes s y c a r x h l k o p ka kr j id e en f =
     let K : ℕ = length nodes in
-    let new : List Node = nodes ++ x ∷ [] in
+    let new : List OutlineNode = nodes ++ x ∷ [] in
     let w = with_node m b nodes s x h f.ascend in
     let olds : node_at new y ≡ node_at nodes y = more_at nodes x y l in
     let oldc : node_at new c ≡ node_at nodes c = more_at nodes x c k in
@@ -318,16 +318,16 @@ fresh_back m b nodes s y c a r x h l k o p ka kr j id e en f =
       exit = longer nodes x y l;
       before = longer nodes x c k;
       to = let q = more_long nodes x in omega (arith, q);
-      edge = subst (λ (v : Node). Member m.backs (v.place, node_place_in new c, r, node_place_in new K)) (sym olds)
-          (subst (λ (v : Node). Member m.backs (node_place_in nodes y, v.place, r, node_place_in new K)) (sym oldc)
-          (subst (λ (v : Node). Member m.backs (node_place_in nodes y, node_place_in nodes c, r, v.place)) (sym last) e));
-      entry = ap (λ (v : Node). v.entry) last ∙ en ∙ ap (λ (v : Node). v.entry) (sym oldc);
+      edge = subst (λ (v : OutlineNode). Member m.backs (v.place, node_place_in new c, r, node_place_in new K)) (sym olds)
+          (subst (λ (v : OutlineNode). Member m.backs (node_place_in nodes y, v.place, r, node_place_in new K)) (sym oldc)
+          (subst (λ (v : OutlineNode). Member m.backs (node_place_in nodes y, node_place_in nodes c, r, v.place)) (sym last) e));
+      entry = ap (λ (v : OutlineNode). v.entry) last ∙ en ∙ ap (λ (v : OutlineNode). v.entry) (sym oldc);
       letter = a;
-      joined = subst (λ (v : Node). Member s.calls (c, a, v.entry)) (sym olds) j;
+      joined = subst (λ (v : OutlineNode). Member s.calls (c, a, v.entry)) (sym olds) j;
       names = id;
     } in
     let follows : AreFollowing (BackFollows b r (node_at new y) (node_at new c)) x.preds =
-    subst (λ (v : Node). AreFollowing (BackFollows b r v (node_at new c)) x.preds) (sym olds) (subst (λ (v : Node). AreFollowing (BackFollows b r (node_at nodes y) v) x.preds) (sym oldc) f) in
+    subst (λ (v : OutlineNode). AreFollowing (BackFollows b r v (node_at new c)) x.preds) (sym olds) (subst (λ (v : OutlineNode). AreFollowing (BackFollows b r (node_at nodes y) v) x.preds) (sym oldc) f) in
     let t : Automaton = with_back h.tree (y, c, r, K) in
     record {
       first = w.first;
@@ -337,19 +337,19 @@ fresh_back m b nodes s y c a r x h l k o p ka kr j id e en f =
         insides = w.shown.insides;
         calls = w.shown.calls;
         backs = back_step_more (λ q i v z. (g : ℕ) → Member (node_at new z).preds g → BackFollows b v (node_at new q) (node_at new i) g) s.backs y c r K w.shown.backs
-            (λ g i. follows.sound g (subst (λ (v : Node). Member v.preds g) last i));
+            (λ g i. follows.sound g (subst (λ (v : OutlineNode). Member v.preds g) last i));
       };
       ascend = w.ascend;
       tree = t;
       part = let q = both_back h.tree s y c r K h.part in record { insides = q.insides; calls = q.calls; backs = q.backs };
       all_calls = h.all_calls;
       reached = old_or_new (λ q. IsReached t (entry_of new q) q) nodes x (λ q i. old_reached nodes x h.tree t q i (more_back h.tree (y, c, r, K)) (h.reached q i))
-          (subst (λ (q : ℕ). IsReached t q K) (sym (ap (λ (v : Node). v.entry) last ∙ en))
+          (subst (λ (q : ℕ). IsReached t q K) (sym (ap (λ (v : OutlineNode). v.entry) last ∙ en))
           (reached_back t (entry_of nodes c) y c a (entry_of nodes y) r K (reached_more h.tree t (entry_of nodes y) y (more_back h.tree (y, c, r, K)) (h.reached y l))
           (reached_more h.tree t (entry_of nodes c) c (more_back h.tree (y, c, r, K)) (h.reached c k)) ka (h.all_calls c a (entry_of nodes y) j) kr
           (member_rest h.tree.backs ((y, c, r, K) ∷ []) (y, c, r, K) (inl refl))));
-      spread = spread_back b h.tree new y c r K w.spread (subst (λ (v : Node). IsOpen v) (sym olds) o) (subst (λ (v : Node). IsOpen v) (sym oldc) p)
-          (claims_of (BackFollows b r (node_at new y) (node_at new c)) (node_at new K) x.preds follows (ap (λ (v : Node). v.preds) last));
+      spread = spread_back b h.tree new y c r K w.spread (subst (λ (v : OutlineNode). IsOpen v) (sym olds) o) (subst (λ (v : OutlineNode). IsOpen v) (sym oldc) p)
+          (claims_of (BackFollows b r (node_at new y) (node_at new c)) (node_at new K) x.preds follows (ap (λ (v : OutlineNode). v.preds) last));
     }
 
 -- where nothing is searched yet

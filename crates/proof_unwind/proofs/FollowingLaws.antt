@@ -14,7 +14,7 @@ use Rattle.nwa_base.specs.Automata.{Automaton}
 use Rattle.nwa_base.specs.Edges.{ends, back_ends}
 use Rattle.nwa_base.proofs.LetterLemmas.{same_letter-true, same_letter-refl, and_left, and_right}
 use Rattle.nwa_base.proofs.MemberLemmas.{member_split, member_front, member_rest, member_map, member_from_map, member_filter, filter_member}
-use Rattle.proof_names.specs.Outlines.{Node}
+use Rattle.proof_names.specs.Outlines.{OutlineNode}
 use Rattle.proof_spell.specs.Drafts.{AscendFrom}
 use Rattle.proof_check.specs.Steps.{IsOf}
 use Rattle.proof_unwind.specs.Exploring.{InsideFollows, CallFollows, BackFollows, AreFollowing, IsChosen}
@@ -72,11 +72,11 @@ to_flat f [] x r h m = absurd h
 to_flat f (y ∷ xs) x r (inl e) m = member_front (f y) (flat_map f xs) r (subst (λ (z : ℕ). Member (f z) r) (sym e) m)
 to_flat f (y ∷ xs) x r (inr h) m = member_rest (f y) (flat_map f xs) r (to_flat f xs x r h m)
 
-source_of : (x : Node) (preds : List ℕ) (q : ℕ) → x.preds ≡ preds → Member (0 ∷ preds) q → IsOf q x
+source_of : (x : OutlineNode) (preds : List ℕ) (q : ℕ) → x.preds ≡ preds → Member (0 ∷ preds) q → IsOf q x
 source_of x preds q e (inl z) = inl (sym z)
 source_of x preds q e (inr m) = inr (subst (λ (l : List ℕ). Member l q) (sym e) m)
 
-of_source : (x : Node) (preds : List ℕ) (q : ℕ) → x.preds ≡ preds → IsOf q x → Member (0 ∷ preds) q
+of_source : (x : OutlineNode) (preds : List ℕ) (q : ℕ) → x.preds ≡ preds → IsOf q x → Member (0 ∷ preds) q
 of_source x preds q e (inl z) = inl (sym z)
 of_source x preds q e (inr m) = inr (subst (λ (l : List ℕ). Member l q) e m)
 
@@ -85,7 +85,7 @@ chosen_follow : (Follows : ℕ → Type 0) (numbers preds : List ℕ) → ((r : 
 chosen_follow Follows numbers preds f g c = record { ascend = c.ascend; sound = λ r m. f r (c.sound r m); complete = λ r m. c.complete r (g r m) }
 
 pub inside_chosen : {V E : Type 0} (items : V → List ℕ) (b : Automaton) (a : Letter) (preds sources targets : List ℕ) (r : Result V E) → sources ≡ 0 ∷ preds →
-    targets ≡ flat_map (λ q. ends q a b.insides) sources → IfOk r (λ v. IsChosen targets (items v)) → IfOk r (λ v. (x : Node) → x.preds ≡ preds → AreFollowing (InsideFollows b a x) (items v))
+    targets ≡ flat_map (λ q. ends q a b.insides) sources → IfOk r (λ v. IsChosen targets (items v)) → IfOk r (λ v. (x : OutlineNode) → x.preds ≡ preds → AreFollowing (InsideFollows b a x) (items v))
 inside_chosen items b a preds sources targets (Err e) s t c = c
 inside_chosen items b a preds sources targets (Ok v) s t c = λ x e. chosen_follow (InsideFollows b a x) targets (items v)
     (λ r m. let k = from_flat (λ q. ends q a b.insides) sources r (subst (λ (l : List ℕ). Member l r) t m) in
@@ -94,7 +94,7 @@ inside_chosen items b a preds sources targets (Ok v) s t c = λ x e. chosen_foll
     (there_end f.0 r a b.insides f.1))) c
 
 pub call_chosen : {V E : Type 0} (items : V → List ℕ) (b : Automaton) (a : Letter) (preds sources targets : List ℕ) (r : Result V E) → sources ≡ 0 ∷ preds →
-    targets ≡ flat_map (λ q. ends q a b.calls) sources → IfOk r (λ v. IsChosen targets (items v)) → IfOk r (λ v. (x : Node) → x.preds ≡ preds → AreFollowing (CallFollows b a x) (items v))
+    targets ≡ flat_map (λ q. ends q a b.calls) sources → IfOk r (λ v. IsChosen targets (items v)) → IfOk r (λ v. (x : OutlineNode) → x.preds ≡ preds → AreFollowing (CallFollows b a x) (items v))
 call_chosen items b a preds sources targets (Err e) s t c = c
 call_chosen items b a preds sources targets (Ok v) s t c = λ x e. chosen_follow (CallFollows b a x) targets (items v)
     (λ r m. let k = from_flat (λ q. ends q a b.calls) sources r (subst (λ (l : List ℕ). Member l r) t m) in
@@ -104,7 +104,7 @@ call_chosen items b a preds sources targets (Ok v) s t c = λ x e. chosen_follow
 
 pub back_chosen : {V E : Type 0} (items : V → List ℕ) (b : Automaton) (a : Letter) (exit before exits callers targets : List ℕ) (r : Result V E) → exits ≡ 0 ∷ exit → callers ≡ 0 ∷ before →
     targets ≡ flat_map (λ q. flat_map (λ p. back_ends q p a b.backs) callers) exits → IfOk r (λ v. IsChosen targets (items v)) →
-    IfOk r (λ v. (x c : Node) → x.preds ≡ exit → c.preds ≡ before → AreFollowing (BackFollows b a x c) (items v))
+    IfOk r (λ v. (x c : OutlineNode) → x.preds ≡ exit → c.preds ≡ before → AreFollowing (BackFollows b a x c) (items v))
 back_chosen items b a exit before exits callers targets (Err e) s u t c = c
 back_chosen items b a exit before exits callers targets (Ok v) s u t c = λ x d e f. chosen_follow (BackFollows b a x d) targets (items v)
     (λ r m. let k = from_flat (λ q. flat_map (λ p. back_ends q p a b.backs) callers) exits r (subst (λ (l : List ℕ). Member l r) t m) in

@@ -8,41 +8,41 @@ use Rattle.nwa_base.specs.Automata.{Automaton}
 use Rattle.nwa_base.specs.Acceptance.{Follows, Moves}
 use Rattle.nwa_base.proofs.MemberLemmas.{member_front, member_split}
 use Rattle.nwa_base.proofs.WayLemmas.{moves_join, moves_below}
-use Rattle.proof_names.specs.Outlines.{Node}
+use Rattle.proof_names.specs.Outlines.{OutlineNode}
 use Rattle.proof_check.specs.Steps.{IsOf, IsOpen}
 use Rattle.proof_unwind.specs.Unwindings.{node_at, entry_of, IsInsideStep, IsCallStep, IsBackStep, IsAlong, IsReached, IsPart, Claims, Spreads}
 use Rattle.proof_unwind.specs.Exploring.{InsideFollows, CallFollows, BackFollows, AreShown, with_inside, with_call, with_back}
 
 -- ---- one node more
 
-pub more_at : (nodes : List Node) (x : Node) (n : ℕ) → n < length nodes → node_at (nodes ++ x ∷ []) n ≡ node_at nodes n
+pub more_at : (nodes : List OutlineNode) (x : OutlineNode) (n : ℕ) → n < length nodes → node_at (nodes ++ x ∷ []) n ≡ node_at nodes n
 more_at [] x n l = absurd (omega arith)
 more_at (y ∷ nodes) x zero l = refl
 more_at (y ∷ nodes) x (suc n) l = more_at nodes x n (omega arith)
 
-pub last_at : (nodes : List Node) (x : Node) → node_at (nodes ++ x ∷ []) (length nodes) ≡ x
+pub last_at : (nodes : List OutlineNode) (x : OutlineNode) → node_at (nodes ++ x ∷ []) (length nodes) ≡ x
 last_at [] x = refl
 last_at (y ∷ nodes) x = last_at nodes x
 
-pub more_long : (nodes : List Node) (x : Node) → length (nodes ++ x ∷ []) ≡ length nodes + 1
+pub more_long : (nodes : List OutlineNode) (x : OutlineNode) → length (nodes ++ x ∷ []) ≡ length nodes + 1
 more_long nodes x = length-append nodes (x ∷ [])
 
-pub longer : (nodes : List Node) (x : Node) (n : ℕ) → n < length nodes → n < length (nodes ++ x ∷ [])
+pub longer : (nodes : List OutlineNode) (x : OutlineNode) (n : ℕ) → n < length nodes → n < length (nodes ++ x ∷ [])
 longer nodes x n l = let e = more_long nodes x in omega (arith, e, l)
 
 -- what is said of nodes that stay
-two : (P : Node → Node → Type 0) (nodes : List Node) (x : Node) (n k : ℕ) → n < length nodes → k < length nodes → P (node_at nodes n) (node_at nodes k) →
+two : (P : OutlineNode → OutlineNode → Type 0) (nodes : List OutlineNode) (x : OutlineNode) (n k : ℕ) → n < length nodes → k < length nodes → P (node_at nodes n) (node_at nodes k) →
     P (node_at (nodes ++ x ∷ []) n) (node_at (nodes ++ x ∷ []) k)
 two P nodes x n k l m p =
-    subst (λ (y : Node). P (node_at (nodes ++ x ∷ []) n) y) (sym (more_at nodes x k m)) (subst (λ (y : Node). P y (node_at nodes k)) (sym (more_at nodes x n l)) p)
+    subst (λ (y : OutlineNode). P (node_at (nodes ++ x ∷ []) n) y) (sym (more_at nodes x k m)) (subst (λ (y : OutlineNode). P y (node_at nodes k)) (sym (more_at nodes x n l)) p)
 
-three : (P : Node → Node → Node → Type 0) (nodes : List Node) (x : Node) (n k j : ℕ) → n < length nodes → k < length nodes → j < length nodes →
+three : (P : OutlineNode → OutlineNode → OutlineNode → Type 0) (nodes : List OutlineNode) (x : OutlineNode) (n k j : ℕ) → n < length nodes → k < length nodes → j < length nodes →
     P (node_at nodes n) (node_at nodes k) (node_at nodes j) → P (node_at (nodes ++ x ∷ []) n) (node_at (nodes ++ x ∷ []) k) (node_at (nodes ++ x ∷ []) j)
 three P nodes x n k j l m o p =
-    subst (λ (y : Node). P (node_at (nodes ++ x ∷ []) n) (node_at (nodes ++ x ∷ []) k) y) (sym (more_at nodes x j o))
+    subst (λ (y : OutlineNode). P (node_at (nodes ++ x ∷ []) n) (node_at (nodes ++ x ∷ []) k) y) (sym (more_at nodes x j o))
     (two (λ a b. P a b (node_at nodes j)) nodes x n k l m p)
 
-inside_more : (m : Automaton) (nodes : List Node) (x : Node) (n : ℕ) (a : Letter) (k : ℕ) → IsInsideStep m nodes n a k → IsInsideStep m (nodes ++ x ∷ []) n a k
+inside_more : (m : Automaton) (nodes : List OutlineNode) (x : OutlineNode) (n : ℕ) (a : Letter) (k : ℕ) → IsInsideStep m nodes n a k → IsInsideStep m (nodes ++ x ∷ []) n a k
 inside_more m nodes x n a k d = record {
   «from» = longer nodes x n d.from;
   to = longer nodes x k d.to;
@@ -50,7 +50,7 @@ inside_more m nodes x n a k d = record {
   entry = two (λ y z. z.entry ≡ y.entry) nodes x n k d.from d.to d.entry;
 }
 
-call_more : (m : Automaton) (nodes : List Node) (x : Node) (n : ℕ) (a : Letter) (k : ℕ) → IsCallStep m nodes n a k → IsCallStep m (nodes ++ x ∷ []) n a k
+call_more : (m : Automaton) (nodes : List OutlineNode) (x : OutlineNode) (n : ℕ) (a : Letter) (k : ℕ) → IsCallStep m nodes n a k → IsCallStep m (nodes ++ x ∷ []) n a k
 call_more m nodes x n a k d = record {
   «from» = longer nodes x n d.from;
   to = longer nodes x k d.to;
@@ -58,7 +58,7 @@ call_more m nodes x n a k d = record {
   entry = two (λ y z. z.entry ≡ k) nodes x n k d.from d.to d.entry;
 }
 
-back_more : (m : Automaton) (nodes : List Node) (x : Node) (s : Automaton) (q c : ℕ) (r : Letter) (k : ℕ) → IsBackStep m nodes s q c r k → IsBackStep m (nodes ++ x ∷ []) s q c r k
+back_more : (m : Automaton) (nodes : List OutlineNode) (x : OutlineNode) (s : Automaton) (q c : ℕ) (r : Letter) (k : ℕ) → IsBackStep m nodes s q c r k → IsBackStep m (nodes ++ x ∷ []) s q c r k
 back_more m nodes x s q c r k d = record {
   exit = longer nodes x q d.exit;
   before = longer nodes x c d.before;
@@ -70,14 +70,14 @@ back_more m nodes x s q c r k d = record {
   names = d.names;
 }
 
-pub along_more : (m : Automaton) (nodes : List Node) (x : Node) (s : Automaton) → IsAlong m nodes s → IsAlong m (nodes ++ x ∷ []) s
+pub along_more : (m : Automaton) (nodes : List OutlineNode) (x : OutlineNode) (s : Automaton) → IsAlong m nodes s → IsAlong m (nodes ++ x ∷ []) s
 along_more m nodes x s h = record {
   insides = λ n a k e. inside_more m nodes x n a k (h.insides n a k e);
   calls = λ n a k e. call_more m nodes x n a k (h.calls n a k e);
   backs = λ q c r k e. back_more m nodes x s q c r k (h.backs q c r k e);
 }
 
-pub shown_more : (m b : Automaton) (nodes : List Node) (x : Node) (s : Automaton) → IsAlong m nodes s → AreShown b nodes s → AreShown b (nodes ++ x ∷ []) s
+pub shown_more : (m b : Automaton) (nodes : List OutlineNode) (x : OutlineNode) (s : Automaton) → IsAlong m nodes s → AreShown b nodes s → AreShown b (nodes ++ x ∷ []) s
 shown_more m b nodes x s al h = record {
   insides = λ n a k e. let d = al.insides n a k e in
       two (λ y z. (r : ℕ) → Member z.preds r → InsideFollows b a y r) nodes x n k d.from d.to (h.insides n a k e);
@@ -87,7 +87,7 @@ shown_more m b nodes x s al h = record {
       three (λ u v w. (r : ℕ) → Member w.preds r → BackFollows b a u v r) nodes x q c k d.exit d.before d.to (h.backs q c a k e);
 }
 
-pub spread_more : (m b t : Automaton) (nodes : List Node) (x : Node) (s : Automaton) → IsAlong m nodes s → IsPart t s → Spreads b t nodes (λ q. q) → Spreads b t (nodes ++ x ∷ []) (λ q. q)
+pub spread_more : (m b t : Automaton) (nodes : List OutlineNode) (x : OutlineNode) (s : Automaton) → IsAlong m nodes s → IsPart t s → Spreads b t nodes (λ q. q) → Spreads b t (nodes ++ x ∷ []) (λ q. q)
 spread_more m b t nodes x s al p h = record {
   start = h.start;
   finals = h.finals;
@@ -127,7 +127,7 @@ pub back_step_more : (P : ℕ → ℕ → Letter → ℕ → Type 0) (xs : List 
 back_step_more P xs x c r k h p y d l e m = one_of (Backs P) xs (x, c, r, k) (λ z i. h z.0 z.1 z.2 z.3 i) p (y, d, l, e) m
 
 -- a back stays one where there are more calls
-back_stays : (m : Automaton) (nodes : List Node) (s : Automaton) (e : ℕ × Letter × ℕ) (x c : ℕ) (r : Letter) (k : ℕ) → IsBackStep m nodes s x c r k → IsBackStep m nodes (with_call s e) x c r k
+back_stays : (m : Automaton) (nodes : List OutlineNode) (s : Automaton) (e : ℕ × Letter × ℕ) (x c : ℕ) (r : Letter) (k : ℕ) → IsBackStep m nodes s x c r k → IsBackStep m nodes (with_call s e) x c r k
 back_stays m nodes s e x c r k d = record {
   exit = d.exit;
   before = d.before;
@@ -139,7 +139,7 @@ back_stays m nodes s e x c r k d = record {
   names = d.names;
 }
 
-back_same : (m : Automaton) (nodes : List Node) (s t : Automaton) (x c : ℕ) (r : Letter) (k : ℕ) → s.calls ≡ t.calls → IsBackStep m nodes s x c r k → IsBackStep m nodes t x c r k
+back_same : (m : Automaton) (nodes : List OutlineNode) (s t : Automaton) (x c : ℕ) (r : Letter) (k : ℕ) → s.calls ≡ t.calls → IsBackStep m nodes s x c r k → IsBackStep m nodes t x c r k
 back_same m nodes s t x c r k f d = record {
   exit = d.exit;
   before = d.before;
@@ -151,21 +151,21 @@ back_same m nodes s t x c r k f d = record {
   names = d.names;
 }
 
-pub along_inside : (m : Automaton) (nodes : List Node) (s : Automaton) (n : ℕ) (a : Letter) (k : ℕ) → IsAlong m nodes s → IsInsideStep m nodes n a k → IsAlong m nodes (with_inside s (n, a, k))
+pub along_inside : (m : Automaton) (nodes : List OutlineNode) (s : Automaton) (n : ℕ) (a : Letter) (k : ℕ) → IsAlong m nodes s → IsInsideStep m nodes n a k → IsAlong m nodes (with_inside s (n, a, k))
 along_inside m nodes s n a k h d = record {
   insides = step_more (IsInsideStep m nodes) s.insides n a k h.insides d;
   calls = h.calls;
   backs = λ x c r e i. back_same m nodes s (with_inside s (n, a, k)) x c r e refl (h.backs x c r e i);
 }
 
-pub along_call : (m : Automaton) (nodes : List Node) (s : Automaton) (n : ℕ) (a : Letter) (k : ℕ) → IsAlong m nodes s → IsCallStep m nodes n a k → IsAlong m nodes (with_call s (n, a, k))
+pub along_call : (m : Automaton) (nodes : List OutlineNode) (s : Automaton) (n : ℕ) (a : Letter) (k : ℕ) → IsAlong m nodes s → IsCallStep m nodes n a k → IsAlong m nodes (with_call s (n, a, k))
 along_call m nodes s n a k h d = record {
   insides = h.insides;
   calls = step_more (IsCallStep m nodes) s.calls n a k h.calls d;
   backs = λ x c r e i. back_stays m nodes s (n, a, k) x c r e (h.backs x c r e i);
 }
 
-pub along_back : (m : Automaton) (nodes : List Node) (s : Automaton) (x c : ℕ) (r : Letter) (k : ℕ) → IsAlong m nodes s → IsBackStep m nodes s x c r k → IsAlong m nodes (with_back s (x, c, r, k))
+pub along_back : (m : Automaton) (nodes : List OutlineNode) (s : Automaton) (x c : ℕ) (r : Letter) (k : ℕ) → IsAlong m nodes s → IsBackStep m nodes s x c r k → IsAlong m nodes (with_back s (x, c, r, k))
 along_back m nodes s x c r k h d = record {
   insides = h.insides;
   calls = h.calls;

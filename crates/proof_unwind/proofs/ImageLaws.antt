@@ -8,7 +8,7 @@ use Rattle.nwa_base.specs.Members.{Member}
 use Rattle.nwa_base.specs.Automata.{Automaton}
 use Rattle.nwa_base.specs.Acceptance.{Follows, Moves}
 use Rattle.nwa_base.proofs.MemberLemmas.{member_map, member_from_map}
-use Rattle.proof_names.specs.Outlines.{Node}
+use Rattle.proof_names.specs.Outlines.{OutlineNode}
 use Rattle.proof_spell.specs.Drafts.{AscendFrom}
 use Rattle.proof_check.specs.Steps.{IsOf, IsOpen}
 use Rattle.proof_unwind.specs.Unwindings.{node_at, node_place_in, entry_of, IsInsideStep, IsCallStep, IsBackStep, IsAlong, HasStep, HasBack, IsReached, IsPart, Claims, Spreads, bare}
@@ -64,17 +64,17 @@ reached_moved t h entry n z r = record {
   within = moves_moved t h r.matched [] [] entry n r.within;
 }
 
-first_is : (nodes : List Node) (x : Node) → 0 < length nodes → node_at nodes 0 ≡ x → slice_get nodes 0 ≡ Some x
+first_is : (nodes : List OutlineNode) (x : OutlineNode) → 0 < length nodes → node_at nodes 0 ≡ x → slice_get nodes 0 ≡ Some x
 first_is [] x l e = absurd (omega arith)
-first_is (y ∷ nodes) x l e = ap (λ (z : Node). Some z) e
+first_is (y ∷ nodes) x l e = ap (λ (z : OutlineNode). Some z) e
 
-first_at : (nodes : List Node) (x : Node) → slice_get nodes 0 ≡ Some x → (0 < length nodes) × (node_at nodes 0 ≡ x)
+first_at : (nodes : List OutlineNode) (x : OutlineNode) → slice_get nodes 0 ≡ Some x → (0 < length nodes) × (node_at nodes 0 ≡ x)
 first_at [] x e = absurd (cc)
 first_at (y ∷ nodes) x e = (omega arith, cc)
 
 -- ---- nodes under new numbers
 
-module _ (nodes new : List Node) (h : ℕ → ℕ) (r : IsRenumbering nodes new h) where
+module _ (nodes new : List OutlineNode) (h : ℕ → ℕ) (r : IsRenumbering nodes new h) where
   there : (n : ℕ) → n < length nodes → h n < length new
   there n l = let e = r.long in let k = r.below n l in omega (arith, e, k)
 
@@ -83,13 +83,13 @@ module _ (nodes new : List Node) (h : ℕ → ℕ) (r : IsRenumbering nodes new 
   all_numbers P f j l = let e = r.long in let o = r.onto j (omega (arith, e, l)) in subst P o.2 (f o.0 o.1)
 
   place_same : (n : ℕ) → n < length nodes → node_place_in new (h n) ≡ node_place_in nodes n
-  place_same n l = ap (λ (x : Node). x.place) (r.at n l)
+  place_same n l = ap (λ (x : OutlineNode). x.place) (r.at n l)
 
   entry_moved : (n : ℕ) → n < length nodes → entry_of new (h n) ≡ h (entry_of nodes n)
-  entry_moved n l = ap (λ (x : Node). x.entry) (r.at n l)
+  entry_moved n l = ap (λ (x : OutlineNode). x.entry) (r.at n l)
 
   preds_same : (n : ℕ) → n < length nodes → (node_at new (h n)).preds ≡ (node_at nodes n).preds
-  preds_same n l = ap (λ (x : Node). x.preds) (r.at n l)
+  preds_same n l = ap (λ (x : OutlineNode). x.preds) (r.at n l)
 
   to_new : (P : List ℕ → Type 0) (n : ℕ) → n < length nodes → P (node_at nodes n).preds → P (node_at new (h n)).preds
   to_new P n l p = subst P (sym (preds_same n l)) p
@@ -275,7 +275,7 @@ ends_below t n (a ∷ w) before after q e b l v =
     let f = follows_below t n a.kind a before q v.0 (λ stack. Moves t stack v.0 w after e) b v.1 in
     ends_below t n w f.1.0 after v.0 e b f.0 f.1.1
 
-pub entry_below : (m b : Automaton) (nodes : List Node) (s : Automaton) → IsExploring m b nodes s → (n : ℕ) → n < length nodes → entry_of nodes n < length nodes
+pub entry_below : (m b : Automaton) (nodes : List OutlineNode) (s : Automaton) → IsExploring m b nodes s → (n : ℕ) → n < length nodes → entry_of nodes n < length nodes
 entry_below m b nodes s x n l =
     let t : Automaton = x.tree in
     let below : IsBelow t (length nodes) = record {
@@ -288,7 +288,7 @@ entry_below m b nodes s x n l =
 
 -- ---- automata with the same states and edges
 
-module _ (m b : Automaton) (nodes : List Node) (s : Automaton) (start : ℕ) (finals : List ℕ) where
+module _ (m b : Automaton) (nodes : List OutlineNode) (s : Automaton) (start : ℕ) (finals : List ℕ) where
   exploring_as : IsExploring m b nodes s → IsExploring m b nodes (record s { start = start; finals = finals })
   exploring_as x = record {
     first = x.first;
@@ -321,11 +321,11 @@ moved_is h s t e = λ j. record {
   backs = sym e.backs j;
 }
 
-pub exploring_renumbered : (m b : Automaton) (nodes new : List Node) (h : ℕ → ℕ) (s t : Automaton) → IsRenumbering nodes new h → IsMoved h s t → IsExploring m b nodes s → IsExploring m b new t
+pub exploring_renumbered : (m b : Automaton) (nodes new : List OutlineNode) (h : ℕ → ℕ) (s t : Automaton) → IsRenumbering nodes new h → IsMoved h s t → IsExploring m b nodes s → IsExploring m b new t
 exploring_renumbered m b nodes new h s t r e x =
     subst (λ (z : Automaton). IsExploring m b new z) (moved_is h s t e) (exploring_as m b new (image h s) t.start t.finals (exploring_moved nodes new h r m b s x))
 
-pub opened_renumbered : (m b : Automaton) (nodes new : List Node) (h : ℕ → ℕ) (s t : Automaton) → IsRenumbering nodes new h → IsMoved h s t → IsExploring m b nodes s →
+pub opened_renumbered : (m b : Automaton) (nodes new : List OutlineNode) (h : ℕ → ℕ) (s t : Automaton) → IsRenumbering nodes new h → IsMoved h s t → IsExploring m b nodes s →
     AreOpened m nodes s (length nodes) → AreOpened m new t (length new)
 opened_renumbered m b nodes new h s t r e x o =
     subst (λ (z : Automaton). AreOpened m new z (length new)) (moved_is h s t e)

@@ -6,7 +6,7 @@ use Rattle.nwa_base.specs.declared.letters.Kind.{Kind}
 use Rattle.nwa_base.specs.declared.letters.Kind.TheVariants.{Back}
 use Rattle.nwa_base.specs.declared.letters.Letter.{Letter}
 use Rattle.nwa_base.specs.Automata.{IsEdge, IsBackEdge}
-use Rattle.proof_names.specs.Outlines.{Node}
+use Rattle.proof_names.specs.Outlines.{OutlineNode}
 use Rattle.proof_unwind.specs.Exploring.{Stage, with_node}
 use Rattle.proof_unwind.specs.Renumbering.{ArePlaced, AreRanks}
 
@@ -20,20 +20,20 @@ pub back_there : (s : Stage) (q p e : ℕ) (a : Letter) → s.steps.states ≡ l
 back_there s q p e a n i h j k = record { «from» = omega arith; before = omega arith; to = omega arith; letter = k }
 
 -- a step to a new node
-pub edge_new : (s mid : Stage) (x : Node) (kind : Kind) (q e : ℕ) (a : Letter) → mid ≡ with_node s x → e ≡ s.steps.states → s.steps.states ≡ length s.nodes → q < length s.nodes →
+pub edge_new : (s mid : Stage) (x : OutlineNode) (kind : Kind) (q e : ℕ) (a : Letter) → mid ≡ with_node s x → e ≡ s.steps.states → s.steps.states ≡ length s.nodes → q < length s.nodes →
     a.kind ≡ kind → IsEdge mid.steps.states kind (q, a, e)
 edge_new s mid x kind q e a m f n i k =
     let states : mid.steps.states ≡ s.steps.states + 1 = ap (λ (z : Stage). z.steps.states) m in
     record { «from» = omega arith; to = omega arith; letter = k }
 
-pub back_new : (s mid : Stage) (x : Node) (q p e : ℕ) (a : Letter) → mid ≡ with_node s x → e ≡ s.steps.states → s.steps.states ≡ length s.nodes → q < length s.nodes → p < length s.nodes →
+pub back_new : (s mid : Stage) (x : OutlineNode) (q p e : ℕ) (a : Letter) → mid ≡ with_node s x → e ≡ s.steps.states → s.steps.states ≡ length s.nodes → q < length s.nodes → p < length s.nodes →
     a.kind ≡ Back → IsBackEdge mid.steps.states (q, p, a, e)
 back_new s mid x q p e a m f n i h k =
     let states : mid.steps.states ≡ s.steps.states + 1 = ap (λ (z : Stage). z.steps.states) m in
     record { «from» = omega arith; before = omega arith; to = omega arith; letter = k }
 
 -- new numbers are numbers of nodes
-pub ranks_below : (nodes : List Node) (order : List (ℕ × ℕ)) (ranks : List ℕ) (states : ℕ) → states ≡ length nodes → ArePlaced nodes order → AreRanks order ranks →
+pub ranks_below : (nodes : List OutlineNode) (order : List (ℕ × ℕ)) (ranks : List ℕ) (states : ℕ) → states ≡ length nodes → ArePlaced nodes order → AreRanks order ranks →
     (n : ℕ) → n < states → slice_index ranks n < states
 ranks_below nodes order ranks states s p r n l =
     let a = p.all n (omega arith) in

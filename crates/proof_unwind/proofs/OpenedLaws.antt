@@ -7,7 +7,7 @@ use Rattle.nwa_base.specs.Members.{Member}
 use Rattle.nwa_base.specs.Automata.{Automaton, IsAutomaton}
 use Rattle.nwa_base.specs.Edges.{backs_leaving}
 use Rattle.nwa_base.proofs.MemberLemmas.{member_front, member_rest, member_split}
-use Rattle.proof_names.specs.Outlines.{Node}
+use Rattle.proof_names.specs.Outlines.{OutlineNode}
 use Rattle.proof_check.specs.Steps.{IsOpen}
 use Rattle.proof_unwind.specs.Unwindings.{node_at, node_place_in, entry_of, IsAlong, bare}
 use Rattle.proof_unwind.specs.Exploring.{IsOverPreds, IsExploring, Stage, Explores, GoesOn, GoesOnFrom, HasInsides, HasCalls, IsReturned, AreReturned, AreOpened, IsExit, AreExits}
@@ -29,11 +29,11 @@ none_found (x ∷ xs) ys b e f t = let k : length (x ∷ xs) ≡ 0 = eqb-true (l
 
 pub insides_stay : (m b : Automaton) (s t : Stage) (n : ℕ) → Explores m b s → Grown s t → n < length s.nodes → HasInsides m s n → HasInsides m t n
 insides_stay m b s t n h g l f a e i =
-    inside_stays m b s t n a e h g (f a e (subst (λ (x : Node). Member m.insides (x.place, a, e)) (at_stays s t n g l) i))
+    inside_stays m b s t n a e h g (f a e (subst (λ (x : OutlineNode). Member m.insides (x.place, a, e)) (at_stays s t n g l) i))
 
 pub calls_stay : (m b : Automaton) (s t : Stage) (n : ℕ) → Explores m b s → Grown s t → n < length s.nodes → HasCalls m s n → HasCalls m t n
 calls_stay m b s t n h g l f a e i =
-    called_stays m b s t n a e h g (f a e (subst (λ (x : Node). Member m.calls (x.place, a, e)) (at_stays s t n g l) i))
+    called_stays m b s t n a e h g (f a e (subst (λ (x : OutlineNode). Member m.calls (x.place, a, e)) (at_stays s t n g l) i))
 
 pub forward : (m b : Automaton) (n : ℕ) (s t u : Stage) → n < length s.nodes → GoesOn m b s t × HasInsides m t n → GoesOnFrom m b n t u × HasCalls m u n →
     GoesOnFrom m b n s u × HasInsides m u n × HasCalls m u n
@@ -47,7 +47,7 @@ forward m b n s t u l f g = (
 pub none_returned : (m b : Automaton) (s t : Stage) (n place : ℕ) → GoesOn m b s t → n < length s.nodes → place ≡ node_place_in s.nodes n → backs_leaving place m.backs ≡ [] → IsReturned m s t n
 none_returned m b s t n place g l e none c a i k d j id =
     absurd (none_leave place m.backs (node_place_in t.nodes c) k d none
-    (subst (λ (p : ℕ). Member m.backs (p, node_place_in t.nodes c, k, d)) (sym (e ∙ sym (ap (λ (x : Node). x.place) (at_stays s t n g.grows l)))) j))
+    (subst (λ (p : ℕ). Member m.backs (p, node_place_in t.nodes c, k, d)) (sym (e ∙ sym (ap (λ (x : OutlineNode). x.place) (at_stays s t n g.grows l)))) j))
 
 pub returned_on : (m b : Automaton) (exits : ℕ → List ℕ) (n : ℕ) (s t u : Stage) → IsAutomaton m → Explores m b s → n < length s.nodes → GoesOn m b s t × IsReturned m s t n →
     GoesOn m b t u × AreReturned m exits t u n → GoesOn m b s u × IsReturned m s u n × AreReturned m exits s u n
@@ -62,12 +62,12 @@ returned_on m b exits n s t u v h l f g = (
 pub exits_stay : (m : Automaton) (s t : Stage) (r : ℕ) (exits : ℕ → List ℕ) → Grown s t → r ≤ length s.nodes → AreExits m s.nodes r exits → AreExits m t.nodes r exits
 exits_stay m s t r exits g l h = record {
   sound = λ k x i. exit_stays s t k x g (h.sound k x i);
-  complete = λ x i. subst (λ (y : Node). IsOpen y → (c : ℕ) (a : Letter) (e : ℕ) → Member m.backs (y.place, c, a, e) → Member (exits y.entry) x)
+  complete = λ x i. subst (λ (y : OutlineNode). IsOpen y → (c : ℕ) (a : Letter) (e : ℕ) → Member m.backs (y.place, c, a, e) → Member (exits y.entry) x)
       (sym (at_stays s t x g (omega (arith, i, l)))) (h.complete x i);
 }
 
 -- the node has false, or no return leads from it
-pub exits_same : (m : Automaton) (nodes : List Node) (r : ℕ) (exits : ℕ → List ℕ) → (IsOpen (node_at nodes r) → (c : ℕ) (a : Letter) (e : ℕ) → Member m.backs (node_place_in nodes r, c, a, e) → ⊥) →
+pub exits_same : (m : Automaton) (nodes : List OutlineNode) (r : ℕ) (exits : ℕ → List ℕ) → (IsOpen (node_at nodes r) → (c : ℕ) (a : Letter) (e : ℕ) → Member m.backs (node_place_in nodes r, c, a, e) → ⊥) →
     AreExits m nodes r exits → AreExits m nodes (r + 1) exits
 exits_same m nodes r exits none h = record {
   sound = h.sound;
@@ -76,7 +76,7 @@ exits_same m nodes r exits none h = record {
 }
 
 -- with the node itself
-pub exits_more : (m : Automaton) (nodes : List Node) (r entry : ℕ) (exits new : ℕ → List ℕ) → r < length nodes → IsOpen (node_at nodes r) → entry ≡ entry_of nodes r →
+pub exits_more : (m : Automaton) (nodes : List OutlineNode) (r entry : ℕ) (exits new : ℕ → List ℕ) → r < length nodes → IsOpen (node_at nodes r) → entry ≡ entry_of nodes r →
     ((k : ℕ) → new k ≡ cond (eqb entry k) (exits k ++ r ∷ []) (exits k)) → AreExits m nodes r exits → AreExits m nodes (r + 1) new
 exits_more m nodes r entry exits new l o e f h = record {
   sound = λ k x i. sound k x (eqb entry k) refl (subst (λ (z : List ℕ). Member z x) (f k) i);
@@ -122,7 +122,7 @@ node_opened m b exits n s t u l h f i c g r q =
     record {
       insides = λ o. insides_stay m b t u n f.exploring g.grows there i;
       calls = λ o. calls_stay m b t u n f.exploring g.grows there c;
-      exits = λ d j o p a k. r d a (subst (λ (x : Node). Member t.steps.calls (d, a, x.entry)) (at_stays t u n g.grows there)
+      exits = λ d j o p a k. r d a (subst (λ (x : OutlineNode). Member t.steps.calls (d, a, x.entry)) (at_stays t u n g.grows there)
           (subst (λ (z : List (ℕ × Letter × ℕ)). Member z (d, a, entry_of u.nodes n)) g.calls k));
       returns = λ x j o p a k v e w. q a (entry_of u.nodes x) (subst (λ (z : List (ℕ × Letter × ℕ)). Member z (n, a, entry_of u.nodes x)) g.calls k) x
           ((exits_stay m s u n exits grown (omega (arith, l)) h).complete x j o (node_place_in u.nodes n) v e w) v e w;
@@ -136,7 +136,7 @@ opened_on m b exits n s t u h l x o f g =
 
 -- ---- before the first node and after the last
 
-pub opened_at_last : (m : Automaton) (nodes : List Node) (s : Automaton) (r : ℕ) → length nodes ≤ r → IsAlong m nodes s → AreOpened m nodes s r → AreOpened m nodes s (length nodes)
+pub opened_at_last : (m : Automaton) (nodes : List OutlineNode) (s : Automaton) (r : ℕ) → length nodes ≤ r → IsAlong m nodes s → AreOpened m nodes s r → AreOpened m nodes s (length nodes)
 opened_at_last m nodes s r l al h = record {
   insides = λ n i. h.insides n (omega (arith, i, l));
   calls = λ n i. h.calls n (omega (arith, i, l));
@@ -149,13 +149,13 @@ unstepped = record { states = 1; start = 0; finals = []; insides = []; calls = [
 
 pub explored_first : (m b : Automaton) (s : Stage) → IsOverPreds b → s.nodes ≡ bare ∷ [] → s.steps ≡ unstepped → Explores m b s
 explored_first m b s o e f =
-    subst (λ (n : List Node). IsExploring m b n s.steps) (sym e) (subst (λ (z : Automaton). IsExploring m b (bare ∷ []) z) (sym f)
+    subst (λ (n : List OutlineNode). IsExploring m b n s.steps) (sym e) (subst (λ (z : Automaton). IsExploring m b (bare ∷ []) z) (sym f)
     (nothing_explored m b unstepped (record { over = o; states = refl; insides = refl; calls = refl; backs = refl })))
 
 pub opened_first : (m : Automaton) (s : Stage) → s.steps ≡ unstepped → AreOpened m s.nodes s.steps 0
 opened_first m s f = none_opened m s.nodes s.steps (ap (λ (z : Automaton). z.calls) f)
 
-pub exits_first : (m : Automaton) (nodes : List Node) (exits : ℕ → List ℕ) → ((k : ℕ) → exits k ≡ []) → AreExits m nodes 0 exits
+pub exits_first : (m : Automaton) (nodes : List OutlineNode) (exits : ℕ → List ℕ) → ((k : ℕ) → exits k ≡ []) → AreExits m nodes 0 exits
 exits_first m nodes exits e = record {
   sound = λ k x i. absurd (subst (λ (z : List ℕ). Member z x) (e k) i);
   complete = λ x i. absurd (omega (arith, i));

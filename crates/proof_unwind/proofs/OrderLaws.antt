@@ -7,7 +7,7 @@ use Rattle.std.proofs.lemmas.Bool.{eqb-true, eqb-false}
 use Rattle.std.proofs.lemmas.List.{length-map, get_or-map, map-append, take_more}
 use Rattle.std.proofs.lemmas.List.Sorted.{IsPermutation-map, length_permutation, All-permutation, Contains-permutation}
 use Rattle.std.proofs.lemmas.Map.Keys.{IsDistinct-IsPermutation, IsDistinct-from_apart, apart_from_distinct}
-use Rattle.proof_names.specs.Outlines.{Node}
+use Rattle.proof_names.specs.Outlines.{OutlineNode}
 use Rattle.nwa_base.specs.Automata.{Automaton}
 use Rattle.proof_unwind.specs.declared.spots.Spot.{Spot}
 use Rattle.proof_unwind.specs.Unwindings.{node_at, node_place_in, bare}
@@ -16,7 +16,7 @@ use Rattle.proof_unwind.specs.Renumbering.{renamed, IsMoved, IsRenumbering, Plac
 
 -- ---- new numbers
 
-node_at_map : (f : ℕ × ℕ → Node) (order : List (ℕ × ℕ)) (j : ℕ) → j < length order → node_at (map f order) j ≡ f (pair_at order j)
+node_at_map : (f : ℕ × ℕ → OutlineNode) (order : List (ℕ × ℕ)) (j : ℕ) → j < length order → node_at (map f order) j ≡ f (pair_at order j)
 node_at_map f [] j l = absurd (omega arith)
 node_at_map f (p ∷ order) zero l = refl
 node_at_map f (p ∷ order) (suc j) l = node_at_map f order j (omega arith)
@@ -28,19 +28,19 @@ record Stands (order : List (ℕ × ℕ)) (h : ℕ → ℕ) (n : ℕ) : Type 0 w
   is : (pair_at order place).1 ≡ n
   rank : h n ≡ place
 
-module _ (nodes new : List Node) (order : List (ℕ × ℕ)) (ranks : List ℕ) (p : ArePlaced nodes order) (r : AreRanks order ranks)
+module _ (nodes new : List OutlineNode) (order : List (ℕ × ℕ)) (ranks : List ℕ) (p : ArePlaced nodes order) (r : AreRanks order ranks)
     (e : new ≡ map (λ (x : ℕ × ℕ). renamed (slice_index ranks) (node_at nodes x.1)) order) where
   stands : (n : ℕ) → n < length nodes → Stands order (slice_index ranks) n
   stands n l = let a = p.all n l in record { place = a.0; within = a.1; is = a.2; rank = ap (slice_index ranks) (sym a.2) ∙ r a.0 a.1 }
 
   node_moved : (j : ℕ) → j < length order → node_at new j ≡ renamed (slice_index ranks) (node_at nodes (pair_at order j).1)
-  node_moved j l = subst (λ (z : List Node). node_at z j ≡ renamed (slice_index ranks) (node_at nodes (pair_at order j).1)) (sym e)
+  node_moved j l = subst (λ (z : List OutlineNode). node_at z j ≡ renamed (slice_index ranks) (node_at nodes (pair_at order j).1)) (sym e)
       (node_at_map (λ (x : ℕ × ℕ). renamed (slice_index ranks) (node_at nodes x.1)) order j l)
 
   pub renumbering : 0 < length nodes → IsRenumbering nodes new (slice_index ranks)
   renumbering some = record {
     first = ap (slice_index ranks) (sym p.first) ∙ r 0 (let k = p.long in omega (arith, k, some));
-    long = ap (λ (z : List Node). length z) e ∙ length-map order (λ (x : ℕ × ℕ). renamed (slice_index ranks) (node_at nodes x.1)) ∙ p.long;
+    long = ap (λ (z : List OutlineNode). length z) e ∙ length-map order (λ (x : ℕ × ℕ). renamed (slice_index ranks) (node_at nodes x.1)) ∙ p.long;
     below = λ n l. let v = stands n l in let a = v.rank in let b = v.within in let k = p.long in omega (arith, a, b, k);
     apart = λ n k l o i. let v = stands n l in let w = stands k o in
         let j : v.place ≡ w.place = sym v.rank ∙ i ∙ w.rank in sym v.is ∙ ap (λ (z : ℕ). (pair_at order z).1) j ∙ w.is;
@@ -52,11 +52,11 @@ module _ (nodes new : List Node) (order : List (ℕ × ℕ)) (ranks : List ℕ) 
   }
 
   place_moved : (j : ℕ) → j < length order → node_place_in new j ≡ (pair_at order j).0
-  place_moved j l = ap (λ (x : Node). x.place) (node_moved j l) ∙ sym (p.places j l)
+  place_moved j l = ap (λ (x : OutlineNode). x.place) (node_moved j l) ∙ sym (p.places j l)
 
   pub places_ascend : PlacesAscend new
   places_ascend n k l o =
-      let long : length new ≡ length order = ap (λ (z : List Node). length z) e ∙ length-map order (λ (x : ℕ × ℕ). renamed (slice_index ranks) (node_at nodes x.1)) in
+      let long : length new ≡ length order = ap (λ (z : List OutlineNode). length z) e ∙ length-map order (λ (x : ℕ × ℕ). renamed (slice_index ranks) (node_at nodes x.1)) in
       let i : k < length order = omega (arith, long, o) in
       let a : node_place_in new n ≡ (pair_at order n).0 = place_moved n (omega (arith, l, i)) in
       let b : node_place_in new k ≡ (pair_at order k).0 = place_moved k i in
@@ -80,12 +80,12 @@ flips x y = by_case (eqb x y) refl
     by_case false e = sym (differ y x (λ i. eqb-false x y e (sym i)))
 
 -- what is said of the pair of a node but the first
-record IsPairOf (nodes : List Node) (x : ℕ × ℕ) : Type 0 where
+record IsPairOf (nodes : List OutlineNode) (x : ℕ × ℕ) : Type 0 where
   above : 0 < x.1
   there : x.1 < length nodes
   place : x.0 ≡ node_place_in nodes x.1
 
-module _ (nodes : List Node) (pairs sorted : List (ℕ × ℕ)) (o : AreOthers nodes pairs) (q : IsPermutation pairs sorted) (up : IsNonDecreasingBy (λ (x : ℕ × ℕ). x.0) sorted)
+module _ (nodes : List OutlineNode) (pairs sorted : List (ℕ × ℕ)) (o : AreOthers nodes pairs) (q : IsPermutation pairs sorted) (up : IsNonDecreasingBy (λ (x : ℕ × ℕ). x.0) sorted)
     (some : 0 < length nodes) (start : node_place_in nodes 0 ≡ 0) where
   at_any : (k : ℕ) (d : ℕ × ℕ) → k < length pairs → get_or pairs k d ≡ (node_place_in nodes (k + 1), k + 1)
   at_any k d l = same pairs k d l ∙ o.at k l
@@ -182,7 +182,7 @@ pushed (x ∷ xs) y (suc k) l = elim (pushed xs y k (omega arith)) [
   | inr h ↦ inr ((let i = h.0 in omega (arith, i)), h.1)
 ]
 
-pub others_more : (nodes : List Node) (pairs : List (ℕ × ℕ)) (number : ℕ) (y : ℕ × ℕ) → length pairs + 1 ≡ number →
+pub others_more : (nodes : List OutlineNode) (pairs : List (ℕ × ℕ)) (number : ℕ) (y : ℕ × ℕ) → length pairs + 1 ≡ number →
     ((k : ℕ) → k < length pairs → pair_at pairs k ≡ (node_place_in nodes (k + 1), k + 1)) → y ≡ (node_place_in nodes number, number) →
     (k : ℕ) → k < length (pairs ++ y ∷ []) → pair_at (pairs ++ y ∷ []) k ≡ (node_place_in nodes (k + 1), k + 1)
 others_more nodes pairs number y n h e k l =
@@ -206,26 +206,26 @@ mapped_more {X} {Y} f xs ys i d y l e g =
     ap (λ (z : List Y). z ++ y ∷ []) e ∙ ap (λ (z : Y). map f (take i xs) ++ z ∷ []) g ∙ sym (map-append f (take i xs) (get_or xs i d ∷ [])) ∙ sym (ap (map f) (take_more xs i d l))
 
 pub spot_moved : (h : ℕ → ℕ) (x : Spot) (entry : ℕ) (preds : List ℕ) → entry ≡ h x.entry → preds ≡ x.preds.items →
-    ◌≡◌ {A = Node} (record { place = x.place; entry = entry; preds = preds }) (renamed h (plain x))
+    ◌≡◌ {A = OutlineNode} (record { place = x.place; entry = entry; preds = preds }) (renamed h (plain x))
 spot_moved h x entry preds e f = λ j. record { place = x.place; entry = e j; preds = f j }
 
 -- ---- all together
 
-pub record IsOrdered (nodes new : List Node) (s t : Automaton) : Type 0 where
+pub record IsOrdered (nodes new : List OutlineNode) (s t : Automaton) : Type 0 where
   pub number : ℕ → ℕ
   pub renumbered : IsRenumbering nodes new number
   pub moved : IsMoved number s t
   pub ascend : PlacesAscend new
 
-some_first : (nodes : List Node) → slice_get nodes 0 ≡ Some bare → 0 < length nodes
+some_first : (nodes : List OutlineNode) → slice_get nodes 0 ≡ Some bare → 0 < length nodes
 some_first [] e = absurd (cc)
 some_first (x ∷ nodes) e = omega arith
 
-pub place_first : (nodes : List Node) → slice_get nodes 0 ≡ Some bare → node_place_in nodes 0 ≡ 0
+pub place_first : (nodes : List OutlineNode) → slice_get nodes 0 ≡ Some bare → node_place_in nodes 0 ≡ 0
 place_first [] e = absurd (cc)
-place_first (x ∷ nodes) e = let i : x ≡ bare = cc in ap (λ (y : Node). y.place) i
+place_first (x ∷ nodes) e = let i : x ≡ bare = cc in ap (λ (y : OutlineNode). y.place) i
 
-pub ordered : (found a b : List Spot) (order o p : List (ℕ × ℕ)) (ranks q r : List ℕ) (new : List Node) (s t : Automaton) → a ≡ found → o ≡ order → b ≡ found → p ≡ order → q ≡ ranks → r ≡ ranks →
+pub ordered : (found a b : List Spot) (order o p : List (ℕ × ℕ)) (ranks q r : List ℕ) (new : List OutlineNode) (s t : Automaton) → a ≡ found → o ≡ order → b ≡ found → p ≡ order → q ≡ ranks → r ≡ ranks →
     ArePlaced (nodes_of a) order → AreRanks o ranks → new ≡ map (λ (x : ℕ × ℕ). renamed (slice_index q) (node_at (nodes_of b) x.1)) p → IsMoved (slice_index r) s t →
     slice_get (nodes_of found) 0 ≡ Some bare → IsOrdered (nodes_of found) new s t
 ordered found a b order o p ranks q r new s t ea eo eb ep eq er placed are is moved first =

@@ -6,12 +6,12 @@ use Rattle.nwa_base.specs.Members.{Member}
 use Rattle.nwa_base.proofs.LetterLemmas.{and_left, and_right}
 use Rattle.nwa_base.proofs.MemberLemmas.{any_number}
 use Rattle.triple_rows.proofs.ListLaws.{within}
-use Rattle.proof_names.specs.Outlines.{Node}
+use Rattle.proof_names.specs.Outlines.{OutlineNode}
 use Rattle.proof_unwind.specs.Unwindings.{node_at}
 use Rattle.proof_unwind.specs.declared.spots.Spot.{Spot}
 use Rattle.proof_unwind.specs.Spots.{plain, nodes_of, IsWeaker, IsEntryWith}
 
-pub node_is : (nodes : List Node) (n : ℕ) (x : Node) → slice_get nodes n ≡ Some x → node_at nodes n ≡ x
+pub node_is : (nodes : List OutlineNode) (n : ℕ) (x : OutlineNode) → slice_get nodes n ≡ Some x → node_at nodes n ≡ x
 node_is [] n x e = absurd (cc)
 node_is (y ∷ nodes) zero x e = cc
 node_is (y ∷ nodes) (suc n) x e = node_is nodes n x e
@@ -24,22 +24,22 @@ among (n ∷ numbers) others h r (inl e) =
 among (n ∷ numbers) others h r (inr m) =
     among numbers others (and_right (list_any (λ y. nat_eq y n) others) (list_all (λ n. list_any (λ y. nat_eq y n) others) numbers) h) r m
 
-pub is_weaker_at : (nodes : List Node) (k : ℕ) (x : Node) (place entry : ℕ) (preds : List ℕ) → slice_get nodes k ≡ Some x → x.place ≡ place → x.entry ≡ entry →
+pub is_weaker_at : (nodes : List OutlineNode) (k : ℕ) (x : OutlineNode) (place entry : ℕ) (preds : List ℕ) → slice_get nodes k ≡ Some x → x.place ≡ place → x.entry ≡ entry →
     list_all (λ n. list_any (λ y. nat_eq y n) preds) x.preds ≡ true → IsWeaker nodes place entry preds k
 is_weaker_at nodes k x place entry preds g p e a =
     let i : node_at nodes k ≡ x = node_is nodes k x g in
     record {
       there = within nodes k x g;
-      at = ap (λ (y : Node). y.place) i ∙ p;
-      under = ap (λ (y : Node). y.entry) i ∙ e;
-      among = λ r m. among x.preds preds a r (subst (λ (y : Node). Member y.preds r) i m);
+      at = ap (λ (y : OutlineNode). y.place) i ∙ p;
+      under = ap (λ (y : OutlineNode). y.entry) i ∙ e;
+      among = λ r m. among x.preds preds a r (subst (λ (y : OutlineNode). Member y.preds r) i m);
     }
 
-pub is_entry_at : (nodes : List Node) (k : ℕ) (x : Node) (place : ℕ) (preds : List ℕ) → slice_get nodes k ≡ Some x → x.place ≡ place → x.entry ≡ k → x.preds ≡ preds →
+pub is_entry_at : (nodes : List OutlineNode) (k : ℕ) (x : OutlineNode) (place : ℕ) (preds : List ℕ) → slice_get nodes k ≡ Some x → x.place ≡ place → x.entry ≡ k → x.preds ≡ preds →
     IsEntryWith nodes place preds k
 is_entry_at nodes k x place preds g p e a =
     let i : node_at nodes k ≡ x = node_is nodes k x g in
-    record { there = within nodes k x g; at = ap (λ (y : Node). y.place) i ∙ p; itself = ap (λ (y : Node). y.entry) i ∙ e; same = ap (λ (y : Node). y.preds) i ∙ a }
+    record { there = within nodes k x g; at = ap (λ (y : OutlineNode). y.place) i ∙ p; itself = ap (λ (y : OutlineNode). y.entry) i ∙ e; same = ap (λ (y : OutlineNode). y.preds) i ∙ a }
 
 pub spot_there : (spots : List Spot) (n : ℕ) (x : Spot) → n < length (nodes_of spots) → x ≡ get_or spots n x → node_at (nodes_of spots) n ≡ plain x
 spot_there [] n x l e = absurd (omega arith)

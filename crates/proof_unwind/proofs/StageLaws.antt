@@ -5,7 +5,7 @@ use Rattle.nwa_base.specs.declared.letters.Letter.{Letter}
 use Rattle.nwa_base.specs.Members.{Member}
 use Rattle.nwa_base.specs.Automata.{Automaton, IsAutomaton, IsEdge, IsBackEdge}
 use Rattle.nwa_base.specs.Edges.{leaving, backs_between}
-use Rattle.proof_names.specs.Outlines.{Node}
+use Rattle.proof_names.specs.Outlines.{OutlineNode}
 use Rattle.proof_check.specs.Steps.{IsOpen}
 use Rattle.proof_unwind.specs.Unwindings.{node_at, node_place_in, entry_of, HasStep, HasBack}
 use Rattle.proof_unwind.specs.Exploring.{Grows, Stage, Explores, GoesOn, GoesOnFrom, HasBacks, IsExit}
@@ -53,15 +53,15 @@ pub at_stays : (s t : Stage) (n : ℕ) → Grown s t → n < length s.nodes → 
 at_stays s t n g l = grown_at s.nodes s.steps t.nodes t.steps n g l
 
 pub open_stays : (s t : Stage) (n : ℕ) → Grown s t → n < length s.nodes → IsOpen (node_at s.nodes n) → IsOpen (node_at t.nodes n)
-open_stays s t n g l o = subst (λ (x : Node). IsOpen x) (sym (at_stays s t n g l)) o
+open_stays s t n g l o = subst (λ (x : OutlineNode). IsOpen x) (sym (at_stays s t n g l)) o
 
 place_stays : (s t : Stage) (n place : ℕ) → Grown s t → n < length s.nodes → place ≡ node_place_in s.nodes n → place ≡ node_place_in t.nodes n
-place_stays s t n place g l e = e ∙ sym (ap (λ (x : Node). x.place) (at_stays s t n g l))
+place_stays s t n place g l e = e ∙ sym (ap (λ (x : OutlineNode). x.place) (at_stays s t n g l))
 
 pub exit_stays : (s t : Stage) (k x : ℕ) → Grown s t → IsExit s.nodes k x → IsExit t.nodes k x
 exit_stays s t k x g h = record {
   there = there_stays s t x g h.there;
-  under = ap (λ (y : Node). y.entry) (at_stays s t x g h.there) ∙ h.under;
+  under = ap (λ (y : OutlineNode). y.entry) (at_stays s t x g h.there) ∙ h.under;
   opens = open_stays s t x g h.there h.opens;
 }
 
@@ -128,8 +128,8 @@ joined_stays m b s t x c a h g j = record {
   exit = there_stays s t x g j.exit;
   before = there_stays s t c g j.before;
   backs = λ l e i id. returned_stays m b s t x c l e h g
-      (j.backs l e (subst (λ (y : Node). Member m.backs (y.place, node_place_in s.nodes c, l, e)) (at_stays s t x g j.exit)
-      (subst (λ (y : Node). Member m.backs (node_place_in t.nodes x, y.place, l, e)) (at_stays s t c g j.before) i)) id);
+      (j.backs l e (subst (λ (y : OutlineNode). Member m.backs (y.place, node_place_in s.nodes c, l, e)) (at_stays s t x g j.exit)
+      (subst (λ (y : OutlineNode). Member m.backs (node_place_in t.nodes x, y.place, l, e)) (at_stays s t c g j.before) i)) id);
 }
 
 -- the node from which a call leads
@@ -149,7 +149,7 @@ caller m b s c a k v h i = let d = h.along.calls c a k i in record {
 pub call_to_stays : (m b : Automaton) (s t : Stage) (x c : ℕ) (a : Letter) → GoesOn m b s t → x < length s.nodes → Member s.steps.calls (c, a, entry_of s.nodes x) →
     Member t.steps.calls (c, a, entry_of t.nodes x)
 call_to_stays m b s t x c a g l i =
-    subst (λ (y : Node). Member t.steps.calls (c, a, y.entry)) (sym (at_stays s t x g.grows l))
+    subst (λ (y : OutlineNode). Member t.steps.calls (c, a, y.entry)) (sym (at_stays s t x g.grows l))
     (subst (λ (z : List (ℕ × Letter × ℕ)). Member z (c, a, entry_of s.nodes x)) (sym g.calls) i)
 
 pub joined_by : (m b : Automaton) (t u : Stage) (x c : ℕ) (a : Letter) (k : ℕ) → IsAutomaton m → Explores m b t → x < length t.nodes → Member t.steps.calls (c, a, k) → GoesOn m b t u →

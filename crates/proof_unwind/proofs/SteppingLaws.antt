@@ -6,7 +6,7 @@ use Rattle.nwa_base.specs.declared.letters.Letter.{Letter}
 use Rattle.nwa_base.specs.Members.{Member}
 use Rattle.nwa_base.specs.Automata.{Automaton}
 use Rattle.nwa_base.proofs.MemberLemmas.{member_front, member_rest, member_split}
-use Rattle.proof_names.specs.Outlines.{Node}
+use Rattle.proof_names.specs.Outlines.{OutlineNode}
 use Rattle.proof_check.specs.Steps.{IsOpen}
 use Rattle.proof_unwind.specs.Unwindings.{node_at, node_place_in, entry_of}
 use Rattle.proof_unwind.specs.Exploring.{InsideFollows, CallFollows, BackFollows, AreFollowing, IsExploring, Grows, Stage, Stepped, Called, Returned, with_inside, with_call, with_back, with_state, with_node, linked_inside, linked_call, linked_back}
@@ -17,7 +17,7 @@ use Rattle.std.proofs.lemmas.List.{append-nil}
 
 -- ---- what was added
 
-grown_inside : (nodes rest : List Node) (s t : Automaton) (e : ℕ × Letter × ℕ) → t.insides ≡ s.insides ++ e ∷ [] → t.calls ≡ s.calls → t.backs ≡ s.backs → Grows nodes s (nodes ++ rest) t
+grown_inside : (nodes rest : List OutlineNode) (s t : Automaton) (e : ℕ × Letter × ℕ) → t.insides ≡ s.insides ++ e ∷ [] → t.calls ≡ s.calls → t.backs ≡ s.backs → Grows nodes s (nodes ++ rest) t
 grown_inside nodes rest s t e i c b = record {
   rest = rest;
   nodes_are = refl;
@@ -28,7 +28,7 @@ grown_inside nodes rest s t e i c b = record {
   };
 }
 
-grown_back : (nodes rest : List Node) (s t : Automaton) (e : ℕ × ℕ × Letter × ℕ) → t.insides ≡ s.insides → t.calls ≡ s.calls → t.backs ≡ s.backs ++ e ∷ [] → Grows nodes s (nodes ++ rest) t
+grown_back : (nodes rest : List OutlineNode) (s t : Automaton) (e : ℕ × ℕ × Letter × ℕ) → t.insides ≡ s.insides → t.calls ≡ s.calls → t.backs ≡ s.backs ++ e ∷ [] → Grows nodes s (nodes ++ rest) t
 grown_back nodes rest s t e i c b = record {
   rest = rest;
   nodes_are = refl;
@@ -39,7 +39,7 @@ grown_back nodes rest s t e i c b = record {
   };
 }
 
-grown_call : (nodes rest : List Node) (s t : Automaton) (e : ℕ × Letter × ℕ) → t.insides ≡ s.insides → t.calls ≡ s.calls ++ e ∷ [] → t.backs ≡ s.backs → Grows nodes s (nodes ++ rest) t
+grown_call : (nodes rest : List OutlineNode) (s t : Automaton) (e : ℕ × Letter × ℕ) → t.insides ≡ s.insides → t.calls ≡ s.calls ++ e ∷ [] → t.backs ≡ s.backs → Grows nodes s (nodes ++ rest) t
 grown_call nodes rest s t e i c b = record {
   rest = rest;
   nodes_are = refl;
@@ -59,15 +59,15 @@ calls_from s r a k d l e m = by_case (member_split s.calls ((r, a, k) ∷ []) (d
     by_case (inr (inl x)) = inr (sym (ap (λ (y : ℕ × Letter × ℕ). y.0) x))
     by_case (inr (inr x)) = absurd x
 
-no_node : (nodes : List Node) (s t : Automaton) → Grows nodes s (nodes ++ []) t → Grows nodes s nodes t
-no_node nodes s t g = subst (λ (l : List Node). Grows nodes s l t) (append-nil nodes) g
+no_node : (nodes : List OutlineNode) (s t : Automaton) → Grows nodes s (nodes ++ []) t → Grows nodes s nodes t
+no_node nodes s t g = subst (λ (l : List OutlineNode). Grows nodes s l t) (append-nil nodes) g
 
-abbrev pub stage : List Node → Automaton → Stage
+abbrev pub stage : List OutlineNode → Automaton → Stage
 stage nodes s = record { nodes = nodes; steps = s }
 
 -- ---- inside steps
 
-pub inside_to : (m b : Automaton) (nodes : List Node) (s : Automaton) (n : ℕ) (a : Letter) (e : ℕ) (preds : List ℕ) (k : ℕ) → IsExploring m b nodes s → n < length nodes →
+pub inside_to : (m b : Automaton) (nodes : List OutlineNode) (s : Automaton) (n : ℕ) (a : Letter) (e : ℕ) (preds : List ℕ) (k : ℕ) → IsExploring m b nodes s → n < length nodes →
     Member m.insides (node_place_in nodes n, a, e) → AreFollowing (InsideFollows b a (node_at nodes n)) preds → IsWeaker nodes e (entry_of nodes n) preds k →
     Stepped m b n a e (stage nodes s) (linked_inside (stage nodes s) (n, a, k))
 inside_to m b nodes s n a e preds k h l i f w = record {
@@ -84,7 +84,7 @@ inside_to m b nodes s n a e preds k h l i f w = record {
   step = record { number = k; step = member_rest s.insides ((n, a, k) ∷ []) (n, a, k) (inl refl); at = w.at };
 }
 
-pub inside_new : (m b : Automaton) (nodes : List Node) (s : Automaton) (n : ℕ) (a : Letter) (x : Node) → IsExploring m b nodes s → n < length nodes → IsOpen (node_at nodes n) →
+pub inside_new : (m b : Automaton) (nodes : List OutlineNode) (s : Automaton) (n : ℕ) (a : Letter) (x : OutlineNode) → IsExploring m b nodes s → n < length nodes → IsOpen (node_at nodes n) →
     a.kind ≡ kinds.Inside → Member m.insides (node_place_in nodes n, a, x.place) → x.entry ≡ entry_of nodes n → AreFollowing (InsideFollows b a (node_at nodes n)) x.preds →
     Stepped m b n a x.place (stage nodes s) (linked_inside (with_node (stage nodes s) x) (n, a, length nodes))
 inside_new m b nodes s n a x h l o k i e f = record {
@@ -96,13 +96,13 @@ inside_new m b nodes s n a x h l o k i e f = record {
   step = record {
     number = length nodes;
     step = member_rest s.insides ((n, a, length nodes) ∷ []) (n, a, length nodes) (inl refl);
-    at = ap (λ (y : Node). y.place) (last_at nodes x);
+    at = ap (λ (y : OutlineNode). y.place) (last_at nodes x);
   };
 }
 
 -- ---- calls
 
-pub call_to : (m b : Automaton) (nodes : List Node) (s : Automaton) (n : ℕ) (a : Letter) (e : ℕ) (preds : List ℕ) (k : ℕ) → IsExploring m b nodes s → n < length nodes → IsOpen (node_at nodes n) →
+pub call_to : (m b : Automaton) (nodes : List OutlineNode) (s : Automaton) (n : ℕ) (a : Letter) (e : ℕ) (preds : List ℕ) (k : ℕ) → IsExploring m b nodes s → n < length nodes → IsOpen (node_at nodes n) →
     Member m.calls (node_place_in nodes n, a, e) → AreFollowing (CallFollows b a (node_at nodes n)) preds → IsEntryWith nodes e preds k →
     Called m b n a e (stage nodes s) (linked_call (stage nodes s) (n, a, k))
 call_to m b nodes s n a e preds k h l o i f w = record {
@@ -119,7 +119,7 @@ call_to m b nodes s n a e preds k h l o i f w = record {
   step = record { number = k; step = member_rest s.calls ((n, a, k) ∷ []) (n, a, k) (inl refl); at = w.at };
 }
 
-pub call_new : (m b : Automaton) (nodes : List Node) (s : Automaton) (n : ℕ) (a : Letter) (x : Node) → IsExploring m b nodes s → n < length nodes → IsOpen (node_at nodes n) →
+pub call_new : (m b : Automaton) (nodes : List OutlineNode) (s : Automaton) (n : ℕ) (a : Letter) (x : OutlineNode) → IsExploring m b nodes s → n < length nodes → IsOpen (node_at nodes n) →
     a.kind ≡ kinds.Call → Member m.calls (node_place_in nodes n, a, x.place) → x.entry ≡ length nodes → AreFollowing (CallFollows b a (node_at nodes n)) x.preds →
     Called m b n a x.place (stage nodes s) (linked_call (with_node (stage nodes s) x) (n, a, length nodes))
 call_new m b nodes s n a x h l o k i e f = record {
@@ -131,13 +131,13 @@ call_new m b nodes s n a x h l o k i e f = record {
   step = record {
     number = length nodes;
     step = member_rest s.calls ((n, a, length nodes) ∷ []) (n, a, length nodes) (inl refl);
-    at = ap (λ (y : Node). y.place) (last_at nodes x);
+    at = ap (λ (y : OutlineNode). y.place) (last_at nodes x);
   };
 }
 
 -- ---- backs
 
-pub back_to : (m b : Automaton) (nodes : List Node) (s : Automaton) (x c : ℕ) (a r : Letter) (e : ℕ) (preds : List ℕ) (k : ℕ) → IsExploring m b nodes s → x < length nodes → c < length nodes →
+pub back_to : (m b : Automaton) (nodes : List OutlineNode) (s : Automaton) (x c : ℕ) (a r : Letter) (e : ℕ) (preds : List ℕ) (k : ℕ) → IsExploring m b nodes s → x < length nodes → c < length nodes →
     Member s.calls (c, a, entry_of nodes x) → r.call ≡ a.id → Member m.backs (node_place_in nodes x, node_place_in nodes c, r, e) →
     AreFollowing (BackFollows b r (node_at nodes x) (node_at nodes c)) preds → IsWeaker nodes e (entry_of nodes c) preds k →
     Returned m b x c r e (stage nodes s) (linked_back (stage nodes s) (x, c, r, k))
@@ -159,7 +159,7 @@ back_to m b nodes s x c a r e preds k h l o j id i f w = record {
   back = record { number = k; back = member_rest s.backs ((x, c, r, k) ∷ []) (x, c, r, k) (inl refl); at = w.at };
 }
 
-pub back_new : (m b : Automaton) (nodes : List Node) (s : Automaton) (y c : ℕ) (a r : Letter) (x : Node) → IsExploring m b nodes s → y < length nodes → c < length nodes →
+pub back_new : (m b : Automaton) (nodes : List OutlineNode) (s : Automaton) (y c : ℕ) (a r : Letter) (x : OutlineNode) → IsExploring m b nodes s → y < length nodes → c < length nodes →
     IsOpen (node_at nodes y) → IsOpen (node_at nodes c) → a.kind ≡ kinds.Call → r.kind ≡ kinds.Back → Member s.calls (c, a, entry_of nodes y) → r.call ≡ a.id →
     Member m.backs (node_place_in nodes y, node_place_in nodes c, r, x.place) → x.entry ≡ entry_of nodes c → AreFollowing (BackFollows b r (node_at nodes y) (node_at nodes c)) x.preds →
     Returned m b y c r x.place (stage nodes s) (linked_back (with_node (stage nodes s) x) (y, c, r, length nodes))
@@ -172,7 +172,7 @@ back_new m b nodes s y c a r x h l o p q ka kr j id i e f = record {
   back = record {
     number = length nodes;
     back = member_rest s.backs ((y, c, r, length nodes) ∷ []) (y, c, r, length nodes) (inl refl);
-    at = ap (λ (v : Node). v.place) (last_at nodes x);
+    at = ap (λ (v : OutlineNode). v.place) (last_at nodes x);
   };
 }
 
@@ -183,7 +183,7 @@ then_at (Ok x) P new t p h = subst P (sym h) p
 then_at (Err e) P new t p h = h
 
 -- after a new node a step to it
-pub then_new : {T E : Type 0} (r : Result T E) (P : Stage → Type 0) (link : Stage → ℕ → Stage) (s mid new : Stage) (x : Node) (to : ℕ) → mid ≡ with_node s x → to ≡ s.steps.states →
+pub then_new : {T E : Type 0} (r : Result T E) (P : Stage → Type 0) (link : Stage → ℕ → Stage) (s mid new : Stage) (x : OutlineNode) (to : ℕ) → mid ≡ with_node s x → to ≡ s.steps.states →
     s.steps.states ≡ length s.nodes → P (link (with_node s x) (length s.nodes)) → OnOk r (new ≡ link mid to) → OnOk r (P new)
 then_new r P link s mid new x to e f g p h =
     then_at r P new (link mid to) (subst (λ (u : Stage). P (link u to)) (sym e) (subst (λ (k : ℕ). P (link (with_node s x) k)) (sym (f ∙ g)) p)) h

@@ -3,7 +3,7 @@ use Rattle.std.specs.Prelude.{◌≡◌, ◌⊎◌, ℕ, ◌+◌, ◌<◌, List,
 use Rattle.nwa_base.specs.declared.letters.Letter.{Letter}
 use Rattle.nwa_base.specs.Members.{Member}
 use Rattle.nwa_base.specs.Automata.{Automaton}
-use Rattle.proof_names.specs.Outlines.{Node}
+use Rattle.proof_names.specs.Outlines.{OutlineNode}
 use Rattle.proof_spell.specs.Drafts.{AscendFrom}
 use Rattle.proof_check.specs.Steps.{IsOf, IsOpen}
 use Rattle.proof_unwind.specs.Unwindings.{node_at, node_place_in, entry_of, IsAlong, HasStep, HasBack, IsReached, IsPart, Spreads, bare}
@@ -16,14 +16,14 @@ pub record IsOverPreds (b : Automaton) : Type 0 where
   pub finals : (q : ℕ) → Member b.finals q → q ≡ 1
 
 -- the predicate follows over the letter from a node, that is, an edge from true or from one of the node's leads to it
-abbrev pub InsideFollows : Automaton → Letter → Node → ℕ → Type 0
+abbrev pub InsideFollows : Automaton → Letter → OutlineNode → ℕ → Type 0
 InsideFollows b a x r = (q : ℕ) × Member b.insides (q, a, r) × IsOf q x
 
-abbrev pub CallFollows : Automaton → Letter → Node → ℕ → Type 0
+abbrev pub CallFollows : Automaton → Letter → OutlineNode → ℕ → Type 0
 CallFollows b a x r = (q : ℕ) × Member b.calls (q, a, r) × IsOf q x
 
 -- from an exit and the node before the call
-abbrev pub BackFollows : Automaton → Letter → Node → Node → ℕ → Type 0
+abbrev pub BackFollows : Automaton → Letter → OutlineNode → OutlineNode → ℕ → Type 0
 BackFollows b a x c r = (q : ℕ) × (p : ℕ) × Member b.backs (q, p, a, r) × IsOf q x × IsOf p c
 
 -- the predicates are some that follow, in order, and either false or all that follow but true
@@ -41,14 +41,14 @@ pub record IsChosen (numbers preds : List ℕ) : Type 0 where
 -- ---- what is kept
 
 -- the predicates of the end of each step follow
-pub record AreShown (b : Automaton) (nodes : List Node) (s : Automaton) : Type 0 where
+pub record AreShown (b : Automaton) (nodes : List OutlineNode) (s : Automaton) : Type 0 where
   pub insides : (n : ℕ) (a : Letter) (k : ℕ) → Member s.insides (n, a, k) → (r : ℕ) → Member (node_at nodes k).preds r → InsideFollows b a (node_at nodes n) r
   pub calls : (n : ℕ) (a : Letter) (k : ℕ) → Member s.calls (n, a, k) → (r : ℕ) → Member (node_at nodes k).preds r → CallFollows b a (node_at nodes n) r
   pub backs : (x c : ℕ) (a : Letter) (k : ℕ) → Member s.backs (x, c, a, k) → (r : ℕ) → Member (node_at nodes k).preds r → BackFollows b a (node_at nodes x) (node_at nodes c) r
 
 -- The nodes begin with that of place 0, the steps are between them and follow edges, the predicates of their ends follow, and each node is
 -- reached by some of them, all calls among them, over which predicates spread.
-pub record IsExploring (m b : Automaton) (nodes : List Node) (s : Automaton) : Type 0 where
+pub record IsExploring (m b : Automaton) (nodes : List OutlineNode) (s : Automaton) : Type 0 where
   pub first : slice_get nodes 0 ≡ Some bare
   pub states : s.states ≡ length nodes
   pub along : IsAlong m nodes s
@@ -83,15 +83,15 @@ abbrev pub with_state : Automaton → Automaton
 with_state s = record s { states = s.states + 1 }
 
 -- nodes and steps are added
-pub record Grows (nodes : List Node) (s : Automaton) (new : List Node) (t : Automaton) : Type 0 where
-  pub rest : List Node
+pub record Grows (nodes : List OutlineNode) (s : Automaton) (new : List OutlineNode) (t : Automaton) : Type 0 where
+  pub rest : List OutlineNode
   pub nodes_are : new ≡ nodes ++ rest
   pub part : IsPart s t
 
 -- ---- opened nodes have their steps
 
 -- those below r, and the backs that join them
-pub record AreOpened (m : Automaton) (nodes : List Node) (s : Automaton) (r : ℕ) : Type 0 where
+pub record AreOpened (m : Automaton) (nodes : List OutlineNode) (s : Automaton) (r : ℕ) : Type 0 where
   pub insides : (n : ℕ) → n < r → IsOpen (node_at nodes n) → (a : Letter) (e : ℕ) → Member m.insides (node_place_in nodes n, a, e) → HasStep s.insides nodes n a e
   pub calls : (n : ℕ) → n < r → IsOpen (node_at nodes n) → (a : Letter) (e : ℕ) → Member m.calls (node_place_in nodes n, a, e) → HasStep s.calls nodes n a e
   pub backs : (x c : ℕ) → x < r → c < r → IsOpen (node_at nodes x) → IsOpen (node_at nodes c) → (a : Letter) → Member s.calls (c, a, entry_of nodes x) →
@@ -103,11 +103,11 @@ pub record AreOpened (m : Automaton) (nodes : List Node) (s : Automaton) (r : �
 
 -- nodes and the steps between them
 pub record Stage : Type 0 where
-  pub nodes : List Node
+  pub nodes : List OutlineNode
   pub steps : Automaton
 
 -- one more node, which the steps have as a state
-abbrev pub with_node : Stage → Node → Stage
+abbrev pub with_node : Stage → OutlineNode → Stage
 with_node s x = record { nodes = s.nodes ++ x ∷ []; steps = with_state s.steps }
 
 -- one more step or back
@@ -171,12 +171,12 @@ AreReturned m exits s t c = (a : Letter) (k : ℕ) → Member s.steps.calls (c, 
 -- ---- exits of entry nodes
 
 -- the node is there, under the entry node, and without false
-pub record IsExit (nodes : List Node) (entry x : ℕ) : Type 0 where
+pub record IsExit (nodes : List OutlineNode) (entry x : ℕ) : Type 0 where
   pub there : x < length nodes
   pub under : entry_of nodes x ≡ entry
   pub opens : IsOpen (node_at nodes x)
 
 -- of each entry node these are exits, and all below r from which return edges lead are among them
-pub record AreExits (m : Automaton) (nodes : List Node) (r : ℕ) (exits : ℕ → List ℕ) : Type 0 where
+pub record AreExits (m : Automaton) (nodes : List OutlineNode) (r : ℕ) (exits : ℕ → List ℕ) : Type 0 where
   pub sound : (k x : ℕ) → Member (exits k) x → IsExit nodes k x
   pub complete : (x : ℕ) → x < r → IsOpen (node_at nodes x) → (c : ℕ) (t : Letter) (e : ℕ) → Member m.backs (node_place_in nodes x, c, t, e) → Member (exits (entry_of nodes x)) x

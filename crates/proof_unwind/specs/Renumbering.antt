@@ -2,11 +2,11 @@
 use Rattle.std.specs.Prelude.{◌≡◌, ◌≢◌, ℕ, ◌+◌, ◌<◌, ◌≤◌, List, map, length, slice_index, slice_index_or}
 use Rattle.nwa_base.specs.declared.letters.Letter.{Letter}
 use Rattle.nwa_base.specs.Automata.{Automaton}
-use Rattle.proof_names.specs.Outlines.{Node}
+use Rattle.proof_names.specs.Outlines.{OutlineNode}
 use Rattle.proof_unwind.specs.Unwindings.{node_at, node_place_in}
 
 -- the node with the new number of its entry node
-abbrev pub renamed : (ℕ → ℕ) → Node → Node
+abbrev pub renamed : (ℕ → ℕ) → OutlineNode → OutlineNode
 renamed h x = record { place = x.place; entry = h x.entry; preds = x.preds }
 
 -- the step or back between the new numbers
@@ -24,7 +24,7 @@ pub record IsMoved (h : ℕ → ℕ) (s t : Automaton) : Type 0 where
   pub backs : t.backs ≡ map (moved_back h) s.backs
 
 -- These are the nodes in another order: each has a number of its own, and the first stays.
-pub record IsRenumbering (nodes new : List Node) (h : ℕ → ℕ) : Type 0 where
+pub record IsRenumbering (nodes new : List OutlineNode) (h : ℕ → ℕ) : Type 0 where
   pub first : h 0 ≡ 0
   pub long : length new ≡ length nodes
   pub below : (n : ℕ) → n < length nodes → h n < length nodes
@@ -33,7 +33,7 @@ pub record IsRenumbering (nodes new : List Node) (h : ℕ → ℕ) : Type 0 wher
   pub at : (n : ℕ) → n < length nodes → node_at new (h n) ≡ renamed h (node_at nodes n)
 
 -- the places of the nodes ascend
-abbrev pub PlacesAscend : List Node → Type 0
+abbrev pub PlacesAscend : List OutlineNode → Type 0
 PlacesAscend nodes = (n k : ℕ) → n < k → k < length nodes → node_place_in nodes n ≤ node_place_in nodes k
 
 -- ---- the order
@@ -43,7 +43,7 @@ abbrev pub pair_at : List (ℕ × ℕ) → ℕ → ℕ × ℕ
 pair_at pairs j = slice_index_or pairs j (0, 0)
 
 -- the place and the number of each node but the first
-pub record AreOthers (nodes : List Node) (pairs : List (ℕ × ℕ)) : Type 0 where
+pub record AreOthers (nodes : List OutlineNode) (pairs : List (ℕ × ℕ)) : Type 0 where
   pub long : length pairs + 1 ≡ length nodes
   pub at : (k : ℕ) → k < length pairs → pair_at pairs k ≡ (node_place_in nodes (k + 1), k + 1)
 
@@ -53,7 +53,7 @@ pub record IsOrder (order : List (ℕ × ℕ)) : Type 0 where
   pub apart : (i j : ℕ) → i < j → j < length order → (pair_at order i).1 ≢ (pair_at order j).1
 
 -- The place and the number of each node, each node once, in the order of their places; the first node stays the first.
-pub record ArePlaced (nodes : List Node) (order : List (ℕ × ℕ)) : Type 0 where
+pub record ArePlaced (nodes : List OutlineNode) (order : List (ℕ × ℕ)) : Type 0 where
   pub is_order : IsOrder order
   pub long : length order ≡ length nodes
   pub first : (pair_at order 0).1 ≡ 0

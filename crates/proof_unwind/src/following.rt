@@ -4,7 +4,7 @@ ghost use Rattle.std.specs.Prelude.{◌≡◌, [], ◌∷◌, IfOk};
 ghost use Rattle.std.specs.List.{flat_map};
 ghost use Rattle.nwa_base.specs.Members.{SameMembers};
 ghost use Rattle.nwa_base.specs.Edges.{ends, back_ends};
-ghost use Rattle.proof_names.specs.Outlines.{Node};
+ghost use Rattle.proof_names.specs.Outlines.{OutlineNode};
 ghost use Rattle.proof_spell.specs.Drafts.{AscendFrom};
 ghost use Rattle.proof_unwind.specs.Exploring.{InsideFollows, CallFollows, BackFollows, AreFollowing, IsChosen};
 
@@ -121,7 +121,7 @@ pub(crate) fn follow_inside(
     preds: &[u32],
     letter: Letter,
 ) -> Result<Vec<u32>, AllocError>
-    ensures { IfOk result (λ v. (x : Node) → x.preds ≡ preds.now → AreFollowing (InsideFollows union.now letter x) v.items) }
+    ensures { IfOk result (λ v. (x : OutlineNode) → x.preds ≡ preds.now → AreFollowing (InsideFollows union.now letter x) v.items) }
 {
     let sources = sources(alloc, preds)?;
     let targets = inside_ends(alloc, union, &sources, letter)?;
@@ -135,7 +135,7 @@ pub(crate) fn follow_call(
     preds: &[u32],
     letter: Letter,
 ) -> Result<Vec<u32>, AllocError>
-    ensures { IfOk result (λ v. (x : Node) → x.preds ≡ preds.now → AreFollowing (CallFollows union.now letter x) v.items) }
+    ensures { IfOk result (λ v. (x : OutlineNode) → x.preds ≡ preds.now → AreFollowing (CallFollows union.now letter x) v.items) }
 {
     let sources = sources(alloc, preds)?;
     let targets = call_ends(alloc, union, &sources, letter)?;
@@ -150,7 +150,7 @@ pub(crate) fn follow_back(
     before: &[u32],
     letter: Letter,
 ) -> Result<Vec<u32>, AllocError>
-    ensures { IfOk result (λ v. (x c : Node) → x.preds ≡ exit.now → c.preds ≡ before.now → AreFollowing (BackFollows union.now letter x c) v.items) }
+    ensures { IfOk result (λ v. (x c : OutlineNode) → x.preds ≡ exit.now → c.preds ≡ before.now → AreFollowing (BackFollows union.now letter x c) v.items) }
 {
     let exits = sources(alloc, exit)?;
     let callers = sources(alloc, before)?;

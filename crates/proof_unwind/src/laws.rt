@@ -2,11 +2,11 @@
 
 ghost use Rattle.std.specs.Prelude.{List, length};
 ghost use Rattle.nwa_base.specs.Automata.{Automaton};
-ghost use Rattle.proof_names.specs.Outlines.{Node};
+ghost use Rattle.proof_names.specs.Outlines.{OutlineNode};
 ghost use Rattle.proof_unwind.specs.Unwindings.{ClosesUnwinding};
 ghost use Rattle.proof_unwind.specs.Exploring.{AreOpened};
 
 /// Once all nodes are opened, all steps and backs that are due are there.
 pub fn opened_closed()
-    ensures { (m : Automaton) (nodes : List Node) (s : Automaton) → AreOpened m nodes s (length nodes) → ClosesUnwinding m nodes s }
+    ensures { (m : Automaton) (nodes : List OutlineNode) (s : Automaton) → AreOpened m nodes s (length nodes) → ClosesUnwinding m nodes s }
 {}

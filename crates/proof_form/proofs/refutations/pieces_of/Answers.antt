@@ -1,7 +1,7 @@
 use Rattle.std.proofs.Common.{arith, sym, ◌∙◌}
 use Rattle.std.proofs.lemmas.Result.{err_from_is_err_and}
 use Rattle.proof_form.specs.Reading.{more_follow}
-use Rattle.proof_form.specs.Refutations.{plain}
+use Rattle.proof_form.specs.Refutations.{plain_refutation_node}
 use Rattle.proof_form.specs.RefutationReading.{piece_at, pieces_of}
 use Rattle.proof_form.specs.TreeViews.{part}
 use Rattle.proof_form.proofs.AfterLaws.{refused}
@@ -9,7 +9,7 @@ use Rattle.proof_form.proofs.ManyLaws.{begins, stops, ends, fails, goes_on, push
 use Rattle.proof_form.proofs.refutations.pieces_of.Goals as goal
 
 pub loop-turn-init : goal.loop-turn-init
-loop-turn-init c = begins piece_at more_follow _ _ _ _ (none_pushed (part plain) _ c.new-pieces.ensures.items) (omega arith)
+loop-turn-init c = begins piece_at more_follow _ _ _ _ (none_pushed (part plain_refutation_node) _ c.new-pieces.ensures.items) (omega arith)
 
 pub returns-then-not-more_follow : goal.returns-then-not-more_follow
 unfolding pieces_of
@@ -26,7 +26,7 @@ returns-in_err-piece c =
 pub loop-turn-preserved : goal.loop-turn-preserved
 loop-turn-preserved c =
     goes_on piece_at more_follow _ _ _ _ _ _ _ _ c.loop-turn-test.true c.loop-turn.invariant (sym c.more_follow.ensures ∙ c.if-not-more_follow.false)
-    c.in_ok-piece.ensures (pushed (part plain) _ _ _ c.in_ok-push.ensures.items)
+    c.in_ok-piece.ensures (pushed (part plain_refutation_node) _ _ _ c.in_ok-push.ensures.items)
 
 pub returns-then-more_follow : goal.returns-then-more_follow
 unfolding pieces_of

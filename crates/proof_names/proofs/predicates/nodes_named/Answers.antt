@@ -6,19 +6,19 @@ use Rattle.proof_names.proofs.FoundLaws.{found_start, found_none, found_end}
 use Rattle.proof_names.proofs.predicates.nodes_named.Goals as goal
 
 pub node_named-requires : goal.node_named-requires
-node_named-requires c = passes_at (λ n. form.is_node (form.plain n)) c.args.nodes.now c.loop-node.node-index c.node-item.result c.requires c.loop-node-test.true c.node-item.is
+node_named-requires c = passes_at (λ n. form.is_predicate_node (form.plain_predicate_node n)) c.args.nodes.now c.loop-node.node-index c.node-item.result c.requires c.loop-node-test.true c.node-item.is
 
 pub loop-node-init : goal.loop-node-init
-loop-node-init c = found_start (λ n. node_named c.args.frame.now (form.plain n)) c.args.nodes.now c.in_ok-named.named.items c.in_ok-named.ensures.items
+loop-node-init c = found_start (λ n. node_named c.args.frame.now (form.plain_predicate_node n)) c.args.nodes.now c.in_ok-named.named.items c.in_ok-named.ensures.items
 
 pub loop-node-preserved : goal.loop-node-preserved
 loop-node-preserved c =
-    found_on (λ n. node_named c.args.frame.now (form.plain n)) c.args.nodes.now c.loop-node.node-index c.loop-node.named.items _ c.node-item.result c.in-Some.node c.loop-node.invariant c.loop-node-test.true c.node-item.is
+    found_on (λ n. node_named c.args.frame.now (form.plain_predicate_node n)) c.args.nodes.now c.loop-node.node-index c.loop-node.named.items _ c.node-item.result c.in-Some.node c.loop-node.invariant c.loop-node-test.true c.node-item.is
     (sym c.in_ok-node.ensures ∙ c.in-Some.is) c.in_ok-push-in-Some.ensures.items
 
 pub returns-in-None : goal.returns-in-None
 returns-in-None c =
-    found_none (λ n. node_named c.args.frame.now (form.plain n)) c.args.nodes.now c.loop-node.node-index c.loop-node.named.items c.node-item.result c.loop-node.invariant c.loop-node-test.true c.node-item.is (sym c.in-None.is ∙ c.in_ok-node.ensures)
+    found_none (λ n. node_named c.args.frame.now (form.plain_predicate_node n)) c.args.nodes.now c.loop-node.node-index c.loop-node.named.items c.node-item.result c.loop-node.invariant c.loop-node-test.true c.node-item.is (sym c.in-None.is ∙ c.in_ok-node.ensures)
 
 pub returns : goal.returns
-returns c = found_end (λ n. node_named c.args.frame.now (form.plain n)) c.args.nodes.now c.loop-node.node-index c.loop-node.named.items c.loop-node.invariant c.loop-node-test.false
+returns c = found_end (λ n. node_named c.args.frame.now (form.plain_predicate_node n)) c.args.nodes.now c.loop-node.node-index c.loop-node.named.items c.loop-node.invariant c.loop-node-test.false

@@ -27,7 +27,7 @@ returns c =
     let line = lines.triple c.args.line.now in
     let nodes = c.proof_in-nodes.result.now in
     subst (λ (t : NamedTriple). NamesTriple g (slice_get c.args.preds.now) line t) (sym c.in_ok-with_proof.ensures)
-    (names_triple g (slice_get c.args.preds.now) line (record { listed = c.in-Some.listed; triple = c.in-Some-2.triple; proof = refutation_of (map form.plain nodes) })
+    (names_triple g (slice_get c.args.preds.now) line (record { listed = c.in-Some.listed; triple = c.in-Some-2.triple; proof = refutation_of (map form.plain_refutation_node nodes) })
     c.letter_in.result c.width.result nodes c.agrees.result c.is_named.result
     c.in-Some.ensures (sym c.in-Some-2.is ∙ c.in_ok-triple.ensures) c.agrees.ensures c.if-not-agrees.false c.letter_in.ensures c.width.ensures c.is_named.ensures c.proof_in-nodes.ensures
     c.if-not-is_named.false refl)

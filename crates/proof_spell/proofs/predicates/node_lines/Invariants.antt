@@ -5,4 +5,4 @@ use Rattle.proof_spell.specs.Nodes.{SpellsNode}
 use Rattle.proof_spell.proofs.predicates.node_lines.Given as goal
 
 abbrev pub invariant-loop-node : goal.invariant-loop-node
-invariant-loop-node l = Correspond (λ n. SpellsNode l.frame (form.plain n)) l.lines.items (take l.node-index l.nodes)
+invariant-loop-node l = Correspond (λ n. SpellsNode l.frame (form.plain_predicate_node n)) l.lines.items (take l.node-index l.nodes)

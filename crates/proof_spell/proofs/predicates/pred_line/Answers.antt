@@ -24,7 +24,7 @@ node_lines-requires-clause-within c =
 pub returns : goal.returns
 returns c =
     let l : c.args.scoped.now.proc < 2 ^ 32 = search rules in
-    let n : Correspond (λ n. SpellsNode (frame_of (alphabet_of c.args.icfg.now) c.args.scoped.now.proc) (form.plain n)) c.in_ok-nodes.nodes.items c.args.scoped.now.pred =
-    subst (λ (f : Columns). Correspond (λ n. SpellsNode f (form.plain n)) c.in_ok-nodes.nodes.items c.args.scoped.now.pred) c.columns.ensures.value
-    (subst (λ (k : List PredNode). Correspond (λ n. SpellsNode c.columns.result.now (form.plain n)) c.in_ok-nodes.nodes.items k) c.nodes.ensures.value c.in_ok-nodes.ensures) in
+    let n : Correspond (λ n. SpellsNode (frame_of (alphabet_of c.args.icfg.now) c.args.scoped.now.proc) (form.plain_predicate_node n)) c.in_ok-nodes.nodes.items c.args.scoped.now.pred =
+    subst (λ (f : Columns). Correspond (λ n. SpellsNode f (form.plain_predicate_node n)) c.in_ok-nodes.nodes.items c.args.scoped.now.pred) c.columns.ensures.value
+    (subst (λ (k : List PredNode). Correspond (λ n. SpellsNode c.columns.result.now (form.plain_predicate_node n)) c.in_ok-nodes.nodes.items k) c.nodes.ensures.value c.in_ok-nodes.ensures) in
     pred_spelled c.args.icfg.now c.in_ok-proc.proc c.in_ok-nodes.nodes.items c.args.scoped.now c.columns.ensures.valid c.requires c.nodes.ensures.valid l c.in_ok-proc.ensures n

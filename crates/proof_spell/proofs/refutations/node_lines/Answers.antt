@@ -16,11 +16,11 @@ node_line-requires c =
 
 pub loop-node-preserved : goal.loop-node-preserved
 loop-node-preserved c =
-    correspond_more (λ n m. SpellsBranch (form.plain n) (plain m)) c.loop-node.lines.items c.push.new.self.items c.nodes-nodes.result.now c.loop-node.node-index c.in_ok-node_line.field-0
+    correspond_more (λ n m. SpellsBranch (form.plain_refutation_node n) (plain m)) c.loop-node.lines.items c.push.new.self.items c.nodes-nodes.result.now c.loop-node.node-index c.in_ok-node_line.field-0
     c.node-item.result c.node-item.result c.loop-node.invariant c.loop-node-test.true c.node-item.is c.in_ok-node_line.ensures c.in_ok-push.ensures.items
 
 pub returns-clause-spells : goal.returns-clause-spells
 returns-clause-spells c =
-    subst (λ (l : List PlainNode). Correspond (λ n. SpellsBranch (form.plain n)) c.loop-node.lines.items l) c.nodes-nodes.ensures.value
-    (right_viewed (λ n. SpellsBranch (form.plain n)) plain c.loop-node.lines.items c.nodes-nodes.result.now
-    (correspond_end (λ n m. SpellsBranch (form.plain n) (plain m)) c.loop-node.lines.items c.nodes-nodes.result.now c.loop-node.node-index c.loop-node.invariant c.loop-node-test.false))
+    subst (λ (l : List PlainNode). Correspond (λ n. SpellsBranch (form.plain_refutation_node n)) c.loop-node.lines.items l) c.nodes-nodes.ensures.value
+    (right_viewed (λ n. SpellsBranch (form.plain_refutation_node n)) plain c.loop-node.lines.items c.nodes-nodes.result.now
+    (correspond_end (λ n m. SpellsBranch (form.plain_refutation_node n) (plain m)) c.loop-node.lines.items c.nodes-nodes.result.now c.loop-node.node-index c.loop-node.invariant c.loop-node-test.false))

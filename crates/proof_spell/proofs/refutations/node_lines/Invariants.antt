@@ -6,4 +6,4 @@ use Rattle.proof_spell.specs.Nodes.{SpellsBranch}
 use Rattle.proof_spell.proofs.refutations.node_lines.Given as goal
 
 abbrev pub invariant-loop-node : goal.invariant-loop-node
-invariant-loop-node l = Correspond (λ n m. SpellsBranch (form.plain n) (plain m)) l.lines.items (take l.node-index l.nodes)
+invariant-loop-node l = Correspond (λ n m. SpellsBranch (form.plain_refutation_node n) (plain m)) l.lines.items (take l.node-index l.nodes)

@@ -1,6 +1,6 @@
 use Rattle.std.proofs.Common.{◌≡◌, ◌<◌, ℕ, List, Some, subst, sym}
 use Rattle.std.specs.Prelude.{slice_get, slice_index}
-use Rattle.proof_names.specs.Outlines.{Node}
+use Rattle.proof_names.specs.Outlines.{OutlineNode}
 use Rattle.proof_unwind.specs.declared.spots.Spot.{Spot}
 use Rattle.proof_unwind.specs.Unwindings.{bare}
 use Rattle.proof_unwind.specs.Renumbering.{ArePlaced, AreRanks}
@@ -16,8 +16,8 @@ placed-requires-clause-first c =
 
 pub returns-clause-exploring : goal.returns-clause-exploring
 returns-clause-exploring c =
-    let nodes : List Node = nodes_of c.args.found.now.nodes.items in
-    let new : List Node = nodes_of c.in_ok-nodes.nodes.items in
+    let nodes : List OutlineNode = nodes_of c.args.found.now.nodes.items in
+    let new : List OutlineNode = nodes_of c.in_ok-nodes.nodes.items in
     let o : IsOrdered nodes new c.args.found.now.steps c.in_ok-steps.steps =
     ordered c.args.found.now.nodes.items c.deref.result.now c.deref-3.result.now c.in_ok-order.order.items c.deref-2.result.now c.deref-4.result.now c.in_ok-ranks.ranks.items
     c.deref-5.result.now c.deref-6.result.now new c.args.found.now.steps c.in_ok-steps.steps c.deref.ensures.value c.deref-2.ensures.value c.deref-3.ensures.value c.deref-4.ensures.value
@@ -26,8 +26,8 @@ returns-clause-exploring c =
 
 pub returns-clause-opened : goal.returns-clause-opened
 returns-clause-opened c =
-    let nodes : List Node = nodes_of c.args.found.now.nodes.items in
-    let new : List Node = nodes_of c.in_ok-nodes.nodes.items in
+    let nodes : List OutlineNode = nodes_of c.args.found.now.nodes.items in
+    let new : List OutlineNode = nodes_of c.in_ok-nodes.nodes.items in
     let o : IsOrdered nodes new c.args.found.now.steps c.in_ok-steps.steps =
     ordered c.args.found.now.nodes.items c.deref.result.now c.deref-3.result.now c.in_ok-order.order.items c.deref-2.result.now c.deref-4.result.now c.in_ok-ranks.ranks.items
     c.deref-5.result.now c.deref-6.result.now new c.args.found.now.steps c.in_ok-steps.steps c.deref.ensures.value c.deref-2.ensures.value c.deref-3.ensures.value c.deref-4.ensures.value
@@ -36,8 +36,8 @@ returns-clause-opened c =
 
 pub returns-clause-ascend : goal.returns-clause-ascend
 returns-clause-ascend c =
-    let nodes : List Node = nodes_of c.args.found.now.nodes.items in
-    let new : List Node = nodes_of c.in_ok-nodes.nodes.items in
+    let nodes : List OutlineNode = nodes_of c.args.found.now.nodes.items in
+    let new : List OutlineNode = nodes_of c.in_ok-nodes.nodes.items in
     let o : IsOrdered nodes new c.args.found.now.steps c.in_ok-steps.steps =
     ordered c.args.found.now.nodes.items c.deref.result.now c.deref-3.result.now c.in_ok-order.order.items c.deref-2.result.now c.deref-4.result.now c.in_ok-ranks.ranks.items
     c.deref-5.result.now c.deref-6.result.now new c.args.found.now.steps c.in_ok-steps.steps c.deref.ensures.value c.deref-2.ensures.value c.deref-3.ensures.value c.deref-4.ensures.value
@@ -45,7 +45,7 @@ returns-clause-ascend c =
 
 pub moved_steps-requires : goal.moved_steps-requires
 moved_steps-requires c =
-    let nodes : List Node = nodes_of c.args.found.now.nodes.items in
+    let nodes : List OutlineNode = nodes_of c.args.found.now.nodes.items in
     let placed : ArePlaced nodes c.in_ok-order.order.items = subst (λ (l : List Spot). ArePlaced (nodes_of l) c.in_ok-order.order.items) c.deref.ensures.value c.in_ok-order.ensures in
     let ranks : AreRanks c.in_ok-order.order.items c.in_ok-ranks.ranks.items = subst (λ (l : List (ℕ × ℕ)). AreRanks l c.in_ok-ranks.ranks.items) c.deref-2.ensures.value c.in_ok-ranks.ensures in
     subst (λ (l : List ℕ). (n : ℕ) → n < c.args.found.now.steps.states → slice_index l n < c.args.found.now.steps.states) (sym c.deref-6.ensures.value)

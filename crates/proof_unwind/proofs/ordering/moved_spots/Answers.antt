@@ -1,7 +1,7 @@
 use Rattle.std.proofs.Common.{◌≡◌, ◌∙◌, ◌<◌, ◌∷◌, [], ℕ, List, length, sym, ap, arith}
 use Rattle.std.specs.Prelude.{slice_index}
 use Rattle.std.proofs.lemmas.List.{length-map, map-append}
-use Rattle.proof_names.specs.Outlines.{Node}
+use Rattle.proof_names.specs.Outlines.{OutlineNode}
 use Rattle.proof_unwind.specs.declared.spots.Spot.{Spot}
 use Rattle.proof_unwind.specs.Unwindings.{node_at}
 use Rattle.proof_unwind.specs.Renumbering.{renamed, pair_at}
@@ -13,7 +13,7 @@ use Rattle.proof_unwind.proofs.ordering.moved_spots.Goals as goal
 pub loop-pair-preserved : goal.loop-pair-preserved
 loop-pair-preserved c =
     let h : ℕ → ℕ = slice_index c.args.ranks.now in
-    let nodes : List Node = nodes_of c.args.spots.now in
+    let nodes : List OutlineNode = nodes_of c.args.spots.now in
     let x : Spot = c.index-spots-pair.result in
     let new : Spot = record { place = x.place; entry = c.rank.result; preds = c.in_ok-from_slice.field-0 } in
     let n : ℕ = (pair_at c.args.order.now c.loop-pair.pair-index).1 in

@@ -1,6 +1,6 @@
 use Rattle.std.proofs.Common.{◌≡◌, ◌∙◌, get_or, ◌+◌, ◌<◌, ◌∷◌, [], ◌++◌, ℕ, List, length, length-append, sym, ap, subst, arith}
 use Rattle.std.proofs.lemmas.List.{length-map}
-use Rattle.proof_names.specs.Outlines.{Node}
+use Rattle.proof_names.specs.Outlines.{OutlineNode}
 use Rattle.proof_unwind.specs.declared.spots.Spot.{Spot}
 use Rattle.proof_unwind.specs.Unwindings.{node_at, node_place_in}
 use Rattle.proof_unwind.specs.Renumbering.{pair_at}
@@ -11,7 +11,7 @@ use Rattle.proof_unwind.proofs.ordering.other_pairs.Goals as goal
 
 pub loop-number-preserved : goal.loop-number-preserved
 loop-number-preserved c =
-    let nodes : List Node = nodes_of c.args.spots.now in
+    let nodes : List OutlineNode = nodes_of c.args.spots.now in
     let pairs = c.loop-number.pairs.items in
     let number = c.loop-number.number in
     let x : Spot = get_or c.args.spots.now number c.index-spots-number.result in
@@ -24,6 +24,6 @@ loop-number-preserved c =
     record {
       long = let l = c.loop-number.invariant.long in omega (arith, l, more, is);
       at = λ k l. subst (λ (z : List (ℕ × ℕ)). pair_at z k ≡ (node_place_in nodes (k + 1), k + 1)) (sym c.in_ok-push.ensures.items)
-          (others_more nodes pairs number (x.place, number) c.loop-number.invariant.long c.loop-number.invariant.at (ap (λ (z : ℕ). (z, number)) (sym (ap (λ (y : Node). y.place) at))) k
+          (others_more nodes pairs number (x.place, number) c.loop-number.invariant.long c.loop-number.invariant.at (ap (λ (z : ℕ). (z, number)) (sym (ap (λ (y : OutlineNode). y.place) at))) k
           (subst (λ (z : List (ℕ × ℕ)). k < length z) c.in_ok-push.ensures.items l));
     }

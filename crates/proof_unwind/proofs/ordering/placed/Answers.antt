@@ -1,7 +1,7 @@
 use Rattle.std.proofs.Common.{◌≡◌, ◌∙◌, ◌<◌, ◌∷◌, [], ◌++◌, ℕ, List, length, sym, ap, subst, arith, rules}
 use Rattle.std.proofs.lemmas.List.{length-map}
 use Rattle.std.proofs.lemmas.List.Sorted.{IsNonDecreasingBy-from_sort_by_key}
-use Rattle.proof_names.specs.Outlines.{Node}
+use Rattle.proof_names.specs.Outlines.{OutlineNode}
 use Rattle.proof_unwind.specs.Renumbering.{ArePlaced}
 use Rattle.proof_unwind.specs.Spots.{plain, nodes_of}
 use Rattle.proof_unwind.proofs.OrderLaws.{placed_by}
@@ -9,7 +9,7 @@ use Rattle.proof_unwind.proofs.ordering.placed.Goals as goal
 
 pub returns : goal.returns
 returns c =
-    let nodes : List Node = nodes_of c.args.spots.now in
+    let nodes : List OutlineNode = nodes_of c.args.spots.now in
     let long = length-map c.args.spots.now plain in
     let some : 0 < length nodes = omega (arith, long, c.requires.some) in
     let is : c.extend_from_slice.new.self.items ≡ (0, 0) ∷ c.sort_by_key.new.self.items =

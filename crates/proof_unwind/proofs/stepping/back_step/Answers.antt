@@ -1,5 +1,5 @@
 use Rattle.std.proofs.Common.{◌≡◌, ◌∙◌, ℕ, List, sym, ap, subst}
-use Rattle.proof_names.specs.Outlines.{Node}
+use Rattle.proof_names.specs.Outlines.{OutlineNode}
 use Rattle.proof_unwind.specs.declared.spots.Spot.{Spot}
 use Rattle.proof_unwind.specs.Unwindings.{node_at, entry_of}
 use Rattle.proof_unwind.specs.Exploring.{BackFollows, AreFollowing, Stage, Returned, linked_back}
@@ -17,13 +17,13 @@ returns-in-Some c =
     let at : node_at s.nodes c.args.before ≡ plain c.index-caller.result.now =
     spot_there c.args.search.now.spots.items c.args.before c.index-caller.result.now c.requires.before c.index-caller.ensures in
     let f : AreFollowing (BackFollows c.args.union.now c.args.letter (node_at s.nodes c.args.exit) (node_at s.nodes c.args.before)) c.in_ok-preds.preds.items =
-    c.in_ok-preds.ensures (node_at s.nodes c.args.exit) (node_at s.nodes c.args.before) (ap (λ (x : Node). x.preds) ex ∙ sym c.deref.ensures.value)
-    (ap (λ (x : Node). x.preds) at ∙ sym c.deref-2.ensures.value) in
+    c.in_ok-preds.ensures (node_at s.nodes c.args.exit) (node_at s.nodes c.args.before) (ap (λ (x : OutlineNode). x.preds) ex ∙ sym c.deref.ensures.value)
+    (ap (λ (x : OutlineNode). x.preds) at ∙ sym c.deref-2.ensures.value) in
     let w : IsWeaker s.nodes c.args.place c.index-caller.result.now.entry c.in_ok-preds.preds.items c.in-Some.to =
     subst (λ (l : List ℕ). IsWeaker s.nodes c.args.place c.index-caller.result.now.entry l c.in-Some.to) c.deref-4.ensures.value
     (subst (λ (l : List Spot). IsWeaker (nodes_of l) c.args.place c.index-caller.result.now.entry c.deref-4.result.now c.in-Some.to) c.deref-3.ensures.value c.in-Some.ensures) in
     let v : IsWeaker s.nodes c.args.place (entry_of s.nodes c.args.before) c.in_ok-preds.preds.items c.in-Some.to =
-    subst (λ (e : ℕ). IsWeaker s.nodes c.args.place e c.in_ok-preds.preds.items c.in-Some.to) (sym (ap (λ (x : Node). x.entry) at)) w in
+    subst (λ (e : ℕ). IsWeaker s.nodes c.args.place e c.in_ok-preds.preds.items c.in-Some.to) (sym (ap (λ (x : OutlineNode). x.entry) at)) w in
     then_at c.link_back.result (Returned c.args.graph.now c.args.union.now c.args.exit c.args.before c.args.letter c.args.place s) (stage_of c.link_back.new.self)
     (linked_back s (c.args.exit, c.args.before, c.args.letter, c.in-Some.to))
     (back_to c.args.graph.now c.args.union.now s.nodes s.steps c.args.exit c.args.before c.args.call c.args.letter c.args.place c.in_ok-preds.preds.items c.in-Some.to
@@ -36,14 +36,14 @@ returns c =
     let at : node_at s.nodes c.args.before ≡ plain c.index-caller.result.now =
     spot_there c.args.search.now.spots.items c.args.before c.index-caller.result.now c.requires.before c.index-caller.ensures in
     let f : AreFollowing (BackFollows c.args.union.now c.args.letter (node_at s.nodes c.args.exit) (node_at s.nodes c.args.before)) c.in_ok-preds.preds.items =
-    c.in_ok-preds.ensures (node_at s.nodes c.args.exit) (node_at s.nodes c.args.before) (ap (λ (x : Node). x.preds) ex ∙ sym c.deref.ensures.value)
-    (ap (λ (x : Node). x.preds) at ∙ sym c.deref-2.ensures.value) in
-    let x : Node = record { place = c.args.place; entry = c.index-caller.result.now.entry; preds = c.in_ok-preds.preds.items } in
+    c.in_ok-preds.ensures (node_at s.nodes c.args.exit) (node_at s.nodes c.args.before) (ap (λ (x : OutlineNode). x.preds) ex ∙ sym c.deref.ensures.value)
+    (ap (λ (x : OutlineNode). x.preds) at ∙ sym c.deref-2.ensures.value) in
+    let x : OutlineNode = record { place = c.args.place; entry = c.index-caller.result.now.entry; preds = c.in_ok-preds.preds.items } in
     then_new c.link_back-2.result (Returned c.args.graph.now c.args.union.now c.args.exit c.args.before c.args.letter c.args.place s)
     (λ t k. linked_back t (c.args.exit, c.args.before, c.args.letter, k)) s (stage_of c.add.new.self) (stage_of c.link_back-2.new.self) x c.in_ok-to.to c.in_ok-to.ensures.stage
     c.in_ok-to.ensures.number c.requires.exploring.states
     (back_new c.args.graph.now c.args.union.now s.nodes s.steps c.args.exit c.args.before c.args.call c.args.letter x c.requires.exploring c.requires.exit c.requires.before
-    c.requires.open_exit c.requires.open_before c.requires.call_kind c.requires.kind c.requires.called c.requires.names c.requires.edge (sym (ap (λ (y : Node). y.entry) at)) f)
+    c.requires.open_exit c.requires.open_before c.requires.call_kind c.requires.kind c.requires.called c.requires.names c.requires.edge (sym (ap (λ (y : OutlineNode). y.entry) at)) f)
     c.link_back-2.ensures
 
 pub link_back-requires : goal.link_back-requires

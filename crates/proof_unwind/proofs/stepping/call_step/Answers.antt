@@ -1,5 +1,5 @@
 use Rattle.std.proofs.Common.{◌≡◌, ◌∙◌, ℕ, List, sym, ap, subst}
-use Rattle.proof_names.specs.Outlines.{Node}
+use Rattle.proof_names.specs.Outlines.{OutlineNode}
 use Rattle.proof_unwind.specs.declared.spots.Spot.{Spot}
 use Rattle.proof_unwind.specs.Unwindings.{node_at}
 use Rattle.proof_unwind.specs.Exploring.{CallFollows, AreFollowing, Stage, Called, linked_call}
@@ -16,7 +16,7 @@ returns-in-Some c =
     let s : Stage = stage_of c.args.search.now in
     let at : node_at s.nodes c.args.from ≡ plain c.index-spot.result.now = spot_there c.args.search.now.spots.items c.args.from c.index-spot.result.now c.requires.there c.index-spot.ensures in
     let f : AreFollowing (CallFollows c.args.union.now c.args.letter (node_at s.nodes c.args.from)) c.in_ok-preds.preds.items =
-    c.in_ok-preds.ensures (node_at s.nodes c.args.from) (ap (λ (x : Node). x.preds) at ∙ sym c.deref.ensures.value) in
+    c.in_ok-preds.ensures (node_at s.nodes c.args.from) (ap (λ (x : OutlineNode). x.preds) at ∙ sym c.deref.ensures.value) in
     let w : IsEntryWith s.nodes c.args.place c.in_ok-preds.preds.items c.in-Some.to =
     subst (λ (l : List ℕ). IsEntryWith s.nodes c.args.place l c.in-Some.to) c.deref-3.ensures.value
     (subst (λ (l : List Spot). IsEntryWith (nodes_of l) c.args.place c.deref-3.result.now c.in-Some.to) c.deref-2.ensures.value c.in-Some.ensures) in
@@ -30,8 +30,8 @@ returns c =
     let s : Stage = stage_of c.args.search.now in
     let at : node_at s.nodes c.args.from ≡ plain c.index-spot.result.now = spot_there c.args.search.now.spots.items c.args.from c.index-spot.result.now c.requires.there c.index-spot.ensures in
     let f : AreFollowing (CallFollows c.args.union.now c.args.letter (node_at s.nodes c.args.from)) c.in_ok-preds.preds.items =
-    c.in_ok-preds.ensures (node_at s.nodes c.args.from) (ap (λ (x : Node). x.preds) at ∙ sym c.deref.ensures.value) in
-    let x : Node = record { place = c.args.place; entry = c.states-entry.result; preds = c.in_ok-preds.preds.items } in
+    c.in_ok-preds.ensures (node_at s.nodes c.args.from) (ap (λ (x : OutlineNode). x.preds) at ∙ sym c.deref.ensures.value) in
+    let x : OutlineNode = record { place = c.args.place; entry = c.states-entry.result; preds = c.in_ok-preds.preds.items } in
     then_new c.link_call-2.result (Called c.args.graph.now c.args.union.now c.args.from c.args.letter c.args.place s) (λ t k. linked_call t (c.args.from, c.args.letter, k)) s
     (stage_of c.add.new.self) (stage_of c.link_call-2.new.self) x c.in_ok-to.to c.in_ok-to.ensures.stage c.in_ok-to.ensures.number c.requires.exploring.states
     (call_new c.args.graph.now c.args.union.now s.nodes s.steps c.args.from c.args.letter x c.requires.exploring c.requires.there c.requires.opens c.requires.kind c.requires.edge

@@ -1,5 +1,5 @@
 use Rattle.std.proofs.Common.{◌≡◌, ◌∙◌, ℕ, List, sym, ap, subst}
-use Rattle.proof_names.specs.Outlines.{Node}
+use Rattle.proof_names.specs.Outlines.{OutlineNode}
 use Rattle.proof_unwind.specs.declared.spots.Spot.{Spot}
 use Rattle.proof_unwind.specs.Unwindings.{node_at, entry_of}
 use Rattle.proof_unwind.specs.Exploring.{InsideFollows, AreFollowing, Stage, Stepped, linked_inside}
@@ -16,12 +16,12 @@ returns-in-Some c =
     let s : Stage = stage_of c.args.search.now in
     let at : node_at s.nodes c.args.from ≡ plain c.index-spot.result.now = spot_there c.args.search.now.spots.items c.args.from c.index-spot.result.now c.requires.there c.index-spot.ensures in
     let f : AreFollowing (InsideFollows c.args.union.now c.args.letter (node_at s.nodes c.args.from)) c.in_ok-preds.preds.items =
-    c.in_ok-preds.ensures (node_at s.nodes c.args.from) (ap (λ (x : Node). x.preds) at ∙ sym c.deref.ensures.value) in
+    c.in_ok-preds.ensures (node_at s.nodes c.args.from) (ap (λ (x : OutlineNode). x.preds) at ∙ sym c.deref.ensures.value) in
     let w : IsWeaker s.nodes c.args.place c.index-spot.result.now.entry c.in_ok-preds.preds.items c.in-Some.to =
     subst (λ (l : List ℕ). IsWeaker s.nodes c.args.place c.index-spot.result.now.entry l c.in-Some.to) c.deref-3.ensures.value
     (subst (λ (l : List Spot). IsWeaker (nodes_of l) c.args.place c.index-spot.result.now.entry c.deref-3.result.now c.in-Some.to) c.deref-2.ensures.value c.in-Some.ensures) in
     let v : IsWeaker s.nodes c.args.place (entry_of s.nodes c.args.from) c.in_ok-preds.preds.items c.in-Some.to =
-    subst (λ (e : ℕ). IsWeaker s.nodes c.args.place e c.in_ok-preds.preds.items c.in-Some.to) (sym (ap (λ (x : Node). x.entry) at)) w in
+    subst (λ (e : ℕ). IsWeaker s.nodes c.args.place e c.in_ok-preds.preds.items c.in-Some.to) (sym (ap (λ (x : OutlineNode). x.entry) at)) w in
     then_at c.link_inside.result (Stepped c.args.graph.now c.args.union.now c.args.from c.args.letter c.args.place s) (stage_of c.link_inside.new.self)
     (linked_inside s (c.args.from, c.args.letter, c.in-Some.to))
     (inside_to c.args.graph.now c.args.union.now s.nodes s.steps c.args.from c.args.letter c.args.place c.in_ok-preds.preds.items c.in-Some.to c.requires.exploring c.requires.there
@@ -32,12 +32,12 @@ returns c =
     let s : Stage = stage_of c.args.search.now in
     let at : node_at s.nodes c.args.from ≡ plain c.index-spot.result.now = spot_there c.args.search.now.spots.items c.args.from c.index-spot.result.now c.requires.there c.index-spot.ensures in
     let f : AreFollowing (InsideFollows c.args.union.now c.args.letter (node_at s.nodes c.args.from)) c.in_ok-preds.preds.items =
-    c.in_ok-preds.ensures (node_at s.nodes c.args.from) (ap (λ (x : Node). x.preds) at ∙ sym c.deref.ensures.value) in
-    let x : Node = record { place = c.args.place; entry = c.index-spot.result.now.entry; preds = c.in_ok-preds.preds.items } in
+    c.in_ok-preds.ensures (node_at s.nodes c.args.from) (ap (λ (x : OutlineNode). x.preds) at ∙ sym c.deref.ensures.value) in
+    let x : OutlineNode = record { place = c.args.place; entry = c.index-spot.result.now.entry; preds = c.in_ok-preds.preds.items } in
     then_new c.link_inside-2.result (Stepped c.args.graph.now c.args.union.now c.args.from c.args.letter c.args.place s) (λ t k. linked_inside t (c.args.from, c.args.letter, k)) s
     (stage_of c.add.new.self) (stage_of c.link_inside-2.new.self) x c.in_ok-to.to c.in_ok-to.ensures.stage c.in_ok-to.ensures.number c.requires.exploring.states
     (inside_new c.args.graph.now c.args.union.now s.nodes s.steps c.args.from c.args.letter x c.requires.exploring c.requires.there c.requires.opens c.requires.kind c.requires.edge
-    (sym (ap (λ (y : Node). y.entry) at)) f) c.link_inside-2.ensures
+    (sym (ap (λ (y : OutlineNode). y.entry) at)) f) c.link_inside-2.ensures
 
 pub link_inside-requires : goal.link_inside-requires
 link_inside-requires c =
