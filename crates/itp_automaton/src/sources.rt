@@ -1,6 +1,6 @@
 //! Which triples over the states may hold: those whose kinds and scopes agree with a letter.
 
-ghost use Rattle.std.specs.Prelude.{◌≡◌, ◌<◌, ◌↔◌, ◌++◌, [], Some, IsTrue, IfOk, OnOk, length, map, slice_get};
+ghost use Rattle.std.specs.Prelude.{◌≡◌, ◌<◌, ◌↔◌, ◌++◌, [], Some, IsTrue, IfOk, OnOk, length, map};
 ghost use Rattle.std.specs.List.{flat_map};
 ghost use Rattle.letter_acts.specs.Invariant.{alphabet_of};
 ghost use Rattle.triple_rows.specs.Triples.{IsScoped};
@@ -106,14 +106,6 @@ fn back_sources(
     Ok(sources)
 }
 
-/// The act of a letter.
-fn act_at(icfg: &Icfg, letter: u32) -> &Act
-    requires { letter < length icfg.now.acts }
-    ensures { slice_get icfg.now.acts letter ≡ Some (plain_act result.now) }
-{
-    &icfg.acts()[letter as usize]
-}
-
 /// No sources.
 fn no_sources(alloc: Global) -> Sources
     ensures { result.list.items ≡ [] }
@@ -184,5 +176,5 @@ pub(crate) fn sources_of(
     requires { letter < length icfg.now.acts }
     ensures { IfOk result (λ s. AreSources (alphabet_of icfg.now) states.now letter s.proc s.list.items) }
 {
-    act_sources(alloc, icfg, states, act_at(icfg, letter))
+    act_sources(alloc, icfg, states, icfg.act_at(letter))
 }

@@ -8,12 +8,12 @@ use Rattle.nwa_base.specs.declared.letters.Kind.TheVariants as kinds
 use Rattle.nwa_base.specs.declared.letters.Letter.{Letter}
 use Rattle.nwa_base.specs.Members.{Member}
 use Rattle.nwa_base.specs.Acceptance.{Follows, AcceptsFrom, Accepts}
-use Rattle.letter_acts.specs.Frames.{Columns, globals_of, results_of}
+use Rattle.letter_acts.specs.Frames.{Columns, globals_of, result_columns}
 use Rattle.letter_acts.specs.Acts.{PlainAct, inside_act, call_act, Alphabet, frame_of, act_of}
 use Rattle.letter_acts.specs.Invariant.{Graph, IsGraph, alphabet_of, IsPlaceOf}
 use Rattle.letter_acts.specs.Kept.{Keeps}
 use Rattle.letter_acts.proofs.KnownLemmas.{frames_laid_out}
-use Rattle.path_rows.specs.Versions.{Stage, Part, part_of, act_part, return_part, back_part, no_rows, returned, locals_of}
+use Rattle.path_rows.specs.Versions.{PathStage, Part, part_of, act_part, return_part, back_part, rowless_part, returned, local_columns}
 use Rattle.frame_rows.specs.Rows.{columns_from}
 use Rattle.path_rows.specs.Paths.{start_frame, first_stage}
 use Rattle.path_rows.proofs.ListLemmas.{length-columns_from}
@@ -27,9 +27,9 @@ use Rattle.triple_rows.specs.declared.triples.Triple.{Triple}
 use Rattle.triple_rows.specs.Predicates.{Formula, IsOver}
 use Rattle.triple_rows.specs.Triples.{IsScoped, InsideAgrees, CallAgrees, ReturnAgrees, BackAgrees, Agrees}
 use Rattle.triple_rows.proofs.FormulaLaws.{prefix_read}
-use Rattle.nested_predicates.specs.Positions.{Scope, has_return, callee_scope, scopes_after, Position, position_at, positions_along, start_scope}
+use Rattle.nested_predicates.specs.Positions.{CallScope, has_return, callee_scope, scopes_after, Position, position_at, positions_along, start_scope}
 use Rattle.nested_predicates.specs.Joins.{predicate_at}
-use Rattle.nested_predicates.specs.Interpolants.{scoped_at, prefix_predicates, letter_triple, saved_after, triples_along}
+use Rattle.nested_predicates.specs.Interpolants.{interpolant_at, prefix_predicates, letter_triple, saved_after, triples_along}
 use Rattle.nested_predicates.proofs.SpellingLaws.{predicate_over}
 
 same_proc : (procs : List ℕ) (q a b : ℕ) → IsPlaceOf procs a q → IsPlaceOf procs b q → a ≡ b
@@ -41,7 +41,7 @@ pub record StandsAt (g : Graph) (x : ℕ) (q : Position) : Type 0 where
   pub long : length q.here ≡ length (frame_of (alphabet_of g) q.scope.proc)
 
 -- its predicate is of that procedure, over its columns
-scoped : (g : Graph) (w : List Letter) (t : Tree) (q : Position) (x p : ℕ) → StandsAt g x q → IsPlaceOf g.place_procs p x → p < length g.frames → IsScoped (alphabet_of g) p (scoped_at g w t q)
+scoped : (g : Graph) (w : List Letter) (t : Tree) (q : Position) (x p : ℕ) → StandsAt g x q → IsPlaceOf g.place_procs p x → p < length g.frames → IsScoped (alphabet_of g) p (interpolant_at g w t q)
 scoped g w t q x p s place exists =
     let e : q.scope.proc ≡ p = same_proc g.place_procs x q.scope.proc p s.place place in
     record {
@@ -52,12 +52,12 @@ scoped g w t q x p s place exists =
     }
 
 -- a call is open: before it stood a place, with these versions, this scope, and this predicate
-pub record OpenAt (g : Graph) (x : ℕ) (v : List ℕ) (s : Scope) (f : Scoped) : Type 0 where
+pub record OpenAt (g : Graph) (x : ℕ) (v : List ℕ) (s : CallScope) (f : Scoped) : Type 0 where
   pub place : IsPlaceOf g.place_procs s.proc x
   pub long : length v ≡ length (frame_of (alphabet_of g) s.proc)
   pub scoped_in : (p : ℕ) → IsPlaceOf g.place_procs p x → p < length g.frames → IsScoped (alphabet_of g) p f
 
-abbrev pub AreOpen : Graph → List ℕ → List (List ℕ) → List Scope → List Scoped → Type 0
+abbrev pub AreOpen : Graph → List ℕ → List (List ℕ) → List CallScope → List Scoped → Type 0
 AreOpen g [] saved scopes preds = Unit {0}
 AreOpen g (x ∷ places) [] scopes preds = ⊥
 AreOpen g (x ∷ places) (v ∷ saved) [] preds = ⊥
@@ -65,34 +65,34 @@ AreOpen g (x ∷ places) (v ∷ saved) (s ∷ scopes) [] = ⊥
 AreOpen g (x ∷ places) (v ∷ saved) (s ∷ scopes) (f ∷ preds) = OpenAt g x v s f × AreOpen g places saved scopes preds
 
 -- what one letter gives: it has this kind, number and act, and leads from a scope with others outside it to a place, and a stage
-pub record Next (g : Graph) (w : List Letter) (t : Tree) (n : ℕ) (p : Stage) (s : Scope) (outer : List Scope) (saved : List Scoped) (id : ℕ) (rest : List Letter)
-    (end : ℕ) (kind : Kind) (act : Option PlainAct) (after : Stage) : Type 0 where
-  pub inner : Scope
-  pub others : List Scope
+pub record Next (g : Graph) (w : List Letter) (t : Tree) (n : ℕ) (p : PathStage) (s : CallScope) (outer : List CallScope) (saved : List Scoped) (id : ℕ) (rest : List Letter)
+    (end : ℕ) (kind : Kind) (act : Option PlainAct) (after : PathStage) : Type 0 where
+  pub inner : CallScope
+  pub others : List CallScope
   pub places : List ℕ
   pub scopes : scopes_after (alphabet_of g) (suc n) kind act rest after.here p.here (s ∷ outer) ≡ inner ∷ others
   pub stands : StandsAt g end (position_at (suc n) after (inner ∷ others))
-  pub opened : AreOpen g places after.saved others (saved_after kind (scoped_at g w t (position_at n p (s ∷ outer))) saved)
+  pub opened : AreOpen g places after.saved others (saved_after kind (interpolant_at g w t (position_at n p (s ∷ outer))) saved)
   pub accepts : AcceptsFrom g.automaton places end rest
   pub agrees : AllByRecursion (Agrees (alphabet_of g))
-      (letter_triple kind id (scoped_at g w t (position_at n p (s ∷ outer))) saved (scoped_at g w t (position_at (suc n) after (inner ∷ others))))
+      (letter_triple kind id (interpolant_at g w t (position_at n p (s ∷ outer))) saved (interpolant_at g w t (position_at (suc n) after (inner ∷ others))))
 
 -- as long as the frame before the call
 returned_length : (caller callee : Columns) (targets exit before : List ℕ) → length (globals_of caller) ≤ length exit → length (globals_of caller) ≤ length before →
     length (returned caller callee targets exit before) ≡ length before
 returned_length caller callee targets exit before l m =
     let n : ℕ = length (globals_of caller) in
-    let e = length_written (take n exit ++ drop n before) targets (map (slice_index exit) (results_of callee)) in
+    let e = length_written (take n exit ++ drop n before) targets (map (slice_index exit) (result_columns callee)) in
     let a = length-append (take n exit) (drop n before) in
     let b = length-take-le n exit l in
     let c = length-drop n before in
     omega (arith, e, a, b, c, m)
 
 -- by a return from the place before which these calls are open
-next_back : (g : Graph) (w : List Letter) (t : Tree) → IsGraph g → (n : ℕ) (p : Stage) (s : Scope) (a : Letter) (rest : List Letter) (x m end : ℕ) (places : List ℕ) →
+next_back : (g : Graph) (w : List Letter) (t : Tree) → IsGraph g → (n : ℕ) (p : PathStage) (s : CallScope) (a : Letter) (rest : List Letter) (x m end : ℕ) (places : List ℕ) →
     a.kind ≡ kinds.Back → Member g.automaton.backs (x, m, a, end) → AcceptsFrom g.automaton places end rest →
     IsPlaceOf g.place_procs s.proc x → length p.here ≡ length (frame_of (alphabet_of g) s.proc) →
-    (sv : List (List ℕ)) (outer : List Scope) (saved : List Scoped) → p.saved ≡ sv → AreOpen g (m ∷ places) sv outer saved →
+    (sv : List (List ℕ)) (outer : List CallScope) (saved : List Scoped) → p.saved ≡ sv → AreOpen g (m ∷ places) sv outer saved →
     Next g w t n p s outer saved a.id rest end kinds.Back (act_of (alphabet_of g) a) (part_of (alphabet_of g) a p).after
 next_back g w t ok n p s a rest x m end places k edge acc place long [] outer saved i o = absurd o
 next_back g w t ok n p s a rest x m end places k edge acc place long (v ∷ sv) [] saved i o = absurd o
@@ -113,8 +113,8 @@ next_back g w t ok n p s a rest x m end places k edge acc place long (v ∷ sv) 
     let c = in_caller.global_count in
     let cl = in_caller.long in
     let el = in_callee.long in
-    let after : Stage = record { made = p.made; here = returned caller callee ts p.here v; saved = sv } in
-    let there : part_of al a p ≡ no_rows after =
+    let after : PathStage = record { made = p.made; here = returned caller callee ts p.here v; saved = sv } in
+    let there : part_of al a p ≡ rowless_part after =
     ap (λ (q : Option PlainAct). act_part al q p) b.act_is ∙ ap (λ (q : Option PlainAct). return_part al ts q p) b.known.call ∙
     ap (λ (l : List (List ℕ)). back_part caller callee ts p.made p.here l) i in
     let after_long : length (returned caller callee ts p.here v) ≡ length (frame_of al u.proc) =
@@ -124,13 +124,13 @@ next_back g w t ok n p s a rest x m end places k edge acc place long (v ∷ sv) 
     let before_stands : StandsAt g x (position_at n p (s ∷ u ∷ outer)) = record { place = place; long = long } in
     let from_scoped = scoped g w t (position_at n p (s ∷ u ∷ outer)) x b.known.callee before_stands b.exit b.known.call_acted.callee_exists in
     let to_scoped = scoped g w t (position_at (suc n) after (u ∷ outer)) end b.known.caller stands b.known.ends b.known.call_acted.caller_exists in
-    let exit_pred : Scoped = scoped_at g w t (position_at n p (s ∷ u ∷ outer)) in
-    let to_pred : Scoped = scoped_at g w t (position_at (suc n) after (u ∷ outer)) in
+    let exit_pred : Scoped = interpolant_at g w t (position_at n p (s ∷ u ∷ outer)) in
+    let to_pred : Scoped = interpolant_at g w t (position_at (suc n) after (u ∷ outer)) in
     let agrees : BackAgrees al (slice_get g.acts a.id) exit_pred f to_pred =
     subst (λ (q : Option PlainAct). BackAgrees al q exit_pred f to_pred) (sym b.known.act)
     (subst (λ (q : Option PlainAct). ReturnAgrees al q exit_pred f to_pred) (sym b.known.call)
     (from_scoped, o.0.scoped_in b.known.caller b.known.before b.known.call_acted.caller_exists, to_scoped)) in
-    subst (λ (r : Stage). Next g w t n p s (u ∷ outer) (f ∷ saved) a.id rest end kinds.Back (act_of al a) r) (ap (λ (r : Part). r.after) (sym there))
+    subst (λ (r : PathStage). Next g w t n p s (u ∷ outer) (f ∷ saved) a.id rest end kinds.Back (act_of al a) r) (ap (λ (r : Part). r.after) (sym there))
     (record {
       inner = u;
       others = outer;
@@ -142,24 +142,24 @@ next_back g w t ok n p s a rest x m end places k edge acc place long (v ∷ sv) 
       agrees = (agrees, tt);
     })
 
-next_inside : (g : Graph) (w : List Letter) (t : Tree) → IsGraph g → (n : ℕ) (p : Stage) (s : Scope) (a : Letter) (rest : List Letter) (x end : ℕ) (places : List ℕ) →
+next_inside : (g : Graph) (w : List Letter) (t : Tree) → IsGraph g → (n : ℕ) (p : PathStage) (s : CallScope) (a : Letter) (rest : List Letter) (x end : ℕ) (places : List ℕ) →
     Member g.automaton.insides (x, a, end) → AcceptsFrom g.automaton places end rest →
     IsPlaceOf g.place_procs s.proc x → length p.here ≡ length (frame_of (alphabet_of g) s.proc) →
-    (outer : List Scope) (saved : List Scoped) → AreOpen g places p.saved outer saved →
+    (outer : List CallScope) (saved : List Scoped) → AreOpen g places p.saved outer saved →
     Next g w t n p s outer saved a.id rest end kinds.Inside (act_of (alphabet_of g) a) (part_of (alphabet_of g) a p).after
 next_inside g w t ok n p s a rest x end places edge acc place long outer saved o =
     let b = inside_acts g ok x end a edge in
     let al : Alphabet = alphabet_of g in
     let act : PlainAct = inside_act b.known.proc b.known.written b.known.helpers b.known.rows in
-    let after : Stage = (act_part al (Some act) p).after in
+    let after : PathStage = (act_part al (Some act) p).after in
     let here : s.proc ≡ b.known.proc = same_proc g.place_procs x s.proc b.known.proc place b.known.starts in
     let stands : StandsAt g end (position_at (suc n) after (s ∷ outer)) = record {
       place = subst (λ (r : ℕ). IsPlaceOf g.place_procs r end) (sym here) b.known.ends;
       long = length_written p.here b.known.written (columns_from p.made (length b.known.written)) ∙ long;
     } in
     let before_stands : StandsAt g x (position_at n p (s ∷ outer)) = record { place = place; long = long } in
-    let from_pred : Scoped = scoped_at g w t (position_at n p (s ∷ outer)) in
-    let to_pred : Scoped = scoped_at g w t (position_at (suc n) after (s ∷ outer)) in
+    let from_pred : Scoped = interpolant_at g w t (position_at n p (s ∷ outer)) in
+    let to_pred : Scoped = interpolant_at g w t (position_at (suc n) after (s ∷ outer)) in
     let agrees : InsideAgrees al (slice_get g.acts a.id) from_pred to_pred =
     subst (λ (q : Option PlainAct). InsideAgrees al q from_pred to_pred) (sym b.known.act) (
       scoped g w t (position_at n p (s ∷ outer)) x b.known.proc before_stands b.known.starts b.known.acted.proc_exists,
@@ -177,16 +177,16 @@ next_inside g w t ok n p s a rest x end places edge acc place long outer saved o
       agrees = (agrees, tt);
     })
 
-next_call : (g : Graph) (w : List Letter) (t : Tree) → IsGraph g → (n : ℕ) (p : Stage) (s : Scope) (a : Letter) (rest : List Letter) (x end : ℕ) (places : List ℕ) →
+next_call : (g : Graph) (w : List Letter) (t : Tree) → IsGraph g → (n : ℕ) (p : PathStage) (s : CallScope) (a : Letter) (rest : List Letter) (x end : ℕ) (places : List ℕ) →
     Member g.automaton.calls (x, a, end) → AcceptsFrom g.automaton (x ∷ places) end rest →
     IsPlaceOf g.place_procs s.proc x → length p.here ≡ length (frame_of (alphabet_of g) s.proc) →
-    (outer : List Scope) (saved : List Scoped) → AreOpen g places p.saved outer saved →
+    (outer : List CallScope) (saved : List Scoped) → AreOpen g places p.saved outer saved →
     Next g w t n p s outer saved a.id rest end kinds.Call (act_of (alphabet_of g) a) (part_of (alphabet_of g) a p).after
 next_call g w t ok n p s a rest x end places edge acc place long outer saved o =
     let b = call_acts g ok x end a edge in
     let al : Alphabet = alphabet_of g in
     let act : PlainAct = call_act b.known.caller b.known.callee b.known.helpers b.known.rows in
-    let after : Stage = (act_part al (Some act) p).after in
+    let after : PathStage = (act_part al (Some act) p).after in
     let caller : Columns = frame_of al b.known.caller in
     let callee : Columns = frame_of al b.known.callee in
     let lay = frames_laid_out g ok in
@@ -196,14 +196,14 @@ next_call g w t ok n p s a rest x end places edge acc place long outer saved o =
       to_frame = lay.1 b.known.callee b.known.acted.callee_exists;
       long = long ∙ ap (λ (r : ℕ). length (frame_of al r)) here;
     } in
-    let inner : Scope = callee_scope al (suc n) b.known.callee (has_return 0 rest) after.here p.here in
+    let inner : CallScope = callee_scope al (suc n) b.known.callee (has_return 0 rest) after.here p.here in
     let stands : StandsAt g end (position_at (suc n) after (inner ∷ s ∷ outer)) = record {
       place = b.ends;
-      long = entered_length lay.0 caller callee p.here frames p.made (p.made + length (locals_of callee) + b.known.helpers);
+      long = entered_length lay.0 caller callee p.here frames p.made (p.made + length (local_columns callee) + b.known.helpers);
     } in
     let before_stands : StandsAt g x (position_at n p (s ∷ outer)) = record { place = place; long = long } in
-    let from_pred : Scoped = scoped_at g w t (position_at n p (s ∷ outer)) in
-    let to_pred : Scoped = scoped_at g w t (position_at (suc n) after (inner ∷ s ∷ outer)) in
+    let from_pred : Scoped = interpolant_at g w t (position_at n p (s ∷ outer)) in
+    let to_pred : Scoped = interpolant_at g w t (position_at (suc n) after (inner ∷ s ∷ outer)) in
     let agrees : CallAgrees al (slice_get g.acts a.id) from_pred to_pred =
     subst (λ (q : Option PlainAct). CallAgrees al q from_pred to_pred) (sym b.known.act) (
       scoped g w t (position_at n p (s ∷ outer)) x b.known.caller before_stands b.known.starts b.known.acted.caller_exists,
@@ -226,7 +226,7 @@ next_call g w t ok n p s a rest x end places edge acc place long outer saved o =
       agrees = (agrees, tt);
     })
 
-next_of : (g : Graph) (w : List Letter) (t : Tree) → IsGraph g → (n : ℕ) (p : Stage) (s : Scope) (a : Letter) (rest : List Letter) (x end : ℕ) (outer : List Scope) (saved : List Scoped) →
+next_of : (g : Graph) (w : List Letter) (t : Tree) → IsGraph g → (n : ℕ) (p : PathStage) (s : CallScope) (a : Letter) (rest : List Letter) (x end : ℕ) (outer : List CallScope) (saved : List Scoped) →
     IsPlaceOf g.place_procs s.proc x → length p.here ≡ length (frame_of (alphabet_of g) s.proc) →
     (kind : Kind) → a.kind ≡ kind → (places : List ℕ) → AreOpen g places p.saved outer saved →
     Follows g.automaton kind a places x end (λ st. AcceptsFrom g.automaton st end rest) →
@@ -248,28 +248,28 @@ with_rest : (P : Triple → Type 0) (f : Position → Scoped) (from : Scoped) (s
 with_rest P f from saved a rest q qs h k = all_joined P (letter_triple a.kind a.id from saved (f q)) (triples_along rest (map f (q ∷ qs)) (saved_after a.kind from saved)) h k
 
 -- the positions from one on begin with it
-split_with : (P : Triple → Type 0) (f : Position → Scoped) (from : Scoped) (saved : List Scoped) (a : Letter) (rest : List Letter) (al : Alphabet) (n : ℕ) (p : Stage) (scopes : List Scope) →
+split_with : (P : Triple → Type 0) (f : Position → Scoped) (from : Scoped) (saved : List Scoped) (a : Letter) (rest : List Letter) (al : Alphabet) (n : ℕ) (p : PathStage) (scopes : List CallScope) →
     AllByRecursion P (letter_triple a.kind a.id from saved (f (position_at n p scopes))) →
     AllByRecursion P (triples_along rest (map f (positions_along al n p scopes rest)) (saved_after a.kind from saved)) →
     AllByRecursion P (triples_along (a ∷ rest) (from ∷ map f (positions_along al n p scopes rest)) saved)
 split_with P f from saved a [] al n p scopes h k = with_rest P f from saved a [] (position_at n p scopes) [] h k
 split_with P f from saved a (b ∷ rest) al n p scopes h k =
-    let after : Stage = (part_of al b p).after in
+    let after : PathStage = (part_of al b p).after in
     with_rest P f from saved a (b ∷ rest) (position_at n p scopes)
     (positions_along al (suc n) after (scopes_after al (suc n) b.kind (act_of al b) rest after.here p.here scopes) rest) h k
 
-agree_from : (g : Graph) (w : List Letter) (t : Tree) → IsGraph g → (rest : List Letter) (n : ℕ) (p : Stage) (s : Scope) (outer : List Scope) (places : List ℕ) (x : ℕ) (saved : List Scoped) →
+agree_from : (g : Graph) (w : List Letter) (t : Tree) → IsGraph g → (rest : List Letter) (n : ℕ) (p : PathStage) (s : CallScope) (outer : List CallScope) (places : List ℕ) (x : ℕ) (saved : List Scoped) →
     IsPlaceOf g.place_procs s.proc x → length p.here ≡ length (frame_of (alphabet_of g) s.proc) → AreOpen g places p.saved outer saved → AcceptsFrom g.automaton places x rest →
-    AllByRecursion (Agrees (alphabet_of g)) (triples_along rest (map (scoped_at g w t) (positions_along (alphabet_of g) n p (s ∷ outer) rest)) saved)
+    AllByRecursion (Agrees (alphabet_of g)) (triples_along rest (map (interpolant_at g w t) (positions_along (alphabet_of g) n p (s ∷ outer) rest)) saved)
 agree_from g w t ok [] n p s outer places x saved place long o acc = tt
 agree_from g w t ok (a ∷ rest) n p s outer places x saved place long o acc =
     let al : Alphabet = alphabet_of g in
     let k = next_of g w t ok n p s a rest x acc.0 outer saved place long a.kind refl places o acc.1 in
-    let after : Stage = (part_of al a p).after in
-    let from : Scoped = scoped_at g w t (position_at n p (s ∷ outer)) in
+    let after : PathStage = (part_of al a p).after in
+    let from : Scoped = interpolant_at g w t (position_at n p (s ∷ outer)) in
     let more = agree_from g w t ok rest (suc n) after k.inner k.others k.places acc.0 (saved_after a.kind from saved) k.stands.place k.stands.long k.opened k.accepts in
-    subst (λ (scopes : List Scope). AllByRecursion (Agrees al) (triples_along (a ∷ rest) (from ∷ map (scoped_at g w t) (positions_along al (suc n) after scopes rest)) saved)) (sym k.scopes)
-    (split_with (Agrees al) (scoped_at g w t) from saved a rest al (suc n) after (k.inner ∷ k.others) k.agrees more)
+    subst (λ (scopes : List CallScope). AllByRecursion (Agrees al) (triples_along (a ∷ rest) (from ∷ map (interpolant_at g w t) (positions_along al (suc n) after scopes rest)) saved)) (sym k.scopes)
+    (split_with (Agrees al) (interpolant_at g w t) from saved a rest al (suc n) after (k.inner ∷ k.others) k.agrees more)
 
 -- ---- the start
 
@@ -288,7 +288,7 @@ pub triples_agree : (g : Graph) (w : List Letter) (t : Tree) → IsGraph g → A
 triples_agree g w t ok acc = by_word w acc
   where
     by_word : (v : List Letter) → AcceptsFrom g.automaton [] g.automaton.start v →
-        AllByRecursion (Agrees (alphabet_of g)) (triples_along v (map (scoped_at g w t) (positions_along (alphabet_of g) 0 (first_stage (start_frame g)) (start_scope g ∷ []) v)) [])
+        AllByRecursion (Agrees (alphabet_of g)) (triples_along v (map (interpolant_at g w t) (positions_along (alphabet_of g) 0 (first_stage (start_frame g)) (start_scope g ∷ []) v)) [])
     by_word [] h = tt
     by_word (a ∷ v) h =
         agree_from g w t ok (a ∷ v) 0 (first_stage (start_frame g)) (start_scope g) [] [] g.automaton.start []

@@ -16,7 +16,7 @@ use Rattle.letter_acts.specs.Frames.{Columns}
 use Rattle.letter_acts.specs.Acts.{Alphabet}
 use Rattle.letter_acts.specs.Invariant.{Graph, IsGraph, alphabet_of}
 use Rattle.frame_rows.specs.Rows.{bounds, types_of}
-use Rattle.path_rows.specs.Versions.{Stage, rows_in, part_of}
+use Rattle.path_rows.specs.Versions.{PathStage, part_rows, part_of}
 use Rattle.path_rows.specs.Paths.{Path, repeated, start_frame, first_stage, path_along, path_of}
 use Rattle.triple_rows.specs.declared.triples.Triple.{Triple}
 use Rattle.triple_rows.specs.Triples.{Agrees, IsUnrefuted}
@@ -115,10 +115,10 @@ as_many n rows rest e =
     let z = length-repeated n (length rows) in
     omega (arith, x, y, z, e)
 
-rows_along : (al : Alphabet) (n : ℕ) (p : Stage) (w : List Letter) → length (path_along al n p w).row_at ≡ length (path_along al n p w).rows
+rows_along : (al : Alphabet) (n : ℕ) (p : PathStage) (w : List Letter) → length (path_along al n p w).row_at ≡ length (path_along al n p w).rows
 rows_along al n p [] = refl
 rows_along al n p (a ∷ w) =
-    let rows : List LinearRow = rows_in (part_of al a p) in
+    let rows : List LinearRow = part_rows (part_of al a p) in
     let rest : Path = path_along al (suc n) (part_of al a p).after w in
     as_many n rows rest (rows_along al (suc n) (part_of al a p).after w)
 

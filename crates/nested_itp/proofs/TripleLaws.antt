@@ -7,14 +7,14 @@ use Rattle.nwa_base.specs.declared.letters.Letter.{Letter}
 use Rattle.nwa_base.specs.Acceptance.{Follows, AcceptsFrom, Accepts}
 use Rattle.letter_acts.specs.Acts.{PlainAct, call_act, back_act, Alphabet, act_of}
 use Rattle.letter_acts.specs.Invariant.{Graph, IsGraph, alphabet_of}
-use Rattle.path_rows.specs.Versions.{Stage}
+use Rattle.path_rows.specs.Versions.{PathStage}
 use Rattle.path_rows.proofs.EdgeLemmas.{BackEdge, inside_acts, call_acts, back_acts}
 use Rattle.farkas_check.specs.Trees.{Tree}
 use Rattle.triple_rows.specs.declared.triples.Scoped.{Scoped}
 use Rattle.triple_rows.specs.declared.triples.Triple.{Triple}
-use Rattle.nested_predicates.specs.Positions.{Scope, Position, position_at, positions_along}
-use Rattle.nested_predicates.specs.Interpolants.{scoped_at, prefix_predicates, return_triple, letter_triple, left, saved_after, triples_along}
-use Rattle.nested_refutations.specs.Numbers.{OpenCall, Step, Reading, here, open_after, read_on, steps_back, step_by, steps_along, steps_of}
+use Rattle.nested_predicates.specs.Positions.{CallScope, Position, position_at, positions_along}
+use Rattle.nested_predicates.specs.Interpolants.{interpolant_at, prefix_predicates, return_triple, letter_triple, left, saved_after, triples_along}
+use Rattle.nested_refutations.specs.Numbers.{OpenCall, Step, Reading, position_here, open_after, read_on, steps_back, step_by, steps_along, steps_of}
 use Rattle.nested_refutations.proofs.AlongLaws.{first_reading}
 
 -- the triples of steps
@@ -23,14 +23,14 @@ triples_in steps = map (λ s. s.triple) steps
 
 -- the predicates before the open calls
 abbrev saved_by : Graph → List Letter → Tree → List OpenCall → List Scoped
-saved_by g w t calls = map (λ c. scoped_at g w t c.before) calls
+saved_by g w t calls = map (λ c. interpolant_at g w t c.before) calls
 
 -- a letter with this act gives one triple, and opens or closes a call as its kind says
 record LetterGives (g : Graph) (w : List Letter) (t : Tree) (a : Letter) (rest : List Letter) (r : Reading) (to : Position) (end : ℕ) (kind : Kind) (act : Option PlainAct) : Type 0 where
   places : List ℕ
   accepts : AcceptsFrom g.automaton places end rest
-  triple : triples_in (step_by g w t a.id act rest r to) ≡ letter_triple kind a.id (scoped_at g w t (here r)) (saved_by g w t r.calls) (scoped_at g w t to)
-  saved : saved_after kind (scoped_at g w t (here r)) (saved_by g w t r.calls) ≡ saved_by g w t (open_after act r)
+  triple : triples_in (step_by g w t a.id act rest r to) ≡ letter_triple kind a.id (interpolant_at g w t (position_here r)) (saved_by g w t r.calls) (interpolant_at g w t to)
+  saved : saved_after kind (interpolant_at g w t (position_here r)) (saved_by g w t r.calls) ≡ saved_by g w t (open_after act r)
   counted : length (open_after act r) ≡ length places
 
 letter_gives : (g : Graph) (w : List Letter) (t : Tree) → IsGraph g → (a : Letter) (rest : List Letter) (r : Reading) (to : Position) (places : List ℕ) (x end : ℕ) →
@@ -53,14 +53,14 @@ letter_gives g w t ok a rest r to (p ∷ places) x end l kinds.Back k f =
     by_calls b [] e targets = absurd (let n : length r.calls ≡ 0 = ap length e in omega (arith, n, l))
     by_calls b (c ∷ calls) e targets =
         let act : Option PlainAct = Some (back_act a.call targets) in
-        let from : Scoped = scoped_at g w t (here r) in
-        let after : Scoped = scoped_at g w t to in
+        let from : Scoped = interpolant_at g w t (position_here r) in
+        let after : Scoped = interpolant_at g w t to in
         let called : Option PlainAct = Some (call_act b.known.caller b.known.callee b.known.helpers b.known.rows) in
         record {
           places = places;
           accepts = f.1;
-          triple = ap (λ (o : Option PlainAct). triples_in (steps_back g w t a.id targets r.calls (here r) to o)) b.known.call ∙
-              ap (λ (cs : List OpenCall). triples_in (steps_back g w t a.id targets cs (here r) to called)) e ∙
+          triple = ap (λ (o : Option PlainAct). triples_in (steps_back g w t a.id targets r.calls (position_here r) to o)) b.known.call ∙
+              ap (λ (cs : List OpenCall). triples_in (steps_back g w t a.id targets cs (position_here r) to called)) e ∙
               sym (ap (λ (cs : List OpenCall). return_triple a.id from (saved_by g w t cs) after) e);
           saved = subst (λ (cs : List OpenCall). left (saved_by g w t cs) ≡ saved_by g w t (open_after act (record r { calls = cs }))) (sym e) refl;
           counted = subst (λ (cs : List OpenCall). length (open_after act (record r { calls = cs })) ≡ length places) (sym e)
@@ -68,27 +68,27 @@ letter_gives g w t ok a rest r to (p ∷ places) x end l kinds.Back k f =
         }
 
 -- the triples of a letter and of those behind it, at positions that begin with one
-letter_first : (f : Position → Scoped) (from : Scoped) (saved : List Scoped) (a : Letter) (rest : List Letter) (al : Alphabet) (n : ℕ) (p : Stage) (scopes : List Scope) →
+letter_first : (f : Position → Scoped) (from : Scoped) (saved : List Scoped) (a : Letter) (rest : List Letter) (al : Alphabet) (n : ℕ) (p : PathStage) (scopes : List CallScope) →
     triples_along (a ∷ rest) (from ∷ map f (positions_along al n p scopes rest)) saved ≡
     letter_triple a.kind a.id from saved (f (position_at n p scopes)) ++ triples_along rest (map f (positions_along al n p scopes rest)) (saved_after a.kind from saved)
 letter_first f from saved a [] al n p scopes = refl
 letter_first f from saved a (b ∷ rest) al n p scopes = refl
 
 from_reading : (g : Graph) (w : List Letter) (t : Tree) → IsGraph g → (rest : List Letter) (r : Reading) (places : List ℕ) (x : ℕ) → length r.calls ≡ length places → AcceptsFrom g.automaton places x rest →
-    triples_in (steps_along g w t r rest) ≡ triples_along rest (map (scoped_at g w t) (positions_along (alphabet_of g) r.letters r.stage r.scopes rest)) (saved_by g w t r.calls)
+    triples_in (steps_along g w t r rest) ≡ triples_along rest (map (interpolant_at g w t) (positions_along (alphabet_of g) r.letters r.stage r.scopes rest)) (saved_by g w t r.calls)
 from_reading g w t ok [] r places x l acc = refl
 from_reading g w t ok (a ∷ rest) r places x l acc =
     let al : Alphabet = alphabet_of g in
     let next : Reading = read_on al a rest r in
-    let k = letter_gives g w t ok a rest r (here next) places x acc.0 l a.kind refl acc.1 in
-    let first : List Step = step_by g w t a.id (act_of al a) rest r (here next) in
-    let preds : List Scoped = map (scoped_at g w t) (positions_along al next.letters next.stage next.scopes rest) in
-    let from : Scoped = scoped_at g w t (here r) in
+    let k = letter_gives g w t ok a rest r (position_here next) places x acc.0 l a.kind refl acc.1 in
+    let first : List Step = step_by g w t a.id (act_of al a) rest r (position_here next) in
+    let preds : List Scoped = map (interpolant_at g w t) (positions_along al next.letters next.stage next.scopes rest) in
+    let from : Scoped = interpolant_at g w t (position_here r) in
     map-append (λ (s : Step). s.triple) first (steps_along g w t next rest) ∙
     ap (λ (l : List Triple). l ++ triples_in (steps_along g w t next rest)) k.triple ∙
-    ap (λ (l : List Triple). letter_triple a.kind a.id from (saved_by g w t r.calls) (scoped_at g w t (here next)) ++ l)
+    ap (λ (l : List Triple). letter_triple a.kind a.id from (saved_by g w t r.calls) (interpolant_at g w t (position_here next)) ++ l)
     (from_reading g w t ok rest next k.places acc.0 k.counted k.accepts ∙ ap (triples_along rest preds) (sym k.saved)) ∙
-    sym (letter_first (scoped_at g w t) from (saved_by g w t r.calls) a rest al next.letters next.stage next.scopes)
+    sym (letter_first (interpolant_at g w t) from (saved_by g w t r.calls) a rest al next.letters next.stage next.scopes)
 
 -- along an accepted word with its prefix predicates
 pub steps_triples : (g : Graph) (w : List Letter) (t : Tree) → IsGraph g → Accepts g.automaton w → triples_in (steps_of g w t) ≡ triples_along w (prefix_predicates g w t) []

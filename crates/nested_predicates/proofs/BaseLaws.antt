@@ -11,14 +11,14 @@ use Rattle.triple_rows.specs.Predicates.{prefix_of}
 use Rattle.nested_predicates.specs.declared.wide.Wide.{Wide}
 use Rattle.nested_predicates.specs.declared.running.Running.{Running}
 use Rattle.nested_predicates.specs.Wides.{value_of, HasRoom, AreParts}
-use Rattle.nested_predicates.specs.Positions.{if_constant, known_at, known_columns}
+use Rattle.nested_predicates.specs.Positions.{if_constant_version, known_at, known_columns}
 use Rattle.nested_predicates.specs.Sums.{inequality}
 use Rattle.nested_predicates.specs.Runnings.{value_at, AreCounted}
 use Rattle.nested_predicates.specs.Bases.{known_value, node_of}
 use Rattle.nested_predicates.proofs.SumLaws.{value_found}
 use Rattle.nested_predicates.proofs.RunningLaws.{room_at}
 
-constant_made : (P : ℕ → Type 0) (constant : Bool) (version v : ℕ) → P version → if_constant constant version ≡ Some v → P v
+constant_made : (P : ℕ → Type 0) (constant : Bool) (version v : ℕ) → P version → if_constant_version constant version ≡ Some v → P v
 constant_made P true version v h e = subst P (let k : version ≡ v = cc in k) h
 constant_made P false version v h e = absurd (cc)
 

@@ -13,7 +13,7 @@ use Rattle.nwa_base.specs.declared.letters.Kind.TheVariants.{Inside, Call, Back}
 use Rattle.nwa_base.specs.declared.letters.Letter.{Letter}
 use Rattle.letter_acts.specs.Acts.{PlainAct, Alphabet, act_of}
 use Rattle.letter_acts.specs.Invariant.{Graph, alphabet_of}
-use Rattle.path_rows.specs.Versions.{Stage, part_of}
+use Rattle.path_rows.specs.Versions.{PathStage, part_of}
 use Rattle.path_rows.specs.Paths.{start_frame, first_stage, path_of}
 use Rattle.farkas_check.specs.Nodes.{PlainNode}
 use Rattle.farkas_check.specs.Refutes.{Goal, at_most, above, Refute}
@@ -22,10 +22,10 @@ use Rattle.triple_rows.specs.declared.triples.Scoped.{Scoped}
 use Rattle.triple_rows.specs.Predicates.{Formula, truth}
 use Rattle.triple_rows.specs.Predicates as preds
 use Rattle.nested_predicates.specs.Stamps.{column_stamp, stamps_of}
-use Rattle.nested_predicates.specs.Positions.{Scope, returned_by, has_return, scopes_after, Position, innermost, position_at, positions_along, start_scope, is_counted}
+use Rattle.nested_predicates.specs.Positions.{CallScope, returned_by, has_return, scopes_after, Position, innermost, position_at, positions_along, start_scope, is_counted}
 use Rattle.nested_predicates.specs.Sums.{Branch, root_of, with_cut, parts_upto, column_upto, bound_upto, known_sum, column_sums, terms_from, is_not_negative, inequality, coefficients_at, bound_at, sum_at}
-use Rattle.nested_predicates.specs.Joins.{joined, joined_at, simplified, predicate_at}
-use Rattle.nested_predicates.specs.Interpolants.{RefutesRows, scoped_at, prefix_predicates, BeginsTrue, EndsFalse}
+use Rattle.nested_predicates.specs.Joins.{joined_formulas, joined_at, simplified, predicate_at}
+use Rattle.nested_predicates.specs.Interpolants.{RefutesRows, interpolant_at, prefix_predicates, BeginsTrue, EndsFalse}
 use Rattle.nested_predicates.proofs.StampLaws.{IsWithin, index_within, stamp_within, columns_of_word_within, IsStamped, root_stamped, cut_stamped}
 
 -- ---- parts of which none or all are counted
@@ -140,7 +140,7 @@ tree_refutes t g w r =
 -- ---- both ends
 
 -- two parts that are one truth value are that truth value
-joined_same : (c v : Bool) (a b : Formula) → simplified a ≡ truth v → simplified b ≡ truth v → simplified (joined c a b) ≡ truth v
+joined_same : (c v : Bool) (a b : Formula) → simplified a ≡ truth v → simplified b ≡ truth v → simplified (joined_formulas c a b) ≡ truth v
 joined_same true true a b e f = rw e refl
 joined_same true false a b e f = rw e (rw f refl)
 joined_same false true a b e f = rw e (rw f refl)
@@ -169,8 +169,8 @@ all_last limit columns q b (cut_tree c k t u) two cs h own upto r =
     (all_last limit columns q (with_cut b stamp (above c k)) u two cs (cut_stamped limit b stamp (above c k) i h) own upto r.3)
 all_last limit columns q b (cases_tree ts) two cs h own upto r = absurd r
 
-begins_with : (g : Graph) (w : List Letter) (t : Tree) (al : Alphabet) (n : ℕ) (p : Stage) (scopes : List Scope) (v : List Letter) →
-    predicate_at g w t (position_at n p scopes) ≡ truth true → BeginsTrue (map (scoped_at g w t) (positions_along al n p scopes v))
+begins_with : (g : Graph) (w : List Letter) (t : Tree) (al : Alphabet) (n : ℕ) (p : PathStage) (scopes : List CallScope) (v : List Letter) →
+    predicate_at g w t (position_at n p scopes) ≡ truth true → BeginsTrue (map (interpolant_at g w t) (positions_along al n p scopes v))
 begins_with g w t al n p scopes [] e = ap preds.prefix_of e
 begins_with g w t al n p scopes (a ∷ v) e = ap preds.prefix_of e
 
@@ -185,15 +185,15 @@ begins_true g w t r =
 -- ---- at the last position no open call returns
 
 -- each of the scopes, of which k are further in, is none of a call that returns, unless the test says that it does
-abbrev ReturnWhere : (ℕ → Bool) → ℕ → List Scope → Type 0
+abbrev ReturnWhere : (ℕ → Bool) → ℕ → List CallScope → Type 0
 ReturnWhere test k [] = Unit {0}
 ReturnWhere test k (s ∷ scopes) = ((s.own ≡ 0) ⊎ (test k ≡ true)) × ReturnWhere test (suc k) scopes
 
-further_in : (test : ℕ → Bool) (k : ℕ) (scopes : List Scope) → ReturnWhere (λ n. test (suc n)) k scopes → ReturnWhere test (suc k) scopes
+further_in : (test : ℕ → Bool) (k : ℕ) (scopes : List CallScope) → ReturnWhere (λ n. test (suc n)) k scopes → ReturnWhere test (suc k) scopes
 further_in test k [] h = tt
 further_in test k (s ∷ scopes) h = (h.0, further_in test (suc k) scopes h.1)
 
-further_out : (test : ℕ → Bool) (k : ℕ) (scopes : List Scope) → ReturnWhere (λ n. returned_by Back n test) (suc k) scopes → ReturnWhere test k scopes
+further_out : (test : ℕ → Bool) (k : ℕ) (scopes : List CallScope) → ReturnWhere (λ n. returned_by Back n test) (suc k) scopes → ReturnWhere test k scopes
 further_out test k [] h = tt
 further_out test k (s ∷ scopes) h = (h.0, further_out test (suc k) scopes h.1)
 
@@ -201,7 +201,7 @@ own_of_call : (b : Bool) (n : ℕ) → (cond b n 0 ≡ 0) ⊎ (b ≡ true)
 own_of_call true n = inr refl
 own_of_call false n = inl refl
 
-returns_after : (kind : Kind) (al : Alphabet) (n : ℕ) (act : Option PlainAct) (rest : List Letter) (entry before : List ℕ) (scopes : List Scope) →
+returns_after : (kind : Kind) (al : Alphabet) (n : ℕ) (act : Option PlainAct) (rest : List Letter) (entry before : List ℕ) (scopes : List CallScope) →
     ReturnWhere (λ k. returned_by kind k (λ m. has_return m rest)) 0 scopes → ReturnWhere (λ k. has_return k rest) 0 (scopes_after al n kind act rest entry before scopes)
 returns_after Inside al n act rest entry before scopes h = h
 returns_after Call al n act rest entry before scopes h = (own_of_call (has_return 0 rest) (2 * n), further_in (λ k. has_return k rest) 0 scopes h)
@@ -212,20 +212,20 @@ ends_behind : (p : Scoped) (ps : List Scoped) → EndsFalse ps → EndsFalse (p 
 ends_behind p [] h = absurd h
 ends_behind p (q ∷ ps) h = h
 
-own_at_end : (scopes : List Scope) → ReturnWhere (λ k. has_return k []) 0 scopes → (innermost scopes).own ≡ 0
+own_at_end : (scopes : List CallScope) → ReturnWhere (λ k. has_return k []) 0 scopes → (innermost scopes).own ≡ 0
 own_at_end [] h = refl
 own_at_end (s ∷ scopes) (inl e, rest) = e
 own_at_end (s ∷ scopes) (inr e, rest) = absurd (cc)
 
-ends_with : (g : Graph) (w : List Letter) (t : Tree) (al : Alphabet) (n : ℕ) (p : Stage) (scopes : List Scope) (v : List Letter) →
+ends_with : (g : Graph) (w : List Letter) (t : Tree) (al : Alphabet) (n : ℕ) (p : PathStage) (scopes : List CallScope) (v : List Letter) →
     ReturnWhere (λ k. has_return k v) 0 scopes →
     ((q : Position) → q.scope.own ≡ 0 → q.upto ≡ suc (2 * (n + length v)) → predicate_at g w t q ≡ truth false) →
-    EndsFalse (map (scoped_at g w t) (positions_along al n p scopes v))
+    EndsFalse (map (interpolant_at g w t) (positions_along al n p scopes v))
 ends_with g w t al n p scopes [] h f = ap preds.prefix_of (f (position_at n p scopes) (own_at_end scopes h) (omega arith))
 ends_with g w t al n p scopes (a ∷ v) h f =
-    let after : Stage = (part_of al a p).after in
-    let next : List Scope = scopes_after al (suc n) a.kind (act_of al a) v after.here p.here scopes in
-    ends_behind (scoped_at g w t (position_at n p scopes)) (map (scoped_at g w t) (positions_along al (suc n) after next v))
+    let after : PathStage = (part_of al a p).after in
+    let next : List CallScope = scopes_after al (suc n) a.kind (act_of al a) v after.here p.here scopes in
+    ends_behind (interpolant_at g w t (position_at n p scopes)) (map (interpolant_at g w t) (positions_along al (suc n) after next v))
     (ends_with g w t al (suc n) after next v (returns_after a.kind al (suc n) (act_of al a) v after.here p.here scopes h)
     (λ q own upto. f q own (omega (arith, upto))))
 

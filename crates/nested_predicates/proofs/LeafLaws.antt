@@ -12,18 +12,18 @@ use Rattle.math_facts.specs.Terms.{coefficient}
 use Rattle.nwa_base.specs.declared.letters.Letter.{Letter}
 use Rattle.letter_acts.specs.Acts.{Alphabet, act_of, frame_of}
 use Rattle.letter_acts.specs.Invariant.{Graph, alphabet_of}
-use Rattle.path_rows.specs.Versions.{Stage, part_of}
+use Rattle.path_rows.specs.Versions.{PathStage, part_of}
 use Rattle.path_rows.specs.Paths.{start_frame, first_stage, path_along, path_of}
 use Rattle.triple_rows.specs.declared.predicates.PredNode.{PredNode}
 use Rattle.nested_predicates.specs.declared.wide.Wide.{Wide}
 use Rattle.nested_predicates.specs.declared.running.Running.{Running}
 use Rattle.nested_predicates.specs.declared.bases.Base.{Base}
 use Rattle.nested_predicates.specs.Wides.{value_of}
-use Rattle.nested_predicates.specs.Positions.{Scope, position_at, positions_of, start_scope, has_return, known_columns, callee_of, scopes_after}
+use Rattle.nested_predicates.specs.Positions.{CallScope, position_at, positions_of, start_scope, has_return, known_columns, callee_of, scopes_after}
 use Rattle.nested_predicates.specs.Sums.{Branch, parts_upto, inequality, terms_from}
 use Rattle.nested_predicates.specs.Runnings.{value_at, AreCounted, AddsParts, differences, parts_at}
 use Rattle.nested_predicates.specs.Bases.{AreMade, CanRead, IsNothing, Enters, first_columns, first_bound, node_of, IsSummed, IsBase, AreBases}
-use Rattle.nested_predicates.specs.Fitting.{SumFits}
+use Rattle.nested_predicates.specs.Fitting.{SumNumbersFit}
 use Rattle.nested_predicates.specs.Layouts.{HasStamps, leaf_node}
 use Rattle.nested_predicates.proofs.WordLaws.{IsRead, start_read, next_read, front_letter, all_read}
 use Rattle.nested_predicates.proofs.PassLaws.{StartsEmpty, summed_next, sum_read, numbers_read, bases_after}
@@ -70,7 +70,7 @@ parts_named b (t ∷ ts) h each = ((let n = h.as_many in let k = each.0.exists i
 abbrev pub items_of : List (Vec ℕ) → List (List ℕ)
 items_of states = map (λ v. v.items) states
 
-states_counted : (al : Alphabet) (n : ℕ) (p : Stage) (w : List Letter) → length (path_along al n p w).states ≡ suc (length w)
+states_counted : (al : Alphabet) (n : ℕ) (p : PathStage) (w : List Letter) → length (path_along al n p w).states ≡ suc (length w)
 states_counted al n p [] = refl
 states_counted al n p (a ∷ w) = ap suc (states_counted al (suc n) (part_of al a p).after w)
 
@@ -78,7 +78,7 @@ pub states_of_word : (g : Graph) (w : List Letter) (states : List (Vec ℕ)) →
 states_of_word g w states e =
     sym (length-map states (λ v. v.items)) ∙ ap (λ (l : List (List ℕ)). length l) e ∙ states_counted (alphabet_of g) 1 (first_stage (start_frame g)) w
 
-state_first : (al : Alphabet) (n : ℕ) (p : Stage) (w : List Letter) → (rest : List (List ℕ)) × ((path_along al n p w).states ≡ p.here ∷ rest)
+state_first : (al : Alphabet) (n : ℕ) (p : PathStage) (w : List Letter) → (rest : List (List ℕ)) × ((path_along al n p w).states ≡ p.here ∷ rest)
 state_first al n p [] = ([], refl)
 state_first al n p (a ∷ w) = ((path_along al (suc n) (part_of al a p).after w).states, refl)
 
@@ -130,7 +130,7 @@ pub record SumsRead (g : Graph) (w : List Letter) (i : ℕ) (b : Branch) (parts 
   pub nodes : sums ≡ map (leaf_node b parts) read.front
 
 -- the sum at a position is its node
-position_node : (b : Branch) (parts : List (ℕ × ℤ)) (n : ℕ) (p : Stage) (scopes : List Scope) (running : Running) (frames : List Base) (here : List ℕ) (node : PredNode) → StartsEmpty b parts →
+position_node : (b : Branch) (parts : List (ℕ × ℤ)) (n : ℕ) (p : PathStage) (scopes : List CallScope) (running : Running) (frames : List Base) (here : List ℕ) (node : PredNode) → StartsEmpty b parts →
     IsSummed b parts (suc (2 * n)) running → AreMade running.columns.items here → here ≡ p.here → AreBases b parts scopes (reverse frames) →
     node ≡ node_of (inequality (terms_from 0 (differences running.columns.items (first_columns (reverse frames)) here)) (value_of running.bound -ℤ first_bound (reverse frames))) →
     node ≡ leaf_node b parts (position_at n p scopes)
@@ -236,9 +236,9 @@ abbrev pub IsPast : Running → List Base → List ℕ → Type 0
 IsPast running frames here =
     AllByRecursion Fits (differences running.columns.items (first_columns (reverse frames)) here) → Fits (value_of running.bound -ℤ first_bound (reverse frames)) → ⊥
 
-position_past : (b : Branch) (parts : List (ℕ × ℤ)) (n : ℕ) (p : Stage) (scopes : List Scope) (running : Running) (frames : List Base) (here : List ℕ) → StartsEmpty b parts →
+position_past : (b : Branch) (parts : List (ℕ × ℤ)) (n : ℕ) (p : PathStage) (scopes : List CallScope) (running : Running) (frames : List Base) (here : List ℕ) → StartsEmpty b parts →
     IsSummed b parts (suc (2 * n)) running → AreMade running.columns.items here → here ≡ p.here → AreBases b parts scopes (reverse frames) → IsPast running frames here →
-    SumFits b parts (position_at n p scopes) → ⊥
+    SumNumbersFit b parts (position_at n p scopes) → ⊥
 position_past b parts n p scopes running frames here empty h made e a past fits =
     let numbers = numbers_read b parts (position_at n p scopes) running (reverse frames) scopes refl empty h (subst (AreMade running.columns.items) e made) a in
     past
@@ -252,14 +252,14 @@ front_all P (y ∷ xs) ys x h = front_all P xs ys x h.1
 -- that of the first position
 pub past_start : (g : Graph) (w : List Letter) (b : Branch) (parts : List (ℕ × ℤ)) (running : Running) (frames : List Base) (x : Base) (here : List ℕ) → HasStamps b →
     AllByRecursion (IsPart b.rows) parts → IsSummed b parts 1 running → IsNothing x → frames ≡ x ∷ [] → slice_get (path_of g w).states 0 ≡ Some here → AreMade running.columns.items here →
-    IsPast running frames here → AllByRecursion (SumFits b parts) (positions_of g w) → ⊥
+    IsPast running frames here → AllByRecursion (SumNumbersFit b parts) (positions_of g w) → ⊥
 past_start g w b parts running frames x here stamps each h nil f k at past fits =
     let empty : StartsEmpty b parts = starts_empty b parts stamps each in
     let read : IsRead g w 0 = start_read g w in
     let bases : AreBases b parts read.scopes (reverse frames) =
     subst (λ (l : List Base). AreBases b parts read.scopes (reverse l)) (sym f) (first_base g b parts x empty nil, tt) in
     position_past b parts 0 read.stage read.scopes running frames here empty h at (here_read g w 0 read here k) bases past
-    (front_all (SumFits b parts) [] _ (position_at 0 read.stage read.scopes) (subst (AllByRecursion (SumFits b parts)) (sym read.whole) fits))
+    (front_all (SumNumbersFit b parts) [] _ (position_at 0 read.stage read.scopes) (subst (AllByRecursion (SumNumbersFit b parts)) (sym read.whole) fits))
 
 -- that of the position after another letter
 pub past_next : (g : Graph) (w : List Letter) (i : ℕ) (a d : Letter) (b : Branch) (parts ps qs : List (ℕ × ℤ)) (first mid last : Running)
@@ -269,7 +269,7 @@ pub past_next : (g : Graph) (w : List Letter) (i : ℕ) (a d : Letter) (b : Bran
     returns ≡ has_return 0 (drop (i + 1) w) → SumsRead g w i b parts first old old_sums →
     ps ≡ parts_at b.stamps (2 * (i + 1)) parts → AddsParts b.rows ps first mid → qs ≡ parts_at b.stamps (2 * (i + 1) + 1) parts → AddsParts b.rows qs mid last →
     (let al = alphabet_of g in Enters a.kind returns (known_columns (frame_of al (callee_of (act_of al a))) entry before) mid (reverse old) (reverse new)) →
-    IsPast last new entry → AllByRecursion (SumFits b parts) (positions_of g w) → ⊥
+    IsPast last new entry → AllByRecursion (SumNumbersFit b parts) (positions_of g w) → ⊥
 past_next g w i a d b parts ps qs first mid last old new old_sums returns before entry stamps each l al_e be en mb me le r h pe pa qe qa x past fits =
     let empty : StartsEmpty b parts = starts_empty b parts stamps each in
     let f : drop i w ≡ a ∷ drop (i + 1) w = front_letter w i a d l al_e in
@@ -277,7 +277,7 @@ past_next g w i a d b parts ps qs first mid last old new old_sums returns before
     let reached : SumsAt g w (i + 1) read b parts last new =
     sums_reach g w i a d b parts ps qs first mid last old new old_sums returns before entry stamps each f be en mb me r h pe pa qe qa x in
     position_past b parts (i + 1) read.stage read.scopes last new entry empty reached.summed le (here_read g w (i + 1) read entry en) reached.bases past
-    (front_all (SumFits b parts) h.read.front _ (position_at (i + 1) read.stage read.scopes) (subst (AllByRecursion (SumFits b parts)) (sym read.whole) fits))
+    (front_all (SumNumbersFit b parts) h.read.front _ (position_at (i + 1) read.stage read.scopes) (subst (AllByRecursion (SumNumbersFit b parts)) (sym read.whole) fits))
 
 -- ---- from what the code has
 

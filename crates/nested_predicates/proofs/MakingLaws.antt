@@ -16,16 +16,16 @@ use Rattle.nwa_base.specs.declared.letters.Letter.{Letter}
 use Rattle.letter_acts.specs.Acts.{Alphabet, act_of}
 use Rattle.letter_acts.specs.Invariant.{Graph, alphabet_of}
 use Rattle.frame_rows.specs.Rows.{bounds, types_of}
-use Rattle.path_rows.specs.Versions.{Stage, part_of}
+use Rattle.path_rows.specs.Versions.{PathStage, part_of}
 use Rattle.path_rows.specs.Paths.{start_frame, first_stage, path_of}
 use Rattle.farkas_check.specs.Nodes.{PlainNode}
 use Rattle.farkas_check.specs.Refutes.{at_most, above}
 use Rattle.farkas_check.specs.Trees.{Tree, leaf_tree, cut_tree, cases_tree, prefix_of, TreeRefutes}
 use Rattle.triple_rows.specs.declared.predicates.PredNode.{PredNode}
 use Rattle.nested_predicates.specs.Stamps.{stamps_of}
-use Rattle.nested_predicates.specs.Positions.{Scope, scopes_after, positions_along, start_scope, positions_of}
+use Rattle.nested_predicates.specs.Positions.{CallScope, scopes_after, positions_along, start_scope, positions_of}
 use Rattle.nested_predicates.specs.Sums.{Branch, root_of, with_cut}
-use Rattle.nested_predicates.specs.Interpolants.{RefutesRows, HasCutsUpTo, prefix_predicates, scoped_at, EndsFalse}
+use Rattle.nested_predicates.specs.Interpolants.{RefutesRows, HasCutsUpTo, prefix_predicates, interpolant_at, EndsFalse}
 use Rattle.nested_predicates.specs.Tables.{table_along}
 use Rattle.nested_predicates.specs.Spelled.{IsTableOf}
 use Rattle.nested_predicates.proofs.EndLaws.{rows_goal, tree_refutes, ends_false}
@@ -101,15 +101,15 @@ ends g (a ∷ v) t r = ends_false g a v t r
 
 -- ---- as many predicates as positions
 
-positions_counted : (al : Alphabet) (n : ℕ) (p : Stage) (scopes : List Scope) (w : List Letter) → length (positions_along al n p scopes w) ≡ suc (length w)
+positions_counted : (al : Alphabet) (n : ℕ) (p : PathStage) (scopes : List CallScope) (w : List Letter) → length (positions_along al n p scopes w) ≡ suc (length w)
 positions_counted al n p scopes [] = refl
 positions_counted al n p scopes (a ∷ w) =
-    let after : Stage = (part_of al a p).after in
+    let after : PathStage = (part_of al a p).after in
     ap suc (positions_counted al (suc n) after (scopes_after al (suc n) a.kind (act_of al a) w after.here p.here scopes) w)
 
 pub predicates_counted : (g : Graph) (w : List Letter) (t : Tree) → length (prefix_predicates g w t) ≡ suc (length w)
 predicates_counted g w t =
-    length-map (positions_of g w) (scoped_at g w t) ∙ positions_counted (alphabet_of g) 0 (first_stage (start_frame g)) (start_scope g ∷ []) w
+    length-map (positions_of g w) (interpolant_at g w t) ∙ positions_counted (alphabet_of g) 0 (first_stage (start_frame g)) (start_scope g ∷ []) w
 
 -- ---- the tree
 

@@ -19,7 +19,7 @@ use Rattle.nwa_base.specs.declared.letters.Kind.TheVariants.{Inside, Call, Back}
 use Rattle.nwa_base.specs.declared.letters.Letter.{Letter}
 use Rattle.letter_acts.specs.Frames.{Columns}
 use Rattle.letter_acts.specs.Acts.{PlainAct, Alphabet, frame_of}
-use Rattle.nested_predicates.specs.Positions.{Scope, no_scope, Position, innermost, position_at, known_columns, callee_scope, has_return, scopes_after, callee_of}
+use Rattle.nested_predicates.specs.Positions.{CallScope, no_scope, Position, innermost, position_at, known_columns, callee_scope, has_return, scopes_after, callee_of}
 use Rattle.nested_predicates.specs.Positions as positions
 use Rattle.nested_predicates.specs.Sums.{Branch, parts_upto, column_upto, bound_upto, known_sum, column_sums, coefficients_at, bound_at, sum_at, inequality, terms_from}
 use Rattle.nested_predicates.specs.Runnings.{value_at, ProductsFit, PartsFit, AddsParts, behind_first, differences, parts_at}
@@ -152,22 +152,22 @@ pub record StartsEmpty (b : Branch) (parts : List (ℕ × ℤ)) : Type 0 where
   pub bound : bound_upto b parts 0 ≡ pos 0
 
 -- the numbers of the sum at a position
-pub numbers_read : (b : Branch) (parts : List (ℕ × ℤ)) (q : Position) (running : Running) (bases : List Base) (scopes : List Scope) → q.scope ≡ innermost scopes → StartsEmpty b parts →
+pub numbers_read : (b : Branch) (parts : List (ℕ × ℤ)) (q : Position) (running : Running) (bases : List Base) (scopes : List CallScope) → q.scope ≡ innermost scopes → StartsEmpty b parts →
     IsSummed b parts q.upto running → AreMade running.columns.items q.here → AreBases b parts scopes bases →
     (differences running.columns.items (first_columns bases) q.here ≡ coefficients_at b parts q) × (value_of running.bound -ℤ first_bound bases ≡ bound_at b parts q)
 numbers_read b parts q running [] [] e empty h made k = (
-  differences_are b parts 0 q.upto running.columns.items [] q.here [] made h.columns (λ j. refl) ∙ ap (λ (s : Scope). column_sums b parts s.own q.upto q.here s.known) (sym e),
+  differences_are b parts 0 q.upto running.columns.items [] q.here [] made h.columns (λ j. refl) ∙ ap (λ (s : CallScope). column_sums b parts s.own q.upto q.here s.known) (sym e),
   (let i = h.bound in let j = empty.bound in let y : value_of running.bound -ℤ pos 0 ≡ bound_upto b parts q.upto -ℤ bound_upto b parts 0 = omega (arith, ints, i, j) in y) ∙
-      ap (λ (s : Scope). bound_upto b parts q.upto -ℤ bound_upto b parts s.own) (sym e),
+      ap (λ (s : CallScope). bound_upto b parts q.upto -ℤ bound_upto b parts s.own) (sym e),
 )
 numbers_read b parts q running [] (t ∷ scopes) e empty h made k = absurd k
 numbers_read b parts q running (x ∷ bases) [] e empty h made k = absurd k
 numbers_read b parts q running (x ∷ bases) (t ∷ scopes) e empty h made k = (
-  differences_are b parts t.own q.upto running.columns.items x.columns.items q.here t.known made h.columns k.0.columns ∙ ap (λ (s : Scope). column_sums b parts s.own q.upto q.here s.known) (sym e),
-  ap (λ (z : ℤ). z -ℤ value_of x.bound) h.bound ∙ ap (λ (z : ℤ). bound_upto b parts q.upto -ℤ z) k.0.bound ∙ ap (λ (s : Scope). bound_upto b parts q.upto -ℤ bound_upto b parts s.own) (sym e),
+  differences_are b parts t.own q.upto running.columns.items x.columns.items q.here t.known made h.columns k.0.columns ∙ ap (λ (s : CallScope). column_sums b parts s.own q.upto q.here s.known) (sym e),
+  ap (λ (z : ℤ). z -ℤ value_of x.bound) h.bound ∙ ap (λ (z : ℤ). bound_upto b parts q.upto -ℤ z) k.0.bound ∙ ap (λ (s : CallScope). bound_upto b parts q.upto -ℤ bound_upto b parts s.own) (sym e),
 )
 
-pub sum_read : (b : Branch) (parts : List (ℕ × ℤ)) (q : Position) (running : Running) (bases : List Base) (scopes : List Scope) → q.scope ≡ innermost scopes → StartsEmpty b parts →
+pub sum_read : (b : Branch) (parts : List (ℕ × ℤ)) (q : Position) (running : Running) (bases : List Base) (scopes : List CallScope) → q.scope ≡ innermost scopes → StartsEmpty b parts →
     IsSummed b parts q.upto running → AreMade running.columns.items q.here → AreBases b parts scopes bases →
     node_of (inequality (terms_from 0 (differences running.columns.items (first_columns bases) q.here)) (value_of running.bound -ℤ first_bound bases)) ≡ node_of (sum_at b parts q)
 sum_read b parts q running bases scopes e empty h made k =
@@ -224,14 +224,14 @@ base_entered b parts al n callee false entry before running x empty h m k e = re
   room = e.room;
 }
 
-left_bases : (b : Branch) (parts : List (ℕ × ℤ)) (scopes : List Scope) (bases : List Base) → AreBases b parts scopes bases → AreBases b parts (positions.left scopes) (bases_left bases)
+left_bases : (b : Branch) (parts : List (ℕ × ℤ)) (scopes : List CallScope) (bases : List Base) → AreBases b parts scopes bases → AreBases b parts (positions.left_scopes scopes) (bases_left bases)
 left_bases b parts [] [] h = tt
 left_bases b parts [] (x ∷ bases) h = absurd h
 left_bases b parts (s ∷ scopes) [] h = absurd h
 left_bases b parts (s ∷ scopes) (x ∷ bases) h = h.1
 
 pub bases_after : (b : Branch) (parts : List (ℕ × ℤ)) (al : Alphabet) (n : ℕ) (kind : Kind) (act : Option PlainAct) (rest : List Letter) (returns : Bool) (entry before : List ℕ) (running : Running)
-    (scopes : List Scope) (old new : List Base) → StartsEmpty b parts → IsSummed b parts (2 * n) running → AreMade running.columns.items entry → AreMade running.columns.items before →
+    (scopes : List CallScope) (old new : List Base) → StartsEmpty b parts → IsSummed b parts (2 * n) running → AreMade running.columns.items entry → AreMade running.columns.items before →
     returns ≡ has_return 0 rest → Enters kind returns (known_columns (frame_of al (callee_of act)) entry before) running old new → AreBases b parts scopes old →
     AreBases b parts (scopes_after al n kind act rest entry before scopes) new
 bases_after b parts al n Inside act rest returns entry before running scopes old new empty h m k r e a = subst (AreBases b parts scopes) (sym e) a
@@ -242,4 +242,4 @@ bases_after b parts al n Call act rest returns entry before running scopes old n
       a,
     )
 bases_after b parts al n Back act rest returns entry before running scopes old new empty h m k r e a =
-    subst (AreBases b parts (positions.left scopes)) (sym e) (left_bases b parts scopes old a)
+    subst (AreBases b parts (positions.left_scopes scopes)) (sym e) (left_bases b parts scopes old a)

@@ -17,7 +17,7 @@ use Rattle.nested_predicates.specs.Positions.{positions_of, has_return, known_co
 use Rattle.nested_predicates.specs.Sums.{Branch, inequality, terms_from}
 use Rattle.nested_predicates.specs.Runnings.{value_at, AreCounted, AddsParts, differences, parts_at}
 use Rattle.nested_predicates.specs.Bases.{AreMade, CanRead, IsNothing, Enters, first_columns, first_bound, node_of}
-use Rattle.nested_predicates.specs.Fitting.{SumFits}
+use Rattle.nested_predicates.specs.Fitting.{SumNumbersFit}
 use Rattle.nested_predicates.specs.Layouts.{HasStamps}
 use Rattle.nested_predicates.proofs.LeafLaws.{AllMade, SumsRead, IsPast, summed_first, sums_start, sums_next, past_start, past_next, made_at, made_wider}
 
@@ -47,7 +47,7 @@ sums_begun g w b parts old new here stamps each fresh k er ef s =
     (made_at old.running.columns.items (path_of g w).states 0 here k fresh.made) refl (s ∙ ap (λ (l : List PredNode). l ++ node ∷ []) fresh.sums)))
 
 pub past_begun : (g : Graph) (w : List Letter) (b : Branch) (parts : List (ℕ × ℤ)) (old : Pass) (here : List ℕ) → HasStamps b → AllByRecursion (IsPart b.rows) parts → IsFresh g w old →
-    slice_get (path_of g w).states 0 ≡ Some here → IsPast old.running old.frames.items here → AllByRecursion (SumFits b parts) (positions_of g w) → ⊥
+    slice_get (path_of g w).states 0 ≡ Some here → IsPast old.running old.frames.items here → AllByRecursion (SumNumbersFit b parts) (positions_of g w) → ⊥
 past_begun g w b parts old here stamps each fresh k past =
     past_start g w b parts old.running old.frames.items fresh.frames.0 here stamps each
     (summed_first b parts old.running stamps each fresh.columns fresh.bound fresh.counted) fresh.frames.1 fresh.frames.2 k
@@ -83,7 +83,7 @@ sums_gone_on g w i a d b parts ps qs old mid new returns before entry stamps eac
 
 pub past_gone_on : (g : Graph) (w : List Letter) (i : ℕ) (a d : Letter) (b : Branch) (parts ps qs : List (ℕ × ℤ)) (old mid new : Pass) (returns : Bool) (before entry : List ℕ) →
     HasStamps b → AllByRecursion (IsPart b.rows) parts → a ≡ get_or w i d → SumsRead g w i b parts old.running old.frames.items old.sums.items →
-    StepsBy g w i a b parts ps qs old mid new returns before entry → IsPast new.running mid.frames.items entry → AllByRecursion (SumFits b parts) (positions_of g w) → ⊥
+    StepsBy g w i a b parts ps qs old mid new returns before entry → IsPast new.running mid.frames.items entry → AllByRecursion (SumNumbersFit b parts) (positions_of g w) → ⊥
 past_gone_on g w i a d b parts ps qs old mid new returns before entry stamps each e h s past =
     let states : List (List ℕ) = (path_of g w).states in
     let mb : AreMade mid.running.columns.items before =

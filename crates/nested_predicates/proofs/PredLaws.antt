@@ -17,9 +17,9 @@ use Rattle.triple_rows.specs.Predicates.{Formula, prefix_of, formulas, first_for
 use Rattle.nested_predicates.specs.Stamps.{column_stamp, stamps_of}
 use Rattle.nested_predicates.specs.Positions.{Position, is_counted, positions_of}
 use Rattle.nested_predicates.specs.Sums.{Branch, root_of, with_cut, inequality, terms_from, coefficients_at, bound_at}
-use Rattle.nested_predicates.specs.Joins.{joined, joined_at, simplified}
+use Rattle.nested_predicates.specs.Joins.{joined_formulas, joined_at, simplified}
 use Rattle.nested_predicates.specs.Simplifying.{AreJoined}
-use Rattle.nested_predicates.specs.Interpolants.{scoped_at}
+use Rattle.nested_predicates.specs.Interpolants.{interpolant_at}
 use Rattle.nested_predicates.specs.Bases.{node_of}
 use Rattle.nested_predicates.specs.Layouts.{leaf_node}
 use Rattle.nested_predicates.specs.Tables.{cut_node_at, table_along}
@@ -47,12 +47,12 @@ inequality_joined (t ∷ ts) bound ns h = (tt, h)
 behind : (a b : Formula) (ns : List PredNode) → (prefix_of a ++ (prefix_of b ++ [])) ++ ns ≡ prefix_of a ++ (prefix_of b ++ ns)
 behind a b ns = append_assoc (prefix_of a) (prefix_of b ++ []) ns ∙ ap (λ (l : List PredNode). prefix_of a ++ l) (ap (λ (l : List PredNode). l ++ ns) (append-nil (prefix_of b)))
 
-join_read : (c : Bool) (a b : Formula) (ns : List PredNode) → formulas (prefix_of a ++ (prefix_of b ++ ns)) ≡ a ∷ b ∷ formulas ns → formulas (prefix_of (joined c a b) ++ ns) ≡ joined c a b ∷ formulas ns
+join_read : (c : Bool) (a b : Formula) (ns : List PredNode) → formulas (prefix_of a ++ (prefix_of b ++ ns)) ≡ a ∷ b ∷ formulas ns → formulas (prefix_of (joined_formulas c a b) ++ ns) ≡ joined_formulas c a b ∷ formulas ns
 join_read true a b ns e = ap (λ (l : List PredNode). formulas (Or 2 ∷ l)) (behind a b ns) ∙ rw e refl
 join_read false a b ns e = ap (λ (l : List PredNode). formulas (And 2 ∷ l)) (behind a b ns) ∙ rw e refl
 
 join_joined : (c : Bool) (a b : Formula) (ns : List PredNode) → formulas (prefix_of a ++ (prefix_of b ++ ns)) ≡ a ∷ b ∷ formulas ns → AreJoined (prefix_of a ++ (prefix_of b ++ ns)) →
-    AreJoined (prefix_of (joined c a b) ++ ns)
+    AreJoined (prefix_of (joined_formulas c a b) ++ ns)
 join_joined true a b ns e h =
     subst (λ (l : List PredNode). AreJoined (Or 2 ∷ l)) (sym (behind a b ns)) ((refl, (let n : length (formulas (prefix_of a ++ (prefix_of b ++ ns))) ≡ suc (suc (length (formulas ns))) = ap (λ (l : List Formula). length l) e in omega (arith, n))), h)
 join_joined false a b ns e h =
@@ -108,7 +108,7 @@ got_mapped f [] p q e = absurd (cc)
 got_mapped f (x ∷ qs) zero q e = ap (λ (y : Position). Some (f y)) (let k : x ≡ q = cc in k)
 got_mapped f (x ∷ qs) (suc p) q e = got_mapped f qs p q e
 
-cut_prefix : (c : Bool) (a b : Formula) (n : PredNode) → n ≡ (if c then Or 2 else And 2) → prefix_of (joined c a b) ≡ n ∷ (prefix_of a ++ prefix_of b)
+cut_prefix : (c : Bool) (a b : Formula) (n : PredNode) → n ≡ (if c then Or 2 else And 2) → prefix_of (joined_formulas c a b) ≡ n ∷ (prefix_of a ++ prefix_of b)
 cut_prefix true a b n e = ap (λ (m : PredNode). m ∷ (prefix_of a ++ (prefix_of b ++ []))) (sym e) ∙ ap (λ (l : List PredNode). n ∷ (prefix_of a ++ l)) (append-nil (prefix_of b))
 cut_prefix false a b n e = ap (λ (m : PredNode). m ∷ (prefix_of a ++ (prefix_of b ++ []))) (sym e) ∙ ap (λ (l : List PredNode). n ∷ (prefix_of a ++ l)) (append-nil (prefix_of b))
 
@@ -190,13 +190,13 @@ spot_found (x ∷ qs) (suc p) q d e = spot_found qs p q d e
 
 pub predicate_next : (g : Graph) (w : List Letter) (t : Tree) (p : ℕ) (q : Position) (spots : List Spot) (s d : Spot) (pred : List PredNode) (old new : List Scoped) →
     slice_get (positions_of g w) p ≡ Some q → spots ≡ map spot_at (positions_of g w) → s ≡ get_or spots p d → pred ≡ prefix_of (simplified (formula_at g w t q)) →
-    old ≡ map (scoped_at g w t) (take p (positions_of g w)) → (let x : Scoped = record { proc = s.proc; pred = pred } in new ≡ old ++ x ∷ []) →
-    new ≡ map (scoped_at g w t) (take (p + 1) (positions_of g w))
+    old ≡ map (interpolant_at g w t) (take p (positions_of g w)) → (let x : Scoped = record { proc = s.proc; pred = pred } in new ≡ old ++ x ∷ []) →
+    new ≡ map (interpolant_at g w t) (take (p + 1) (positions_of g w))
 predicate_next g w t p q spots s d pred old new e f i k h m =
     let qs : List Position = positions_of g w in
     let proc : s.proc ≡ q.scope.proc = ap (λ (x : Spot). x.proc) (i ∙ ap (λ (l : List Spot). get_or l p d) f ∙ spot_found qs p q d e) in
-    let same : (let x : Scoped = record { proc = s.proc; pred = pred } in x) ≡ scoped_at g w t q = λ j. record { proc = proc j; pred = k j } in
-    m ∙ ap (λ (l : List Scoped). l ++ record { proc = s.proc; pred = pred } ∷ []) h ∙ ap (λ (x : Scoped). map (scoped_at g w t) (take p qs) ++ x ∷ []) same ∙ sym (taken_next (scoped_at g w t) qs p q e)
+    let same : (let x : Scoped = record { proc = s.proc; pred = pred } in x) ≡ interpolant_at g w t q = λ j. record { proc = proc j; pred = k j } in
+    m ∙ ap (λ (l : List Scoped). l ++ record { proc = s.proc; pred = pred } ∷ []) h ∙ ap (λ (x : Scoped). map (interpolant_at g w t) (take p qs) ++ x ∷ []) same ∙ sym (taken_next (interpolant_at g w t) qs p q e)
 
 pub all_positions : (qs : List Position) (p : ℕ) → length qs ≤ p → take p qs ≡ qs
 all_positions [] zero l = refl

@@ -10,7 +10,7 @@ use Rattle.triple_rows.specs.Predicates.{Formula, truth, atom, and_of, or_of, Is
 use Rattle.nested_predicates.specs.Stamps.{column_stamp, stamps_of}
 use Rattle.nested_predicates.specs.Positions.{Position, is_counted}
 use Rattle.nested_predicates.specs.Sums.{Branch, root_of, with_cut, column_sums, terms_from, inequality, coefficients_at, bound_at, sum_at}
-use Rattle.nested_predicates.specs.Joins.{joined, joined_at, and_before, and_joined, or_before, or_joined, simplified, predicate_at}
+use Rattle.nested_predicates.specs.Joins.{joined_formulas, joined_at, and_before, and_joined, or_before, or_joined, simplified, predicate_at}
 
 -- a truth value, or a tree that is nested at most so deep
 abbrev pub IsShallow : ℕ → Formula → Type 0
@@ -77,7 +77,7 @@ or_false (atom r) = refl
 or_false (and_of fs) = refl
 or_false (or_of fs) = refl
 
-join_shallow : (c : Bool) (n : ℕ) (a b : Formula) → IsShallow n (simplified a) → IsShallow n (simplified b) → IsShallow (suc n) (simplified (joined c a b))
+join_shallow : (c : Bool) (n : ℕ) (a b : Formula) → IsShallow n (simplified a) → IsShallow n (simplified b) → IsShallow (suc n) (simplified (joined_formulas c a b))
 join_shallow true n a b s k = rw (or_false (simplified b)) (or_shallow n (simplified a) (simplified b) s k)
 join_shallow false n a b s k = rw (and_true (simplified b)) (and_shallow n (simplified a) (simplified b) s k)
 
@@ -137,7 +137,7 @@ or_over m (atom r) b h k = or_before_over m (atom r) b h k
 or_over m (and_of fs) b h k = or_before_over m (and_of fs) b h k
 or_over m (or_of fs) b h k = or_before_over m (or_of fs) b h k
 
-join_over : (c : Bool) (m : ℕ) (a b : Formula) → IsOver m (simplified a) → IsOver m (simplified b) → IsOver m (simplified (joined c a b))
+join_over : (c : Bool) (m : ℕ) (a b : Formula) → IsOver m (simplified a) → IsOver m (simplified b) → IsOver m (simplified (joined_formulas c a b))
 join_over true m a b h k = rw (or_false (simplified b)) (or_over m (simplified a) (simplified b) h k)
 join_over false m a b h k = rw (and_true (simplified b)) (and_over m (simplified a) (simplified b) h k)
 

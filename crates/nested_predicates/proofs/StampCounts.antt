@@ -13,7 +13,7 @@ use Rattle.letter_acts.specs.Frames.{Columns, added, places, is_variable, variab
 use Rattle.letter_acts.specs.Acts.{PlainAct, inside_act, call_act, back_act, Alphabet, frame_of, act_of}
 use Rattle.letter_acts.specs.Invariant.{Graph, alphabet_of, type_at}
 use Rattle.frame_rows.specs.Rows.{bounds, types_of, types_at}
-use Rattle.path_rows.specs.Versions.{Stage, Part, rows_in, entry_rows, locals_of, old_part, inside_part, call_part, return_part, back_part, part_of, act_part}
+use Rattle.path_rows.specs.Versions.{PathStage, Part, part_rows, entry_rows, local_columns, old_part, inside_part, call_part, return_part, back_part, part_of, act_part}
 use Rattle.path_rows.specs.Paths.{repeated, start_frame, first_stage}
 use Rattle.nested_predicates.specs.declared.stamps.Stamps.{Stamps}
 use Rattle.nested_predicates.specs.Stamps.{stamp_of, callee_stamp, row_stamps, call_stamps, column_stamps, stamps_along, stamps_of}
@@ -73,20 +73,20 @@ entries_counted n (g ∷ gs) = ap suc (entries_counted (suc n) gs)
 twice : (s k : ℕ) → repeated s k ++ repeated s k ≡ repeated s (k + k)
 twice s k = repeated_joined s k k
 
-inside_rows : (al : Alphabet) (n q : ℕ) (written : List ℕ) (helpers : ℕ) (rows : List LinearRow) (p : Stage) (old new : List ℕ) →
+inside_rows : (al : Alphabet) (n q : ℕ) (written : List ℕ) (helpers : ℕ) (rows : List LinearRow) (p : PathStage) (old new : List ℕ) →
     (let b = length (filter (is_bool_at (frame_of al q)) written) in new ≡ (old ++ repeated (2 * n) (length rows)) ++ (repeated (2 * n) b ++ repeated (2 * n) b)) →
-    new ≡ old ++ repeated (stamp_of n) (length (rows_in (inside_part (frame_of al q) written helpers rows p)))
+    new ≡ old ++ repeated (stamp_of n) (length (part_rows (inside_part (frame_of al q) written helpers rows p)))
 inside_rows al n q written helpers rows p old new e =
     let b : ℕ = length (filter (is_bool_at (frame_of al q)) written) in
     let part : Part = inside_part (frame_of al q) written helpers rows p in
     let x : length part.own ≡ length rows = length-map rows _ in
     let y : length part.bounds ≡ b + b = types_counted_at p.made (frame_of al q) written in
     let z : length (part.own ++ part.bounds) ≡ length part.own + length part.bounds = length-append part.own part.bounds in
-    let k : length rows + (b + b) ≡ length (rows_in part) = omega (arith, x, y, z) in
+    let k : length rows + (b + b) ≡ length (part_rows part) = omega (arith, x, y, z) in
     e ∙ ap (λ (l : List ℕ). (old ++ repeated (2 * n) (length rows)) ++ l) (twice (2 * n) b) ∙ append_assoc old (repeated (2 * n) (length rows)) (repeated (2 * n) (b + b)) ∙
     ap (λ (l : List ℕ). old ++ l) (repeated_joined (2 * n) (length rows) (b + b) ∙ ap (repeated (2 * n)) k)
 
-inside_columns : (al : Alphabet) (n q : ℕ) (written : List ℕ) (helpers : ℕ) (rows : List LinearRow) (p : Stage) (old new : List ℕ) →
+inside_columns : (al : Alphabet) (n q : ℕ) (written : List ℕ) (helpers : ℕ) (rows : List LinearRow) (p : PathStage) (old new : List ℕ) →
     new ≡ (old ++ repeated (2 * n) (length written)) ++ repeated (2 * n) helpers →
     new ≡ old ++ repeated (stamp_of n) (inside_part (frame_of al q) written helpers rows p).columns
 inside_columns al n q written helpers rows p old new e =
@@ -109,26 +109,26 @@ inside_read al n a q written helpers rows old new i e f = record {
 four : (a b c d e : List ℕ) → (((a ++ b) ++ c) ++ d) ++ e ≡ a ++ (b ++ (c ++ (d ++ e)))
 four a b c d e = append_assoc ((a ++ b) ++ c) d e ∙ append_assoc (a ++ b) c (d ++ e) ∙ append_assoc a b (c ++ (d ++ e))
 
-call_rows : (callee : Columns) (n helpers : ℕ) (rows : List LinearRow) (p : Stage) (old new : List ℕ) →
-    (let s : ℕ = suc (2 * n) in let v : ℕ = length (filter is_variable callee) in let l : ℕ = length (filter is_bool (locals_of callee)) in let o : ℕ = length (filter is_bool (old_part callee)) in
+call_rows : (callee : Columns) (n helpers : ℕ) (rows : List LinearRow) (p : PathStage) (old new : List ℕ) →
+    (let s : ℕ = suc (2 * n) in let v : ℕ = length (filter is_variable callee) in let l : ℕ = length (filter is_bool (local_columns callee)) in let o : ℕ = length (filter is_bool (old_part callee)) in
     new ≡ (((old ++ repeated (2 * n) (length rows)) ++ repeated s v) ++ (repeated s l ++ repeated s l)) ++ (repeated s o ++ repeated s o)) →
     (let part = call_part callee helpers rows p in
     new ≡ old ++ (repeated (stamp_of n) (length part.own) ++ repeated (callee_stamp n) (length (part.entries ++ part.bounds))))
 call_rows callee n helpers rows p old new e =
     let s : ℕ = suc (2 * n) in
     let v : ℕ = length (filter is_variable callee) in
-    let l : ℕ = length (filter is_bool (locals_of callee)) in
+    let l : ℕ = length (filter is_bool (local_columns callee)) in
     let o : ℕ = length (filter is_bool (old_part callee)) in
     let part : Part = call_part callee helpers rows p in
-    let first : List LinearRow = bounds p.made (types_of (locals_of callee)) in
-    let second : List LinearRow = bounds (p.made + length (locals_of callee) + helpers) (types_of (old_part callee)) in
+    let first : List LinearRow = bounds p.made (types_of (local_columns callee)) in
+    let second : List LinearRow = bounds (p.made + length (local_columns callee) + helpers) (types_of (old_part callee)) in
     let x : length part.own ≡ length rows = length-map rows _ in
     let gs : List ℕ = map (slice_index p.here) (variables_of callee) in
-    let y : length part.entries ≡ length gs = entries_counted (p.made + length (locals_of callee) + helpers) gs in
+    let y : length part.entries ≡ length gs = entries_counted (p.made + length (local_columns callee) + helpers) gs in
     let y2 : length gs ≡ length (variables_of callee) = length-map (variables_of callee) (slice_index p.here) in
     let y3 : length (variables_of callee) ≡ v = places_counted is_variable 0 callee in
-    let z : length first ≡ l + l = types_counted p.made (locals_of callee) in
-    let u : length second ≡ o + o = types_counted (p.made + length (locals_of callee) + helpers) (old_part callee) in
+    let z : length first ≡ l + l = types_counted p.made (local_columns callee) in
+    let u : length second ≡ o + o = types_counted (p.made + length (local_columns callee) + helpers) (old_part callee) in
     let j : length (first ++ second) ≡ length first + length second = length-append first second in
     let k : length (part.entries ++ part.bounds) ≡ length part.entries + length part.bounds = length-append part.entries part.bounds in
     let m : v + ((l + l) + (o + o)) ≡ length (part.entries ++ part.bounds) = omega (arith, y, y2, y3, z, u, j, k) in
@@ -142,21 +142,21 @@ call_rows callee n helpers rows p old new e =
     ap (λ (t : ℕ). old ++ (repeated (2 * n) t ++ repeated s (length (part.entries ++ part.bounds)))) (sym x)
 
 call_columns : (callee : Columns) (n helpers : ℕ) (old new : List ℕ) →
-    (let s : ℕ = suc (2 * n) in new ≡ ((old ++ repeated s (length (locals_of callee))) ++ repeated (2 * n) helpers) ++ repeated s (length (old_part callee))) →
+    (let s : ℕ = suc (2 * n) in new ≡ ((old ++ repeated s (length (local_columns callee))) ++ repeated (2 * n) helpers) ++ repeated s (length (old_part callee))) →
     new ≡ old ++ call_stamps n callee helpers
 call_columns callee n helpers old new e =
     let s : ℕ = suc (2 * n) in
-    e ∙ append_assoc (old ++ repeated s (length (locals_of callee))) (repeated (2 * n) helpers) (repeated s (length (old_part callee))) ∙
-    append_assoc old (repeated s (length (locals_of callee))) (repeated (2 * n) helpers ++ repeated s (length (old_part callee)))
+    e ∙ append_assoc (old ++ repeated s (length (local_columns callee))) (repeated (2 * n) helpers) (repeated s (length (old_part callee))) ∙
+    append_assoc old (repeated s (length (local_columns callee))) (repeated (2 * n) helpers ++ repeated s (length (old_part callee)))
 
 -- a call
 pub call_read : (al : Alphabet) (n : ℕ) (a : Letter) (caller callee helpers : ℕ) (rows : List LinearRow) (old new : Stamps) →
     act_of al a ≡ Some (call_act caller callee helpers rows) →
     (let s : ℕ = suc (2 * n) in let f : Columns = frame_of al callee in
-    let v : ℕ = length (filter is_variable f) in let l : ℕ = length (filter is_bool (locals_of f)) in let o : ℕ = length (filter is_bool (old_part f)) in
+    let v : ℕ = length (filter is_variable f) in let l : ℕ = length (filter is_bool (local_columns f)) in let o : ℕ = length (filter is_bool (old_part f)) in
     new.rows.items ≡ (((old.rows.items ++ repeated (2 * n) (length rows)) ++ repeated s v) ++ (repeated s l ++ repeated s l)) ++ (repeated s o ++ repeated s o)) →
     (let s : ℕ = suc (2 * n) in let f : Columns = frame_of al callee in
-    new.columns.items ≡ ((old.columns.items ++ repeated s (length (locals_of f))) ++ repeated (2 * n) helpers) ++ repeated s (length (old_part f))) →
+    new.columns.items ≡ ((old.columns.items ++ repeated s (length (local_columns f))) ++ repeated (2 * n) helpers) ++ repeated s (length (old_part f))) →
     ReadsLetter al n a old new
 call_read al n a caller callee helpers rows old new i e f = record {
   rows = λ p. subst (λ (o : Option PlainAct). new.rows.items ≡ old.rows.items ++ row_stamps n o (act_part al o p)) (sym i)
@@ -168,11 +168,11 @@ call_read al n a caller callee helpers rows old new i e f = record {
 -- ---- returns
 
 back_rows : (caller callee : Columns) (targets : List ℕ) (made : ℕ) (exit : List ℕ) (saved : List (List ℕ)) →
-    (rows_in (back_part caller callee targets made exit saved) ≡ []) × ((back_part caller callee targets made exit saved).columns ≡ 0)
+    (part_rows (back_part caller callee targets made exit saved) ≡ []) × ((back_part caller callee targets made exit saved).columns ≡ 0)
 back_rows caller callee targets made exit [] = (refl, refl)
 back_rows caller callee targets made exit (b ∷ saved) = (refl, refl)
 
-pub return_rows : (al : Alphabet) (targets : List ℕ) (o : Option PlainAct) (p : Stage) → (rows_in (return_part al targets o p) ≡ []) × ((return_part al targets o p).columns ≡ 0)
+pub return_rows : (al : Alphabet) (targets : List ℕ) (o : Option PlainAct) (p : PathStage) → (part_rows (return_part al targets o p) ≡ []) × ((return_part al targets o p).columns ≡ 0)
 return_rows al targets None p = (refl, refl)
 return_rows al targets (Some (inside_act q written helpers rows)) p = (refl, refl)
 return_rows al targets (Some (call_act caller callee helpers rows)) p = back_rows (frame_of al caller) (frame_of al callee) targets p.made p.here p.saved
@@ -191,7 +191,7 @@ back_read al n a c targets old i = record {
 
 -- so many letters are read
 pub record StampsLeft (g : Graph) (w : List Letter) (i : ℕ) (s : Stamps) : Type 0 where
-  pub stage : Stage
+  pub stage : PathStage
   pub rows : s.rows.items ++ (stamps_along (alphabet_of g) (suc i) stage (drop i w)).rows ≡ (stamps_of g w).rows
   pub columns : s.columns.items ++ (stamps_along (alphabet_of g) (suc i) stage (drop i w)).columns ≡ (stamps_of g w).columns
 
@@ -213,7 +213,7 @@ stamps_next g w i a d old new l e h r =
     let al : Alphabet = alphabet_of g in
     let n : suc i ≡ i + 1 = omega arith in
     let f : drop i w ≡ a ∷ drop (i + 1) w = drop_more w i d l ∙ ap (λ (b : Letter). b ∷ drop (i + 1) w) (sym e) in
-    let after : Stage = (part_of al a h.stage).after in
+    let after : PathStage = (part_of al a h.stage).after in
     let rest = stamps_along al (suc (i + 1)) after (drop (i + 1) w) in
     record {
       stage = after;
@@ -268,12 +268,12 @@ inside_given al n a q written helpers rows old new count frame ws i c f w e h =
 abbrev pub CallRows : ℕ → ℕ → Columns → List ℕ → List ℕ → Type 0
 CallRows n count f old new =
     new ≡ (((old ++ repeated (2 * n) count) ++ repeated (suc (2 * n)) (length (filter is_variable f))) ++
-    (repeated (suc (2 * n)) (length (filter is_bool (locals_of f))) ++ repeated (suc (2 * n)) (length (filter is_bool (locals_of f))))) ++
+    (repeated (suc (2 * n)) (length (filter is_bool (local_columns f))) ++ repeated (suc (2 * n)) (length (filter is_bool (local_columns f))))) ++
     (repeated (suc (2 * n)) (length (filter is_bool (old_part f))) ++ repeated (suc (2 * n)) (length (filter is_bool (old_part f))))
 
 abbrev pub CallColumns : ℕ → ℕ → Columns → List ℕ → List ℕ → Type 0
 CallColumns n helpers f old new =
-    new ≡ ((old ++ repeated (suc (2 * n)) (length (locals_of f))) ++ repeated (2 * n) helpers) ++ repeated (suc (2 * n)) (length (old_part f))
+    new ≡ ((old ++ repeated (suc (2 * n)) (length (local_columns f))) ++ repeated (2 * n) helpers) ++ repeated (suc (2 * n)) (length (old_part f))
 
 pub call_given : (al : Alphabet) (n : ℕ) (a : Letter) (caller callee helpers : ℕ) (rows : List LinearRow) (old new : Stamps) (count : ℕ) (frame : Columns) →
     act_of al a ≡ Some (call_act caller callee helpers rows) → count ≡ length rows → frame ≡ frame_of al callee →

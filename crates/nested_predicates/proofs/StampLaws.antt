@@ -10,7 +10,7 @@ use Rattle.letter_acts.specs.Frames.{Columns}
 use Rattle.letter_acts.specs.Acts.{PlainAct, inside_act, call_act, back_act, Alphabet, frame_of, act_of}
 use Rattle.letter_acts.specs.Invariant.{Graph, alphabet_of}
 use Rattle.frame_rows.specs.Rows.{bounds, types_of}
-use Rattle.path_rows.specs.Versions.{Stage, Part, rows_in, locals_of, old_part, part_of}
+use Rattle.path_rows.specs.Versions.{PathStage, Part, part_rows, local_columns, old_part, part_of}
 use Rattle.path_rows.specs.Paths.{repeated, start_frame, first_stage, path_along, path_of}
 use Rattle.nested_predicates.specs.Stamps.{stamp_of, callee_stamp, row_stamps, call_stamps, column_stamps, stamps_along, stamps_of, column_stamp}
 use Rattle.nested_predicates.specs.Sums.{Branch, root_of, with_cut}
@@ -46,17 +46,17 @@ stamp_within limit (suc c) (x ∷ xs) l h = stamp_within limit c xs l h.1
 -- ---- letters
 
 rows_within : (P : ℕ → Type 0) (n : ℕ) (act : Option PlainAct) (part : Part) → P (stamp_of n) → P (callee_stamp n) → AllByRecursion P (row_stamps n act part)
-rows_within P n None part h k = all_repeated P (stamp_of n) (length (rows_in part)) h
-rows_within P n (Some (inside_act q written helpers rows)) part h k = all_repeated P (stamp_of n) (length (rows_in part)) h
+rows_within P n None part h k = all_repeated P (stamp_of n) (length (part_rows part)) h
+rows_within P n (Some (inside_act q written helpers rows)) part h k = all_repeated P (stamp_of n) (length (part_rows part)) h
 rows_within P n (Some (call_act caller callee helpers rows)) part h k =
     all_joined P (repeated (stamp_of n) (length part.own)) (repeated (callee_stamp n) (length (part.entries ++ part.bounds)))
     (all_repeated P (stamp_of n) (length part.own) h) (all_repeated P (callee_stamp n) (length (part.entries ++ part.bounds)) k)
-rows_within P n (Some (back_act c targets)) part h k = all_repeated P (stamp_of n) (length (rows_in part)) h
+rows_within P n (Some (back_act c targets)) part h k = all_repeated P (stamp_of n) (length (part_rows part)) h
 
 call_within : (P : ℕ → Type 0) (n : ℕ) (callee : Columns) (helpers : ℕ) → P (stamp_of n) → P (callee_stamp n) → AllByRecursion P (call_stamps n callee helpers)
 call_within P n callee helpers h k =
-    all_joined P (repeated (callee_stamp n) (length (locals_of callee))) (repeated (stamp_of n) helpers ++ repeated (callee_stamp n) (length (old_part callee)))
-    (all_repeated P (callee_stamp n) (length (locals_of callee)) k)
+    all_joined P (repeated (callee_stamp n) (length (local_columns callee))) (repeated (stamp_of n) helpers ++ repeated (callee_stamp n) (length (old_part callee)))
+    (all_repeated P (callee_stamp n) (length (local_columns callee)) k)
     (all_joined P (repeated (stamp_of n) helpers) (repeated (callee_stamp n) (length (old_part callee)))
     (all_repeated P (stamp_of n) helpers h) (all_repeated P (callee_stamp n) (length (old_part callee)) k))
 
@@ -67,7 +67,7 @@ columns_within P al n (Some (inside_act q written helpers rows)) part h k = all_
 columns_within P al n (Some (call_act caller callee helpers rows)) part h k = call_within P n (frame_of al callee) helpers h k
 columns_within P al n (Some (back_act c targets)) part h k = all_repeated P (stamp_of n) part.columns h
 
-rows_along_within : (limit : ℕ) (al : Alphabet) (n : ℕ) (p : Stage) (w : List Letter) → 1 ≤ n → 2 * (n + length w) ≤ limit →
+rows_along_within : (limit : ℕ) (al : Alphabet) (n : ℕ) (p : PathStage) (w : List Letter) → 1 ≤ n → 2 * (n + length w) ≤ limit →
     AllByRecursion (IsWithin limit) (stamps_along al n p w).rows
 rows_along_within limit al n p [] one l = tt
 rows_along_within limit al n p (a ∷ w) one l =
@@ -75,7 +75,7 @@ rows_along_within limit al n p (a ∷ w) one l =
     (rows_within (IsWithin limit) n (act_of al a) (part_of al a p) (omega (arith, one, l), omega (arith, one, l)) (omega (arith, one, l), omega (arith, one, l)))
     (rows_along_within limit al (suc n) (part_of al a p).after w (omega arith) (omega (arith, l)))
 
-columns_along_within : (limit : ℕ) (al : Alphabet) (n : ℕ) (p : Stage) (w : List Letter) → 1 ≤ n → 2 * (n + length w) ≤ limit →
+columns_along_within : (limit : ℕ) (al : Alphabet) (n : ℕ) (p : PathStage) (w : List Letter) → 1 ≤ n → 2 * (n + length w) ≤ limit →
     AllByRecursion (IsWithin limit) (stamps_along al n p w).columns
 columns_along_within limit al n p [] one l = tt
 columns_along_within limit al n p (a ∷ w) one l =
@@ -92,9 +92,9 @@ columns_of_word_within limit g w two l =
 
 -- ---- as many as rows
 
-rows_of_letter : (n : ℕ) (act : Option PlainAct) (part : Part) → length (row_stamps n act part) ≡ length (rows_in part)
-rows_of_letter n None part = length-repeated (stamp_of n) (length (rows_in part))
-rows_of_letter n (Some (inside_act q written helpers rows)) part = length-repeated (stamp_of n) (length (rows_in part))
+rows_of_letter : (n : ℕ) (act : Option PlainAct) (part : Part) → length (row_stamps n act part) ≡ length (part_rows part)
+rows_of_letter n None part = length-repeated (stamp_of n) (length (part_rows part))
+rows_of_letter n (Some (inside_act q written helpers rows)) part = length-repeated (stamp_of n) (length (part_rows part))
 rows_of_letter n (Some (call_act caller callee helpers rows)) part =
     let own : List ℕ = repeated (stamp_of n) (length part.own) in
     let rest : List ℕ = repeated (callee_stamp n) (length (part.entries ++ part.bounds)) in
@@ -103,9 +103,9 @@ rows_of_letter n (Some (call_act caller callee helpers rows)) part =
     let c : length rest ≡ length (part.entries ++ part.bounds) = length-repeated (callee_stamp n) (length (part.entries ++ part.bounds)) in
     let d : length (part.own ++ (part.entries ++ part.bounds)) ≡ length part.own + length (part.entries ++ part.bounds) = length-append part.own (part.entries ++ part.bounds) in
     omega (arith, a, b, c, d)
-rows_of_letter n (Some (back_act c targets)) part = length-repeated (stamp_of n) (length (rows_in part))
+rows_of_letter n (Some (back_act c targets)) part = length-repeated (stamp_of n) (length (part_rows part))
 
-rows_along_counted : (al : Alphabet) (n : ℕ) (p : Stage) (w : List Letter) → length (stamps_along al n p w).rows ≡ length (path_along al n p w).rows
+rows_along_counted : (al : Alphabet) (n : ℕ) (p : PathStage) (w : List Letter) → length (stamps_along al n p w).rows ≡ length (path_along al n p w).rows
 rows_along_counted al n p [] = refl
 rows_along_counted al n p (a ∷ w) =
     let part : Part = part_of al a p in
@@ -113,8 +113,8 @@ rows_along_counted al n p (a ∷ w) =
     let more : List ℕ = (stamps_along al (suc n) part.after w).rows in
     let rest : List LinearRow = (path_along al (suc n) part.after w).rows in
     let x : length (s ++ more) ≡ length s + length more = length-append s more in
-    let y : length (rows_in part ++ rest) ≡ length (rows_in part) + length rest = length-append (rows_in part) rest in
-    let z : length s ≡ length (rows_in part) = rows_of_letter n (act_of al a) part in
+    let y : length (part_rows part ++ rest) ≡ length (part_rows part) + length rest = length-append (part_rows part) rest in
+    let z : length s ≡ length (part_rows part) = rows_of_letter n (act_of al a) part in
     let r : length more ≡ length rest = rows_along_counted al (suc n) part.after w in
     omega (arith, x, y, z, r)
 

@@ -10,7 +10,7 @@ use Rattle.std.specs.Prelude.{Result, Ok, Err, OnOk}
 use Rattle.nwa_base.specs.declared.letters.Letter.{Letter}
 use Rattle.letter_acts.specs.Acts.{Alphabet, act_of}
 use Rattle.letter_acts.specs.Invariant.{Graph, alphabet_of}
-use Rattle.path_rows.specs.Versions.{Stage, part_of}
+use Rattle.path_rows.specs.Versions.{PathStage, part_of}
 use Rattle.path_rows.specs.Paths.{start_frame, first_stage, path_of}
 use Rattle.farkas_check.specs.Nodes.{PlainNode, leaf, cut, cases, plain, plain_nodes}
 use Rattle.farkas_check.specs.declared.refutations.Node.{Node}
@@ -22,7 +22,7 @@ use Rattle.nested_predicates.specs.Stamps.{stamps_of, column_stamp}
 use Rattle.nested_predicates.specs.declared.branches.Waiting.{Waiting}
 use Rattle.nested_predicates.specs.declared.spots.Spot.{Spot}
 use Rattle.nested_predicates.specs.Spots.{spot_at}
-use Rattle.nested_predicates.specs.Positions.{Scope, scopes_after, Position, position_at, positions_along, start_scope, positions_of}
+use Rattle.nested_predicates.specs.Positions.{CallScope, scopes_after, Position, position_at, positions_along, start_scope, positions_of}
 use Rattle.nested_predicates.specs.Sums.{Branch, root_of, with_cut}
 use Rattle.nested_predicates.specs.Fitting.{SumsFit, NodeFits, NodesFit}
 use Rattle.nested_predicates.specs.Interpolants.{RefutesRows}
@@ -117,11 +117,11 @@ some_waits s b rest h = by_waiting (reverse s.waiting.items) refl h.waiting
 
 -- ---- cuts
 
-cut_from : (al : Alphabet) (n stamp : ℕ) (p : Stage) (scopes : List Scope) (w : List Letter) →
+cut_from : (al : Alphabet) (n stamp : ℕ) (p : PathStage) (scopes : List CallScope) (w : List Letter) →
     cut_nodes_from n stamp (map spot_at (positions_along al n p scopes w)) ≡ map (cut_node_at stamp) (positions_along al n p scopes w)
 cut_from al n stamp p scopes [] = refl
 cut_from al n stamp p scopes (a ∷ w) =
-    let after : Stage = (part_of al a p).after in
+    let after : PathStage = (part_of al a p).after in
     ap (λ (l : List PredNode). cut_node_at stamp (position_at n p scopes) ∷ l)
     (cut_from al (suc n) stamp after (scopes_after al (suc n) a.kind (act_of al a) w after.here p.here scopes) w)
 

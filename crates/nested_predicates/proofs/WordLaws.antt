@@ -6,29 +6,29 @@ use Rattle.nwa_base.specs.declared.letters.Kind.TheVariants.{Inside, Call, Back}
 use Rattle.nwa_base.specs.declared.letters.Letter.{Letter}
 use Rattle.letter_acts.specs.Acts.{PlainAct, Alphabet, act_of}
 use Rattle.letter_acts.specs.Invariant.{Graph, alphabet_of}
-use Rattle.path_rows.specs.Versions.{Stage, part_of}
+use Rattle.path_rows.specs.Versions.{PathStage, part_of}
 use Rattle.path_rows.specs.Paths.{start_frame, first_stage, path_along, path_of}
 use Rattle.nested_predicates.specs.declared.spots.Spot.{Spot}
-use Rattle.nested_predicates.specs.Positions.{Scope, has_return, scopes_after, callee_of, Position, innermost, position_at, positions_along, start_scope, positions_of}
+use Rattle.nested_predicates.specs.Positions.{CallScope, has_return, scopes_after, callee_of, Position, innermost, position_at, positions_along, start_scope, positions_of}
 use Rattle.nested_predicates.specs.Positions as positions
 use Rattle.nested_predicates.specs.Walking.{return_tests}
 use Rattle.nested_predicates.specs.Spots.{spot_of, spot_at, innermost_spot, without_first, spots_after}
 
 -- the positions behind the one after so many letters
-abbrev pub later : Alphabet → ℕ → Stage → List Scope → List Letter → List Position
+abbrev pub later : Alphabet → ℕ → PathStage → List CallScope → List Letter → List Position
 later al n p scopes [] = []
 later al n p scopes (a ∷ w) =
     let after = (part_of al a p).after in
     positions_along al (suc n) after (scopes_after al (suc n) a.kind (act_of al a) w after.here p.here scopes) w
 
-pub split_first : (al : Alphabet) (n : ℕ) (p : Stage) (scopes : List Scope) (w : List Letter) → positions_along al n p scopes w ≡ position_at n p scopes ∷ later al n p scopes w
+pub split_first : (al : Alphabet) (n : ℕ) (p : PathStage) (scopes : List CallScope) (w : List Letter) → positions_along al n p scopes w ≡ position_at n p scopes ∷ later al n p scopes w
 split_first al n p scopes [] = refl
 split_first al n p scopes (a ∷ w) = refl
 
 -- i letters are read
 pub record IsRead (g : Graph) (w : List Letter) (i : ℕ) : Type 0 where
-  pub stage : Stage
-  pub scopes : List Scope
+  pub stage : PathStage
+  pub scopes : List CallScope
   pub front : List Position
   pub whole : front ++ later (alphabet_of g) i stage scopes (drop i w) ≡ positions_of g w
   pub versions : drop i (path_of g w).states ≡ (path_along (alphabet_of g) (suc i) stage (drop i w)).states
@@ -52,7 +52,7 @@ dropped_once (y ∷ xs) zero x rest e = cc
 dropped_once (y ∷ xs) (suc i) x rest e = ap (λ (n : ℕ). drop n (y ∷ xs)) (let n : suc i + 1 ≡ suc (i + 1) = omega arith in n) ∙ dropped_once xs i x rest e
 
 -- the scopes after the next letter
-abbrev pub scopes_next : (g : Graph) (w : List Letter) (i : ℕ) (a : Letter) → Stage → List Scope → List Scope
+abbrev pub scopes_next : (g : Graph) (w : List Letter) (i : ℕ) (a : Letter) → PathStage → List CallScope → List CallScope
 scopes_next g w i a p scopes =
     let al : Alphabet = alphabet_of g in
     scopes_after al (suc i) a.kind (act_of al a) (drop (i + 1) w) (part_of al a p).after.here p.here scopes
@@ -60,8 +60,8 @@ scopes_next g w i a p scopes =
 abbrev pub next_read : (g : Graph) (w : List Letter) (i : ℕ) (a : Letter) → drop i w ≡ a ∷ drop (i + 1) w → IsRead g w i → IsRead g w (i + 1)
 next_read g w i a f h =
     let al : Alphabet = alphabet_of g in
-    let after : Stage = (part_of al a h.stage).after in
-    let scopes : List Scope = scopes_next g w i a h.stage h.scopes in
+    let after : PathStage = (part_of al a h.stage).after in
+    let scopes : List CallScope = scopes_next g w i a h.stage h.scopes in
     let rest : List Letter = drop (i + 1) w in
     let n : suc i ≡ i + 1 = omega arith in
     let q : Position = position_at (i + 1) after scopes in
@@ -104,17 +104,17 @@ spots_start g w s frames spots e f h = record {
   spots_so_far = h ∙ ap (λ (x : Spot). x ∷ []) e;
 }
 
-left_mapped : (scopes : List Scope) → without_first (map spot_of scopes) ≡ map spot_of (positions.left scopes)
+left_mapped : (scopes : List CallScope) → without_first (map spot_of scopes) ≡ map spot_of (positions.left_scopes scopes)
 left_mapped [] = refl
 left_mapped (s ∷ scopes) = refl
 
-spots_mapped : (al : Alphabet) (n : ℕ) (kind : Kind) (act : Option PlainAct) (rest : List Letter) (entry before : List ℕ) (scopes : List Scope) →
+spots_mapped : (al : Alphabet) (n : ℕ) (kind : Kind) (act : Option PlainAct) (rest : List Letter) (entry before : List ℕ) (scopes : List CallScope) →
     spots_after n kind (callee_of act) (has_return 0 rest) (map spot_of scopes) ≡ map spot_of (scopes_after al n kind act rest entry before scopes)
 spots_mapped al n Inside act rest entry before scopes = refl
 spots_mapped al n Call act rest entry before scopes = refl
 spots_mapped al n Back act rest entry before scopes = left_mapped scopes
 
-innermost_mapped : (scopes : List Scope) → innermost_spot (map spot_of scopes) ≡ spot_of (innermost scopes)
+innermost_mapped : (scopes : List CallScope) → innermost_spot (map spot_of scopes) ≡ spot_of (innermost scopes)
 innermost_mapped [] = refl
 innermost_mapped (s ∷ scopes) = refl
 

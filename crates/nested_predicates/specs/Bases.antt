@@ -10,7 +10,7 @@ use Rattle.nested_predicates.specs.declared.wide.Wide.{Wide}
 use Rattle.nested_predicates.specs.declared.running.Running.{Running}
 use Rattle.nested_predicates.specs.declared.bases.Base.{Base}
 use Rattle.nested_predicates.specs.Wides.{value_of, HasRoom}
-use Rattle.nested_predicates.specs.Positions.{Scope}
+use Rattle.nested_predicates.specs.Positions.{CallScope}
 use Rattle.nested_predicates.specs.Sums.{Branch, column_upto, bound_upto, known_sum}
 use Rattle.nested_predicates.specs.Runnings.{value_at, AreCounted}
 
@@ -84,12 +84,12 @@ known_sum_at b parts own (k ∷ ks) zero = known_sum b parts own k
 known_sum_at b parts own (k ∷ ks) (suc j) = known_sum_at b parts own ks j
 
 -- what the caller's sum at the call has at each column of a frame, and its bound
-pub record IsBase (b : Branch) (parts : List (ℕ × ℤ)) (s : Scope) (base : Base) : Type 0 where
+pub record IsBase (b : Branch) (parts : List (ℕ × ℤ)) (s : CallScope) (base : Base) : Type 0 where
   pub columns : (j : ℕ) → value_at base.columns.items j ≡ known_sum_at b parts s.own s.known j
   pub bound : value_of base.bound ≡ bound_upto b parts s.own
   pub room : CanRead base
 
-abbrev pub AreBases : Branch → List (ℕ × ℤ) → List Scope → List Base → Type 0
+abbrev pub AreBases : Branch → List (ℕ × ℤ) → List CallScope → List Base → Type 0
 AreBases b parts [] [] = Unit {0}
 AreBases b parts [] (x ∷ bases) = ⊥
 AreBases b parts (s ∷ scopes) [] = ⊥

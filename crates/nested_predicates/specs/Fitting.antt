@@ -11,13 +11,13 @@ use Rattle.nested_predicates.specs.Sums.{Branch, with_cut, coefficients_at, boun
 use Rattle.nested_predicates.specs.Tables.{branches_after}
 
 -- the coefficients and the bound of a leaf's sum at a position fit
-pub record SumFits (b : Branch) (parts : List (ℕ × ℤ)) (q : Position) : Type 0 where
+pub record SumNumbersFit (b : Branch) (parts : List (ℕ × ℤ)) (q : Position) : Type 0 where
   pub columns : AllByRecursion (λ a. Fits a) (coefficients_at b parts q)
   pub bound : Fits (bound_at b parts q)
 
 -- those of each leaf at each of these positions fit
 abbrev pub SumsFit : List ℕ → List Position → Branch → Tree → Type 0
-SumsFit columns qs b (leaf_tree parts) = AllByRecursion (SumFits b parts) qs
+SumsFit columns qs b (leaf_tree parts) = AllByRecursion (SumNumbersFit b parts) qs
 SumsFit columns qs b (cut_tree c k t u) =
     SumsFit columns qs (with_cut b (column_stamp columns c) (at_most c k)) t ×
     SumsFit columns qs (with_cut b (column_stamp columns c) (above c k)) u
@@ -27,7 +27,7 @@ SumsFit columns qs b (cases_tree ts) = Unit {0}
 
 -- those of a node on its branch fit, if it is a leaf
 abbrev pub NodeFits : List Position → PlainNode → Branch → Type 0
-NodeFits qs (leaf parts) b = AllByRecursion (SumFits b parts) qs
+NodeFits qs (leaf parts) b = AllByRecursion (SumNumbersFit b parts) qs
 NodeFits qs (cut c k) b = Unit {0}
 NodeFits qs (cases n) b = Unit {0}
 

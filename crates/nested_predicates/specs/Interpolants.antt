@@ -28,12 +28,12 @@ abbrev pub RefutesRows : List PlainNode → List LinearRow → Type 0
 RefutesRows nodes rows = Refute nodes (record { rows = map tightened rows; groups = [] } ∷ [])
 
 -- the predicate of a position, in the procedure of its frame
-abbrev pub scoped_at : Graph → List Letter → Tree → Position → Scoped
-scoped_at g w t q = record { proc = q.scope.proc; pred = prefix_of (predicate_at g w t q) }
+abbrev pub interpolant_at : Graph → List Letter → Tree → Position → Scoped
+interpolant_at g w t q = record { proc = q.scope.proc; pred = prefix_of (predicate_at g w t q) }
 
 -- the prefix predicates of a word, one for each position
 abbrev pub prefix_predicates : Graph → List Letter → Tree → List Scoped
-prefix_predicates g w t = map (scoped_at g w t) (positions_of g w)
+prefix_predicates g w t = map (interpolant_at g w t) (positions_of g w)
 
 -- the predicates are the prefix predicates of the word under the refutation with these nodes
 pub record ArePredicates (g : Graph) (w : List Letter) (nodes : List PlainNode) (preds : List Scoped) : Type 0 where

@@ -13,16 +13,16 @@ abbrev pub both_of : Formula → Formula → Formulas
 both_of a b = one_more a (one_more b no_formula)
 
 -- by `or` where the cut is counted, else by `and`
-abbrev pub joined : Bool → Formula → Formula → Formula
-joined true a b = or_of (both_of a b)
-joined false a b = and_of (both_of a b)
+abbrev pub joined_formulas : Bool → Formula → Formula → Formula
+joined_formulas true a b = or_of (both_of a b)
+joined_formulas false a b = and_of (both_of a b)
 
 -- The sums of the leaves, joined at the cuts. A refutation of a word's rows, which have no groups, has no cases.
 abbrev pub joined_at : List ℕ → Position → Branch → Tree → Formula
 joined_at columns q b (leaf_tree parts) = sum_at b parts q
 joined_at columns q b (cut_tree c k t u) =
     let stamp = column_stamp columns c in
-    joined (is_counted q stamp)
+    joined_formulas (is_counted q stamp)
     (joined_at columns q (with_cut b stamp (at_most c k)) t)
     (joined_at columns q (with_cut b stamp (above c k)) u)
 joined_at columns q b (cases_tree ts) = truth false

@@ -9,7 +9,7 @@ use Rattle.nwa_base.specs.declared.letters.Letter.{Letter}
 use Rattle.letter_acts.specs.Frames.{Columns}
 use Rattle.letter_acts.specs.Acts.{PlainAct, inside_act, call_act, back_act, Alphabet, frame_of, act_of}
 use Rattle.letter_acts.specs.Invariant.{Graph, alphabet_of}
-use Rattle.path_rows.specs.Versions.{Stage, part_of}
+use Rattle.path_rows.specs.Versions.{PathStage, part_of}
 use Rattle.path_rows.specs.Paths.{start_frame, first_stage}
 use Rattle.nested_predicates.specs.Stamps.{stamp_of}
 
@@ -27,21 +27,21 @@ has_return later (a ∷ w) = returned_by a.kind later (λ n. has_return n w)
 
 -- What is known of the open frame at a position: its procedure; the stamp up to which all counts in the caller, 0 where no
 -- call that is open here returns; and for each column the version by which the caller's sum at the call speaks of it, if it does.
-pub record Scope : Type 0 where
+pub record CallScope : Type 0 where
   pub proc : ℕ
   pub own : ℕ
   pub known : List (Option ℕ)
 
 -- a constant or parameter, which has one version in all of the callee, is known by it
-abbrev pub if_constant : Bool → ℕ → Option ℕ
-if_constant true version = Some version
-if_constant false version = None
+abbrev pub if_constant_version : Bool → ℕ → Option ℕ
+if_constant_version true version = Some version
+if_constant_version false version = None
 
 -- an old column is known by the version that its global had before the call
 abbrev pub known_at : Column → Bool → ℕ → List ℕ → Option ℕ
-known_at (Global g) constant version before = if_constant constant version
+known_at (Global g) constant version before = if_constant_version constant version
 known_at (Old g) constant version before = slice_get before g
-known_at (Local l) constant version before = if_constant constant version
+known_at (Local l) constant version before = if_constant_version constant version
 
 -- the same for each column, where the callee is entered with these versions from a caller with those before
 abbrev pub known_columns : Columns → List ℕ → List ℕ → List (Option ℕ)
@@ -50,7 +50,7 @@ known_columns (c ∷ cs) [] before = []
 known_columns (c ∷ cs) (v ∷ vs) before = known_at c.0 c.1.constant v before ∷ known_columns cs vs before
 
 -- the callee of letter n, which is entered with these versions
-abbrev pub callee_scope : Alphabet → ℕ → ℕ → Bool → List ℕ → List ℕ → Scope
+abbrev pub callee_scope : Alphabet → ℕ → ℕ → Bool → List ℕ → List ℕ → CallScope
 callee_scope al n callee returns entry before = record {
   proc = callee;
   own = if returns then stamp_of n else 0;
@@ -58,9 +58,9 @@ callee_scope al n callee returns entry before = record {
 }
 
 -- without the innermost scope
-abbrev pub left : List Scope → List Scope
-left [] = []
-left (s ∷ scopes) = scopes
+abbrev pub left_scopes : List CallScope → List CallScope
+left_scopes [] = []
+left_scopes (s ∷ scopes) = scopes
 
 -- the callee of a letter with this act
 abbrev pub callee_of : Option PlainAct → ℕ
@@ -70,31 +70,31 @@ callee_of (Some (call_act caller callee helpers rows)) = callee
 callee_of (Some (back_act c targets)) = 0
 
 -- the scopes after letter n, of this kind, innermost first; the rest of the word tells whether a call returns
-abbrev pub scopes_after : Alphabet → ℕ → Kind → Option PlainAct → List Letter → List ℕ → List ℕ → List Scope → List Scope
+abbrev pub scopes_after : Alphabet → ℕ → Kind → Option PlainAct → List Letter → List ℕ → List ℕ → List CallScope → List CallScope
 scopes_after al n Inside act rest entry before scopes = scopes
 scopes_after al n Call act rest entry before scopes = callee_scope al n (callee_of act) (has_return 0 rest) entry before ∷ scopes
-scopes_after al n Back act rest entry before scopes = left scopes
+scopes_after al n Back act rest entry before scopes = left_scopes scopes
 
 -- a position: the open frame with the versions of its columns; the stamps above `own` and up to `upto` are counted
 pub record Position : Type 0 where
-  pub scope : Scope
+  pub scope : CallScope
   pub here : List ℕ
   pub upto : ℕ
 
 -- in no frame
-abbrev pub no_scope : Scope
+abbrev pub no_scope : CallScope
 no_scope = record { proc = 0; own = 0; known = [] }
 
-abbrev pub innermost : List Scope → Scope
+abbrev pub innermost : List CallScope → CallScope
 innermost [] = no_scope
 innermost (s ∷ scopes) = s
 
 -- the position after so many letters
-abbrev pub position_at : ℕ → Stage → List Scope → Position
+abbrev pub position_at : ℕ → PathStage → List CallScope → Position
 position_at letters p scopes = record { scope = innermost scopes; here = p.here; upto = suc (stamp_of letters) }
 
 -- the positions from the one after so many letters on
-abbrev pub positions_along : Alphabet → ℕ → Stage → List Scope → List Letter → List Position
+abbrev pub positions_along : Alphabet → ℕ → PathStage → List CallScope → List Letter → List Position
 positions_along al letters p scopes [] = position_at letters p scopes ∷ []
 positions_along al letters p scopes (a ∷ w) =
     let after = (part_of al a p).after in
@@ -106,7 +106,7 @@ abbrev pub start_proc : Graph → ℕ
 start_proc g = unwrap_or (slice_get g.place_procs g.automaton.start) 0
 
 -- the frame at the start, of which no call is open
-abbrev pub start_scope : Graph → Scope
+abbrev pub start_scope : Graph → CallScope
 start_scope g = record { proc = start_proc g; own = 0; known = [] }
 
 -- the positions of a word

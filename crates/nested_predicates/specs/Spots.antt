@@ -4,10 +4,10 @@ use Rattle.nwa_base.specs.declared.letters.Kind.{Kind}
 use Rattle.nwa_base.specs.declared.letters.Kind.TheVariants.{Inside, Call, Back}
 use Rattle.nested_predicates.specs.declared.spots.Spot.{Spot}
 use Rattle.nested_predicates.specs.Stamps.{stamp_of}
-use Rattle.nested_predicates.specs.Positions.{Scope, Position}
+use Rattle.nested_predicates.specs.Positions.{CallScope, Position}
 
 -- of an open frame
-abbrev pub spot_of : Scope → Spot
+abbrev pub spot_of : CallScope → Spot
 spot_of s = record { proc = s.proc; own = s.own }
 
 abbrev pub spot_at : Position → Spot

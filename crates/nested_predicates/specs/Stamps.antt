@@ -6,7 +6,7 @@ use Rattle.letter_acts.specs.Frames.{Columns}
 use Rattle.letter_acts.specs.Acts.{PlainAct, inside_act, call_act, back_act, Alphabet, frame_of, act_of}
 use Rattle.letter_acts.specs.Invariant.{Graph, alphabet_of}
 use Rattle.frame_rows.specs.Rows.{bounds, types_of}
-use Rattle.path_rows.specs.Versions.{Stage, Part, rows_in, locals_of, old_part, part_of}
+use Rattle.path_rows.specs.Versions.{PathStage, Part, part_rows, local_columns, old_part, part_of}
 use Rattle.path_rows.specs.Paths.{repeated, start_frame, first_stage}
 
 -- of what letter n makes in the frame before it
@@ -19,16 +19,16 @@ callee_stamp n = suc (2 * n)
 
 -- the stamps of the rows that letter n makes, in order: a call's own rows count in the caller
 abbrev pub row_stamps : ℕ → Option PlainAct → Part → List ℕ
-row_stamps n None part = repeated (stamp_of n) (length (rows_in part))
-row_stamps n (Some (inside_act q written helpers rows)) part = repeated (stamp_of n) (length (rows_in part))
+row_stamps n None part = repeated (stamp_of n) (length (part_rows part))
+row_stamps n (Some (inside_act q written helpers rows)) part = repeated (stamp_of n) (length (part_rows part))
 row_stamps n (Some (call_act caller callee helpers rows)) part =
     repeated (stamp_of n) (length part.own) ++ repeated (callee_stamp n) (length (part.entries ++ part.bounds))
-row_stamps n (Some (back_act c targets)) part = repeated (stamp_of n) (length (rows_in part))
+row_stamps n (Some (back_act c targets)) part = repeated (stamp_of n) (length (part_rows part))
 
 -- the stamps of the columns that a call of a frame makes: its locals, helpers, which count in the caller, and old columns
 abbrev pub call_stamps : ℕ → Columns → ℕ → List ℕ
 call_stamps n callee helpers =
-    repeated (callee_stamp n) (length (locals_of callee)) ++
+    repeated (callee_stamp n) (length (local_columns callee)) ++
     (repeated (stamp_of n) helpers ++ repeated (callee_stamp n) (length (old_part callee)))
 
 -- the stamps of the columns that letter n makes, in order
@@ -43,21 +43,21 @@ pub record Stamps : Type 0 where
   pub rows : List ℕ
   pub columns : List ℕ
 
-abbrev pub led_by : List ℕ → List ℕ → Stamps → Stamps
-led_by rows columns rest = record { rows = rows ++ rest.rows; columns = columns ++ rest.columns }
+abbrev pub stamps_led_by : List ℕ → List ℕ → Stamps → Stamps
+stamps_led_by rows columns rest = record { rows = rows ++ rest.rows; columns = columns ++ rest.columns }
 
 -- those of the letters from number n on, from where the path has come to
-abbrev pub stamps_along : Alphabet → ℕ → Stage → List Letter → Stamps
+abbrev pub stamps_along : Alphabet → ℕ → PathStage → List Letter → Stamps
 stamps_along al n p [] = record { rows = []; columns = [] }
 stamps_along al n p (a ∷ w) =
     let part = part_of al a p in
-    led_by (row_stamps n (act_of al a) part) (column_stamps al n (act_of al a) part) (stamps_along al (suc n) part.after w)
+    stamps_led_by (row_stamps n (act_of al a) part) (column_stamps al n (act_of al a) part) (stamps_along al (suc n) part.after w)
 
 -- the stamps of a word's rows and columns
 abbrev pub stamps_of : Graph → List Letter → Stamps
 stamps_of g w =
     let frame = start_frame g in
-    led_by (repeated (stamp_of 1) (length (bounds 0 (types_of frame)))) (repeated (stamp_of 1) (length frame))
+    stamps_led_by (repeated (stamp_of 1) (length (bounds 0 (types_of frame)))) (repeated (stamp_of 1) (length frame))
     (stamps_along (alphabet_of g) 1 (first_stage frame) w)
 
 -- the stamp of a column; one that no letter made belongs to the start

@@ -11,7 +11,7 @@ use Rattle.nwa_base.specs.declared.letters.Letter.{Letter}
 use Rattle.letter_acts.specs.Frames.{Columns}
 use Rattle.letter_acts.specs.Acts.{Alphabet, act_of}
 use Rattle.letter_acts.specs.Invariant.{type_at}
-use Rattle.path_rows.specs.Versions.{Stage, part_of}
+use Rattle.path_rows.specs.Versions.{PathStage, part_of}
 use Rattle.nested_predicates.specs.declared.stamps.Stamps.{Stamps}
 use Rattle.nested_predicates.specs.Stamps.{row_stamps, column_stamps}
 use Rattle.nested_predicates.specs.Positions.{has_return}
@@ -37,8 +37,8 @@ is_bool_at frame c = is_boolean (type_at frame c)
 
 -- the stamps of what a letter makes, which has this number, are added, wherever the path has come to
 pub record ReadsLetter (al : Alphabet) (n : ℕ) (a : Letter) (old new : Stamps) : Type 0 where
-  pub rows : (p : Stage) → new.rows.items ≡ old.rows.items ++ row_stamps n (act_of al a) (part_of al a p)
-  pub columns : (p : Stage) → new.columns.items ≡ old.columns.items ++ column_stamps al n (act_of al a) (part_of al a p)
+  pub rows : (p : PathStage) → new.rows.items ≡ old.rows.items ++ row_stamps n (act_of al a) (part_of al a p)
+  pub columns : (p : PathStage) → new.columns.items ≡ old.columns.items ++ column_stamps al n (act_of al a) (part_of al a p)
 
 -- ---- returns
 

@@ -4,7 +4,7 @@ ghost use Rattle.std.specs.Prelude.{◌≡◌, Some, IsSome, filter, length};
 ghost use Rattle.letter_acts.specs.Acts.{plain_act, act_of};
 ghost use Rattle.letter_acts.specs.Frames.{is_local, is_variable};
 ghost use Rattle.letter_acts.specs.Invariant.{alphabet_of};
-ghost use Rattle.path_rows.specs.Versions.{locals_of, old_part};
+ghost use Rattle.path_rows.specs.Versions.{local_columns, old_part};
 ghost use Rattle.frame_rows.specs.Frames.{is_old};
 ghost use Rattle.nested_predicates.specs.Positions.{start_proc};
 ghost use Rattle.nested_predicates.specs.Walking.{is_bool, is_bool_at};
@@ -72,7 +72,7 @@ fn is_bool_at(frame: &[(Column, VarInfo)], column: u32) -> bool
 
 /// How many parameters, results and locals there are.
 pub fn local_count(frame: &[(Column, VarInfo)]) -> usize
-    ensures { result ≡ length (locals_of frame.now) }
+    ensures { result ≡ length (local_columns frame.now) }
 {
     frame.iter().filter(|column| is_local(column)).count()
 }
@@ -100,7 +100,7 @@ pub fn bool_count(frame: &[(Column, VarInfo)]) -> usize
 
 /// How many booleans among the parameters, results and locals.
 pub fn bool_local_count(frame: &[(Column, VarInfo)]) -> usize
-    ensures { result ≡ length (filter is_bool (locals_of frame.now)) }
+    ensures { result ≡ length (filter is_bool (local_columns frame.now)) }
 {
     frame
         .iter()

@@ -13,7 +13,7 @@ ghost use Rattle.nested_predicates.specs.Positions.{positions_of, known_columns,
 ghost use Rattle.nested_predicates.specs.Sums.{terms_from, inequality};
 ghost use Rattle.nested_predicates.specs.Runnings.{value_at, AreCounted, PartsFit, AddsParts, differences};
 ghost use Rattle.nested_predicates.specs.Bases.{AreMade, CanRead, IsNothing, Enters, first_columns, first_bound, node_of};
-ghost use Rattle.nested_predicates.specs.Fitting.{SumFits};
+ghost use Rattle.nested_predicates.specs.Fitting.{SumNumbersFit};
 ghost use Rattle.nested_predicates.specs.Layouts.{IsLayout, leaf_node, HasStamps};
 
 use crate::bases::{Base, enter, sum_in};
@@ -45,7 +45,7 @@ pub(crate) fn leaf_sums(
     requires leaf { Contradicts rows.now parts.now }
     requires stamped { HasStamps (record { rows = rows.now; stamps = stamps.now }) }
     ensures value { IfOk result (λ v. v.items ≡ map (leaf_node (record { rows = rows.now; stamps = stamps.now }) parts.now) (positions_of icfg.now path.now.word)) }
-    ensures past { result ≡ Err ItpFault.Past → AllByRecursion (SumFits (record { rows = rows.now; stamps = stamps.now }) parts.now) (positions_of icfg.now path.now.word) → ⊥ }
+    ensures past { result ≡ Err ItpFault.Past → AllByRecursion (SumNumbersFit (record { rows = rows.now; stamps = stamps.now }) parts.now) (positions_of icfg.now path.now.word) → ⊥ }
 {
     let mut pass = Pass::start(alloc, path.states())?;
     pass.read_word(alloc, icfg, path, layout, rows, stamps, parts)?;
@@ -105,7 +105,7 @@ impl Pass {
         requires frames { (x : Base) × IsNothing x × (self.old.frames.items ≡ x ∷ []) }
         requires sums { self.old.sums.items ≡ [] }
         ensures value { OnOk result (self.new.sums.items ≡ map (leaf_node (record { rows = rows.now; stamps = stamps.now }) parts.now) (positions_of icfg.now path.now.word)) }
-        ensures past { result ≡ Err ItpFault.Past → AllByRecursion (SumFits (record { rows = rows.now; stamps = stamps.now }) parts.now) (positions_of icfg.now path.now.word) → ⊥ }
+        ensures past { result ≡ Err ItpFault.Past → AllByRecursion (SumNumbersFit (record { rows = rows.now; stamps = stamps.now }) parts.now) (positions_of icfg.now path.now.word) → ⊥ }
     {
         let by_stamp = parts_by_stamp(alloc, stamps, parts)?;
         let letters = path.word().letters();

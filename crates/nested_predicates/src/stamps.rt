@@ -4,7 +4,7 @@ ghost use Rattle.std.specs.Prelude.{◌≡◌, ◌<◌, ◌^◌, ◌*◌, ◌++�
 ghost use Rattle.letter_acts.specs.Acts.{act_of};
 ghost use Rattle.letter_acts.specs.Invariant.{alphabet_of};
 ghost use Rattle.path_rows.specs.Paths.{repeated};
-ghost use Rattle.path_rows.specs.Versions.{locals_of, old_part};
+ghost use Rattle.path_rows.specs.Versions.{local_columns, old_part};
 ghost use Rattle.nested_predicates.specs.Walking.{is_bool};
 
 use crate::acts::{
@@ -76,6 +76,7 @@ impl Stamps {
                 written,
                 helpers,
                 rows,
+                ..
             } => {
                 let frame = icfg.columns(*proc);
                 self.read_inside(frame, written, *helpers, rows.len(), 2 * number)
@@ -117,8 +118,8 @@ impl Stamps {
         stamp: u64,
     ) -> Result<(), AllocError>
         requires { stamp < 2 ^ 63 }
-        ensures rows { OnOk result (self.new.rows.items ≡ (((self.old.rows.items ++ repeated stamp rows) ++ repeated (suc stamp) (length (filter is_variable callee.now))) ++ (repeated (suc stamp) (length (filter is_bool (locals_of callee.now))) ++ repeated (suc stamp) (length (filter is_bool (locals_of callee.now))))) ++ (repeated (suc stamp) (length (filter is_bool (old_part callee.now))) ++ repeated (suc stamp) (length (filter is_bool (old_part callee.now))))) }
-        ensures columns { OnOk result (self.new.columns.items ≡ ((self.old.columns.items ++ repeated (suc stamp) (length (locals_of callee.now))) ++ repeated stamp helpers) ++ repeated (suc stamp) (length (old_part callee.now))) }
+        ensures rows { OnOk result (self.new.rows.items ≡ (((self.old.rows.items ++ repeated stamp rows) ++ repeated (suc stamp) (length (filter is_variable callee.now))) ++ (repeated (suc stamp) (length (filter is_bool (local_columns callee.now))) ++ repeated (suc stamp) (length (filter is_bool (local_columns callee.now))))) ++ (repeated (suc stamp) (length (filter is_bool (old_part callee.now))) ++ repeated (suc stamp) (length (filter is_bool (old_part callee.now))))) }
+        ensures columns { OnOk result (self.new.columns.items ≡ ((self.old.columns.items ++ repeated (suc stamp) (length (local_columns callee.now))) ++ repeated stamp helpers) ++ repeated (suc stamp) (length (old_part callee.now))) }
     {
         let inner = stamp + 1;
         add_times(&mut self.rows, stamp, rows)?;

@@ -6,9 +6,9 @@ use Rattle.math_facts.specs.Terms.{coefficient}
 use Rattle.lin_rows.specs.Rows.{LinearRow}
 use Rattle.lin_rows.specs.Negating.{below_opposite}
 use Rattle.frame_rows.specs.Rows.{columns_from, renamed}
-use Rattle.nested_predicates.specs.Positions.{Scope}
+use Rattle.nested_predicates.specs.Positions.{CallScope}
 use Rattle.nested_predicates.specs.Sums.{Branch, column_upto, bound_upto, known_sum, bound_at}
-use Rattle.nested_refutations.specs.Refutations.{Claim, Spot, Role, spare, branch_row, View, Goes, multiplier, is_used}
+use Rattle.nested_refutations.specs.Refutations.{Claim, TreeSpot, Role, spare, branch_row, View, Gathered, multiplier, is_used}
 use Rattle.nested_refutations.specs.Numbers.{branch_rows}
 use Rattle.nested_refutations.proofs.RowsLaws.{AllPairs}
 use Rattle.nested_refutations.proofs.WayLaws.{others, is_own, own_sum}
@@ -49,7 +49,7 @@ rows_add v val number other k (x ∷ rows) (y ∷ block) (s ∷ now) h p =
 
 -- What is known of an inside letter's leaf: the sums at the two positions, which have one scope, and what the rows of the letter and
 -- own cuts add, which is the difference of the word's sums up to the two stamps.
-pub record InsideLeaf (v : View) (root : Spot) (first : Goes) (more : List LinearRow) (late : List ℕ) (n : ℕ) (b : Branch) (parts : List (ℕ × ℤ)) : Type 0 where
+pub record InsideLeaf (v : View) (root : TreeSpot) (first : Gathered) (more : List LinearRow) (late : List ℕ) (n : ℕ) (b : Branch) (parts : List (ℕ × ℤ)) : Type 0 where
   pub before : Claim
   pub after : Claim
   pub claims : v.claims ≡ before ∷ after ∷ []
@@ -101,7 +101,7 @@ below_or (suc x) (suc n) = by_rest (below_or x n)
 used_true : (v : View) (i : ℕ) → v.returns ≡ false → is_used v i ≡ true
 used_true v i e = rw e refl
 
-pub inside_adds : (v : View) (root : Spot) (first : Goes) (more : List LinearRow) (late : List ℕ) (n : ℕ) (b : Branch) (parts : List (ℕ × ℤ)) → InsideLeaf v root first more late n b parts →
+pub inside_adds : (v : View) (root : TreeSpot) (first : Gathered) (more : List LinearRow) (late : List ℕ) (n : ℕ) (b : Branch) (parts : List (ℕ × ℤ)) → InsideLeaf v root first more late n b parts →
     AddsUp v root first more late n b parts
 inside_adds v root first more late n b parts h = record {
   columns = λ x. by_width x (below_or x h.width);
@@ -110,7 +110,7 @@ inside_adds v root first more late n b parts h = record {
       let u0 : is_used v 0 ≡ true = used_true v 0 h.returns in
       let u1 : is_used v 1 ≡ true = used_true v 1 h.returns in
       let s : bounds_added v b parts 0 v.claims ≡ bound_at b parts h.before.position +ℤ below_opposite (bound_at b parts h.after.position) = two_bounds u0 u1 in
-      let o : bound_upto b parts h.before.position.scope.own ≡ bound_upto b parts h.after.position.scope.own = ap (λ (c : Scope). bound_upto b parts c.own) h.scope in
+      let o : bound_upto b parts h.before.position.scope.own ≡ bound_upto b parts h.after.position.scope.own = ap (λ (c : CallScope). bound_upto b parts c.own) h.scope in
       omega (arith, ints, a, s, o));
 }
   where
@@ -148,7 +148,7 @@ inside_adds v root first more late n b parts h = record {
         ap (λ (y : ℕ). claim_sum h.after b parts y) (sym k.hits) ∙ claim_at h.after b parts h.told_after k.column k.below ∙
         ap (λ (y : ℕ). column_upto b parts h.after.position.upto y -ℤ known_sum b parts h.after.position.scope.own (known_in h.after.position.scope.known k.column))
         (sym (h.there k.column k.below) ∙ ap h.version k.hits) ∙
-        ap (λ (c : Scope). column_upto b parts h.after.position.upto (h.version x) -ℤ known_sum b parts c.own (known_in c.known k.column)) (sym h.scope)
+        ap (λ (c : CallScope). column_upto b parts h.after.position.upto (h.version x) -ℤ known_sum b parts c.own (known_in c.known k.column)) (sym h.scope)
 
     column_adds : (x : ℕ) → x < h.width → (x < length h.before.position.here) ⊎ (length h.before.position.here ≤ x) →
         IsHit (length h.after.position.here) h.after.column x ⊎ ((j : ℕ) → j < length h.after.position.here → h.after.column j ≡ x → ⊥) →

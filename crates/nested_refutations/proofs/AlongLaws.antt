@@ -12,14 +12,14 @@ use Rattle.nwa_base.specs.Acceptance.{Accepts, AcceptsFrom, Follows}
 use Rattle.letter_acts.specs.Frames.{Columns, is_old_column}
 use Rattle.letter_acts.specs.Acts.{PlainAct, Alphabet, frame_of, act_of}
 use Rattle.letter_acts.specs.Invariant.{Graph, IsGraph, alphabet_of, IsPlaceOf, MayTarget}
-use Rattle.path_rows.specs.Versions.{Part, rows_in, part_of}
+use Rattle.path_rows.specs.Versions.{Part, part_rows, part_of}
 use Rattle.frame_rows.specs.Rows.{columns_from}
 use Rattle.path_rows.specs.Paths.{start_frame, first_stage}
 use Rattle.path_rows.specs.Drafts.{CanGoOn}
 use Rattle.path_rows.proofs.DifferLemmas.{columns_distinct}
 use Rattle.path_rows.proofs.EdgeLemmas.{inside_acts, call_acts, back_acts}
 use Rattle.path_rows.proofs.GoingLemmas.{goes_next}
-use Rattle.nested_predicates.specs.Positions.{Scope, returned_by, has_return, if_constant, known_at, known_columns, callee_scope, left, callee_of, scopes_after, innermost, start_scope}
+use Rattle.nested_predicates.specs.Positions.{CallScope, returned_by, has_return, if_constant_version, known_at, known_columns, callee_scope, left_scopes, callee_of, scopes_after, innermost, start_scope}
 use Rattle.nested_refutations.specs.Numbers.{bounds_in, Reading, read_on}
 use Rattle.nested_refutations.proofs.NamesLaws.{names_weaker}
 use Rattle.nested_refutations.proofs.LiveLaws.{Known, WordNames, letter_named}
@@ -46,9 +46,9 @@ abbrev pub KnowsWell : Columns → List (Option ℕ) → Type 0
 KnowsWell frame known = (j : ℕ) → MayTarget frame j → known_in known j ≡ None
 
 unknown_at : (c : Column) (constant : Bool) (v : ℕ) (before : List ℕ) → constant ≡ false → is_old_column c ≡ false → known_at c constant v before ≡ None
-unknown_at (Global g) constant v before e f = ap (λ (z : Bool). if_constant z v) e
+unknown_at (Global g) constant v before e f = ap (λ (z : Bool). if_constant_version z v) e
 unknown_at (Old g) constant v before e f = absurd (cc)
-unknown_at (Local l) constant v before e f = ap (λ (z : Bool). if_constant z v) e
+unknown_at (Local l) constant v before e f = ap (λ (z : Bool). if_constant_version z v) e
 
 pub entered_knows : (frame : Columns) (entry before : List ℕ) → KnowsWell frame (known_columns frame entry before)
 entered_knows [] entry before j h = refl
@@ -57,7 +57,7 @@ entered_knows (c ∷ frame) (v ∷ entry) before zero h = unknown_at c.0 c.1.con
 entered_knows (c ∷ frame) (v ∷ entry) before (suc j) h = entered_knows frame entry before j h
 
 -- the scopes of the open calls, with the places before these calls
-abbrev pub ScopesFit : Graph → List ℕ → ℕ → List Scope → Type 0
+abbrev pub ScopesFit : Graph → List ℕ → ℕ → List CallScope → Type 0
 ScopesFit g places q [] = ⊥
 ScopesFit g [] q (s ∷ scopes) = IsPlaceOf g.place_procs s.proc q × KnowsWell (frame_of (alphabet_of g) s.proc) s.known × (scopes ≡ [])
 ScopesFit g (p ∷ places) q (s ∷ scopes) = IsPlaceOf g.place_procs s.proc q × KnowsWell (frame_of (alphabet_of g) s.proc) s.known × ScopesFit g places p scopes
@@ -66,7 +66,7 @@ pub same_proc : (procs : List ℕ) (q a b : ℕ) → IsPlaceOf procs a q → IsP
 same_proc procs q a b x y = let e : Some a ≡ Some b = sym x ∙ y in cc
 
 -- from one place to another of the same procedure
-scopes_moved : (g : Graph) (places : List ℕ) (q e proc : ℕ) (scopes : List Scope) → IsPlaceOf g.place_procs proc q → IsPlaceOf g.place_procs proc e → ScopesFit g places q scopes → ScopesFit g places e scopes
+scopes_moved : (g : Graph) (places : List ℕ) (q e proc : ℕ) (scopes : List CallScope) → IsPlaceOf g.place_procs proc q → IsPlaceOf g.place_procs proc e → ScopesFit g places q scopes → ScopesFit g places e scopes
 scopes_moved g places q e proc [] a b h = absurd h
 scopes_moved g [] q e proc (s ∷ scopes) a b h = (subst (λ (r : ℕ). IsPlaceOf g.place_procs r e) (same_proc g.place_procs q proc s.proc a h.0) b, h.1, h.2)
 scopes_moved g (p ∷ places) q e proc (s ∷ scopes) a b h = (subst (λ (r : ℕ). IsPlaceOf g.place_procs r e) (same_proc g.place_procs q proc s.proc a h.0) b, h.1, h.2)
@@ -74,15 +74,15 @@ scopes_moved g (p ∷ places) q e proc (s ∷ scopes) a b h = (subst (λ (r : �
 -- ---- which of them are of calls that return
 
 -- each of the scopes, of which k are further in, is none of a call that returns, unless the test says that it does
-abbrev pub ReturnWhere : (ℕ → Bool) → ℕ → List Scope → Type 0
+abbrev pub ReturnWhere : (ℕ → Bool) → ℕ → List CallScope → Type 0
 ReturnWhere test k [] = Unit {0}
 ReturnWhere test k (s ∷ scopes) = ((s.own ≡ 0) ⊎ (test k ≡ true)) × ReturnWhere test (suc k) scopes
 
-further_in : (test : ℕ → Bool) (k : ℕ) (scopes : List Scope) → ReturnWhere (λ n. test (suc n)) k scopes → ReturnWhere test (suc k) scopes
+further_in : (test : ℕ → Bool) (k : ℕ) (scopes : List CallScope) → ReturnWhere (λ n. test (suc n)) k scopes → ReturnWhere test (suc k) scopes
 further_in test k [] h = tt
 further_in test k (s ∷ scopes) h = (h.0, further_in test (suc k) scopes h.1)
 
-further_out : (test : ℕ → Bool) (k : ℕ) (scopes : List Scope) → ReturnWhere (λ n. returned_by kinds.Back n test) (suc k) scopes → ReturnWhere test k scopes
+further_out : (test : ℕ → Bool) (k : ℕ) (scopes : List CallScope) → ReturnWhere (λ n. returned_by kinds.Back n test) (suc k) scopes → ReturnWhere test k scopes
 further_out test k [] h = tt
 further_out test k (s ∷ scopes) h = (h.0, further_out test (suc k) scopes h.1)
 
@@ -90,7 +90,7 @@ own_of_call : (b : Bool) (n : ℕ) → ((if b then n else 0) ≡ 0) ⊎ (b ≡ t
 own_of_call true n = inr refl
 own_of_call false n = inl refl
 
-returns_after : (kind : Kind) (al : Alphabet) (n : ℕ) (act : Option PlainAct) (rest : List Letter) (entry before : List ℕ) (scopes : List Scope) →
+returns_after : (kind : Kind) (al : Alphabet) (n : ℕ) (act : Option PlainAct) (rest : List Letter) (entry before : List ℕ) (scopes : List CallScope) →
     ReturnWhere (λ k. returned_by kind k (λ m. has_return m rest)) 0 scopes → ReturnWhere (λ k. has_return k rest) 0 (scopes_after al n kind act rest entry before scopes)
 returns_after kinds.Inside al n act rest entry before scopes h = h
 returns_after kinds.Call al n act rest entry before scopes h = (own_of_call (has_return 0 rest) (2 * n), further_in (λ k. has_return k rest) 0 scopes h)
@@ -109,7 +109,7 @@ return_further (a ∷ w) n h = by_kind a.kind n h (return_further w)
     by_kind kinds.Back (suc n) h f = f n h
 
 -- before a call that does not return no call is open that does
-pub no_own : (rest : List Letter) (scopes : List Scope) → ReturnWhere (λ k. returned_by kinds.Call k (λ m. has_return m rest)) 0 scopes → has_return 0 rest ≡ false → (innermost scopes).own ≡ 0
+pub no_own : (rest : List Letter) (scopes : List CallScope) → ReturnWhere (λ k. returned_by kinds.Call k (λ m. has_return m rest)) 0 scopes → has_return 0 rest ≡ false → (innermost scopes).own ≡ 0
 no_own rest [] h e = refl
 no_own rest (s ∷ scopes) h e = by_head h.0
   where
@@ -128,11 +128,11 @@ pub record Placed (g : Graph) (r : Reading) (rest : List Letter) : Type 0 where
   pub returns : ReturnWhere (λ k. has_return k rest) 0 r.scopes
   pub begun : (r ≡ first_reading g) ⊎ ((0 < r.letters) × (from ≡ 0 → ⊥))
 
-owns_later : (n : ℕ) (scopes : List Scope) → AllByRecursion (λ s. s.own ≤ 2 * n) scopes → AllByRecursion (λ s. s.own ≤ 2 * suc n) scopes
+owns_later : (n : ℕ) (scopes : List CallScope) → AllByRecursion (λ s. s.own ≤ 2 * n) scopes → AllByRecursion (λ s. s.own ≤ 2 * suc n) scopes
 owns_later n [] h = tt
 owns_later n (s ∷ scopes) h = let l = h.0 in (omega (arith, l), owns_later n scopes h.1)
 
-owns_left : (P : Scope → Type 0) (scopes : List Scope) → AllByRecursion P scopes → AllByRecursion P (left scopes)
+owns_left : (P : CallScope → Type 0) (scopes : List CallScope) → AllByRecursion P scopes → AllByRecursion P (left_scopes scopes)
 owns_left P [] h = tt
 owns_left P (s ∷ scopes) h = h.1
 
@@ -187,14 +187,14 @@ placed_next g ok r a rest h = by_kind a.kind refl h.places h.scopes h.accepts.1
           from = h.accepts.0;
           accepts = f.1;
           scopes = subst (λ (d : Kind). ScopesFit g places h.accepts.0 (scopes_after al (suc r.letters) d (act_of al a) rest entry r.stage.here r.scopes)) (sym k)
-              (scopes_moved g places p h.accepts.0 x.known.caller (left r.scopes) x.known.before x.known.ends (without_first p places r.scopes s));
+              (scopes_moved g places p h.accepts.0 x.known.caller (left_scopes r.scopes) x.known.before x.known.ends (without_first p places r.scopes s));
           owns = subst (λ (d : Kind). AllByRecursion (λ s. s.own ≤ 2 * suc r.letters) (scopes_after al (suc r.letters) d (act_of al a) rest entry r.stage.here r.scopes)) (sym k)
               (owns_left (λ s. s.own ≤ 2 * suc r.letters) r.scopes (owns_later r.letters r.scopes h.owns));
           returns = returns_after a.kind al (suc r.letters) (act_of al a) rest entry r.stage.here r.scopes h.returns;
           begun = inr (omega arith, x.to);
         }
       where
-        without_first : (p : ℕ) (places : List ℕ) (scopes : List Scope) → ScopesFit g (p ∷ places) h.from scopes → ScopesFit g places p (left scopes)
+        without_first : (p : ℕ) (places : List ℕ) (scopes : List CallScope) → ScopesFit g (p ∷ places) h.from scopes → ScopesFit g places p (left_scopes scopes)
         without_first p places [] s = absurd s
         without_first p places (c ∷ scopes) s = s.2
 
@@ -214,7 +214,7 @@ along_next g ok globals w r a rest h =
     let grows : r.stage.made ≤ part.after.made = h.names.0.1 in
     record {
       read = read_next g w r a rest h.read
-          (names_weaker (Known r.stage part.after.made) (λ x. x < part.after.made) (λ x k. known x grows k) (rows_in part) (letter_named al (act_of al a) r.stage h.names.0.0)) grows;
+          (names_weaker (Known r.stage part.after.made) (λ x. x < part.after.made) (λ x k. known x grows k) (part_rows part) (letter_named al (act_of al a) r.stage h.names.0.0)) grows;
       goes = goes_next g ok r.stage a rest h.goes;
       placed = placed_next g ok r a rest h.placed;
       names = h.names.1;

@@ -12,7 +12,7 @@ use Rattle.lin_rows.specs.Combinations.{row_at, Multiplies, IsPart, Contradicts}
 use Rattle.lin_rows.proofs.Ascending.{coefficient_first, coefficient_rest}
 use Rattle.farkas_check.specs.Trees.{Tree, leaf_tree, cut_tree, cases_tree}
 use Rattle.nested_predicates.specs.Sums.{Branch, terms_from, coefficients_at}
-use Rattle.nested_refutations.specs.Refutations.{Claim, Spot, Role, spare, atom_at, branch_row, target_tie, source_tie, opposite_tie, View, sums_of, multiplier, stands, is_again, multipliers}
+use Rattle.nested_refutations.specs.Refutations.{Claim, TreeSpot, Role, spare, atom_at, branch_row, target_tie, source_tie, opposite_tie, View, sums_of, multiplier, stands, is_again, multipliers}
 use Rattle.nested_refutations.proofs.SpotLaws.{spot, one_node}
 use Rattle.nested_refutations.proofs.RowsLaws.{AllPairs, claim_row}
 use Rattle.nested_refutations.proofs.SumLaws.{weighed, MayTake}
@@ -100,12 +100,12 @@ parts_in (cut_tree c k t u) = []
 parts_in (cases_tree ts) = []
 
 -- the row of the atom of a claim at the leaf
-row_here : (v : View) (root : Spot) (i n : ℕ) (b : Branch) (parts : List (ℕ × ℤ)) (row : LinearRow) → Stands v root (spot n b (leaf_tree parts)) → (h : AtomFits v root i n row) →
+row_here : (v : View) (root : TreeSpot) (i n : ℕ) (b : Branch) (parts : List (ℕ × ℤ)) (row : LinearRow) → Stands v root (spot n b (leaf_tree parts)) → (h : AtomFits v root i n row) →
     row ≡ tightened (claim_row h.claim b parts)
 row_here v root i n b parts row st h =
     let e : spot n h.is_atom.branch (leaf_tree h.is_atom.parts) ≡ spot n b (leaf_tree parts) =
     one_node v.columns root.node root.branch root.tree (spot n h.is_atom.branch (leaf_tree h.is_atom.parts)) (spot n b (leaf_tree parts)) h.is_atom.stands st refl in
-    h.row_is ∙ ap tightened (h.is_atom.row_is ∙ ap (λ (s : Spot). claim_row h.claim s.branch (parts_in s.tree)) e)
+    h.row_is ∙ ap tightened (h.is_atom.row_is ∙ ap (λ (s : TreeSpot). claim_row h.claim s.branch (parts_in s.tree)) e)
 
 -- with the atom of claim i at leaf m in front
 abbrev with_atom : ℕ → ℕ → ℕ → List Role → ℕ → Bool
@@ -129,7 +129,7 @@ zero_either : (z : Bool) (k : ℤ) → k ≡ pos 0 → (if z then pos 0 else k) 
 zero_either true k e = refl
 zero_either false k e = e
 
-atom_split : (v : View) (root : Spot) (n : ℕ) (b : Branch) (parts : List (ℕ × ℤ)) → Stands v root (spot n b (leaf_tree parts)) → (number : LinearRow → ℤ) (x : LinearRow) (rows : List LinearRow)
+atom_split : (v : View) (root : TreeSpot) (n : ℕ) (b : Branch) (parts : List (ℕ × ℤ)) → Stands v root (spot n b (leaf_tree parts)) → (number : LinearRow → ℤ) (x : LinearRow) (rows : List LinearRow)
     (i m : ℕ) (roles : List Role) → ((m ≡ n) ⊎ (m ≡ n → ⊥)) → AtomFits v root i m x →
     weighed number (multipliers v n b parts roles) rows ≡ others (multiplier v n b parts) number roles rows +ℤ atoms_sum b parts number (λ j. stands roles j n) 0 v.claims →
     ((if stands roles i m then pos 0 else multiplier v n b parts (atom_at i m)) *ℤ number x) +ℤ weighed number (multipliers v n b parts roles) rows ≡
@@ -170,7 +170,7 @@ atom_split v root n b parts st number x rows i m roles (inl same) fits r = by_te
         omega (arith, ints, a, mx, w, r)
 
 -- the rows add up to those that are no atoms, and each atom that stands once
-pub weights_split : (v : View) (root : Spot) (n : ℕ) (b : Branch) (parts : List (ℕ × ℤ)) → Stands v root (spot n b (leaf_tree parts)) → (number : LinearRow → ℤ) (rows : List LinearRow)
+pub weights_split : (v : View) (root : TreeSpot) (n : ℕ) (b : Branch) (parts : List (ℕ × ℤ)) → Stands v root (spot n b (leaf_tree parts)) → (number : LinearRow → ℤ) (rows : List LinearRow)
     (bound : List LinearRow) (roles : List Role) → AllPairs (RoleFits v root bound) roles rows →
     weighed number (multipliers v n b parts roles) rows ≡ others (multiplier v n b parts) number roles rows +ℤ atoms_sum b parts number (λ i. stands roles i n) 0 v.claims
 weights_split v root n b parts st number [] bound [] h = let z : atoms_sum b parts number (λ i. false) 0 v.claims ≡ pos 0 = none_stand 0 v.claims in omega (arith, ints, z)
@@ -230,11 +230,11 @@ either_kind false x y e f = f
 pub claim_kind : (c : Claim) (b : Branch) (parts : List (ℕ × ℤ)) → (claim_row c b parts).kind ≡ Le
 claim_kind c b parts = either_kind c.is_denied _ _ refl refl
 
-atom_kind : (v : View) (root : Spot) (i n : ℕ) (row : LinearRow) → AtomFits v root i n row → row.kind ≡ Le
+atom_kind : (v : View) (root : TreeSpot) (i n : ℕ) (row : LinearRow) → AtomFits v root i n row → row.kind ≡ Le
 atom_kind v root i n row h =
     ap (λ (x : LinearRow). x.kind) h.row_is ∙ tightened_le h.given (ap (λ (x : LinearRow). x.kind) h.is_atom.row_is ∙ claim_kind h.claim h.is_atom.branch h.is_atom.parts)
 
-role_may : (v : View) (root : Spot) (n : ℕ) (b : Branch) (parts : List (ℕ × ℤ)) → Contradicts b.rows parts → (role : Role) (row : LinearRow) → RoleFits v root b.rows role row →
+role_may : (v : View) (root : TreeSpot) (n : ℕ) (b : Branch) (parts : List (ℕ × ℤ)) → Contradicts b.rows parts → (role : Role) (row : LinearRow) → RoleFits v root b.rows role row →
     MayTake (multiplier v n b parts role) row
 role_may v root n b parts con spare row h = inl refl
 role_may v root n b parts con (atom_at i m) row h = by_test (nat_eq m n)
@@ -247,7 +247,7 @@ role_may v root n b parts con (target_tie c) row h = may_eq (multiplier v n b pa
 role_may v root n b parts con (source_tie c) row h = may_eq (multiplier v n b parts (source_tie c)) row h
 role_may v root n b parts con (opposite_tie c) row h = may_eq (multiplier v n b parts (opposite_tie c)) row h
 
-pub all_may : (v : View) (root : Spot) (n : ℕ) (b : Branch) (parts : List (ℕ × ℤ)) → Contradicts b.rows parts → (roles : List Role) (rows : List LinearRow) → AllPairs (RoleFits v root b.rows) roles rows →
+pub all_may : (v : View) (root : TreeSpot) (n : ℕ) (b : Branch) (parts : List (ℕ × ℤ)) → Contradicts b.rows parts → (roles : List Role) (rows : List LinearRow) → AllPairs (RoleFits v root b.rows) roles rows →
     AllPairs MayTake (multipliers v n b parts roles) rows
 all_may v root n b parts con [] [] h = tt
 all_may v root n b parts con [] (x ∷ rows) h = absurd h

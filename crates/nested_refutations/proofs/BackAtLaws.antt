@@ -7,7 +7,7 @@ use Rattle.nwa_base.specs.declared.letters.Letter.{Letter}
 use Rattle.nwa_base.specs.Acceptance.{AcceptsFrom, Follows}
 use Rattle.lin_rows.specs.Rows.{LinearRow}
 use Rattle.farkas_check.specs.Trees.{Tree}
-use Rattle.letter_acts.specs.Frames.{Columns, constants_of, olds_of, results_of, variables_of}
+use Rattle.letter_acts.specs.Frames.{Columns, constants_of, olds_of, result_columns, variables_of}
 use Rattle.letter_acts.specs.Acts.{PlainAct, call_act, back_act, Alphabet, frame_of, act_of}
 use Rattle.letter_acts.specs.Reading.{taken, is_listed}
 use Rattle.letter_acts.specs.Invariant.{Graph, IsGraph, alphabet_of, BackIsActed, written_by}
@@ -20,9 +20,9 @@ use Rattle.triple_rows.specs.Predicates.{Formula}
 use Rattle.triple_rows.specs.Systems.{PlainSystem, only_rows, all_systems, said, denied, after_column, call_column, back_system}
 use Rattle.frame_rows.specs.Rows.{equal_row, renamed, types_of, types_at, bounds}
 use Rattle.nested_predicates.specs.Stamps.{stamp_of}
-use Rattle.nested_predicates.specs.Positions.{Scope, has_return, returned_by, left, scopes_after, Position, innermost}
+use Rattle.nested_predicates.specs.Positions.{CallScope, has_return, returned_by, left_scopes, scopes_after, Position, innermost}
 use Rattle.nested_refutations.specs.Refutations.{rows_in}
-use Rattle.nested_refutations.specs.Numbers.{Step, back_step, OpenCall, Reading, here, read_on}
+use Rattle.nested_refutations.specs.Numbers.{Step, back_step, OpenCall, Reading, position_here, read_on}
 use Rattle.nested_refutations.proofs.MovingLaws.{both_rows}
 use Rattle.nested_refutations.proofs.AlongLaws.{same_proc, Along}
 use Rattle.nested_refutations.proofs.CallAtLaws.{entry_of}
@@ -35,10 +35,10 @@ pub record BackAt (g : Graph) (globals : ℕ) (w : List Letter) (r : Reading) (a
   pub kind : a.kind ≡ kinds.Back
   pub place : ℕ
   pub call : OpenCall
-  pub scope : Scope
+  pub scope : CallScope
   pub before : List ℕ
   pub calls : List OpenCall
-  pub scopes : List Scope
+  pub scopes : List CallScope
   pub saved : List (List ℕ)
   pub calls_are : r.calls ≡ call ∷ calls
   pub scopes_are : r.scopes ≡ scope ∷ scopes
@@ -71,7 +71,7 @@ back_at g ok globals w r a rest h t n targets e =
         let proc : x.known.callee ≡ callee = cc in
         subst (λ (m : ℕ). AreVersions r.stage.made (frame_of (alphabet_of g) m) r.stage.here) (same_proc g.place_procs from v.proc x.known.callee v.place x.exit ∙ proc) v.versions
 
-    by_places : a.kind ≡ kinds.Back → slice_get g.acts a.id ≡ Some (back_act n targets) → (places : List ℕ) (calls : List OpenCall) (scopes : List Scope) (saved : List (List ℕ)) →
+    by_places : a.kind ≡ kinds.Back → slice_get g.acts a.id ≡ Some (back_act n targets) → (places : List ℕ) (calls : List OpenCall) (scopes : List CallScope) (saved : List (List ℕ)) →
         r.calls ≡ calls → r.scopes ≡ scopes → r.stage.saved ≡ saved → StackFits g globals w (λ k. has_return k (a ∷ rest)) 0 places calls scopes saved r.stage.here →
         Follows g.automaton kinds.Back a places t.from t.accepts.0 (λ st. AcceptsFrom g.automaton st t.accepts.0 rest) → BackAt g globals w r a rest targets
     by_places k act [] calls scopes saved e1 e2 e3 s f = absurd f
@@ -124,14 +124,14 @@ back_at g ok globals w r a rest h t n targets e =
 -- ---- its triple
 
 -- the position after it
-abbrev pub back_to : Graph → Reading → List Scope → ℕ → ℕ → List ℕ → List ℕ → Position
+abbrev pub back_to : Graph → Reading → List CallScope → ℕ → ℕ → List ℕ → List ℕ → Position
 back_to g r scopes caller callee targets before = record {
   scope = innermost scopes;
   here = returned (frame_of (alphabet_of g) caller) (frame_of (alphabet_of g) callee) targets r.stage.here before;
   upto = suc (stamp_of (suc r.letters));
 }
 
-abbrev position_with : ℕ → Scope → List ℕ → Position
+abbrev position_with : ℕ → CallScope → List ℕ → Position
 position_with upto s l = record { scope = s; here = l; upto = upto }
 
 pub back_part_is : (g : Graph) (globals : ℕ) (w : List Letter) (r : Reading) (a : Letter) (rest : List Letter) (targets : List ℕ) (h : BackAt g globals w r a rest targets) →
@@ -143,19 +143,19 @@ back_part_is g globals w r a rest targets h =
     ap (back_part (frame_of al h.open_at.caller) (frame_of al h.open_at.callee) targets r.stage.made r.stage.here) h.saved_are
 
 pub back_to_is : (g : Graph) (globals : ℕ) (w : List Letter) (r : Reading) (a : Letter) (rest : List Letter) (targets : List ℕ) (h : BackAt g globals w r a rest targets) →
-    here (read_on (alphabet_of g) a rest r) ≡ back_to g r h.scopes h.open_at.caller h.open_at.callee targets h.before
+    position_here (read_on (alphabet_of g) a rest r) ≡ back_to g r h.scopes h.open_at.caller h.open_at.callee targets h.before
 back_to_is g globals w r a rest targets h =
     let al : Alphabet = alphabet_of g in
     let k : ℕ = suc r.letters in
     let after : List ℕ = returned (frame_of al h.open_at.caller) (frame_of al h.open_at.callee) targets r.stage.here h.before in
     ap (λ (x : Part). position_with (suc (stamp_of k)) (innermost (scopes_after al k a.kind (act_of al a) rest x.after.here r.stage.here r.scopes)) x.after.here) (back_part_is g globals w r a rest targets h) ∙
     ap (λ (d : Kind). position_with (suc (stamp_of k)) (innermost (scopes_after al k d (act_of al a) rest after r.stage.here r.scopes)) after) h.kind ∙
-    ap (λ (s : List Scope). position_with (suc (stamp_of k)) (innermost (left s)) after) h.scopes_are
+    ap (λ (s : List CallScope). position_with (suc (stamp_of k)) (innermost (left_scopes s)) after) h.scopes_are
 
 -- the step of the letter
-abbrev pub back_step_at : Graph → List Letter → Tree → Reading → Letter → OpenCall → List Scope → ℕ → ℕ → ℕ → List LinearRow → List ℕ → List ℕ → Step
+abbrev pub back_step_at : Graph → List Letter → Tree → Reading → Letter → OpenCall → List CallScope → ℕ → ℕ → ℕ → List LinearRow → List ℕ → List ℕ → Step
 back_step_at g w t r a call scopes caller callee helpers rows targets before =
-    back_step g w t a.id call (here r) (back_to g r scopes caller callee targets before) (frame_of (alphabet_of g) caller) (frame_of (alphabet_of g) callee) helpers rows targets
+    back_step g w t a.id call (position_here r) (back_to g r scopes caller callee targets before) (frame_of (alphabet_of g) caller) (frame_of (alphabet_of g) callee) helpers rows targets
 
 eleven_rows : (a b c d e f h i j k l : PlainSystem) → rows_in (all_systems (a ∷ b ∷ c ∷ d ∷ e ∷ f ∷ h ∷ i ∷ j ∷ k ∷ l ∷ [])) ≡
     rows_in a ++ (rows_in b ++ (rows_in c ++ (rows_in d ++ (rows_in e ++ (rows_in f ++ (rows_in h ++ (rows_in i ++ (rows_in j ++ (rows_in k ++ rows_in l)))))))))
@@ -177,7 +177,7 @@ pub back_system_rows : (caller callee : Columns) (rows : List LinearRow) (target
     rows_in (said (λ c. c) exit) ++ (rows_in (said (λ c. length callee + c) before) ++ (map (λ c. equal_row c (length callee + c)) (constants_of callee) ++
     (map (λ o. equal_row o.0 (length callee + o.1)) (olds_of callee) ++ (map (renamed (call_column (length callee) (length caller) (length (written_by caller targets)))) rows ++
     (map (λ j. equal_row (after_column (length callee) (length callee + length caller) (written_by caller targets) j) j) (filter (λ j. not (is_listed targets j)) (variables_of caller)) ++
-    (map (λ p. equal_row (after_column (length callee) (length callee + length caller) (written_by caller targets) p.0) p.1) (taken targets (results_of callee)) ++
+    (map (λ p. equal_row (after_column (length callee) (length callee + length caller) (written_by caller targets) p.0) p.1) (taken targets (result_columns callee)) ++
     (rows_in (denied (after_column (length callee) (length callee + length caller) (written_by caller targets)) to) ++ (bounds 0 (types_of callee) ++ (bounds (length callee) (types_of caller) ++
     bounds (length callee + length caller) (types_at caller (written_by caller targets)))))))))))
 back_system_rows caller callee rows targets exit before to =
@@ -186,5 +186,5 @@ back_system_rows caller callee rows targets exit before to =
     let written : List ℕ = written_by caller targets in
     eleven_rows (said (λ c. c) exit) (said (λ c. m + c) before) (only_rows (map (λ c. equal_row c (m + c)) (constants_of callee))) (only_rows (map (λ o. equal_row o.0 (m + o.1)) (olds_of callee)))
     (only_rows (map (renamed (call_column m n (length written))) rows)) (only_rows (map (λ j. equal_row (after_column m (m + n) written j) j) (filter (λ j. not (is_listed targets j)) (variables_of caller))))
-    (only_rows (map (λ p. equal_row (after_column m (m + n) written p.0) p.1) (taken targets (results_of callee)))) (denied (after_column m (m + n) written) to)
+    (only_rows (map (λ p. equal_row (after_column m (m + n) written p.0) p.1) (taken targets (result_columns callee)))) (denied (after_column m (m + n) written) to)
     (only_rows (bounds 0 (types_of callee))) (only_rows (bounds m (types_of caller))) (only_rows (bounds (m + n) (types_at caller written)))

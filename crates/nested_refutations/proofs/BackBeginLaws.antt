@@ -14,12 +14,12 @@ use Rattle.letter_acts.specs.Invariant.{Graph, IsGraph, alphabet_of, MayTarget}
 use Rattle.path_rows.specs.Versions.{back_part}
 use Rattle.path_rows.specs.Paths.{start_frame}
 use Rattle.nested_predicates.specs.Stamps.{stamps_of}
-use Rattle.nested_predicates.specs.Positions.{Scope, callee_scope, Position, innermost, is_counted}
+use Rattle.nested_predicates.specs.Positions.{CallScope, callee_scope, Position, innermost, is_counted}
 use Rattle.nested_predicates.specs.Sums.{root_of}
 use Rattle.nested_predicates.proofs.EndLaws.{rows_goal}
 use Rattle.nested_predicates.specs.Simplifying.{is_same}
 use Rattle.nested_refutations.specs.Refutations.{Claim, rows_in, said_at, Role, target_tie, source_tie, stands}
-use Rattle.nested_refutations.specs.Numbers.{Step, branch_rows, spares, before_bounds, bounds_in, OpenCall, back_step, Reading, here, IsFalse, AreCutsAt}
+use Rattle.nested_refutations.specs.Numbers.{Step, branch_rows, spares, before_bounds, bounds_in, OpenCall, back_step, Reading, position_here, IsFalse, AreCutsAt}
 use Rattle.nested_refutations.specs.Refuting.{StepRefutes}
 use Rattle.nested_refutations.specs.Waiting.{StepWaits}
 use Rattle.nested_refutations.proofs.TruthLaws.{IsOpen}
@@ -157,14 +157,14 @@ frame_pairs c = by_begun c.call.at.begun
     by_begun : ((c.call.r ≡ first_reading c.call.g) × (caller_in c.call ≡ start_frame c.call.g)) ⊎ (0 < c.call.r.letters) → AllPairs (Fits c) (before_bounds (suc c.call.r.letters) (caller_in c.call)) (back_frame c)
     by_begun (inl e) =
         let letters : suc c.call.r.letters ≡ 1 = ap (λ (x : Reading). suc x.letters) e.0 in
-        let here : before_bounds (suc c.call.r.letters) (caller_in c.call) ≡ branch_rows 0 (bounds_in (caller_in c.call)) =
+        let position_here : before_bounds (suc c.call.r.letters) (caller_in c.call) ≡ branch_rows 0 (bounds_in (caller_in c.call)) =
         ap (λ (z : Bool). if z then branch_rows 0 (bounds_in (caller_in c.call)) else spares (bounds_in (caller_in c.call))) (eq-eqb (suc c.call.r.letters) 1 letters) in
-        subst (λ (l : List Role). AllPairs (Fits c) l (back_frame c)) (sym (here ∙ ap (branch_rows 0) (sym (frame_counted c))))
+        subst (λ (l : List Role). AllPairs (Fits c) l (back_frame c)) (sym (position_here ∙ ap (branch_rows 0) (sym (frame_counted c))))
         (branch_pairs (back_view c) (back_root c) (root_of c.call.g c.call.w).rows [] (back_frame c) (front_of c.call) (call_block c.call ++ map tightened (later_rows c.call)) (call_root_rows c.call) ((rows_kinds c).frame e.0 e.1))
     by_begun (inr l) =
-        let here : before_bounds (suc c.call.r.letters) (caller_in c.call) ≡ spares (bounds_in (caller_in c.call)) =
+        let position_here : before_bounds (suc c.call.r.letters) (caller_in c.call) ≡ spares (bounds_in (caller_in c.call)) =
         ap (λ (z : Bool). if z then branch_rows 0 (bounds_in (caller_in c.call)) else spares (bounds_in (caller_in c.call))) (ne_eqb (suc c.call.r.letters) 1 (λ (e : suc c.call.r.letters ≡ 1). omega (arith, l, e))) in
-        subst (λ (r : List Role). AllPairs (Fits c) r (back_frame c)) (sym (here ∙ ap spares (sym (frame_counted c)))) (spare_pairs (back_view c) (back_root c) (root_of c.call.g c.call.w).rows 0 (back_frame c))
+        subst (λ (r : List Role). AllPairs (Fits c) r (back_frame c)) (sym (position_here ∙ ap spares (sym (frame_counted c)))) (spare_pairs (back_view c) (back_root c) (root_of c.call.g c.call.w).rows 0 (back_frame c))
 
 spare_rows : (c : BackLetter) (k : ℕ) (rows : List LinearRow) → length rows ≡ k → AllPairs (Fits c) (spares k) rows
 spare_rows c k rows e = subst (λ (n : ℕ). AllPairs (Fits c) (spares n) rows) e (spare_pairs (back_view c) (back_root c) (root_of c.call.g c.call.w).rows 0 rows)
@@ -252,7 +252,7 @@ letter_waits c refuted open_claims = groups_wait (back_view c) (back_root c) (ba
 
 -- ---- at a return of an accepted word
 
-head_knows : (g : Graph) (places : List ℕ) (q : ℕ) (scopes : List Scope) → ScopesFit g places q scopes → KnowsWell (frame_of (alphabet_of g) (innermost scopes).proc) (innermost scopes).known
+head_knows : (g : Graph) (places : List ℕ) (q : ℕ) (scopes : List CallScope) → ScopesFit g places q scopes → KnowsWell (frame_of (alphabet_of g) (innermost scopes).proc) (innermost scopes).known
 head_knows g places q [] h = absurd h
 head_knows g [] q (s ∷ scopes) h = h.1
 head_knows g (p ∷ places) q (s ∷ scopes) h = h.1
@@ -289,7 +289,7 @@ back_letter_of g ok globals have w t r a rest targets h quiet =
       quiet = λ y m. quiet_here g globals w r a rest targets h quiet y m;
     }
 
-abbrev position_with : ℕ → Scope → List ℕ → Position
+abbrev position_with : ℕ → CallScope → List ℕ → Position
 position_with upto s l = record { scope = s; here = l; upto = upto }
 
 -- what each return's step has, the step of this return has
@@ -303,10 +303,10 @@ at_return P has g ok globals have w t r a rest targets h quiet =
     let o = h.open_at in
     let f1 : Columns = frame_of (alphabet_of g) o.caller in
     let f2 : Columns = frame_of (alphabet_of g) o.callee in
-    let exit : here r ≡ exit_position c = ap (λ (s : Scope). position_with (here r).upto s r.stage.here) c.scope_is in
+    let exit : position_here r ≡ exit_position c = ap (λ (s : CallScope). position_with (position_here r).upto s r.stage.here) c.scope_is in
     let to : back_to g r h.scopes o.caller o.callee targets h.before ≡ after_position c =
-    ap (λ (s : List Scope). back_to g r s o.caller o.callee targets h.before) (sym h.outer_scopes) ∙ ap (back_to g r o.reading.scopes o.caller o.callee targets) o.before_is in
-    subst (λ (k : OpenCall). P g w t (back_step g w t a.id k (here r) (back_to g r h.scopes o.caller o.callee targets h.before) f1 f2 o.helpers o.rows targets)) (sym o.call_is)
+    ap (λ (s : List CallScope). back_to g r s o.caller o.callee targets h.before) (sym h.outer_scopes) ∙ ap (back_to g r o.reading.scopes o.caller o.callee targets) o.before_is in
+    subst (λ (k : OpenCall). P g w t (back_step g w t a.id k (position_here r) (back_to g r h.scopes o.caller o.callee targets h.before) f1 f2 o.helpers o.rows targets)) (sym o.call_is)
     (subst (λ (q : Position). P g w t (back_step g w t a.id (back_call c) q (back_to g r h.scopes o.caller o.callee targets h.before) f1 f2 o.helpers o.rows targets)) (sym exit)
     (subst (λ (q : Position). P g w t (back_step g w t a.id (back_call c) (exit_position c) q f1 f2 o.helpers o.rows targets)) (sym to) (has c)))
 

@@ -5,7 +5,7 @@ use Rattle.std.specs.List.{AllByRecursion}
 use Rattle.std.proofs.lemmas.Bool.{lt-ltb, le-ltb}
 use Rattle.nwa_base.specs.declared.letters.Letter.{Letter}
 use Rattle.nwa_base.specs.Members.{Member}
-use Rattle.letter_acts.specs.Frames.{Columns, globals_of, results_of}
+use Rattle.letter_acts.specs.Frames.{Columns, globals_of, result_columns}
 use Rattle.letter_acts.specs.Acts.{call_act, back_act, act_of}
 use Rattle.letter_acts.specs.Reading.{taken}
 use Rattle.letter_acts.specs.Invariant.{Graph, alphabet_of, AreDistinct, MayTarget, BackIsActed, written_by}
@@ -14,10 +14,10 @@ use Rattle.path_rows.specs.Stages.{AreVersions}
 use Rattle.path_rows.proofs.DifferLemmas.{index_taken, index_dropped}
 use Rattle.triple_rows.specs.Systems.{after_column, call_column}
 use Rattle.nested_predicates.specs.Stamps.{stamp_of}
-use Rattle.nested_predicates.specs.Positions.{Scope, has_return, callee_scope, Position, innermost}
+use Rattle.nested_predicates.specs.Positions.{CallScope, has_return, callee_scope, Position, innermost}
 use Rattle.nested_predicates.specs.Sums.{root_of}
-use Rattle.nested_refutations.specs.Refutations.{Claim, Spot, View, Goes}
-use Rattle.nested_refutations.specs.Numbers.{OpenCall, Step, back_step, source, target, Reading, here, begins}
+use Rattle.nested_refutations.specs.Refutations.{Claim, TreeSpot, View, Gathered}
+use Rattle.nested_refutations.specs.Numbers.{OpenCall, Step, back_step, source, target, Reading, position_here, begins}
 use Rattle.nested_refutations.proofs.ContentLaws.{DiffersBelow}
 use Rattle.nested_refutations.proofs.ColumnLaws.{known_in}
 use Rattle.nested_refutations.proofs.VersionLaws.{index_left, index_right, split_at, set_same, set_count, written_absent}
@@ -32,20 +32,20 @@ use Rattle.nested_refutations.proofs.QuietLaws.{IsQuiet}
 
 -- ---- versions
 
-all_set : (here cs : List ℕ) (d v : ℕ) → AllByRecursion (λ c. c < length here) cs → AllByRecursion (λ c. c < length (slice_set here d v)) cs
-all_set here [] d v h = tt
-all_set here (c ∷ cs) d v h = let n = set_count here d v in let l = h.0 in (omega (arith, l, n), all_set here cs d v h.1)
+all_set : (position_here cs : List ℕ) (d v : ℕ) → AllByRecursion (λ c. c < length position_here) cs → AllByRecursion (λ c. c < length (slice_set position_here d v)) cs
+all_set position_here [] d v h = tt
+all_set position_here (c ∷ cs) d v h = let n = set_count position_here d v in let l = h.0 in (omega (arith, l, n), all_set position_here cs d v h.1)
 
 -- what is written in order has what was written in its place
-written_taken : (here cs results : List ℕ) (f : ℕ → ℕ) → AreDistinct cs → AllByRecursion (λ c. c < length here) cs → (c r : ℕ) → Member (taken cs results) (c, r) →
-    slice_index (written_over here cs (map f results)) c ≡ f r
-written_taken here [] results f d l c r m = absurd m
-written_taken here (t ∷ ts) [] f d l c r m = absurd m
-written_taken here (t ∷ ts) (q ∷ results) f d l c r (inl e) =
+written_taken : (position_here cs results : List ℕ) (f : ℕ → ℕ) → AreDistinct cs → AllByRecursion (λ c. c < length position_here) cs → (c r : ℕ) → Member (taken cs results) (c, r) →
+    slice_index (written_over position_here cs (map f results)) c ≡ f r
+written_taken position_here [] results f d l c r m = absurd m
+written_taken position_here (t ∷ ts) [] f d l c r m = absurd m
+written_taken position_here (t ∷ ts) (q ∷ results) f d l c r (inl e) =
     let column : t ≡ c = ap (λ (p : ℕ × ℕ). p.0) e in
     let result : q ≡ r = ap (λ (p : ℕ × ℕ). p.1) e in
-    ap (slice_index (written_over (slice_set here t (f q)) ts (map f results))) (sym column) ∙ written_absent (slice_set here t (f q)) ts (map f results) t d.0 ∙ set_same here t (f q) l.0 ∙ ap f result
-written_taken here (t ∷ ts) (q ∷ results) f d l c r (inr m) = written_taken (slice_set here t (f q)) ts results f d.1 (all_set here ts t (f q) l.1) c r m
+    ap (slice_index (written_over (slice_set position_here t (f q)) ts (map f results))) (sym column) ∙ written_absent (slice_set position_here t (f q)) ts (map f results) t d.0 ∙ set_same position_here t (f q) l.0 ∙ ap f result
+written_taken position_here (t ∷ ts) (q ∷ results) f d l c r (inr m) = written_taken (slice_set position_here t (f q)) ts results f d.1 (all_set position_here ts t (f q) l.1) c r m
 
 -- a constant or global that is no target is that of the exit
 pub returned_global : (caller callee : Columns) (targets exit before : List ℕ) → length (globals_of caller) ≤ length exit → (j : ℕ) → (Member targets j → ⊥) → j < length (globals_of caller) →
@@ -53,7 +53,7 @@ pub returned_global : (caller callee : Columns) (targets exit before : List ℕ)
 returned_global caller callee targets exit before long j n l =
     let count : ℕ = length (globals_of caller) in
     let short = take_short count exit long in
-    written_absent (take count exit ++ drop count before) targets (map (slice_index exit) (results_of callee)) j n ∙
+    written_absent (take count exit ++ drop count before) targets (map (slice_index exit) (result_columns callee)) j n ∙
     index_left (take count exit) (drop count before) j (omega (arith, l, short)) ∙ index_taken count exit j l
 
 -- a column behind the globals that is no target is as before the call
@@ -62,15 +62,15 @@ pub returned_behind : (caller callee : Columns) (targets exit before : List ℕ)
 returned_behind caller callee targets exit before long i n =
     let count : ℕ = length (globals_of caller) in
     let short = take_short count exit long in
-    written_absent (take count exit ++ drop count before) targets (map (slice_index exit) (results_of callee)) (count + i) n ∙
+    written_absent (take count exit ++ drop count before) targets (map (slice_index exit) (result_columns callee)) (count + i) n ∙
     ap (λ (m : ℕ). slice_index (take count exit ++ drop count before) (m + i)) (sym short) ∙ index_right (take count exit) (drop count before) i ∙ index_dropped count before (count + i) i refl
 
 -- a target has the callee's result in its place
 pub returned_target : (caller callee : Columns) (targets exit before : List ℕ) → AreDistinct targets →
-    AllByRecursion (λ c. c < length (take (length (globals_of caller)) exit ++ drop (length (globals_of caller)) before)) targets → (t r : ℕ) → Member (taken targets (results_of callee)) (t, r) →
+    AllByRecursion (λ c. c < length (take (length (globals_of caller)) exit ++ drop (length (globals_of caller)) before)) targets → (t r : ℕ) → Member (taken targets (result_columns callee)) (t, r) →
     slice_index (returned caller callee targets exit before) t ≡ slice_index exit r
 returned_target caller callee targets exit before d l t r m =
-    written_taken (take (length (globals_of caller)) exit ++ drop (length (globals_of caller)) before) targets (results_of callee) (slice_index exit) d l t r m
+    written_taken (take (length (globals_of caller)) exit ++ drop (length (globals_of caller)) before) targets (result_columns callee) (slice_index exit) d l t r m
 
 -- ---- scopes
 
@@ -110,7 +110,7 @@ pub record BackLetter : Type 0 where
   pub quiet : (y : ℕ) → Member (drop call.globals call.r.stage.here) y → IsQuiet call.g call.w (suc call.r.letters) r.letters y
 
 abbrev pub back_call : BackLetter → OpenCall
-back_call c = record { number = suc c.call.r.letters; rows = c.call.r.rows; made = c.call.r.stage.made; before = here c.call.r }
+back_call c = record { number = suc c.call.r.letters; rows = c.call.r.rows; made = c.call.r.stage.made; before = position_here c.call.r }
 
 -- the position at its exit
 abbrev pub exit_position : BackLetter → Position
@@ -152,7 +152,7 @@ abbrev pub exit_claim : BackLetter → Claim
 exit_claim c = source (exit_position c) (λ x. x)
 
 abbrev pub before_claim : BackLetter → Claim
-before_claim c = source (here c.call.r) (λ x. m_of c + x)
+before_claim c = source (position_here c.call.r) (λ x. m_of c + x)
 
 abbrev pub after_claim : BackLetter → Claim
 after_claim c = target (after_position c) (after_of c)
@@ -163,17 +163,17 @@ back_step_in c = back_step c.call.g c.call.w c.call.t c.a.id (back_call c) (exit
 abbrev pub back_view : BackLetter → View
 back_view c = (back_step_in c).view
 
-abbrev pub back_root : BackLetter → Spot
+abbrev pub back_root : BackLetter → TreeSpot
 back_root c = record { node = 0; branch = root_of c.call.g c.call.w; tree = c.call.t }
 
-abbrev pub back_first : BackLetter → Goes
+abbrev pub back_first : BackLetter → Gathered
 back_first c = begins c.call.g c.call.w c.call.t (back_step_in c)
 
 -- the call comes before it
 pub call_earlier : (c : BackLetter) → suc c.call.r.letters ≤ c.r.letters
 call_earlier c =
     let o : (innermost c.r.scopes).own ≤ 2 * c.r.letters = owns_innermost c.r.letters c.r.scopes c.along.placed.owns in
-    let e : (innermost c.r.scopes).own ≡ 2 * suc c.call.r.letters = ap (λ (s : Scope). s.own) c.scope_is in
+    let e : (innermost c.r.scopes).own ≡ 2 * suc c.call.r.letters = ap (λ (s : CallScope). s.own) c.scope_is in
     omega (arith, o, e)
 
 -- the caller's own call is open before it

@@ -7,7 +7,7 @@ use Rattle.std.proofs.lemmas.List.{length-map}
 use Rattle.letter_acts.specs.Frames.{is_local, places}
 use Rattle.letter_acts.specs.Acts.{PlainAct, act_of}
 use Rattle.letter_acts.specs.Invariant.{alphabet_of}
-use Rattle.path_rows.specs.Versions.{Part, rows_in, part_of}
+use Rattle.path_rows.specs.Versions.{Part, part_rows, part_of}
 use Rattle.frame_rows.specs.Rows.{columns_from}
 use Rattle.frame_rows.specs.Frames.{is_old}
 use Rattle.path_rows.specs.Paths.{repeated, start_frame}
@@ -93,7 +93,7 @@ root_apart c =
     let part : Part = part_of al c.a c.r.stage in
     let later : List ℕ = (stamps_along al (suc k) part.after c.rest).rows in
     let none : row_stamps k (act_of al c.a) part ≡ [] =
-    ap (λ (o : Option PlainAct). row_stamps k o part) c.act_is ∙ ap (λ (x : Part). repeated (2 * k) (length (rows_in x))) c.part_is in
+    ap (λ (o : Option PlainAct). row_stamps k o part) c.act_is ∙ ap (λ (x : Part). repeated (2 * k) (length (part_rows x))) c.part_is in
     let e : (stamps_of c.call.g c.call.w).rows ≡ c.along.read.early ++ later = c.along.read.stamps ∙ ap (λ (l : List ℕ). c.along.read.early ++ (l ++ later)) none in
     subst (AllByRecursion (IsApart c.r.letters)) (sym e)
     (all_joined (IsApart c.r.letters) c.along.read.early later

@@ -8,13 +8,13 @@ use Rattle.nwa_base.specs.Members.{Member}
 use Rattle.lin_rows.specs.Rows.{LinearRow}
 use Rattle.lin_rows.specs.Tightening.{tightened}
 use Rattle.lin_rows.specs.Combinations.{combined}
-use Rattle.letter_acts.specs.Frames.{is_old_column, is_result, is_local, places, globals_of, results_of, olds_of}
+use Rattle.letter_acts.specs.Frames.{is_old_column, is_result, is_local, places, globals_of, result_columns, olds_of}
 use Rattle.letter_acts.specs.Acts.{act_of}
 use Rattle.letter_acts.specs.Reading.{taken}
 use Rattle.letter_acts.specs.Invariant.{alphabet_of, MayTarget}
 use Rattle.letter_acts.proofs.ListLemmas.{member_or_not, some_within}
 use Rattle.frame_rows.specs.Rows.{bounds, types_of}
-use Rattle.path_rows.specs.Versions.{Stage, Part, rows_in, locals_of, old_part, part_of}
+use Rattle.path_rows.specs.Versions.{PathStage, Part, part_rows, local_columns, old_part, part_of}
 use Rattle.path_rows.specs.Paths.{path_along, path_of}
 use Rattle.path_rows.proofs.DifferLemmas.{place_of, length_written}
 use Rattle.path_rows.proofs.OpenLemmas.{at_place}
@@ -131,7 +131,7 @@ rest_unnamed c y below off saved =
     let al = alphabet_of c.call.g in
     let part : Part = part_of al c.a c.r.stage in
     all_weaker (NamesOnly (Live c.call.globals part.after c.rest)) (λ r. coefficient y r.terms ≡ pos 0)
-    (λ r h. h y (λ live. dead (subst (λ (z : Stage). Live c.call.globals z c.rest y) (back_after c) live)))
+    (λ r h. h y (λ live. dead (subst (λ (z : PathStage). Live c.call.globals z c.rest y) (back_after c) live)))
     (path_along al (suc (suc c.r.letters)) part.after c.rest).rows (names_live al c.call.globals (suc (suc c.r.letters)) part.after c.rest c.along.names.1)
   where
     dead : (c.r.stage.made ≤ y) ⊎ (Member (after_position c).here y ⊎ InSaved c.call.globals (unmatched c.rest) c.call.r.stage.saved y) → ⊥
@@ -160,24 +160,24 @@ gone_at_return c more late n b parts f y below off saved =
     let stamps : List ℕ = (stamps_along al (suc k) part.after c.rest).rows in
     let P : ℕ → Type 0 = λ s. suc (2 * c.r.letters) < s in
     let Q : LinearRow → ℕ → Type 0 = λ r s. P s → coefficient y r.terms ≡ pos 0 in
-    let nothing : rows_in part ≡ [] = ap rows_in c.part_is in
-    let counted : length now ≡ length (rows_in part) = rows_counted k (act_of al c.a) part in
+    let nothing : part_rows part ≡ [] = ap part_rows c.part_is in
+    let counted : length now ≡ length (part_rows part) = rows_counted k (act_of al c.a) part in
     let all = ap (λ (l : List ℕ). length l) c.along.read.stamps in
     let all_rows = ap (λ (l : List LinearRow). length l) c.along.read.rows in
     let root = call_root_counted c.call in
     let tight = length-map (path_of c.call.g c.call.w).rows tightened in
     let e1 = length-append c.along.read.early (now ++ stamps) in
     let e2 = length-append now stamps in
-    let e3 = length-append c.along.read.front (rows_in part ++ rows) in
-    let e4 = length-append (rows_in part) rows in
+    let e3 = length-append c.along.read.front (part_rows part ++ rows) in
+    let e4 = length-append (part_rows part) rows in
     let e5 = c.along.read.early_count in
     let later_counted : length stamps ≡ length rows = omega (arith, counted, all, all_rows, root, tight, e1, e2, e3, e4, e5) in
     let front = no_stamp P y c.along.read.front c.along.read.early e5 (all_weaker (IsEarly c.r.letters) (λ s. P s → ⊥) (λ s h p. (let q = early_apart c s h in omega (arith, q, p))) c.along.read.early c.along.read.early_within) in
-    let block = never_named P y (rows_in part) now counted (subst (AllByRecursion (λ r. coefficient y r.terms ≡ pos 0)) (sym nothing) tt) in
+    let block = never_named P y (part_rows part) now counted (subst (AllByRecursion (λ r. coefficient y r.terms ≡ pos 0)) (sym nothing) tt) in
     let later = never_named P y rows stamps later_counted (rest_unnamed c y below off saved) in
-    let joined = pairs_joined Q c.along.read.front c.along.read.early (rows_in part ++ rows) (now ++ stamps) front (pairs_joined Q (rows_in part) now rows stamps block later) in
+    let joined = pairs_joined Q c.along.read.front c.along.read.early (part_rows part ++ rows) (now ++ stamps) front (pairs_joined Q (part_rows part) now rows stamps block later) in
     let whole : NotNamed P y (path_of c.call.g c.call.w).rows (stamps_of c.call.g c.call.w).rows =
-    subst (λ (l : List LinearRow). AllPairs Q l (stamps_of c.call.g c.call.w).rows) (sym c.along.read.rows) (subst (AllPairs Q (c.along.read.front ++ (rows_in part ++ rows))) (sym c.along.read.stamps) joined) in
+    subst (λ (l : List LinearRow). AllPairs Q l (stamps_of c.call.g c.call.w).rows) (sym c.along.read.rows) (subst (AllPairs Q (c.along.read.front ++ (part_rows part ++ rows))) (sym c.along.read.stamps) joined) in
     sum_gone c more late n b parts f (suc (2 * c.r.letters)) y
     (branch_not_named c more late n b parts f P y whole (λ col l p e. (let q = column_early c col (omega (arith, e, below)) in omega (arith, p, q))))
 
@@ -215,7 +215,7 @@ pub after_long : (c : BackLetter) → length (after_position c).here ≡ n_of c
 after_long c =
     let count : ℕ = length (globals_of (caller_in c.call)) in
     let g = (globals_count c).0 in
-    let a = length_written (take count c.r.stage.here ++ drop count c.call.r.stage.here) c.targets (map (slice_index c.r.stage.here) (results_of (callee_in c.call))) in
+    let a = length_written (take count c.r.stage.here ++ drop count c.call.r.stage.here) c.targets (map (slice_index c.r.stage.here) (result_columns (callee_in c.call))) in
     let b = length-append (take count c.r.stage.here) (drop count c.call.r.stage.here) in
     let long = exit_long c in
     let k = callee_long c.call in
@@ -231,7 +231,7 @@ after_long c =
     drop_count (suc n) (x ∷ xs) l = let h = drop_count n xs (omega (arith, l)) in omega (arith, h)
 
 -- the results stand among the locals
-pub result_behind : (c : BackLetter) (q : ℕ) → Member (results_of (callee_in c.call)) q → (heads c.call + olds c.call ≤ q) × (q < m_of c)
+pub result_behind : (c : BackLetter) (q : ℕ) → Member (result_columns (callee_in c.call)) q → (heads c.call + olds c.call ≤ q) × (q < m_of c)
 result_behind c q m =
     let p = at_place is_result 0 (callee_in c.call) q m in
     let e : q ≡ p.0 = (let k = p.2 in omega (arith, k)) in
@@ -251,12 +251,12 @@ result_behind c q m =
 
 -- of a column at the exit: it is a result that is taken, or a constant or global that is no target
 pub data ComesFrom (c : BackLetter) (j : ℕ) : Type 0 where
-  as_result : (t : ℕ) → Member (taken c.targets (results_of (callee_in c.call))) (t, j) → ComesFrom c j
+  as_result : (t : ℕ) → Member (taken c.targets (result_columns (callee_in c.call))) (t, j) → ComesFrom c j
   as_global : j < heads c.call → (Member c.targets j → ⊥) → ComesFrom c j
 
 -- a column of the frame after it has the version of a taken result, of a global at the exit, or of before
 pub data AfterFrom (c : BackLetter) (p : ℕ) : Type 0 where
-  from_result : (r : ℕ) → Member (taken c.targets (results_of (callee_in c.call))) (p, r) → slice_index (after_position c).here p ≡ slice_index c.r.stage.here r → AfterFrom c p
+  from_result : (r : ℕ) → Member (taken c.targets (result_columns (callee_in c.call))) (p, r) → slice_index (after_position c).here p ≡ slice_index c.r.stage.here r → AfterFrom c p
   from_exit : p < heads c.call → (Member c.targets p → ⊥) → slice_index (after_position c).here p ≡ slice_index c.r.stage.here p → AfterFrom c p
   from_before : heads c.call ≤ p → (Member c.targets p → ⊥) → slice_index (after_position c).here p ≡ slice_index c.call.r.stage.here p → AfterFrom c p
 
@@ -275,11 +275,11 @@ after_from c p l = by_target (member_or_not c.targets p)
 
     wide : (c : BackLetter) → length (take (length (globals_of (caller_in c.call))) c.r.stage.here ++ drop (length (globals_of (caller_in c.call))) c.call.r.stage.here) ≡ n_of c
     wide c =
-        sym (length_written (take (length (globals_of (caller_in c.call))) c.r.stage.here ++ drop (length (globals_of (caller_in c.call))) c.call.r.stage.here) c.targets (map (slice_index c.r.stage.here) (results_of (callee_in c.call)))) ∙ after_long c
+        sym (length_written (take (length (globals_of (caller_in c.call))) c.r.stage.here ++ drop (length (globals_of (caller_in c.call))) c.call.r.stage.here) c.targets (map (slice_index c.r.stage.here) (result_columns (callee_in c.call)))) ∙ after_long c
 
     by_target : Member c.targets p ⊎ (Member c.targets p → ⊥) → AfterFrom c p
     by_target (inl m) =
-        let r = taken_of (caller_in c.call) (callee_in c.call) c.targets (results_of (callee_in c.call)) c.acted.take p m in
+        let r = taken_of (caller_in c.call) (callee_in c.call) c.targets (result_columns (callee_in c.call)) c.acted.take p m in
         let e = wide c in
         from_result r.0 r.1 (returned_target (caller_in c.call) (callee_in c.call) c.targets c.r.stage.here c.call.r.stage.here c.acted.distinct
         (all_weaker (λ t. t < n_of c) (λ t. t < length (take (length (globals_of (caller_in c.call))) c.r.stage.here ++ drop (length (globals_of (caller_in c.call))) c.call.r.stage.here)) (λ t h. omega (arith, h, e)) c.targets (targets_below c))
@@ -310,8 +310,8 @@ comes_from c j l m =
 
     by_case : (p : ℕ) → p < n_of c → slice_index (after_position c).here p ≡ slice_index c.r.stage.here j → AfterFrom c p → ComesFrom c j
     by_case p b e (from_result r t q) =
-        let k = (result_behind c r (taken_parts c.targets (results_of (callee_in c.call)) (p, r) t).1).1 in
-        as_result p (subst (λ (x : ℕ). Member (taken c.targets (results_of (callee_in c.call))) (p, x)) (same r k (sym q ∙ e)) t)
+        let k = (result_behind c r (taken_parts c.targets (result_columns (callee_in c.call)) (p, r) t).1).1 in
+        as_result p (subst (λ (x : ℕ). Member (taken c.targets (result_columns (callee_in c.call))) (p, x)) (same r k (sym q ∙ e)) t)
     by_case p b e (from_exit h n q) =
         let k = callee_long c.call in
         let i : p ≡ j = same p (omega (arith, h, k)) (sym q ∙ e) in
@@ -369,7 +369,7 @@ target_gone c more late n b parts f p low within target =
     (λ k i. saved_apart c.call.g c.call.globals c.have c.call.r.stage.made c.call.at.along.goes.places c.call.r.stage.saved c.call.r.stage.here c.call.at.along.goes.comes.saved k p within i)
   where
     by_case : (q : ℕ) → q < n_of c → slice_index (after_position c).here q ≡ slice_index c.call.r.stage.here p → AfterFrom c q → ⊥
-    by_case q b e (from_result r t h) = exit_not_before c r p (result_behind c r (taken_parts c.targets (results_of (callee_in c.call)) (q, r) t).1).1 low within (sym h ∙ e)
+    by_case q b e (from_result r t h) = exit_not_before c r p (result_behind c r (taken_parts c.targets (result_columns (callee_in c.call)) (q, r) t).1).1 low within (sym h ∙ e)
     by_case q b e (from_exit l n h) = let k = callee_long c.call in exit_not_before c q p (omega (arith, l, k)) low within (sym h ∙ e)
     by_case q b e (from_before l n h) =
         let a = caller_long c.call in
@@ -452,11 +452,11 @@ helper_gone c more late n b parts f i l =
     local_off : (c : BackLetter) (i : ℕ) → i < c.call.helpers → AllByRecursion (λ r. coefficient (made c.call + locals c.call + i) r.terms ≡ pos 0) (local_block c.call)
     local_off c i l =
         let y : ℕ = made c.call + locals c.call + i in
-        let t = length_types (locals_of (callee_in c.call)) in
+        let t = length_types (local_columns (callee_in c.call)) in
         subst (λ (rs : List LinearRow). AllByRecursion (λ r. coefficient y r.terms ≡ pos 0) (map tightened rs)) (sym (local_bounds_are c.call))
-        (tight_off y (bounds (made c.call) (types_of (locals_of (callee_in c.call))))
-        (all_weaker (NamesOnly (λ x. (made c.call ≤ x) × (x < made c.call + length (types_of (locals_of (callee_in c.call)))))) (λ r. coefficient y r.terms ≡ pos 0)
-        (λ r h. h y (λ q. (let u = q.1 in omega (arith, u, t)))) (bounds (made c.call) (types_of (locals_of (callee_in c.call)))) (bounds_named (made c.call) (types_of (locals_of (callee_in c.call))))))
+        (tight_off y (bounds (made c.call) (types_of (local_columns (callee_in c.call))))
+        (all_weaker (NamesOnly (λ x. (made c.call ≤ x) × (x < made c.call + length (types_of (local_columns (callee_in c.call)))))) (λ r. coefficient y r.terms ≡ pos 0)
+        (λ r h. h y (λ q. (let u = q.1 in omega (arith, u, t)))) (bounds (made c.call) (types_of (local_columns (callee_in c.call)))) (bounds_named (made c.call) (types_of (local_columns (callee_in c.call))))))
 
     old_off : (c : BackLetter) (i : ℕ) → i < c.call.helpers → AllByRecursion (λ r. coefficient (made c.call + locals c.call + i) r.terms ≡ pos 0) (old_block c.call)
     old_off c i l =

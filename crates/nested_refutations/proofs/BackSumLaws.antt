@@ -5,7 +5,7 @@ use Rattle.std.proofs.lemmas.Int.{ints}
 use Rattle.std.proofs.lemmas.List.{map-append, length-map}
 use Rattle.lin_rows.specs.Rows.{LinearRow}
 use Rattle.lin_rows.specs.Tightening.{tightened}
-use Rattle.letter_acts.specs.Frames.{Columns, constants_of, olds_of, variables_of, results_of}
+use Rattle.letter_acts.specs.Frames.{Columns, constants_of, olds_of, variables_of, result_columns}
 use Rattle.letter_acts.specs.Acts.{PlainAct, Alphabet}
 use Rattle.letter_acts.specs.Reading.{taken, is_listed}
 use Rattle.letter_acts.specs.Invariant.{alphabet_of}
@@ -18,7 +18,7 @@ use Rattle.triple_rows.proofs.FormulaLaws.{prefix_read}
 use Rattle.nested_predicates.specs.Sums.{root_of}
 use Rattle.nested_predicates.specs.Joins.{predicate_at}
 use Rattle.nested_refutations.specs.Refutations.{Claim, exposed, rows_in, Role, spare, branch_row, target_tie, source_tie, atom_roles, is_used}
-use Rattle.nested_refutations.specs.Numbers.{branch_rows, spares, before_bounds, bounds_in, here}
+use Rattle.nested_refutations.specs.Numbers.{branch_rows, spares, before_bounds, bounds_in, position_here}
 use Rattle.nested_refutations.proofs.RowsLaws.{AllPairs, pairs_joined}
 use Rattle.nested_refutations.proofs.WayLaws.{others, others_joined, others_atoms}
 use Rattle.nested_refutations.proofs.AddingLaws.{spares_add}
@@ -99,7 +99,7 @@ abbrev pub exit_rows : BackLetter → List LinearRow
 exit_rows c = map tightened (rows_in (said (λ x. x) (predicate_at c.call.g c.call.w c.call.t (exit_position c))))
 
 abbrev pub before_rows : BackLetter → List LinearRow
-before_rows c = map tightened (rows_in (said (λ x. m_of c + x) (predicate_at c.call.g c.call.w c.call.t (here c.call.r))))
+before_rows c = map tightened (rows_in (said (λ x. m_of c + x) (predicate_at c.call.g c.call.w c.call.t (position_here c.call.r))))
 
 abbrev pub after_rows : BackLetter → List LinearRow
 after_rows c = map tightened (rows_in (denied (after_of c) (predicate_at c.call.g c.call.w c.call.t (after_position c))))
@@ -109,7 +109,7 @@ abbrev pub kept_globals : BackLetter → List ℕ
 kept_globals c = filter (λ j. not (is_listed c.targets j)) (variables_of (caller_in c.call))
 
 abbrev pub taken_in : BackLetter → List (ℕ × ℕ)
-taken_in c = taken c.targets (results_of (callee_in c.call))
+taken_in c = taken c.targets (result_columns (callee_in c.call))
 
 abbrev pub constant_ties : BackLetter → List LinearRow
 constant_ties c = tie_rows (λ x. x) (λ x. m_of c + x) (constants_of (callee_in c.call))
@@ -130,14 +130,14 @@ abbrev pub written_bounds : BackLetter → List LinearRow
 written_bounds c = map tightened (bounds (m_of c + n_of c) (types_at (caller_in c.call) (back_written c)))
 
 back_system_here : (c : BackLetter) → system_of (alphabet_of c.call.g) (back_step_in c).triple ≡
-    back_system (caller_in c.call) (callee_in c.call) c.call.rows c.targets (predicate_at c.call.g c.call.w c.call.t (exit_position c)) (predicate_at c.call.g c.call.w c.call.t (here c.call.r))
+    back_system (caller_in c.call) (callee_in c.call) c.call.rows c.targets (predicate_at c.call.g c.call.w c.call.t (exit_position c)) (predicate_at c.call.g c.call.w c.call.t (position_here c.call.r))
     (predicate_at c.call.g c.call.w c.call.t (after_position c))
 back_system_here c =
     let al : Alphabet = alphabet_of c.call.g in
     let f1 : Columns = caller_in c.call in
     let f2 : Columns = callee_in c.call in
     let exit : Formula = predicate_at c.call.g c.call.w c.call.t (exit_position c) in
-    let before : Formula = predicate_at c.call.g c.call.w c.call.t (here c.call.r) in
+    let before : Formula = predicate_at c.call.g c.call.w c.call.t (position_here c.call.r) in
     let to : Formula = predicate_at c.call.g c.call.w c.call.t (after_position c) in
     ap (λ (o : Option PlainAct). back_system_of al o (formula_of (prefix_of exit)) (formula_of (prefix_of before)) (formula_of (prefix_of to))) c.there ∙
     ap (λ (o : Option PlainAct). return_system_of al c.targets o (formula_of (prefix_of exit)) (formula_of (prefix_of before)) (formula_of (prefix_of to))) c.call_there ∙
@@ -149,7 +149,7 @@ pub back_first_rows : (c : BackLetter) → (back_first c).rows ≡
     exit_rows c ++ (before_rows c ++ (constant_ties c ++ (old_ties c ++ (back_own_rows c ++ (global_ties c ++ (result_ties c ++ (after_rows c ++ (exit_bounds c ++ (back_frame c ++ written_bounds c)))))))))
 back_first_rows c =
     let exit = predicate_at c.call.g c.call.w c.call.t (exit_position c) in
-    let before = predicate_at c.call.g c.call.w c.call.t (here c.call.r) in
+    let before = predicate_at c.call.g c.call.w c.call.t (position_here c.call.r) in
     let to = predicate_at c.call.g c.call.w c.call.t (after_position c) in
     ap (λ (s : PlainSystem). map tightened (rows_in s)) (back_system_here c) ∙
     ap (map tightened) (back_system_rows (caller_in c.call) (callee_in c.call) c.call.rows c.targets exit before to) ∙

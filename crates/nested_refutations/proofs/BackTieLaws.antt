@@ -8,7 +8,7 @@ use Rattle.boogie_tree.specs.declared.tree.Column.{Column}
 use Rattle.boogie_tree.specs.declared.tree.Column.TheVariants.{Global, Old, Local}
 use Rattle.boogie_tree.specs.declared.tree.VarInfo.{VarInfo}
 use Rattle.nwa_base.specs.Members.{Member}
-use Rattle.letter_acts.specs.Frames.{Columns, globals_from, is_global_column, is_old_column, is_constant, is_variable, is_local, is_result, constants_of, variables_of, results_of, olds_of}
+use Rattle.letter_acts.specs.Frames.{Columns, globals_from, is_global_column, is_old_column, is_fixed_column, is_variable, is_local, is_result, constants_of, variables_of, result_columns, olds_of}
 use Rattle.letter_acts.specs.Invariant.{AreDistinct, MayTarget}
 use Rattle.letter_acts.proofs.ListLemmas.{all_member, all_from_members, some_within}
 use Rattle.letter_acts.proofs.FrameLemmas.{variables_are, constants_are, variable_below}
@@ -17,7 +17,7 @@ use Rattle.path_rows.proofs.OpenLemmas.{at_place}
 use Rattle.path_rows.proofs.DifferLemmas.{places_distinct}
 use Rattle.letter_acts.specs.Reading.{is_listed}
 use Rattle.triple_rows.proofs.ListLaws.{places_below}
-use Rattle.nested_predicates.specs.Positions.{known_at, if_constant, innermost, Position}
+use Rattle.nested_predicates.specs.Positions.{known_at, if_constant_version, innermost, Position}
 use Rattle.nested_predicates.specs.Sums.{Branch, column_upto, known_sum, coefficients_at}
 use Rattle.nested_refutations.specs.Refutations.{Role, target_tie, source_tie, multiplier}
 use Rattle.nested_refutations.proofs.WayLaws.{others}
@@ -106,7 +106,7 @@ pub constant_below : (c : BackLetter) (x : ℕ) → Member (constants_of (callee
 constant_below c x m =
     all_member (λ y. y < heads c.call) (constants_of (callee_in c.call)) x m
     (subst (AllByRecursion (λ y. y < heads c.call)) (sym (constants_are c.call.at.infos (callee_in c.call) c.call.at.to_frame))
-    (places_below is_constant 0 (heads c.call) (globals_from 0 c.call.at.infos) (let n = length-globals_from 0 c.call.at.infos in omega (arith, n))))
+    (places_below is_fixed_column 0 (heads c.call) (globals_from 0 c.call.at.infos) (let n = length-globals_from 0 c.call.at.infos in omega (arith, n))))
 
 pub variable_head : (c : BackLetter) (x : ℕ) → Member (variables_of (caller_in c.call)) x → x < heads c.call
 variable_head c x m = variable_below c.call.at.infos (caller_in c.call) c.call.at.from_frame x m
@@ -121,7 +121,7 @@ heads_in c =
 -- a constant is no global that may change
 pub constant_no_variable : (c : BackLetter) (j : ℕ) → Member (constants_of (callee_in c.call)) j → Member (variables_of (callee_in c.call)) j → ⊥
 constant_no_variable c j m h =
-    let p = at_place is_constant 0 (callee_in c.call) j m in
+    let p = at_place is_fixed_column 0 (callee_in c.call) j m in
     let q = at_place is_variable 0 (callee_in c.call) j h in
     let i : p.0 ≡ q.0 = (let a = p.2 in let d = q.2 in omega (arith, a, d)) in
     let e : Some p.1 ≡ Some q.1 = sym p.3 ∙ ap (slice_get (callee_in c.call)) i ∙ q.3 in
@@ -135,8 +135,8 @@ constant_no_variable c j m h =
     both true false e f = absurd (cc)
     both false y e f = absurd (cc)
 
-    clash : (u v : Column × VarInfo) → u ≡ v → is_constant u ≡ true → is_variable v ≡ true → ⊥
-    clash u v e a d = both (is_global_column v.0) v.1.constant (subst (λ (z : Column × VarInfo). is_constant z ≡ true) e a) d
+    clash : (u v : Column × VarInfo) → u ≡ v → is_fixed_column u ≡ true → is_variable v ≡ true → ⊥
+    clash u v e a d = both (is_global_column v.0) v.1.constant (subst (λ (z : Column × VarInfo). is_fixed_column z ≡ true) e a) d
 
 -- a global that may change may be a target
 pub variable_target : (frame : Columns) (j : ℕ) → Member (variables_of frame) j → MayTarget frame j
@@ -192,7 +192,7 @@ target_below c t m = some_within (λ v. (v.1.constant ≡ false) × (is_old_colu
 
 pub taken_range : (c : BackLetter) (p : ℕ × ℕ) → Member (taken_in c) p → (p.0 < n_of c) × ((m_of c + n_of c ≤ after_of c p.0) × (after_of c p.0 < m_of c + n_of c + w_of c)) × ((heads c.call + olds c.call ≤ p.1) × (p.1 < m_of c))
 taken_range c p m =
-    let h = taken_parts c.targets (results_of (callee_in c.call)) p m in
+    let h = taken_parts c.targets (result_columns (callee_in c.call)) p m in
     (target_below c p.0 h.0, written_range c p.0 (target_written (caller_in c.call) c.targets p.0 c.acted.may_target h.0), result_behind c p.1 h.1)
 
 -- ---- ties of constants
@@ -209,13 +209,13 @@ constant_first c val x m =
     let b = constant_below c x m in
     let k = (heads_in c).0 in
     ties_first val source_tie (λ y. y) (λ y. m_of c + y) x (constants_of (callee_in c.call)) (constants_tie c) m
-    (subst AreDistinct (sym (map_id (constants_of (callee_in c.call)))) (places_distinct is_constant 0 (callee_in c.call)))
+    (subst AreDistinct (sym (map_id (constants_of (callee_in c.call)))) (places_distinct is_fixed_column 0 (callee_in c.call)))
     (all_from_members (λ y. m_of c + y ≡ x → ⊥) (constants_of (callee_in c.call)) (λ y h e. omega (arith, e, b, k)))
 
 pub constant_second : (c : BackLetter) (val : Role → ℤ) (x : ℕ) → Member (constants_of (callee_in c.call)) x → constants_tied c val (m_of c + x) ≡ neg_ℤ (val (source_tie x))
 constant_second c val x m =
     ties_second val source_tie (λ y. y) (λ y. m_of c + y) x (constants_of (callee_in c.call)) (constants_tie c) m
-    (map_apart (λ y. y) (λ y. m_of c + y) (constants_of (callee_in c.call)) (subst AreDistinct (sym (map_id (constants_of (callee_in c.call)))) (places_distinct is_constant 0 (callee_in c.call)))
+    (map_apart (λ y. y) (λ y. m_of c + y) (constants_of (callee_in c.call)) (subst AreDistinct (sym (map_id (constants_of (callee_in c.call)))) (places_distinct is_fixed_column 0 (callee_in c.call)))
     (λ y z h k e. omega (arith, e)))
     (all_from_members (λ y. y ≡ m_of c + x → ⊥) (constants_of (callee_in c.call)) (λ y h e. (let b = constant_below c y h in let k = (heads_in c).0 in omega (arith, e, b, k))))
 
@@ -308,7 +308,7 @@ pub result_first : (c : BackLetter) (val : Role → ℤ) (p : ℕ × ℕ) → Me
 result_first c val p m =
     let low = (taken_range c p m).1.0 in
     ties_first val (λ q. target_tie q.0) (λ q. after_of c q.0) (λ q. q.1) p (taken_in c) (results_tie c) m
-    (map_apart (λ q. q.0) (λ q. after_of c q.0) (taken_in c) (firsts_apart c.targets (results_of (callee_in c.call)) c.acted.distinct)
+    (map_apart (λ q. q.0) (λ q. after_of c q.0) (taken_in c) (firsts_apart c.targets (result_columns (callee_in c.call)) c.acted.distinct)
     (λ q r h k e. one_after c q.0 r.0 (taken_range c q h).0 (taken_range c r k).0 e))
     (all_from_members (λ q. q.1 ≡ after_of c p.0 → ⊥) (taken_in c) (λ q h e. (let b = (taken_range c q h).2.1 in omega (arith, e, b, low))))
 
@@ -316,7 +316,7 @@ pub result_second : (c : BackLetter) (val : Role → ℤ) (p : ℕ × ℕ) → M
 result_second c val p m =
     let b = (taken_range c p m).2.1 in
     ties_second val (λ q. target_tie q.0) (λ q. after_of c q.0) (λ q. q.1) p (taken_in c) (results_tie c) m
-    (seconds_apart c.targets (results_of (callee_in c.call)) (places_distinct is_result 0 (callee_in c.call)))
+    (seconds_apart c.targets (result_columns (callee_in c.call)) (places_distinct is_result 0 (callee_in c.call)))
     (all_from_members (λ q. after_of c q.0 ≡ p.1 → ⊥) (taken_in c) (λ q h e. (let a = (taken_range c q h).1.0 in omega (arith, e, a, b))))
 
 pub result_off : (c : BackLetter) (val : Role → ℤ) (x : ℕ) → ((p : ℕ × ℕ) → Member (taken_in c) p → (after_of c p.0 ≡ x → ⊥) × (p.1 ≡ x → ⊥)) → results_tied c val x ≡ pos 0
@@ -360,14 +360,14 @@ second_true false y e = absurd (cc)
 -- of a constant, which has one version
 pub constant_version : (c : BackLetter) (j : ℕ) → Member (constants_of (callee_in c.call)) j → slice_index c.r.stage.here j ≡ slice_index c.call.r.stage.here j
 constant_version c j m =
-    let p = at_place is_constant 0 (callee_in c.call) j m in
+    let p = at_place is_fixed_column 0 (callee_in c.call) j m in
     let i : j ≡ p.0 = (let q = p.2 in omega (arith, q)) in
     kept_at c j p.1 (ap (slice_get (callee_in c.call)) i ∙ p.3) (inl (second_true (is_global_column p.1.0) p.1.1.constant p.4)) ∙ entry_global c.call j (constant_below c j m)
 
 pub exit_constant : (c : BackLetter) (b : Branch) (parts : List (ℕ × ℤ)) (j : ℕ) → Member (constants_of (callee_in c.call)) j → exit_sum c b parts j ≡
     column_upto b parts (suc (2 * c.r.letters)) (slice_index c.call.r.stage.here j) -ℤ column_upto b parts (2 * suc c.call.r.letters) (slice_index c.call.r.stage.here j)
 exit_constant c b parts j m =
-    let p = at_place is_constant 0 (callee_in c.call) j m in
+    let p = at_place is_fixed_column 0 (callee_in c.call) j m in
     let i : j ≡ p.0 = (let q = p.2 in omega (arith, q)) in
     let l = constant_below c j m in
     let k = (heads_in c).0 in
@@ -406,10 +406,10 @@ local_at c i l =
     (subst (λ (xs : List ℕ). Member xs j) (sym (lay c.call).local_places) (from_member (heads c.call + olds c.call) (locals c.call) j (omega arith) (omega (arith, l)))) in
     record { column = q.1; there = ap (slice_get (callee_in c.call)) (let a = q.2 in let s : j ≡ q.0 = omega (arith, a) in s) ∙ q.3; is = q.4 }
 
-local_known : (v : Column × VarInfo) → is_local v ≡ true → (y : ℕ) (before : List ℕ) → known_at v.0 v.1.constant y before ≡ if_constant v.1.constant y
+local_known : (v : Column × VarInfo) → is_local v ≡ true → (y : ℕ) (before : List ℕ) → known_at v.0 v.1.constant y before ≡ if_constant_version v.1.constant y
 local_known (d, info) h y before = by_column d h
   where
-    by_column : (d : Column) → is_local (d, info) ≡ true → known_at d info.constant y before ≡ if_constant info.constant y
+    by_column : (d : Column) → is_local (d, info) ≡ true → known_at d info.constant y before ≡ if_constant_version info.constant y
     by_column (Global g) h = refl
     by_column (Old g) h = absurd (cc)
     by_column (Local g) h = refl
@@ -421,7 +421,7 @@ exit_parameter c b parts i l h k =
     let n = callee_long c.call in
     let y : ℕ = slice_index (entry_of c.call.g c.call.r c.call.callee c.call.helpers) j in
     let known : known_in (exit_position c).scope.known j ≡ Some y =
-    exit_known c j h.column h.there (omega (arith, l, n)) ∙ local_known h.column h.is y c.call.r.stage.here ∙ ap (λ (z : Bool). if_constant z y) k in
+    exit_known c j h.column h.there (omega (arith, l, n)) ∙ local_known h.column h.is y c.call.r.stage.here ∙ ap (λ (z : Bool). if_constant_version z y) k in
     sum_by c b parts j (Some y) known ∙
     ap (λ (z : ℕ). column_upto b parts (suc (2 * c.r.letters)) (slice_index c.r.stage.here j) -ℤ column_upto b parts (2 * suc c.call.r.letters) z) (entry_local c.call j i refl l)
 
@@ -432,7 +432,7 @@ exit_local c b parts i l h k =
     let n = callee_long c.call in
     let y : ℕ = slice_index (entry_of c.call.g c.call.r c.call.callee c.call.helpers) j in
     let known : known_in (exit_position c).scope.known j ≡ None =
-    exit_known c j h.column h.there (omega (arith, l, n)) ∙ local_known h.column h.is y c.call.r.stage.here ∙ ap (λ (z : Bool). if_constant z y) k in
+    exit_known c j h.column h.there (omega (arith, l, n)) ∙ local_known h.column h.is y c.call.r.stage.here ∙ ap (λ (z : Bool). if_constant_version z y) k in
     sum_by c b parts j None known ∙ no_known (column_upto b parts (suc (2 * c.r.letters)) (slice_index c.r.stage.here j))
 
 -- ---- the caller's own sums speak of no column that may be a target

@@ -8,7 +8,7 @@ use Rattle.boogie_tree.specs.declared.tree.VarInfo.{VarInfo}
 use Rattle.nwa_base.specs.Members.{Member}
 use Rattle.lin_rows.specs.Rows.{LinearRow}
 use Rattle.lin_rows.specs.Negating.{below_opposite}
-use Rattle.letter_acts.specs.Frames.{is_global_column, is_old_column, is_constant, is_local, is_parameter, is_result, constants_of, variables_of, results_of, olds_of}
+use Rattle.letter_acts.specs.Frames.{is_global_column, is_old_column, is_fixed_column, is_local, is_parameter, is_result, constants_of, variables_of, result_columns, olds_of}
 use Rattle.letter_acts.specs.Reading.{taken}
 use Rattle.letter_acts.specs.Invariant.{AreDistinct, MayName, MayTarget}
 use Rattle.letter_acts.proofs.ListLemmas.{member_or_not, all_member}
@@ -119,7 +119,7 @@ target_may c j m = all_member (MayTarget (caller_in c.call)) c.targets j m c.act
 -- a constant is no target
 may_not : (c : BackLetter) (j : ℕ) → Member (constants_of (callee_in c.call)) j → MayTarget (caller_in c.call) j → ⊥
 may_not c j m may =
-    let p = at_place is_constant 0 (caller_in c.call) j (subst (λ (xs : List ℕ). Member xs j) (same_constants c) m) in
+    let p = at_place is_fixed_column 0 (caller_in c.call) j (subst (λ (xs : List ℕ). Member xs j) (same_constants c) m) in
     let e : j ≡ p.0 = (let k = p.2 in omega (arith, k)) in
     clash p.1.1.constant (second (is_global_column p.1.0) p.1.1.constant p.4)
     (changes p.1 (subst (λ (o : Option (Column × VarInfo)). IsSomeAnd o (λ v. (v.1.constant ≡ false) × (is_old_column v.0 ≡ false))) (ap (slice_get (caller_in c.call)) e ∙ p.3) may))
@@ -235,7 +235,7 @@ at_variable c l x m = by_target (member_or_not c.targets x)
         put_together c l x (omega (arith, ints, t1, t2, t3, t4, w, s, v, u, a, f))
       where
         from_here : AfterFrom c x → x < heads c.call → (Member c.targets x → ⊥) → slice_index (after_position c).here x ≡ slice_index c.r.stage.here x
-        from_here (from_result r t e) b n = absurd (n (taken_parts c.targets (results_of (callee_in c.call)) (x, r) t).0)
+        from_here (from_result r t e) b n = absurd (n (taken_parts c.targets (result_columns (callee_in c.call)) (x, r) t).0)
         from_here (from_exit h k e) b n = e
         from_here (from_before h k e) b n = absurd (omega (arith, h, b))
 
@@ -270,7 +270,7 @@ at_local c l i b = by_constant (local_at c i b) ((local_at c i b).column.1.const
         by_both false q h = absurd (cc)
 
     -- a parameter is no result
-    not_result : (h : LocalAt c i) → h.column.1.constant ≡ true → Member (results_of (callee_in c.call)) (heads c.call + (olds c.call + i)) → ⊥
+    not_result : (h : LocalAt c i) → h.column.1.constant ≡ true → Member (result_columns (callee_in c.call)) (heads c.call + (olds c.call + i)) → ⊥
     not_result h k m =
         let p = at_place is_result 0 (callee_in c.call) (heads c.call + (olds c.call + i)) m in
         let e : heads c.call + (olds c.call + i) ≡ p.0 = (let q = p.2 in omega (arith, q)) in
@@ -315,7 +315,7 @@ at_local c l i b = by_constant (local_at c i b) ((local_at c i b).column.1.const
         let t1 = t.0 in
         let t2 = t.1 in
         let t3 = t.2 in
-        let t4 = no_result c l x in_callee (λ q m. not_result h k (taken_parts c.targets (results_of (callee_in c.call)) (q, x) m).1) in
+        let t4 = no_result c l x in_callee (λ q m. not_result h k (taken_parts c.targets (result_columns (callee_in c.call)) (q, x) m).1) in
         let w = columns_differ_by c l.more l.late l.node l.branch l.parts l.facts x (made c.call + i) (rows_of_local c i b) (column_of_local c x (made c.call + i) in_callee (omega arith) (omega (arith, b))) in
         let s = callee_claims c l x in_callee in
         let v = exit_parameter c l.branch l.parts i b h k in
@@ -324,12 +324,12 @@ at_local c l i b = by_constant (local_at c i b) ((local_at c i b).column.1.const
         put_together c l x (omega (arith, ints, t1, t2, t3, t4, w, s, v, n, g))
       where
         gone : (h : LocalAt c i) → h.column.1.constant ≡ true → ComesFrom c (heads c.call + (olds c.call + i)) → ⊥
-        gone h k (as_result q m) = not_result h k (taken_parts c.targets (results_of (callee_in c.call)) (q, heads c.call + (olds c.call + i)) m).1
+        gone h k (as_result q m) = not_result h k (taken_parts c.targets (result_columns (callee_in c.call)) (q, heads c.call + (olds c.call + i)) m).1
         gone h k (as_global q n) = omega (arith, q)
-    by_constant h false k = by_taken (taken_or_not c.targets (results_of (callee_in c.call)) (heads c.call + (olds c.call + i)))
+    by_constant h false k = by_taken (taken_or_not c.targets (result_columns (callee_in c.call)) (heads c.call + (olds c.call + i)))
       where
-        by_taken : ((t : ℕ) × Member (taken c.targets (results_of (callee_in c.call))) (t, heads c.call + (olds c.call + i))) ⊎
-            ((t : ℕ) → Member (taken c.targets (results_of (callee_in c.call))) (t, heads c.call + (olds c.call + i)) → ⊥) → AddsAt c l (heads c.call + (olds c.call + i))
+        by_taken : ((t : ℕ) × Member (taken c.targets (result_columns (callee_in c.call))) (t, heads c.call + (olds c.call + i))) ⊎
+            ((t : ℕ) → Member (taken c.targets (result_columns (callee_in c.call))) (t, heads c.call + (olds c.call + i)) → ⊥) → AddsAt c l (heads c.call + (olds c.call + i))
         by_taken (inl h2) =
             let x : ℕ = heads c.call + (olds c.call + i) in
             let long = callee_long c.call in
@@ -338,7 +338,7 @@ at_local c l i b = by_constant (local_at c i b) ((local_at c i b).column.1.const
             let t1 = t.0 in
             let t2 = t.1 in
             let t3 = t.2 in
-            let target = (taken_parts c.targets (results_of (callee_in c.call)) (h2.0, x) h2.1).0 in
+            let target = (taken_parts c.targets (result_columns (callee_in c.call)) (h2.0, x) h2.1).0 in
             let below = target_below c h2.0 target in
             let t4 = result_second c (val_of c l) (h2.0, x) h2.1 in
             let w = nothing_added c l.more l.late l.node l.branch l.parts l.facts x (callee_off c x in_callee (not_named h k)) (inl in_callee) in
@@ -349,11 +349,11 @@ at_local c l i b = by_constant (local_at c i b) ((local_at c i b).column.1.const
             let f : exit_upto c l (slice_index (after_position c).here h2.0) ≡ exit_upto c l (slice_index c.r.stage.here x) = ap (exit_upto c l) (from_here h2.0 h2.1 (after_from c h2.0 below)) in
             put_together c l x (omega (arith, ints, t1, t2, t3, t4, w, s, v, u, a, f))
           where
-            from_here : (t : ℕ) → Member (taken c.targets (results_of (callee_in c.call))) (t, heads c.call + (olds c.call + i)) → AfterFrom c t →
+            from_here : (t : ℕ) → Member (taken c.targets (result_columns (callee_in c.call))) (t, heads c.call + (olds c.call + i)) → AfterFrom c t →
                 slice_index (after_position c).here t ≡ slice_index c.r.stage.here (heads c.call + (olds c.call + i))
-            from_here t m (from_result r q e) = e ∙ ap (slice_index c.r.stage.here) (one_result c.targets (results_of (callee_in c.call)) c.acted.distinct t r (heads c.call + (olds c.call + i)) q m)
-            from_here t m (from_exit h n e) = absurd (n (taken_parts c.targets (results_of (callee_in c.call)) (t, heads c.call + (olds c.call + i)) m).0)
-            from_here t m (from_before h n e) = absurd (n (taken_parts c.targets (results_of (callee_in c.call)) (t, heads c.call + (olds c.call + i)) m).0)
+            from_here t m (from_result r q e) = e ∙ ap (slice_index c.r.stage.here) (one_result c.targets (result_columns (callee_in c.call)) c.acted.distinct t r (heads c.call + (olds c.call + i)) q m)
+            from_here t m (from_exit h n e) = absurd (n (taken_parts c.targets (result_columns (callee_in c.call)) (t, heads c.call + (olds c.call + i)) m).0)
+            from_here t m (from_before h n e) = absurd (n (taken_parts c.targets (result_columns (callee_in c.call)) (t, heads c.call + (olds c.call + i)) m).0)
         by_taken (inr n) =
             let x : ℕ = heads c.call + (olds c.call + i) in
             let long = callee_long c.call in
@@ -465,7 +465,7 @@ caller_constant c l j b m =
     not_written (inr h) = may_not c j m (target_may c j h)
 
     from_here : AfterFrom c j → j < heads c.call → slice_index (after_position c).here j ≡ slice_index c.call.r.stage.here j
-    from_here (from_result r t e) b = absurd (may_not c j m (target_may c j (taken_parts c.targets (results_of (callee_in c.call)) (j, r) t).0))
+    from_here (from_result r t e) b = absurd (may_not c j m (target_may c j (taken_parts c.targets (result_columns (callee_in c.call)) (j, r) t).0))
     from_here (from_exit h n e) b = e ∙ constant_version c j m
     from_here (from_before h n e) b = absurd (omega (arith, h, b))
 
@@ -544,7 +544,7 @@ caller_behind c l j low b = by_target (member_or_not c.targets j)
         not_written n (inr h) = n h
 
         from_here : (Member c.targets j → ⊥) → AfterFrom c j → slice_index (after_position c).here j ≡ slice_index c.call.r.stage.here j
-        from_here n (from_result r t e) = absurd (n (taken_parts c.targets (results_of (callee_in c.call)) (j, r) t).0)
+        from_here n (from_result r t e) = absurd (n (taken_parts c.targets (result_columns (callee_in c.call)) (j, r) t).0)
         from_here n (from_exit h k e) = absurd (omega (arith, h, low))
         from_here n (from_before h k e) = e
 
@@ -598,7 +598,7 @@ at_written c l i b =
         let a = r.0 in
         let d = r.1 in
         let below = target_below c j t in
-        let taken_by = taken_of (caller_in c.call) (callee_in c.call) c.targets (results_of (callee_in c.call)) c.acted.take j t in
+        let taken_by = taken_of (caller_in c.call) (callee_in c.call) c.targets (result_columns (callee_in c.call)) c.acted.take j t in
         let t1 = far_constant c l (after_of c j) a in
         let t2 = far_old c l (after_of c j) a in
         let t3 = global_off c (val_of c l) (after_of c j)
@@ -623,7 +623,7 @@ at_written c l i b =
         let t3 = global_first c (val_of c l) j (variable_kept c j v n) in
         let t4 = result_off c (val_of c l) (after_of c j)
         (λ p h. (let q = taken_range c p h in let e1 = q.2.1 in (
-          (λ e. n (subst (Member c.targets) (one_after c p.0 j q.0 below e) (taken_parts c.targets (results_of (callee_in c.call)) p h).0)),
+          (λ e. n (subst (Member c.targets) (one_after c p.0 j q.0 below e) (taken_parts c.targets (result_columns (callee_in c.call)) p h).0)),
           (λ e. omega (arith, e1, e, a)),
         ))) in
         let w = far_words c l (after_of c j) a (inl d) in

@@ -11,7 +11,7 @@ use Rattle.letter_acts.specs.Invariant.{Graph}
 use Rattle.triple_rows.specs.Predicates.{Formula, truth, atom, and_of, or_of}
 use Rattle.triple_rows.specs.Systems.{said, denied}
 use Rattle.nested_predicates.specs.Sums.{Branch, root_of}
-use Rattle.nested_refutations.specs.Refutations.{Claim, Spot, truth_in, left_at, Exposed, nothing, atom_exposed, unless_truth, exposed, View, Goes, stands, atom_roles, is_used, of_claim, rows_in, said_at}
+use Rattle.nested_refutations.specs.Refutations.{Claim, TreeSpot, truth_in, formula_at, Exposed, nothing, atom_exposed, unless_truth, exposed, View, Gathered, stands, atom_roles, is_used, of_claim, rows_in, said_at}
 use Rattle.nested_refutations.specs.Numbers.{IsFalse, groups_from}
 use Rattle.nested_refutations.proofs.TruthLaws.{IsOpen}
 use Rattle.nested_refutations.proofs.SpotLaws.{spot, StandsIn, IsUncased}
@@ -35,9 +35,9 @@ member_right : {X : Type 0} (xs ys : List X) (x : X) → Member ys x → Member 
 member_right [] ys x h = h
 member_right (z ∷ zs) ys x h = inr (member_right zs ys x h)
 
-member_of_claim : (i : ℕ) (groups : List Spot) (s : Spot) → Member groups s → Member (of_claim i groups) (i, s)
+member_of_claim : (i : ℕ) (groups : List TreeSpot) (s : TreeSpot) → Member groups s → Member (of_claim i groups) (i, s)
 member_of_claim i [] s h = absurd h
-member_of_claim i (x ∷ groups) s (inl e) = inl (ap (λ (y : Spot). (i, y)) e)
+member_of_claim i (x ∷ groups) s (inl e) = inl (ap (λ (y : TreeSpot). (i, y)) e)
 member_of_claim i (x ∷ groups) s (inr m) = inr (member_of_claim i groups s m)
 
 all_joined : {X : Type 0} (P : X → Type 0) (xs ys : List X) → AllByRecursion P xs → AllByRecursion P ys → AllByRecursion P (xs ++ ys)
@@ -45,7 +45,7 @@ all_joined P [] ys h k = k
 all_joined P (x ∷ xs) ys h k = (h.0, all_joined P xs ys h.1 k)
 
 -- the groups of each claim are among all
-pub claim_groups : (g : Graph) (w : List Letter) (t : Tree) (v : View) (k : ℕ) (cs : List Claim) (p i : ℕ) (c : Claim) (s : Spot) → slice_get cs p ≡ Some c → i ≡ k + p →
+pub claim_groups : (g : Graph) (w : List Letter) (t : Tree) (v : View) (k : ℕ) (cs : List Claim) (p i : ℕ) (c : Claim) (s : TreeSpot) → slice_get cs p ≡ Some c → i ≡ k + p →
     Member (exposed v.columns c 0 (root_of g w) t).groups s → Member (groups_from g w t v k cs) (i, s)
 claim_groups g w t v k [] p i c s e q m = absurd (none_some c e)
 claim_groups g w t v k (d ∷ cs) zero i c s e q m =
@@ -82,15 +82,15 @@ begin_groups g w t v un st k (c ∷ cs) f =
     by_truth (Some z) e = subst (AllByRecursion (IsOpenCut v.columns (spot 0 (root_of g w) t) c)) (sym (ap (λ (x : Exposed). x.groups) (exposed_none v.columns c 0 (root_of g w) t z e))) tt
 
 -- a claim whose atoms all stand is held, where it is not false
-pub begin_held : (g : Graph) (w : List Letter) (t : Tree) (v : View) (first : Goes) → IsUncased t → first.groups ≡ groups_from g w t v 0 v.claims → (i : ℕ) (c : Claim) → slice_get v.claims i ≡ Some c →
+pub begin_held : (g : Graph) (w : List Letter) (t : Tree) (v : View) (first : Gathered) → IsUncased t → first.groups ≡ groups_from g w t v 0 v.claims → (i : ℕ) (c : Claim) → slice_get v.claims i ≡ Some c →
     (IsFalse g w t v c → ⊥) → ((m : ℕ) → Member (exposed v.columns c 0 (root_of g w) t).leaves m → IsTrue (stands first.roles i m)) →
     Held v.columns i c first.roles first.groups first.taken 0 (root_of g w) t
 begin_held g w t v first un e i c found open_claim atoms =
     exposed_held v.columns i c first.roles first.groups first.taken 0 (root_of g w) t un open_claim atoms
-    (λ s m. subst (λ (l : List (ℕ × Spot)). Member l (i, s)) (sym e) (claim_groups g w t v 0 v.claims i i c s found (let q : i ≡ 0 + i = omega arith in q) m))
+    (λ s m. subst (λ (l : List (ℕ × TreeSpot)). Member l (i, s)) (sym e) (claim_groups g w t v 0 v.claims i i c s found (let q : i ≡ 0 + i = omega arith in q) m))
 
 -- the rows of a claim's predicate, which is no truth value, are those of its atoms
-pub begin_pairs : (v : View) (root : Spot) → IsUncased root.tree → StandsIn v.columns root.node root.branch root.tree root → (rows : List LinearRow) (i : ℕ) (c : Claim) → slice_get v.claims i ≡ Some c →
+pub begin_pairs : (v : View) (root : TreeSpot) → IsUncased root.tree → StandsIn v.columns root.node root.branch root.tree root → (rows : List LinearRow) (i : ℕ) (c : Claim) → slice_get v.claims i ≡ Some c →
     truth_at v.columns c root.branch root.tree ≡ None →
     AllPairs (RoleFits v root rows) (atom_roles (is_used v i) i (exposed v.columns c root.node root.branch root.tree).leaves) (map tightened (rows_in (said_at v.columns c root)))
 begin_pairs v root un st rows i c found e =
@@ -110,7 +110,7 @@ truth_is (and_of fs) z e = absurd (cc)
 truth_is (or_of fs) z e = absurd (cc)
 
 -- the rows of a claim's predicate, which is not false, are those of its atoms
-pub claim_pairs : (v : View) (root : Spot) → IsUncased root.tree → StandsIn v.columns root.node root.branch root.tree root → (rows : List LinearRow) (i : ℕ) (c : Claim) → slice_get v.claims i ≡ Some c →
+pub claim_pairs : (v : View) (root : TreeSpot) → IsUncased root.tree → StandsIn v.columns root.node root.branch root.tree root → (rows : List LinearRow) (i : ℕ) (c : Claim) → slice_get v.claims i ≡ Some c →
     IsOpen c.is_denied (truth_at v.columns c root.branch root.tree) →
     AllPairs (RoleFits v root rows) (atom_roles (is_used v i) i (exposed v.columns c root.node root.branch root.tree).leaves) (map tightened (rows_in (said_at v.columns c root)))
 claim_pairs v root un st rows i c found is_open = by_truth (truth_at v.columns c root.branch root.tree) refl
@@ -126,4 +126,4 @@ claim_pairs v root un st rows i c found is_open = by_truth (truth_at v.columns c
     by_truth (Some z) e =
         no_pairs (exposed v.columns c root.node root.branch root.tree).leaves (rows_in (said_at v.columns c root))
         (ap (λ (x : Exposed). x.leaves) (exposed_none v.columns c root.node root.branch root.tree z e))
-        (truth_rows c.is_denied z c.column (left_at v.columns c root.branch root.tree) (truth_is (left_at v.columns c root.branch root.tree) z e) (λ q. is_open (e ∙ ap Some q)))
+        (truth_rows c.is_denied z c.column (formula_at v.columns c root.branch root.tree) (truth_is (formula_at v.columns c root.branch root.tree) z e) (λ q. is_open (e ∙ ap Some q)))

@@ -10,7 +10,7 @@ use Rattle.lin_rows.specs.Rows.{LinearRow, IsRow}
 use Rattle.lin_rows.specs.Tightening.{tightened}
 use Rattle.letter_acts.specs.Frames.{Columns, globals_from, globals_of, olds_of}
 use Rattle.letter_acts.specs.Invariant.{alphabet_of}
-use Rattle.path_rows.specs.Versions.{locals_of, old_part}
+use Rattle.path_rows.specs.Versions.{local_columns, old_part}
 use Rattle.frame_rows.specs.Rows.{columns_from, renamed, bounds, types_of, equal_row}
 use Rattle.path_rows.specs.Paths.{repeated, start_frame, first_stage, path_along}
 use Rattle.triple_rows.specs.Systems.{PlainFits, said, denied}
@@ -18,7 +18,7 @@ use Rattle.triple_rows.specs.Triples.{system_of}
 use Rattle.nested_predicates.specs.Positions.{has_return}
 use Rattle.nested_predicates.specs.Joins.{predicate_at}
 use Rattle.nested_refutations.specs.Refutations.{rows_in, Role, spare, branch_row}
-use Rattle.nested_refutations.specs.Numbers.{branch_rows, spares, before_bounds, bounds_in, Reading, here}
+use Rattle.nested_refutations.specs.Numbers.{branch_rows, spares, before_bounds, bounds_in, Reading, position_here}
 use Rattle.nested_refutations.proofs.RowsLaws.{AllPairs, pairs_counted}
 use Rattle.nested_refutations.proofs.WayLaws.{others, others_joined, is_own}
 use Rattle.nested_refutations.proofs.WindowLaws.{passing, none_passes}
@@ -44,7 +44,7 @@ pub record CallRowsFit (c : CallLetter) : Type 0 where
 
 pub call_rows_fit : (c : CallLetter) → PlainFits (system_of (alphabet_of c.g) (call_step_in c).triple) → CallRowsFit c
 call_rows_fit c f =
-    let from = predicate_at c.g c.w c.t (here c.r) in
+    let from = predicate_at c.g c.w c.t (position_here c.r) in
     let to = predicate_at c.g c.w c.t (call_to c.g c.r c.rest c.callee c.helpers) in
     let n : ℕ = length (caller_in c) in
     let e = ap rows_in (call_system_is c.g c.globals c.w c.t c.r c.a c.rest c.caller c.callee c.helpers c.rows c.at) ∙ call_system_rows (caller_in c) (callee_in c) c.rows from to in
@@ -151,7 +151,7 @@ pub bounds_add : (c : CallLetter) (val : Role → ℤ) (number other : LinearRow
     passing (is_own (call_view c)) (λ j. val (branch_row j)) other (length (front_of c) + length (own_block c) + length (entry_block c) + length (local_block c)) (old_block c) (callee_now c (old_block c))
 bounds_add c val number other same =
     let local : ℕ = c.r.rows + length c.rows + length (old_part (callee_in c)) in
-    let old : ℕ = local + bounds_in (locals_of (callee_in c)) in
+    let old : ℕ = local + bounds_in (local_columns (callee_in c)) in
     let g_rows : List LinearRow = map tightened (global_bounds c) in
     let o_rows : List LinearRow = map tightened (old_bounds c) in
     let l_rows : List LinearRow = map tightened (local_bounds c) in
@@ -159,8 +159,8 @@ bounds_add c val number other same =
     let rows_are : map tightened (bounds (length (caller_in c)) (types_of (callee_in c))) ≡ g_rows ++ (o_rows ++ l_rows) =
     ap (map tightened) (callee_bounds_rows c) ∙ map-append tightened (global_bounds c) (old_bounds c ++ local_bounds c) ∙ ap (λ (l : List LinearRow). g_rows ++ l) (map-append tightened (old_bounds c) (local_bounds c)) in
     let on : bounds_in (old_part (callee_in c)) ≡ length o_rows = sym (bounds_counted (length (caller_in c) + heads c) 0 (types_of (old_part (callee_in c)))) ∙ sym (length-map (old_bounds c) tightened) in
-    let ln : bounds_in (locals_of (callee_in c)) ≡ length l_rows =
-    sym (bounds_counted (length (caller_in c) + (heads c + olds c)) 0 (types_of (locals_of (callee_in c)))) ∙ sym (length-map (local_bounds c) tightened) in
+    let ln : bounds_in (local_columns (callee_in c)) ≡ length l_rows =
+    sym (bounds_counted (length (caller_in c) + (heads c + olds c)) 0 (types_of (local_columns (callee_in c)))) ∙ sym (length-map (local_bounds c) tightened) in
     let gn : bounds_in (globals_from 0 c.at.infos) ≡ length g_rows = sym (bounds_counted (length (caller_in c)) 0 (types_of (globals_from 0 c.at.infos))) ∙ sym (length-map (global_bounds c) tightened) in
     let lb : length l_rows ≡ length (local_block c) = pairs_counted (λ r s. number r ≡ other s) l_rows (local_block c) same.local in
     let rows : c.r.rows ≡ length (front_of c) = sym c.at.along.read.row_count ∙ sym (length-map c.at.along.read.front tightened) in
@@ -170,7 +170,7 @@ bounds_add c val number other same =
     let local_at : local ≡ length (front_of c) + length (own_block c) + length (entry_block c) = omega (arith, rows, own, entries) in
     let old_at : old ≡ length (front_of c) + length (own_block c) + length (entry_block c) + length (local_block c) = omega (arith, rows, own, entries, ln, lb) in
     let roles_are : bound_roles c ≡ g_roles ++ (branch_rows old (length o_rows) ++ branch_rows local (length l_rows)) =
-    callee_roles c local old ∙ ap (λ (n : ℕ). g_roles ++ (branch_rows old n ++ branch_rows local (bounds_in (locals_of (callee_in c))))) on ∙
+    callee_roles c local old ∙ ap (λ (n : ℕ). g_roles ++ (branch_rows old n ++ branch_rows local (bounds_in (local_columns (callee_in c))))) on ∙
     ap (λ (n : ℕ). g_roles ++ (branch_rows old (length o_rows) ++ branch_rows local n)) ln in
     let whole : others val number (bound_roles c) (map tightened (bounds (length (caller_in c)) (types_of (callee_in c)))) ≡
     others val number (g_roles ++ (branch_rows old (length o_rows) ++ branch_rows local (length l_rows))) (g_rows ++ (o_rows ++ l_rows)) =
@@ -231,15 +231,15 @@ frame_add c pending val number other same = by_begun c.at.begun
         others val number (before_bounds (suc c.r.letters) (caller_in c)) (caller_bounds c) ≡ passing (is_own (call_view c)) (λ j. val (branch_row j)) other 0 (front_of c) c.at.along.read.early
     by_begun (inl e) =
         let letters : suc c.r.letters ≡ 1 = ap (λ (x : Reading). suc x.letters) e.0 in
-        let here : before_bounds (suc c.r.letters) (caller_in c) ≡ branch_rows 0 (bounds_in (caller_in c)) = ap (λ (z : Bool). if z then branch_rows 0 (bounds_in (caller_in c)) else spares (bounds_in (caller_in c))) (eq-eqb (suc c.r.letters) 1 letters) in
-        ap (λ (l : List Role). others val number l (caller_bounds c)) (here ∙ ap (branch_rows 0) (sym count)) ∙
+        let position_here : before_bounds (suc c.r.letters) (caller_in c) ≡ branch_rows 0 (bounds_in (caller_in c)) = ap (λ (z : Bool). if z then branch_rows 0 (bounds_in (caller_in c)) else spares (bounds_in (caller_in c))) (eq-eqb (suc c.r.letters) 1 letters) in
+        ap (λ (l : List Role). others val number l (caller_bounds c)) (position_here ∙ ap (branch_rows 0) (sym count)) ∙
         rows_add (call_view c) val number other 0 (caller_bounds c) (front_of c) c.at.along.read.early (same.frame e.0 e.1)
         (pairs_of_second (λ s. is_own (call_view c) s ≡ true) (front_of c) c.at.along.read.early (call_early_front c)
         (all_true (IsEarly c.r.letters) (λ s. is_own (call_view c) s ≡ true) (at_first e.0) c.at.along.read.early c.at.along.read.early_within))
     by_begun (inr l) =
-        let here : before_bounds (suc c.r.letters) (caller_in c) ≡ spares (bounds_in (caller_in c)) =
+        let position_here : before_bounds (suc c.r.letters) (caller_in c) ≡ spares (bounds_in (caller_in c)) =
         ap (λ (z : Bool). if z then branch_rows 0 (bounds_in (caller_in c)) else spares (bounds_in (caller_in c))) (ne_eqb (suc c.r.letters) 1 (λ (e : suc c.r.letters ≡ 1). omega (arith, l, e))) in
-        ap (λ (r : List Role). others val number r (caller_bounds c)) here ∙ spares_add val number 0 (bounds_in (caller_in c)) (caller_bounds c) ∙
+        ap (λ (r : List Role). others val number r (caller_bounds c)) position_here ∙ spares_add val number 0 (bounds_in (caller_in c)) (caller_bounds c) ∙
         sym (none_passes (is_own (call_view c)) (λ j. val (branch_row j)) other 0 (front_of c) c.at.along.read.early
         (all_true (IsEarly c.r.letters) (λ s. is_own (call_view c) s ≡ false) (at_later l) c.at.along.read.early c.at.along.read.early_within))
 

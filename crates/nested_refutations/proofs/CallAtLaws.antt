@@ -13,7 +13,7 @@ use Rattle.letter_acts.specs.Frames.{Columns, IsFrame, globals_of, olds_of}
 use Rattle.letter_acts.specs.Acts.{PlainAct, call_act, Alphabet, frame_of, act_of}
 use Rattle.letter_acts.specs.Invariant.{Graph, IsGraph, alphabet_of, IsPlaceOf, CallIsActed}
 use Rattle.letter_acts.proofs.KnownLemmas.{act_found, frames_laid_out}
-use Rattle.path_rows.specs.Versions.{Part, locals_of, entered, call_part, part_of, act_part}
+use Rattle.path_rows.specs.Versions.{Part, local_columns, entered_versions, call_part, part_of, act_part}
 use Rattle.path_rows.specs.Paths.{start_frame}
 use Rattle.path_rows.specs.Stages.{AreVersions, VersionsAt}
 use Rattle.path_rows.specs.Drafts.{CanGoOn}
@@ -24,10 +24,10 @@ use Rattle.frame_rows.specs.Rows.{equal_row, types_of, bounds}
 use Rattle.triple_rows.specs.Triples.{call_system_of, system_of}
 use Rattle.triple_rows.proofs.FormulaLaws.{prefix_read}
 use Rattle.nested_predicates.specs.Stamps.{stamp_of}
-use Rattle.nested_predicates.specs.Positions.{Scope, has_return, callee_of, callee_scope, scopes_after, Position, innermost}
+use Rattle.nested_predicates.specs.Positions.{CallScope, has_return, callee_of, callee_scope, scopes_after, Position, innermost}
 use Rattle.nested_predicates.specs.Joins.{predicate_at}
 use Rattle.nested_refutations.specs.Refutations.{rows_in}
-use Rattle.nested_refutations.specs.Numbers.{Step, call_step, Reading, here, read_on}
+use Rattle.nested_refutations.specs.Numbers.{Step, call_step, Reading, position_here, read_on}
 use Rattle.nested_refutations.proofs.MovingLaws.{both_rows}
 use Rattle.nested_refutations.proofs.AlongLaws.{first_reading, ScopesFit, Placed, same_proc, Along}
 
@@ -43,7 +43,7 @@ pub record CallAt (g : Graph) (globals : ℕ) (w : List Letter) (r : Reading) (a
   pub to_frame : IsFrame infos (frame_of (alphabet_of g) callee)
   pub begun : ((r ≡ first_reading g) × (frame_of (alphabet_of g) caller ≡ start_frame g)) ⊎ (0 < r.letters)
 
-head_place : (g : Graph) (places : List ℕ) (q : ℕ) (scopes : List Scope) → ScopesFit g places q scopes → IsPlaceOf g.place_procs (innermost scopes).proc q
+head_place : (g : Graph) (places : List ℕ) (q : ℕ) (scopes : List CallScope) → ScopesFit g places q scopes → IsPlaceOf g.place_procs (innermost scopes).proc q
 head_place g places q [] h = absurd h
 head_place g [] q (s ∷ scopes) h = h.0
 head_place g (p ∷ places) q (s ∷ scopes) h = h.0
@@ -115,7 +115,7 @@ call_scope_proc g ok globals w r a rest caller callee helpers rows h =
 -- the versions at the entry
 abbrev pub entry_of : Graph → Reading → ℕ → ℕ → List ℕ
 entry_of g r callee helpers =
-    entered (frame_of (alphabet_of g) callee) r.stage.made (r.stage.made + length (locals_of (frame_of (alphabet_of g) callee)) + helpers) r.stage.here
+    entered_versions (frame_of (alphabet_of g) callee) r.stage.made (r.stage.made + length (local_columns (frame_of (alphabet_of g) callee)) + helpers) r.stage.here
 
 -- the position after it
 abbrev pub call_to : Graph → Reading → List Letter → ℕ → ℕ → Position
@@ -129,11 +129,11 @@ pub call_part_is : (g : Graph) (globals : ℕ) (w : List Letter) (r : Reading) (
     CallAt g globals w r a rest caller callee helpers rows → part_of (alphabet_of g) a r.stage ≡ call_part (frame_of (alphabet_of g) callee) helpers rows r.stage
 call_part_is g globals w r a rest caller callee helpers rows h = ap (λ (o : Option PlainAct). act_part (alphabet_of g) o r.stage) h.act_is
 
-abbrev position_with : ℕ → Scope → List ℕ → Position
+abbrev position_with : ℕ → CallScope → List ℕ → Position
 position_with upto s l = record { scope = s; here = l; upto = upto }
 
 pub call_to_is : (g : Graph) (globals : ℕ) (w : List Letter) (r : Reading) (a : Letter) (rest : List Letter) (caller callee helpers : ℕ) (rows : List LinearRow) →
-    CallAt g globals w r a rest caller callee helpers rows → here (read_on (alphabet_of g) a rest r) ≡ call_to g r rest callee helpers
+    CallAt g globals w r a rest caller callee helpers rows → position_here (read_on (alphabet_of g) a rest r) ≡ call_to g r rest callee helpers
 call_to_is g globals w r a rest caller callee helpers rows h =
     let al : Alphabet = alphabet_of g in
     let k : ℕ = suc r.letters in
@@ -145,14 +145,14 @@ call_to_is g globals w r a rest caller callee helpers rows h =
 -- the step of the letter
 abbrev pub call_step_at : Graph → List Letter → Tree → Reading → Letter → List Letter → ℕ → ℕ → ℕ → List LinearRow → Step
 call_step_at g w t r a rest caller callee helpers rows =
-    call_step g w t a.id (suc r.letters) r.rows r.stage.made (has_return 0 rest) (here r) (call_to g r rest callee helpers) (frame_of (alphabet_of g) caller) (frame_of (alphabet_of g) callee) helpers rows
+    call_step g w t a.id (suc r.letters) r.rows r.stage.made (has_return 0 rest) (position_here r) (call_to g r rest callee helpers) (frame_of (alphabet_of g) caller) (frame_of (alphabet_of g) callee) helpers rows
 
 pub call_system_is : (g : Graph) (globals : ℕ) (w : List Letter) (t : Tree) (r : Reading) (a : Letter) (rest : List Letter) (caller callee helpers : ℕ) (rows : List LinearRow) →
     CallAt g globals w r a rest caller callee helpers rows → system_of (alphabet_of g) (call_step_at g w t r a rest caller callee helpers rows).triple ≡
-    call_system (frame_of (alphabet_of g) caller) (frame_of (alphabet_of g) callee) rows (predicate_at g w t (here r)) (predicate_at g w t (call_to g r rest callee helpers))
+    call_system (frame_of (alphabet_of g) caller) (frame_of (alphabet_of g) callee) rows (predicate_at g w t (position_here r)) (predicate_at g w t (call_to g r rest callee helpers))
 call_system_is g globals w t r a rest caller callee helpers rows h =
     let al : Alphabet = alphabet_of g in
-    let from : Formula = predicate_at g w t (here r) in
+    let from : Formula = predicate_at g w t (position_here r) in
     let to : Formula = predicate_at g w t (call_to g r rest callee helpers) in
     ap (λ (o : Option PlainAct). call_system_of al o (formula_of (prefix_of from)) (formula_of (prefix_of to))) h.there ∙
     ap (λ (f : Formula). call_system (frame_of al caller) (frame_of al callee) rows f (formula_of (prefix_of to))) (prefix_read from) ∙

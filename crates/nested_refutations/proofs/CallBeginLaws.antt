@@ -11,7 +11,7 @@ use Rattle.lin_rows.specs.Combinations.{Contradicts}
 use Rattle.farkas_check.specs.Trees.{TreeRefutes}
 use Rattle.letter_acts.specs.Frames.{globals_from, globals_of, olds_of}
 use Rattle.letter_acts.specs.Invariant.{alphabet_of}
-use Rattle.path_rows.specs.Versions.{locals_of, old_part}
+use Rattle.path_rows.specs.Versions.{local_columns, old_part}
 use Rattle.path_rows.specs.Paths.{start_frame}
 use Rattle.triple_rows.specs.Systems.{PlainFits}
 use Rattle.frame_rows.specs.Rows.{renamed, equal_row, bounds, types_of}
@@ -20,7 +20,7 @@ use Rattle.nested_predicates.specs.Positions.{has_return}
 use Rattle.nested_predicates.specs.Sums.{Branch, root_of}
 use Rattle.nested_predicates.proofs.EndLaws.{rows_goal}
 use Rattle.nested_refutations.specs.Refutations.{Claim, rows_in, said_at, Role, target_tie, opposite_tie, stands, atom_roles, is_used, stops, leaf_from}
-use Rattle.nested_refutations.specs.Numbers.{branch_rows, spares, before_bounds, bounds_in, Reading, LeafFits, IsFalse, AreCutsAt}
+use Rattle.nested_refutations.specs.Numbers.{branch_rows, spares, before_bounds, bounds_in, Reading, LeafNumbersFit, IsFalse, AreCutsAt}
 use Rattle.nested_refutations.specs.Waiting.{StepWaits}
 use Rattle.nested_refutations.proofs.TruthLaws.{IsOpen}
 use Rattle.nested_refutations.proofs.SpotLaws.{spot, StandsIn, IsUncased, uncased_stands}
@@ -216,7 +216,7 @@ caller_pairs c fits = by_return (has_return 0 c.rest)
 bound_pairs : (c : CallLetter) → CallRowsFit c → AllPairs (Fits c) (bound_roles c) (map tightened (bounds (length (caller_in c)) (types_of (callee_in c))))
 bound_pairs c fits =
     let local : ℕ = c.r.rows + length c.rows + length (old_part (callee_in c)) in
-    let old : ℕ = local + bounds_in (locals_of (callee_in c)) in
+    let old : ℕ = local + bounds_in (local_columns (callee_in c)) in
     let g_rows : List LinearRow = map tightened (global_bounds c) in
     let o_rows : List LinearRow = map tightened (old_bounds c) in
     let l_rows : List LinearRow = map tightened (local_bounds c) in
@@ -224,7 +224,7 @@ bound_pairs c fits =
     let rows_are : map tightened (bounds (length (caller_in c)) (types_of (callee_in c))) ≡ g_rows ++ (o_rows ++ l_rows) =
     ap (map tightened) (callee_bounds_rows c) ∙ map-append tightened (global_bounds c) (old_bounds c ++ local_bounds c) ∙ ap (λ (l : List LinearRow). g_rows ++ l) (map-append tightened (old_bounds c) (local_bounds c)) in
     let on : length o_rows ≡ bounds_in (old_part (callee_in c)) = length-map (old_bounds c) tightened ∙ bounds_counted (length (caller_in c) + heads c) 0 (types_of (old_part (callee_in c))) in
-    let ln : length l_rows ≡ bounds_in (locals_of (callee_in c)) = length-map (local_bounds c) tightened ∙ bounds_counted (length (caller_in c) + (heads c + olds c)) 0 (types_of (locals_of (callee_in c))) in
+    let ln : length l_rows ≡ bounds_in (local_columns (callee_in c)) = length-map (local_bounds c) tightened ∙ bounds_counted (length (caller_in c) + (heads c + olds c)) 0 (types_of (local_columns (callee_in c))) in
     let gn : length g_rows ≡ bounds_in (globals_from 0 c.at.infos) = length-map (global_bounds c) tightened ∙ bounds_counted (length (caller_in c)) 0 (types_of (globals_from 0 c.at.infos)) in
     let lb : length l_rows ≡ length (local_block c) = pairs_counted (λ r s. r.kind ≡ s.kind) l_rows (local_block c) kinds.local in
     let rows = row_at_own c in
@@ -235,17 +235,17 @@ bound_pairs c fits =
     let a3 = length-append ((front_of c ++ own_block c) ++ entry_block c) (local_block c) in
     let local_at : length ((front_of c ++ own_block c) ++ entry_block c) ≡ local = omega (arith, rows, own, entries, a1, a2) in
     let old_at : length (((front_of c ++ own_block c) ++ entry_block c) ++ local_block c) ≡ old = omega (arith, rows, own, entries, a1, a2, a3, ln, lb) in
-    let p_local = subst (λ (k : ℕ). AllPairs (Fits c) (branch_rows k (bounds_in (locals_of (callee_in c)))) l_rows) local_at
+    let p_local = subst (λ (k : ℕ). AllPairs (Fits c) (branch_rows k (bounds_in (local_columns (callee_in c)))) l_rows) local_at
     (subst (λ (k : ℕ). AllPairs (Fits c) (branch_rows (length ((front_of c ++ own_block c) ++ entry_block c)) k) l_rows) ln
     (branch_pairs (call_view c) (call_root c) (root_of c.g c.w).rows ((front_of c ++ own_block c) ++ entry_block c) l_rows (local_block c) (old_block c ++ map tightened (later_rows c)) (behind_entries c) kinds.local)) in
     let p_old = subst (λ (k : ℕ). AllPairs (Fits c) (branch_rows k (bounds_in (old_part (callee_in c)))) o_rows) old_at
     (subst (λ (k : ℕ). AllPairs (Fits c) (branch_rows (length (((front_of c ++ own_block c) ++ entry_block c) ++ local_block c)) k) o_rows) on
     (branch_pairs (call_view c) (call_root c) (root_of c.g c.w).rows (((front_of c ++ own_block c) ++ entry_block c) ++ local_block c) o_rows (old_block c) (map tightened (later_rows c)) (behind_locals c) kinds.old)) in
     let p_global = subst (λ (k : ℕ). AllPairs (Fits c) (spares k) g_rows) gn (spare_pairs (call_view c) (call_root c) (root_of c.g c.w).rows 0 g_rows) in
-    let both = pairs_joined (Fits c) (branch_rows old (bounds_in (old_part (callee_in c)))) o_rows (branch_rows local (bounds_in (locals_of (callee_in c)))) l_rows p_old p_local in
-    let whole = pairs_joined (Fits c) (spares (bounds_in (globals_from 0 c.at.infos))) g_rows (branch_rows old (bounds_in (old_part (callee_in c))) ++ branch_rows local (bounds_in (locals_of (callee_in c)))) (o_rows ++ l_rows) p_global both in
+    let both = pairs_joined (Fits c) (branch_rows old (bounds_in (old_part (callee_in c)))) o_rows (branch_rows local (bounds_in (local_columns (callee_in c)))) l_rows p_old p_local in
+    let whole = pairs_joined (Fits c) (spares (bounds_in (globals_from 0 c.at.infos))) g_rows (branch_rows old (bounds_in (old_part (callee_in c))) ++ branch_rows local (bounds_in (local_columns (callee_in c)))) (o_rows ++ l_rows) p_global both in
     subst (λ (l : List Role). AllPairs (Fits c) l (map tightened (bounds (length (caller_in c)) (types_of (callee_in c))))) (sym (callee_roles c local old))
-    (subst (AllPairs (Fits c) (spares (bounds_in (globals_from 0 c.at.infos)) ++ (branch_rows old (bounds_in (old_part (callee_in c))) ++ branch_rows local (bounds_in (locals_of (callee_in c)))))) (sym rows_are) whole)
+    (subst (AllPairs (Fits c) (spares (bounds_in (globals_from 0 c.at.infos)) ++ (branch_rows old (bounds_in (old_part (callee_in c))) ++ branch_rows local (bounds_in (local_columns (callee_in c)))))) (sym rows_are) whole)
 
 all_pairs : (c : CallLetter) → CallOpenClaims c → CallRowsFit c → AllPairs (Fits c) (call_first c).roles (call_first c).rows
 all_pairs c o fits =
@@ -320,7 +320,7 @@ pub call_refutes : (c : CallLetter) → TreeRefutes c.t (rows_goal (root_of c.g 
     (CallOpens c → (more : List LinearRow) (late : List ℕ) (n : ℕ) (b : Branch) (parts : List (ℕ × ℤ)) → LeafFacts (call_view c) (call_root c) more late n b parts →
     AddsUp (call_view c) (call_root c) (call_first c) more late n b parts) →
     PlainFits (system_of (alphabet_of c.g) (call_step_in c).triple) → AllByRecursion (λ d. IsFalse c.g c.w c.t (call_view c) d → ⊥) (call_view c).claims → (sides : List Bool) →
-    IfSome (leaf_from (call_view c) sides (call_first c) (stops (call_view c) [] 0 (root_of c.g c.w) c.t)) (λ l. LeafFits l → Contradicts l.rows l.parts)
+    IfSome (leaf_from (call_view c) sides (call_first c) (stops (call_view c) [] 0 (root_of c.g c.w) c.t)) (λ l. LeafNumbersFit l → Contradicts l.rows l.parts)
 call_refutes c refuted cuts adds fits open_claims sides =
     let o : CallOpenClaims c = claims_open c refuted open_claims in
     let rows : CallRowsFit c = call_rows_fit c fits in

@@ -8,11 +8,11 @@ use Rattle.nwa_base.specs.Members.{Member}
 use Rattle.letter_acts.specs.Frames.{Columns, globals_of}
 use Rattle.letter_acts.specs.Acts.{frame_of}
 use Rattle.letter_acts.specs.Invariant.{Graph, alphabet_of, AreDistinct}
-use Rattle.path_rows.specs.Versions.{locals_of, old_part}
+use Rattle.path_rows.specs.Versions.{local_columns, old_part}
 use Rattle.frame_rows.specs.Rows.{columns_from}
 use Rattle.path_rows.proofs.DifferLemmas.{distinct_joined, columns_distinct}
 use Rattle.nested_predicates.specs.Sums.{root_of}
-use Rattle.nested_refutations.specs.Refutations.{Spot, View, Goes}
+use Rattle.nested_refutations.specs.Refutations.{TreeSpot, View, Gathered}
 use Rattle.nested_refutations.specs.Numbers.{Step, Reading, begins}
 use Rattle.nested_refutations.proofs.ContentLaws.{DiffersBelow}
 use Rattle.nested_refutations.proofs.NamesLaws.{member_joined, columns_bounds}
@@ -53,7 +53,7 @@ abbrev pub olds : CallLetter → ℕ
 olds c = length (old_part (callee_in c))
 
 abbrev pub locals : CallLetter → ℕ
-locals c = length (locals_of (callee_in c))
+locals c = length (local_columns (callee_in c))
 
 -- the first column that it makes, and how many
 abbrev pub made : CallLetter → ℕ
@@ -76,10 +76,10 @@ call_step_in c = call_step_at c.g c.w c.t c.r c.a c.rest c.caller c.callee c.hel
 abbrev pub call_view : CallLetter → View
 call_view c = (call_step_in c).view
 
-abbrev pub call_root : CallLetter → Spot
+abbrev pub call_root : CallLetter → TreeSpot
 call_root c = record { node = 0; branch = root_of c.g c.w; tree = c.t }
 
-abbrev pub call_first : CallLetter → Goes
+abbrev pub call_first : CallLetter → Gathered
 call_first c = begins c.g c.w c.t (call_step_in c)
 
 pub lay : (c : CallLetter) → Layout c.at.infos (callee_in c)

@@ -19,7 +19,7 @@ use Rattle.lin_rows.specs.Tightening.{tightened}
 use Rattle.letter_acts.specs.Frames.{Columns, globals_from, is_local, variables_of, olds_of}
 use Rattle.letter_acts.specs.Invariant.{MayName}
 use Rattle.letter_acts.proofs.FrameLemmas.{IsConsecutive, olds_consecutive, olds_of_variables, variable_below}
-use Rattle.path_rows.specs.Versions.{locals_of, old_part, entry_rows}
+use Rattle.path_rows.specs.Versions.{local_columns, old_part, entry_rows}
 use Rattle.frame_rows.specs.Rows.{columns_from, renamed, equal_row, types_of, bounds}
 use Rattle.frame_rows.specs.Frames.{is_old}
 use Rattle.path_rows.proofs.CallLaws.{call_below}
@@ -227,7 +227,7 @@ abbrev pub old_bounds : CallLetter → List LinearRow
 old_bounds c = bounds (length (caller_in c) + heads c) (types_of (old_part (callee_in c)))
 
 abbrev pub local_bounds : CallLetter → List LinearRow
-local_bounds c = bounds (length (caller_in c) + (heads c + olds c)) (types_of (locals_of (callee_in c)))
+local_bounds c = bounds (length (caller_in c) + (heads c + olds c)) (types_of (local_columns (callee_in c)))
 
 abbrev pub global_bounds : CallLetter → List LinearRow
 global_bounds c = bounds (length (caller_in c)) (types_of (globals_from 0 c.at.infos))
@@ -237,7 +237,7 @@ callee_bounds_rows c =
     let n : ℕ = length (caller_in c) in
     let front : Columns = globals_from 0 c.at.infos in
     let o : Columns = old_part (callee_in c) in
-    let l : Columns = locals_of (callee_in c) in
+    let l : Columns = local_columns (callee_in c) in
     let k : length (types_of front) ≡ heads c = length_types front ∙ length-globals_from 0 c.at.infos in
     ap (λ (x : Columns). bounds n (types_of x)) (lay c).parts ∙
     ap (bounds n) (map-append type_of front (o ++ l)) ∙ bounds_joined n (types_of front) (types_of (o ++ l)) ∙
@@ -251,10 +251,10 @@ old_bounds_are c =
     bounds_renamed (slice_index (call_names c)) (length (caller_in c) + heads c) (made c + locals c + c.helpers) (types_of (old_part (callee_in c)))
     (λ i l. (let a = caller_long c in let m = length_types (old_part (callee_in c)) in name_old c (length (caller_in c) + heads c + i) i (omega (arith, a)) (omega (arith, l, m))))
 
-pub local_bounds_are : (c : CallLetter) → map (renamed (slice_index (call_names c))) (local_bounds c) ≡ bounds (made c) (types_of (locals_of (callee_in c)))
+pub local_bounds_are : (c : CallLetter) → map (renamed (slice_index (call_names c))) (local_bounds c) ≡ bounds (made c) (types_of (local_columns (callee_in c)))
 local_bounds_are c =
-    bounds_renamed (slice_index (call_names c)) (length (caller_in c) + (heads c + olds c)) (made c) (types_of (locals_of (callee_in c)))
-    (λ i l. (let a = caller_long c in let m = length_types (locals_of (callee_in c)) in name_local c (length (caller_in c) + (heads c + olds c) + i) i (omega (arith, a)) (omega (arith, l, m))))
+    bounds_renamed (slice_index (call_names c)) (length (caller_in c) + (heads c + olds c)) (made c) (types_of (local_columns (callee_in c)))
+    (λ i l. (let a = caller_long c in let m = length_types (local_columns (callee_in c)) in name_local c (length (caller_in c) + (heads c + olds c) + i) i (omega (arith, a)) (omega (arith, l, m))))
 
 pub old_bounds_below : (c : CallLetter) → AllByRecursion (λ r. IsBelow (length (call_names c)) r.terms) (old_bounds c)
 old_bounds_below c =
@@ -267,8 +267,8 @@ pub local_bounds_below : (c : CallLetter) → AllByRecursion (λ r. IsBelow (len
 local_bounds_below c =
     let n = call_names_count c in
     let a = caller_long c in
-    let m = length_types (locals_of (callee_in c)) in
-    bounds_below (length (call_names c)) (length (caller_in c) + (heads c + olds c)) (types_of (locals_of (callee_in c))) (omega (arith, n, a, m))
+    let m = length_types (local_columns (callee_in c)) in
+    bounds_below (length (call_names c)) (length (caller_in c) + (heads c + olds c)) (types_of (local_columns (callee_in c))) (omega (arith, n, a, m))
 
 -- bounds from a column on do not name earlier ones
 pub bounds_above : (n x : ℕ) (ts : List (Option Ty)) → x < n → AllByRecursion (λ r. coefficient x r.terms ≡ pos 0) (bounds n ts)
@@ -284,7 +284,7 @@ pub old_bounds_off : (c : CallLetter) (i : ℕ) → i < heads c → AllByRecursi
 old_bounds_off c i l = let a = caller_long c in bounds_above (length (caller_in c) + heads c) (width c + i) (types_of (old_part (callee_in c))) (omega (arith, a, l))
 
 pub local_bounds_off : (c : CallLetter) (i : ℕ) → i < heads c → AllByRecursion (λ r. coefficient (width c + i) r.terms ≡ pos 0) (local_bounds c)
-local_bounds_off c i l = let a = caller_long c in bounds_above (length (caller_in c) + (heads c + olds c)) (width c + i) (types_of (locals_of (callee_in c))) (omega (arith, a, l))
+local_bounds_off c i l = let a = caller_long c in bounds_above (length (caller_in c) + (heads c + olds c)) (width c + i) (types_of (local_columns (callee_in c))) (omega (arith, a, l))
 
 -- ---- their roles
 
@@ -366,9 +366,9 @@ local_roles local old (d ∷ xs) h = by_bool (is_bool d) (is_local d) (is_old d)
 
 -- the roles of the callee's bounds
 pub callee_roles : (c : CallLetter) (local old : ℕ) → callee_bounds local old (callee_in c) ≡
-    spares (bounds_in (globals_from 0 c.at.infos)) ++ (branch_rows old (bounds_in (old_part (callee_in c))) ++ branch_rows local (bounds_in (locals_of (callee_in c))))
+    spares (bounds_in (globals_from 0 c.at.infos)) ++ (branch_rows old (bounds_in (old_part (callee_in c))) ++ branch_rows local (bounds_in (local_columns (callee_in c))))
 callee_roles c local old =
-    ap (callee_bounds local old) (lay c).parts ∙ spare_globals local old 0 c.at.infos (old_part (callee_in c) ++ locals_of (callee_in c)) ∙
+    ap (callee_bounds local old) (lay c).parts ∙ spare_globals local old 0 c.at.infos (old_part (callee_in c) ++ local_columns (callee_in c)) ∙
     ap (λ (l : List Role). spares (bounds_in (globals_from 0 c.at.infos)) ++ l)
-    (old_roles local old (old_part (callee_in c)) (locals_of (callee_in c)) (filtered is_old (callee_in c)) ∙
-    ap (λ (l : List Role). branch_rows old (bounds_in (old_part (callee_in c))) ++ l) (local_roles local (old + bounds_in (old_part (callee_in c))) (locals_of (callee_in c)) (filtered is_local (callee_in c))))
+    (old_roles local old (old_part (callee_in c)) (local_columns (callee_in c)) (filtered is_old (callee_in c)) ∙
+    ap (λ (l : List Role). branch_rows old (bounds_in (old_part (callee_in c))) ++ l) (local_roles local (old + bounds_in (old_part (callee_in c))) (local_columns (callee_in c)) (filtered is_local (callee_in c))))

@@ -9,7 +9,7 @@ use Rattle.lin_rows.specs.Tightening.{tightened}
 use Rattle.letter_acts.specs.Frames.{globals_of, variables_of, olds_of}
 use Rattle.letter_acts.specs.Acts.{PlainAct, act_of}
 use Rattle.letter_acts.specs.Invariant.{alphabet_of}
-use Rattle.path_rows.specs.Versions.{Part, locals_of, old_part, entry_rows, part_of}
+use Rattle.path_rows.specs.Versions.{Part, local_columns, old_part, entry_rows, part_of}
 use Rattle.frame_rows.specs.Rows.{columns_from, renamed, bounds, types_of, equal_row}
 use Rattle.path_rows.specs.Versions as versions
 use Rattle.path_rows.specs.Paths.{repeated, path_along}
@@ -20,7 +20,7 @@ use Rattle.nested_predicates.specs.Sums.{Branch, root_of}
 use Rattle.nested_predicates.specs.Joins.{predicate_at}
 use Rattle.nested_predicates.proofs.StampLaws.{root_stamped}
 use Rattle.nested_refutations.specs.Refutations.{Claim, exposed, rows_in, Role, spare, branch_row, target_tie, opposite_tie, atom_roles, is_used}
-use Rattle.nested_refutations.specs.Numbers.{branch_rows, spares, before_bounds, callee_bounds, bounds_in, here, source, target}
+use Rattle.nested_refutations.specs.Numbers.{branch_rows, spares, before_bounds, callee_bounds, bounds_in, position_here, source, target}
 use Rattle.nested_refutations.proofs.RowsLaws.{pairs_counted}
 use Rattle.nested_refutations.proofs.WayLaws.{others, others_joined, others_atoms, is_own}
 use Rattle.nested_refutations.proofs.WindowLaws.{passing, passing_joined}
@@ -66,13 +66,13 @@ call_now c = own_now c ++ (callee_now c (entry_block c) ++ (callee_now c (local_
 abbrev pub front_of : CallLetter → List LinearRow
 front_of c = map tightened c.at.along.read.front
 
-block_is : (c : CallLetter) → map tightened (versions.rows_in (part_of (alphabet_of c.g) c.a c.r.stage)) ≡ call_block c
+block_is : (c : CallLetter) → map tightened (versions.part_rows (part_of (alphabet_of c.g) c.a c.r.stage)) ≡ call_block c
 block_is c =
     let own : List LinearRow = map (renamed (slice_index (spec_names c))) c.rows in
     let entries : List LinearRow = entry_rows (made c + locals c + c.helpers) (map (slice_index c.r.stage.here) (variables_of (callee_in c))) in
-    let bl : List LinearRow = bounds (made c) (types_of (locals_of (callee_in c))) in
+    let bl : List LinearRow = bounds (made c) (types_of (local_columns (callee_in c))) in
     let bo : List LinearRow = bounds (made c + locals c + c.helpers) (types_of (old_part (callee_in c))) in
-    ap (λ (x : Part). map tightened (versions.rows_in x)) (call_part_is c.g c.globals c.w c.r c.a c.rest c.caller c.callee c.helpers c.rows c.at) ∙
+    ap (λ (x : Part). map tightened (versions.part_rows x)) (call_part_is c.g c.globals c.w c.r c.a c.rest c.caller c.callee c.helpers c.rows c.at) ∙
     map-append tightened own (entries ++ (bl ++ bo)) ∙
     ap (λ (l : List LinearRow). map tightened l ++ map tightened (entries ++ (bl ++ bo))) (own_rows_are c) ∙
     ap (λ (l : List LinearRow). own_block c ++ l)
@@ -89,7 +89,7 @@ now_is c =
     let k : ℕ = suc c.r.letters in
     let part : Part = part_of (alphabet_of c.g) c.a c.r.stage in
     let entries : List LinearRow = entry_rows (made c + locals c + c.helpers) (map (slice_index c.r.stage.here) (variables_of (callee_in c))) in
-    let bl : List LinearRow = bounds (made c) (types_of (locals_of (callee_in c))) in
+    let bl : List LinearRow = bounds (made c) (types_of (local_columns (callee_in c))) in
     let bo : List LinearRow = bounds (made c + locals c + c.helpers) (types_of (old_part (callee_in c))) in
     let own : length (map (renamed (slice_index (spec_names c))) c.rows) ≡ length (own_block c) =
     ap (λ (l : List LinearRow). length l) (own_rows_are c) ∙ sym (length-map (map (renamed (slice_index (call_names c))) c.rows) tightened) in
@@ -118,8 +118,8 @@ pub call_root_rows : (c : CallLetter) → (root_of c.g c.w).rows ≡ front_of c 
 unfolding later_rows
 call_root_rows c =
     let part : Part = part_of (alphabet_of c.g) c.a c.r.stage in
-    ap (map tightened) c.at.along.read.rows ∙ map-append tightened c.at.along.read.front (versions.rows_in part ++ later_rows c) ∙
-    ap (λ (l : List LinearRow). front_of c ++ l) (map-append tightened (versions.rows_in part) (later_rows c) ∙ ap (λ (l : List LinearRow). l ++ map tightened (later_rows c)) (block_is c))
+    ap (map tightened) c.at.along.read.rows ∙ map-append tightened c.at.along.read.front (versions.part_rows part ++ later_rows c) ∙
+    ap (λ (l : List LinearRow). front_of c ++ l) (map-append tightened (versions.part_rows part) (later_rows c) ∙ ap (λ (l : List LinearRow). l ++ map tightened (later_rows c)) (block_is c))
 
 pub call_root_stamps : (c : CallLetter) → (root_of c.g c.w).stamps ≡ c.at.along.read.early ++ (call_now c ++ later_stamps c)
 unfolding later_stamps
@@ -208,13 +208,13 @@ block_passes c times other k =
 -- ---- the rows of the system in parts
 
 abbrev pub source_rows : CallLetter → List LinearRow
-source_rows c = map tightened (rows_in (said (λ x. x) (predicate_at c.g c.w c.t (here c.r))))
+source_rows c = map tightened (rows_in (said (λ x. x) (predicate_at c.g c.w c.t (position_here c.r))))
 
 abbrev pub target_rows : CallLetter → List LinearRow
 target_rows c = map tightened (rows_in (denied (λ x. length (caller_in c) + x) (predicate_at c.g c.w c.t (call_to c.g c.r c.rest c.callee c.helpers))))
 
 abbrev pub source_claim : CallLetter → Claim
-source_claim c = source (here c.r) (λ x. x)
+source_claim c = source (position_here c.r) (λ x. x)
 
 abbrev pub target_claim : CallLetter → Claim
 target_claim c = target (call_to c.g c.r c.rest c.callee c.helpers) (λ x. length (caller_in c) + x)
@@ -242,7 +242,7 @@ seven_mapped f a b c d e h k =
 pub call_first_rows : (c : CallLetter) → (call_first c).rows ≡ source_rows c ++ (global_ties c ++ (old_ties c ++ (map tightened c.rows ++ (target_rows c ++ (caller_bounds c ++
     map tightened (bounds (length (caller_in c)) (types_of (callee_in c))))))))
 call_first_rows c =
-    let from = predicate_at c.g c.w c.t (here c.r) in
+    let from = predicate_at c.g c.w c.t (position_here c.r) in
     let to = predicate_at c.g c.w c.t (call_to c.g c.r c.rest c.callee c.helpers) in
     let n : ℕ = length (caller_in c) in
     ap (λ (s : PlainSystem). map tightened (rows_in s)) (call_system_is c.g c.globals c.w c.t c.r c.a c.rest c.caller c.callee c.helpers c.rows c.at) ∙
@@ -264,7 +264,7 @@ caller_roles c = if has_return 0 c.rest then spares (bounds_in (caller_in c)) el
 abbrev pub bound_roles : CallLetter → List Role
 bound_roles c =
     let local = c.r.rows + length c.rows + length (old_part (callee_in c)) in
-    callee_bounds local (local + bounds_in (locals_of (callee_in c))) (callee_in c)
+    callee_bounds local (local + bounds_in (local_columns (callee_in c))) (callee_in c)
 
 seven_joined : {X : Type 0} (a b c d e h k : List X) → a ++ b ++ c ++ d ++ e ++ h ++ k ≡ a ++ (b ++ (c ++ (d ++ (e ++ (h ++ k)))))
 seven_joined a b c d e h k =

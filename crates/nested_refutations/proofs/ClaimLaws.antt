@@ -18,8 +18,8 @@ use Rattle.frame_rows.specs.Rows.{renamed}
 use Rattle.nested_predicates.specs.Sums.{Branch, terms_from, is_not_negative, inequality, coefficients_at, bound_at}
 use Rattle.nested_predicates.specs.Joins.{simplified}
 use Rattle.nested_predicates.proofs.SpellingLaws.{column_sums_length}
-use Rattle.nested_refutations.specs.Refutations.{Claim, Spot, truth_in, View, multiplier, multipliers, stands, is_used, Goes, leaf_of}
-use Rattle.nested_refutations.specs.Numbers.{LeafFits}
+use Rattle.nested_refutations.specs.Refutations.{Claim, TreeSpot, truth_in, View, multiplier, multipliers, stands, is_used, Gathered, leaf_of}
+use Rattle.nested_refutations.specs.Numbers.{LeafNumbersFit}
 use Rattle.nested_refutations.proofs.TruthLaws.{HeldUnless}
 use Rattle.nested_refutations.proofs.RowsLaws.{pairs_counted, claim_row}
 use Rattle.nested_refutations.proofs.SumLaws.{leaf_contradicts}
@@ -229,15 +229,15 @@ atoms_add_bound v st b parts k (c ∷ cs) h =
 -- ---- a leaf
 
 -- The rows that are no atoms, and the sums of the claims, come to nothing in each column, and to a bound below 0.
-pub record AddsUp (v : View) (root : Spot) (first : Goes) (more : List LinearRow) (late : List ℕ) (n : ℕ) (b : Branch) (parts : List (ℕ × ℤ)) : Type 0 where
+pub record AddsUp (v : View) (root : TreeSpot) (first : Gathered) (more : List LinearRow) (late : List ℕ) (n : ℕ) (b : Branch) (parts : List (ℕ × ℤ)) : Type 0 where
   pub columns : (x : ℕ) → (others (multiplier v n b parts) (λ r. coefficient x r.terms) first.roles first.rows +ℤ
       own_sum v (multiplier v n b parts) (λ r. coefficient x r.terms) (length root.branch.rows) more late) +ℤ columns_added v b parts x 0 v.claims ≡ pos 0
   pub bound : ((others (multiplier v n b parts) (λ r. r.bound) first.roles first.rows +ℤ
       own_sum v (multiplier v n b parts) (λ r. r.bound) (length root.branch.rows) more late) +ℤ bounds_added v b parts 0 v.claims) <ℤ pos 0
 
 -- a leaf that adds up contradicts its rows, if its numbers fit
-pub leaf_refutes : (v : View) (root : Spot) (first g : Goes) (n : ℕ) (b : Branch) (parts : List (ℕ × ℤ)) → (h : LeafReached v root (Way v root first g) g n b parts) →
-    StandsWell v (λ i. stands g.roles i n) b parts 0 v.claims → AddsUp v root first h.way.more h.way.late n b parts → LeafFits (leaf_of v g n b parts) →
+pub leaf_refutes : (v : View) (root : TreeSpot) (first g : Gathered) (n : ℕ) (b : Branch) (parts : List (ℕ × ℤ)) → (h : LeafReached v root (Way v root first g) g n b parts) →
+    StandsWell v (λ i. stands g.roles i n) b parts 0 v.claims → AddsUp v root first h.way.more h.way.late n b parts → LeafNumbersFit (leaf_of v g n b parts) →
     Contradicts g.rows (leaf_of v g n b parts).parts
 leaf_refutes v root first g n b parts h st adds fits =
     let ms : List ℤ = multipliers v n b parts g.roles in

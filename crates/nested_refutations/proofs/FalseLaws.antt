@@ -15,7 +15,7 @@ use Rattle.letter_acts.specs.Invariant.{Graph}
 use Rattle.triple_rows.specs.Predicates.{Formula, truth}
 use Rattle.nested_predicates.specs.Sums.{root_of}
 use Rattle.nested_predicates.specs.Simplifying.{is_same}
-use Rattle.nested_refutations.specs.Refutations.{Claim, Spot, truth_in, left_at, Exposed, exposed, View, rows_in}
+use Rattle.nested_refutations.specs.Refutations.{Claim, TreeSpot, truth_in, formula_at, Exposed, exposed, View, rows_in}
 use Rattle.nested_refutations.specs.Numbers.{IsFalse}
 use Rattle.nested_refutations.specs.Walked.{is_truth, false_row}
 use Rattle.nested_refutations.proofs.SpotLaws.{spot, IsUncased, uncased_stands}
@@ -70,7 +70,7 @@ abbrev pub rows_laid : Graph → List Letter → Tree → View → List (List Li
 rows_laid g w t v [] cs more = more
 rows_laid g w t v (m ∷ ms) [] more = more
 rows_laid g w t v (m ∷ ms) (c ∷ cs) more =
-    m ++ (rows_in (says c.is_denied c.column (left_at v.columns c (root_of g w) t)) ++ rows_laid g w t v ms cs more)
+    m ++ (rows_in (says c.is_denied c.column (formula_at v.columns c (root_of g w) t)) ++ rows_laid g w t v ms cs more)
 
 false_rows : (d : Bool) (to : ℕ → ℕ) → rows_in (says d to (truth d)) ≡ never ∷ []
 false_rows true to = refl
@@ -89,23 +89,23 @@ same_truth false true e = absurd (cc)
 same_truth false false e = refl
 
 -- a claim that is not false has a row for each of its atoms
-claim_counted : (g : Graph) (w : List Letter) (t : Tree) (v : View) (c : Claim) → IsUncased t → (o : Option Bool) → truth_in (left_at v.columns c (root_of g w) t) ≡ o → is_truth o c.is_denied ≡ false →
-    length (exposed v.columns c 0 (root_of g w) t).leaves ≡ length (rows_in (says c.is_denied c.column (left_at v.columns c (root_of g w) t)))
+claim_counted : (g : Graph) (w : List Letter) (t : Tree) (v : View) (c : Claim) → IsUncased t → (o : Option Bool) → truth_in (formula_at v.columns c (root_of g w) t) ≡ o → is_truth o c.is_denied ≡ false →
+    length (exposed v.columns c 0 (root_of g w) t).leaves ≡ length (rows_in (says c.is_denied c.column (formula_at v.columns c (root_of g w) t)))
 claim_counted g w t v c un None e n =
-    let root : Spot = spot 0 (root_of g w) t in
-    pairs_counted (IsAtomRow v.columns root c) (exposed v.columns c 0 (root_of g w) t).leaves (rows_in (says c.is_denied c.column (left_at v.columns c (root_of g w) t)))
+    let root : TreeSpot = spot 0 (root_of g w) t in
+    pairs_counted (IsAtomRow v.columns root c) (exposed v.columns c 0 (root_of g w) t).leaves (rows_in (says c.is_denied c.column (formula_at v.columns c (root_of g w) t)))
     (exposed_rows v.columns root un c 0 (root_of g w) t (uncased_stands v.columns 0 (root_of g w) t un) e)
 claim_counted g w t v c un (Some z) e n =
     ap (λ (x : Exposed). length x.leaves) (exposed_none v.columns c 0 (root_of g w) t z e) ∙
-    sym (ap (λ (f : Formula). length (rows_in (says c.is_denied c.column f))) (rows_laws.is_truth (left_at v.columns c (root_of g w) t) z e) ∙
+    sym (ap (λ (f : Formula). length (rows_in (says c.is_denied c.column f))) (rows_laws.is_truth (formula_at v.columns c (root_of g w) t) z e) ∙
     ap (λ (l : List LinearRow). length l) (other_rows c.is_denied z c.column n))
 
 -- a claim that is so has the row `0 <= -1`
-claim_false : (g : Graph) (w : List Letter) (t : Tree) (v : View) (c : Claim) → (o : Option Bool) → truth_in (left_at v.columns c (root_of g w) t) ≡ o → is_truth o c.is_denied ≡ true →
-    rows_in (says c.is_denied c.column (left_at v.columns c (root_of g w) t)) ≡ never ∷ []
+claim_false : (g : Graph) (w : List Letter) (t : Tree) (v : View) (c : Claim) → (o : Option Bool) → truth_in (formula_at v.columns c (root_of g w) t) ≡ o → is_truth o c.is_denied ≡ true →
+    rows_in (says c.is_denied c.column (formula_at v.columns c (root_of g w) t)) ≡ never ∷ []
 claim_false g w t v c None e n = absurd (cc)
 claim_false g w t v c (Some z) e n =
-    ap (λ (f : Formula). rows_in (says c.is_denied c.column f)) (rows_laws.is_truth (left_at v.columns c (root_of g w) t) z e ∙ ap truth (same_truth z c.is_denied n)) ∙
+    ap (λ (f : Formula). rows_in (says c.is_denied c.column f)) (rows_laws.is_truth (formula_at v.columns c (root_of g w) t) z e ∙ ap truth (same_truth z c.is_denied n)) ∙
     false_rows c.is_denied c.column
 
 found_behind : (front more : List LinearRow) (r : LinearRow) (k : ℕ) → k ≡ length front → slice_get (front ++ r ∷ more) k ≡ Some r
@@ -117,13 +117,13 @@ found_behind (x ∷ front) more r (suc k) e = found_behind front more r k (omega
 first_or_later : (g : Graph) (w : List Letter) (t : Tree) (v : View) → IsUncased t → (front : List LinearRow) (k : ℕ) → k ≡ length front →
     (m : List LinearRow) (ms : List (List LinearRow)) (c : Claim) (cs : List Claim) (more : List LinearRow) (r : ℕ) →
     ((before : List LinearRow) (j : ℕ) → j ≡ length before → false_row g w t v j (map length ms) cs ≡ Some r → slice_get (before ++ rows_laid g w t v ms cs more) r ≡ Some never) →
-    (z : Bool) → is_truth (truth_in (left_at v.columns c (root_of g w) t)) c.is_denied ≡ z →
+    (z : Bool) → is_truth (truth_in (formula_at v.columns c (root_of g w) t)) c.is_denied ≡ z →
     (if z then Some (k + length m) else false_row g w t v (k + length m + length (exposed v.columns c 0 (root_of g w) t).leaves) (map length ms) cs) ≡ Some r →
     slice_get (front ++ rows_laid g w t v (m ∷ ms) (c ∷ cs) more) r ≡ Some never
 first_or_later g w t v un front k e m ms c cs more r later true f h =
-    let mine : List LinearRow = rows_in (says c.is_denied c.column (left_at v.columns c (root_of g w) t)) in
+    let mine : List LinearRow = rows_in (says c.is_denied c.column (formula_at v.columns c (root_of g w) t)) in
     let rest : List LinearRow = rows_laid g w t v ms cs more in
-    let one : mine ≡ never ∷ [] = claim_false g w t v c (truth_in (left_at v.columns c (root_of g w) t)) refl f in
+    let one : mine ≡ never ∷ [] = claim_false g w t v c (truth_in (formula_at v.columns c (root_of g w) t)) refl f in
     let at : k + length m ≡ r = same_some (k + length m) r h in
     let l = length-append front m in
     let place : r ≡ length (front ++ m) = omega (arith, at, l, e) in
@@ -131,10 +131,10 @@ first_or_later g w t v un front k e m ms c cs more r later true f h =
     sym (append_assoc front m (mine ++ rest)) ∙ ap (λ (x : List LinearRow). (front ++ m) ++ (x ++ rest)) one in
     ap (λ (x : List LinearRow). slice_get x r) laid ∙ found_behind (front ++ m) rest never r place
 first_or_later g w t v un front k e m ms c cs more r later false f h =
-    let mine : List LinearRow = rows_in (says c.is_denied c.column (left_at v.columns c (root_of g w) t)) in
+    let mine : List LinearRow = rows_in (says c.is_denied c.column (formula_at v.columns c (root_of g w) t)) in
     let rest : List LinearRow = rows_laid g w t v ms cs more in
     let leaves : List ℕ = (exposed v.columns c 0 (root_of g w) t).leaves in
-    let count : length leaves ≡ length mine = claim_counted g w t v c un (truth_in (left_at v.columns c (root_of g w) t)) refl f in
+    let count : length leaves ≡ length mine = claim_counted g w t v c un (truth_in (formula_at v.columns c (root_of g w) t)) refl f in
     let l1 = length-append front m in
     let l2 = length-append (front ++ m) mine in
     let place : k + length m + length leaves ≡ length ((front ++ m) ++ mine) = omega (arith, count, l1, l2, e) in
@@ -149,7 +149,7 @@ pub false_row_found : (g : Graph) (w : List Letter) (t : Tree) (v : View) → Is
 false_row_found g w t v un front k e [] cs more r h = absurd (cc)
 false_row_found g w t v un front k e (m ∷ ms) [] more r h = absurd (cc)
 false_row_found g w t v un front k e (m ∷ ms) (c ∷ cs) more r h =
-    first_or_later g w t v un front k e m ms c cs more r (λ before j f i. false_row_found g w t v un before j f ms cs more r i) (is_truth (truth_in (left_at v.columns c (root_of g w) t)) c.is_denied) refl h
+    first_or_later g w t v un front k e m ms c cs more r (λ before j f i. false_row_found g w t v un before j f ms cs more r i) (is_truth (truth_in (formula_at v.columns c (root_of g w) t)) c.is_denied) refl h
 
 -- ---- no claim is false
 
@@ -167,11 +167,11 @@ none_false g w t v k [] [] l h = tt
 none_false g w t v k [] (c ∷ cs) l h = absurd (omega (arith, l))
 none_false g w t v k (n ∷ gaps) [] l h = absurd (omega (arith, l))
 none_false g w t v k (n ∷ gaps) (c ∷ cs) l h =
-    by_test (is_truth (truth_in (left_at v.columns c (root_of g w) t)) c.is_denied) refl h (none_false g w t v (k + n + length (exposed v.columns c 0 (root_of g w) t).leaves) gaps cs (omega (arith, l)))
+    by_test (is_truth (truth_in (formula_at v.columns c (root_of g w) t)) c.is_denied) refl h (none_false g w t v (k + n + length (exposed v.columns c 0 (root_of g w) t).leaves) gaps cs (omega (arith, l)))
   where
-    by_test : (z : Bool) → is_truth (truth_in (left_at v.columns c (root_of g w) t)) c.is_denied ≡ z →
+    by_test : (z : Bool) → is_truth (truth_in (formula_at v.columns c (root_of g w) t)) c.is_denied ≡ z →
         (if z then Some (k + n) else false_row g w t v (k + n + length (exposed v.columns c 0 (root_of g w) t).leaves) gaps cs) ≡ None →
         (false_row g w t v (k + n + length (exposed v.columns c 0 (root_of g w) t).leaves) gaps cs ≡ None → AllByRecursion (λ d. IsFalse g w t v d → ⊥) cs) →
         (IsFalse g w t v c → ⊥) × AllByRecursion (λ d. IsFalse g w t v d → ⊥) cs
     by_test true e h later = absurd (cc)
-    by_test false e h later = (not_first (truth_in (left_at v.columns c (root_of g w) t)) c.is_denied e, later h)
+    by_test false e h later = (not_first (truth_in (formula_at v.columns c (root_of g w) t)) c.is_denied e, later h)

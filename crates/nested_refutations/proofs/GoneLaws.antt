@@ -8,7 +8,7 @@ use Rattle.lin_rows.specs.Rows.{LinearRow}
 use Rattle.letter_acts.specs.Frames.{Columns, added, is_global, places, globals_of}
 use Rattle.letter_acts.specs.Acts.{frame_of}
 use Rattle.letter_acts.specs.Invariant.{Graph, alphabet_of, AreDistinct}
-use Rattle.path_rows.specs.Versions.{Stage, written_over, inside_part}
+use Rattle.path_rows.specs.Versions.{PathStage, written_over, inside_part}
 use Rattle.frame_rows.specs.Rows.{columns_from}
 use Rattle.path_rows.specs.Stages.{AreVersions, AreSaved}
 use Rattle.path_rows.proofs.DifferLemmas.{length_written, place_of, dropped_at}
@@ -86,7 +86,7 @@ saved_apart g globals have made (p ∷ places) (v ∷ saved) here h (suc k) j l 
 -- ---- an inside letter
 
 -- the version of a column of its system which is none of the state after it is not live
-pub inside_gone : (g : Graph) (globals : ℕ) → HaveGlobals g globals → (frame : Columns) (written : List ℕ) (helpers : ℕ) (rows : List LinearRow) (p : Stage) (places : List ℕ) →
+pub inside_gone : (g : Graph) (globals : ℕ) → HaveGlobals g globals → (frame : Columns) (written : List ℕ) (helpers : ℕ) (rows : List LinearRow) (p : PathStage) (places : List ℕ) →
     AreVersions p.made frame p.here → AreSaved g p.made places p.saved p.here → AreDistinct written → (rest : List Letter) (x : ℕ) → x < length p.here + (length written + helpers) →
     ((j : ℕ) → j < length p.here → after_column 0 (length p.here) written j ≡ x → ⊥) →
     Live globals (inside_part frame written helpers rows p).after rest (slice_index (p.here ++ columns_from p.made (length written + helpers)) x) → ⊥

@@ -9,7 +9,7 @@ use Rattle.nested_predicates.specs.Positions.{is_counted}
 use Rattle.nested_predicates.specs.Sums.{Branch, with_cut}
 use Rattle.nested_predicates.specs.Joins.{joined_at}
 use Rattle.nested_predicates.specs.Simplifying.{is_same}
-use Rattle.nested_refutations.specs.Refutations.{Claim, Spot, low_side, high_side, truth_in, left_at, Asked, one_part, both_parts, some_part, each_asked, some_asked, asked_at, Exposed, atom_exposed, parts_exposed, unless_truth, exposed, Role, stands, taken_at}
+use Rattle.nested_refutations.specs.Refutations.{Claim, TreeSpot, low_side, high_side, truth_in, formula_at, Asked, one_part, both_parts, some_part, each_asked, some_asked, asked_at, Exposed, atom_exposed, parts_exposed, unless_truth, exposed, Role, stands, taken_at}
 use Rattle.nested_refutations.proofs.TruthLaws.{decided, cut_truth, HeldUnless, PartsHeld, FollowHeld, each_held, some_held, IsOpen, open_held, AskedOpen, asked_open}
 use Rattle.nested_refutations.proofs.SpotLaws.{spot, IsUncased}
 
@@ -20,10 +20,10 @@ WaitsUnless (Some side) P = Unit {0}
 
 -- what is left of a claim at a node, if it is a truth value
 abbrev pub truth_at : List ℕ → Claim → Branch → Tree → Option Bool
-truth_at columns c b t = truth_in (left_at columns c b t)
+truth_at columns c b t = truth_in (formula_at columns c b t)
 
 -- the atom of a leaf has a row; at a cut the parts that are asked are held, or the group waits
-abbrev pub HeldWithin : List ℕ → ℕ → Claim → List Role → List (ℕ × Spot) → List (ℕ × ℕ × Bool) → ℕ → Branch → Tree → Type 0
+abbrev pub HeldWithin : List ℕ → ℕ → Claim → List Role → List (ℕ × TreeSpot) → List (ℕ × ℕ × Bool) → ℕ → Branch → Tree → Type 0
 HeldWithin columns i c roles groups taken n b (leaf_tree parts) = IsTrue (stands roles i n)
 HeldWithin columns i c roles groups taken n b (cut_tree col k t u) =
     let low = low_side columns n b col k t in
@@ -34,7 +34,7 @@ HeldWithin columns i c roles groups taken n b (cut_tree col k t u) =
     (HeldUnless c.is_denied (truth_at columns c high.branch u) (HeldWithin columns i c roles groups taken high.node high.branch u))
 HeldWithin columns i c roles groups taken n b (cases_tree ts) = ⊥
 
-abbrev pub Held : List ℕ → ℕ → Claim → List Role → List (ℕ × Spot) → List (ℕ × ℕ × Bool) → ℕ → Branch → Tree → Type 0
+abbrev pub Held : List ℕ → ℕ → Claim → List Role → List (ℕ × TreeSpot) → List (ℕ × ℕ × Bool) → ℕ → Branch → Tree → Type 0
 Held columns i c roles groups taken n b t = HeldUnless c.is_denied (truth_at columns c b t) (HeldWithin columns i c roles groups taken n b t)
 
 -- ---- more rows and groups hold it too
@@ -50,17 +50,17 @@ parts_more both_parts G A B H C D f g h x = (g x.0, h x.1)
 parts_more some_part G A B H C D f g h x = f x
 
 -- what waits or was taken of a claim still waits or was taken
-abbrev pub StillWaits : ℕ → List (ℕ × Spot) → List (ℕ × ℕ × Bool) → List (ℕ × Spot) → List (ℕ × ℕ × Bool) → Type 0
+abbrev pub StillWaits : ℕ → List (ℕ × TreeSpot) → List (ℕ × ℕ × Bool) → List (ℕ × TreeSpot) → List (ℕ × ℕ × Bool) → Type 0
 StillWaits i groups taken more later =
     (n : ℕ) (b : Branch) (t : Tree) → WaitsUnless (taken_at i n taken) (Member groups (i, spot n b t)) → WaitsUnless (taken_at i n later) (Member more (i, spot n b t))
 
-within_more : (columns : List ℕ) (i : ℕ) (c : Claim) (roles others : List Role) (groups more : List (ℕ × Spot)) (taken later : List (ℕ × ℕ × Bool)) →
+within_more : (columns : List ℕ) (i : ℕ) (c : Claim) (roles others : List Role) (groups more : List (ℕ × TreeSpot)) (taken later : List (ℕ × ℕ × Bool)) →
     ((m : ℕ) → IsTrue (stands roles i m) → IsTrue (stands others i m)) → StillWaits i groups taken more later →
     (n : ℕ) (b : Branch) (t : Tree) → HeldWithin columns i c roles groups taken n b t → HeldWithin columns i c others more later n b t
 within_more columns i c roles others groups more taken later f g n b (leaf_tree parts) h = f n h
 within_more columns i c roles others groups more taken later f g n b (cut_tree col k t u) h =
-    let low : Spot = low_side columns n b col k t in
-    let high : Spot = high_side columns n b col k t u in
+    let low : TreeSpot = low_side columns n b col k t in
+    let high : TreeSpot = high_side columns n b col k t u in
     let x : Option Bool = truth_at columns c low.branch t in
     let y : Option Bool = truth_at columns c high.branch u in
     parts_more (asked_at c (column_stamp columns col) x y) _ _ _ _ _ _ (g n b (cut_tree col k t u))
@@ -68,7 +68,7 @@ within_more columns i c roles others groups more taken later f g n b (cut_tree c
     (unless_more c.is_denied y _ _ (within_more columns i c roles others groups more taken later f g high.node high.branch u)) h
 within_more columns i c roles others groups more taken later f g n b (cases_tree ts) h = h
 
-pub held_more : (columns : List ℕ) (i : ℕ) (c : Claim) (roles others : List Role) (groups more : List (ℕ × Spot)) (taken later : List (ℕ × ℕ × Bool)) →
+pub held_more : (columns : List ℕ) (i : ℕ) (c : Claim) (roles others : List Role) (groups more : List (ℕ × TreeSpot)) (taken later : List (ℕ × ℕ × Bool)) →
     ((m : ℕ) → IsTrue (stands roles i m) → IsTrue (stands others i m)) → StillWaits i groups taken more later →
     (n : ℕ) (b : Branch) (t : Tree) → Held columns i c roles groups taken n b t → Held columns i c others more later n b t
 held_more columns i c roles others groups more taken later f g n b t h =
@@ -90,10 +90,10 @@ member_right [] ys x h = h
 member_right (z ∷ zs) ys x h = inr (member_right zs ys x h)
 
 -- all that is exposed is there
-abbrev AllThere : ℕ → List Role → List (ℕ × Spot) → Exposed → Type 0
-AllThere i roles groups x = ((m : ℕ) → Member x.leaves m → IsTrue (stands roles i m)) × ((s : Spot) → Member x.groups s → Member groups (i, s))
+abbrev AllThere : ℕ → List Role → List (ℕ × TreeSpot) → Exposed → Type 0
+AllThere i roles groups x = ((m : ℕ) → Member x.leaves m → IsTrue (stands roles i m)) × ((s : TreeSpot) → Member x.groups s → Member groups (i, s))
 
-parts_there : (a : Asked) (i n : ℕ) (b : Branch) (t : Tree) (roles : List Role) (groups : List (ℕ × Spot)) (taken : List (ℕ × ℕ × Bool)) (x y : Exposed) (A B : Type 0) →
+parts_there : (a : Asked) (i n : ℕ) (b : Branch) (t : Tree) (roles : List Role) (groups : List (ℕ × TreeSpot)) (taken : List (ℕ × ℕ × Bool)) (x y : Exposed) (A B : Type 0) →
     (p q : Option Bool) → AskedOpen a p q → (p ≡ None → AllThere i roles groups x → A) → (q ≡ None → AllThere i roles groups y → B) →
     AllThere i roles groups (parts_exposed a (spot n b t) x y) → PartsHeld a (WaitsUnless (taken_at i n taken) (Member groups (i, spot n b t))) A B
 parts_there (one_part false) i n b t roles groups taken x y A B p q o f g h = f o h
@@ -123,16 +123,16 @@ truth_of_cut columns c b col k t u =
     (joined_at columns c.position (with_cut b (column_stamp columns col) (at_most col k)) t)
     (joined_at columns c.position (with_cut b (column_stamp columns col) (above col k)) u)
 
-atom_there : (n : ℕ) (o : Option Bool) (i : ℕ) (roles : List Role) (groups : List (ℕ × Spot)) → o ≡ None → AllThere i roles groups (atom_exposed n o) → IsTrue (stands roles i n)
+atom_there : (n : ℕ) (o : Option Bool) (i : ℕ) (roles : List Role) (groups : List (ℕ × TreeSpot)) → o ≡ None → AllThere i roles groups (atom_exposed n o) → IsTrue (stands roles i n)
 atom_there n None i roles groups e h = h.0 n (inl refl)
 atom_there n (Some v) i roles groups e h = absurd (cc)
 
-pub within_exposed : (columns : List ℕ) (i : ℕ) (c : Claim) (roles : List Role) (groups : List (ℕ × Spot)) (taken : List (ℕ × ℕ × Bool)) (n : ℕ) (b : Branch) (t : Tree) →
+pub within_exposed : (columns : List ℕ) (i : ℕ) (c : Claim) (roles : List Role) (groups : List (ℕ × TreeSpot)) (taken : List (ℕ × ℕ × Bool)) (n : ℕ) (b : Branch) (t : Tree) →
     IsUncased t → truth_at columns c b t ≡ None → AllThere i roles groups (exposed columns c n b t) → HeldWithin columns i c roles groups taken n b t
 within_exposed columns i c roles groups taken n b (leaf_tree parts) un e h = atom_there n (truth_at columns c b (leaf_tree parts)) i roles groups e h
 within_exposed columns i c roles groups taken n b (cut_tree col k t u) un e h =
-    let low : Spot = low_side columns n b col k t in
-    let high : Spot = high_side columns n b col k t u in
+    let low : TreeSpot = low_side columns n b col k t in
+    let high : TreeSpot = high_side columns n b col k t u in
     let x : Option Bool = truth_at columns c low.branch t in
     let y : Option Bool = truth_at columns c high.branch u in
     let stamp : ℕ = column_stamp columns col in
@@ -145,9 +145,9 @@ within_exposed columns i c roles groups taken n b (cut_tree col k t u) un e h =
 within_exposed columns i c roles groups taken n b (cases_tree ts) un e h = absurd un
 
 -- where a claim is not false, what it exposes is held
-pub exposed_held : (columns : List ℕ) (i : ℕ) (c : Claim) (roles : List Role) (groups : List (ℕ × Spot)) (taken : List (ℕ × ℕ × Bool)) (n : ℕ) (b : Branch) (t : Tree) →
+pub exposed_held : (columns : List ℕ) (i : ℕ) (c : Claim) (roles : List Role) (groups : List (ℕ × TreeSpot)) (taken : List (ℕ × ℕ × Bool)) (n : ℕ) (b : Branch) (t : Tree) →
     IsUncased t → IsOpen c.is_denied (truth_at columns c b t) → ((m : ℕ) → Member (exposed columns c n b t).leaves m → IsTrue (stands roles i m)) →
-    ((s : Spot) → Member (exposed columns c n b t).groups s → Member groups (i, s)) → Held columns i c roles groups taken n b t
+    ((s : TreeSpot) → Member (exposed columns c n b t).groups s → Member groups (i, s)) → Held columns i c roles groups taken n b t
 exposed_held columns i c roles groups taken n b t un o f g =
     open_held c.is_denied (truth_at columns c b t) (HeldWithin columns i c roles groups taken n b t) o (λ e. within_exposed columns i c roles groups taken n b t un e (f, g))
 
@@ -170,13 +170,13 @@ other_bool true true e = absurd (cc)
 other_bool false false e = absurd (cc)
 
 -- where a cut asks both parts of a claim, both are held
-pub sides_held : (columns : List ℕ) (i : ℕ) (c : Claim) (roles : List Role) (groups : List (ℕ × Spot)) (taken : List (ℕ × ℕ × Bool)) (n : ℕ) (b : Branch) (col : ℕ) (k : ℤ) (t u : Tree) →
+pub sides_held : (columns : List ℕ) (i : ℕ) (c : Claim) (roles : List Role) (groups : List (ℕ × TreeSpot)) (taken : List (ℕ × ℕ × Bool)) (n : ℕ) (b : Branch) (col : ℕ) (k : ℤ) (t u : Tree) →
     asks_each c (column_stamp columns col) ≡ true → Held columns i c roles groups taken n b (cut_tree col k t u) →
     Held columns i c roles groups taken (suc n) (with_cut b (column_stamp columns col) (at_most col k)) t ×
     Held columns i c roles groups taken (high_side columns n b col k t u).node (with_cut b (column_stamp columns col) (above col k)) u
 sides_held columns i c roles groups taken n b col k t u e h =
-    let low : Spot = low_side columns n b col k t in
-    let high : Spot = high_side columns n b col k t u in
+    let low : TreeSpot = low_side columns n b col k t in
+    let high : TreeSpot = high_side columns n b col k t u in
     let x : Option Bool = truth_at columns c low.branch t in
     let y : Option Bool = truth_at columns c high.branch u in
     let stamp : ℕ = column_stamp columns col in
@@ -194,7 +194,7 @@ sides_held columns i c roles groups taken n b col k t u e h =
     by_test p d false e f x y G X Y w = absurd (cc)
 
 -- where it asks one of them, that which is followed is held, or the group waits unless it was taken
-pub side_held : (columns : List ℕ) (i : ℕ) (c : Claim) (roles : List Role) (groups : List (ℕ × Spot)) (taken : List (ℕ × ℕ × Bool)) (n : ℕ) (b : Branch) (col : ℕ) (k : ℤ) (t u : Tree) →
+pub side_held : (columns : List ℕ) (i : ℕ) (c : Claim) (roles : List Role) (groups : List (ℕ × TreeSpot)) (taken : List (ℕ × ℕ × Bool)) (n : ℕ) (b : Branch) (col : ℕ) (k : ℤ) (t u : Tree) →
     asks_each c (column_stamp columns col) ≡ false → Held columns i c roles groups taken n b (cut_tree col k t u) →
     FollowHeld (asked_at c (column_stamp columns col) (truth_at columns c (with_cut b (column_stamp columns col) (at_most col k)) t)
     (truth_at columns c (with_cut b (column_stamp columns col) (above col k)) u))
@@ -202,8 +202,8 @@ pub side_held : (columns : List ℕ) (i : ℕ) (c : Claim) (roles : List Role) (
     (Held columns i c roles groups taken (suc n) (with_cut b (column_stamp columns col) (at_most col k)) t)
     (Held columns i c roles groups taken (high_side columns n b col k t u).node (with_cut b (column_stamp columns col) (above col k)) u)
 side_held columns i c roles groups taken n b col k t u e h =
-    let low : Spot = low_side columns n b col k t in
-    let high : Spot = high_side columns n b col k t u in
+    let low : TreeSpot = low_side columns n b col k t in
+    let high : TreeSpot = high_side columns n b col k t u in
     let x : Option Bool = truth_at columns c low.branch t in
     let y : Option Bool = truth_at columns c high.branch u in
     let stamp : ℕ = column_stamp columns col in

@@ -26,10 +26,10 @@ use Rattle.triple_rows.specs.Systems.{PlainSystem, only_rows, all_systems, said,
 use Rattle.triple_rows.specs.Triples.{inside_system_of, system_of}
 use Rattle.triple_rows.proofs.FormulaLaws.{prefix_read}
 use Rattle.nested_predicates.specs.Stamps.{stamp_of}
-use Rattle.nested_predicates.specs.Positions.{Scope, scopes_after, Position, innermost}
+use Rattle.nested_predicates.specs.Positions.{CallScope, scopes_after, Position, innermost}
 use Rattle.nested_predicates.specs.Joins.{predicate_at}
 use Rattle.nested_refutations.specs.Refutations.{rows_in}
-use Rattle.nested_refutations.specs.Numbers.{Step, inside_step, Reading, here, read_on}
+use Rattle.nested_refutations.specs.Numbers.{Step, inside_step, Reading, position_here, read_on}
 use Rattle.nested_refutations.proofs.MovingLaws.{both_rows}
 use Rattle.nested_refutations.proofs.ColumnLaws.{known_in}
 use Rattle.nested_refutations.proofs.AlongLaws.{first_reading, KnowsWell, ScopesFit, Placed, same_proc, Along}
@@ -62,12 +62,12 @@ all_member P [] x m h = absurd m
 all_member P (y ∷ xs) x (inl e) h = subst P e h.0
 all_member P (y ∷ xs) x (inr m) h = all_member P xs x m h.1
 
-head_knows : (g : Graph) (places : List ℕ) (q proc : ℕ) (scopes : List Scope) → ScopesFit g places q scopes → IsPlaceOf g.place_procs proc q → KnowsWell (frame_of (alphabet_of g) proc) (innermost scopes).known
+head_knows : (g : Graph) (places : List ℕ) (q proc : ℕ) (scopes : List CallScope) → ScopesFit g places q scopes → IsPlaceOf g.place_procs proc q → KnowsWell (frame_of (alphabet_of g) proc) (innermost scopes).known
 head_knows g places q proc [] h i = absurd h
 head_knows g [] q proc (s ∷ scopes) h i = subst (λ (n : ℕ). KnowsWell (frame_of (alphabet_of g) n) s.known) (same_proc g.place_procs q s.proc proc h.0 i) h.1
 head_knows g (p ∷ places) q proc (s ∷ scopes) h i = subst (λ (n : ℕ). KnowsWell (frame_of (alphabet_of g) n) s.known) (same_proc g.place_procs q s.proc proc h.0 i) h.1
 
-head_place : (g : Graph) (places : List ℕ) (q : ℕ) (scopes : List Scope) → ScopesFit g places q scopes → IsPlaceOf g.place_procs (innermost scopes).proc q
+head_place : (g : Graph) (places : List ℕ) (q : ℕ) (scopes : List CallScope) → ScopesFit g places q scopes → IsPlaceOf g.place_procs (innermost scopes).proc q
 head_place g places q [] h = absurd h
 head_place g [] q (s ∷ scopes) h = h.0
 head_place g (p ∷ places) q (s ∷ scopes) h = h.0
@@ -156,11 +156,11 @@ pub inside_part_is : (g : Graph) (globals : ℕ) (w : List Letter) (r : Reading)
     InsideAt g globals w r a rest q written helpers rows → part_of (alphabet_of g) a r.stage ≡ inside_part (frame_of (alphabet_of g) q) written helpers rows r.stage
 inside_part_is g globals w r a rest q written helpers rows h = ap (λ (o : Option PlainAct). act_part (alphabet_of g) o r.stage) h.act_is
 
-abbrev position_with : ℕ → Scope → List ℕ → Position
+abbrev position_with : ℕ → CallScope → List ℕ → Position
 position_with upto s l = record { scope = s; here = l; upto = upto }
 
 pub inside_to_is : (g : Graph) (globals : ℕ) (w : List Letter) (r : Reading) (a : Letter) (rest : List Letter) (q : ℕ) (written : List ℕ) (helpers : ℕ) (rows : List LinearRow) →
-    InsideAt g globals w r a rest q written helpers rows → here (read_on (alphabet_of g) a rest r) ≡ inside_to r written
+    InsideAt g globals w r a rest q written helpers rows → position_here (read_on (alphabet_of g) a rest r) ≡ inside_to r written
 inside_to_is g globals w r a rest q written helpers rows h =
     let al : Alphabet = alphabet_of g in
     ap (λ (x : Part). position_with (suc (stamp_of (suc r.letters))) (innermost (scopes_after al (suc r.letters) a.kind (act_of al a) rest x.after.here r.stage.here r.scopes)) x.after.here) (inside_part_is g globals w r a rest q written helpers rows h) ∙
@@ -169,14 +169,14 @@ inside_to_is g globals w r a rest q written helpers rows h =
 -- the step of the letter
 abbrev pub step_at : Graph → List Letter → Tree → Reading → Letter → ℕ → List ℕ → ℕ → List LinearRow → Step
 step_at g w t r a q written helpers rows =
-    inside_step g w t a.id (suc r.letters) r.rows r.stage.made (here r) (inside_to r written) (frame_of (alphabet_of g) q) written helpers rows
+    inside_step g w t a.id (suc r.letters) r.rows r.stage.made (position_here r) (inside_to r written) (frame_of (alphabet_of g) q) written helpers rows
 
 pub system_is : (g : Graph) (globals : ℕ) (w : List Letter) (t : Tree) (r : Reading) (a : Letter) (rest : List Letter) (q : ℕ) (written : List ℕ) (helpers : ℕ) (rows : List LinearRow) →
     InsideAt g globals w r a rest q written helpers rows → system_of (alphabet_of g) (step_at g w t r a q written helpers rows).triple ≡
-    inside_system (frame_of (alphabet_of g) q) written rows (predicate_at g w t (here r)) (predicate_at g w t (inside_to r written))
+    inside_system (frame_of (alphabet_of g) q) written rows (predicate_at g w t (position_here r)) (predicate_at g w t (inside_to r written))
 system_is g globals w t r a rest q written helpers rows h =
     let al : Alphabet = alphabet_of g in
-    let from : Formula = predicate_at g w t (here r) in
+    let from : Formula = predicate_at g w t (position_here r) in
     let to : Formula = predicate_at g w t (inside_to r written) in
     ap (λ (o : Option PlainAct). inside_system_of al o (formula_of (prefix_of from)) (formula_of (prefix_of to))) h.there ∙
     ap (λ (f : Formula). inside_system (frame_of al q) written rows f (formula_of (prefix_of to))) (prefix_read from) ∙

@@ -16,7 +16,7 @@ use Rattle.triple_rows.specs.Triples.{system_of}
 use Rattle.nested_predicates.specs.Sums.{root_of}
 use Rattle.nested_predicates.proofs.EndLaws.{rows_goal}
 use Rattle.nested_refutations.specs.Refutations.{Claim, Role, stands, atom_roles, is_used, stops, leaf_from}
-use Rattle.nested_refutations.specs.Numbers.{branch_rows, spares, before_bounds, bounds_in, Reading, here, source, target, LeafFits, IsFalse, AreCutsAt}
+use Rattle.nested_refutations.specs.Numbers.{branch_rows, spares, before_bounds, bounds_in, Reading, position_here, source, target, LeafNumbersFit, IsFalse, AreCutsAt}
 use Rattle.nested_refutations.specs.Waiting.{StepWaits}
 use Rattle.nested_refutations.proofs.SpotLaws.{uncased_stands}
 use Rattle.nested_refutations.proofs.HeldLaws.{Held}
@@ -55,22 +55,22 @@ frame_pairs c fits = by_begun c.at.begun
         AllPairs (RoleFits (view_in c) (root_in c) (root_of c.g c.w).rows) (before_bounds (suc c.r.letters) (frame_in c)) (map tightened (bounds 0 (types_of (frame_in c))))
     by_begun (inl e) =
         let letters : suc c.r.letters ≡ 1 = ap (λ (x : Reading). suc x.letters) e.0 in
-        let here : before_bounds (suc c.r.letters) (frame_in c) ≡ branch_rows 0 (bounds_in (frame_in c)) = ap (λ (z : Bool). if z then branch_rows 0 (bounds_in (frame_in c)) else spares (bounds_in (frame_in c))) (eq-eqb (suc c.r.letters) 1 letters) in
-        let whole : before_bounds (suc c.r.letters) (frame_in c) ≡ branch_rows 0 (length (map tightened (bounds 0 (types_of (frame_in c))))) = here ∙ ap (branch_rows 0) (sym count) in
+        let position_here : before_bounds (suc c.r.letters) (frame_in c) ≡ branch_rows 0 (bounds_in (frame_in c)) = ap (λ (z : Bool). if z then branch_rows 0 (bounds_in (frame_in c)) else spares (bounds_in (frame_in c))) (eq-eqb (suc c.r.letters) 1 letters) in
+        let whole : before_bounds (suc c.r.letters) (frame_in c) ≡ branch_rows 0 (length (map tightened (bounds 0 (types_of (frame_in c))))) = position_here ∙ ap (branch_rows 0) (sym count) in
         subst (λ (l : List Role). AllPairs (RoleFits (view_in c) (root_in c) (root_of c.g c.w).rows) l (map tightened (bounds 0 (types_of (frame_in c))))) (sym whole)
         (branch_pairs (view_in c) (root_in c) (root_of c.g c.w).rows [] (map tightened (bounds 0 (types_of (frame_in c)))) (front_in c) ((own_block c ++ new_block c) ++ map tightened (later_rows c)) (root_rows c)
         ((kinds_same c fits).frame e.0 e.1))
     by_begun (inr l) =
-        let here : before_bounds (suc c.r.letters) (frame_in c) ≡ spares (bounds_in (frame_in c)) =
+        let position_here : before_bounds (suc c.r.letters) (frame_in c) ≡ spares (bounds_in (frame_in c)) =
         ap (λ (z : Bool). if z then branch_rows 0 (bounds_in (frame_in c)) else spares (bounds_in (frame_in c))) (ne_eqb (suc c.r.letters) 1 (λ (e : suc c.r.letters ≡ 1). omega (arith, l, e))) in
-        subst (λ (l : List Role). AllPairs (RoleFits (view_in c) (root_in c) (root_of c.g c.w).rows) l (map tightened (bounds 0 (types_of (frame_in c))))) (sym (here ∙ ap spares (sym count)))
+        subst (λ (l : List Role). AllPairs (RoleFits (view_in c) (root_in c) (root_of c.g c.w).rows) l (map tightened (bounds 0 (types_of (frame_in c))))) (sym (position_here ∙ ap spares (sym count)))
         (spare_pairs (view_in c) (root_in c) (root_of c.g c.w).rows 0 (map tightened (bounds 0 (types_of (frame_in c)))))
 
 all_pairs : (c : InsideLetter) → OpenClaims c → RowsFit c → AllPairs (RoleFits (view_in c) (root_in c) (root_of c.g c.w).rows) (first_in c).roles (first_in c).rows
 all_pairs c o fits =
     let P : Role → LinearRow → Type 0 = RoleFits (view_in c) (root_in c) (root_of c.g c.w).rows in
     let st = uncased_stands (view_in c).columns 0 (root_of c.g c.w) c.t o.uncased in
-    let source_pairs = claim_pairs (view_in c) (root_in c) o.uncased st (root_of c.g c.w).rows 0 (source (here c.r) (λ x. x)) refl o.before in
+    let source_pairs = claim_pairs (view_in c) (root_in c) o.uncased st (root_of c.g c.w).rows 0 (source (position_here c.r) (λ x. x)) refl o.before in
     let target_pairs = claim_pairs (view_in c) (root_in c) o.uncased st (root_of c.g c.w).rows 1 (target (inside_to c.r c.written) (after_column 0 (length (frame_in c)) c.written)) refl o.after in
     let kinds = kinds_same c fits in
     let own_pairs = branch_pairs (view_in c) (root_in c) (root_of c.g c.w).rows (front_in c) (map tightened c.rows) (own_block c) (new_block c ++ map tightened (later_rows c))
@@ -104,7 +104,7 @@ all_held c o i d found used = by_claim i found
 
     by_claim : (i : ℕ) → slice_get (view_in c).claims i ≡ Some d → Held (view_in c).columns i d (first_in c).roles (first_in c).groups (first_in c).taken 0 (root_of c.g c.w) c.t
     by_claim zero e =
-        let s : Claim = source (here c.r) (λ x. x) in
+        let s : Claim = source (position_here c.r) (λ x. x) in
         subst (λ (x : Claim). Held (view_in c).columns 0 x (first_in c).roles (first_in c).groups (first_in c).taken 0 (root_of c.g c.w) c.t) (same_some s d e)
         (begin_held c.g c.w c.t (view_in c) (first_in c) o.uncased refl 0 s refl o.before
         (λ m h. stands_in _ 0 m (first_roles c) (stands_left (atom_roles true 0 (source_leaves c)) _ 0 m (stands_exposed 0 (source_leaves c) m h))))
@@ -133,7 +133,7 @@ claims_open c refuted open_claims = record { uncased = refuted_uncased c.t (root
 -- the leaves of the refutation of an inside letter's triple contradict their rows
 pub inside_refutes : (c : InsideLetter) → HaveGlobals c.g c.globals → TreeRefutes c.t (rows_goal (root_of c.g c.w)) → AreCutsAt (length (view_in c).columns) c.t →
     PlainFits (system_of (alphabet_of c.g) (step_in c).triple) → AllByRecursion (λ d. IsFalse c.g c.w c.t (view_in c) d → ⊥) (view_in c).claims → (sides : List Bool) →
-    IfSome (leaf_from (view_in c) sides (first_in c) (stops (view_in c) [] 0 (root_of c.g c.w) c.t)) (λ l. LeafFits l → Contradicts l.rows l.parts)
+    IfSome (leaf_from (view_in c) sides (first_in c) (stops (view_in c) [] 0 (root_of c.g c.w) c.t)) (λ l. LeafNumbersFit l → Contradicts l.rows l.parts)
 inside_refutes c have refuted cuts fits open_claims sides =
     let o : OpenClaims c = claims_open c refuted open_claims in
     let rows : RowsFit c = rows_fit_in c fits in

@@ -9,15 +9,15 @@ use Rattle.nwa_base.specs.declared.letters.Letter.{Letter}
 use Rattle.letter_acts.specs.Frames.{Columns}
 use Rattle.letter_acts.specs.Acts.{PlainAct, frame_of, act_of}
 use Rattle.letter_acts.specs.Invariant.{Graph, alphabet_of}
-use Rattle.path_rows.specs.Versions.{Stage, Part, part_of}
+use Rattle.path_rows.specs.Versions.{PathStage, Part, part_of}
 use Rattle.frame_rows.specs.Rows.{columns_from}
 use Rattle.path_rows.specs.Paths.{repeated, start_frame, first_stage}
 use Rattle.triple_rows.specs.Systems.{after_column}
 use Rattle.nested_predicates.specs.Stamps.{column_stamps, stamps_along, stamps_of, column_stamp}
-use Rattle.nested_predicates.specs.Positions.{Scope, innermost}
+use Rattle.nested_predicates.specs.Positions.{CallScope, innermost}
 use Rattle.nested_predicates.specs.Sums.{root_of}
-use Rattle.nested_refutations.specs.Refutations.{Spot, View, Goes}
-use Rattle.nested_refutations.specs.Numbers.{column_in, Step, Reading, here, source, target, begins}
+use Rattle.nested_refutations.specs.Refutations.{TreeSpot, View, Gathered}
+use Rattle.nested_refutations.specs.Numbers.{column_in, Step, Reading, position_here, source, target, begins}
 use Rattle.nested_refutations.proofs.WayLaws.{is_own}
 use Rattle.nested_refutations.proofs.OwnLaws.{IsColumnOf}
 use Rattle.nested_refutations.proofs.ViewLaws.{TwoClaims, two_own}
@@ -59,10 +59,10 @@ step_in c = step_at c.g c.w c.t c.r c.a c.q c.written c.helpers c.rows
 abbrev pub view_in : InsideLetter → View
 view_in c = (step_in c).view
 
-abbrev pub root_in : InsideLetter → Spot
+abbrev pub root_in : InsideLetter → TreeSpot
 root_in c = record { node = 0; branch = root_of c.g c.w; tree = c.t }
 
-abbrev pub first_in : InsideLetter → Goes
+abbrev pub first_in : InsideLetter → Gathered
 first_in c = begins c.g c.w c.t (step_in c)
 
 -- ---- the stamps of columns
@@ -136,13 +136,13 @@ column_stamp_is c col l =
 
 -- ---- what is own
 
-pub owns_innermost : (n : ℕ) (scopes : List Scope) → AllByRecursion (λ s. s.own ≤ 2 * n) scopes → (innermost scopes).own ≤ 2 * n
+pub owns_innermost : (n : ℕ) (scopes : List CallScope) → AllByRecursion (λ s. s.own ≤ 2 * n) scopes → (innermost scopes).own ≤ 2 * n
 owns_innermost n [] h = omega arith
 owns_innermost n (s ∷ scopes) h = h.0
 
 pub two_in : (c : InsideLetter) → TwoClaims (view_in c)
 two_in c = record {
-  before = source (here c.r) (λ x. x);
+  before = source (position_here c.r) (λ x. x);
   after = target (inside_to c.r c.written) (after_column 0 (length (frame_in c)) c.written);
   claims = refl;
   returns = refl;
@@ -246,15 +246,15 @@ name_new c x i e l =
 pub name_first : (c : InsideLetter) → c.r ≡ first_reading c.g → (x : ℕ) → x < length (names_in c) → (slice_index (names_in c) x ≡ x) × (c.r.stage.made ≡ length c.r.stage.here)
 name_first c e x l =
     let stage : c.r.stage ≡ first_stage (start_frame c.g) = ap (λ (y : Reading). y.stage) e in
-    let made : c.r.stage.made ≡ length (start_frame c.g) = ap (λ (p : Stage). p.made) stage in
-    let long : length c.r.stage.here ≡ length (start_frame c.g) = ap (λ (p : Stage). length p.here) stage ∙ columns_count 0 (length (start_frame c.g)) in
+    let made : c.r.stage.made ≡ length (start_frame c.g) = ap (λ (p : PathStage). p.made) stage in
+    let long : length c.r.stage.here ≡ length (start_frame c.g) = ap (λ (p : PathStage). length p.here) stage ∙ columns_count 0 (length (start_frame c.g)) in
     let count = names_count c in
     (by_part made long stage (split_at (length c.r.stage.here) x), made ∙ sym long)
   where
     by_part : c.r.stage.made ≡ length (start_frame c.g) → length c.r.stage.here ≡ length (start_frame c.g) → c.r.stage ≡ first_stage (start_frame c.g) →
         (x < length c.r.stage.here) ⊎ ((i : ℕ) × (x ≡ length c.r.stage.here + i)) → slice_index (names_in c) x ≡ x
     by_part made long stage (inl b) =
-        name_old c x b ∙ ap (λ (p : Stage). slice_index p.here x) stage ∙ columns_at 0 (length (start_frame c.g)) x (omega (arith, b, long)) ∙ (let e : 0 + x ≡ x = omega arith in e)
+        name_old c x b ∙ ap (λ (p : PathStage). slice_index p.here x) stage ∙ columns_at 0 (length (start_frame c.g)) x (omega (arith, b, long)) ∙ (let e : 0 + x ≡ x = omega arith in e)
     by_part made long stage (inr h) =
         let i = h.1 in
         let count = names_count c in
@@ -308,8 +308,8 @@ column_past c x l col within own f = by_own (own_columns c col within own)
     by_own (inr h) =
         let place : (view_in c).column col ≡ col = column_old c.r.stage.made col (columns_from (length (frame_in c)) (count_in c)) h.1 in
         let stage : c.r.stage ≡ first_stage (start_frame c.g) = ap (λ (y : Reading). y.stage) h.0 in
-        let made : c.r.stage.made ≡ length (start_frame c.g) = ap (λ (p : Stage). p.made) stage in
-        let long : length c.r.stage.here ≡ length (start_frame c.g) = ap (λ (p : Stage). length p.here) stage ∙ columns_count 0 (length (start_frame c.g)) in
+        let made : c.r.stage.made ≡ length (start_frame c.g) = ap (λ (p : PathStage). p.made) stage in
+        let long : length c.r.stage.here ≡ length (start_frame c.g) = ap (λ (p : PathStage). length p.here) stage ∙ columns_count 0 (length (start_frame c.g)) in
         let count = names_count c in
         let b = h.1 in
         omega (arith, place, f, l, count, made, long, b)

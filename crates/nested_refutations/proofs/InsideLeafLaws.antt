@@ -21,7 +21,7 @@ use Rattle.nested_predicates.specs.Positions.{innermost}
 use Rattle.nested_predicates.specs.Sums.{Branch, root_of, parts_upto, sum_upto, column_upto, known_sum}
 use Rattle.nested_predicates.proofs.StampLaws.{IsWithin, index_within, stamp_within, columns_of_word_within, root_stamped}
 use Rattle.nested_refutations.specs.Refutations.{side_of, multiplier}
-use Rattle.nested_refutations.specs.Numbers.{here, source, target}
+use Rattle.nested_refutations.specs.Numbers.{position_here, source, target}
 use Rattle.nested_refutations.proofs.RowsLaws.{AllPairs, pairs_joined}
 use Rattle.nested_refutations.proofs.WayLaws.{others, is_own, own_sum}
 use Rattle.nested_refutations.proofs.WindowLaws.{passing, none_counts, is_upto, sum_passes}
@@ -334,7 +334,7 @@ inside_told c i j l m e =
 pub inside_leaf : (c : InsideLetter) → HaveGlobals c.g c.globals → OpenClaims c → RowsFit c → (more : List LinearRow) (late : List ℕ) (n : ℕ) (b : Branch) (parts : List (ℕ × ℤ)) →
     LeafFacts (view_in c) (root_in c) more late n b parts → InsideLeaf (view_in c) (root_in c) (first_in c) more late n b parts
 inside_leaf c have o fits more late n b parts f = record {
-  before = source (here c.r) (λ x. x);
+  before = source (position_here c.r) (λ x. x);
   after = target (inside_to c.r c.written) (after_column 0 (length (frame_in c)) c.written);
   claims = refl;
   returns = refl;

@@ -22,7 +22,7 @@ use Rattle.nested_predicates.specs.Sums.{Branch, root_of, sum_upto}
 use Rattle.nested_predicates.specs.Joins.{predicate_at}
 use Rattle.nested_predicates.proofs.StampLaws.{root_stamped}
 use Rattle.nested_refutations.specs.Refutations.{Claim, exposed, rows_in, said_at, Role, spare, branch_row, atom_roles, is_used, multiplier}
-use Rattle.nested_refutations.specs.Numbers.{branch_rows, spares, before_bounds, bounds_in, Reading, here, source, target}
+use Rattle.nested_refutations.specs.Numbers.{branch_rows, spares, before_bounds, bounds_in, Reading, position_here, source, target}
 use Rattle.nested_refutations.proofs.TruthLaws.{IsOpen}
 use Rattle.nested_refutations.proofs.SpotLaws.{IsUncased, uncased_stands}
 use Rattle.nested_refutations.proofs.HeldLaws.{truth_at}
@@ -70,10 +70,10 @@ bounds_are c = bounds_renamed (slice_index (names_in c)) (length (frame_in c)) c
     (λ i l. (let long = long_in c in let m = length_at c c.written in name_new c (length (frame_in c) + i) i (omega (arith, long)) (omega (arith, l, m))))
 
 -- the rows of the letter in the word
-block_is : (c : InsideLetter) → map tightened (versions.rows_in (part_of (alphabet_of c.g) c.a c.r.stage)) ≡ own_block c ++ new_block c
+block_is : (c : InsideLetter) → map tightened (versions.part_rows (part_of (alphabet_of c.g) c.a c.r.stage)) ≡ own_block c ++ new_block c
 block_is c =
     let own : List LinearRow = map (renamed (slice_index (names_in c))) c.rows in
-    ap (λ (x : Part). map tightened (versions.rows_in x)) (inside_part_is c.g c.globals c.w c.r c.a c.rest c.q c.written c.helpers c.rows c.at) ∙
+    ap (λ (x : Part). map tightened (versions.part_rows x)) (inside_part_is c.g c.globals c.w c.r c.a c.rest c.q c.written c.helpers c.rows c.at) ∙
     map-append tightened own (bounds c.r.stage.made (types_at (frame_in c) c.written)) ∙
     ap (λ (l : List LinearRow). own_block c ++ map tightened l) (sym (bounds_are c))
 
@@ -84,8 +84,8 @@ repeated_parts x (suc m) n = ap (repeated x) (let e : suc m + n ≡ suc (m + n) 
 now_is : (c : InsideLetter) → row_stamps (suc c.r.letters) (act_of (alphabet_of c.g) c.a) (part_of (alphabet_of c.g) c.a c.r.stage) ≡ stamps_now c
 now_is c =
     let part : Part = part_of (alphabet_of c.g) c.a c.r.stage in
-    let count : length (versions.rows_in part) ≡ length (own_block c) + length (new_block c) =
-    sym (length-map (versions.rows_in part) tightened) ∙ ap (λ (l : List LinearRow). length l) (block_is c) ∙ length-append (own_block c) (new_block c) in
+    let count : length (versions.part_rows part) ≡ length (own_block c) + length (new_block c) =
+    sym (length-map (versions.part_rows part) tightened) ∙ ap (λ (l : List LinearRow). length l) (block_is c) ∙ length-append (own_block c) (new_block c) in
     ap (λ (o : Option PlainAct). row_stamps (suc c.r.letters) o part) c.at.act_is ∙ ap (repeated (2 * suc c.r.letters)) count ∙
     repeated_parts (2 * suc c.r.letters) (length (own_block c)) (length (new_block c))
 
@@ -101,8 +101,8 @@ pub root_rows : (c : InsideLetter) → (root_of c.g c.w).rows ≡ front_in c ++ 
 unfolding later_rows
 root_rows c =
     let part : Part = part_of (alphabet_of c.g) c.a c.r.stage in
-    ap (map tightened) c.at.along.read.rows ∙ map-append tightened c.at.along.read.front (versions.rows_in part ++ later_rows c) ∙
-    ap (λ (l : List LinearRow). front_in c ++ l) (map-append tightened (versions.rows_in part) (later_rows c) ∙ ap (λ (l : List LinearRow). l ++ map tightened (later_rows c)) (block_is c))
+    ap (map tightened) c.at.along.read.rows ∙ map-append tightened c.at.along.read.front (versions.part_rows part ++ later_rows c) ∙
+    ap (λ (l : List LinearRow). front_in c ++ l) (map-append tightened (versions.part_rows part) (later_rows c) ∙ ap (λ (l : List LinearRow). l ++ map tightened (later_rows c)) (block_is c))
 
 pub root_stamps : (c : InsideLetter) → (root_of c.g c.w).stamps ≡ c.at.along.read.early ++ (stamps_now c ++ later_stamps c)
 unfolding later_stamps
@@ -169,24 +169,24 @@ five_mapped f a b c d e =
 -- neither claim is false
 pub record OpenClaims (c : InsideLetter) : Type 0 where
   pub uncased : IsUncased c.t
-  pub before : IsOpen false (truth_at (view_in c).columns (source (here c.r) (λ x. x)) (root_of c.g c.w) c.t)
+  pub before : IsOpen false (truth_at (view_in c).columns (source (position_here c.r) (λ x. x)) (root_of c.g c.w) c.t)
   pub after : IsOpen true (truth_at (view_in c).columns (target (inside_to c.r c.written) (after_column 0 (length (frame_in c)) c.written)) (root_of c.g c.w) c.t)
 
 abbrev pub source_rows : InsideLetter → List LinearRow
-source_rows c = map tightened (rows_in (said (λ x. x) (predicate_at c.g c.w c.t (here c.r))))
+source_rows c = map tightened (rows_in (said (λ x. x) (predicate_at c.g c.w c.t (position_here c.r))))
 
 abbrev pub target_rows : InsideLetter → List LinearRow
 target_rows c = map tightened (rows_in (denied (after_column 0 (length (frame_in c)) c.written) (predicate_at c.g c.w c.t (inside_to c.r c.written))))
 
 abbrev pub source_leaves : InsideLetter → List ℕ
-source_leaves c = (exposed (view_in c).columns (source (here c.r) (λ x. x)) 0 (root_of c.g c.w) c.t).leaves
+source_leaves c = (exposed (view_in c).columns (source (position_here c.r) (λ x. x)) 0 (root_of c.g c.w) c.t).leaves
 
 abbrev pub target_leaves : InsideLetter → List ℕ
 target_leaves c = (exposed (view_in c).columns (target (inside_to c.r c.written) (after_column 0 (length (frame_in c)) c.written)) 0 (root_of c.g c.w) c.t).leaves
 
 pub first_rows : (c : InsideLetter) → (first_in c).rows ≡ source_rows c ++ (map tightened c.rows ++ (target_rows c ++ (map tightened (bounds 0 (types_of (frame_in c))) ++ map tightened (bounds_on c))))
 first_rows c =
-    let from = predicate_at c.g c.w c.t (here c.r) in
+    let from = predicate_at c.g c.w c.t (position_here c.r) in
     let to = predicate_at c.g c.w c.t (inside_to c.r c.written) in
     ap (λ (s : PlainSystem). map tightened (rows_in s)) (system_is c.g c.globals c.w c.t c.r c.a c.rest c.q c.written c.helpers c.rows c.at) ∙
     ap (map tightened) (inside_system_rows (frame_in c) c.written c.rows from to) ∙
@@ -216,7 +216,7 @@ pub record RowsFit (c : InsideLetter) : Type 0 where
 
 pub rows_fit_in : (c : InsideLetter) → PlainFits (system_of (alphabet_of c.g) (step_in c).triple) → RowsFit c
 rows_fit_in c f =
-    let from = predicate_at c.g c.w c.t (here c.r) in
+    let from = predicate_at c.g c.w c.t (position_here c.r) in
     let to = predicate_at c.g c.w c.t (inside_to c.r c.written) in
     let e = ap rows_in (system_is c.g c.globals c.w c.t c.r c.a c.rest c.q c.written c.helpers c.rows c.at) ∙ inside_system_rows (frame_in c) c.written c.rows from to in
     let all = subst (AllByRecursion IsRow) e (rows_fit (system_of (alphabet_of c.g) (step_in c).triple) f) in
@@ -340,17 +340,17 @@ frame_added c val number other same = by_begun c.at.begun
         (others val number (before_bounds (suc c.r.letters) (frame_in c)) (map tightened (bounds 0 (types_of (frame_in c)))) ≡ passing (is_own (view_in c)) (λ j. val (branch_row j)) other 0 (front_in c) c.at.along.read.early)
     by_begun (inl e) =
         let letters : suc c.r.letters ≡ 1 = ap (λ (x : Reading). suc x.letters) e.0 in
-        let here : before_bounds (suc c.r.letters) (frame_in c) ≡ branch_rows 0 (bounds_in (frame_in c)) = ap (λ (z : Bool). if z then branch_rows 0 (bounds_in (frame_in c)) else spares (bounds_in (frame_in c))) (eq-eqb (suc c.r.letters) 1 letters) in
-        let whole : before_bounds (suc c.r.letters) (frame_in c) ≡ branch_rows 0 (length (map tightened (bounds 0 (types_of (frame_in c))))) = here ∙ ap (branch_rows 0) (sym count) in (
+        let position_here : before_bounds (suc c.r.letters) (frame_in c) ≡ branch_rows 0 (bounds_in (frame_in c)) = ap (λ (z : Bool). if z then branch_rows 0 (bounds_in (frame_in c)) else spares (bounds_in (frame_in c))) (eq-eqb (suc c.r.letters) 1 letters) in
+        let whole : before_bounds (suc c.r.letters) (frame_in c) ≡ branch_rows 0 (length (map tightened (bounds 0 (types_of (frame_in c))))) = position_here ∙ ap (branch_rows 0) (sym count) in (
           ap (λ (l : List Role). length l) whole ∙ branch_counted 0 (length (map tightened (bounds 0 (types_of (frame_in c))))),
           ap (λ (l : List Role). others val number l (map tightened (bounds 0 (types_of (frame_in c))))) whole ∙
               rows_add (view_in c) val number other 0 (map tightened (bounds 0 (types_of (frame_in c)))) (front_in c) c.at.along.read.early (same.frame e.0 e.1) (early_pass c e.0),
         )
     by_begun (inr l) =
-        let here : before_bounds (suc c.r.letters) (frame_in c) ≡ spares (bounds_in (frame_in c)) =
+        let position_here : before_bounds (suc c.r.letters) (frame_in c) ≡ spares (bounds_in (frame_in c)) =
         ap (λ (z : Bool). if z then branch_rows 0 (bounds_in (frame_in c)) else spares (bounds_in (frame_in c))) (ne_eqb (suc c.r.letters) 1 (λ (e : suc c.r.letters ≡ 1). omega (arith, l, e))) in (
-          ap (λ (l : List Role). length l) here ∙ spares_counted 0 (bounds_in (frame_in c)) ∙ sym count,
-          ap (λ (l : List Role). others val number l (map tightened (bounds 0 (types_of (frame_in c))))) here ∙ spares_add val number 0 (bounds_in (frame_in c)) (map tightened (bounds 0 (types_of (frame_in c)))) ∙
+          ap (λ (l : List Role). length l) position_here ∙ spares_counted 0 (bounds_in (frame_in c)) ∙ sym count,
+          ap (λ (l : List Role). others val number l (map tightened (bounds 0 (types_of (frame_in c))))) position_here ∙ spares_add val number 0 (bounds_in (frame_in c)) (map tightened (bounds 0 (types_of (frame_in c)))) ∙
               sym (none_passes (is_own (view_in c)) (λ j. val (branch_row j)) other 0 (front_in c) c.at.along.read.early (early_own c l)),
         )
 
@@ -381,7 +381,7 @@ rows_added c o val number other same =
       new = map tightened (bounds_on c);
       roles_are = first_roles c;
       rows_are = first_rows c;
-      source_count = claim_counted c 0 (source (here c.r) (λ x. x)) o.uncased refl o.before;
+      source_count = claim_counted c 0 (source (position_here c.r) (λ x. x)) o.uncased refl o.before;
       target_count = claim_counted c 1 (target (inside_to c.r c.written) (after_column 0 (length (frame_in c)) c.written)) o.uncased refl o.after;
       frame_count = f.0;
       frame_adds = f.1;

@@ -8,7 +8,7 @@ use Rattle.boogie_tree.specs.declared.tree.VarInfo.{VarInfo}
 use Rattle.letter_acts.specs.Frames.{Columns, IsFrame, globals_from, is_old_column, is_local_column, is_local, is_parameter, added, places, globals_of}
 use Rattle.letter_acts.proofs.ListLemmas.{places-append, places_none, counted_up}
 use Rattle.letter_acts.proofs.FrameLemmas.{globals_are}
-use Rattle.path_rows.specs.Versions.{locals_of, old_part}
+use Rattle.path_rows.specs.Versions.{local_columns, old_part}
 use Rattle.frame_rows.specs.Rows.{columns_from}
 use Rattle.frame_rows.specs.Frames.{is_old}
 use Rattle.path_rows.proofs.LayoutLemmas.{LaidOut, laid_out, length-globals_from}
@@ -17,11 +17,11 @@ use Rattle.nested_refutations.proofs.MovingLaws.{below_or}
 
 -- how many columns of each part, and where the old ones and the locals stand
 pub record Layout (infos : List VarInfo) (frame : Columns) : Type 0 where
-  pub parts : frame ≡ globals_from 0 infos ++ (old_part frame ++ locals_of frame)
-  pub count : length frame ≡ length infos + (length (old_part frame) + length (locals_of frame))
+  pub parts : frame ≡ globals_from 0 infos ++ (old_part frame ++ local_columns frame)
+  pub count : length frame ≡ length infos + (length (old_part frame) + length (local_columns frame))
   pub globals : globals_of frame ≡ columns_from 0 (length infos)
   pub old_places : places is_old 0 frame ≡ columns_from (length infos) (length (old_part frame))
-  pub local_places : places is_local 0 frame ≡ columns_from (length infos + length (old_part frame)) (length (locals_of frame))
+  pub local_places : places is_local 0 frame ≡ columns_from (length infos + length (old_part frame)) (length (local_columns frame))
 
 pub filtered : {X : Type 0} (test : X → Bool) (xs : List X) → AllByRecursion (λ x. test x ≡ true) (filter test xs)
 filtered test [] = tt
@@ -66,7 +66,7 @@ layout_of infos frame f =
     let laid : LaidOut infos frame = laid_out infos frame f in
     let front : Columns = globals_from 0 infos in
     let olds : Columns = old_part frame in
-    let locals : Columns = locals_of frame in
+    let locals : Columns = local_columns frame in
     let g : length front ≡ length infos = length-globals_from 0 infos in
     let a = ap length laid.parts in
     let b = length-append front (olds ++ locals) in
@@ -123,19 +123,19 @@ parameter_behind infos frame f i h =
     let lay : Layout infos frame = layout_of infos frame f in
     by_place (below_or i (length infos)) (subst (λ (l : Columns). IsSomeAnd (slice_get l i) (λ v. is_parameter v ≡ true)) lay.parts h)
   where
-    by_rest : (k : ℕ) → i ≡ length infos + k → (k < length (old_part frame)) ⊎ (length (old_part frame) ≤ k) → IsSomeAnd (slice_get (old_part frame ++ locals_of frame) k) (λ v. is_parameter v ≡ true) →
+    by_rest : (k : ℕ) → i ≡ length infos + k → (k < length (old_part frame)) ⊎ (length (old_part frame) ≤ k) → IsSomeAnd (slice_get (old_part frame ++ local_columns frame) k) (λ v. is_parameter v ≡ true) →
         length infos + length (old_part frame) ≤ i
-    by_rest k e (inl l) h = absurd (not_old (old_part frame) (locals_of frame) (filtered is_old frame) k l h)
+    by_rest k e (inl l) h = absurd (not_old (old_part frame) (local_columns frame) (filtered is_old frame) k l h)
     by_rest k e (inr l) h = omega (arith, e, l)
 
-    by_place : (i < length infos) ⊎ (length infos ≤ i) → IsSomeAnd (slice_get (globals_from 0 infos ++ (old_part frame ++ locals_of frame)) i) (λ v. is_parameter v ≡ true) → length infos + length (old_part frame) ≤ i
-    by_place (inl l) h = absurd (not_front 0 infos (old_part frame ++ locals_of frame) i l h)
+    by_place : (i < length infos) ⊎ (length infos ≤ i) → IsSomeAnd (slice_get (globals_from 0 infos ++ (old_part frame ++ local_columns frame)) i) (λ v. is_parameter v ≡ true) → length infos + length (old_part frame) ≤ i
+    by_place (inl l) h = absurd (not_front 0 infos (old_part frame ++ local_columns frame) i l h)
     by_place (inr l) h = with_rest (split_at (length infos) i) h
       where
-        with_rest : (i < length infos) ⊎ ((k : ℕ) × (i ≡ length infos + k)) → IsSomeAnd (slice_get (globals_from 0 infos ++ (old_part frame ++ locals_of frame)) i) (λ v. is_parameter v ≡ true) →
+        with_rest : (i < length infos) ⊎ ((k : ℕ) × (i ≡ length infos + k)) → IsSomeAnd (slice_get (globals_from 0 infos ++ (old_part frame ++ local_columns frame)) i) (λ v. is_parameter v ≡ true) →
             length infos + length (old_part frame) ≤ i
         with_rest (inl b) h = absurd (omega (arith, b, l))
         with_rest (inr k) h =
             by_rest k.0 k.1 (below_or k.0 (length (old_part frame)))
-            (behind_front 0 infos (old_part frame ++ locals_of frame) k.0 (λ v. is_parameter v ≡ true)
-            (subst (λ (n : ℕ). IsSomeAnd (slice_get (globals_from 0 infos ++ (old_part frame ++ locals_of frame)) n) (λ v. is_parameter v ≡ true)) k.1 h))
+            (behind_front 0 infos (old_part frame ++ local_columns frame) k.0 (λ v. is_parameter v ≡ true)
+            (subst (λ (n : ℕ). IsSomeAnd (slice_get (globals_from 0 infos ++ (old_part frame ++ local_columns frame)) n) (λ v. is_parameter v ≡ true)) k.1 h))

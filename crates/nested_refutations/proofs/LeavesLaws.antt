@@ -10,8 +10,8 @@ use Rattle.farkas_check.specs.Refutes.{at_most, above}
 use Rattle.farkas_check.specs.Trees.{Tree, leaf_tree, cut_tree, cases_tree}
 use Rattle.nested_predicates.specs.Stamps.{column_stamp}
 use Rattle.nested_predicates.specs.Sums.{Branch, with_cut}
-use Rattle.nested_refutations.specs.Refutations.{Claim, Spot, side_of, low_side, high_side, Role, spare, atom_at, branch_row, target_tie, source_tie, opposite_tie, View, is_atom, stands, is_used, Goes, Leaf, stops, leaf_from}
-use Rattle.nested_refutations.specs.Numbers.{AreCutsAt, LeafFits}
+use Rattle.nested_refutations.specs.Refutations.{Claim, TreeSpot, side_of, low_side, high_side, Role, spare, atom_at, branch_row, target_tie, source_tie, opposite_tie, View, is_atom, stands, is_used, Gathered, Leaf, stops, leaf_from}
+use Rattle.nested_refutations.specs.Numbers.{AreCutsAt, LeafNumbersFit}
 use Rattle.nested_refutations.proofs.SpotLaws.{spot, StandsIn, IsUncased}
 use Rattle.nested_refutations.proofs.RowsLaws.{AllPairs}
 use Rattle.nested_refutations.proofs.StopLaws.{LeafReached, refuted_uncased}
@@ -49,22 +49,22 @@ cut_behind columns b d c k side l h =
     }
 
 -- of a node that stands in the tree of another, these are the rows of cuts at columns of the word
-branch_cuts : (columns : List ℕ) (n : ℕ) (b : Branch) (t : Tree) → IsUncased t → AreCutsAt (length columns) t → (s : Spot) → StandsIn columns n b t s → CutsBehind columns b s.branch
+branch_cuts : (columns : List ℕ) (n : ℕ) (b : Branch) (t : Tree) → IsUncased t → AreCutsAt (length columns) t → (s : TreeSpot) → StandsIn columns n b t s → CutsBehind columns b s.branch
 branch_cuts columns n b (leaf_tree parts) un cuts s e = at_leaf (nat_eq s.node n) e
   where
     at_leaf : (z : Bool) → (if z then Some (spot n b (leaf_tree parts)) else None) ≡ Some s → CutsBehind columns b s.branch
-    at_leaf true h = subst (λ (x : Spot). CutsBehind columns b x.branch) (same_some (spot n b (leaf_tree parts)) s h) (none_behind columns b)
+    at_leaf true h = subst (λ (x : TreeSpot). CutsBehind columns b x.branch) (same_some (spot n b (leaf_tree parts)) s h) (none_behind columns b)
     at_leaf false h = absurd (cc)
 branch_cuts columns n b (cut_tree c k t u) un cuts s e =
-    let low : Spot = low_side columns n b c k t in
-    let high : Spot = high_side columns n b c k t u in
+    let low : TreeSpot = low_side columns n b c k t in
+    let high : TreeSpot = high_side columns n b c k t u in
     at_cut (nat_eq s.node n) (nat_lt s.node high.node)
     (λ h. cut_behind columns b s.branch c k false cuts.0 (branch_cuts columns low.node low.branch t un.0 cuts.1 s h))
     (λ h. cut_behind columns b s.branch c k true cuts.0 (branch_cuts columns high.node high.branch u un.1 cuts.2 s h)) e
   where
-    at_cut : (z l : Bool) → {A B : Option Spot} → (A ≡ Some s → CutsBehind columns b s.branch) → (B ≡ Some s → CutsBehind columns b s.branch) →
+    at_cut : (z l : Bool) → {A B : Option TreeSpot} → (A ≡ Some s → CutsBehind columns b s.branch) → (B ≡ Some s → CutsBehind columns b s.branch) →
         (if z then Some (spot n b (cut_tree c k t u)) else (if l then A else B)) ≡ Some s → CutsBehind columns b s.branch
-    at_cut true l f g h = subst (λ (x : Spot). CutsBehind columns b x.branch) (same_some (spot n b (cut_tree c k t u)) s h) (none_behind columns b)
+    at_cut true l f g h = subst (λ (x : TreeSpot). CutsBehind columns b x.branch) (same_some (spot n b (cut_tree c k t u)) s h) (none_behind columns b)
     at_cut false true f g h = f h
     at_cut false false f g h = g h
 branch_cuts columns n b (cases_tree ts) un cuts s e = absurd un
@@ -78,13 +78,13 @@ same_behind (x ∷ xs) ys zs e = same_behind xs ys zs (tail_same (xs ++ ys) (xs 
 
 -- ---- a leaf that is reached
 
-pub record LeafFacts (v : View) (root : Spot) (more : List LinearRow) (late : List ℕ) (n : ℕ) (b : Branch) (parts : List (ℕ × ℤ)) : Type 0 where
+pub record LeafFacts (v : View) (root : TreeSpot) (more : List LinearRow) (late : List ℕ) (n : ℕ) (b : Branch) (parts : List (ℕ × ℤ)) : Type 0 where
   pub rows : b.rows ≡ root.branch.rows ++ more
   pub stamps : b.stamps ≡ root.branch.stamps ++ late
   pub cuts : AllPairs (IsCutAt v.columns) more late
   pub contradicts : Contradicts b.rows parts
 
-leaf_facts : (v : View) (root : Spot) (first g : Goes) (n : ℕ) (b : Branch) (parts : List (ℕ × ℤ)) → IsUncased root.tree → AreCutsAt (length v.columns) root.tree →
+leaf_facts : (v : View) (root : TreeSpot) (first g : Gathered) (n : ℕ) (b : Branch) (parts : List (ℕ × ℤ)) → IsUncased root.tree → AreCutsAt (length v.columns) root.tree →
     (h : LeafReached v root (Way v root first g) g n b parts) → LeafFacts v root h.way.more h.way.late n b parts
 leaf_facts v root first g n b parts un cuts h =
     let c : CutsBehind v.columns root.branch b = branch_cuts v.columns root.node root.branch root.tree un cuts (spot n b (leaf_tree parts)) h.stands in
@@ -100,7 +100,7 @@ leaf_facts v root first g n b parts un cuts h =
 -- ---- which atoms stand
 
 -- none of a claim that is not followed
-unused_atoms : (v : View) (root : Spot) (bound : List LinearRow) (i m : ℕ) → is_used v i ≡ false → (roles : List Role) (rows : List LinearRow) → AllPairs (RoleFits v root bound) roles rows → stands roles i m ≡ false
+unused_atoms : (v : View) (root : TreeSpot) (bound : List LinearRow) (i m : ℕ) → is_used v i ≡ false → (roles : List Role) (rows : List LinearRow) → AllPairs (RoleFits v root bound) roles rows → stands roles i m ≡ false
 unused_atoms v root bound i m u [] rows h = refl
 unused_atoms v root bound i m u (r ∷ roles) [] h = absurd h
 unused_atoms v root bound i m u (r ∷ roles) (x ∷ rows) h = either (is_atom r i m) (stands roles i m) (one r h.0) (unused_atoms v root bound i m u roles rows h.1)
@@ -121,7 +121,7 @@ unused_atoms v root bound i m u (r ∷ roles) (x ∷ rows) h = either (is_atom r
     one (source_tie k) f = refl
     one (opposite_tie k) f = refl
 
-claims_stand : (v : View) (root : Spot) (first g : Goes) (n : ℕ) (b : Branch) (parts : List (ℕ × ℤ)) → LeafReached v root (Way v root first g) g n b parts →
+claims_stand : (v : View) (root : TreeSpot) (first g : Gathered) (n : ℕ) (b : Branch) (parts : List (ℕ × ℤ)) → LeafReached v root (Way v root first g) g n b parts →
     (k : ℕ) (cs : List Claim) → ((p : ℕ) (c : Claim) → slice_get cs p ≡ Some c → slice_get v.claims (k + p) ≡ Some c) → AllByRecursion IsTold cs →
     StandsWell v (λ i. stands g.roles i n) b parts k cs
 claims_stand v root first g n b parts h k [] f told = tt
@@ -140,15 +140,15 @@ if_some : {X : Type 0} (o : Option X) (P Q : X → Type 0) → ((x : X) → P x 
 if_some None P Q f h = tt
 if_some (Some x) P Q f h = f x h
 
-pub leaves_refute : (v : View) (root : Spot) (first : Goes) → BeginsWell v root first → AreCutsAt (length v.columns) root.tree → AllByRecursion IsTold v.claims →
+pub leaves_refute : (v : View) (root : TreeSpot) (first : Gathered) → BeginsWell v root first → AreCutsAt (length v.columns) root.tree → AllByRecursion IsTold v.claims →
     ((more : List LinearRow) (late : List ℕ) (n : ℕ) (b : Branch) (parts : List (ℕ × ℤ)) → LeafFacts v root more late n b parts → AddsUp v root first more late n b parts) →
-    (sides : List Bool) → IfSome (leaf_from v sides first (stops v first.taken root.node root.branch root.tree)) (λ l. LeafFits l → Contradicts l.rows l.parts)
+    (sides : List Bool) → IfSome (leaf_from v sides first (stops v first.taken root.node root.branch root.tree)) (λ l. LeafNumbersFit l → Contradicts l.rows l.parts)
 leaves_refute v root first begins cuts told adds sides =
-    if_some (leaf_from v sides first (stops v first.taken root.node root.branch root.tree)) (LeafWell v root first) (λ l. LeafFits l → Contradicts l.rows l.parts)
+    if_some (leaf_from v sides first (stops v first.taken root.node root.branch root.tree)) (LeafWell v root first) (λ l. LeafNumbersFit l → Contradicts l.rows l.parts)
     (λ l w. by_leaf l w) (all_leaves_well v root first begins sides)
   where
-    by_leaf : (l : Leaf) → LeafWell v root first l → LeafFits l → Contradicts l.rows l.parts
-    by_leaf l w = subst (λ (x : Leaf). LeafFits x → Contradicts x.rows x.parts) (sym w.leaf_is) (λ fits.
+    by_leaf : (l : Leaf) → LeafWell v root first l → LeafNumbersFit l → Contradicts l.rows l.parts
+    by_leaf l w = subst (λ (x : Leaf). LeafNumbersFit x → Contradicts x.rows x.parts) (sym w.leaf_is) (λ fits.
         leaf_refutes v root first w.goes w.node w.branch w.parts w.reached
         (claims_stand v root first w.goes w.node w.branch w.parts w.reached 0 v.claims (λ p c e. ap (slice_get v.claims) (let q : 0 + p ≡ p = omega arith in q) ∙ e) told)
         (adds w.reached.way.more w.reached.way.late w.node w.branch w.parts

@@ -11,16 +11,16 @@ use Rattle.nwa_base.specs.Members.{Member}
 use Rattle.nwa_base.specs.Acceptance.{Accepts, AcceptsFrom, Follows}
 use Rattle.lin_rows.specs.Rows.{LinearRow}
 use Rattle.farkas_check.specs.Trees.{leaf_tree}
-use Rattle.letter_acts.specs.Frames.{Columns, IsFrame, globals_from, is_old_column, is_global, globals_of, results_of}
+use Rattle.letter_acts.specs.Frames.{Columns, IsFrame, globals_from, is_old_column, is_global, globals_of, result_columns}
 use Rattle.letter_acts.specs.Acts.{PlainAct, inside_act, call_act, back_act, frame_of, act_of}
 use Rattle.letter_acts.specs.Invariant.{Graph, IsGraph, alphabet_of, MayWrite, IsOld, MayTarget}
-use Rattle.path_rows.specs.Versions.{Part, written_over, locals_of, old_part, returned, back_part, return_part, act_part}
+use Rattle.path_rows.specs.Versions.{Part, written_over, local_columns, old_part, returned, back_part, return_part, act_part}
 use Rattle.frame_rows.specs.Rows.{columns_from}
 use Rattle.path_rows.proofs.DifferLemmas.{index_taken, index_dropped}
 use Rattle.path_rows.proofs.LayoutLemmas.{length-globals_from}
 use Rattle.path_rows.proofs.EdgeLemmas.{InsideEdge, CallEdge, BackEdge, inside_acts, call_acts, back_acts}
-use Rattle.nested_predicates.specs.Positions.{Scope, returned_by, has_return, callee_scope, left, scopes_after, innermost}
-use Rattle.nested_refutations.specs.Numbers.{OpenCall, Reading, here, read_on, open_after}
+use Rattle.nested_predicates.specs.Positions.{CallScope, returned_by, has_return, callee_scope, left_scopes, scopes_after, innermost}
+use Rattle.nested_refutations.specs.Numbers.{OpenCall, Reading, position_here, read_on, open_after}
 use Rattle.nested_refutations.proofs.VersionLaws.{index_left, index_right, columns_count, split_at, written_absent}
 use Rattle.nested_refutations.proofs.GoneLaws.{places_within}
 use Rattle.nested_refutations.proofs.LayoutLaws.{layout_of}
@@ -38,12 +38,12 @@ IsFixed frame j = IsSomeAnd (slice_get frame j) (λ v. (v.1.constant ≡ true) �
 
 -- such columns have the versions of the entry
 abbrev pub IsKept : Columns → List ℕ → List ℕ → Type 0
-IsKept frame entry here = (j : ℕ) → IsFixed frame j → slice_index here j ≡ slice_index entry j
+IsKept frame entry position_here = (j : ℕ) → IsFixed frame j → slice_index position_here j ≡ slice_index entry j
 
 -- ---- open calls
 
 -- a call that is open: the word read up to its letter, from a place; its scope, and the versions before it
-pub record OpenAt (g : Graph) (globals : ℕ) (w : List Letter) (place : ℕ) (call : OpenCall) (scope : Scope) (before : List ℕ) : Type 0 where
+pub record OpenAt (g : Graph) (globals : ℕ) (w : List Letter) (place : ℕ) (call : OpenCall) (scope : CallScope) (before : List ℕ) : Type 0 where
   pub reading : Reading
   pub letter : Letter
   pub rest : List Letter
@@ -54,20 +54,20 @@ pub record OpenAt (g : Graph) (globals : ℕ) (w : List Letter) (place : ℕ) (c
   pub at : CallAt g globals w reading letter rest caller callee helpers rows
   pub to : ℕ
   pub edge : Member g.automaton.calls (place, letter, to)
-  pub call_is : call ≡ record { number = suc reading.letters; rows = reading.rows; made = reading.stage.made; before = here reading }
+  pub call_is : call ≡ record { number = suc reading.letters; rows = reading.rows; made = reading.stage.made; before = position_here reading }
   pub scope_is : scope ≡ callee_scope (alphabet_of g) (suc reading.letters) callee (has_return 0 rest) (entry_of g reading callee helpers) reading.stage.here
   pub before_is : before ≡ reading.stage.here
 
 -- The calls that are open, innermost first, each with its place, scope and versions before it. The test tells which of them return,
 -- and each frame keeps its constant and old columns since its entry.
-abbrev pub StackFits : Graph → ℕ → List Letter → (ℕ → Bool) → ℕ → List ℕ → List OpenCall → List Scope → List (List ℕ) → List ℕ → Type 0
-StackFits g globals w test k [] [] scopes saved here = (saved ≡ []) × ((s : Scope) × (scopes ≡ s ∷ []))
-StackFits g globals w test k (p ∷ places) [] scopes saved here = ⊥
-StackFits g globals w test k [] (c ∷ calls) scopes saved here = ⊥
-StackFits g globals w test k (p ∷ places) (c ∷ calls) [] saved here = ⊥
-StackFits g globals w test k (p ∷ places) (c ∷ calls) (s ∷ scopes) [] here = ⊥
-StackFits g globals w test k (p ∷ places) (c ∷ calls) (s ∷ scopes) (v ∷ saved) here =
-    (o : OpenAt g globals w p c s v) × (has_return 0 o.rest ≡ test k) × IsKept (frame_of (alphabet_of g) o.callee) (entry_of g o.reading o.callee o.helpers) here ×
+abbrev pub StackFits : Graph → ℕ → List Letter → (ℕ → Bool) → ℕ → List ℕ → List OpenCall → List CallScope → List (List ℕ) → List ℕ → Type 0
+StackFits g globals w test k [] [] scopes saved position_here = (saved ≡ []) × ((s : CallScope) × (scopes ≡ s ∷ []))
+StackFits g globals w test k (p ∷ places) [] scopes saved position_here = ⊥
+StackFits g globals w test k [] (c ∷ calls) scopes saved position_here = ⊥
+StackFits g globals w test k (p ∷ places) (c ∷ calls) [] saved position_here = ⊥
+StackFits g globals w test k (p ∷ places) (c ∷ calls) (s ∷ scopes) [] position_here = ⊥
+StackFits g globals w test k (p ∷ places) (c ∷ calls) (s ∷ scopes) (v ∷ saved) position_here =
+    (o : OpenAt g globals w p c s v) × (has_return 0 o.rest ≡ test k) × IsKept (frame_of (alphabet_of g) o.callee) (entry_of g o.reading o.callee o.helpers) position_here ×
     (o.reading.scopes ≡ scopes) × (o.reading.stage.saved ≡ saved) × StackFits g globals w test (suc k) places calls scopes saved v
 
 -- where the automaton is, with the calls that are open
@@ -79,14 +79,14 @@ pub record Stacked (g : Graph) (globals : ℕ) (w : List Letter) (r : Reading) (
   pub begun : (r.calls ≡ []) ⊎ (from ≡ 0 → ⊥)
 
 -- another test that says the same
-test_same : (g : Graph) (globals : ℕ) (w : List Letter) (test other : ℕ → Bool) (k m : ℕ) → ((i : ℕ) → test (k + i) ≡ other (m + i)) → (places : List ℕ) (calls : List OpenCall) (scopes : List Scope)
-    (saved : List (List ℕ)) (here : List ℕ) → StackFits g globals w test k places calls scopes saved here → StackFits g globals w other m places calls scopes saved here
-test_same g globals w test other k m f [] [] scopes saved here h = h
-test_same g globals w test other k m f (p ∷ places) [] scopes saved here h = absurd h
-test_same g globals w test other k m f [] (c ∷ calls) scopes saved here h = absurd h
-test_same g globals w test other k m f (p ∷ places) (c ∷ calls) [] saved here h = absurd h
-test_same g globals w test other k m f (p ∷ places) (c ∷ calls) (s ∷ scopes) [] here h = absurd h
-test_same g globals w test other k m f (p ∷ places) (c ∷ calls) (s ∷ scopes) (v ∷ saved) here h =
+test_same : (g : Graph) (globals : ℕ) (w : List Letter) (test other : ℕ → Bool) (k m : ℕ) → ((i : ℕ) → test (k + i) ≡ other (m + i)) → (places : List ℕ) (calls : List OpenCall) (scopes : List CallScope)
+    (saved : List (List ℕ)) (position_here : List ℕ) → StackFits g globals w test k places calls scopes saved position_here → StackFits g globals w other m places calls scopes saved position_here
+test_same g globals w test other k m f [] [] scopes saved position_here h = h
+test_same g globals w test other k m f (p ∷ places) [] scopes saved position_here h = absurd h
+test_same g globals w test other k m f [] (c ∷ calls) scopes saved position_here h = absurd h
+test_same g globals w test other k m f (p ∷ places) (c ∷ calls) [] saved position_here h = absurd h
+test_same g globals w test other k m f (p ∷ places) (c ∷ calls) (s ∷ scopes) [] position_here h = absurd h
+test_same g globals w test other k m f (p ∷ places) (c ∷ calls) (s ∷ scopes) (v ∷ saved) position_here h =
     let first : test k ≡ other m = ap test (let e : k ≡ k + 0 = omega arith in e) ∙ f 0 ∙ ap other (let e : m + 0 ≡ m = omega arith in e) in (
       h.0,
       h.1 ∙ first,
@@ -98,16 +98,16 @@ test_same g globals w test other k m f (p ∷ places) (c ∷ calls) (s ∷ scope
     )
 
 -- other versions of the frame that keep those of the entry
-here_kept : (g : Graph) (globals : ℕ) (w : List Letter) (test : ℕ → Bool) (k : ℕ) (places : List ℕ) (calls : List OpenCall) (scopes : List Scope) (saved : List (List ℕ)) (here next : List ℕ) →
-    ((callee : ℕ) → (innermost scopes).proc ≡ callee → (calls ≡ [] → ⊥) → (j : ℕ) → IsFixed (frame_of (alphabet_of g) callee) j → slice_index next j ≡ slice_index here j) →
-    StackFits g globals w test k places calls scopes saved here → StackFits g globals w test k places calls scopes saved next
-here_kept g globals w test k [] [] scopes saved here next f h = h
-here_kept g globals w test k (p ∷ places) [] scopes saved here next f h = absurd h
-here_kept g globals w test k [] (c ∷ calls) scopes saved here next f h = absurd h
-here_kept g globals w test k (p ∷ places) (c ∷ calls) [] saved here next f h = absurd h
-here_kept g globals w test k (p ∷ places) (c ∷ calls) (s ∷ scopes) [] here next f h = absurd h
-here_kept g globals w test k (p ∷ places) (c ∷ calls) (s ∷ scopes) (v ∷ saved) here next f h =
-    (h.0, h.1, (λ j q. f h.0.callee (ap (λ (x : Scope). x.proc) h.0.scope_is) (λ e. some_call e) j q ∙ h.2 j q), h.3, h.4, h.5)
+here_kept : (g : Graph) (globals : ℕ) (w : List Letter) (test : ℕ → Bool) (k : ℕ) (places : List ℕ) (calls : List OpenCall) (scopes : List CallScope) (saved : List (List ℕ)) (position_here next : List ℕ) →
+    ((callee : ℕ) → (innermost scopes).proc ≡ callee → (calls ≡ [] → ⊥) → (j : ℕ) → IsFixed (frame_of (alphabet_of g) callee) j → slice_index next j ≡ slice_index position_here j) →
+    StackFits g globals w test k places calls scopes saved position_here → StackFits g globals w test k places calls scopes saved next
+here_kept g globals w test k [] [] scopes saved position_here next f h = h
+here_kept g globals w test k (p ∷ places) [] scopes saved position_here next f h = absurd h
+here_kept g globals w test k [] (c ∷ calls) scopes saved position_here next f h = absurd h
+here_kept g globals w test k (p ∷ places) (c ∷ calls) [] saved position_here next f h = absurd h
+here_kept g globals w test k (p ∷ places) (c ∷ calls) (s ∷ scopes) [] position_here next f h = absurd h
+here_kept g globals w test k (p ∷ places) (c ∷ calls) (s ∷ scopes) (v ∷ saved) position_here next f h =
+    (h.0, h.1, (λ j q. f h.0.callee (ap (λ (x : CallScope). x.proc) h.0.scope_is) (λ e. some_call e) j q ∙ h.2 j q), h.3, h.4, h.5)
   where
     some_call : c ∷ calls ≡ [] → ⊥
     some_call e = absurd (cc)
@@ -230,16 +230,16 @@ heads_same infos a b f h j l =
     let p = (layout_of infos a f).parts in
     let q = (layout_of infos b h).parts in
     let n = length-globals_from 0 infos in
-    ap (λ (x : Columns). slice_get x j) p ∙ get_left (globals_from 0 infos) (old_part a ++ locals_of a) j (omega (arith, l, n)) ∙
-    sym (ap (λ (x : Columns). slice_get x j) q ∙ get_left (globals_from 0 infos) (old_part b ++ locals_of b) j (omega (arith, l, n)))
+    ap (λ (x : Columns). slice_get x j) p ∙ get_left (globals_from 0 infos) (old_part a ++ local_columns a) j (omega (arith, l, n)) ∙
+    sym (ap (λ (x : Columns). slice_get x j) q ∙ get_left (globals_from 0 infos) (old_part b ++ local_columns b) j (omega (arith, l, n)))
 
 -- the columns of the caller that stay have the versions that they had before the call
-returned_fixed : (g : Graph) → (globals : ℕ) → HaveGlobals g globals → (w : List Letter) (place : ℕ) (call : OpenCall) (scope : Scope) (v : List ℕ) (o : OpenAt g globals w place call scope v) (targets exit : List ℕ) →
+returned_fixed : (g : Graph) → (globals : ℕ) → HaveGlobals g globals → (w : List Letter) (place : ℕ) (call : OpenCall) (scope : CallScope) (v : List ℕ) (o : OpenAt g globals w place call scope v) (targets exit : List ℕ) →
     globals ≤ length exit → AllByRecursion (MayTarget (frame_of (alphabet_of g) o.caller)) targets → IsKept (frame_of (alphabet_of g) o.callee) (entry_of g o.reading o.callee o.helpers) exit →
     (j : ℕ) → IsFixed (frame_of (alphabet_of g) o.caller) j → slice_index (returned (frame_of (alphabet_of g) o.caller) (frame_of (alphabet_of g) o.callee) targets exit v) j ≡ slice_index v j
 returned_fixed g globals have w place call scope v o targets exit long may kept j fixed =
     let n : ℕ = length (globals_of (frame_of (alphabet_of g) o.caller)) in
-    written_absent (take n exit ++ drop n v) targets (map (slice_index exit) (results_of (frame_of (alphabet_of g) o.callee))) j
+    written_absent (take n exit ++ drop n v) targets (map (slice_index exit) (result_columns (frame_of (alphabet_of g) o.callee))) j
     (λ m. fixed_no_target (frame_of (alphabet_of g) o.caller) j (all_member (MayTarget (frame_of (alphabet_of g) o.caller)) targets j m may) fixed) ∙
     by_place (split_at n j)
   where
@@ -281,7 +281,7 @@ back_stack g ok globals have w r a rest h p ps from to x m stack = by_lists r.ca
         ap (λ (o : Option PlainAct). return_part (alphabet_of g) x.known.targets o r.stage) x.known.call ∙
         ap (back_part (frame_of (alphabet_of g) x.known.caller) (frame_of (alphabet_of g) x.known.callee) x.known.targets r.stage.made r.stage.here) e
 
-    by_lists : (calls : List OpenCall) (scopes : List Scope) (saved : List (List ℕ)) → r.calls ≡ calls → r.scopes ≡ scopes → r.stage.saved ≡ saved →
+    by_lists : (calls : List OpenCall) (scopes : List CallScope) (saved : List (List ℕ)) → r.calls ≡ calls → r.scopes ≡ scopes → r.stage.saved ≡ saved →
         StackFits g globals w (λ k. returned_by kinds.Back k (λ n. has_return n rest)) 0 (p ∷ ps) calls scopes saved r.stage.here →
         StackAfter g globals w r rest ps kinds.Back (Some (back_act a.call x.known.targets))
     by_lists [] scopes saved e1 e2 e3 s = absurd s
@@ -299,16 +299,16 @@ back_stack g ok globals have w r a rest h p ps from to x m stack = by_lists r.ca
         let tail = test_same g globals w (λ k. returned_by kinds.Back k (λ n. has_return n rest)) (λ k. has_return k rest) 1 0 (λ i. ap (λ (k : ℕ). returned_by kinds.Back k (λ n. has_return n rest)) (let e : 1 + i ≡ suc i = omega arith in e) ∙ ap (λ (n : ℕ). has_return n rest) (let e : i ≡ 0 + i = omega arith in e)) ps calls scopes saved v s.5 in
         let next = here_kept g globals w (λ k. has_return k rest) 0 ps calls scopes saved v (returned f1 f2 x.known.targets r.stage.here v)
         (λ callee e some j fixed. returned_fixed g globals have w p c q v o x.known.targets r.stage.here long may s.2 j
-        (subst (λ (n : ℕ). IsFixed (frame_of (alphabet_of g) n) j) (sym (sym (call_scope_proc g ok globals w o.reading o.letter o.rest o.caller o.callee o.helpers o.rows o.at) ∙ ap (λ (l : List Scope). (innermost l).proc) s.3 ∙ e)) fixed)) tail in
+        (subst (λ (n : ℕ). IsFixed (frame_of (alphabet_of g) n) j) (sym (sym (call_scope_proc g ok globals w o.reading o.letter o.rest o.caller o.callee o.helpers o.rows o.at) ∙ ap (λ (l : List CallScope). (innermost l).proc) s.3 ∙ e)) fixed)) tail in
         let frames : returned f1 f2 x.known.targets r.stage.here v ≡ returned (frame_of (alphabet_of g) x.known.caller) (frame_of (alphabet_of g) x.known.callee) x.known.targets r.stage.here v =
         ap (λ (n : ℕ). returned (frame_of (alphabet_of g) n) f2 x.known.targets r.stage.here v) same_caller ∙
         ap (λ (n : ℕ). returned (frame_of (alphabet_of g) x.known.caller) (frame_of (alphabet_of g) n) x.known.targets r.stage.here v) same_callee in
         let calls_are : open_after (Some (back_act a.call x.known.targets)) r ≡ calls = ap (λ (cs : List OpenCall). open_after (Some (back_act a.call x.known.targets)) (record r { calls = cs })) e1 in
-        let scopes_are : left r.scopes ≡ scopes = ap left e2 in
+        let scopes_are : left_scopes r.scopes ≡ scopes = ap left_scopes e2 in
         let part = part_is (v ∷ saved) e3 in
-        subst (λ (cs : List OpenCall). StackFits g globals w (λ k. has_return k rest) 0 ps cs (left r.scopes) (act_part (alphabet_of g) (Some (back_act a.call x.known.targets)) r.stage).after.saved
+        subst (λ (cs : List OpenCall). StackFits g globals w (λ k. has_return k rest) 0 ps cs (left_scopes r.scopes) (act_part (alphabet_of g) (Some (back_act a.call x.known.targets)) r.stage).after.saved
         (act_part (alphabet_of g) (Some (back_act a.call x.known.targets)) r.stage).after.here) (sym calls_are)
-        (subst (λ (ss : List Scope). StackFits g globals w (λ k. has_return k rest) 0 ps calls ss (act_part (alphabet_of g) (Some (back_act a.call x.known.targets)) r.stage).after.saved
+        (subst (λ (ss : List CallScope). StackFits g globals w (λ k. has_return k rest) 0 ps calls ss (act_part (alphabet_of g) (Some (back_act a.call x.known.targets)) r.stage).after.saved
         (act_part (alphabet_of g) (Some (back_act a.call x.known.targets)) r.stage).after.here) (sym scopes_are)
         (subst (λ (z : Part). StackFits g globals w (λ k. has_return k rest) 0 ps calls scopes z.after.saved z.after.here) (sym part)
         (subst (λ (l : List ℕ). StackFits g globals w (λ k. has_return k rest) 0 ps calls scopes saved l) frames next)))

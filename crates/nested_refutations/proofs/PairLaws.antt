@@ -3,7 +3,7 @@ use Rattle.std.proofs.Common.{◌≡◌, ◌∙◌, ℕ, suc, ◌+◌, List, [],
 use Rattle.lin_rows.specs.Rows.{LinearRow}
 use Rattle.lin_rows.specs.Combinations.{row_at}
 use Rattle.frame_rows.specs.Rows.{columns_from}
-use Rattle.nested_refutations.specs.Refutations.{Spot, spare, View}
+use Rattle.nested_refutations.specs.Refutations.{TreeSpot, spare, View}
 use Rattle.nested_refutations.specs.Numbers.{branch_rows}
 use Rattle.nested_refutations.proofs.RowsLaws.{AllPairs}
 use Rattle.nested_refutations.proofs.WayLaws.{RoleFits}
@@ -13,7 +13,7 @@ row_behind [] x rest = refl
 row_behind (y ∷ front) x rest = row_behind front x rest
 
 -- rows of the kinds of a branch's rows from one number on
-pub branch_pairs : (v : View) (root : Spot) (all front rows block rest : List LinearRow) → all ≡ front ++ (block ++ rest) → AllPairs (λ r s. r.kind ≡ s.kind) rows block →
+pub branch_pairs : (v : View) (root : TreeSpot) (all front rows block rest : List LinearRow) → all ≡ front ++ (block ++ rest) → AllPairs (λ r s. r.kind ≡ s.kind) rows block →
     AllPairs (RoleFits v root all) (branch_rows (length front) (length rows)) rows
 branch_pairs v root all front [] [] rest e h = tt
 branch_pairs v root all front [] (y ∷ block) rest e h = absurd h
@@ -26,6 +26,6 @@ branch_pairs v root all front (x ∷ rows) (y ∷ block) rest e h =
       subst (λ (k : ℕ). AllPairs (RoleFits v root all) (branch_rows k (length rows)) rows) m (branch_pairs v root all (front ++ y ∷ []) rows block rest next h.1),
     )
 
-pub spare_pairs : (v : View) (root : Spot) (all : List LinearRow) (k : ℕ) (rows : List LinearRow) → AllPairs (RoleFits v root all) (map (λ r. spare) (columns_from k (length rows))) rows
+pub spare_pairs : (v : View) (root : TreeSpot) (all : List LinearRow) (k : ℕ) (rows : List LinearRow) → AllPairs (RoleFits v root all) (map (λ r. spare) (columns_from k (length rows))) rows
 spare_pairs v root all k [] = tt
 spare_pairs v root all k (x ∷ rows) = (tt, spare_pairs v root all (suc k) rows)

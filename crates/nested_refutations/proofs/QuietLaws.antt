@@ -16,7 +16,7 @@ use Rattle.letter_acts.specs.Acts.{PlainAct, call_act, back_act, frame_of, act_o
 use Rattle.letter_acts.specs.Invariant.{Graph, IsGraph, alphabet_of}
 use Rattle.letter_acts.proofs.FrameLemmas.{variable_below}
 use Rattle.frame_rows.specs.Rows.{bounds, types_of}
-use Rattle.path_rows.specs.Versions.{Stage, Part, rows_in, locals_of, old_part, call_part, part_of, act_part}
+use Rattle.path_rows.specs.Versions.{PathStage, Part, part_rows, local_columns, old_part, call_part, part_of, act_part}
 use Rattle.path_rows.specs.Paths.{repeated, path_along, path_of}
 use Rattle.path_rows.proofs.DifferLemmas.{place_of, dropped_at, indexed_member}
 use Rattle.path_rows.proofs.EdgeLemmas.{inside_acts, call_acts, back_acts}
@@ -79,7 +79,7 @@ never_named P y (r ∷ rows) (s ∷ ss) l h = ((λ p. h.0), never_named P y rows
 -- the rows of the word with other stamps: those before a letter, its own and later ones
 parts_quiet : (g : Graph) (w : List Letter) (r : Reading) (a : Letter) (rest : List Letter) → ReadTo g w r (a ∷ rest) → (P Q : ℕ → Type 0) (y : ℕ) → NotNamed P y (path_of g w).rows (stamps_of g w).rows →
     ((s : ℕ) → IsEarly r.letters s → Q s → P s) →
-    NotNamed Q y (rows_in (part_of (alphabet_of g) a r.stage)) (row_stamps (suc r.letters) (act_of (alphabet_of g) a) (part_of (alphabet_of g) a r.stage)) →
+    NotNamed Q y (part_rows (part_of (alphabet_of g) a r.stage)) (row_stamps (suc r.letters) (act_of (alphabet_of g) a) (part_of (alphabet_of g) a r.stage)) →
     ((s : ℕ) → 2 * suc (suc r.letters) ≤ s → Q s → P s) → NotNamed Q y (path_of g w).rows (stamps_of g w).rows
 parts_quiet g w r a rest h P Q y all front block later =
     let al = alphabet_of g in
@@ -89,22 +89,22 @@ parts_quiet g w r a rest h P Q y all front block later =
     let stamps : List ℕ = (stamps_along al (suc (suc r.letters)) part.after rest).rows in
     let R : LinearRow → ℕ → Type 0 = λ x s. P s → coefficient y x.terms ≡ pos 0 in
     let S : LinearRow → ℕ → Type 0 = λ x s. Q s → coefficient y x.terms ≡ pos 0 in
-    let whole : AllPairs R (h.front ++ (rows_in part ++ rows)) (h.early ++ (now ++ stamps)) =
+    let whole : AllPairs R (h.front ++ (part_rows part ++ rows)) (h.early ++ (now ++ stamps)) =
     subst (λ (l : List LinearRow). AllPairs R l (h.early ++ (now ++ stamps))) h.rows (subst (AllPairs R (path_of g w).rows) h.stamps all) in
-    let one = pairs_parted R h.front (rows_in part ++ rows) h.early (now ++ stamps) h.early_count whole in
-    let two = pairs_parted R (rows_in part) rows now stamps (rows_counted (suc r.letters) (act_of al a) part) one.1 in
+    let one = pairs_parted R h.front (part_rows part ++ rows) h.early (now ++ stamps) h.early_count whole in
+    let two = pairs_parted R (part_rows part) rows now stamps (rows_counted (suc r.letters) (act_of al a) part) one.1 in
     let new_front = stamps_weaker P Q y h.front h.early one.0 (all_weaker (IsEarly r.letters) (λ s. Q s → P s) front h.early h.early_within) in
     let new_later = stamps_weaker P Q y rows stamps two.1 (all_weaker (λ s. 2 * suc (suc r.letters) ≤ s) (λ s. Q s → P s) later stamps (stamps_from al (suc (suc r.letters)) part.after rest).0) in
-    let joined = pairs_joined S h.front h.early (rows_in part ++ rows) (now ++ stamps) new_front (pairs_joined S (rows_in part) now rows stamps block new_later) in
-    subst (λ (l : List LinearRow). AllPairs S l (stamps_of g w).rows) (sym h.rows) (subst (AllPairs S (h.front ++ (rows_in part ++ rows))) (sym h.stamps) joined)
+    let joined = pairs_joined S h.front h.early (part_rows part ++ rows) (now ++ stamps) new_front (pairs_joined S (part_rows part) now rows stamps block new_later) in
+    subst (λ (l : List LinearRow). AllPairs S l (stamps_of g w).rows) (sym h.rows) (subst (AllPairs S (h.front ++ (part_rows part ++ rows))) (sym h.stamps) joined)
 
 -- ---- calls that were open
 
 -- the version is made, and is none of the frame's
-abbrev pub IsAway : Stage → ℕ → Type 0
+abbrev pub IsAway : PathStage → ℕ → Type 0
 IsAway p y = (y < p.made) × (Member p.here y → ⊥)
 
-away_unnamed : (p : Stage) (made y : ℕ) → IsAway p y → (rows : List LinearRow) → AllByRecursion (NamesOnly (Known p made)) rows → AllByRecursion (λ r. coefficient y r.terms ≡ pos 0) rows
+away_unnamed : (p : PathStage) (made y : ℕ) → IsAway p y → (rows : List LinearRow) → AllByRecursion (NamesOnly (Known p made)) rows → AllByRecursion (λ r. coefficient y r.terms ≡ pos 0) rows
 away_unnamed p made y w rows h = all_weaker (NamesOnly (Known p made)) (λ r. coefficient y r.terms ≡ pos 0) (λ r f. f y (λ k. off w k)) rows h
   where
     off : (y < p.made) × (Member p.here y → ⊥) → Known p made y → ⊥
@@ -118,8 +118,8 @@ one_older g globals w r a rest h number y away quiet =
     let part : Part = part_of al a r.stage in
     parts_quiet g w r a rest h.read (IsBetween number r.letters) (IsBetween number (suc r.letters)) y quiet
     (λ s e q. early s e q)
-    (never_named (IsBetween number (suc r.letters)) y (rows_in part) (row_stamps (suc r.letters) (act_of al a) part) (rows_counted (suc r.letters) (act_of al a) part)
-    (away_unnamed r.stage part.after.made y away (rows_in part) (letter_named al (act_of al a) r.stage h.names.0.0)))
+    (never_named (IsBetween number (suc r.letters)) y (part_rows part) (row_stamps (suc r.letters) (act_of al a) part) (rows_counted (suc r.letters) (act_of al a) part)
+    (away_unnamed r.stage part.after.made y away (part_rows part) (letter_named al (act_of al a) r.stage h.names.0.0)))
     (λ s l q. (let k = q.2 in absurd (omega (arith, l, k))))
   where
     early : (s : ℕ) → IsEarly r.letters s → IsBetween number (suc r.letters) s → IsBetween number r.letters s
@@ -154,7 +154,7 @@ none_stamped (s ∷ ss) = ((λ z. z), none_stamped ss)
 -- what a call makes for its callee does not name what the caller has behind its globals
 entry_quiet : (g : Graph) (globals : ℕ) → HaveGlobals g globals → (w : List Letter) (r : Reading) (a : Letter) (rest : List Letter) (caller callee helpers : ℕ) (rows : List LinearRow) →
     (at : CallAt g globals w r a rest caller callee helpers rows) → (y : ℕ) → Member (drop globals r.stage.here) y →
-    NotNamed (IsBetween (suc r.letters) (suc r.letters)) y (rows_in (call_part (frame_of (alphabet_of g) callee) helpers rows r.stage))
+    NotNamed (IsBetween (suc r.letters) (suc r.letters)) y (part_rows (call_part (frame_of (alphabet_of g) callee) helpers rows r.stage))
     (row_stamps (suc r.letters) (Some (call_act caller callee helpers rows)) (call_part (frame_of (alphabet_of g) callee) helpers rows r.stage))
 entry_quiet g globals have w r a rest caller callee helpers rows at y m =
     let f : Columns = frame_of (alphabet_of g) callee in
@@ -162,7 +162,7 @@ entry_quiet g globals have w r a rest caller callee helpers rows at y m =
     let k : ℕ = suc r.letters in
     let Q : ℕ → Type 0 = IsBetween k k in
     let S : LinearRow → ℕ → Type 0 = λ x s. Q s → coefficient y x.terms ≡ pos 0 in
-    let olds_at : ℕ = r.stage.made + length (locals_of f) + helpers in
+    let olds_at : ℕ = r.stage.made + length (local_columns f) + helpers in
     let ties : List ℕ = map (slice_index r.stage.here) (variables_of f) in
     let s = dropped_at globals r.stage.here y m in
     let below : y < r.stage.made = subst (λ (z : ℕ). z < r.stage.made) s.there (below_at r.stage.made r.stage.here s.at at.versions.below s.within) in
@@ -172,9 +172,9 @@ entry_quiet g globals have w r a rest caller callee helpers rows at y m =
     (never_named Q y (part.entries ++ part.bounds) (repeated (suc (2 * k)) (length (part.entries ++ part.bounds))) (length-repeated (suc (2 * k)) (length (part.entries ++ part.bounds)))
     (all_joined (λ x. coefficient y x.terms ≡ pos 0) part.entries part.bounds
     (all_weaker (NamesOnly (λ x. ((olds_at ≤ x) × (x < olds_at + length ties)) ⊎ Member ties x)) (λ x. coefficient y x.terms ≡ pos 0) (λ x h. h y (λ e. off_entry olds_at (omega arith) below (length ties) e)) part.entries (entries_named olds_at ties))
-    (all_joined (λ x. coefficient y x.terms ≡ pos 0) (bounds r.stage.made (types_of (locals_of f))) (bounds olds_at (types_of (old_part f)))
-    (all_weaker (NamesOnly (λ x. (r.stage.made ≤ x) × (x < r.stage.made + length (types_of (locals_of f))))) (λ x. coefficient y x.terms ≡ pos 0)
-    (λ x h. h y (λ e. (let l = e.0 in omega (arith, l, below)))) (bounds r.stage.made (types_of (locals_of f))) (bounds_named r.stage.made (types_of (locals_of f))))
+    (all_joined (λ x. coefficient y x.terms ≡ pos 0) (bounds r.stage.made (types_of (local_columns f))) (bounds olds_at (types_of (old_part f)))
+    (all_weaker (NamesOnly (λ x. (r.stage.made ≤ x) × (x < r.stage.made + length (types_of (local_columns f))))) (λ x. coefficient y x.terms ≡ pos 0)
+    (λ x h. h y (λ e. (let l = e.0 in omega (arith, l, below)))) (bounds r.stage.made (types_of (local_columns f))) (bounds_named r.stage.made (types_of (local_columns f))))
     (all_weaker (NamesOnly (λ x. (olds_at ≤ x) × (x < olds_at + length (types_of (old_part f))))) (λ x. coefficient y x.terms ≡ pos 0)
     (λ x h. h y (λ e. (let l = e.0 in omega (arith, l, below)))) (bounds olds_at (types_of (old_part f))) (bounds_named olds_at (types_of (old_part f)))))))
   where
@@ -202,8 +202,8 @@ new_call g globals have w r a rest h caller callee helpers rows at y m =
     let Q : ℕ → Type 0 = IsBetween k k in
     parts_quiet g w r a rest h.read (λ s. ⊥) Q y (no_stamp (λ s. ⊥) y (path_of g w).rows (stamps_of g w).rows (counted_rows g w) (none_stamped (stamps_of g w).rows))
     (λ s e q. early s e q)
-    (subst (λ (z : Part). NotNamed Q y (rows_in z) (row_stamps k (act_of (alphabet_of g) a) z)) (sym (call_part_is g globals w r a rest caller callee helpers rows at))
-    (subst (λ (o : Option PlainAct). NotNamed Q y (rows_in (call_part (frame_of (alphabet_of g) callee) helpers rows r.stage)) (row_stamps k o (call_part (frame_of (alphabet_of g) callee) helpers rows r.stage))) (sym at.act_is)
+    (subst (λ (z : Part). NotNamed Q y (part_rows z) (row_stamps k (act_of (alphabet_of g) a) z)) (sym (call_part_is g globals w r a rest caller callee helpers rows at))
+    (subst (λ (o : Option PlainAct). NotNamed Q y (part_rows (call_part (frame_of (alphabet_of g) callee) helpers rows r.stage)) (row_stamps k o (call_part (frame_of (alphabet_of g) callee) helpers rows r.stage))) (sym at.act_is)
     (entry_quiet g globals have w r a rest caller callee helpers rows at y m)))
     (λ s l q. (let b = q.2 in omega (arith, l, b)))
   where

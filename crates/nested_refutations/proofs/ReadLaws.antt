@@ -8,7 +8,7 @@ use Rattle.letter_acts.specs.Frames.{Columns}
 use Rattle.letter_acts.specs.Acts.{PlainAct, inside_act, call_act, back_act, Alphabet, frame_of, act_of}
 use Rattle.letter_acts.specs.Invariant.{Graph, alphabet_of}
 use Rattle.frame_rows.specs.Rows.{bounds, types_of}
-use Rattle.path_rows.specs.Versions.{Stage, Part, rows_in, locals_of, old_part, back_part, return_part, act_part, part_of}
+use Rattle.path_rows.specs.Versions.{PathStage, Part, part_rows, local_columns, old_part, back_part, return_part, act_part, part_of}
 use Rattle.path_rows.specs.Paths.{repeated, start_frame, first_stage, path_along, path_of}
 use Rattle.nested_predicates.specs.Stamps.{stamp_of, callee_stamp, row_stamps, column_stamps, stamps_along, stamps_of}
 use Rattle.nested_predicates.specs.Positions.{start_scope}
@@ -48,35 +48,35 @@ all_weaker P Q f (s ∷ ss) h = (f s h.0, all_weaker P Q f ss h.1)
 
 -- the stamps of a letter's rows and columns are its own two
 rows_stamped : (P : ℕ → Type 0) (n : ℕ) (act : Option PlainAct) (part : Part) → P (stamp_of n) → P (callee_stamp n) → AllByRecursion P (row_stamps n act part)
-rows_stamped P n None part h k = all_repeated P (stamp_of n) (length (rows_in part)) h
-rows_stamped P n (Some (inside_act q written helpers rows)) part h k = all_repeated P (stamp_of n) (length (rows_in part)) h
+rows_stamped P n None part h k = all_repeated P (stamp_of n) (length (part_rows part)) h
+rows_stamped P n (Some (inside_act q written helpers rows)) part h k = all_repeated P (stamp_of n) (length (part_rows part)) h
 rows_stamped P n (Some (call_act caller callee helpers rows)) part h k =
     all_joined P (repeated (stamp_of n) (length part.own)) (repeated (callee_stamp n) (length (part.entries ++ part.bounds)))
     (all_repeated P (stamp_of n) (length part.own) h) (all_repeated P (callee_stamp n) (length (part.entries ++ part.bounds)) k)
-rows_stamped P n (Some (back_act c targets)) part h k = all_repeated P (stamp_of n) (length (rows_in part)) h
+rows_stamped P n (Some (back_act c targets)) part h k = all_repeated P (stamp_of n) (length (part_rows part)) h
 
 columns_stamped : (P : ℕ → Type 0) (al : Alphabet) (n : ℕ) (act : Option PlainAct) (part : Part) → P (stamp_of n) → P (callee_stamp n) → AllByRecursion P (column_stamps al n act part)
 columns_stamped P al n None part h k = all_repeated P (stamp_of n) part.columns h
 columns_stamped P al n (Some (inside_act q written helpers rows)) part h k = all_repeated P (stamp_of n) part.columns h
 columns_stamped P al n (Some (call_act caller callee helpers rows)) part h k =
-    all_joined P (repeated (callee_stamp n) (length (locals_of (frame_of al callee)))) (repeated (stamp_of n) helpers ++ repeated (callee_stamp n) (length (old_part (frame_of al callee))))
-    (all_repeated P (callee_stamp n) (length (locals_of (frame_of al callee))) k)
+    all_joined P (repeated (callee_stamp n) (length (local_columns (frame_of al callee)))) (repeated (stamp_of n) helpers ++ repeated (callee_stamp n) (length (old_part (frame_of al callee))))
+    (all_repeated P (callee_stamp n) (length (local_columns (frame_of al callee))) k)
     (all_joined P (repeated (stamp_of n) helpers) (repeated (callee_stamp n) (length (old_part (frame_of al callee))))
     (all_repeated P (stamp_of n) helpers h) (all_repeated P (callee_stamp n) (length (old_part (frame_of al callee))) k))
 columns_stamped P al n (Some (back_act c targets)) part h k = all_repeated P (stamp_of n) part.columns h
 
-pub rows_counted : (n : ℕ) (act : Option PlainAct) (part : Part) → length (row_stamps n act part) ≡ length (rows_in part)
-rows_counted n None part = length-repeated (stamp_of n) (length (rows_in part))
-rows_counted n (Some (inside_act q written helpers rows)) part = length-repeated (stamp_of n) (length (rows_in part))
+pub rows_counted : (n : ℕ) (act : Option PlainAct) (part : Part) → length (row_stamps n act part) ≡ length (part_rows part)
+rows_counted n None part = length-repeated (stamp_of n) (length (part_rows part))
+rows_counted n (Some (inside_act q written helpers rows)) part = length-repeated (stamp_of n) (length (part_rows part))
 rows_counted n (Some (call_act caller callee helpers rows)) part =
     let a = length-append (repeated (stamp_of n) (length part.own)) (repeated (callee_stamp n) (length (part.entries ++ part.bounds))) in
     let b = length-repeated (stamp_of n) (length part.own) in
     let c = length-repeated (callee_stamp n) (length (part.entries ++ part.bounds)) in
     let d = length-append part.own (part.entries ++ part.bounds) in
     omega (arith, a, b, c, d)
-rows_counted n (Some (back_act c targets)) part = length-repeated (stamp_of n) (length (rows_in part))
+rows_counted n (Some (back_act c targets)) part = length-repeated (stamp_of n) (length (part_rows part))
 
-back_made : (al : Alphabet) (targets : List ℕ) (o : Option PlainAct) (n : ℕ) (p : Stage) → length (repeated (stamp_of n) (return_part al targets o p).columns) + p.made ≡ (return_part al targets o p).after.made
+back_made : (al : Alphabet) (targets : List ℕ) (o : Option PlainAct) (n : ℕ) (p : PathStage) → length (repeated (stamp_of n) (return_part al targets o p).columns) + p.made ≡ (return_part al targets o p).after.made
 back_made al targets None n p = omega arith
 back_made al targets (Some (inside_act q written helpers rows)) n p = omega arith
 back_made al targets (Some (call_act caller callee helpers rows)) n p = by_saved p.saved
@@ -87,11 +87,11 @@ back_made al targets (Some (call_act caller callee helpers rows)) n p = by_saved
     by_saved (before ∷ saved) = omega arith
 back_made al targets (Some (back_act c more)) n p = omega arith
 
-columns_counted : (al : Alphabet) (n : ℕ) (act : Option PlainAct) (p : Stage) → length (column_stamps al n act (act_part al act p)) + p.made ≡ (act_part al act p).after.made
+columns_counted : (al : Alphabet) (n : ℕ) (act : Option PlainAct) (p : PathStage) → length (column_stamps al n act (act_part al act p)) + p.made ≡ (act_part al act p).after.made
 columns_counted al n None p = omega arith
 columns_counted al n (Some (inside_act q written helpers rows)) p = let e = length-repeated (stamp_of n) (length written + helpers) in omega (arith, e)
 columns_counted al n (Some (call_act caller callee helpers rows)) p =
-    let locals : ℕ = length (locals_of (frame_of al callee)) in
+    let locals : ℕ = length (local_columns (frame_of al callee)) in
     let olds : ℕ = length (old_part (frame_of al callee)) in
     let a = length-append (repeated (callee_stamp n) locals) (repeated (stamp_of n) helpers ++ repeated (callee_stamp n) olds) in
     let b = length-append (repeated (stamp_of n) helpers) (repeated (callee_stamp n) olds) in
@@ -137,7 +137,7 @@ later n s (l, inr k) = (l, inr (omega (arith, k)))
 
 -- one letter more
 pub read_next : (g : Graph) (w : List Letter) (r : Reading) (a : Letter) (rest : List Letter) → ReadTo g w r (a ∷ rest) →
-    AllByRecursion (NamesOnly (λ x. x < (part_of (alphabet_of g) a r.stage).after.made)) (rows_in (part_of (alphabet_of g) a r.stage)) → r.stage.made ≤ (part_of (alphabet_of g) a r.stage).after.made →
+    AllByRecursion (NamesOnly (λ x. x < (part_of (alphabet_of g) a r.stage).after.made)) (part_rows (part_of (alphabet_of g) a r.stage)) → r.stage.made ≤ (part_of (alphabet_of g) a r.stage).after.made →
     ReadTo g w (read_on (alphabet_of g) a rest r) rest
 read_next g w r a rest h names grows =
     let al : Alphabet = alphabet_of g in
@@ -148,16 +148,16 @@ read_next g w r a rest h names grows =
     let made = h.made in
     let count = columns_counted al n (act_of al a) r.stage in
     let both = length-append h.columns cs in
-    let fr = length-append h.front (rows_in part) in
+    let fr = length-append h.front (part_rows part) in
     let er = length-append h.early rs in
     let rc = rows_counted n (act_of al a) part in
     let c0 = h.row_count in
     let c1 = h.early_count in
     record {
-      front = h.front ++ rows_in part;
+      front = h.front ++ part_rows part;
       early = h.early ++ rs;
       columns = h.columns ++ cs;
-      rows = h.rows ∙ sym (append_assoc h.front (rows_in part) (path_along al (suc n) part.after rest).rows);
+      rows = h.rows ∙ sym (append_assoc h.front (part_rows part) (path_along al (suc n) part.after rest).rows);
       stamps = h.stamps ∙ sym (append_assoc h.early rs (stamps_along al (suc n) part.after rest).rows);
       column_stamps = h.column_stamps ∙ sym (append_assoc h.columns cs (stamps_along al (suc n) part.after rest).columns);
       row_count = omega (arith, fr, c0);
@@ -167,12 +167,12 @@ read_next g w r a rest h names grows =
           (rows_stamped (IsEarly n) n (act_of al a) part (omega arith, inr (omega arith)) (omega arith, inr (omega arith)));
       columns_within = all_joined (IsEarly n) h.columns cs (all_weaker (IsEarly r.letters) (IsEarly n) (λ s k. later r.letters s k) h.columns h.columns_within)
           (columns_stamped (IsEarly n) al n (act_of al a) part (omega arith, inr (omega arith)) (omega arith, inr (omega arith)));
-      named = all_joined (NamesOnly (λ x. x < part.after.made)) h.front (rows_in part)
+      named = all_joined (NamesOnly (λ x. x < part.after.made)) h.front (part_rows part)
           (names_weaker (λ x. x < r.stage.made) (λ x. x < part.after.made) (λ x l. omega (arith, l, grows)) h.front h.named) names;
     }
 
 -- the stamps of the letters from number n on
-pub stamps_from : (al : Alphabet) (n : ℕ) (p : Stage) (w : List Letter) → AllByRecursion (λ s. 2 * n ≤ s) (stamps_along al n p w).rows × AllByRecursion (λ s. 2 * n ≤ s) (stamps_along al n p w).columns
+pub stamps_from : (al : Alphabet) (n : ℕ) (p : PathStage) (w : List Letter) → AllByRecursion (λ s. 2 * n ≤ s) (stamps_along al n p w).rows × AllByRecursion (λ s. 2 * n ≤ s) (stamps_along al n p w).columns
 stamps_from al n p [] = (tt, tt)
 stamps_from al n p (a ∷ w) =
     let part : Part = part_of al a p in

@@ -11,16 +11,16 @@ use Rattle.nwa_base.specs.Members.{Member}
 use Rattle.lin_rows.specs.Rows.{LinearRow}
 use Rattle.lin_rows.specs.Negating.{below_opposite}
 use Rattle.lin_rows.specs.Tightening.{tightened}
-use Rattle.letter_acts.specs.Frames.{Columns, is_global_column, is_constant, is_variable, is_local, is_parameter, globals_of, constants_of, variables_of, old_at, olds_from, olds_of}
+use Rattle.letter_acts.specs.Frames.{Columns, is_global_column, is_fixed_column, is_variable, is_local, is_parameter, globals_of, constants_of, variables_of, old_at, olds_from, olds_of}
 use Rattle.letter_acts.specs.Invariant.{AreDistinct, MayName}
 use Rattle.letter_acts.proofs.FrameLemmas.{variable_or_constant, olds_of_variables, IsConsecutive, olds_consecutive}
-use Rattle.path_rows.specs.Versions.{locals_of, old_part}
+use Rattle.path_rows.specs.Versions.{local_columns, old_part}
 use Rattle.path_rows.specs.Paths.{repeated}
 use Rattle.path_rows.proofs.OpenLemmas.{at_place}
 use Rattle.path_rows.proofs.DifferLemmas.{places_distinct}
 use Rattle.frame_rows.specs.Rows.{renamed, bounds, types_of}
 use Rattle.nested_predicates.specs.Stamps.{column_stamp}
-use Rattle.nested_predicates.specs.Positions.{has_return, known_at, known_columns, if_constant}
+use Rattle.nested_predicates.specs.Positions.{has_return, known_at, known_columns, if_constant_version}
 use Rattle.nested_predicates.specs.Sums.{Branch, root_of, sum_upto, column_upto, bound_upto, known_sum, bound_at}
 use Rattle.nested_refutations.specs.Refutations.{Role, target_tie, opposite_tie, is_used, multiplier}
 use Rattle.nested_refutations.specs.Numbers.{branch_rows, spares, before_bounds, bounds_in}
@@ -449,18 +449,18 @@ known_get (d ∷ frame) [] before j v e l = absurd (omega (arith, l))
 known_get (d ∷ frame) (x ∷ entry) before zero v e l = let s : d ≡ v = cc in ap (λ (u : Column × VarInfo). known_at u.0 u.1.constant x before) s
 known_get (d ∷ frame) (x ∷ entry) before (suc j) v e l = known_get frame entry before j v e (omega (arith, l))
 
-pub known_constant : (v : Column × VarInfo) (x : ℕ) (before : List ℕ) → is_constant v ≡ true → known_at v.0 v.1.constant x before ≡ Some x
+pub known_constant : (v : Column × VarInfo) (x : ℕ) (before : List ℕ) → is_fixed_column v ≡ true → known_at v.0 v.1.constant x before ≡ Some x
 known_constant (d, info) x before e = by_column d e
   where
-    by_column : (d : Column) → is_constant (d, info) ≡ true → known_at d info.constant x before ≡ Some x
-    by_column (Global g) e = ap (λ (z : Bool). if_constant z x) e
+    by_column : (d : Column) → is_fixed_column (d, info) ≡ true → known_at d info.constant x before ≡ Some x
+    by_column (Global g) e = ap (λ (z : Bool). if_constant_version z x) e
     by_column (Old g) e = absurd (cc)
     by_column (Local l) e = absurd (cc)
 
 pub known_variable : (v : Column × VarInfo) (x : ℕ) (before : List ℕ) → is_variable v ≡ true → known_at v.0 v.1.constant x before ≡ None
 known_variable (d, info) x before e = by_column d e
   where
-    by_constant : (z : Bool) → not z ≡ true → if_constant z x ≡ None
+    by_constant : (z : Bool) → not z ≡ true → if_constant_version z x ≡ None
     by_constant true e = absurd (cc)
     by_constant false e = refl
 
@@ -573,7 +573,7 @@ global_window c returns o more late n b parts f x l =
     let same = fits_at c o x (omega (arith, l, m)) in
     let w = window c returns more late n b parts f other in
     let zl = pairs_zero (λ r. coefficient x r.terms) other (map tightened (local_bounds c)) (local_block c) same.local
-    (tight_off x (local_bounds c) (bounds_above (length (caller_in c) + (heads c + olds c)) x (types_of (locals_of (callee_in c))) (omega (arith, l, a)))) (is_own (call_view c)) (λ j. coefficient j parts)
+    (tight_off x (local_bounds c) (bounds_above (length (caller_in c) + (heads c + olds c)) x (types_of (local_columns (callee_in c))) (omega (arith, l, a)))) (is_own (call_view c)) (λ j. coefficient j parts)
     (length (front_of c) + length (own_block c) + length (entry_block c)) (callee_now c (local_block c)) in
     let zo = pairs_zero (λ r. coefficient x r.terms) other (map tightened (old_bounds c)) (old_block c) same.old
     (tight_off x (old_bounds c) (bounds_above (length (caller_in c) + heads c) x (types_of (old_part (callee_in c))) (omega (arith, l, a)))) (is_own (call_view c)) (λ j. coefficient j parts)
@@ -691,7 +691,7 @@ returning_adds c returns o more late n b parts f = record {
     at_constant : (j : ℕ) → j < heads c → Member (constants_of (callee_in c)) j → target_sum c b parts j ≡
         column_upto b parts (suc (2 * suc c.r.letters)) (slice_index (call_names c) j) -ℤ column_upto b parts (2 * suc c.r.letters) (slice_index (call_names c) j)
     at_constant j l m =
-        let p = at_place is_constant 0 (callee_in c) j m in
+        let p = at_place is_fixed_column 0 (callee_in c) j m in
         let i : j ≡ p.0 = (let q = p.2 in omega (arith, q)) in
         let long = entry_long c in
         let k = callee_long c in
@@ -705,7 +705,7 @@ returning_adds c returns o more late n b parts f = record {
     -- a constant is no variable
     not_variable : (j : ℕ) → Member (constants_of (callee_in c)) j → Member (variables_of (callee_in c)) j → ⊥
     not_variable j m h =
-        let p = at_place is_constant 0 (callee_in c) j m in
+        let p = at_place is_fixed_column 0 (callee_in c) j m in
         let q = at_place is_variable 0 (callee_in c) j h in
         let i : p.0 ≡ q.0 = (let a = p.2 in let d = q.2 in omega (arith, a, d)) in
         let e : Some p.1 ≡ Some q.1 = sym p.3 ∙ ap (slice_get (callee_in c)) i ∙ q.3 in
@@ -719,8 +719,8 @@ returning_adds c returns o more late n b parts f = record {
         both true false e f = absurd (cc)
         both false y e f = absurd (cc)
 
-        clash : (u v : Column × VarInfo) → u ≡ v → is_constant u ≡ true → is_variable v ≡ true → ⊥
-        clash u v e a d = both (is_global_column v.0) v.1.constant (subst (λ (z : Column × VarInfo). is_constant z ≡ true) e a) d
+        clash : (u v : Column × VarInfo) → u ≡ v → is_fixed_column u ≡ true → is_variable v ≡ true → ⊥
+        clash u v e a d = both (is_global_column v.0) v.1.constant (subst (λ (z : Column × VarInfo). is_fixed_column z ≡ true) e a) d
 
     by_head : (x : ℕ) → x < width c → (x < heads c) ⊎ (heads c ≤ x) →
         (others (multiplier (call_view c) n b parts) (λ r. coefficient x r.terms) (call_first c).roles (call_first c).rows +ℤ
@@ -879,10 +879,10 @@ returning_adds c returns o more late n b parts f = record {
         let at : slice_get (callee_in c) j ≡ Some q.1 = ap (slice_get (callee_in c)) (let a = q.2 in let s : j ≡ q.0 = omega (arith, a) in s) ∙ q.3 in
         by_constant q.1 at (local_known q.1 q.4) q.1.1.constant refl
       where
-        local_known : (v : Column × VarInfo) → is_local v ≡ true → (y : ℕ) (before : List ℕ) → known_at v.0 v.1.constant y before ≡ if_constant v.1.constant y
+        local_known : (v : Column × VarInfo) → is_local v ≡ true → (y : ℕ) (before : List ℕ) → known_at v.0 v.1.constant y before ≡ if_constant_version v.1.constant y
         local_known (d, info) h y before = by_column d h
           where
-            by_column : (d : Column) → is_local (d, info) ≡ true → known_at d info.constant y before ≡ if_constant info.constant y
+            by_column : (d : Column) → is_local (d, info) ≡ true → known_at d info.constant y before ≡ if_constant_version info.constant y
             by_column (Global g) h = refl
             by_column (Old g) h = absurd (cc)
             by_column (Local g) h = refl
@@ -908,7 +908,7 @@ returning_adds c returns o more late n b parts f = record {
                 let s = call_names_differ c p.1 x (omega (arith, m, g, w)) l r in
                 omega (arith, s, e, g, w)
 
-        by_constant : (v : Column × VarInfo) → slice_get (callee_in c) (heads c + (olds c + i)) ≡ Some v → ((y : ℕ) (before : List ℕ) → known_at v.0 v.1.constant y before ≡ if_constant v.1.constant y) →
+        by_constant : (v : Column × VarInfo) → slice_get (callee_in c) (heads c + (olds c + i)) ≡ Some v → ((y : ℕ) (before : List ℕ) → known_at v.0 v.1.constant y before ≡ if_constant_version v.1.constant y) →
             (z : Bool) → v.1.constant ≡ z →
             (others (multiplier (call_view c) n b parts) (λ r. coefficient x r.terms) (call_first c).roles (call_first c).rows +ℤ
             own_sum (call_view c) (multiplier (call_view c) n b parts) (λ r. coefficient x r.terms) (length (root_of c.g c.w).rows) more late) +ℤ columns_added (call_view c) b parts x 0 (call_view c).claims ≡ pos 0
@@ -925,20 +925,20 @@ returning_adds c returns o more late n b parts f = record {
             let u = opposed_off c (multiplier (call_view c) n b parts) x
             (λ p r m. (let q = caller_long c in let f = r.column in let s = r.within in let g = r.global in ((λ s2. omega (arith, s2, f, s, e, q)), (λ s2. omega (arith, s2, g, w, e))))) in
             let none = entry_none in
-            let known_is : known_in (target_claim c).position.scope.known j ≡ if_constant z (slice_index (entry_of c.g c.r c.callee c.helpers) j) =
+            let known_is : known_in (target_claim c).position.scope.known j ≡ if_constant_version z (slice_index (entry_of c.g c.r c.callee c.helpers) j) =
             known_get (callee_in c) (entry_of c.g c.r c.callee c.helpers) c.r.stage.here j v at (omega (arith, k, far, long)) ∙ known (slice_index (entry_of c.g c.r c.callee c.helpers) j) c.r.stage.here ∙
-            ap (λ (b : Bool). if_constant b (slice_index (entry_of c.g c.r c.callee c.helpers) j)) ez in
-            let s = target_known j (if_constant z (slice_index (entry_of c.g c.r c.callee c.helpers) j)) known_is in
+            ap (λ (b : Bool). if_constant_version b (slice_index (entry_of c.g c.r c.callee c.helpers) j)) ez in
+            let s = target_known j (if_constant_version z (slice_index (entry_of c.g c.r c.callee c.helpers) j)) known_is in
             let y1 : slice_index (entry_of c.g c.r c.callee c.helpers) j ≡ slice_index (call_names c) x = entry_local c j i refl k ∙ sym (name_local c x i e k) in
             let y2 : column_upto b parts (suc (2 * suc c.r.letters)) (slice_index (entry_of c.g c.r c.callee c.helpers) j) ≡ column_upto b parts (suc (2 * suc c.r.letters)) (slice_index (call_names c) x) =
             ap (column_upto b parts (suc (2 * suc c.r.letters))) y1 in
-            let low : known_sum b parts (2 * suc c.r.letters) (if_constant z (slice_index (entry_of c.g c.r c.callee c.helpers) j)) ≡ column_upto b parts (2 * suc c.r.letters) (slice_index (call_names c) x) =
+            let low : known_sum b parts (2 * suc c.r.letters) (if_constant_version z (slice_index (entry_of c.g c.r c.callee c.helpers) j)) ≡ column_upto b parts (2 * suc c.r.letters) (slice_index (call_names c) x) =
             low_sum v at z ez y1 in
             omega (arith, ints, d, a, t, h, u, none, s, y2, low)
           where
             low_sum : (v : Column × VarInfo) → slice_get (callee_in c) (heads c + (olds c + i)) ≡ Some v → (z : Bool) → v.1.constant ≡ z →
                 slice_index (entry_of c.g c.r c.callee c.helpers) (heads c + (olds c + i)) ≡ slice_index (call_names c) x →
-                known_sum b parts (2 * suc c.r.letters) (if_constant z (slice_index (entry_of c.g c.r c.callee c.helpers) (heads c + (olds c + i)))) ≡ column_upto b parts (2 * suc c.r.letters) (slice_index (call_names c) x)
+                known_sum b parts (2 * suc c.r.letters) (if_constant_version z (slice_index (entry_of c.g c.r c.callee c.helpers) (heads c + (olds c + i)))) ≡ column_upto b parts (2 * suc c.r.letters) (slice_index (call_names c) x)
             low_sum v at true ez y1 = ap (column_upto b parts (2 * suc c.r.letters)) y1
             low_sum v at false ez y1 =
                 let y_is : slice_index (call_names c) x ≡ made c + i = name_local c x i e k in

@@ -14,9 +14,9 @@ use Rattle.frame_rows.specs.Rows.{renamed}
 use Rattle.nested_predicates.specs.Stamps.{column_stamp}
 use Rattle.nested_predicates.specs.Positions.{is_counted}
 use Rattle.nested_predicates.specs.Sums.{Branch, with_cut, terms_from, inequality, coefficients_at, bound_at}
-use Rattle.nested_predicates.specs.Joins.{joined, joined_at, and_before, and_joined, or_before, or_joined, simplified}
+use Rattle.nested_predicates.specs.Joins.{joined_formulas, joined_at, and_before, and_joined, or_before, or_joined, simplified}
 use Rattle.nested_predicates.specs.Simplifying.{is_same}
-use Rattle.nested_refutations.specs.Refutations.{Claim, Spot, low_side, high_side, truth_in, left_at, Asked, one_part, both_parts, some_part, each_asked, some_asked, asked_at, Exposed, atom_exposed, parts_exposed, unless_truth, exposed, rows_in}
+use Rattle.nested_refutations.specs.Refutations.{Claim, TreeSpot, low_side, high_side, truth_in, formula_at, Asked, one_part, both_parts, some_part, each_asked, some_asked, asked_at, Exposed, atom_exposed, parts_exposed, unless_truth, exposed, rows_in}
 use Rattle.nested_refutations.proofs.TruthLaws.{decided, join_simplified, AskedOpen, asked_open}
 use Rattle.nested_refutations.proofs.SpotLaws.{spot, StandsIn, IsUncased, sides_stand}
 use Rattle.nested_refutations.proofs.HeldLaws.{truth_at, truth_of_cut}
@@ -81,7 +81,7 @@ join_apart false (atom r) b e = refl
 join_apart false (and_of fs) b e = refl
 join_apart false (or_of fs) b e = refl
 
-join_both : (c : Bool) (a b : Formula) → truth_in b ≡ None → (if c then or_before a b else and_before a b) ≡ joined c a b
+join_both : (c : Bool) (a b : Formula) → truth_in b ≡ None → (if c then or_before a b else and_before a b) ≡ joined_formulas c a b
 join_both true a (truth v) e = absurd (cc)
 join_both true a (atom r) e = refl
 join_both true a (and_of fs) e = refl
@@ -95,7 +95,7 @@ join_both false a (or_of fs) e = refl
 abbrev pub open_join : Bool → Option Bool → Option Bool → Formula → Formula → Formula
 open_join c (Some v) q a b = b
 open_join c None (Some v) a b = a
-open_join c None None a b = joined c a b
+open_join c None None a b = joined_formulas c a b
 
 pub join_open : (c : Bool) (p q : Option Bool) (a b : Formula) → truth_in a ≡ p → truth_in b ≡ q → decided c p q ≡ None → join c a b ≡ open_join c p q a b
 join_open true (Some true) q a b e f d = absurd (cc)
@@ -123,7 +123,7 @@ asked_by counted is_denied p q = if is_same counted is_denied then each_asked p 
 rows_of_both : (x y : PlainSystem) → rows_in (both_systems x (both_systems y (only_rows []))) ≡ rows_in x ++ rows_in y
 rows_of_both (plain_system xs gs) (plain_system ys hs) = ap (λ (l : List LinearRow). xs ++ l) (append-nil ys)
 
-joined_rows : (c d : Bool) (to : ℕ → ℕ) (a b : Formula) → rows_in (says d to (joined c a b)) ≡ asked_rows (asked_by c d None None) (rows_in (says d to a)) (rows_in (says d to b))
+joined_rows : (c d : Bool) (to : ℕ → ℕ) (a b : Formula) → rows_in (says d to (joined_formulas c a b)) ≡ asked_rows (asked_by c d None None) (rows_in (says d to a)) (rows_in (says d to b))
 joined_rows true true to a b = rows_of_both (denied to a) (denied to b)
 joined_rows true false to a b = refl
 joined_rows false true to a b = refl
@@ -159,7 +159,7 @@ claim_row c b parts =
     if c.is_denied then negated sum else sum
 
 -- the row is that of a claim at the leaf with this number
-pub record IsAtomRow (columns : List ℕ) (root : Spot) (c : Claim) (n : ℕ) (row : LinearRow) : Type 0 where
+pub record IsAtomRow (columns : List ℕ) (root : TreeSpot) (c : Claim) (n : ℕ) (row : LinearRow) : Type 0 where
   pub branch : Branch
   pub parts : List (ℕ × ℤ)
   pub stands : StandsIn columns root.node root.branch root.tree (spot n branch (leaf_tree parts))
@@ -172,12 +172,12 @@ one_row d to [] bound e = absurd (cc)
 one_row true to (t ∷ ts) bound e = refl
 one_row false to (t ∷ ts) bound e = refl
 
-leaf_pairs : (columns : List ℕ) (root : Spot) (c : Claim) (n : ℕ) (o : Option Bool) (row : LinearRow) → o ≡ None → IsAtomRow columns root c n row →
+leaf_pairs : (columns : List ℕ) (root : TreeSpot) (c : Claim) (n : ℕ) (o : Option Bool) (row : LinearRow) → o ≡ None → IsAtomRow columns root c n row →
     AllPairs (IsAtomRow columns root c) (atom_exposed n o).leaves (row ∷ [])
 leaf_pairs columns root c n None row e h = (h, tt)
 leaf_pairs columns root c n (Some v) row e h = absurd (cc)
 
-parts_pairs : (P : ℕ → LinearRow → Type 0) (a : Asked) (s : Spot) (x y : Exposed) (xs ys : List LinearRow) (p q : Option Bool) → AskedOpen a p q →
+parts_pairs : (P : ℕ → LinearRow → Type 0) (a : Asked) (s : TreeSpot) (x y : Exposed) (xs ys : List LinearRow) (p q : Option Bool) → AskedOpen a p q →
     (p ≡ None → AllPairs P x.leaves xs) → (q ≡ None → AllPairs P y.leaves ys) → AllPairs P (parts_exposed a s x y).leaves (asked_rows a xs ys)
 parts_pairs P (one_part false) s x y xs ys p q o f g = f o
 parts_pairs P (one_part true) s x y xs ys p q o f g = g o
@@ -189,22 +189,22 @@ unless_open None x e = refl
 unless_open (Some v) x e = absurd (cc)
 
 -- what is exposed of a claim that is no truth value has a row each, that of its atom
-pub exposed_rows : (columns : List ℕ) (root : Spot) → IsUncased root.tree → (c : Claim) (n : ℕ) (b : Branch) (t : Tree) → StandsIn columns root.node root.branch root.tree (spot n b t) →
-    truth_at columns c b t ≡ None → AllPairs (IsAtomRow columns root c) (exposed columns c n b t).leaves (rows_in (says c.is_denied c.column (left_at columns c b t)))
+pub exposed_rows : (columns : List ℕ) (root : TreeSpot) → IsUncased root.tree → (c : Claim) (n : ℕ) (b : Branch) (t : Tree) → StandsIn columns root.node root.branch root.tree (spot n b t) →
+    truth_at columns c b t ≡ None → AllPairs (IsAtomRow columns root c) (exposed columns c n b t).leaves (rows_in (says c.is_denied c.column (formula_at columns c b t)))
 exposed_rows columns root un c n b (leaf_tree parts) st e =
     subst (AllPairs (IsAtomRow columns root c) (atom_exposed n (truth_at columns c b (leaf_tree parts))).leaves)
     (sym (one_row c.is_denied c.column (terms_from 0 (coefficients_at b parts c.position)) (bound_at b parts c.position) e))
     (leaf_pairs columns root c n (truth_at columns c b (leaf_tree parts)) (claim_row c b parts) e (record { branch = b; parts = parts; stands = st; row_is = refl }))
 exposed_rows columns root un c n b (cut_tree col k t u) st e =
-    let low : Spot = low_side columns n b col k t in
-    let high : Spot = high_side columns n b col k t u in
+    let low : TreeSpot = low_side columns n b col k t in
+    let high : TreeSpot = high_side columns n b col k t u in
     let stamp : ℕ = column_stamp columns col in
-    let x : Formula = left_at columns c low.branch t in
-    let y : Formula = left_at columns c high.branch u in
+    let x : Formula = formula_at columns c low.branch t in
+    let y : Formula = formula_at columns c high.branch u in
     let counted : Bool = is_counted c.position stamp in
     let ss = sides_stand columns root.node root.branch root.tree un n b col k t u st in
     let d : decided counted (truth_in x) (truth_in y) ≡ None = sym (truth_of_cut columns c b col k t u) ∙ e in
-    let rows : rows_in (says c.is_denied c.column (left_at columns c b (cut_tree col k t u))) ≡
+    let rows : rows_in (says c.is_denied c.column (formula_at columns c b (cut_tree col k t u))) ≡
     asked_rows (asked_by counted c.is_denied (truth_in x) (truth_in y)) (rows_in (says c.is_denied c.column x)) (rows_in (says c.is_denied c.column y)) =
     ap (λ (f : Formula). rows_in (says c.is_denied c.column f))
     (join_simplified counted (joined_at columns c.position low.branch t) (joined_at columns c.position high.branch u)) ∙
@@ -212,7 +212,7 @@ exposed_rows columns root un c n b (cut_tree col k t u) st e =
     let there : Exposed = parts_exposed (asked_at c stamp (truth_in x) (truth_in y)) (spot n b (cut_tree col k t u)) (exposed columns c low.node low.branch t) (exposed columns c high.node high.branch u) in
     let leaves : (exposed columns c n b (cut_tree col k t u)).leaves ≡ there.leaves =
     ap (λ (z : Exposed). z.leaves) (unless_open (truth_at columns c b (cut_tree col k t u)) there e) in
-    subst (λ (l : List ℕ). AllPairs (IsAtomRow columns root c) l (rows_in (says c.is_denied c.column (left_at columns c b (cut_tree col k t u))))) (sym leaves)
+    subst (λ (l : List ℕ). AllPairs (IsAtomRow columns root c) l (rows_in (says c.is_denied c.column (formula_at columns c b (cut_tree col k t u))))) (sym leaves)
     (subst (AllPairs (IsAtomRow columns root c) there.leaves) (sym rows)
     (parts_pairs (IsAtomRow columns root c) (asked_at c stamp (truth_in x) (truth_in y)) (spot n b (cut_tree col k t u)) (exposed columns c low.node low.branch t)
     (exposed columns c high.node high.branch u) (rows_in (says c.is_denied c.column x)) (rows_in (says c.is_denied c.column y)) (truth_in x) (truth_in y)
@@ -223,7 +223,7 @@ exposed_rows columns root un c n b (cases_tree ts) st e = absurd (cc)
 -- ---- groups
 
 -- a cut of which each part is left, no truth value
-pub record IsOpenCut (columns : List ℕ) (root : Spot) (c : Claim) (s : Spot) : Type 0 where
+pub record IsOpenCut (columns : List ℕ) (root : TreeSpot) (c : Claim) (s : TreeSpot) : Type 0 where
   pub column : ℕ
   pub bound : ℤ
   pub low : Tree
@@ -237,24 +237,24 @@ all_joined : {X : Type 0} (P : X → Type 0) (xs ys : List X) → AllByRecursion
 all_joined P [] ys h k = k
 all_joined P (x ∷ xs) ys h k = (h.0, all_joined P xs ys h.1 k)
 
-parts_groups : (P : Spot → Type 0) (a : Asked) (s : Spot) (x y : Exposed) (p q : Option Bool) → AskedOpen a p q → (p ≡ None → q ≡ None → P s) →
+parts_groups : (P : TreeSpot → Type 0) (a : Asked) (s : TreeSpot) (x y : Exposed) (p q : Option Bool) → AskedOpen a p q → (p ≡ None → q ≡ None → P s) →
     (p ≡ None → AllByRecursion P x.groups) → (q ≡ None → AllByRecursion P y.groups) → AllByRecursion P (parts_exposed a s x y).groups
 parts_groups P (one_part false) s x y p q o h f g = f o
 parts_groups P (one_part true) s x y p q o h f g = g o
 parts_groups P both_parts s x y p q o h f g = all_joined P x.groups y.groups (f o.0) (g o.1)
 parts_groups P some_part s x y p q o h f g = (h o.0 o.1, tt)
 
-atom_groups : (P : Spot → Type 0) (n : ℕ) (o : Option Bool) → AllByRecursion P (atom_exposed n o).groups
+atom_groups : (P : TreeSpot → Type 0) (n : ℕ) (o : Option Bool) → AllByRecursion P (atom_exposed n o).groups
 atom_groups P n None = tt
 atom_groups P n (Some v) = tt
 
 -- each group that is exposed of a claim is an open cut
-pub exposed_groups : (columns : List ℕ) (root : Spot) → IsUncased root.tree → (c : Claim) (n : ℕ) (b : Branch) (t : Tree) → StandsIn columns root.node root.branch root.tree (spot n b t) →
+pub exposed_groups : (columns : List ℕ) (root : TreeSpot) → IsUncased root.tree → (c : Claim) (n : ℕ) (b : Branch) (t : Tree) → StandsIn columns root.node root.branch root.tree (spot n b t) →
     truth_at columns c b t ≡ None → AllByRecursion (IsOpenCut columns root c) (exposed columns c n b t).groups
 exposed_groups columns root un c n b (leaf_tree parts) st e = atom_groups (IsOpenCut columns root c) n (truth_at columns c b (leaf_tree parts))
 exposed_groups columns root un c n b (cut_tree col k t u) st e =
-    let low : Spot = low_side columns n b col k t in
-    let high : Spot = high_side columns n b col k t u in
+    let low : TreeSpot = low_side columns n b col k t in
+    let high : TreeSpot = high_side columns n b col k t u in
     let stamp : ℕ = column_stamp columns col in
     let x : Option Bool = truth_at columns c low.branch t in
     let y : Option Bool = truth_at columns c high.branch u in

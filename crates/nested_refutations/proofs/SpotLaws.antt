@@ -4,16 +4,16 @@ use Rattle.std.specs.Prelude.{nat_eq, nat_lt, if◌then◌else◌}
 use Rattle.std.proofs.lemmas.Bool.{eq-eqb, ne_eqb, lt-ltb, le-ltb, eqb-true}
 use Rattle.farkas_check.specs.Trees.{Tree, leaf_tree, cut_tree, cases_tree, prefix_of}
 use Rattle.nested_predicates.specs.Sums.{Branch}
-use Rattle.nested_refutations.specs.Refutations.{Spot, low_side, high_side}
+use Rattle.nested_refutations.specs.Refutations.{TreeSpot, low_side, high_side}
 
-abbrev pub spot : ℕ → Branch → Tree → Spot
+abbrev pub spot : ℕ → Branch → Tree → TreeSpot
 spot n b t = record { node = n; branch = b; tree = t }
 
 abbrev pub size : Tree → ℕ
 size t = length (prefix_of t)
 
 -- the node with number m in the tree that stands at number n
-abbrev pub node_in : List ℕ → ℕ → ℕ → Branch → Tree → Option Spot
+abbrev pub node_in : List ℕ → ℕ → ℕ → Branch → Tree → Option TreeSpot
 node_in columns m n b (leaf_tree parts) = if nat_eq m n then Some (spot n b (leaf_tree parts)) else None
 node_in columns m n b (cut_tree c k t u) =
     let low = low_side columns n b c k t in
@@ -23,7 +23,7 @@ node_in columns m n b (cut_tree c k t u) =
 node_in columns m n b (cases_tree ts) = None
 
 -- it is a node of the tree that stands at number n
-abbrev pub StandsIn : List ℕ → ℕ → Branch → Tree → Spot → Type 0
+abbrev pub StandsIn : List ℕ → ℕ → Branch → Tree → TreeSpot → Type 0
 StandsIn columns n b t s = node_in columns s.node n b t ≡ Some s
 
 pub size_positive : (t : Tree) → 0 < size t
@@ -38,32 +38,32 @@ pub leaf_stands : (columns : List ℕ) (n : ℕ) (b : Branch) (parts : List (ℕ
 leaf_stands columns n b parts = rw (eq-eqb n n refl) refl
 
 -- what is known of a node that is found
-pub record IsWithin (m n : ℕ) (t : Tree) (s : Spot) : Type 0 where
+pub record IsWithin (m n : ℕ) (t : Tree) (s : TreeSpot) : Type 0 where
   pub number : s.node ≡ m
   pub from : n ≤ m
   pub upto : m + size s.tree ≤ n + size t
 
-none_is : (s : Spot) → None ≡ Some s → ⊥
+none_is : (s : TreeSpot) → None ≡ Some s → ⊥
 none_is s e = absurd (cc)
 
-some_same : (x y : Spot) → Some x ≡ Some y → x ≡ y
+some_same : (x y : TreeSpot) → Some x ≡ Some y → x ≡ y
 some_same x y e = cc
 
-found_in : (columns : List ℕ) (m n : ℕ) (b : Branch) (t : Tree) (s : Spot) → node_in columns m n b t ≡ Some s → IsWithin m n t s
+found_in : (columns : List ℕ) (m n : ℕ) (b : Branch) (t : Tree) (s : TreeSpot) → node_in columns m n b t ≡ Some s → IsWithin m n t s
 found_in columns m n b (leaf_tree parts) s e = at_leaf (nat_eq m n) refl e
   where
     at_leaf : (z : Bool) → nat_eq m n ≡ z → (if z then Some (spot n b (leaf_tree parts)) else None) ≡ Some s → IsWithin m n (leaf_tree parts) s
     at_leaf true q h =
         let f : spot n b (leaf_tree parts) ≡ s = some_same (spot n b (leaf_tree parts)) s h in
         let g : m ≡ n = eqb-true m n q in
-        subst (λ (x : Spot). IsWithin m n (leaf_tree parts) x) f (record { number = sym g; from = omega (arith, g); upto = omega (arith, g) })
+        subst (λ (x : TreeSpot). IsWithin m n (leaf_tree parts) x) f (record { number = sym g; from = omega (arith, g); upto = omega (arith, g) })
     at_leaf false q h = absurd (none_is s h)
 found_in columns m n b (cut_tree c k t u) s e =
-    let low : Spot = low_side columns n b c k t in
-    let high : Spot = high_side columns n b c k t u in
+    let low : TreeSpot = low_side columns n b c k t in
+    let high : TreeSpot = high_side columns n b c k t u in
     at_cut low high (size_of_cut c k t u) (nat_eq m n) (nat_lt m high.node) refl refl (found_in columns m low.node low.branch t s) (found_in columns m high.node high.branch u s) e
   where
-    at_cut : (low high : Spot) → size (cut_tree c k t u) ≡ suc (size t + size u) → (z l : Bool) → nat_eq m n ≡ z → nat_lt m (suc n + size t) ≡ l →
+    at_cut : (low high : TreeSpot) → size (cut_tree c k t u) ≡ suc (size t + size u) → (z l : Bool) → nat_eq m n ≡ z → nat_lt m (suc n + size t) ≡ l →
         (node_in columns m (suc n) low.branch t ≡ Some s → IsWithin m (suc n) t s) →
         (node_in columns m (suc n + size t) high.branch u ≡ Some s → IsWithin m (suc n + size t) u s) →
         (if z then Some (spot n b (cut_tree c k t u)) else (if l then node_in columns m (suc n) low.branch t else node_in columns m (suc n + size t) high.branch u)) ≡ Some s →
@@ -71,13 +71,13 @@ found_in columns m n b (cut_tree c k t u) s e =
     at_cut low high sz true l q p f g h =
         let e : spot n b (cut_tree c k t u) ≡ s = some_same (spot n b (cut_tree c k t u)) s h in
         let g : m ≡ n = eqb-true m n q in
-        subst (λ (x : Spot). IsWithin m n (cut_tree c k t u) x) e (record { number = sym g; from = omega (arith, g); upto = omega (arith, g) })
+        subst (λ (x : TreeSpot). IsWithin m n (cut_tree c k t u) x) e (record { number = sym g; from = omega (arith, g); upto = omega (arith, g) })
     at_cut low high sz false true q p f g h = let i = f h in let x = i.from in let y = i.upto in record { number = i.number; from = omega (arith, x); upto = omega (arith, y, sz) }
     at_cut low high sz false false q p f g h = let i = g h in let x = i.from in let y = i.upto in record { number = i.number; from = omega (arith, x); upto = omega (arith, y, sz) }
 found_in columns m n b (cases_tree ts) s e = absurd (none_is s e)
 
 -- the sides of a cut that stands in a tree
-pub record SidesStand (columns : List ℕ) (n : ℕ) (b : Branch) (t : Tree) (low high : Spot) : Type 0 where
+pub record SidesStand (columns : List ℕ) (n : ℕ) (b : Branch) (t : Tree) (low high : TreeSpot) : Type 0 where
   pub low_stands : StandsIn columns n b t low
   pub high_stands : StandsIn columns n b t high
 
@@ -102,12 +102,12 @@ into_high : (columns : List ℕ) (m n : ℕ) (b : Branch) (c : ℕ) (k : ℤ) (t
 into_high columns m n b c k t u h = rw (ne_eqb m n (λ (e : m ≡ n). omega (arith, e, h))) (rw (le-ltb m (suc n + size t) h) refl)
 
 -- the sides of a node
-abbrev low_in : List ℕ → ℕ → Branch → Tree → Spot
+abbrev low_in : List ℕ → ℕ → Branch → Tree → TreeSpot
 low_in columns n b (leaf_tree parts) = spot n b (leaf_tree parts)
 low_in columns n b (cut_tree c k x y) = low_side columns n b c k x
 low_in columns n b (cases_tree ts) = spot n b (cases_tree ts)
 
-abbrev high_in : List ℕ → ℕ → Branch → Tree → Spot
+abbrev high_in : List ℕ → ℕ → Branch → Tree → TreeSpot
 high_in columns n b (leaf_tree parts) = spot n b (leaf_tree parts)
 high_in columns n b (cut_tree c k x y) = high_side columns n b c k x y
 high_in columns n b (cases_tree ts) = spot n b (cases_tree ts)
@@ -119,21 +119,21 @@ sides_stand columns n b (leaf_tree parts) un m d c k x y e = at_leaf (nat_eq m n
   where
     at_leaf : (z : Bool) → (if z then Some (spot n b (leaf_tree parts)) else None) ≡ Some (spot m d (cut_tree c k x y)) →
         SidesStand columns n b (leaf_tree parts) (low_side columns m d c k x) (high_side columns m d c k x y)
-    at_leaf true h = absurd (is_no_cut (ap (λ (s : Spot). s.tree) (some_same (spot n b (leaf_tree parts)) (spot m d (cut_tree c k x y)) h)))
+    at_leaf true h = absurd (is_no_cut (ap (λ (s : TreeSpot). s.tree) (some_same (spot n b (leaf_tree parts)) (spot m d (cut_tree c k x y)) h)))
       where
         is_no_cut : leaf_tree parts ≡ cut_tree c k x y → ⊥
         is_no_cut q = absurd (cc)
     at_leaf false h = absurd (none_is (spot m d (cut_tree c k x y)) h)
 sides_stand columns n b (cut_tree c0 k0 t u) un m d c k x y e =
-    let low : Spot = low_side columns n b c0 k0 t in
-    let high : Spot = high_side columns n b c0 k0 t u in
+    let low : TreeSpot = low_side columns n b c0 k0 t in
+    let high : TreeSpot = high_side columns n b c0 k0 t u in
     at_cut low.branch high.branch refl refl (nat_eq m n) (nat_lt m high.node) refl refl
     (sides_stand columns low.node low.branch t un.0 m d c k x y) (sides_stand columns high.node high.branch u un.1 m d c k x y) e
   where
     here : spot n b (cut_tree c0 k0 t u) ≡ spot m d (cut_tree c k x y) →
         SidesStand columns n b (cut_tree c0 k0 t u) (low_side columns m d c k x) (high_side columns m d c k x y)
     here q =
-        subst (λ (s : Spot). SidesStand columns n b (cut_tree c0 k0 t u) (low_in columns s.node s.branch s.tree) (high_in columns s.node s.branch s.tree)) q
+        subst (λ (s : TreeSpot). SidesStand columns n b (cut_tree c0 k0 t u) (low_in columns s.node s.branch s.tree) (high_in columns s.node s.branch s.tree)) q
         (record {
           low_stands = into_low columns (suc n) n b c0 k0 t u (omega arith) (let p = size_positive t in omega (arith, p)) ∙
               uncased_stands columns (suc n) (low_side columns n b c0 k0 t).branch t un.0;
@@ -172,5 +172,5 @@ sides_stand columns n b (cut_tree c0 k0 t u) un m d c k x y e =
 sides_stand columns n b (cases_tree ts) un m d c k x y e = absurd un
 
 -- two nodes with one number are one node
-pub one_node : (columns : List ℕ) (n : ℕ) (b : Branch) (t : Tree) (x y : Spot) → StandsIn columns n b t x → StandsIn columns n b t y → x.node ≡ y.node → x ≡ y
+pub one_node : (columns : List ℕ) (n : ℕ) (b : Branch) (t : Tree) (x y : TreeSpot) → StandsIn columns n b t x → StandsIn columns n b t y → x.node ≡ y.node → x ≡ y
 one_node columns n b t x y h k e = some_same x y (sym h ∙ ap (λ (m : ℕ). node_in columns m n b t) e ∙ k)

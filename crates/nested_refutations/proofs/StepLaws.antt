@@ -15,7 +15,7 @@ use Rattle.nested_predicates.specs.Positions.{has_return, Position}
 use Rattle.nested_predicates.specs.Sums.{Branch, root_of}
 use Rattle.nested_predicates.specs.Interpolants.{RefutesRows}
 use Rattle.nested_predicates.proofs.EndLaws.{rows_goal, tree_refutes}
-use Rattle.nested_refutations.specs.Numbers.{Step, inside_step, call_step, back_step, Reading, here, read_on, OpenCall, steps_back, step_by, steps_along, steps_of, AreCutsAt}
+use Rattle.nested_refutations.specs.Numbers.{Step, inside_step, call_step, back_step, Reading, position_here, read_on, OpenCall, steps_back, step_by, steps_along, steps_of, AreCutsAt}
 use Rattle.nested_refutations.specs.Refuting.{StepRefutes}
 use Rattle.nested_refutations.specs.Waiting.{StepWaits}
 use Rattle.nested_refutations.proofs.WordLaws.{HaveGlobals, global_count}
@@ -55,35 +55,35 @@ StepHolds g w t s = (AreCutsAt (length (stamps_of g w).columns) t → StepRefute
 -- the step of a return, at its open call
 back_letter : (g : Graph) (globals : ℕ) (w : List Letter) (t : Tree) (r : Reading) (a : Letter) (rest : List Letter) (targets : List ℕ) (h : BackAt g globals w r a rest targets) →
     StepHolds g w t (back_step_at g w t r a h.call h.scopes h.open_at.caller h.open_at.callee h.open_at.helpers h.open_at.rows targets h.before) →
-    AllByRecursion (StepHolds g w t) (step_by g w t a.id (act_of (alphabet_of g) a) rest r (here (read_on (alphabet_of g) a rest r)))
+    AllByRecursion (StepHolds g w t) (step_by g w t a.id (act_of (alphabet_of g) a) rest r (position_here (read_on (alphabet_of g) a rest r)))
 back_letter g globals w t r a rest targets h holds =
     let al : Alphabet = alphabet_of g in
     let f1 : Columns = frame_of al h.open_at.caller in
     let f2 : Columns = frame_of al h.open_at.callee in
-    subst (λ (act : Option PlainAct). AllByRecursion (StepHolds g w t) (step_by g w t a.id act rest r (here (read_on (alphabet_of g) a rest r)))) (sym h.act_is)
-    (subst (λ (act : Option PlainAct). AllByRecursion (StepHolds g w t) (steps_back g w t a.id targets r.calls (here r) (here (read_on (alphabet_of g) a rest r)) act)) (sym h.call_there)
-    (subst (λ (calls : List OpenCall). AllByRecursion (StepHolds g w t) (steps_back g w t a.id targets calls (here r) (here (read_on (alphabet_of g) a rest r))
+    subst (λ (act : Option PlainAct). AllByRecursion (StepHolds g w t) (step_by g w t a.id act rest r (position_here (read_on (alphabet_of g) a rest r)))) (sym h.act_is)
+    (subst (λ (act : Option PlainAct). AllByRecursion (StepHolds g w t) (steps_back g w t a.id targets r.calls (position_here r) (position_here (read_on (alphabet_of g) a rest r)) act)) (sym h.call_there)
+    (subst (λ (calls : List OpenCall). AllByRecursion (StepHolds g w t) (steps_back g w t a.id targets calls (position_here r) (position_here (read_on (alphabet_of g) a rest r))
     (Some (call_act h.open_at.caller h.open_at.callee h.open_at.helpers h.open_at.rows)))) (sym h.calls_are)
-    (subst (λ (to : Position). StepHolds g w t (back_step g w t a.id h.call (here r) to f1 f2 h.open_at.helpers h.open_at.rows targets)) (sym (back_to_is g globals w r a rest targets h)) holds, tt)))
+    (subst (λ (to : Position). StepHolds g w t (back_step g w t a.id h.call (position_here r) to f1 f2 h.open_at.helpers h.open_at.rows targets)) (sym (back_to_is g globals w r a rest targets h)) holds, tt)))
 
 letter_holds : (g : Graph) → IsGraph g → (globals : ℕ) → HaveGlobals g globals → (w : List Letter) (t : Tree) → TreeRefutes t (rows_goal (root_of g w)) →
     (r : Reading) (a : Letter) (rest : List Letter) → Along g globals w r (a ∷ rest) → Stacked g globals w r (a ∷ rest) → Quiet g globals w r → (act : Option PlainAct) → act_of (alphabet_of g) a ≡ act →
-    AllByRecursion (StepHolds g w t) (step_by g w t a.id act rest r (here (read_on (alphabet_of g) a rest r)))
+    AllByRecursion (StepHolds g w t) (step_by g w t a.id act rest r (position_here (read_on (alphabet_of g) a rest r)))
 letter_holds g ok globals have w t refuted r a rest h stack quiet None e = tt
 letter_holds g ok globals have w t refuted r a rest h stack quiet (Some (inside_act q written helpers rows)) e =
     let at = inside_at g ok globals w r a rest h q written helpers rows e in
     let c : InsideLetter = record { g = g; globals = globals; w = w; t = t; r = r; a = a; rest = rest; q = q; written = written; helpers = helpers; rows = rows; at = at } in
-    let step : Position → Step = λ to. inside_step g w t a.id (suc r.letters) r.rows r.stage.made (here r) to (frame_of (alphabet_of g) q) written helpers rows in
+    let step : Position → Step = λ to. inside_step g w t a.id (suc r.letters) r.rows r.stage.made (position_here r) to (frame_of (alphabet_of g) q) written helpers rows in
     (subst (λ (to : Position). StepHolds g w t (step to)) (sym (inside_to_is g globals w r a rest q written helpers rows at)) (λ cuts. inside_refutes c have refuted cuts, inside_waits c refuted), tt)
 letter_holds g ok globals have w t refuted r a rest h stack quiet (Some (call_act caller callee helpers rows)) e =
     let at = call_at g ok globals w r a rest h caller callee helpers rows e in
     let c : CallLetter = record { g = g; globals = globals; w = w; t = t; r = r; a = a; rest = rest; caller = caller; callee = callee; helpers = helpers; rows = rows; at = at } in
     let step : Position → Step = λ to.
-    call_step g w t a.id (suc r.letters) r.rows r.stage.made (has_return 0 rest) (here r) to (frame_of (alphabet_of g) caller) (frame_of (alphabet_of g) callee) helpers rows in
+    call_step g w t a.id (suc r.letters) r.rows r.stage.made (has_return 0 rest) (position_here r) to (frame_of (alphabet_of g) caller) (frame_of (alphabet_of g) callee) helpers rows in
     (subst (λ (to : Position). StepHolds g w t (step to)) (sym (call_to_is g globals w r a rest caller callee helpers rows at)) (λ cuts. call_refutes c refuted cuts (call_adds c), call_waits c refuted), tt)
 letter_holds g ok globals have w t refuted r a rest h stack quiet (Some (back_act c targets)) e =
     let at : BackAt g globals w r a rest targets = back_at g ok globals w r a rest h stack c targets e in
-    subst (λ (act : Option PlainAct). AllByRecursion (StepHolds g w t) (step_by g w t a.id act rest r (here (read_on (alphabet_of g) a rest r)))) e
+    subst (λ (act : Option PlainAct). AllByRecursion (StepHolds g w t) (step_by g w t a.id act rest r (position_here (read_on (alphabet_of g) a rest r)))) e
     (back_letter g globals w t r a rest targets at
     (λ cuts. back_refutes g ok globals have w t r a rest targets at quiet refuted cuts, back_waits g ok globals have w t r a rest targets at quiet refuted))
 
@@ -92,7 +92,7 @@ letters_hold : (g : Graph) → IsGraph g → (globals : ℕ) → HaveGlobals g g
 letters_hold g ok globals have w t refuted [] r h stack quiet = tt
 letters_hold g ok globals have w t refuted (a ∷ rest) r h stack quiet =
     let next : Reading = read_on (alphabet_of g) a rest r in
-    all_joined (StepHolds g w t) (step_by g w t a.id (act_of (alphabet_of g) a) rest r (here next)) (steps_along g w t next rest)
+    all_joined (StepHolds g w t) (step_by g w t a.id (act_of (alphabet_of g) a) rest r (position_here next)) (steps_along g w t next rest)
     (letter_holds g ok globals have w t refuted r a rest h stack quiet (act_of (alphabet_of g) a) refl)
     (letters_hold g ok globals have w t refuted rest next (along_next g ok globals w r a rest h) (stacked_next g ok globals have w r a rest h stack)
     (quiet_next g ok globals have w r a rest h stack quiet))

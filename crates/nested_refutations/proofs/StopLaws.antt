@@ -9,7 +9,7 @@ use Rattle.nested_predicates.specs.Stamps.{column_stamp}
 use Rattle.nested_predicates.specs.Positions.{is_counted}
 use Rattle.nested_predicates.specs.Sums.{Branch, with_cut}
 use Rattle.nested_predicates.proofs.EndLaws.{rows_goal}
-use Rattle.nested_refutations.specs.Refutations.{Claim, Spot, side_of, low_side, high_side, Asked, one_part, both_parts, some_part, asked_at, View, Goes, taken_at, Meeting, own_cut, told_by, meets, Stop, at_leaf, at_cut, at_group, nowhere, followed, stop_at, stops, is_used}
+use Rattle.nested_refutations.specs.Refutations.{Claim, TreeSpot, side_of, low_side, high_side, Asked, one_part, both_parts, some_part, asked_at, View, Gathered, taken_at, Meeting, own_cut, told_by, meeting_of, Stop, at_leaf, at_cut, at_group, nowhere, followed, stop_at, stops, is_used}
 use Rattle.nested_refutations.proofs.TruthLaws.{FollowHeld}
 use Rattle.nested_refutations.proofs.SpotLaws.{spot, StandsIn, IsUncased, sides_stand}
 use Rattle.nested_refutations.proofs.HeldLaws.{truth_at, WaitsUnless, Held, asks_each, sides_held, side_held}
@@ -67,17 +67,17 @@ tells_next used k c cs stamp own_cut f h = each
     each (suc j) x q t = h j x q (subst (λ (n : ℕ). IsTrue (used n)) (let e : k + suc j ≡ suc k + j = omega arith in e) t)
 tells_next used k c cs stamp (told_by i x) f h = (suc h.0, (let e = h.1 in omega (arith, e)), h.2, h.3, h.4)
 
-meets_tells : (returns : Bool) (used : ℕ → Bool) (k : ℕ) (cs : List Claim) (stamp : ℕ) → AreClaims cs → UsedFrom returns used k cs → TellsFrom used k cs stamp (meets returns k cs stamp)
+meets_tells : (returns : Bool) (used : ℕ → Bool) (k : ℕ) (cs : List Claim) (stamp : ℕ) → AreClaims cs → UsedFrom returns used k cs → TellsFrom used k cs stamp (meeting_of returns k cs stamp)
 meets_tells returns used k [] stamp h u = absurd h
 meets_tells returns used k (c ∷ []) stamp h u = last_tells used k c stamp h u (is_counted c.position stamp) refl
 meets_tells returns used k (c ∷ d ∷ cs) stamp h u =
     by_test returns (is_counted c.position stamp) (not returns && is_counted c.position stamp) refl refl u.0 (meets_tells returns used (suc k) (d ∷ cs) stamp h.1 u.1)
   where
-    by_test : (r z y : Bool) → is_counted c.position stamp ≡ z → (not r && z) ≡ y → used k ≡ not r → TellsFrom used (suc k) (d ∷ cs) stamp (meets returns (suc k) (d ∷ cs) stamp) →
-        TellsFrom used k (c ∷ d ∷ cs) stamp (if y then told_by k c else meets returns (suc k) (d ∷ cs) stamp)
+    by_test : (r z y : Bool) → is_counted c.position stamp ≡ z → (not r && z) ≡ y → used k ≡ not r → TellsFrom used (suc k) (d ∷ cs) stamp (meeting_of returns (suc k) (d ∷ cs) stamp) →
+        TellsFrom used k (c ∷ d ∷ cs) stamp (if y then told_by k c else meeting_of returns (suc k) (d ∷ cs) stamp)
     by_test false true true e q w rest = (0, omega arith, refl, w, rw e (rw h.0 refl))
-    by_test false false false e q w rest = tells_next used k c (d ∷ cs) stamp (meets returns (suc k) (d ∷ cs) stamp) (λ t. rw e (rw h.0 refl)) rest
-    by_test true z false e q w rest = tells_next used k c (d ∷ cs) stamp (meets returns (suc k) (d ∷ cs) stamp) (λ t. absurd (not_both (used k) w t)) rest
+    by_test false false false e q w rest = tells_next used k c (d ∷ cs) stamp (meeting_of returns (suc k) (d ∷ cs) stamp) (λ t. rw e (rw h.0 refl)) rest
+    by_test true z false e q w rest = tells_next used k c (d ∷ cs) stamp (meeting_of returns (suc k) (d ∷ cs) stamp) (λ t. absurd (not_both (used k) w t)) rest
       where
         not_both : (b : Bool) → b ≡ false → IsTrue b → ⊥
         not_both true f t = absurd (cc)
@@ -109,40 +109,40 @@ from_zero v stamp (told_by i c) h =
     let e : h.0 ≡ i = (let q = h.1 in omega (arith, q)) in
     (subst (λ (n : ℕ). slice_get v.claims n ≡ Some c) e h.2, h.3, h.4)
 
-pub meeting_tells : (v : View) → IsView v → (stamp : ℕ) → Tells v stamp (meets v.returns 0 v.claims stamp)
-meeting_tells v h stamp = from_zero v stamp (meets v.returns 0 v.claims stamp) (meets_tells v.returns (is_used v) 0 v.claims stamp h.claims (used_of v.returns v.claims h.one_source))
+pub meeting_tells : (v : View) → IsView v → (stamp : ℕ) → Tells v stamp (meeting_of v.returns 0 v.claims stamp)
+meeting_tells v h stamp = from_zero v stamp (meeting_of v.returns 0 v.claims stamp) (meets_tells v.returns (is_used v) 0 v.claims stamp h.claims (used_of v.returns v.claims h.one_source))
 
 -- ---- stops
 
 -- each claim that is followed is held at the node
-abbrev pub AllHeld : View → Goes → ℕ → Branch → Tree → Type 0
+abbrev pub AllHeld : View → Gathered → ℕ → Branch → Tree → Type 0
 AllHeld v g n b t = (i : ℕ) (c : Claim) → slice_get v.claims i ≡ Some c → IsTrue (is_used v i) → Held v.columns i c g.roles g.groups g.taken n b t
 
-abbrev pub HeldAt : View → Goes → ℕ → Claim → Spot → Type 0
+abbrev pub HeldAt : View → Gathered → ℕ → Claim → TreeSpot → Type 0
 HeldAt v g i c s = Held v.columns i c g.roles g.groups g.taken s.node s.branch s.tree
 
 -- the node stands in the word's tree
-abbrev pub Stands : View → Spot → Spot → Type 0
+abbrev pub Stands : View → TreeSpot → TreeSpot → Type 0
 Stands v root s = StandsIn v.columns root.node root.branch root.tree s
 
 -- of each group of which a member was taken, that member is held
-abbrev pub TakenHeld : View → Spot → Goes → Type 0
+abbrev pub TakenHeld : View → TreeSpot → Gathered → Type 0
 TakenHeld v root g = (i n : ℕ) (side : Bool) (c : Claim) → slice_get v.claims i ≡ Some c → IsTrue (is_used v i) → taken_at i n g.taken ≡ Some side →
     (b : Branch) (col : ℕ) (k : ℤ) (t u : Tree) → Stands v root (spot n b (cut_tree col k t u)) →
     HeldAt v g i c (side_of side (low_side v.columns n b col k t) (high_side v.columns n b col k t u))
 
 -- a node that is reached: it stands in the tree, is refuted, and its branch is on the way
-pub record Reached (v : View) (root : Spot) (W : Branch → Type 0) (s : Spot) : Type 0 where
+pub record Reached (v : View) (root : TreeSpot) (W : Branch → Type 0) (s : TreeSpot) : Type 0 where
   pub stands : Stands v root s
   pub refuted : TreeRefutes s.tree (rows_goal s.branch)
   pub way : W s.branch
 
 -- an own cut, whose sides are reached and held
-pub record CutReached (v : View) (root : Spot) (W : Branch → Type 0) (g : Goes) (r col : ℕ) (k : ℤ) (low high : Spot) : Type 0 where
+pub record CutReached (v : View) (root : TreeSpot) (W : Branch → Type 0) (g : Gathered) (r col : ℕ) (k : ℤ) (low high : TreeSpot) : Type 0 where
   pub branch : Branch
   pub row : r ≡ length branch.rows
   pub way : W branch
-  pub own : meets v.returns 0 v.claims (column_stamp v.columns col) ≡ own_cut
+  pub own : meeting_of v.returns 0 v.claims (column_stamp v.columns col) ≡ own_cut
   pub low_branch : low.branch ≡ with_cut branch (column_stamp v.columns col) (at_most col k)
   pub high_branch : high.branch ≡ with_cut branch (column_stamp v.columns col) (above col k)
   pub low_stands : Stands v root low
@@ -153,19 +153,19 @@ pub record CutReached (v : View) (root : Spot) (W : Branch → Type 0) (g : Goes
   pub high_held : AllHeld v g high.node high.branch high.tree
 
 -- a group that waits
-pub record GroupReached (v : View) (root : Spot) (W : Branch → Type 0) (g : Goes) (s : Spot) : Type 0 where
+pub record GroupReached (v : View) (root : TreeSpot) (W : Branch → Type 0) (g : Gathered) (s : TreeSpot) : Type 0 where
   pub reached : Reached v root W s
   pub held : AllHeld v g s.node s.branch s.tree
   pub claim : ℕ
   pub waits : Member g.groups (claim, s)
 
-pub record LeafReached (v : View) (root : Spot) (W : Branch → Type 0) (g : Goes) (n : ℕ) (b : Branch) (parts : List (ℕ × ℤ)) : Type 0 where
+pub record LeafReached (v : View) (root : TreeSpot) (W : Branch → Type 0) (g : Gathered) (n : ℕ) (b : Branch) (parts : List (ℕ × ℤ)) : Type 0 where
   pub stands : Stands v root (spot n b (leaf_tree parts))
   pub contradicts : Contradicts b.rows parts
   pub way : W b
   pub held : AllHeld v g n b (leaf_tree parts)
 
-abbrev pub StopsWell : View → Spot → (Branch → Type 0) → Goes → Stop → Type 0
+abbrev pub StopsWell : View → TreeSpot → (Branch → Type 0) → Gathered → Stop → Type 0
 StopsWell v root W g (at_leaf n b parts) = LeafReached v root W g n b parts
 StopsWell v root W g (at_cut r col k low high) = CutReached v root W g r col k low high
 StopsWell v root W g (at_group s) = GroupReached v root W g s
@@ -173,7 +173,7 @@ StopsWell v root W g nowhere = ⊥
 
 -- cuts that a claim tells do not lead off the way
 abbrev pub KeepsWay : View → (Branch → Type 0) → Type 0
-KeepsWay v W = (b : Branch) (col : ℕ) (k : ℤ) (i : ℕ) (c : Claim) → meets v.returns 0 v.claims (column_stamp v.columns col) ≡ told_by i c → W b →
+KeepsWay v W = (b : Branch) (col : ℕ) (k : ℤ) (i : ℕ) (c : Claim) → meeting_of v.returns 0 v.claims (column_stamp v.columns col) ≡ told_by i c → W b →
     W (with_cut b (column_stamp v.columns col) (at_most col k)) × W (with_cut b (column_stamp v.columns col) (above col k))
 
 pub refuted_uncased : (t : Tree) (b : Branch) → TreeRefutes t (rows_goal b) → IsUncased t
@@ -185,7 +185,7 @@ refuted_uncased (cut_tree c k t u) b r = (
 refuted_uncased (cases_tree ts) b r = absurd r
 
 -- by what is followed of the claim that tells
-follow_well : (v : View) (root : Spot) (W : Branch → Type 0) (g : Goes) (a : Asked) (member : Option Bool) (P HL HH : Type 0) (s : Spot) (low high : Stop) →
+follow_well : (v : View) (root : TreeSpot) (W : Branch → Type 0) (g : Gathered) (a : Asked) (member : Option Bool) (P HL HH : Type 0) (s : TreeSpot) (low high : Stop) →
     FollowHeld a (WaitsUnless member P) HL HH → (HL → StopsWell v root W g low) → (HH → StopsWell v root W g high) → (P → StopsWell v root W g (at_group s)) →
     ((side : Bool) → member ≡ Some side → StopsWell v root W g (side_of side low high)) → StopsWell v root W g (followed a member s low high)
 follow_well v root W g (one_part false) member P HL HH s low high h f x p m = f h
@@ -195,7 +195,7 @@ follow_well v root W g some_part None P HL HH s low high h f x p m = p h
 follow_well v root W g some_part (Some side) P HL HH s low high h f x p m = m side refl
 
 -- each claim is held at a side that the claim which tells holds
-all_at_low : (v : View) → IsView v → (g : Goes) (n : ℕ) (b : Branch) (col : ℕ) (k : ℤ) (t u : Tree) (i : ℕ) (c : Claim) → Tells v (column_stamp v.columns col) (told_by i c) →
+all_at_low : (v : View) → IsView v → (g : Gathered) (n : ℕ) (b : Branch) (col : ℕ) (k : ℤ) (t u : Tree) (i : ℕ) (c : Claim) → Tells v (column_stamp v.columns col) (told_by i c) →
     AllHeld v g n b (cut_tree col k t u) → HeldAt v g i c (low_side v.columns n b col k t) →
     AllHeld v g (suc n) (with_cut b (column_stamp v.columns col) (at_most col k)) t
 all_at_low v view g n b col k t u i c told all h j d e used = by_test (asks_each d (column_stamp v.columns col)) refl
@@ -207,7 +207,7 @@ all_at_low v view g n b col k t u i c told all h j d e used = by_test (asks_each
         let claim : c ≡ d = same_some c d (sym told.0 ∙ ap (slice_get v.claims) same ∙ e) in
         subst (λ (m : ℕ). HeldAt v g m d (low_side v.columns n b col k t)) same (subst (λ (x : Claim). HeldAt v g i x (low_side v.columns n b col k t)) claim h)
 
-all_at_high : (v : View) → IsView v → (g : Goes) (n : ℕ) (b : Branch) (col : ℕ) (k : ℤ) (t u : Tree) (i : ℕ) (c : Claim) → Tells v (column_stamp v.columns col) (told_by i c) →
+all_at_high : (v : View) → IsView v → (g : Gathered) (n : ℕ) (b : Branch) (col : ℕ) (k : ℤ) (t u : Tree) (i : ℕ) (c : Claim) → Tells v (column_stamp v.columns col) (told_by i c) →
     AllHeld v g n b (cut_tree col k t u) → HeldAt v g i c (high_side v.columns n b col k t u) →
     AllHeld v g (high_side v.columns n b col k t u).node (with_cut b (column_stamp v.columns col) (above col k)) u
 all_at_high v view g n b col k t u i c told all h j d e used = by_test (asks_each d (column_stamp v.columns col)) refl
@@ -220,12 +220,12 @@ all_at_high v view g n b col k t u i c told all h j d e used = by_test (asks_eac
         subst (λ (m : ℕ). HeldAt v g m d (high_side v.columns n b col k t u)) same (subst (λ (x : Claim). HeldAt v g i x (high_side v.columns n b col k t u)) claim h)
 
 -- at a cut, where both sides stop well
-cut_well : (v : View) → IsView v → (root : Spot) (W : Branch → Type 0) → KeepsWay v W → (g : Goes) → TakenHeld v root g → IsUncased root.tree →
+cut_well : (v : View) → IsView v → (root : TreeSpot) (W : Branch → Type 0) → KeepsWay v W → (g : Gathered) → TakenHeld v root g → IsUncased root.tree →
     (n : ℕ) (b : Branch) (col : ℕ) (k : ℤ) (t u : Tree) → Reached v root W (spot n b (cut_tree col k t u)) → AllHeld v g n b (cut_tree col k t u) →
     (to_low to_high : Stop) →
     (Reached v root W (low_side v.columns n b col k t) → AllHeld v g (suc n) (with_cut b (column_stamp v.columns col) (at_most col k)) t → StopsWell v root W g to_low) →
     (Reached v root W (high_side v.columns n b col k t u) → AllHeld v g (high_side v.columns n b col k t u).node (with_cut b (column_stamp v.columns col) (above col k)) u → StopsWell v root W g to_high) →
-    (m : Meeting) → meets v.returns 0 v.claims (column_stamp v.columns col) ≡ m → Tells v (column_stamp v.columns col) m →
+    (m : Meeting) → meeting_of v.returns 0 v.claims (column_stamp v.columns col) ≡ m → Tells v (column_stamp v.columns col) m →
     StopsWell v root W g (stop_at m
     (λ i c. followed (asked_at c (column_stamp v.columns col) (truth_at v.columns c (low_side v.columns n b col k t).branch t) (truth_at v.columns c (high_side v.columns n b col k t u).branch u))
     (taken_at i n g.taken) (record { node = n; branch = b; tree = cut_tree col k t u }) to_low to_high)
@@ -250,8 +250,8 @@ cut_well v view root W keeps g taken un n b col k t u reached all to_low to_high
     let ss = sides_stand v.columns root.node root.branch root.tree un n b col k t u reached.stands in
     let ways = keeps b col k i c e reached.way in
     let stamp : ℕ = column_stamp v.columns col in
-    let low : Spot = low_side v.columns n b col k t in
-    let high : Spot = high_side v.columns n b col k t u in
+    let low : TreeSpot = low_side v.columns n b col k t in
+    let high : TreeSpot = high_side v.columns n b col k t u in
     let go_low : HeldAt v g i c low → StopsWell v root W g to_low =
     λ h. f (record { stands = ss.low_stands; refuted = reached.refuted.2; way = ways.0 }) (all_at_low v view g n b col k t u i c tells all h) in
     let go_high : HeldAt v g i c high → StopsWell v root W g to_high =
@@ -269,14 +269,14 @@ cut_well v view root W keeps g taken un n b col k t u reached all to_low to_high
     by_side true p q h = q h
 
 -- on the way from a node where all is held it stops well
-pub stops_well : (v : View) → IsView v → (root : Spot) (W : Branch → Type 0) → KeepsWay v W → (g : Goes) → TakenHeld v root g → IsUncased root.tree →
+pub stops_well : (v : View) → IsView v → (root : TreeSpot) (W : Branch → Type 0) → KeepsWay v W → (g : Gathered) → TakenHeld v root g → IsUncased root.tree →
     (n : ℕ) (b : Branch) (t : Tree) → Reached v root W (spot n b t) → AllHeld v g n b t → StopsWell v root W g (stops v g.taken n b t)
 stops_well v view root W keeps g taken un n b (leaf_tree parts) reached all =
     record { stands = reached.stands; contradicts = reached.refuted; way = reached.way; held = all }
 stops_well v view root W keeps g taken un n b (cut_tree col k t u) reached all =
-    let low : Spot = low_side v.columns n b col k t in
-    let high : Spot = high_side v.columns n b col k t u in
+    let low : TreeSpot = low_side v.columns n b col k t in
+    let high : TreeSpot = high_side v.columns n b col k t u in
     cut_well v view root W keeps g taken un n b col k t u reached all (stops v g.taken low.node low.branch t) (stops v g.taken high.node high.branch u)
     (stops_well v view root W keeps g taken un low.node low.branch t) (stops_well v view root W keeps g taken un high.node high.branch u)
-    (meets v.returns 0 v.claims (column_stamp v.columns col)) refl (meeting_tells v view (column_stamp v.columns col))
+    (meeting_of v.returns 0 v.claims (column_stamp v.columns col)) refl (meeting_tells v view (column_stamp v.columns col))
 stops_well v view root W keeps g taken un n b (cases_tree ts) reached all = absurd reached.refuted

@@ -10,7 +10,7 @@ use Rattle.lin_rows.specs.Sums.{is_zero}
 use Rattle.lin_rows.specs.Combinations.{row_at, Multiplies, IsPart, combined, Contradicts}
 use Rattle.lin_rows.proofs.Ascending.{AscendsFrom_less}
 use Rattle.nested_predicates.specs.Sums.{terms_from}
-use Rattle.nested_refutations.specs.Numbers.{LeafFits}
+use Rattle.nested_refutations.specs.Numbers.{LeafNumbersFit}
 use Rattle.nested_refutations.proofs.RowsLaws.{AllPairs}
 
 -- of each row a number, taken with the row's multiplier
@@ -97,7 +97,7 @@ pub record AreContradicted (ms : List ℤ) (rows : List LinearRow) : Type 0 wher
   pub bound : weighed (λ r. r.bound) ms rows <ℤ pos 0
 
 -- where its numbers fit, a leaf with such multipliers contradicts its rows
-pub leaf_contradicts : (ms : List ℤ) (rows : List LinearRow) → AreContradicted ms rows → LeafFits (record { rows = rows; parts = terms_from 0 ms }) → Contradicts rows (terms_from 0 ms)
+pub leaf_contradicts : (ms : List ℤ) (rows : List LinearRow) → AreContradicted ms rows → LeafNumbersFit (record { rows = rows; parts = terms_from 0 ms }) → Contradicts rows (terms_from 0 ms)
 leaf_contradicts ms rows h fits =
     let b : combined (λ r. r.bound) rows (terms_from 0 ms) ≡ weighed (λ r. r.bound) ms rows = parts_sum (λ r. r.bound) [] 0 ms rows refl h.as_many in
     let n = h.bound in

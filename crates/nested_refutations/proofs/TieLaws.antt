@@ -13,7 +13,7 @@ use Rattle.lin_rows.proofs.SummedLaws.{coefficient-summed}
 use Rattle.lin_rows.proofs.TighteningLaw.{all_divisible_one, tightened_as}
 use Rattle.letter_acts.specs.Invariant.{AreDistinct}
 use Rattle.frame_rows.specs.Rows.{equal_row}
-use Rattle.nested_refutations.specs.Refutations.{Spot, Role, View}
+use Rattle.nested_refutations.specs.Refutations.{TreeSpot, Role, View}
 use Rattle.nested_refutations.proofs.RowsLaws.{AllPairs}
 use Rattle.nested_refutations.proofs.WayLaws.{other_of, others, RoleFits}
 use Rattle.nested_refutations.proofs.ContentLaws.{divided_back}
@@ -154,7 +154,7 @@ ties_bound val role first second (x ∷ xs) t =
     omega (arith, ints, m, e)
 
 -- and are equalities
-pub tie_pairs : {X : Type 0} (v : View) (root : Spot) (all : List LinearRow) (role : X → Role) → ((x : X) (row : LinearRow) → row.kind ≡ Eq → RoleFits v root all (role x) row) →
+pub tie_pairs : {X : Type 0} (v : View) (root : TreeSpot) (all : List LinearRow) (role : X → Role) → ((x : X) (row : LinearRow) → row.kind ≡ Eq → RoleFits v root all (role x) row) →
     (first second : X → ℕ) (xs : List X) → AreTies first second xs → AllPairs (RoleFits v root all) (map role xs) (tie_rows first second xs)
 tie_pairs v root all role f first second [] t = tt
 tie_pairs v root all role f first second (x ∷ xs) t = (f x (tightened (equal_row (first x) (second x))) (equal_kind (first x) (second x) t.0), tie_pairs v root all role f first second xs t.1)

@@ -14,7 +14,7 @@ use Rattle.farkas_check.proofs.TreeLaws.{refutes_as_tree}
 use Rattle.nwa_base.specs.declared.letters.Letter.{Letter}
 use Rattle.nwa_base.specs.Automata.{IsAutomaton}
 use Rattle.nwa_base.specs.Acceptance.{Accepts}
-use Rattle.letter_acts.specs.Frames.{Columns, globals_of, constants_of, variables_of, results_of, olds_of}
+use Rattle.letter_acts.specs.Frames.{Columns, globals_of, constants_of, variables_of, result_columns, olds_of}
 use Rattle.letter_acts.specs.Reading.{taken, is_listed}
 use Rattle.letter_acts.specs.Acts.{PlainAct, inside_act, call_act, back_act, Alphabet, frame_of, act_of}
 use Rattle.letter_acts.specs.Invariant.{Graph, IsGraph, alphabet_of, written_by}
@@ -33,7 +33,7 @@ use Rattle.nested_predicates.specs.Joins.{predicate_at}
 use Rattle.nested_predicates.specs.Interpolants.{RefutesRows}
 use Rattle.nested_predicates.proofs.EndLaws.{rows_goal, tree_refutes}
 use Rattle.nested_refutations.specs.Refutations.{View, Stop, stops, leaf_from, rows_in}
-use Rattle.nested_refutations.specs.Numbers.{Step, inside_step, call_step, back_step, Reading, here, read_on, OpenCall, steps_back, step_by, steps_along, steps_of, groups_from, LeafFits, IsFalse, begins, AreCutsAt}
+use Rattle.nested_refutations.specs.Numbers.{Step, inside_step, call_step, back_step, Reading, position_here, read_on, OpenCall, steps_back, step_by, steps_along, steps_of, groups_from, LeafNumbersFit, IsFalse, begins, AreCutsAt}
 use Rattle.nested_refutations.specs.Refuting.{StepRefutes}
 use Rattle.nested_refutations.specs.Walked.{inside_gaps, call_gaps, return_gaps, back_gaps, gaps_of, false_row, IsWalked, TakesOr, WalkedRefutes}
 use Rattle.nested_refutations.proofs.SpotLaws.{IsUncased}
@@ -88,7 +88,7 @@ back_groups caller callee rows targets exit before to =
     let d : PlainSystem = only_rows (map (λ o. equal_row o.0 (m + o.1)) (olds_of callee)) in
     let e : PlainSystem = only_rows (map (renamed (call_column m n (length written))) rows) in
     let f : PlainSystem = only_rows (map (λ j. equal_row (after j) j) (filter (λ j. not (is_listed targets j)) (variables_of caller))) in
-    let h : PlainSystem = only_rows (map (λ p. equal_row (after p.0) p.1) (taken targets (results_of callee))) in
+    let h : PlainSystem = only_rows (map (λ p. equal_row (after p.0) p.1) (taken targets (result_columns callee))) in
     let i : PlainSystem = denied after to in
     let more : List PlainSystem = only_rows (bounds 0 (types_of callee)) ∷ only_rows (bounds m (types_of caller)) ∷ only_rows (bounds (m + n) (types_at caller written)) ∷ [] in
     both_groups (said (λ c. c) exit) (all_systems (b ∷ c ∷ d ∷ e ∷ f ∷ h ∷ i ∷ more)) ∙
@@ -207,7 +207,7 @@ back_has g w t letter call exit to place caller callee helpers rows targets ther
     let old_rows : List LinearRow = map (λ o. equal_row o.0 (m + o.1)) (olds_of f2) in
     let own_rows : List LinearRow = map (renamed (call_column m n (length written))) rows in
     let global_rows : List LinearRow = map (λ j. equal_row (after j) j) kept in
-    let result_rows : List LinearRow = map (λ p. equal_row (after p.0) p.1) (taken targets (results_of f2)) in
+    let result_rows : List LinearRow = map (λ p. equal_row (after p.0) p.1) (taken targets (result_columns f2)) in
     let last : List LinearRow = bounds 0 (types_of f2) ++ (bounds m (types_of f1) ++ bounds (m + n) (types_at f1 written)) in
     let system : system_of al s.triple ≡ back_system f1 f2 rows targets f b h =
     ap (λ (o : Option PlainAct). back_system_of al o (formula_of (predicates.prefix_of f)) (formula_of (predicates.prefix_of b)) (formula_of (predicates.prefix_of h))) there ∙
@@ -219,9 +219,9 @@ back_has g w t letter call exit to place caller callee helpers rows targets ther
     let l2 = length-map (olds_of f2) (λ o. equal_row o.0 (m + o.1)) in
     let l3 = length-map rows (renamed (call_column m n (length written))) in
     let l4 = length-map kept (λ j. equal_row (after j) j) in
-    let l5 = length-map (taken targets (results_of f2)) (λ p. equal_row (after p.0) p.1) in
+    let l5 = length-map (taken targets (result_columns f2)) (λ p. equal_row (after p.0) p.1) in
     let l6 = back_counted constant_rows old_rows own_rows global_rows result_rows in
-    let count : length (constants_of f2) + length (olds_of f2) + length rows + length kept + length (taken targets (results_of f2)) ≡
+    let count : length (constants_of f2) + length (olds_of f2) + length rows + length kept + length (taken targets (result_columns f2)) ≡
     length (constant_rows ++ (old_rows ++ (own_rows ++ (global_rows ++ result_rows)))) = omega (arith, l1, l2, l3, l4, l5, l6) in
     record {
       groups = ap groups_in system ∙ back_groups f1 f2 rows targets f b h ∙ claims_begin g w t s.view;
@@ -247,11 +247,11 @@ letter_has : (g : Graph) (w : List Letter) (t : Tree) (a : Letter) (rest : List 
     AllByRecursion (IsLaidOut g w t) (step_by g w t a.id act rest r to)
 letter_has g w t a rest r to None e = tt
 letter_has g w t a rest r to (Some (inside_act q written helpers rows)) e =
-    (inside_has g w t a.id (suc r.letters) r.rows r.stage.made (here r) to q written helpers rows (act_found (alphabet_of g) a (inside_act q written helpers rows) e).0, tt)
+    (inside_has g w t a.id (suc r.letters) r.rows r.stage.made (position_here r) to q written helpers rows (act_found (alphabet_of g) a (inside_act q written helpers rows) e).0, tt)
 letter_has g w t a rest r to (Some (call_act caller callee helpers rows)) e =
-    (call_has g w t a.id (suc r.letters) r.rows r.stage.made (has_return 0 rest) (here r) to caller callee helpers rows (act_found (alphabet_of g) a (call_act caller callee helpers rows) e).0, tt)
+    (call_has g w t a.id (suc r.letters) r.rows r.stage.made (has_return 0 rest) (position_here r) to caller callee helpers rows (act_found (alphabet_of g) a (call_act caller callee helpers rows) e).0, tt)
 letter_has g w t a rest r to (Some (back_act c targets)) e =
-    backs_have g w t a.id c targets (act_found (alphabet_of g) a (back_act c targets) e).0 r.calls (here r) to (slice_get g.acts c) refl
+    backs_have g w t a.id c targets (act_found (alphabet_of g) a (back_act c targets) e).0 r.calls (position_here r) to (slice_get g.acts c) refl
 
 all_joined : {X : Type 0} (P : X → Type 0) (xs ys : List X) → AllByRecursion P xs → AllByRecursion P ys → AllByRecursion P (xs ++ ys)
 all_joined P [] ys h k = k
@@ -261,8 +261,8 @@ letters_have : (g : Graph) (w : List Letter) (t : Tree) (rest : List Letter) (r 
 letters_have g w t [] r = tt
 letters_have g w t (a ∷ rest) r =
     let next : Reading = read_on (alphabet_of g) a rest r in
-    all_joined (IsLaidOut g w t) (step_by g w t a.id (act_of (alphabet_of g) a) rest r (here next)) (steps_along g w t next rest)
-    (letter_has g w t a rest r (here next) (act_of (alphabet_of g) a) refl) (letters_have g w t rest next)
+    all_joined (IsLaidOut g w t) (step_by g w t a.id (act_of (alphabet_of g) a) rest r (position_here next)) (steps_along g w t next rest)
+    (letter_has g w t a rest r (position_here next) (act_of (alphabet_of g) a) refl) (letters_have g w t rest next)
 
 -- ---- what is put down
 
@@ -301,7 +301,7 @@ step_walked g w t s refuted laid refutes fits found down system is =
           rows = ap (map tightened) (system_rows p system is);
           groups = subst (λ (l : Groups). AreGroups l (groups_of system)) laid.groups (system_groups p system is);
           cuts = stops_fit s.view [] 0 (root_of g w) t (refuted_fit t (root_of g w) refuted);
-          leaves = λ sides. both_some LeafFits (λ l. Contradicts l.rows l.parts) (leaf_from s.view sides (begins g w t s) stop) (refutes fits.system open_claims sides) (fits.leaves open_claims sides);
+          leaves = λ sides. both_some LeafNumbersFit (λ l. Contradicts l.rows l.parts) (leaf_from s.view sides (begins g w t s) stop) (refutes fits.system open_claims sides) (fits.leaves open_claims sides);
         }) walked)
 
 all_from : {X : Type 0} (P Q R : X → Type 0) → ((x : X) → P x → Q x → R x) → (xs : List X) → AllByRecursion P xs → AllByRecursion Q xs → AllByRecursion R xs

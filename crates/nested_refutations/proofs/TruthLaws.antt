@@ -2,7 +2,7 @@
 use Rattle.std.proofs.Common.{◌≡◌, ◌∙◌, Bool, true, false, refl, ap, Option, None, Some}
 use Rattle.std.specs.Prelude.{not, if◌then◌else◌}
 use Rattle.triple_rows.specs.Predicates.{Formula, truth, atom, and_of, or_of}
-use Rattle.nested_predicates.specs.Joins.{joined, and_before, and_joined, or_before, or_joined, simplified}
+use Rattle.nested_predicates.specs.Joins.{joined_formulas, and_before, and_joined, or_before, or_joined, simplified}
 use Rattle.nested_predicates.proofs.SpellingLaws.{and_true, or_false}
 use Rattle.nested_predicates.specs.Simplifying.{is_same}
 use Rattle.nested_refutations.specs.Refutations.{truth_in, Asked, one_part, both_parts, some_part, each_asked, some_asked}
@@ -42,12 +42,12 @@ and_truth (and_of fs) b = and_before_truth (and_of fs) b refl
 and_truth (or_of fs) b = and_before_truth (or_of fs) b refl
 
 -- two parts joined and simplified are their simplified forms joined
-pub join_simplified : (c : Bool) (a b : Formula) → simplified (joined c a b) ≡ (if c then or_joined (simplified a) (simplified b) else and_joined (simplified a) (simplified b))
+pub join_simplified : (c : Bool) (a b : Formula) → simplified (joined_formulas c a b) ≡ (if c then or_joined (simplified a) (simplified b) else and_joined (simplified a) (simplified b))
 join_simplified true a b = ap (or_joined (simplified a)) (or_false (simplified b))
 join_simplified false a b = ap (and_joined (simplified a)) (and_true (simplified b))
 
 -- a cut is decided by the truth value that it is counted as: `or` by true, `and` by false
-pub cut_truth : (c : Bool) (a b : Formula) → truth_in (simplified (joined c a b)) ≡ decided c (truth_in (simplified a)) (truth_in (simplified b))
+pub cut_truth : (c : Bool) (a b : Formula) → truth_in (simplified (joined_formulas c a b)) ≡ decided c (truth_in (simplified a)) (truth_in (simplified b))
 cut_truth true a b = ap truth_in (join_simplified true a b) ∙ or_truth (simplified a) (simplified b)
 cut_truth false a b = ap truth_in (join_simplified false a b) ∙ and_truth (simplified a) (simplified b)
 

@@ -4,7 +4,7 @@ use Rattle.std.specs.Prelude.{◌&&◌, nat_lt, slice_get, if◌then◌else◌}
 use Rattle.std.proofs.lemmas.Bool.{lt-ltb, le-ltb, ltb-true, ltb-false}
 use Rattle.nested_predicates.specs.Positions.{Position, is_counted}
 use Rattle.nested_predicates.specs.Simplifying.{is_same}
-use Rattle.nested_refutations.specs.Refutations.{Claim, View, own_cut, told_by, meets}
+use Rattle.nested_refutations.specs.Refutations.{Claim, View, own_cut, told_by, meeting_of}
 use Rattle.nested_refutations.proofs.HeldLaws.{asks_each}
 use Rattle.nested_refutations.proofs.StopLaws.{AreClaims, IsView}
 use Rattle.nested_refutations.proofs.WayLaws.{is_own_meeting, is_own}
@@ -108,7 +108,7 @@ two_own v h s = (
 )
   where
     meets_is : is_own v s ≡ is_own_meeting (if is_counted h.before.position s then told_by 0 h.before else (if is_counted h.after.position s then own_cut else told_by 1 h.after))
-    meets_is = ap (λ (r : Bool). is_own_meeting (meets r 0 v.claims s)) h.returns ∙ ap (λ (l : List Claim). is_own_meeting (meets false 0 l s)) h.claims
+    meets_is = ap (λ (r : Bool). is_own_meeting (meeting_of r 0 v.claims s)) h.returns ∙ ap (λ (l : List Claim). is_own_meeting (meeting_of false 0 l s)) h.claims
 
     low : (z : Bool) → is_counted h.before.position s ≡ z → s < suc h.before.position.upto →
         is_own_meeting (if z then told_by 0 h.before else (if is_counted h.after.position s then own_cut else told_by 1 h.after)) ≡ false

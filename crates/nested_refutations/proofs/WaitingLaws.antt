@@ -12,8 +12,8 @@ use Rattle.triple_rows.specs.Systems.{PlainSystem, plain_system, Groups, no_grou
 use Rattle.nested_predicates.specs.Stamps.{column_stamp}
 use Rattle.nested_predicates.specs.Positions.{is_counted}
 use Rattle.nested_predicates.specs.Sums.{Branch, root_of, is_not_negative, terms_from, inequality, coefficients_at, bound_at}
-use Rattle.nested_predicates.specs.Joins.{joined, joined_at, simplified}
-use Rattle.nested_refutations.specs.Refutations.{Claim, Spot, low_side, high_side, truth_in, left_at, Asked, one_part, both_parts, some_part, asked_at, Exposed, atom_exposed, parts_exposed, exposed, View, Goes, rows_in, said_at, of_claim, side_at, member_taken}
+use Rattle.nested_predicates.specs.Joins.{joined_formulas, joined_at, simplified}
+use Rattle.nested_refutations.specs.Refutations.{Claim, TreeSpot, low_side, high_side, truth_in, formula_at, Asked, one_part, both_parts, some_part, asked_at, Exposed, atom_exposed, parts_exposed, exposed, View, Gathered, rows_in, said_at, of_claim, side_at, member_taken}
 use Rattle.nested_refutations.specs.Numbers.{groups_from}
 use Rattle.nested_refutations.proofs.TruthLaws.{decided, join_simplified}
 use Rattle.nested_refutations.proofs.HeldLaws.{truth_at, truth_of_cut}
@@ -51,32 +51,32 @@ two a b = one_member a (one_member b no_member)
 -- ---- groups that wait
 
 -- what is said of a claim at a node
-abbrev pub system_at : List ℕ → Option Claim → Option Spot → PlainSystem
+abbrev pub system_at : List ℕ → Option Claim → Option TreeSpot → PlainSystem
 system_at columns None s = only_rows []
 system_at columns (Some c) None = only_rows []
 system_at columns (Some c) (Some s) = said_at columns c s
 
 -- a member of a claim's group at a cut
-abbrev pub member_at : List ℕ → Option Claim → Spot → Bool → PlainSystem
+abbrev pub member_at : List ℕ → Option Claim → TreeSpot → Bool → PlainSystem
 member_at columns c s side = system_at columns c (side_at columns s.node s.branch s.tree side)
 
 -- a claim's groups at these cuts
-abbrev pub claim_groups : List ℕ → Option Claim → List Spot → Groups
+abbrev pub claim_groups : List ℕ → Option Claim → List TreeSpot → Groups
 claim_groups columns c [] = no_group
 claim_groups columns c (s ∷ ss) = one_group (two (member_at columns c s false) (member_at columns c s true)) (claim_groups columns c ss)
 
 -- the groups that wait
-abbrev pub waiting : View → List (ℕ × Spot) → Groups
+abbrev pub waiting : View → List (ℕ × TreeSpot) → Groups
 waiting v [] = no_group
 waiting v (p ∷ ps) =
     one_group (two (member_at v.columns (slice_get v.claims p.0) p.1 false) (member_at v.columns (slice_get v.claims p.0) p.1 true)) (waiting v ps)
 
-waiting_joined : (v : View) (xs ys : List (ℕ × Spot)) → waiting v (xs ++ ys) ≡ groups_joined (waiting v xs) (waiting v ys)
+waiting_joined : (v : View) (xs ys : List (ℕ × TreeSpot)) → waiting v (xs ++ ys) ≡ groups_joined (waiting v xs) (waiting v ys)
 waiting_joined v [] ys = refl
 waiting_joined v (p ∷ xs) ys =
     ap (one_group (two (member_at v.columns (slice_get v.claims p.0) p.1 false) (member_at v.columns (slice_get v.claims p.0) p.1 true))) (waiting_joined v xs ys)
 
-waiting_of_claim : (v : View) (i : ℕ) (ss : List Spot) → waiting v (of_claim i ss) ≡ claim_groups v.columns (slice_get v.claims i) ss
+waiting_of_claim : (v : View) (i : ℕ) (ss : List TreeSpot) → waiting v (of_claim i ss) ≡ claim_groups v.columns (slice_get v.claims i) ss
 waiting_of_claim v i [] = refl
 waiting_of_claim v i (s ∷ ss) =
     ap (one_group (two (member_at v.columns (slice_get v.claims i) s false) (member_at v.columns (slice_get v.claims i) s true))) (waiting_of_claim v i ss)
@@ -111,7 +111,7 @@ groups_of_both (plain_system xs gs) (plain_system ys hs) = ap (groups_joined gs)
 abbrev one_of_both : PlainSystem → PlainSystem → Groups
 one_of_both a b = one_group (two a b) no_group
 
-joined_groups : (c d : Bool) (to : ℕ → ℕ) (a b : Formula) → groups_in (says d to (joined c a b)) ≡
+joined_groups : (c d : Bool) (to : ℕ → ℕ) (a b : Formula) → groups_in (says d to (joined_formulas c a b)) ≡
     asked_groups (asked_by c d None None) (one_of_both (says d to a) (says d to b)) (groups_in (says d to a)) (groups_in (says d to b))
 joined_groups true true to a b = groups_of_both (denied to a) (denied to b)
 joined_groups true false to a b = refl
@@ -139,11 +139,11 @@ cut_groups : (c d : Bool) (to : ℕ → ℕ) (a b : Formula) → decided c (trut
 cut_groups c d to a b e =
     ap (λ (f : Formula). groups_in (says d to f)) (join_open c (truth_in a) (truth_in b) a b refl refl e) ∙ open_groups c d to (truth_in a) (truth_in b) a b e
 
-claim_joined : (columns : List ℕ) (c : Option Claim) (xs ys : List Spot) → claim_groups columns c (xs ++ ys) ≡ groups_joined (claim_groups columns c xs) (claim_groups columns c ys)
+claim_joined : (columns : List ℕ) (c : Option Claim) (xs ys : List TreeSpot) → claim_groups columns c (xs ++ ys) ≡ groups_joined (claim_groups columns c xs) (claim_groups columns c ys)
 claim_joined columns c [] ys = refl
 claim_joined columns c (s ∷ xs) ys = ap (one_group (two (member_at columns c s false) (member_at columns c s true))) (claim_joined columns c xs ys)
 
-parts_groups : (columns : List ℕ) (c : Claim) (a : Asked) (s : Spot) (x y : Exposed) (gs hs : Groups) → gs ≡ claim_groups columns (Some c) x.groups → hs ≡ claim_groups columns (Some c) y.groups →
+parts_groups : (columns : List ℕ) (c : Claim) (a : Asked) (s : TreeSpot) (x y : Exposed) (gs hs : Groups) → gs ≡ claim_groups columns (Some c) x.groups → hs ≡ claim_groups columns (Some c) y.groups →
     asked_groups a (claim_groups columns (Some c) (s ∷ [])) gs hs ≡ claim_groups columns (Some c) (parts_exposed a s x y).groups
 parts_groups columns c (one_part false) s x y gs hs e f = e
 parts_groups columns c (one_part true) s x y gs hs e f = f
@@ -153,21 +153,21 @@ parts_groups columns c some_part s x y gs hs e f = refl
 
 -- at a cut, where those of its parts are so
 cut_exposed : (columns : List ℕ) (c : Claim) (n : ℕ) (b : Branch) (col : ℕ) (k : ℤ) (t u : Tree) →
-    (let low = low_side columns n b col k t in groups_in (says c.is_denied c.column (left_at columns c low.branch t)) ≡ claim_groups columns (Some c) (exposed columns c low.node low.branch t).groups) →
-    (let high = high_side columns n b col k t u in groups_in (says c.is_denied c.column (left_at columns c high.branch u)) ≡ claim_groups columns (Some c) (exposed columns c high.node high.branch u).groups) →
+    (let low = low_side columns n b col k t in groups_in (says c.is_denied c.column (formula_at columns c low.branch t)) ≡ claim_groups columns (Some c) (exposed columns c low.node low.branch t).groups) →
+    (let high = high_side columns n b col k t u in groups_in (says c.is_denied c.column (formula_at columns c high.branch u)) ≡ claim_groups columns (Some c) (exposed columns c high.node high.branch u).groups) →
     (o : Option Bool) → truth_at columns c b (cut_tree col k t u) ≡ o →
-    groups_in (says c.is_denied c.column (left_at columns c b (cut_tree col k t u))) ≡ claim_groups columns (Some c) (exposed columns c n b (cut_tree col k t u)).groups
+    groups_in (says c.is_denied c.column (formula_at columns c b (cut_tree col k t u))) ≡ claim_groups columns (Some c) (exposed columns c n b (cut_tree col k t u)).groups
 cut_exposed columns c n b col k t u f g (Some z) e =
-    ap (λ (h : Formula). groups_in (says c.is_denied c.column h)) (is_truth (left_at columns c b (cut_tree col k t u)) z e) ∙ truth_groups c.is_denied z c.column ∙
+    ap (λ (h : Formula). groups_in (says c.is_denied c.column h)) (is_truth (formula_at columns c b (cut_tree col k t u)) z e) ∙ truth_groups c.is_denied z c.column ∙
     sym (ap (λ (x : Exposed). claim_groups columns (Some c) x.groups) (exposed_none columns c n b (cut_tree col k t u) z e))
 cut_exposed columns c n b col k t u f g None e =
-    let low : Spot = low_side columns n b col k t in
-    let high : Spot = high_side columns n b col k t u in
-    let s : Spot = record { node = n; branch = b; tree = cut_tree col k t u } in
+    let low : TreeSpot = low_side columns n b col k t in
+    let high : TreeSpot = high_side columns n b col k t u in
+    let s : TreeSpot = record { node = n; branch = b; tree = cut_tree col k t u } in
     let stamp : ℕ = column_stamp columns col in
     let counted : Bool = is_counted c.position stamp in
-    let x : Formula = left_at columns c low.branch t in
-    let y : Formula = left_at columns c high.branch u in
+    let x : Formula = formula_at columns c low.branch t in
+    let y : Formula = formula_at columns c high.branch u in
     let asked : Asked = asked_at c stamp (truth_in x) (truth_in y) in
     let at_low : Exposed = exposed columns c low.node low.branch t in
     let at_high : Exposed = exposed columns c high.node high.branch u in
@@ -178,32 +178,32 @@ cut_exposed columns c n b col k t u f g None e =
     sym (ap (λ (z : Exposed). claim_groups columns (Some c) z.groups) (unless_open (truth_at columns c b (cut_tree col k t u)) (parts_exposed asked s at_low at_high) e))
 
 exposed_groups_are : (columns : List ℕ) (c : Claim) (n : ℕ) (b : Branch) (t : Tree) →
-    groups_in (says c.is_denied c.column (left_at columns c b t)) ≡ claim_groups columns (Some c) (exposed columns c n b t).groups
+    groups_in (says c.is_denied c.column (formula_at columns c b t)) ≡ claim_groups columns (Some c) (exposed columns c n b t).groups
 exposed_groups_are columns c n b (leaf_tree parts) =
     sum_groups c.is_denied c.column (terms_from 0 (coefficients_at b parts c.position)) (bound_at b parts c.position) ∙
     sym (atom_groups columns c n (truth_at columns c b (leaf_tree parts)))
 exposed_groups_are columns c n b (cut_tree col k t u) =
-    let low : Spot = low_side columns n b col k t in
-    let high : Spot = high_side columns n b col k t u in
+    let low : TreeSpot = low_side columns n b col k t in
+    let high : TreeSpot = high_side columns n b col k t u in
     cut_exposed columns c n b col k t u (exposed_groups_are columns c low.node low.branch t) (exposed_groups_are columns c high.node high.branch u) (truth_at columns c b (cut_tree col k t u)) refl
 exposed_groups_are columns c n b (cases_tree ts) = truth_groups c.is_denied false c.column
 
 -- ---- a group that is opened
 
 -- with a member that is taken come its rows
-pub taken_rows : (v : View) (i : ℕ) (c : Option Claim) (n : ℕ) (side : Bool) (s : Option Spot) (g : Goes) →
+pub taken_rows : (v : View) (i : ℕ) (c : Option Claim) (n : ℕ) (side : Bool) (s : Option TreeSpot) (g : Gathered) →
     (member_taken v i c n side s g).rows ≡ g.rows ++ map tightened (rows_in (system_at v.columns c s))
 taken_rows v i None n side s g = sym (append-nil g.rows)
 taken_rows v i (Some c) n side None g = sym (append-nil g.rows)
 taken_rows v i (Some c) n side (Some s) g = refl
 
 -- and its groups
-pub taken_groups : (v : View) (i : ℕ) (c : Option Claim) (n : ℕ) (side : Bool) (s : Option Spot) (g : Goes) → slice_get v.claims i ≡ c →
+pub taken_groups : (v : View) (i : ℕ) (c : Option Claim) (n : ℕ) (side : Bool) (s : Option TreeSpot) (g : Gathered) → slice_get v.claims i ≡ c →
     waiting v (member_taken v i c n side s g).groups ≡ groups_joined (waiting v g.groups) (groups_in (system_at v.columns c s))
 taken_groups v i None n side s g e = sym (joined_none (waiting v g.groups))
 taken_groups v i (Some c) n side None g e = sym (joined_none (waiting v g.groups))
 taken_groups v i (Some c) n side (Some s) g e =
-    let more : List Spot = (exposed v.columns c s.node s.branch s.tree).groups in
+    let more : List TreeSpot = (exposed v.columns c s.node s.branch s.tree).groups in
     waiting_joined v g.groups (of_claim i more) ∙
     ap (groups_joined (waiting v g.groups))
     (waiting_of_claim v i more ∙ ap (λ (o : Option Claim). claim_groups v.columns o more) e ∙ sym (exposed_groups_are v.columns c s.node s.branch s.tree))
@@ -213,16 +213,16 @@ taken_groups v i (Some c) n side (Some s) g e =
 -- the groups of what is said of claims at the root
 abbrev pub groups_said : Graph → List Letter → Tree → View → List Claim → Groups
 groups_said g w t v [] = no_group
-groups_said g w t v (c ∷ cs) = groups_joined (groups_in (says c.is_denied c.column (left_at v.columns c (root_of g w) t))) (groups_said g w t v cs)
+groups_said g w t v (c ∷ cs) = groups_joined (groups_in (says c.is_denied c.column (formula_at v.columns c (root_of g w) t))) (groups_said g w t v cs)
 
 -- those of the claims with numbers from k on wait
 pub groups_begin : (g : Graph) (w : List Letter) (t : Tree) (v : View) (k : ℕ) (cs : List Claim) → ((p : ℕ) (c : Claim) → slice_get cs p ≡ Some c → slice_get v.claims (k + p) ≡ Some c) →
     groups_said g w t v cs ≡ waiting v (groups_from g w t v k cs)
 groups_begin g w t v k [] f = refl
 groups_begin g w t v k (c ∷ cs) f =
-    let more : List Spot = (exposed v.columns c 0 (root_of g w) t).groups in
+    let more : List TreeSpot = (exposed v.columns c 0 (root_of g w) t).groups in
     let found : slice_get v.claims k ≡ Some c = ap (slice_get v.claims) (let q : k ≡ k + 0 = omega arith in q) ∙ f 0 c refl in
-    let first : groups_in (says c.is_denied c.column (left_at v.columns c (root_of g w) t)) ≡ waiting v (of_claim k more) =
+    let first : groups_in (says c.is_denied c.column (formula_at v.columns c (root_of g w) t)) ≡ waiting v (of_claim k more) =
     exposed_groups_are v.columns c 0 (root_of g w) t ∙ sym (ap (λ (o : Option Claim). claim_groups v.columns o more) found) ∙ sym (waiting_of_claim v k more) in
     ap (λ (l : Groups). groups_joined l (groups_said g w t v cs)) first ∙
     ap (groups_joined (waiting v (of_claim k more)))

@@ -13,8 +13,8 @@ use Rattle.path_rows.specs.Paths.{start_frame}
 use Rattle.nested_predicates.specs.Stamps.{column_stamp, stamps_of}
 use Rattle.nested_predicates.specs.Positions.{has_return, Position}
 use Rattle.nested_predicates.specs.Sums.{Branch, root_of}
-use Rattle.nested_refutations.specs.Refutations.{side_of, Spot, low_side, high_side, truth_in, left_at, Claim, Asked, one_part, both_parts, some_part, asked_at, View, Goes, taken_at, Meeting, own_cut, told_by, meets, Stop, at_leaf, at_cut, at_group, nowhere, followed, stop_at, stops, stops_at, with_own, opened}
-use Rattle.nested_refutations.specs.Numbers.{Step, inside_step, call_step, back_step, Reading, here, read_on, OpenCall, steps_back, step_by, steps_along, steps_of, begins, AreCutsAt}
+use Rattle.nested_refutations.specs.Refutations.{side_of, TreeSpot, low_side, high_side, truth_in, formula_at, Claim, Asked, one_part, both_parts, some_part, asked_at, View, Gathered, taken_at, Meeting, own_cut, told_by, meeting_of, Stop, at_leaf, at_cut, at_group, nowhere, followed, stop_at, stops, stops_at, with_own, opened}
+use Rattle.nested_refutations.specs.Numbers.{Step, inside_step, call_step, back_step, Reading, position_here, read_on, OpenCall, steps_back, step_by, steps_along, steps_of, begins, AreCutsAt}
 use Rattle.nested_refutations.specs.Walked.{AfterMembers, gaps_of, false_row, IsWalked, AreWalked, TakesOr}
 use Rattle.nested_refutations.specs.Cuts.{WalkedCuts}
 use Rattle.triple_rows.specs.Cuts.{inside_columns, call_columns, back_columns, columns_of, IsCutWithin}
@@ -56,7 +56,7 @@ side_within : (v : View) (n : ℕ) (side : Bool) (low high : Stop) → StopWithi
 side_within v n false low high f g = f
 side_within v n true low high f g = g
 
-followed_within : (v : View) (n : ℕ) (a : Asked) (member : Option Bool) (s : Spot) (low high : Stop) → AreCutsAt (length v.columns) s.tree → StopWithin v n low → StopWithin v n high →
+followed_within : (v : View) (n : ℕ) (a : Asked) (member : Option Bool) (s : TreeSpot) (low high : Stop) → AreCutsAt (length v.columns) s.tree → StopWithin v n low → StopWithin v n high →
     StopWithin v n (followed a member s low high)
 followed_within v n (one_part side) member s low high h f g = side_within v n side low high f g
 followed_within v n both_parts member s low high h f g = f
@@ -72,17 +72,17 @@ stops_within : (v : View) (n : ℕ) → OwnWithin v n → (taken : List (ℕ × 
 stops_within v n own taken m b (leaf_tree parts) h = tt
 stops_within v n own taken m b (cut_tree col k t u) h =
     let stamp : ℕ = column_stamp v.columns col in
-    let low : Spot = low_side v.columns m b col k t in
-    let high : Spot = high_side v.columns m b col k t u in
-    let s : Spot = record { node = m; branch = b; tree = cut_tree col k t u } in
+    let low : TreeSpot = low_side v.columns m b col k t in
+    let high : TreeSpot = high_side v.columns m b col k t u in
+    let s : TreeSpot = record { node = m; branch = b; tree = cut_tree col k t u } in
     let to_low : Stop = stops v taken low.node low.branch t in
     let to_high : Stop = stops v taken high.node high.branch u in
     let at_low : StopWithin v n to_low = stops_within v n own taken low.node low.branch t h.1 in
     let at_high : StopWithin v n to_high = stops_within v n own taken high.node high.branch u h.2 in
-    meeting_within v n (meets v.returns 0 v.claims stamp)
-    (λ i c. followed (asked_at c stamp (truth_in (left_at v.columns c low.branch t)) (truth_in (left_at v.columns c high.branch u))) (taken_at i m taken) s to_low to_high)
+    meeting_within v n (meeting_of v.returns 0 v.claims stamp)
+    (λ i c. followed (asked_at c stamp (truth_in (formula_at v.columns c low.branch t)) (truth_in (formula_at v.columns c high.branch u))) (taken_at i m taken) s to_low to_high)
     (at_cut (length b.rows) col k low high)
-    (λ i c. followed_within v n (asked_at c stamp (truth_in (left_at v.columns c low.branch t)) (truth_in (left_at v.columns c high.branch u))) (taken_at i m taken) s to_low to_high h at_low at_high)
+    (λ i c. followed_within v n (asked_at c stamp (truth_in (formula_at v.columns c low.branch t)) (truth_in (formula_at v.columns c high.branch u))) (taken_at i m taken) s to_low to_high h at_low at_high)
     (λ e. (own col h.0 e, h.1, h.2))
 stops_within v n own taken m b (cases_tree ts) h = tt
 
@@ -91,8 +91,8 @@ stops_within v n own taken m b (cases_tree ts) h = tt
 abbrev CutsWithin : ℕ → List PlainNode → Type 0
 CutsWithin n = AllByRecursion (IsCutWithin n)
 
-after_within : (v : View) (n : ℕ) → OwnWithin v n → (s : Spot) (first second : Option Goes) → AreCutsAt (length v.columns) s.tree → {X : Type 0} → (walked : List (Goes × Stop) → Type 0) →
-    ((ps : List (Goes × Stop)) → AllByRecursion (λ p. StopWithin v n p.1) ps → walked ps → X) → AfterMembers v s first second walked → X
+after_within : (v : View) (n : ℕ) → OwnWithin v n → (s : TreeSpot) (first second : Option Gathered) → AreCutsAt (length v.columns) s.tree → {X : Type 0} → (walked : List (Gathered × Stop) → Type 0) →
+    ((ps : List (Gathered × Stop)) → AllByRecursion (λ p. StopWithin v n p.1) ps → walked ps → X) → AfterMembers v s first second walked → X
 after_within v n own s None second cuts walked f h = absurd h
 after_within v n own s (Some g) None cuts walked f h = absurd h
 after_within v n own s (Some g) (Some x) cuts walked f h =
@@ -100,7 +100,7 @@ after_within v n own s (Some g) (Some x) cuts walked f h =
     (stops_within v n own g.taken s.node s.branch s.tree cuts, (stops_within v n own x.taken s.node s.branch s.tree cuts, tt)) h
 
 mutual
-  walked_within : (v : View) (n : ℕ) → OwnWithin v n → (found : Tree) (g : Goes) (stop : Stop) → StopWithin v n stop → IsWalked v found g stop → CutsWithin n (prefix_of found)
+  walked_within : (v : View) (n : ℕ) → OwnWithin v n → (found : Tree) (g : Gathered) (stop : Stop) → StopWithin v n stop → IsWalked v found g stop → CutsWithin n (prefix_of found)
   walked_within v n own (leaf_tree parts) g stop w h = (tt, tt)
   walked_within v n own (cut_tree c k t u) g (at_leaf m b parts) w h = absurd h
   walked_within v n own (cut_tree c k t u) g (at_cut r col j low high) w h = (
@@ -117,7 +117,7 @@ mutual
       (tt, after_within v n own s (opened v false g g.groups) (opened v true g g.groups) w (AreWalked v ts) (each_within v n own ts) h)
   walked_within v n own (cases_tree ts) g nowhere w h = absurd h
 
-  each_within : (v : View) (n : ℕ) → OwnWithin v n → (ts : Trees) (ps : List (Goes × Stop)) → AllByRecursion (λ p. StopWithin v n p.1) ps → AreWalked v ts ps → CutsWithin n (prefixes_of ts)
+  each_within : (v : View) (n : ℕ) → OwnWithin v n → (ts : Trees) (ps : List (Gathered × Stop)) → AllByRecursion (λ p. StopWithin v n p.1) ps → AreWalked v ts ps → CutsWithin n (prefixes_of ts)
   each_within v n own no_tree ps w h = tt
   each_within v n own (one_more t ts) [] w h = absurd h
   each_within v n own (one_more t ts) (p ∷ ps) w h =
@@ -225,35 +225,35 @@ back_has c = record {
 -- the step of a return, at its open call
 back_letter : (g : Graph) (globals : ℕ) (w : List Letter) (t : Tree) (r : Reading) (a : Letter) (rest : List Letter) (targets : List ℕ) (h : BackAt g globals w r a rest targets) →
     HasOwn g w t (back_step_at g w t r a h.call h.scopes h.open_at.caller h.open_at.callee h.open_at.helpers h.open_at.rows targets h.before) →
-    AllByRecursion (HasOwn g w t) (step_by g w t a.id (act_of (alphabet_of g) a) rest r (here (read_on (alphabet_of g) a rest r)))
+    AllByRecursion (HasOwn g w t) (step_by g w t a.id (act_of (alphabet_of g) a) rest r (position_here (read_on (alphabet_of g) a rest r)))
 back_letter g globals w t r a rest targets h has =
     let al : Alphabet = alphabet_of g in
     let f1 : Columns = frame_of al h.open_at.caller in
     let f2 : Columns = frame_of al h.open_at.callee in
-    subst (λ (act : Option PlainAct). AllByRecursion (HasOwn g w t) (step_by g w t a.id act rest r (here (read_on (alphabet_of g) a rest r)))) (sym h.act_is)
-    (subst (λ (act : Option PlainAct). AllByRecursion (HasOwn g w t) (steps_back g w t a.id targets r.calls (here r) (here (read_on (alphabet_of g) a rest r)) act)) (sym h.call_there)
-    (subst (λ (calls : List OpenCall). AllByRecursion (HasOwn g w t) (steps_back g w t a.id targets calls (here r) (here (read_on (alphabet_of g) a rest r))
+    subst (λ (act : Option PlainAct). AllByRecursion (HasOwn g w t) (step_by g w t a.id act rest r (position_here (read_on (alphabet_of g) a rest r)))) (sym h.act_is)
+    (subst (λ (act : Option PlainAct). AllByRecursion (HasOwn g w t) (steps_back g w t a.id targets r.calls (position_here r) (position_here (read_on (alphabet_of g) a rest r)) act)) (sym h.call_there)
+    (subst (λ (calls : List OpenCall). AllByRecursion (HasOwn g w t) (steps_back g w t a.id targets calls (position_here r) (position_here (read_on (alphabet_of g) a rest r))
     (Some (call_act h.open_at.caller h.open_at.callee h.open_at.helpers h.open_at.rows)))) (sym h.calls_are)
-    (subst (λ (to : Position). HasOwn g w t (back_step g w t a.id h.call (here r) to f1 f2 h.open_at.helpers h.open_at.rows targets)) (sym (back_to_is g globals w r a rest targets h)) has, tt)))
+    (subst (λ (to : Position). HasOwn g w t (back_step g w t a.id h.call (position_here r) to f1 f2 h.open_at.helpers h.open_at.rows targets)) (sym (back_to_is g globals w r a rest targets h)) has, tt)))
 
 letter_has : (g : Graph) → IsGraph g → (globals : ℕ) → HaveGlobals g globals → (w : List Letter) (t : Tree) (r : Reading) (a : Letter) (rest : List Letter) →
     Along g globals w r (a ∷ rest) → Stacked g globals w r (a ∷ rest) → Quiet g globals w r → (act : Option PlainAct) → act_of (alphabet_of g) a ≡ act →
-    AllByRecursion (HasOwn g w t) (step_by g w t a.id act rest r (here (read_on (alphabet_of g) a rest r)))
+    AllByRecursion (HasOwn g w t) (step_by g w t a.id act rest r (position_here (read_on (alphabet_of g) a rest r)))
 letter_has g ok globals have w t r a rest h stack quiet None e = tt
 letter_has g ok globals have w t r a rest h stack quiet (Some (inside_act q written helpers rows)) e =
     let at = inside_at g ok globals w r a rest h q written helpers rows e in
     let c : InsideLetter = record { g = g; globals = globals; w = w; t = t; r = r; a = a; rest = rest; q = q; written = written; helpers = helpers; rows = rows; at = at } in
-    let step : Position → Step = λ to. inside_step g w t a.id (suc r.letters) r.rows r.stage.made (here r) to (frame_of (alphabet_of g) q) written helpers rows in
+    let step : Position → Step = λ to. inside_step g w t a.id (suc r.letters) r.rows r.stage.made (position_here r) to (frame_of (alphabet_of g) q) written helpers rows in
     (subst (λ (to : Position). HasOwn g w t (step to)) (sym (inside_to_is g globals w r a rest q written helpers rows at)) (inside_has c), tt)
 letter_has g ok globals have w t r a rest h stack quiet (Some (call_act caller callee helpers rows)) e =
     let at = call_at g ok globals w r a rest h caller callee helpers rows e in
     let c : CallLetter = record { g = g; globals = globals; w = w; t = t; r = r; a = a; rest = rest; caller = caller; callee = callee; helpers = helpers; rows = rows; at = at } in
     let step : Position → Step = λ to.
-    call_step g w t a.id (suc r.letters) r.rows r.stage.made (has_return 0 rest) (here r) to (frame_of (alphabet_of g) caller) (frame_of (alphabet_of g) callee) helpers rows in
+    call_step g w t a.id (suc r.letters) r.rows r.stage.made (has_return 0 rest) (position_here r) to (frame_of (alphabet_of g) caller) (frame_of (alphabet_of g) callee) helpers rows in
     (subst (λ (to : Position). HasOwn g w t (step to)) (sym (call_to_is g globals w r a rest caller callee helpers rows at)) (call_has c), tt)
 letter_has g ok globals have w t r a rest h stack quiet (Some (back_act c targets)) e =
     let at : BackAt g globals w r a rest targets = back_at g ok globals w r a rest h stack c targets e in
-    subst (λ (act : Option PlainAct). AllByRecursion (HasOwn g w t) (step_by g w t a.id act rest r (here (read_on (alphabet_of g) a rest r)))) e
+    subst (λ (act : Option PlainAct). AllByRecursion (HasOwn g w t) (step_by g w t a.id act rest r (position_here (read_on (alphabet_of g) a rest r)))) e
     (back_letter g globals w t r a rest targets at (at_return HasOwn back_has g ok globals have w t r a rest targets at quiet))
 
 letters_have : (g : Graph) → IsGraph g → (globals : ℕ) → HaveGlobals g globals → (w : List Letter) (t : Tree) (rest : List Letter) (r : Reading) →
@@ -261,7 +261,7 @@ letters_have : (g : Graph) → IsGraph g → (globals : ℕ) → HaveGlobals g g
 letters_have g ok globals have w t [] r h stack quiet = tt
 letters_have g ok globals have w t (a ∷ rest) r h stack quiet =
     let next : Reading = read_on (alphabet_of g) a rest r in
-    all_joined (HasOwn g w t) (step_by g w t a.id (act_of (alphabet_of g) a) rest r (here next)) (steps_along g w t next rest)
+    all_joined (HasOwn g w t) (step_by g w t a.id (act_of (alphabet_of g) a) rest r (position_here next)) (steps_along g w t next rest)
     (letter_has g ok globals have w t r a rest h stack quiet (act_of (alphabet_of g) a) refl)
     (letters_have g ok globals have w t rest next (along_next g ok globals w r a rest h) (stacked_next g ok globals have w r a rest h stack) (quiet_next g ok globals have w r a rest h stack quiet))
 

@@ -12,7 +12,7 @@ use Rattle.farkas_check.specs.Refutes.{at_most, above}
 use Rattle.nwa_base.specs.Members.{Member}
 use Rattle.nested_predicates.specs.Stamps.{column_stamp}
 use Rattle.nested_predicates.specs.Sums.{Branch, with_cut}
-use Rattle.nested_refutations.specs.Refutations.{Claim, Spot, side_of, Role, spare, atom_at, branch_row, target_tie, source_tie, opposite_tie, View, Goes, Meeting, own_cut, told_by, meets, is_atom, stands, atom_roles, is_used, with_own}
+use Rattle.nested_refutations.specs.Refutations.{Claim, TreeSpot, side_of, Role, spare, atom_at, branch_row, target_tie, source_tie, opposite_tie, View, Gathered, Meeting, own_cut, told_by, meeting_of, is_atom, stands, atom_roles, is_used, with_own}
 use Rattle.nested_refutations.proofs.RowsLaws.{AllPairs, pairs_joined, pairs_weaker, pairs_counted, IsAtomRow}
 use Rattle.nested_refutations.proofs.StopLaws.{KeepsWay}
 
@@ -64,7 +64,7 @@ is_own_meeting (told_by i c) = false
 
 -- cuts on columns with this stamp are own cuts
 abbrev pub is_own : View → ℕ → Bool
-is_own v stamp = is_own_meeting (meets v.returns 0 v.claims stamp)
+is_own v stamp = is_own_meeting (meeting_of v.returns 0 v.claims stamp)
 
 -- the row over the system's columns
 abbrev pub recolumned : (ℕ → ℕ) → LinearRow → LinearRow
@@ -96,7 +96,7 @@ own_behind v val number k (x ∷ rs) (y ∷ ss) r s e =
 -- ---- what each row is
 
 -- the row of the atom of this claim at the leaf with this number
-pub record AtomFits (v : View) (root : Spot) (i n : ℕ) (row : LinearRow) : Type 0 where
+pub record AtomFits (v : View) (root : TreeSpot) (i n : ℕ) (row : LinearRow) : Type 0 where
   pub claim : Claim
   pub found : slice_get v.claims i ≡ Some claim
   pub used : is_used v i ≡ true
@@ -105,7 +105,7 @@ pub record AtomFits (v : View) (root : Spot) (i n : ℕ) (row : LinearRow) : Typ
   pub row_is : row ≡ tightened given
 
 -- a row of a branch with these rows has the kind of that row, and one that ties columns is an equality
-abbrev pub RoleFits : View → Spot → List LinearRow → Role → LinearRow → Type 0
+abbrev pub RoleFits : View → TreeSpot → List LinearRow → Role → LinearRow → Type 0
 RoleFits v root rows spare row = Unit {0}
 RoleFits v root rows (atom_at i n) row = AtomFits v root i n row
 RoleFits v root rows (branch_row r) row = (r < length rows) × (row.kind ≡ (row_at rows r).kind)
@@ -122,7 +122,7 @@ row_last : (rows : List LinearRow) (more : LinearRow) → row_at (rows ++ more �
 row_last [] more = refl
 row_last (x ∷ rows) more = row_last rows more
 
-role_kept : (v : View) (root : Spot) (rows : List LinearRow) (more : LinearRow) (role : Role) (row : LinearRow) → RoleFits v root rows role row → RoleFits v root (rows ++ more ∷ []) role row
+role_kept : (v : View) (root : TreeSpot) (rows : List LinearRow) (more : LinearRow) (role : Role) (row : LinearRow) → RoleFits v root rows role row → RoleFits v root (rows ++ more ∷ []) role row
 role_kept v root rows more spare row h = h
 role_kept v root rows more (atom_at i n) row h = h
 role_kept v root rows more (branch_row r) row h =
@@ -144,7 +144,7 @@ pub record IsCutRow (v : View) (row : LinearRow) (stamp : ℕ) : Type 0 where
   pub stamp_is : stamp ≡ column_stamp v.columns column
 
 -- The goal's rows are those with which it began, those of the own cuts among these last rows of the branch, and atoms.
-pub record Way (v : View) (root : Spot) (first g : Goes) (b : Branch) : Type 0 where
+pub record Way (v : View) (root : TreeSpot) (first g : Gathered) (b : Branch) : Type 0 where
   pub more : List LinearRow
   pub late : List ℕ
   pub rows : b.rows ≡ root.branch.rows ++ more
@@ -154,7 +154,7 @@ pub record Way (v : View) (root : Spot) (first g : Goes) (b : Branch) : Type 0 w
       others val number first.roles first.rows +ℤ own_sum v val number (length root.branch.rows) more late
   pub pairs : AllPairs (RoleFits v root b.rows) g.roles g.rows
 
-pub first_way : (v : View) (root : Spot) (first : Goes) → AllPairs (RoleFits v root root.branch.rows) first.roles first.rows → Way v root first first root.branch
+pub first_way : (v : View) (root : TreeSpot) (first : Gathered) → AllPairs (RoleFits v root root.branch.rows) first.roles first.rows → Way v root first first root.branch
 first_way v root first h = record {
   more = [];
   late = [];
@@ -166,7 +166,7 @@ first_way v root first h = record {
 }
 
 -- by a cut that is none of its own the goal stays
-told_way : (v : View) (root : Spot) (first g : Goes) (b : Branch) (stamp : ℕ) (row : LinearRow) → IsCutRow v row stamp → is_own v stamp ≡ false → Way v root first g b → Way v root first g (with_cut b stamp row)
+told_way : (v : View) (root : TreeSpot) (first g : Gathered) (b : Branch) (stamp : ℕ) (row : LinearRow) → IsCutRow v row stamp → is_own v stamp ≡ false → Way v root first g b → Way v root first g (with_cut b stamp row)
 told_way v root first g b stamp row is_cut e w = record {
   more = w.more ++ row ∷ [];
   late = w.late ++ stamp ∷ [];
@@ -189,7 +189,7 @@ told_way v root first g b stamp row is_cut e w = record {
         let d : own_one v val number (length root.branch.rows + length w.more) row stamp ≡ pos 0 = nothing val number (length root.branch.rows + length w.more) (is_own v stamp) e in
         omega (arith, ints, a, c, d)
 
-pub keeps_way : (v : View) (root : Spot) (first g : Goes) → KeepsWay v (Way v root first g)
+pub keeps_way : (v : View) (root : TreeSpot) (first g : Gathered) → KeepsWay v (Way v root first g)
 keeps_way v root first g b col k i c e w =
     let o : is_own v (column_stamp v.columns col) ≡ false = ap is_own_meeting e in (
       told_way v root first g b (column_stamp v.columns col) (at_most col k) (record { column = col; bound = k; side = false; row_is = refl; stamp_is = refl }) o w,
@@ -197,7 +197,7 @@ keeps_way v root first g b col k i c e w =
     )
 
 -- with a row behind, whose kind is that of the cut's
-own_way : (v : View) (root : Spot) (first g : Goes) (b : Branch) (stamp r : ℕ) (row : LinearRow) (new : Goes) → IsCutRow v row stamp → is_own v stamp ≡ true → r ≡ length b.rows →
+own_way : (v : View) (root : TreeSpot) (first g : Gathered) (b : Branch) (stamp r : ℕ) (row : LinearRow) (new : Gathered) → IsCutRow v row stamp → is_own v stamp ≡ true → r ≡ length b.rows →
     new.roles ≡ g.roles ++ branch_row r ∷ [] → new.rows ≡ g.rows ++ recolumned v.column row ∷ [] → Way v root first g b → Way v root first new (with_cut b stamp row)
 own_way v root first g b stamp r row new is_cut e l nr nx w = record {
   more = w.more ++ row ∷ [];
@@ -237,18 +237,18 @@ own_way v root first g b stamp r row new is_cut e l nr nx w = record {
         let q : val (branch_row r) *ℤ number (recolumned v.column row) ≡ val (branch_row k) *ℤ number (recolumned v.column row) = ap (λ (z : ℤ). z *ℤ number (recolumned v.column row)) p in
         omega (arith, ints, a, c, d, f, h, q)
 
-pub low_way : (v : View) (root : Spot) (first g : Goes) (b : Branch) (col r : ℕ) (k : ℤ) → meets v.returns 0 v.claims (column_stamp v.columns col) ≡ own_cut → r ≡ length b.rows →
+pub low_way : (v : View) (root : TreeSpot) (first g : Gathered) (b : Branch) (col r : ℕ) (k : ℤ) → meeting_of v.returns 0 v.claims (column_stamp v.columns col) ≡ own_cut → r ≡ length b.rows →
     Way v root first g b → Way v root first (with_own v r col k false g) (with_cut b (column_stamp v.columns col) (at_most col k))
 low_way v root first g b col r k e l w =
     own_way v root first g b (column_stamp v.columns col) r (at_most col k) (with_own v r col k false g) (record { column = col; bound = k; side = false; row_is = refl; stamp_is = refl }) (ap is_own_meeting e) l refl refl w
 
-pub high_way : (v : View) (root : Spot) (first g : Goes) (b : Branch) (col r : ℕ) (k : ℤ) → meets v.returns 0 v.claims (column_stamp v.columns col) ≡ own_cut → r ≡ length b.rows →
+pub high_way : (v : View) (root : TreeSpot) (first g : Gathered) (b : Branch) (col r : ℕ) (k : ℤ) → meeting_of v.returns 0 v.claims (column_stamp v.columns col) ≡ own_cut → r ≡ length b.rows →
     Way v root first g b → Way v root first (with_own v r col k true g) (with_cut b (column_stamp v.columns col) (above col k))
 high_way v root first g b col r k e l w =
     own_way v root first g b (column_stamp v.columns col) r (above col k) (with_own v r col k true g) (record { column = col; bound = k; side = true; row_is = refl; stamp_is = refl }) (ap is_own_meeting e) l refl refl w
 
 -- with atoms behind
-pub atoms_way : (v : View) (root : Spot) (first g : Goes) (b : Branch) (used : Bool) (i : ℕ) (leaves : List ℕ) (rows : List LinearRow) (new : Goes) →
+pub atoms_way : (v : View) (root : TreeSpot) (first g : Gathered) (b : Branch) (used : Bool) (i : ℕ) (leaves : List ℕ) (rows : List LinearRow) (new : Gathered) →
     new.roles ≡ g.roles ++ atom_roles used i leaves → new.rows ≡ g.rows ++ rows → AllPairs (RoleFits v root b.rows) (atom_roles used i leaves) rows →
     Way v root first g b → Way v root first new b
 atoms_way v root first g b used i leaves rows new nr nx h w = record {

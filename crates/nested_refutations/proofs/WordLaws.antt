@@ -10,7 +10,7 @@ use Rattle.letter_acts.specs.Frames.{globals_from, globals_of}
 use Rattle.letter_acts.specs.Acts.{PlainAct, inside_act, call_act, back_act, Alphabet, frame_of, act_of, kind_of}
 use Rattle.letter_acts.specs.Invariant.{Graph, IsGraph, alphabet_of}
 use Rattle.letter_acts.proofs.KnownLemmas.{frames_laid_out, act_found}
-use Rattle.path_rows.specs.Versions.{Stage, part_of, return_part, back_part}
+use Rattle.path_rows.specs.Versions.{PathStage, part_of, return_part, back_part}
 use Rattle.path_rows.specs.Stages.{GoesOnBy, BackFitsFrom, FitsBefore}
 use Rattle.path_rows.specs.Drafts.{CanGoOn}
 use Rattle.path_rows.proofs.LayoutLemmas.{laid_out}
@@ -33,7 +33,7 @@ act_kind : (g : Graph) (a : Letter) (act : PlainAct) → act_of (alphabet_of g) 
 act_kind g a act e = ap (λ (b : Letter). b.kind) (act_found (alphabet_of g) a act e).1
 
 -- of a return, whose call has this act
-return_steps : (al : Alphabet) (globals : ℕ) (targets : List ℕ) (p : Stage) (o : Option PlainAct) → ((q : ℕ) → q < length al.frames → length (globals_of (frame_of al q)) ≡ globals) →
+return_steps : (al : Alphabet) (globals : ℕ) (targets : List ℕ) (p : PathStage) (o : Option PlainAct) → ((q : ℕ) → q < length al.frames → length (globals_of (frame_of al q)) ≡ globals) →
     FitsBefore al targets o p.here p.saved → (p.made ≤ (return_part al targets o p).after.made) × StepBy globals kinds.Back p (return_part al targets o p).after
 return_steps al globals targets p o have fits = by_saved p.saved refl fits
   where
@@ -62,7 +62,7 @@ return_steps al globals targets p o have fits = by_saved p.saved refl fits
     by_saved [] e f = absurd f
     by_saved (v ∷ saved) e f = by_act v saved e o f
 
-letter_steps : (g : Graph) → IsGraph g → (globals : ℕ) → HaveGlobals g globals → (a : Letter) (p : Stage) → GoesOnBy g a p → LetterSteps (alphabet_of g) globals a.kind (act_of (alphabet_of g) a) p
+letter_steps : (g : Graph) → IsGraph g → (globals : ℕ) → HaveGlobals g globals → (a : Letter) (p : PathStage) → GoesOnBy g a p → LetterSteps (alphabet_of g) globals a.kind (act_of (alphabet_of g) a) p
 letter_steps g ok globals have a p go =
     let k : Acts g a = acts_of g ok a p go in
     subst (λ (o : Option PlainAct). LetterSteps (alphabet_of g) globals a.kind o p) (sym k.is)
@@ -80,7 +80,7 @@ letter_steps g ok globals have a p go =
         let s = return_steps (alphabet_of g) globals targets p (slice_get g.acts c) have f.ready in
         (tt, s.0, s.1)
 
-pub word_names : (g : Graph) → IsGraph g → (globals : ℕ) → HaveGlobals g globals → (p : Stage) (w : List Letter) → CanGoOn g p w → WordNames (alphabet_of g) globals p w
+pub word_names : (g : Graph) → IsGraph g → (globals : ℕ) → HaveGlobals g globals → (p : PathStage) (w : List Letter) → CanGoOn g p w → WordNames (alphabet_of g) globals p w
 word_names g ok globals have p [] h = tt
 word_names g ok globals have p (a ∷ w) h =
     (letter_steps g ok globals have a p (goes_first g p a w h), word_names g ok globals have (part_of (alphabet_of g) a p).after w (goes_next g ok p a w h))

@@ -10,25 +10,25 @@ use Rattle.lin_rows.specs.Combinations.{RunFits}
 use Rattle.farkas_check.specs.Nodes.{PlainNode}
 use Rattle.farkas_check.specs.Trees.{Tree, leaf_tree, cut_tree, cases_tree, prefix_of}
 use Rattle.nwa_base.specs.declared.letters.Letter.{Letter}
-use Rattle.letter_acts.specs.Frames.{Columns, globals_of, constants_of, variables_of, results_of, olds_of, places, is_local}
+use Rattle.letter_acts.specs.Frames.{Columns, globals_of, constants_of, variables_of, result_columns, olds_of, places, is_local}
 use Rattle.letter_acts.specs.Acts.{PlainAct, inside_act, call_act, back_act, Alphabet, frame_of, act_of}
 use Rattle.letter_acts.specs.Reading.{taken, is_listed}
 use Rattle.letter_acts.specs.Invariant.{Graph, alphabet_of, written_by}
 use Rattle.frame_rows.specs.Rows.{bounds, types_of, types_at, columns_from}
 use Rattle.frame_rows.specs.Frames.{is_old}
-use Rattle.path_rows.specs.Versions.{Stage, rows_in, locals_of, old_part, part_of}
+use Rattle.path_rows.specs.Versions.{PathStage, part_rows, local_columns, old_part, part_of}
 use Rattle.path_rows.specs.Paths.{start_frame, first_stage}
 use Rattle.triple_rows.specs.declared.triples.Triple.{Triple}
 use Rattle.triple_rows.specs.declared.triples.Triple.TheVariants.{Inside, Call, Back}
 use Rattle.triple_rows.specs.Systems.{PlainFits, after_column}
 use Rattle.triple_rows.specs.Triples.{system_of}
 use Rattle.nested_predicates.specs.Stamps.{stamps_of}
-use Rattle.nested_predicates.specs.Positions.{Scope, has_return, scopes_after, Position, position_at, positions_of, start_scope}
+use Rattle.nested_predicates.specs.Positions.{CallScope, has_return, scopes_after, Position, position_at, positions_of, start_scope}
 use Rattle.nested_predicates.specs.Sums.{root_of}
 use Rattle.nested_predicates.specs.Fitting.{SumsFit}
 use Rattle.nested_predicates.specs.Walking.{is_bool}
-use Rattle.nested_predicates.specs.Interpolants.{scoped_at}
-use Rattle.nested_refutations.specs.Refutations.{Claim, Spot, truth_in, left_at, exposed, Role, spare, branch_row, target_tie, source_tie, opposite_tie, View, Goes, Leaf, atom_roles, is_used, of_claim, stops, leaf_from}
+use Rattle.nested_predicates.specs.Interpolants.{interpolant_at}
+use Rattle.nested_refutations.specs.Refutations.{Claim, TreeSpot, truth_in, formula_at, exposed, Role, spare, branch_row, target_tie, source_tie, opposite_tie, View, Gathered, Leaf, atom_roles, is_used, of_claim, stops, leaf_from}
 use Rattle.nested_refutations.specs.Refutations as refutations
 
 -- ---- the rows of the system of a letter's triple
@@ -106,7 +106,7 @@ inside_step g w t letter number row made from to frame written helpers rows =
       column = column_in 0 made (columns_from n (length written + helpers));
     } in
     record {
-      triple = Inside (scoped_at g w t from) letter (scoped_at g w t to);
+      triple = Inside (interpolant_at g w t from) letter (interpolant_at g w t to);
       view = view;
       roles =
           roles_of g w t view 0 before ++ branch_rows row (length rows) ++ roles_of g w t view 1 after ++
@@ -126,9 +126,9 @@ call_step g w t letter number row made returns from to caller callee helpers row
       column = column_in 0 made (made_by_call n (n + length callee) helpers callee);
     } in
     let local = row + length rows + length (old_part callee) in
-    let old = local + bounds_in (locals_of callee) in
+    let old = local + bounds_in (local_columns callee) in
     record {
-      triple = Call (scoped_at g w t from) letter (scoped_at g w t to);
+      triple = Call (interpolant_at g w t from) letter (interpolant_at g w t to);
       view = view;
       roles =
           roles_of g w t view 0 before ++ map target_tie (globals_of callee) ++ (if returns then map (λ o. opposite_tie o.1) (olds_of callee) else branch_rows (row + length rows) (length (olds_of callee))) ++
@@ -152,13 +152,13 @@ back_step g w t letter call exit to caller callee helpers rows targets =
       column = column_in m call.made (made_by_call 0 (m + n + length written) helpers callee);
     } in
     record {
-      triple = Back (scoped_at g w t exit) (scoped_at g w t call.before) letter (scoped_at g w t to);
+      triple = Back (interpolant_at g w t exit) (interpolant_at g w t call.before) letter (interpolant_at g w t to);
       view = view;
       roles =
           roles_of g w t view 0 at_exit ++ roles_of g w t view 1 before ++ map source_tie (constants_of callee) ++
           map (λ o. source_tie o.0) (olds_of callee) ++ branch_rows call.rows (length rows) ++
           map target_tie (filter (λ c. not (is_listed targets c)) (variables_of caller)) ++
-          map (λ p. target_tie p.0) (taken targets (results_of callee)) ++ roles_of g w t view 2 after ++
+          map (λ p. target_tie p.0) (taken targets (result_columns callee)) ++ roles_of g w t view 2 after ++
           spares (bounds_in callee) ++ before_bounds call.number caller ++ spares (length (bounds 0 (types_at caller written)));
     }
 
@@ -166,19 +166,19 @@ back_step g w t letter call exit to caller callee helpers rows targets =
 pub record Reading : Type 0 where
   pub letters : ℕ
   pub rows : ℕ
-  pub stage : Stage
-  pub scopes : List Scope
+  pub stage : PathStage
+  pub scopes : List CallScope
   pub calls : List OpenCall
 
-abbrev pub here : Reading → Position
-here r = position_at r.letters r.stage r.scopes
+abbrev pub position_here : Reading → Position
+position_here r = position_at r.letters r.stage r.scopes
 
 -- the call that a letter with this act opens, in front
 abbrev pub open_after : Option PlainAct → Reading → List OpenCall
 open_after None r = r.calls
 open_after (Some (inside_act q written helpers rows)) r = r.calls
 open_after (Some (call_act caller callee helpers rows)) r =
-    record { number = suc r.letters; rows = r.rows; made = r.stage.made; before = here r } ∷ r.calls
+    record { number = suc r.letters; rows = r.rows; made = r.stage.made; before = position_here r } ∷ r.calls
 open_after (Some (back_act c targets)) r = without_first r.calls
   where
     without_first : List OpenCall → List OpenCall
@@ -191,7 +191,7 @@ read_on al a rest r =
     let part = part_of al a r.stage in
     record {
       letters = suc r.letters;
-      rows = r.rows + length (rows_in part);
+      rows = r.rows + length (part_rows part);
       stage = part.after;
       scopes = scopes_after al (suc r.letters) a.kind (act_of al a) rest part.after.here r.stage.here r.scopes;
       calls = open_after (act_of al a) r;
@@ -209,18 +209,18 @@ steps_back g w t letter targets (call ∷ calls) exit to (Some (back_act c more)
 abbrev pub step_by : Graph → List Letter → Tree → ℕ → Option PlainAct → List Letter → Reading → Position → List Step
 step_by g w t letter None rest r to = []
 step_by g w t letter (Some (inside_act q written helpers rows)) rest r to =
-    inside_step g w t letter (suc r.letters) r.rows r.stage.made (here r) to (frame_of (alphabet_of g) q) written helpers rows ∷ []
+    inside_step g w t letter (suc r.letters) r.rows r.stage.made (position_here r) to (frame_of (alphabet_of g) q) written helpers rows ∷ []
 step_by g w t letter (Some (call_act caller callee helpers rows)) rest r to =
-    call_step g w t letter (suc r.letters) r.rows r.stage.made (has_return 0 rest) (here r) to (frame_of (alphabet_of g) caller) (frame_of (alphabet_of g) callee) helpers rows ∷ []
+    call_step g w t letter (suc r.letters) r.rows r.stage.made (has_return 0 rest) (position_here r) to (frame_of (alphabet_of g) caller) (frame_of (alphabet_of g) callee) helpers rows ∷ []
 step_by g w t letter (Some (back_act c targets)) rest r to =
-    steps_back g w t letter targets r.calls (here r) to (slice_get g.acts c)
+    steps_back g w t letter targets r.calls (position_here r) to (slice_get g.acts c)
 
 -- those of the letters, in order, from where the word has come to
 abbrev pub steps_along : Graph → List Letter → Tree → Reading → List Letter → List Step
 steps_along g w t r [] = []
 steps_along g w t r (a ∷ rest) =
     let next = read_on (alphabet_of g) a rest r in
-    step_by g w t a.id (act_of (alphabet_of g) a) rest r (here next) ++ steps_along g w t next rest
+    step_by g w t a.id (act_of (alphabet_of g) a) rest r (position_here next) ++ steps_along g w t next rest
 
 -- those of a word, under the tree of a refutation of its rows
 abbrev pub steps_of : Graph → List Letter → Tree → List Step
@@ -235,22 +235,22 @@ steps_of g w t = steps_along g w t (record {
 -- ---- all numbers
 
 -- the multipliers of a leaf fit, and so does each product and each running sum
-pub record LeafFits (l : Leaf) : Type 0 where
+pub record LeafNumbersFit (l : Leaf) : Type 0 where
   pub multipliers : AllByRecursion (λ part. Fits part.1) l.parts
   pub columns : (c : ℕ) → RunFits (λ r. coefficient c r.terms) l.rows (pos 0) l.parts
   pub bound : RunFits (λ r. r.bound) l.rows (pos 0) l.parts
 
 -- The claim is false: a source is, or the target is true. The refutation is then the one row `0 <= -1`.
 abbrev pub IsFalse : Graph → List Letter → Tree → View → Claim → Type 0
-IsFalse g w t v c = truth_in (left_at v.columns c (root_of g w) t) ≡ Some c.is_denied
+IsFalse g w t v c = truth_in (formula_at v.columns c (root_of g w) t) ≡ Some c.is_denied
 
 -- the groups that claims give, those from number i on
-abbrev pub groups_from : Graph → List Letter → Tree → View → ℕ → List Claim → List (ℕ × Spot)
+abbrev pub groups_from : Graph → List Letter → Tree → View → ℕ → List Claim → List (ℕ × TreeSpot)
 groups_from g w t v i [] = []
 groups_from g w t v i (c ∷ cs) = of_claim i (exposed v.columns c 0 (root_of g w) t).groups ++ groups_from g w t v (suc i) cs
 
 -- where the refutation of the step's triple begins
-abbrev pub begins : Graph → List Letter → Tree → Step → Goes
+abbrev pub begins : Graph → List Letter → Tree → Step → Gathered
 begins g w t s = record {
   rows = map tightened (refutations.rows_in (system_of (alphabet_of g) s.triple));
   roles = s.roles;
@@ -262,7 +262,7 @@ begins g w t s = record {
 pub record StepNumbersFit (g : Graph) (w : List Letter) (t : Tree) (s : Step) : Type 0 where
   pub system : PlainFits (system_of (alphabet_of g) s.triple)
   pub leaves : AllByRecursion (λ c. IsFalse g w t s.view c → ⊥) s.view.claims → (sides : List Bool) →
-      IfSome (leaf_from s.view sides (begins g w t s) (stops s.view [] 0 (root_of g w) t)) LeafFits
+      IfSome (leaf_from s.view sides (begins g w t s) (stops s.view [] 0 (root_of g w) t)) LeafNumbersFit
 
 -- each cut is at one of so many columns
 abbrev pub AreCutsAt : ℕ → Tree → Type 0

@@ -23,7 +23,7 @@ pub record Claim : Type 0 where
   pub column : ℕ → ℕ
 
 -- a node of the word's tree: its number in the prefix list, the rows of its branch, and the tree below it
-pub record Spot : Type 0 where
+pub record TreeSpot : Type 0 where
   pub node : ℕ
   pub branch : Branch
   pub tree : Tree
@@ -34,10 +34,10 @@ side_of false x y = x
 side_of true x y = y
 
 -- the sides of a cut, where the word's columns have these stamps
-abbrev pub low_side : List ℕ → ℕ → Branch → ℕ → ℤ → Tree → Spot
+abbrev pub low_side : List ℕ → ℕ → Branch → ℕ → ℤ → Tree → TreeSpot
 low_side columns n b c k t = record { node = suc n; branch = with_cut b (column_stamp columns c) (at_most c k); tree = t }
 
-abbrev pub high_side : List ℕ → ℕ → Branch → ℕ → ℤ → Tree → Tree → Spot
+abbrev pub high_side : List ℕ → ℕ → Branch → ℕ → ℤ → Tree → Tree → TreeSpot
 high_side columns n b c k t u = record { node = suc n + length (prefix_of t); branch = with_cut b (column_stamp columns c) (above c k); tree = u }
 
 -- the truth value, if the formula is one
@@ -48,8 +48,8 @@ truth_in (and_of fs) = None
 truth_in (or_of fs) = None
 
 -- what is left of a claim's predicate at a node
-abbrev pub left_at : List ℕ → Claim → Branch → Tree → Formula
-left_at columns c b t = simplified (joined_at columns c.position b t)
+abbrev pub formula_at : List ℕ → Claim → Branch → Tree → Formula
+formula_at columns c b t = simplified (joined_at columns c.position b t)
 
 -- what a claim asks at a cut: one part alone, both parts, or one of them
 pub data Asked : Type 0 where
@@ -76,7 +76,7 @@ asked_at c stamp a b = if is_same (is_counted c.position stamp) c.is_denied then
 -- the rows and groups that a claim gives: the numbers of the leaves whose atoms are the rows, and the cuts that are groups
 pub record Exposed : Type 0 where
   pub leaves : List ℕ
-  pub groups : List Spot
+  pub groups : List TreeSpot
 
 abbrev pub nothing : Exposed
 nothing = record { leaves = []; groups = [] }
@@ -85,7 +85,7 @@ abbrev pub atom_exposed : ℕ → Option Bool → Exposed
 atom_exposed n None = record { leaves = n ∷ []; groups = [] }
 atom_exposed n (Some v) = nothing
 
-abbrev pub parts_exposed : Asked → Spot → Exposed → Exposed → Exposed
+abbrev pub parts_exposed : Asked → TreeSpot → Exposed → Exposed → Exposed
 parts_exposed (one_part side) s x y = side_of side x y
 parts_exposed both_parts s x y = record { leaves = x.leaves ++ y.leaves; groups = x.groups ++ y.groups }
 parts_exposed some_part s x y = record { leaves = []; groups = s ∷ [] }
@@ -96,12 +96,12 @@ unless_truth None x = x
 unless_truth (Some v) x = nothing
 
 abbrev pub exposed : List ℕ → Claim → ℕ → Branch → Tree → Exposed
-exposed columns c n b (leaf_tree parts) = atom_exposed n (truth_in (left_at columns c b (leaf_tree parts)))
+exposed columns c n b (leaf_tree parts) = atom_exposed n (truth_in (formula_at columns c b (leaf_tree parts)))
 exposed columns c n b (cut_tree col k t u) =
     let low = low_side columns n b col k t in
     let high = high_side columns n b col k t u in
-    unless_truth (truth_in (left_at columns c b (cut_tree col k t u)))
-    (parts_exposed (asked_at c (column_stamp columns col) (truth_in (left_at columns c low.branch t)) (truth_in (left_at columns c high.branch u)))
+    unless_truth (truth_in (formula_at columns c b (cut_tree col k t u)))
+    (parts_exposed (asked_at c (column_stamp columns col) (truth_in (formula_at columns c low.branch t)) (truth_in (formula_at columns c high.branch u)))
     (record { node = n; branch = b; tree = cut_tree col k t u })
     (exposed columns c low.node low.branch t)
     (exposed columns c high.node high.branch u))
@@ -187,10 +187,10 @@ multipliers v n b parts (r ∷ rs) = (if is_again r rs then pos 0 else multiplie
 
 -- Where the refutation has come to: the rows of the goal and what each is, the groups that are not opened, each of a claim at a
 -- cut, and the members that were taken.
-pub record Goes : Type 0 where
+pub record Gathered : Type 0 where
   pub rows : List LinearRow
   pub roles : List Role
-  pub groups : List (ℕ × Spot)
+  pub groups : List (ℕ × TreeSpot)
   pub taken : List (ℕ × ℕ × Bool)
 
 -- the member that was taken of the group of a claim at a cut
@@ -204,24 +204,24 @@ pub data Meeting : Type 0 where
   told_by : ℕ → Claim → Meeting
 
 -- by the first source that counts it; where it is first counted at the target it is an own cut; else by the target
-abbrev pub meets : Bool → ℕ → List Claim → ℕ → Meeting
-meets returns i [] stamp = own_cut
-meets returns i (c ∷ []) stamp = if is_counted c.position stamp then own_cut else told_by i c
-meets returns i (c ∷ d ∷ cs) stamp =
-    if not returns && is_counted c.position stamp then told_by i c else meets returns (suc i) (d ∷ cs) stamp
+abbrev pub meeting_of : Bool → ℕ → List Claim → ℕ → Meeting
+meeting_of returns i [] stamp = own_cut
+meeting_of returns i (c ∷ []) stamp = if is_counted c.position stamp then own_cut else told_by i c
+meeting_of returns i (c ∷ d ∷ cs) stamp =
+    if not returns && is_counted c.position stamp then told_by i c else meeting_of returns (suc i) (d ∷ cs) stamp
 
 -- where the refutation cannot go on alone: at a leaf, at a cut of its own, at a group of which no member was taken
 pub data Stop : Type 0 where
   at_leaf : ℕ → Branch → List (ℕ × ℤ) → Stop
-  at_cut : ℕ → ℕ → ℤ → Spot → Spot → Stop
-  at_group : Spot → Stop
+  at_cut : ℕ → ℕ → ℤ → TreeSpot → TreeSpot → Stop
+  at_group : TreeSpot → Stop
   nowhere : Stop
 
-abbrev pub by_member : Option Bool → Spot → Stop → Stop → Stop
+abbrev pub by_member : Option Bool → TreeSpot → Stop → Stop → Stop
 by_member None s low high = at_group s
 by_member (Some side) s low high = side_of side low high
 
-abbrev pub followed : Asked → Option Bool → Spot → Stop → Stop → Stop
+abbrev pub followed : Asked → Option Bool → TreeSpot → Stop → Stop → Stop
 followed (one_part side) member s low high = side_of side low high
 followed both_parts member s low high = low
 followed some_part member s low high = by_member member s low high
@@ -238,19 +238,19 @@ stops v taken n b (cut_tree col k t u) =
     let high = high_side v.columns n b col k t u in
     let to_low = stops v taken low.node low.branch t in
     let to_high = stops v taken high.node high.branch u in
-    stop_at (meets v.returns 0 v.claims s)
-    (λ i c. followed (asked_at c s (truth_in (left_at v.columns c low.branch t)) (truth_in (left_at v.columns c high.branch u)))
+    stop_at (meeting_of v.returns 0 v.claims s)
+    (λ i c. followed (asked_at c s (truth_in (formula_at v.columns c low.branch t)) (truth_in (formula_at v.columns c high.branch u)))
     (taken_at i n taken) (record { node = n; branch = b; tree = cut_tree col k t u }) to_low to_high)
     (at_cut (length b.rows) col k low high)
 stops v taken n b (cases_tree ts) = nowhere
 
-abbrev pub stops_at : View → List (ℕ × ℕ × Bool) → Spot → Stop
+abbrev pub stops_at : View → List (ℕ × ℕ × Bool) → TreeSpot → Stop
 stops_at v taken s = stops v taken s.node s.branch s.tree
 
 -- ---- own cuts and groups
 
 -- with the row of the side of an own cut, which has this number on the branch
-abbrev pub with_own : View → ℕ → ℕ → ℤ → Bool → Goes → Goes
+abbrev pub with_own : View → ℕ → ℕ → ℤ → Bool → Gathered → Gathered
 with_own v r col k side g = record g {
   rows = g.rows ++ side_of side (at_most (v.column col) k) (above (v.column col) k) ∷ [];
   roles = g.roles ++ branch_row r ∷ [];
@@ -259,9 +259,9 @@ with_own v r col k side g = record g {
 abbrev pub rows_in : PlainSystem → List LinearRow
 rows_in (plain_system rows groups) = rows
 
-abbrev pub said_at : List ℕ → Claim → Spot → PlainSystem
+abbrev pub said_at : List ℕ → Claim → TreeSpot → PlainSystem
 said_at columns c s =
-    if c.is_denied then denied c.column (left_at columns c s.branch s.tree) else said c.column (left_at columns c s.branch s.tree)
+    if c.is_denied then denied c.column (formula_at columns c s.branch s.tree) else said c.column (formula_at columns c s.branch s.tree)
 
 -- of a call that returns the sources give no row that a leaf uses
 abbrev pub atom_roles : Bool → ℕ → List ℕ → List Role
@@ -271,11 +271,11 @@ atom_roles used i leaves = map (λ m. if used then atom_at i m else spare) leave
 abbrev pub is_used : View → ℕ → Bool
 is_used v i = not (v.returns && nat_eq i 0)
 
-abbrev pub of_claim : ℕ → List Spot → List (ℕ × Spot)
+abbrev pub of_claim : ℕ → List TreeSpot → List (ℕ × TreeSpot)
 of_claim i groups = map (λ s. (i, s)) groups
 
 -- with a member of a group of a claim, which is its predicate at this side
-abbrev pub with_member : View → ℕ → Claim → ℕ → Bool → Spot → Goes → Goes
+abbrev pub with_member : View → ℕ → Claim → ℕ → Bool → TreeSpot → Gathered → Gathered
 with_member v i c n side s g =
     let x = exposed v.columns c s.node s.branch s.tree in
     record {
@@ -286,18 +286,18 @@ with_member v i c n side s g =
     }
 
 -- the side of a cut
-abbrev pub side_at : List ℕ → ℕ → Branch → Tree → Bool → Option Spot
+abbrev pub side_at : List ℕ → ℕ → Branch → Tree → Bool → Option TreeSpot
 side_at columns n b (leaf_tree parts) side = None
 side_at columns n b (cut_tree col k t u) side = Some (side_of side (low_side columns n b col k t) (high_side columns n b col k t u))
 side_at columns n b (cases_tree ts) side = None
 
-abbrev pub member_taken : View → ℕ → Option Claim → ℕ → Bool → Option Spot → Goes → Goes
+abbrev pub member_taken : View → ℕ → Option Claim → ℕ → Bool → Option TreeSpot → Gathered → Gathered
 member_taken v i None n side s g = g
 member_taken v i (Some c) n side None g = g
 member_taken v i (Some c) n side (Some s) g = with_member v i c n side s g
 
 -- the first group is opened, whosever it is, and this member taken
-abbrev pub opened : View → Bool → Goes → List (ℕ × Spot) → Option Goes
+abbrev pub opened : View → Bool → Gathered → List (ℕ × TreeSpot) → Option Gathered
 opened v side g [] = None
 opened v side g (first ∷ groups) =
     Some (member_taken v first.0 (slice_get v.claims first.0) first.1.node side (side_at v.columns first.1.node first.1.branch first.1.tree side)
@@ -310,16 +310,16 @@ pub record Leaf : Type 0 where
   pub rows : List LinearRow
   pub parts : List (ℕ × ℤ)
 
-abbrev pub leaf_of : View → Goes → ℕ → Branch → List (ℕ × ℤ) → Leaf
+abbrev pub leaf_of : View → Gathered → ℕ → Branch → List (ℕ × ℤ) → Leaf
 leaf_of v g n b parts = record { rows = g.rows; parts = terms_from 0 (multipliers v n b parts g.roles) }
 
 -- on from a group that is opened, if there is one
-abbrev pub on_opened : Option Goes → (Goes → Option Leaf) → Option Leaf
+abbrev pub on_opened : Option Gathered → (Gathered → Option Leaf) → Option Leaf
 on_opened None go = None
 on_opened (Some g) go = go g
 
 -- the leaf to which these sides lead from where the refutation stops, if they lead to one
-abbrev pub leaf_from : View → List Bool → Goes → Stop → Option Leaf
+abbrev pub leaf_from : View → List Bool → Gathered → Stop → Option Leaf
 leaf_from v [] g (at_leaf n b parts) = Some (leaf_of v g n b parts)
 leaf_from v [] g (at_cut r col k low high) = None
 leaf_from v [] g (at_group s) = None

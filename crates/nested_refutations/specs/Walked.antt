@@ -5,7 +5,7 @@ use Rattle.farkas_check.specs.Nodes.{PlainNode}
 use Rattle.farkas_check.specs.Refutes.{Refutes}
 use Rattle.farkas_check.specs.Trees.{Tree, Trees, leaf_tree, cut_tree, cases_tree, no_tree, one_more, prefix_of, prefixes_of}
 use Rattle.nwa_base.specs.declared.letters.Letter.{Letter}
-use Rattle.letter_acts.specs.Frames.{globals_of, constants_of, variables_of, results_of, olds_of}
+use Rattle.letter_acts.specs.Frames.{globals_of, constants_of, variables_of, result_columns, olds_of}
 use Rattle.letter_acts.specs.Acts.{PlainAct, inside_act, call_act, back_act, Alphabet, frame_of}
 use Rattle.letter_acts.specs.Reading.{taken, is_listed}
 use Rattle.letter_acts.specs.Invariant.{Graph, alphabet_of}
@@ -15,20 +15,20 @@ use Rattle.triple_rows.specs.Systems.{IsSystem}
 use Rattle.triple_rows.specs.Triples.{system_of}
 use Rattle.nested_predicates.specs.Sums.{root_of}
 use Rattle.nested_predicates.specs.Simplifying.{is_same}
-use Rattle.nested_refutations.specs.Refutations.{Claim, Spot, truth_in, left_at, exposed, View, Goes, Stop, at_leaf, at_cut, at_group, nowhere, stops, stops_at, with_own, opened, leaf_of}
+use Rattle.nested_refutations.specs.Refutations.{Claim, TreeSpot, truth_in, formula_at, exposed, View, Gathered, Stop, at_leaf, at_cut, at_group, nowhere, stops, stops_at, with_own, opened, leaf_of}
 use Rattle.nested_refutations.specs.Numbers.{Step, StepNumbersFit, begins}
 
 -- ---- a tree that is put down
 
 -- at a leaf: its parts
-abbrev pub IsLeafOf : View → Goes → Stop → List (ℕ × ℤ) → Type 0
+abbrev pub IsLeafOf : View → Gathered → Stop → List (ℕ × ℤ) → Type 0
 IsLeafOf v g (at_leaf n b parts) found = found ≡ (leaf_of v g n b parts).parts
 IsLeafOf v g (at_cut r col k low high) found = ⊥
 IsLeafOf v g (at_group s) found = ⊥
 IsLeafOf v g nowhere found = ⊥
 
 -- at an own cut: a cut at the same number, of which each side is put down from that side on
-abbrev pub IsCutOf : View → Goes → Stop → ℕ → ℤ → (Goes → Stop → Type 0) → (Goes → Stop → Type 0) → Type 0
+abbrev pub IsCutOf : View → Gathered → Stop → ℕ → ℤ → (Gathered → Stop → Type 0) → (Gathered → Stop → Type 0) → Type 0
 IsCutOf v g (at_leaf n b parts) c j first second = ⊥
 IsCutOf v g (at_cut r col k low high) c j first second =
     (c ≡ v.column col) × (j ≡ k) ×
@@ -37,13 +37,13 @@ IsCutOf v g (at_group s) c j first second = ⊥
 IsCutOf v g nowhere c j first second = ⊥
 
 -- from a node on, after each of two members that are taken
-abbrev pub AfterMembers : View → Spot → Option Goes → Option Goes → (List (Goes × Stop) → Type 0) → Type 0
+abbrev pub AfterMembers : View → TreeSpot → Option Gathered → Option Gathered → (List (Gathered × Stop) → Type 0) → Type 0
 AfterMembers v s None second cases = ⊥
 AfterMembers v s (Some g) None cases = ⊥
 AfterMembers v s (Some g) (Some h) cases = cases ((g, stops_at v g.taken s) ∷ (h, stops_at v h.taken s) ∷ [])
 
 -- at a group: the group that waits first is opened, and a case for each of its members is put down from the node on
-abbrev pub AreCasesOf : View → Goes → Stop → (List (Goes × Stop) → Type 0) → Type 0
+abbrev pub AreCasesOf : View → Gathered → Stop → (List (Gathered × Stop) → Type 0) → Type 0
 AreCasesOf v g (at_leaf n b parts) cases = ⊥
 AreCasesOf v g (at_cut r col k low high) cases = ⊥
 AreCasesOf v g (at_group s) cases = AfterMembers v s (opened v false g g.groups) (opened v true g g.groups) cases
@@ -51,12 +51,12 @@ AreCasesOf v g nowhere cases = ⊥
 
 -- The tree is what is put down from where the refutation stops.
 abbrev mutual
-  pub IsWalked : View → Tree → Goes → Stop → Type 0
+  pub IsWalked : View → Tree → Gathered → Stop → Type 0
   IsWalked v (leaf_tree parts) g stop = IsLeafOf v g stop parts
   IsWalked v (cut_tree c k t u) g stop = IsCutOf v g stop c k (IsWalked v t) (IsWalked v u)
   IsWalked v (cases_tree ts) g stop = AreCasesOf v g stop (AreWalked v ts)
 
-  pub AreWalked : View → Trees → List (Goes × Stop) → Type 0
+  pub AreWalked : View → Trees → List (Gathered × Stop) → Type 0
   AreWalked v no_tree [] = Unit {0}
   AreWalked v no_tree (p ∷ ps) = ⊥
   AreWalked v (one_more t ts) [] = ⊥
@@ -65,14 +65,14 @@ abbrev mutual
 -- ---- one node after another
 
 -- the nodes are those of a tree that is put down from there on
-pub record AreWalkedFrom (v : View) (g : Goes) (stop : Stop) (nodes : List PlainNode) : Type 0 where
+pub record AreWalkedFrom (v : View) (g : Gathered) (stop : Stop) (nodes : List PlainNode) : Type 0 where
   pub tree : Tree
   pub walked : IsWalked v tree g stop
   pub listed : prefix_of tree ≡ nodes
 
 -- Whatever trees are put down from where it still has to go on: the nodes so far, and then theirs, are those of a tree that is put
 -- down from the start on.
-abbrev pub ComesTo : View → Goes → Stop → List PlainNode → List (Goes × Stop) → Type 0
+abbrev pub ComesTo : View → Gathered → Stop → List PlainNode → List (Gathered × Stop) → Type 0
 ComesTo v g stop nodes left = (ts : Trees) → AreWalked v ts left → AreWalkedFrom v g stop (nodes ++ prefixes_of ts)
 
 -- ---- where a claim is false
@@ -99,7 +99,7 @@ return_gaps al targets None = []
 return_gaps al targets (Some (inside_act q written helpers rows)) = []
 return_gaps al targets (Some (call_act caller callee helpers rows)) =
     let kept = filter (λ c. not (is_listed targets c)) (variables_of (frame_of al caller)) in
-    let results = taken targets (results_of (frame_of al callee)) in
+    let results = taken targets (result_columns (frame_of al callee)) in
     0 ∷ 0 ∷ (length (constants_of (frame_of al callee)) + length (olds_of (frame_of al callee)) + length rows + length kept + length results) ∷ []
 return_gaps al targets (Some (back_act c more)) = []
 
@@ -125,7 +125,7 @@ abbrev pub false_row : Graph → List Letter → Tree → View → ℕ → List 
 false_row g w t v k [] cs = None
 false_row g w t v k (n ∷ gaps) [] = None
 false_row g w t v k (n ∷ gaps) (c ∷ cs) =
-    if is_truth (truth_in (left_at v.columns c (root_of g w) t)) c.is_denied then Some (k + n)
+    if is_truth (truth_in (formula_at v.columns c (root_of g w) t)) c.is_denied then Some (k + n)
     else false_row g w t v (k + n + length (exposed v.columns c 0 (root_of g w) t).leaves) gaps cs
 
 -- ---- what is put down

@@ -1,6 +1,6 @@
 use Rattle.std.proofs.Common.{◌≡◌, ◌∙◌, ◌<◌, List, length, get_or, map, refl, ap, arith}
 use Rattle.nested_predicates.specs.Positions.{Position, positions_of}
-use Rattle.nested_predicates.specs.Interpolants.{scoped_at}
+use Rattle.nested_predicates.specs.Interpolants.{interpolant_at}
 use Rattle.nested_predicates.specs.declared.spots.Spot.{Spot}
 use Rattle.nested_predicates.proofs.PredLaws.{formula_at, can_spell, spells_at, position_found, predicate_next, all_positions, spots_counted}
 use Rattle.nested_predicates.proofs.preds.predicates.Goals as goal
@@ -40,4 +40,4 @@ returns c = λ t h.
     let w = c.args.path.now.word in
     let n : length c.as_slice-spots.result.now ≡ length (positions_of g w) = spots_counted c.as_slice-spots.result.now (positions_of g w) (c.as_slice-spots.ensures.value ∙ c.requires.layout.spots) in
     c.loop-position.invariant t h ∙
-    ap (λ (qs : List Position). map (scoped_at g w t) qs) (all_positions (positions_of g w) c.loop-position.position (let k = c.loop-position-test.false in omega (arith, n, k)))
+    ap (λ (qs : List Position). map (interpolant_at g w t) qs) (all_positions (positions_of g w) c.loop-position.position (let k = c.loop-position-test.false in omega (arith, n, k)))
