@@ -8,6 +8,7 @@ ghost use Rattle.typed_tree.specs.Scope.{is_constant_column};
 use crate::texts::{put, put_no_memory};
 use boogie_tree::{Column, Op, Span, Text, Ty, VarInfo};
 use std::alloc::{AllocError, Global};
+use table_reading::value;
 use typed_tree::{
     Affine, AffineFault, Scope, TExpr, TExprKind, TypeFault, affine, expression_type,
 };
@@ -82,7 +83,7 @@ fn literal_of(word: &str) -> i128 {
     match word {
         "max" => i128::MAX,
         "min" => i128::MIN,
-        _ => word.parse::<i128>().unwrap_or(0),
+        _ => value(word),
     }
 }
 

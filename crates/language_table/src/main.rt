@@ -23,10 +23,11 @@ use crate::printing::{
 use crate::resolving::{show_resolved, show_typed};
 use crate::rules::{show_parts, show_rules};
 use crate::runs::show_run;
-use crate::texts::{first_word, number, put, put_no_memory, repeated};
+use crate::texts::{put, put_no_memory, repeated};
 use crate::walks::show_walk;
 use std::alloc::AllocError;
 use std::io::{self, Read};
+use table_reading::{first_word, number, push_line};
 
 fn main(rt: HostRuntime) -> io::Result<()> {
     let mut input = Vec::new(rt.alloc());
@@ -77,8 +78,7 @@ fn put_line(case: &mut Case, line: &str) -> Result<(), AllocError> {
         case.text.clear();
         case.asked = false;
     }
-    case.text.push_str(line)?;
-    case.text.push('\n')
+    push_line(&mut case.text, line)
 }
 
 fn answer(rt: &HostRuntime, question: &str, text: &str) {

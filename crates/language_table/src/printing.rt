@@ -1,10 +1,11 @@
 //! What is printed of programs, those that no text spells among them.
 
 use crate::parsing::parsed;
-use crate::texts::{bytes_of, number, put, put_bytes, put_no_memory, put_number};
+use crate::texts::{bytes_of, put, put_bytes, put_no_memory, put_number};
 use boogie_tree::{Decl, Expr, ExprKind, Guard, Name, Op, Program, Span, Stmt, Text, print};
 use std::alloc::{AllocError, Global};
 use std::mem;
+use table_reading::number;
 
 const HERE: Span = Span { line: 1, col: 1 };
 

@@ -1,9 +1,10 @@
 //! The rules of statements and programs, over typed trees that may break them.
 
 use crate::formulas::{column, column_of, literal, push_variables};
-use crate::texts::{first_word, number, put, put_no_memory, put_number};
+use crate::texts::{put, put_no_memory, put_number};
 use boogie_tree::{Column, Span, Text, VarInfo};
 use std::alloc::{AllocError, Global};
+use table_reading::{first_word, number, numbers};
 use typed_tree::{TExpr, TExprKind, TGuard, TProc, TStmt};
 use typing_rules::{Typed, check_typing, typed};
 
@@ -48,8 +49,7 @@ fn assertion(letter: &str) -> TStmt {
 
 /// A goto to a label, or to none.
 fn goto(alloc: Global, label: &str) -> Result<TStmt, AllocError> {
-    let labels = label.split_whitespace().map(number).collect(alloc)?;
-    Ok(TStmt::Goto(HERE, labels))
+    Ok(TStmt::Goto(HERE, numbers(alloc, label)?))
 }
 
 /// The statement of a word: A asserts a column, H chooses columns, S sets columns to 1, C calls a procedure with 1, B leaves loops, G and L are

@@ -5,7 +5,7 @@ ghost use Rattle.boogie_run.specs.RunView.{FitsProgram};
 use crate::resolving::resolved;
 use crate::texts::{put, put_no_memory};
 use boogie_run::{Choice, Config, Moved, Need, RunFault, needs, start, step};
-use std::alloc::{AllocError, Global};
+use table_reading::values;
 use typing_rules::Typed;
 
 fn show_outcome(rt: &HostRuntime, outcome: &Result<Moved, RunFault>) {
@@ -36,14 +36,6 @@ fn show_steps<'a>(rt: &HostRuntime, program: &'a Typed, begun: Config<'a>, choic
     put(rt, " goes on\n");
 }
 
-fn choice(word: &str) -> i128 {
-    word.parse::<i128>().unwrap_or(0)
-}
-
-fn choices(alloc: Global, words: &str) -> Result<Vec<i128>, AllocError> {
-    words.split_whitespace().map(choice).collect(alloc)
-}
-
 fn show_run_by(rt: &HostRuntime, program: &Typed, choices: &[i128]) {
     match start(rt.alloc(), program) {
         Ok(begun) => show_steps(rt, program, begun, choices),
@@ -52,7 +44,7 @@ fn show_run_by(rt: &HostRuntime, program: &Typed, choices: &[i128]) {
 }
 
 fn show_run_of(rt: &HostRuntime, program: &Typed, words: &str) {
-    match choices(rt.alloc(), words) {
+    match values(rt.alloc(), words) {
         Ok(choices) => show_run_by(rt, program, &choices),
         Err(_) => put_no_memory(rt),
     }

@@ -1,7 +1,7 @@
-//! The notation of texts, numbers in them, and how lines are printed. What cannot be read counts as 0, and what cannot be printed is left out: the answers are
-//! compared.
+//! The notation of texts, and how lines are printed. What cannot be read counts as 0, and what cannot be printed is left out: the answers are compared.
 
 use std::alloc::{AllocError, Global};
+use table_reading::parted;
 
 /// Prints a text as it is.
 pub(crate) fn put(rt: &HostRuntime, text: &str) {
@@ -21,15 +21,6 @@ pub(crate) fn put_bytes(rt: &HostRuntime, bytes: &[u8]) {
 /// What is answered where memory ran out.
 pub(crate) fn put_no_memory(rt: &HostRuntime) {
     put(rt, "no memory\n");
-}
-
-pub(crate) fn number(word: &str) -> u32 {
-    word.parse::<u32>().unwrap_or(0)
-}
-
-/// The first word of a text, and what stands behind it.
-pub(crate) fn first_word(text: &str) -> (&str, &str) {
-    text.split_once(' ').unwrap_or((text, ""))
 }
 
 fn push_copies(text: &mut String, part: &str, times: u32) -> Result<(), AllocError> {
@@ -61,7 +52,7 @@ fn push_escaped(bytes: &mut Vec<u8>, part: &str) -> Result<(), AllocError> {
 }
 
 fn push_bytes(bytes: &mut Vec<u8>, text: &str) -> Result<(), AllocError> {
-    let (first, rest) = text.split_once('~').unwrap_or((text, ""));
+    let (first, rest) = parted(text, "~");
     bytes.extend_from_slice(first.as_bytes())?;
     for part in rest.split('~') {
         if !part.is_empty() {

@@ -7,9 +7,10 @@ ghost use Rattle.boogie_points.specs.Room.{PointHasRoom};
 ghost use Rattle.boogie_points.specs.View.{point_of};
 
 use crate::resolving::resolved;
-use crate::texts::{first_word, number, put, put_no_memory, put_number};
+use crate::texts::{put, put_no_memory, put_number};
 use boogie_points::*;
 use boogie_tree::Column;
+use table_reading::{first_word, number};
 use typing_rules::Typed;
 
 /// A column behind what happens with it.

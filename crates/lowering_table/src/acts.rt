@@ -1,9 +1,9 @@
 //! Acts of letters as texts, written as they are printed.
 
-use crate::reading::{number, numbers, parted, three, two, value};
 use letter_acts::Act;
 use lin_rows::{Col, Row, RowFault, RowKind, row};
 use std::alloc::{AllocError, Global};
+use table_reading::{number, numbers, parted, three, two, value};
 
 /// The column and the coefficient of a term.
 fn term(text: &str) -> (Col, i128) {
@@ -49,6 +49,7 @@ fn read_inside(alloc: Global, head: &str, rows: Vec<Row>) -> Result<Act, RowFaul
             written,
             helpers,
             rows,
+            coarse: false,
         }),
         Err(_) => Err(RowFault::Memory),
     }
@@ -62,6 +63,7 @@ fn read_call(head: &str, rows: Vec<Row>) -> Act {
         callee,
         helpers,
         rows,
+        coarse: false,
     }
 }
 

@@ -38,6 +38,7 @@ pub(crate) fn show_act(rt: &HostRuntime, act: &Act) {
             written,
             helpers,
             rows,
+            ..
         } => {
             show_number(rt, "in ", *proc);
             show_number(rt, " +", *helpers);
@@ -50,6 +51,7 @@ pub(crate) fn show_act(rt: &HostRuntime, act: &Act) {
             callee,
             helpers,
             rows,
+            ..
         } => {
             show_number(rt, "call ", *caller);
             show_number(rt, " ", *callee);

@@ -13,7 +13,6 @@ mod parts;
 mod printing;
 mod programs;
 mod questions;
-mod reading;
 mod runs;
 mod stand_ins;
 mod tables;

@@ -3,12 +3,12 @@
 use crate::acts::read_act;
 use crate::graphs::show_whole;
 use crate::printing::{show_line, show_no_memory};
-use crate::reading::{number, numbered, parted, three, two};
 use boogie_tree::{Column, Text, Ty, VarInfo};
 use letter_acts::{Act, AssertId, Frame, Icfg, Site, icfg};
 use lin_rows::RowFault;
 use nwa_base::{Kind, Letter, Nwa, empty};
 use std::alloc::Global;
+use table_reading::{number, numbered, parted, three, two};
 
 /// The parts but for the automaton.
 #[derive(Drop)]

@@ -6,12 +6,12 @@ ghost use Rattle.boogie_parse.specs.PrintedTokens.{IsSpellableProgram};
 
 use crate::graphs::show_graph;
 use crate::printing::{end_line, show_line, show_no_memory, show_number};
-use crate::reading::{numbers, parted, values};
 use crate::runs::show_run;
 use boogie_parse::parse;
 use boogie_tree::{Program, Span};
 use boogie_types::resolve;
 use icfg_lower::{LowerFault, lower};
+use table_reading::{numbers, parted, values};
 use typing_rules::Typed;
 
 /// The most bytes of a program.

@@ -6,10 +6,10 @@ use crate::lists::{Asked, show_asked};
 use crate::parts::show_parts;
 use crate::printing::{show_line, show_no_memory};
 use crate::programs::resolved;
-use crate::reading::parted;
 use crate::tables::{show_letter, show_table};
 use icfg_lower::lower;
 use std::alloc::{AllocError, Global};
+use table_reading::parted;
 use typing_rules::Typed;
 
 /// What is asked.

@@ -3,7 +3,6 @@
 ghost use Rattle.std.specs.Prelude.{◌≡◌, length, IsTrue, IfOk};
 ghost use Rattle.std.specs.List.{AllByRecursion};
 ghost use Rattle.math_facts.specs.Fits.{Fits};
-ghost use Rattle.math_facts.specs.Terms.{IsBelow};
 ghost use Rattle.lin_rows.specs.Rows.{Holds};
 ghost use Rattle.lin_rows.specs.Points.{point_of};
 ghost use Rattle.typing_rules.specs.TypedParts.{typed_program};
@@ -14,7 +13,7 @@ ghost use Rattle.path_rows.specs.Paths.{path_of};
 use crate::printing::{end_line, show_line, show_number, show_value};
 use icfg_lower::lower;
 use letter_acts::{Act, Icfg};
-use lin_rows::{Col, Row, holds};
+use lin_rows::all_hold;
 use nwa_base::{Kind, Letter, Word, accepts, word};
 use path_rows::rows_of;
 use std::alloc::{AllocError, Global};
@@ -51,38 +50,6 @@ fn spelled(alloc: Global, acts: &[Act], ids: &[u32]) -> Result<Option<Word>, All
     let mut letters = Vec::new(alloc);
     push_letters(&mut letters, acts, ids)?;
     Ok(word(letters))
-}
-
-/// Whether the terms are over so many columns.
-fn are_below(terms: &[(Col, i128)], columns: usize) -> bool
-    ensures { IsTrue result → IsBelow columns terms.now }
-{
-    for term in terms {
-        if term.0 as usize >= columns {
-            return false;
-        }
-    }
-    true
-}
-
-fn is_met(row: &Row, point: &[i128]) -> bool
-    ensures { IsTrue result → Holds (point_of point.now) row.now }
-{
-    if !are_below(row.terms(), point.len()) {
-        return false;
-    }
-    holds(row, point).unwrap_or(false)
-}
-
-fn are_met(rows: &[Row], point: &[i128]) -> bool
-    ensures { IsTrue result → AllByRecursion (Holds (point_of point.now)) rows.now }
-{
-    for row in rows {
-        if !is_met(row, point) {
-            return false;
-        }
-    }
-    true
 }
 
 fn all_fit(point: &[i128]) -> bool
@@ -133,7 +100,7 @@ fn is_solved(alloc: Global, graph: &Icfg, word: &Word, point: &[i128]) -> Result
     if path.column_at().len() != point.len() {
         return Ok(false);
     }
-    Ok(are_met(&path.system().rows, point))
+    Ok(all_hold(&path.system().rows, point))
 }
 
 /// The run that the point tells, or the step at which a value of it does not fit.

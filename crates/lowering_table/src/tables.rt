@@ -3,12 +3,12 @@
 use crate::acts::read_act;
 use crate::graphs::{show_act, show_acts};
 use crate::printing::{end_line, show_line, show_no_memory, show_number};
-use crate::reading::{numbered, numbers, parted, three, two};
 use letter_acts::Act;
 use letter_table::{CallEdges, CallStep, InsideStep, Lettered, Table};
 use lin_rows::RowFault;
 use nwa_base::Letter;
 use std::alloc::Global;
+use table_reading::{numbered, numbers, parted, three, two};
 
 fn show_copied(rt: &HostRuntime, act: &Act) {
     match act.copy() {
@@ -63,12 +63,14 @@ fn add_step(alloc: Global, table: &mut Table, places: &str, act: Act) -> Result<
             written,
             helpers,
             rows,
+            coarse,
         } => {
             let step = InsideStep {
                 proc,
                 written,
                 helpers,
                 rows,
+                coarse,
             };
             add_inside(table, places, step)
         }
@@ -77,12 +79,14 @@ fn add_step(alloc: Global, table: &mut Table, places: &str, act: Act) -> Result<
             callee,
             helpers,
             rows,
+            coarse,
         } => {
             let step = CallStep {
                 caller,
                 callee,
                 helpers,
                 rows,
+                coarse,
             };
             add_call(alloc, table, places, step)
         }
