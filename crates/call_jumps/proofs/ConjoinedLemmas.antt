@@ -8,7 +8,7 @@ use Rattle.typed_tree.specs.TypedTree.{TypedExpression}
 use Rattle.typed_tree.specs.TypedView.{expression}
 use Rattle.typed_tree.specs.declared.types.TExpr.{TExpr}
 use Rattle.cond_jumps.specs.declared.fault.JumpFault.{JumpFault}
-use Rattle.cond_jumps.specs.Conjunctions.{Conjunction, Jumps, joined, each_with, listed, is_long, is_wide, list_fits, all_fit}
+use Rattle.cond_jumps.specs.Conjunctions.{Conjunction, Jumps, joined, each_with, listed_plan, is_long, is_wide, list_fits, all_fit}
 use Rattle.cond_jumps.specs.Environments.{Environment}
 use Rattle.cond_jumps.specs.Moving.{moved, IsEven, IsEvenPlan, IsEvenEnvironment}
 use Rattle.cond_jumps.specs.Paths.{paths}
@@ -36,19 +36,19 @@ each_length n (c ∷ cs) b h =
     omega (arith, a, d, e, f)
 
 -- one more condition in front
-members_are : (n : ℕ) (v : Environment) → IsEvenEnvironment n v → (e : TypedExpression) (es : List TypedExpression) (one all : ℕ) → one ≡ length (listed (paths v false e true) n) →
-    all ≡ length (listed (conjoined v es) n) → length (listed (conjoined v (e ∷ es)) n) ≡ one * all
+members_are : (n : ℕ) (v : Environment) → IsEvenEnvironment n v → (e : TypedExpression) (es : List TypedExpression) (one all : ℕ) → one ≡ length (listed_plan (paths v false e true) n) →
+    all ≡ length (listed_plan (conjoined v es) n) → length (listed_plan (conjoined v (e ∷ es)) n) ≡ one * all
 members_are n v h e es one all i j =
-    each_length n (listed (paths v false e true) n) (listed (conjoined v es)) (listed_even n (conjoined v es) (conjoined_even n v h es)) ∙ (λ k. sym i k * sym j k)
+    each_length n (listed_plan (paths v false e true) n) (listed_plan (conjoined v es)) (listed_even n (conjoined v es) (conjoined_even n v h es)) ∙ (λ k. sym i k * sym j k)
 
 pub more_members : (n : ℕ) (v : Environment) → IsEvenEnvironment n v → (e : TypedExpression) (es : List TypedExpression) (one all both : ℕ) →
-    is_wide (paths v false e true) n ≡ false → one ≡ length (listed (paths v false e true) n) → HasMembers (conjoined v es) n all → (both ≡ one * all) × (both ≤ 4096) →
+    is_wide (paths v false e true) n ≡ false → one ≡ length (listed_plan (paths v false e true) n) → HasMembers (conjoined v es) n all → (both ≡ one * all) × (both ≤ 4096) →
     HasMembers (conjoined v (e ∷ es)) n both
 more_members n v h e es one all both w i k b =
     let m = members_are n v h e es one all i k.count in
-    let l : length (listed (conjoined v (e ∷ es)) n) ≤ 4096 = omega (arith, m, b) in
+    let l : length (listed_plan (conjoined v (e ∷ es)) n) ≤ 4096 = omega (arith, m, b) in
     record {
-      narrow = λ j. not_long (listed (conjoined v (e ∷ es)) n) l j || (w j || k.narrow j);
+      narrow = λ j. not_long (listed_plan (conjoined v (e ∷ es)) n) l j || (w j || k.narrow j);
       count = b.0 ∙ sym m;
     }
   where
@@ -59,11 +59,11 @@ pub no_members : (n : ℕ) (v : Environment) → HasMembers (conjoined v []) n 1
 no_members n v = record { narrow = refl; count = refl }
 
 pub too_many : (n : ℕ) (v : Environment) → IsEvenEnvironment n v → (e : TypedExpression) (es : List TypedExpression) (one all : ℕ) →
-    one ≡ length (listed (paths v false e true) n) → HasMembers (conjoined v es) n all → 4096 < one * all → is_wide (conjoined v (e ∷ es)) n ≡ true
+    one ≡ length (listed_plan (paths v false e true) n) → HasMembers (conjoined v es) n all → 4096 < one * all → is_wide (conjoined v (e ∷ es)) n ≡ true
 too_many n v h e es one all i k l =
     let m = members_are n v h e es one all i k.count in
-    let g : 4096 < length (listed (conjoined v (e ∷ es)) n) = omega (arith, m) in
-    λ j. lt-ltb 4096 (length (listed (conjoined v (e ∷ es)) n)) g j || (is_wide (paths v false e true) n || is_wide (conjoined v es) n)
+    let g : 4096 < length (listed_plan (conjoined v (e ∷ es)) n) = omega (arith, m) in
+    λ j. lt-ltb 4096 (length (listed_plan (conjoined v (e ∷ es)) n)) g j || (is_wide (paths v false e true) n || is_wide (conjoined v es) n)
 
 -- ---- a part of the conditions
 
@@ -80,10 +80,10 @@ pub wide_part : (n : ℕ) (v : Environment) (place : ℕ) (es : List TypedExpres
 wide_part n v zero es h = h
 wide_part n v (suc place) [] h = h
 wide_part n v (suc place) (e ∷ es) h =
-    second_wide (is_long (listed (conjoined v (e ∷ es)) n)) (is_wide (paths v false e true) n) (is_wide (conjoined v es) n) (wide_part n v place es h)
+    second_wide (is_long (listed_plan (conjoined v (e ∷ es)) n)) (is_wide (paths v false e true) n) (is_wide (conjoined v es) n) (wide_part n v place es h)
 
 pub wide_first : (n : ℕ) (v : Environment) (e : TypedExpression) (es : List TypedExpression) → is_wide (paths v false e true) n ≡ true → is_wide (conjoined v (e ∷ es)) n ≡ true
-wide_first n v e es h = first_wide (is_long (listed (conjoined v (e ∷ es)) n)) (is_wide (paths v false e true) n) (is_wide (conjoined v es) n) h
+wide_first n v e es h = first_wide (is_long (listed_plan (conjoined v (e ∷ es)) n)) (is_wide (paths v false e true) n) (is_wide (conjoined v es) n) h
 
 second_unfit : (x a b : Bool) → b ≡ false → (x && (a && b)) ≡ false
 second_unfit true true b h = h
@@ -98,10 +98,10 @@ pub unfit_part : (n : ℕ) (v : Environment) (place : ℕ) (es : List TypedExpre
 unfit_part n v zero es h = h
 unfit_part n v (suc place) [] h = h
 unfit_part n v (suc place) (e ∷ es) h =
-    second_unfit (list_fits (listed (conjoined v (e ∷ es)) n)) (all_fit (paths v false e true) n) (all_fit (conjoined v es) n) (unfit_part n v place es h)
+    second_unfit (list_fits (listed_plan (conjoined v (e ∷ es)) n)) (all_fit (paths v false e true) n) (all_fit (conjoined v es) n) (unfit_part n v place es h)
 
 pub unfit_first : (n : ℕ) (v : Environment) (e : TypedExpression) (es : List TypedExpression) → all_fit (paths v false e true) n ≡ false → all_fit (conjoined v (e ∷ es)) n ≡ false
-unfit_first n v e es h = first_unfit (list_fits (listed (conjoined v (e ∷ es)) n)) (all_fit (paths v false e true) n) (all_fit (conjoined v es) n) h
+unfit_first n v e es h = first_unfit (list_fits (listed_plan (conjoined v (e ∷ es)) n)) (all_fit (paths v false e true) n) (all_fit (conjoined v es) n) h
 
 -- ---- places of conditions
 

@@ -11,10 +11,10 @@ use Rattle.boogie_tree.specs.declared.tree.Column.TheVariants as columns
 use Rattle.boogie_tree.specs.declared.tree.VarInfo.{VarInfo}
 use Rattle.typed_tree.specs.TypedTree.{TypedExpression, TypedInvariant, TypedProcedure}
 use Rattle.letter_acts.specs.Frames.{Columns}
-use Rattle.cond_jumps.specs.Conjunctions.{joined, With, listed}
+use Rattle.cond_jumps.specs.Conjunctions.{joined, With, listed_plan}
 use Rattle.cond_jumps.specs.Environments.{Environment}
 use Rattle.cond_jumps.specs.Frames.{frame_environment}
-use Rattle.cond_jumps.specs.Passing.{Numbered, standing_type, standing_sum, standing_plan, standing_environment, left_in, locals_of, imported}
+use Rattle.cond_jumps.specs.Passing.{Numbered, standing_type, standing_sum, standing_plan, standing_environment, left_in, passed_locals, imported}
 use Rattle.boogie_points.specs.Actions.{ensured_conditions}
 use Rattle.lowered_steps.specs.Edges.{those_in, those_not_in, found_from, import_written, typed_column, left_if, left_at, found_or_0, results_at, all_hold, import_environment, import_list}
 use Rattle.letter_acts.specs.Reading.{is_listed}
@@ -124,8 +124,8 @@ result_stands w u h frame (r ∷ rs) b zero = numbered_stands w u h r.0 r.1 b.0
 result_stands w u h frame (r ∷ rs) b (suc n) = result_stands w u h frame rs b.1 n
 
 local_stands : (w : ℕ) (u : Environment) → IsNumbered w u → (frame : Columns) → length frame ≤ w → (args : List TypedExpression) (rs : List (ℕ × Ty)) → AreBelow w rs → (n : ℕ) →
-    StandsFor u (standing_sum (frame_environment frame) (slice_get (locals_of args rs) n)) (standing_plan (frame_environment frame) (slice_get (locals_of args rs) n))
-    (standing_type (frame_environment frame) (slice_get (locals_of args rs) n)) (or_nothing (slice_get (map (argument_stand frame) args ++ map result_stand rs) n))
+    StandsFor u (standing_sum (frame_environment frame) (slice_get (passed_locals args rs) n)) (standing_plan (frame_environment frame) (slice_get (passed_locals args rs) n))
+    (standing_type (frame_environment frame) (slice_get (passed_locals args rs) n)) (or_nothing (slice_get (map (argument_stand frame) args ++ map result_stand rs) n))
 local_stands w u h frame l [] rs b n = result_stands w u h frame rs b n
 local_stands w u h frame l (e ∷ es) rs b zero = argument_stands w u h frame l e
 local_stands w u h frame l (e ∷ es) rs b (suc n) = local_stands w u h frame l es rs b n
@@ -164,6 +164,6 @@ import_plan_is frame globals q args targets =
 -- the list behind its helpers
 pub import_list_is : (frame : Columns) (globals : List VarInfo) (q : TypedProcedure) (args : List TypedExpression) (targets : List ℕ) →
     import_list frame globals q args targets ≡
-    map (joined (record { rows = []; helpers = length (those_in targets q.modifies) })) (listed (import_plan frame globals q args targets) (import_base frame q targets))
+    map (joined (record { rows = []; helpers = length (those_in targets q.modifies) })) (listed_plan (import_plan frame globals q args targets) (import_base frame q targets))
 import_list_is frame globals q args targets =
-    append-nil (map (joined (record { rows = []; helpers = length (those_in targets q.modifies) })) (listed (import_plan frame globals q args targets) (import_base frame q targets)))
+    append-nil (map (joined (record { rows = []; helpers = length (those_in targets q.modifies) })) (listed_plan (import_plan frame globals q args targets) (import_base frame q targets)))

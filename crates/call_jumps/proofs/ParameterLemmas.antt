@@ -10,10 +10,10 @@ use Rattle.typed_tree.specs.TypedTree.{TypedExpression, Lit, Truth, Var, Old, No
 use Rattle.typed_tree.specs.TypedView.{expression}
 use Rattle.typed_tree.specs.declared.types.TExpr.{TExpr}
 use Rattle.typed_tree.specs.AffineForm.{fits}
-use Rattle.cond_jumps.specs.Conjunctions.{Conjunction, joined, Plan, Just, Then, With, listed, is_long, is_wide, row_fits, list_fits, all_fit}
+use Rattle.cond_jumps.specs.Conjunctions.{Conjunction, joined, Plan, Just, Then, With, listed_plan, is_long, is_wide, row_fits, list_fits, all_fit}
 use Rattle.cond_jumps.specs.Comparisons.{compared, equal}
 use Rattle.cond_jumps.specs.Environments.{Environment}
-use Rattle.cond_jumps.specs.Forms.{number, column, minus, after}
+use Rattle.cond_jumps.specs.Forms.{linear_number, column, linear_minus, after}
 use Rattle.cond_jumps.specs.Moving.{moved_terms, moved_row, moved, IsEvenSum, IsEvenPlan, IsEvenEnvironment}
 use Rattle.cond_jumps.specs.Paths.{linear}
 use Rattle.cond_jumps.proofs.EvenLemmas.{listed_even, equal_even, linear_even}
@@ -29,7 +29,7 @@ whole_sum v (Lit at n) = refl
 whole_sum v (Truth at b) = refl
 whole_sum v (Var at c) = refl
 whole_sum v (Old at e) = refl
-whole_sum v (Not at e) = ap (minus (number (pos 1))) (whole_sum v e)
+whole_sum v (Not at e) = ap (linear_minus (linear_number (pos 1))) (whole_sum v e)
 whole_sum v (Neg at e) = refl
 whole_sum v (Bin at op a b) = refl
 
@@ -50,7 +50,7 @@ record IsSingle (cs : List Conjunction) : Type 0 where
   member : Conjunction
   only : cs ≡ member ∷ []
 
-get_single : (v : Environment) (j : ℕ) (es : List TypedExpression) (n : ℕ) → IsSingle (listed (parameters_get v j es) n)
+get_single : (v : Environment) (j : ℕ) (es : List TypedExpression) (n : ℕ) → IsSingle (listed_plan (parameters_get v j es) n)
 get_single v j [] n = record { member = record { rows = []; helpers = 0 }; only = refl }
 get_single v j (e ∷ es) n =
     let k : Conjunction = one_get v j e n in
@@ -63,7 +63,7 @@ short x y z cs h k l = λ i. is_long (h.only i) || (k i || l i)
 pub get_narrow : (v : Environment) (j : ℕ) (es : List TypedExpression) (n : ℕ) → is_wide (parameters_get v j es) n ≡ false
 get_narrow v j [] n = refl
 get_narrow v j (e ∷ es) n =
-    short false false (is_wide (parameters_get v (suc j) es) n) (listed (parameters_get v j (e ∷ es)) n) (get_single v j (e ∷ es) n) refl (get_narrow v (suc j) es n)
+    short false false (is_wide (parameters_get v (suc j) es) n) (listed_plan (parameters_get v j (e ∷ es)) n) (get_single v j (e ∷ es) n) refl (get_narrow v (suc j) es n)
 
 -- ---- rows that fit
 
@@ -108,20 +108,20 @@ get_even w v h j (e ∷ es) l =
     (equal_even w (column j) (argument_sum v e) (column_even w j (omega arith)) (argument_even w v h e), get_even w v h (suc j) es (omega arith))
 
 -- where the list fits, each part does
-pub get_fits : (w : ℕ) (v : Environment) → IsEvenEnvironment w v → (j : ℕ) (es : List TypedExpression) → j + length es ≤ w → list_fits (listed (parameters_get v j es) w) ≡ true →
+pub get_fits : (w : ℕ) (v : Environment) → IsEvenEnvironment w v → (j : ℕ) (es : List TypedExpression) → j + length es ≤ w → list_fits (listed_plan (parameters_get v j es) w) ≡ true →
     all_fit (parameters_get v j es) w ≡ true
 get_fits w v h j [] l f = f
 get_fits w v h j (e ∷ es) l f =
     let k : Conjunction = one_get v j e w in
     let rest : Plan = parameters_get v (suc j) es in
     let m : suc j + length es ≤ w = omega arith in
-    let p = joined_parts k (listed rest (w + k.helpers)) (get_single v (suc j) es (w + k.helpers)) f in
-    let q : listed rest (w + k.helpers) ≡ map (moved w k.helpers) (listed rest w) = listed_even w rest (get_even w v h (suc j) es m) w k.helpers (omega arith) in
-    let r : list_fits (listed rest w) ≡ true = sym (moved_list_fits w k.helpers (listed rest w)) ∙ sym (ap list_fits q) ∙ p.1 in
-    both_true (list_fits (listed (parameters_get v j (e ∷ es)) w)) (list_fits (k ∷ []) && all_fit rest w) f
+    let p = joined_parts k (listed_plan rest (w + k.helpers)) (get_single v (suc j) es (w + k.helpers)) f in
+    let q : listed_plan rest (w + k.helpers) ≡ map (moved w k.helpers) (listed_plan rest w) = listed_even w rest (get_even w v h (suc j) es m) w k.helpers (omega arith) in
+    let r : list_fits (listed_plan rest w) ≡ true = sym (moved_list_fits w k.helpers (listed_plan rest w)) ∙ sym (ap list_fits q) ∙ p.1 in
+    both_true (list_fits (listed_plan (parameters_get v j (e ∷ es)) w)) (list_fits (k ∷ []) && all_fit rest w) f
     (both_true (list_fits (k ∷ [])) (all_fit rest w) (and_true (list_all row_fits k.rows) ∙ p.0) (get_fits w v h (suc j) es m r))
 
-pub unfit : (p : Plan) (n : ℕ) → list_fits (listed p n) ≡ false → all_fit p n ≡ false
+pub unfit : (p : Plan) (n : ℕ) → list_fits (listed_plan p n) ≡ false → all_fit p n ≡ false
 unfit (Just a) n h = h
 unfit (Then a b) n h = λ j. h j && (all_fit a n && all_fit b n)
 unfit (With a b) n h = λ j. h j && (all_fit a n && all_fit b n)
@@ -141,7 +141,7 @@ none_yet v first base args =
     let e : base + 0 ≡ base = omega arith in
     let f : first + 0 ≡ first = omega arith in
     record {
-      seen = sym ((λ j. map (joined empty) (listed (parameters_get v (f j) args) (e j))) ∙ unchanged (listed (parameters_get v first args) base));
+      seen = sym ((λ j. map (joined empty) (listed_plan (parameters_get v (f j) args) (e j))) ∙ unchanged (listed_plan (parameters_get v first args) base));
       fit = refl;
     }
   where
@@ -153,17 +153,17 @@ none_yet v first base args =
 
 -- the list where one more argument is known
 pub with_next : (v : Environment) (first base : ℕ) (args : List TypedExpression) (place : ℕ) (c : Conjunction) (e : TypedExpression) → drop place args ≡ e ∷ drop (place + 1) args →
-    AreSoFar v first base args place c → listed (parameters_get v first args) base ≡
-    map (joined (joined c (one_get v (first + place) e (base + c.helpers)))) (listed (parameters_get v (first + (place + 1)) (drop (place + 1) args)) (base + (c.helpers + (one_get v (first + place) e (base + c.helpers)).helpers)))
+    AreSoFar v first base args place c → listed_plan (parameters_get v first args) base ≡
+    map (joined (joined c (one_get v (first + place) e (base + c.helpers)))) (listed_plan (parameters_get v (first + (place + 1)) (drop (place + 1) args)) (base + (c.helpers + (one_get v (first + place) e (base + c.helpers)).helpers)))
 with_next v first base args place c e d h =
     let k : Conjunction = one_get v (first + place) e (base + c.helpers) in
     let es : List TypedExpression = drop (place + 1) args in
     let f : suc (first + place) ≡ first + (place + 1) = omega arith in
     let g : base + c.helpers + k.helpers ≡ base + (c.helpers + k.helpers) = omega arith in
     h.seen
-    ∙ (λ j. map (joined c) (listed (parameters_get v (first + place) (d j)) (base + c.helpers)))
-    ∙ map_joined c k (listed (parameters_get v (suc (first + place)) es) (base + c.helpers + k.helpers))
-    ∙ (λ j. map (joined (joined c k)) (listed (parameters_get v (f j) es) (g j)))
+    ∙ (λ j. map (joined c) (listed_plan (parameters_get v (first + place) (d j)) (base + c.helpers)))
+    ∙ map_joined c k (listed_plan (parameters_get v (suc (first + place)) es) (base + c.helpers + k.helpers))
+    ∙ (λ j. map (joined (joined c k)) (listed_plan (parameters_get v (f j) es) (g j)))
 
 pub one_more : (v : Environment) (first base : ℕ) (args : List TypedExpression) (place : ℕ) (c k both : Conjunction) (e : TypedExpression) → drop place args ≡ e ∷ drop (place + 1) args →
     AreSoFar v first base args place c → k ∷ [] ≡ compared equal (column (first + place)) (argument_sum v e) (base + c.helpers) →
@@ -184,7 +184,7 @@ next_unfit v first base args place c e d h f =
     let k : Conjunction = one_get v (first + place) e (base + c.helpers) in
     let rest = get_single v (first + (place + 1)) (drop (place + 1) args) (base + (c.helpers + k.helpers)) in
     let m : Conjunction = rest.member in
-    let s : listed (parameters_get v first args) base ≡ joined (joined c k) m ∷ [] = with_next v first base args place c e d h ∙ (λ j. map (joined (joined c k)) (rest.only j)) in
+    let s : listed_plan (parameters_get v first args) base ≡ joined (joined c k) m ∷ [] = with_next v first base args place c e d h ∙ (λ j. map (joined (joined c k)) (rest.only j)) in
     let g : list_all row_fits k.rows ≡ false = sym (and_true (list_all row_fits k.rows)) ∙ f in
     let a : list_all row_fits (c.rows ++ k.rows) ≡ false = list_all-append row_fits c.rows k.rows ∙ second (list_all row_fits c.rows) (list_all row_fits k.rows) g in
     let b : list_all row_fits ((c.rows ++ k.rows) ++ m.rows) ≡ false = list_all-append row_fits (c.rows ++ k.rows) m.rows ∙ (λ j. a j && list_all row_fits m.rows) in
@@ -196,10 +196,10 @@ next_unfit v first base args place c e d h f =
 
 -- all arguments
 pub all_there : (v : Environment) (first base : ℕ) (args : List TypedExpression) (place : ℕ) (c : Conjunction) → drop place args ≡ [] → AreSoFar v first base args place c →
-    c ∷ [] ≡ listed (parameters_get v first args) base
+    c ∷ [] ≡ listed_plan (parameters_get v first args) base
 all_there v first base args place c d h =
     let e : c.helpers + 0 ≡ c.helpers = omega arith in
-    sym (h.seen ∙ (λ j. map (joined c) (listed (parameters_get v (first + place) (d j)) (base + c.helpers))) ∙ (λ j. record { rows = append-nil c.rows j; helpers = e j } ∷ []))
+    sym (h.seen ∙ (λ j. map (joined c) (listed_plan (parameters_get v (first + place) (d j)) (base + c.helpers))) ∙ (λ j. record { rows = append-nil c.rows j; helpers = e j } ∷ []))
 
 pub all_fit_there : (w : ℕ) (v : Environment) → IsEvenEnvironment w v → (first : ℕ) (args : List TypedExpression) (place : ℕ) (c : Conjunction) → first + length args ≤ w →
     drop place args ≡ [] → AreSoFar v first w args place c → all_fit (parameters_get v first args) w ≡ true
@@ -208,18 +208,18 @@ all_fit_there w v h first args place c l d s =
 
 -- ---- as the code has them
 
-pub one_more_at : (v : Environment) (first base number next : ℕ) (args : List TypedExpression) (place : ℕ) (c k both : Conjunction) (e : TypedExpression) →
-    drop place args ≡ e ∷ drop (place + 1) args → AreSoFar v first base args place c → number ≡ first + place → next ≡ base + c.helpers →
-    k ∷ [] ≡ compared equal (column number) (argument_sum v e) next → list_fits (compared equal (column number) (argument_sum v e) next) ≡ true → both ≡ joined c k →
+pub one_more_at : (v : Environment) (first base linear_number next : ℕ) (args : List TypedExpression) (place : ℕ) (c k both : Conjunction) (e : TypedExpression) →
+    drop place args ≡ e ∷ drop (place + 1) args → AreSoFar v first base args place c → linear_number ≡ first + place → next ≡ base + c.helpers →
+    k ∷ [] ≡ compared equal (column linear_number) (argument_sum v e) next → list_fits (compared equal (column linear_number) (argument_sum v e) next) ≡ true → both ≡ joined c k →
     AreSoFar v first base args (place + 1) both
-one_more_at v first base number next args place c k both e d h m n i f b =
+one_more_at v first base linear_number next args place c k both e d h m n i f b =
     one_more v first base args place c k both e d h (i ∙ (λ j. compared equal (column (m j)) (argument_sum v e) (n j)))
     ((λ j. list_fits (compared equal (column (sym m j)) (argument_sum v e) (sym n j))) ∙ f) b
 
-pub next_unfit_at : (v : Environment) (first base number next : ℕ) (args : List TypedExpression) (place : ℕ) (c : Conjunction) (e : TypedExpression) →
-    drop place args ≡ e ∷ drop (place + 1) args → AreSoFar v first base args place c → number ≡ first + place → next ≡ base + c.helpers →
-    list_fits (compared equal (column number) (argument_sum v e) next) ≡ false → all_fit (parameters_get v first args) base ≡ false
-next_unfit_at v first base number next args place c e d h m n f =
+pub next_unfit_at : (v : Environment) (first base linear_number next : ℕ) (args : List TypedExpression) (place : ℕ) (c : Conjunction) (e : TypedExpression) →
+    drop place args ≡ e ∷ drop (place + 1) args → AreSoFar v first base args place c → linear_number ≡ first + place → next ≡ base + c.helpers →
+    list_fits (compared equal (column linear_number) (argument_sum v e) next) ≡ false → all_fit (parameters_get v first args) base ≡ false
+next_unfit_at v first base linear_number next args place c e d h m n f =
     next_unfit v first base args place c e d h ((λ j. list_fits (compared equal (column (sym m j)) (argument_sum v e) (sym n j))) ∙ f)
 
 drop_mapped : (place : ℕ) (xs : List TExpr) → drop place (map expression xs) ≡ map expression (drop place xs)

@@ -11,11 +11,11 @@ use Rattle.boogie_tree.specs.declared.tree.VarInfo.{VarInfo}
 use Rattle.typed_tree.specs.TypedTree.{TypedExpression}
 use Rattle.letter_acts.specs.Frames.{Columns}
 use Rattle.cond_jumps.specs.Conjunctions.{Just}
-use Rattle.cond_jumps.specs.Forms.{Linears, number, column}
-use Rattle.cond_jumps.specs.Comparisons.{never, named}
+use Rattle.cond_jumps.specs.Forms.{Linears, linear_number, column}
+use Rattle.cond_jumps.specs.Comparisons.{no_jumps, truth_of_column}
 use Rattle.cond_jumps.specs.Environments.{Environment, type_in}
 use Rattle.cond_jumps.specs.Paths.{linear, paths}
-use Rattle.cond_jumps.specs.Frames.{same_column, place_from, or_else, place, sum_at, plan_at, frame_environment}
+use Rattle.cond_jumps.specs.Frames.{same_frame_column, place_from, or_else, column_place_in, linear_at, plan_at, frame_environment}
 use Rattle.cond_jumps.specs.Lists.{path_plan}
 use Rattle.cond_jumps.specs.Passing.{Passed, standing_type, standing_sum, standing_plan, standing_environment, passed}
 use Rattle.cond_jumps.proofs.EvenLemmas.{place_inside}
@@ -42,7 +42,7 @@ place_snoc : (n : ℕ) (ds : Columns) (d : Column × VarInfo) (c : Column) → p
 place_snoc n [] d c =
     let e : n ≡ n + 0 = omega arith in
     λ j. place_from (e j) (d ∷ []) c
-place_snoc n (x ∷ ds) d c = by_test (same_column x.0 c) (place_snoc (suc n) ds d c)
+place_snoc n (x ∷ ds) d c = by_test (same_frame_column x.0 c) (place_snoc (suc n) ds d c)
   where
     by_test : (b : Bool) → place_from (suc n) (ds ++ d ∷ []) c ≡ or_else (place_from (suc n) ds c) (place_from (suc n + length ds) (d ∷ []) c) →
         (if b then Some (n, x.1) else place_from (suc n) (ds ++ d ∷ []) c) ≡ or_else (if b then Some (n, x.1) else place_from (suc n) ds c) (place_from (n + suc (length ds)) (d ∷ []) c)
@@ -64,7 +64,7 @@ not_placed (suc w) i l =
     let e : nat_eq w i ≡ false = grind (arith, nat_tests) in
     last_place w i ∙ (λ j. or_else (not_placed w i (omega arith) j) (if e j then Some (w, plain) else None))
 
-pub numbered_place : (w i : ℕ) → i < w → place (numbered_columns w) (columns.Local i) ≡ Some (i, plain)
+pub numbered_place : (w i : ℕ) → i < w → column_place_in (numbered_columns w) (columns.Local i) ≡ Some (i, plain)
 numbered_place zero i l = absurd (omega arith)
 numbered_place (suc w) i l = by_test (nat_eq w i) refl (λ k. numbered_place w i k)
   where
@@ -80,7 +80,7 @@ numbered_place (suc w) i l = by_test (nat_eq w i) refl (λ k. numbered_place w i
 pub numbered_is : (w : ℕ) → IsNumbered w (frame_environment (numbered_columns w))
 numbered_is w =
     record {
-      sums = λ i l. ap sum_at (numbered_place w i l);
+      sums = λ i l. ap linear_at (numbered_place w i l);
       plans = λ i l want. λ j. plan_at (numbered_place w i l j) want;
     }
 
@@ -89,18 +89,18 @@ numbered_is w =
 same_at : (u : Environment) (e : TypedExpression) (a : Linears) → linear u false e ≡ a → (n : ℕ) → IsSame (linear u false e n) (a n)
 same_at u e a h n = subst (λ (b : Linears). IsSame (linear u false e n) (b n)) h (same (linear u false e n))
 
-pub nothing_stands : (u : Environment) → StandsFor u (number (pos 0)) (λ want. Just never) None nothing
-nothing_stands u = record { sum_is = λ n. same (number (pos 0) n); plan_is = λ want. refl; type_is = refl }
+pub nothing_stands : (u : Environment) → StandsFor u (linear_number (pos 0)) (λ want. Just no_jumps) None nothing
+nothing_stands u = record { sum_is = λ n. same (linear_number (pos 0) n); plan_is = λ want. refl; type_is = refl }
 
-pub numbered_stands : (w : ℕ) (u : Environment) → IsNumbered w u → (i : ℕ) (t : Ty) → i < w → StandsFor u (column i) (λ want. Just (named i want)) (Some t) (numbered i t)
+pub numbered_stands : (w : ℕ) (u : Environment) → IsNumbered w u → (i : ℕ) (t : Ty) → i < w → StandsFor u (column i) (λ want. Just (truth_of_column i want)) (Some t) (numbered i t)
 numbered_stands w u h i t l = record { sum_is = same_at u (numbered i t).expression (column i) (h.sums i l); plan_is = h.plans i l; type_is = refl }
 
 -- the column at a place
 pub placed_stands : (w : ℕ) (u : Environment) → IsNumbered w u → (frame : Columns) → length frame ≤ w → (c : Column) →
-    StandsFor u ((frame_environment frame).sum c) ((frame_environment frame).plan c) ((frame_environment frame).type c) (place_stand (place frame c))
-placed_stands w u h frame l c = by_place (place frame c) refl
+    StandsFor u ((frame_environment frame).sum c) ((frame_environment frame).plan c) ((frame_environment frame).type c) (place_stand (column_place_in frame c))
+placed_stands w u h frame l c = by_place (column_place_in frame c) refl
   where
-    by_place : (o : Option (ℕ × VarInfo)) → place frame c ≡ o → StandsFor u (sum_at o) (plan_at o) (option_map (λ x. x.1.ty) o) (place_stand o)
+    by_place : (o : Option (ℕ × VarInfo)) → column_place_in frame c ≡ o → StandsFor u (linear_at o) (plan_at o) (option_map (λ x. x.1.ty) o) (place_stand o)
     by_place None e = nothing_stands u
     by_place (Some x) e = let i : x.0 < length frame = place_inside frame c x e in numbered_stands w u h x.0 x.1.ty (omega arith)
 

@@ -8,8 +8,8 @@ use Rattle.lin_rows.specs.declared.types.RowKind.TheVariants.{Le, Eq}
 use Rattle.lin_rows.specs.Rows.{LinearRow}
 use Rattle.lin_rows.specs.Sums.{row_of, summed}
 use Rattle.lin_rows.proofs.SummedLaws.{coefficient-summed, AscendsFrom-summed, HasNoZero-summed, summed_from_coefficients}
-use Rattle.cond_jumps.specs.Forms.{Linear, Linears, negated, after, plus, minus, times, quotient_rows, divided, remaining}
-use Rattle.cond_jumps.specs.Comparisons.{compared, below, above, equal}
+use Rattle.cond_jumps.specs.Forms.{Linear, Linears, linear_negated, after, linear_plus, linear_minus, linear_times, quotient_rows, linear_divided, remaining}
+use Rattle.cond_jumps.specs.Comparisons.{compared, below_row, above_row, equal}
 use Rattle.call_jumps.specs.Sums.{IsSame}
 
 -- the sums are the same wherever their helpers begin
@@ -54,12 +54,12 @@ after_same a b d e h k n =
       helpers = i.helpers ∙ ap (λ (z : Linear). z.helpers) f;
     }
 
-pub negated_same : (a b : Linears) → AreSame a b → AreSame (negated a) (negated b)
+pub negated_same : (a b : Linears) → AreSame a b → AreSame (linear_negated a) (linear_negated b)
 negated_same a b h n =
     let i = h n in
     record { terms = opposite_same (a n).terms (b n).terms i.terms; constant = ap neg_ℤ i.constant; rows = i.rows; helpers = i.helpers }
 
-pub plus_same : (a b d e : Linears) → AreSame a b → AreSame d e → AreSame (plus a d) (plus b e)
+pub plus_same : (a b d e : Linears) → AreSame a b → AreSame d e → AreSame (linear_plus a d) (linear_plus b e)
 plus_same a b d e h k n =
     let i = h n in
     let l = after_same a b d e h k n in
@@ -70,7 +70,7 @@ plus_same a b d e h k n =
       helpers = λ j. i.helpers j + l.helpers j;
     }
 
-pub minus_same : (a b d e : Linears) → AreSame a b → AreSame d e → AreSame (minus a d) (minus b e)
+pub minus_same : (a b d e : Linears) → AreSame a b → AreSame d e → AreSame (linear_minus a d) (linear_minus b e)
 minus_same a b d e h k n =
     let i = h n in
     let l = after_same a b d e h k n in
@@ -81,7 +81,7 @@ minus_same a b d e h k n =
       helpers = λ j. i.helpers j + l.helpers j;
     }
 
-pub times_same : (k l : ℤ) (a b d e : Linears) → AreSame a b → AreSame d e → AreSame (times k l a d) (times k l b e)
+pub times_same : (k l : ℤ) (a b d e : Linears) → AreSame a b → AreSame d e → AreSame (linear_times k l a d) (linear_times k l b e)
 times_same k l a b d e h g n =
     let i = h n in
     let f = after_same a b d e h g n in
@@ -106,7 +106,7 @@ parted_rows_same : (k : ℤ) (x y : Linear) (n : ℕ) → IsSame x y → x.rows 
 parted_rows_same k x y n h =
     (λ j. h.rows j ++ quotient_rows_same k x y (n + x.helpers) h j) ∙ (λ j. y.rows ++ quotient_rows k y (n + h.helpers j))
 
-pub divided_same : (k : ℤ) (a b : Linears) → AreSame a b → AreSame (divided k a) (divided k b)
+pub divided_same : (k : ℤ) (a b : Linears) → AreSame a b → AreSame (linear_divided k a) (linear_divided k b)
 divided_same k a b h n =
     let i = h n in
     record {
@@ -132,12 +132,12 @@ remaining_same k a b h n =
 difference_same : (x y u v : Linear) → IsSame x y → IsSame u v → (c : ℕ) → coefficient c (x.terms ++ opposite u.terms) ≡ coefficient c (y.terms ++ opposite v.terms)
 difference_same x y u v h k = append_same x.terms y.terms (opposite u.terms) (opposite v.terms) h.terms (opposite_same u.terms v.terms k.terms)
 
-pub below_same : (z : ℤ) (x y u v : Linear) → IsSame x y → IsSame u v → below z x u ≡ below z y v
+pub below_same : (z : ℤ) (x y u v : Linear) → IsSame x y → IsSame u v → below_row z x u ≡ below_row z y v
 below_same z x y u v h k =
     row_same (x.terms ++ opposite u.terms) (y.terms ++ opposite v.terms) Le ((z -ℤ x.constant) +ℤ u.constant) ((z -ℤ y.constant) +ℤ v.constant)
     (difference_same x y u v h k) (λ j. (z -ℤ h.constant j) +ℤ k.constant j)
 
-pub above_same : (z : ℤ) (x y u v : Linear) → IsSame x y → IsSame u v → above z x u ≡ above z y v
+pub above_same : (z : ℤ) (x y u v : Linear) → IsSame x y → IsSame u v → above_row z x u ≡ above_row z y v
 above_same z x y u v h k = below_same z u v x y k h
 
 pub equal_same : (x y u v : Linear) → IsSame x y → IsSame u v → equal x u ≡ equal y v

@@ -2,11 +2,11 @@
 use Rattle.std.specs.Prelude.{◌≡◌, ℕ, ◌+◌, true, List, map, drop}
 use Rattle.std.specs.List.{list_all}
 use Rattle.typed_tree.specs.TypedTree.{TypedExpression}
-use Rattle.cond_jumps.specs.Conjunctions.{Conjunction, joined, listed, row_fits}
+use Rattle.cond_jumps.specs.Conjunctions.{Conjunction, joined, listed_plan, row_fits}
 use Rattle.cond_jumps.specs.Environments.{Environment}
 use Rattle.lowered_steps.specs.Edges.{parameters_get}
 
 -- the rows of so many arguments, which fit; those of the others come behind them
 pub record AreSoFar (v : Environment) (first base : ℕ) (args : List TypedExpression) (place : ℕ) (c : Conjunction) : Type 0 where
-  pub seen : listed (parameters_get v first args) base ≡ map (joined c) (listed (parameters_get v (first + place) (drop place args)) (base + c.helpers))
+  pub seen : listed_plan (parameters_get v first args) base ≡ map (joined c) (listed_plan (parameters_get v (first + place) (drop place args)) (base + c.helpers))
   pub fit : list_all row_fits c.rows ≡ true

@@ -6,7 +6,7 @@ use Rattle.boogie_tree.specs.declared.tree.Column.TheVariants as columns
 use Rattle.typed_tree.specs.TypedTree.{TypedExpression}
 use Rattle.cond_jumps.specs.Conjunctions.{Plan, Just}
 use Rattle.cond_jumps.specs.Forms.{Linears, column}
-use Rattle.cond_jumps.specs.Comparisons.{named}
+use Rattle.cond_jumps.specs.Comparisons.{truth_of_column}
 use Rattle.cond_jumps.specs.Environments.{Environment}
 use Rattle.cond_jumps.specs.Paths.{linear, paths}
 use Rattle.call_jumps.specs.Sums.{IsSame}
@@ -15,7 +15,7 @@ use Rattle.call_jumps.specs.Reading.{Stand}
 -- the local with number i stands for column i, below w
 pub record IsNumbered (w : ℕ) (u : Environment) : Type 0 where
   pub sums : (i : ℕ) → i < w → u.sum (columns.Local i) ≡ column i
-  pub plans : (i : ℕ) → i < w → (want : Bool) → u.plan (columns.Local i) want ≡ Just (named i want)
+  pub plans : (i : ℕ) → i < w → (want : Bool) → u.plan (columns.Local i) want ≡ Just (truth_of_column i want)
 
 -- an expression that is read in u, and its type, stand for this sum, these plans and this type
 pub record StandsFor (u : Environment) (sum : Linears) (plan : Bool → Plan) (type : Option Ty) (s : Stand) : Type 0 where

@@ -8,7 +8,7 @@ use Rattle.typed_tree.specs.TypedTree.{TypedExpression, Lit, Var}
 use Rattle.typed_tree.specs.TypedView.{expression}
 use Rattle.letter_acts.specs.Frames.{Columns}
 use Rattle.cond_jumps.specs.Environments.{type_in}
-use Rattle.cond_jumps.specs.Frames.{place, frame_environment}
+use Rattle.cond_jumps.specs.Frames.{column_place_in, frame_environment}
 use Rattle.lowered_steps.specs.Edges.{left_if, found_from}
 use Rattle.boogie_tree.specs.Apart.{nowhere}
 use Rattle.call_jumps.specs.declared.standing.Standing.{Standing}
@@ -37,7 +37,7 @@ or_nothing (Some s) = s
 
 -- the columns of a frame
 abbrev pub frame_stand : Columns → Column → Stand
-frame_stand frame c = place_stand (place frame c)
+frame_stand frame c = place_stand (column_place_in frame c)
 
 -- an argument of a call from a frame
 abbrev pub argument_stand : Columns → TypedExpression → Stand
@@ -45,25 +45,25 @@ argument_stand frame e = record { expression = read_by (frame_stand frame) false
 
 -- a requires of a procedure that is called from a frame with these arguments
 abbrev pub requires_stand : Columns → List Stand → Column → Stand
-requires_stand frame args (columns.Global n) = place_stand (place frame (columns.Global n))
-requires_stand frame args (columns.Old n) = place_stand (place frame (columns.Old n))
+requires_stand frame args (columns.Global n) = place_stand (column_place_in frame (columns.Global n))
+requires_stand frame args (columns.Old n) = place_stand (column_place_in frame (columns.Old n))
 requires_stand frame args (columns.Local n) = or_nothing (slice_get args n)
 
 -- a global in the column in which the call leaves it, or as it is
 abbrev pub left_stand : Columns → ℕ → Option (ℕ × Ty) → Stand
-left_stand frame n None = place_stand (place frame (columns.Global n))
+left_stand frame n None = place_stand (column_place_in frame (columns.Global n))
 left_stand frame n (Some x) = numbered x.0 x.1
 
 -- an ensures, with what stands for its arguments and results
 abbrev pub ensures_stand : Columns → (ℕ → Option (ℕ × Ty)) → List Stand → Column → Stand
 ensures_stand frame left locals (columns.Global n) = left_stand frame n (left n)
-ensures_stand frame left locals (columns.Old n) = place_stand (place frame (columns.Global n))
+ensures_stand frame left locals (columns.Old n) = place_stand (column_place_in frame (columns.Global n))
 ensures_stand frame left locals (columns.Local n) = or_nothing (slice_get locals n)
 
 -- the column of the modified global at a place: a helper, where it has one
 abbrev pub left_column : ℕ → ℕ → Option ℕ → ℕ
-left_column base place None = base + place
-left_column base place (Some h) = h
+left_column base column_place_in None = base + column_place_in
+left_column base column_place_in (Some h) = h
 
 -- the column of a result
 abbrev pub result_stand : ℕ × Ty → Stand

@@ -2,7 +2,7 @@
 
 ghost use Rattle.std.specs.Prelude.{◌≡◌, ◌*◌, ◌≤◌, true, false, IfOk, IsOk, Err, [], ◌<◌, length, map};
 ghost use Rattle.typed_tree.specs.TypedView.{expression};
-ghost use Rattle.cond_jumps.specs.Conjunctions.{is_wide, all_fit, listed};
+ghost use Rattle.cond_jumps.specs.Conjunctions.{is_wide, all_fit, listed_plan};
 ghost use Rattle.cond_jumps.specs.Conjs.{conjunction, conjunctions};
 ghost use Rattle.cond_jumps.specs.ListView.{IsPlanList};
 ghost use Rattle.cond_jumps.specs.Frames.{frame_environment};
@@ -77,7 +77,7 @@ fn no_rows(alloc: Global) -> Conj
 
 /// The conjunctions of which a state of the frame meets one, and no more, exactly where all of the conditions hold.
 fn all_paths(alloc: Global, frame: &Frame, conds: &[TExpr]) -> Result<Vec<Conj>, JumpFault>
-    ensures list { IfOk result (λ cs. conjunctions cs.items ≡ listed (conjoined (frame_environment frame.now.columns.items) (map expression conds.now)) (length frame.now.columns.items)) }
+    ensures list { IfOk result (λ cs. conjunctions cs.items ≡ listed_plan (conjoined (frame_environment frame.now.columns.items) (map expression conds.now)) (length frame.now.columns.items)) }
     ensures narrow { IsOk result → is_wide (conjoined (frame_environment frame.now.columns.items) (map expression conds.now)) (length frame.now.columns.items) ≡ false }
     ensures fits { IsOk result → all_fit (conjoined (frame_environment frame.now.columns.items) (map expression conds.now)) (length frame.now.columns.items) ≡ true }
 
@@ -96,7 +96,7 @@ fn all_paths(alloc: Global, frame: &Frame, conds: &[TExpr]) -> Result<Vec<Conj>,
 
 /// The conjunctions of all conditions over so many numbered columns.
 pub fn numbered_paths(alloc: Global, width: u32, conds: &[TExpr]) -> Result<Vec<Conj>, JumpFault>
-    ensures list { IfOk result (λ cs. conjunctions cs.items ≡ listed (conjoined (frame_environment (numbered_columns width)) (map expression conds.now)) width) }
+    ensures list { IfOk result (λ cs. conjunctions cs.items ≡ listed_plan (conjoined (frame_environment (numbered_columns width)) (map expression conds.now)) width) }
     ensures narrow { IsOk result → is_wide (conjoined (frame_environment (numbered_columns width)) (map expression conds.now)) width ≡ false }
     ensures fits { IsOk result → all_fit (conjoined (frame_environment (numbered_columns width)) (map expression conds.now)) width ≡ true }
     ensures too_wide { result ≡ Err JumpFault.TooWide → is_wide (conjoined (frame_environment (numbered_columns width)) (map expression conds.now)) width ≡ true }

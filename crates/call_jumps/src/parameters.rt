@@ -3,7 +3,7 @@
 ghost use Rattle.std.specs.Prelude.{◌≡◌, ◌+◌, ◌≤◌, true, false, IfOk, IsOk, Err, [], ◌∷◌, length, map};
 ghost use Rattle.typed_tree.specs.TypedTree.{Lit};
 ghost use Rattle.typed_tree.specs.TypedView.{expression};
-ghost use Rattle.cond_jumps.specs.Conjunctions.{joined, is_wide, all_fit, listed, list_fits};
+ghost use Rattle.cond_jumps.specs.Conjunctions.{joined, is_wide, all_fit, listed_plan, list_fits};
 ghost use Rattle.cond_jumps.specs.Comparisons.{compared, equal};
 ghost use Rattle.cond_jumps.specs.Conjs.{conjunction};
 ghost use Rattle.cond_jumps.specs.Forms.{column};
@@ -85,7 +85,7 @@ pub fn arguments(
 ) -> Result<Conj, JumpFault>
     requires frame { length frame.now.columns.items ≤ base }
     requires parameters { first + length args.now ≤ base }
-    ensures list { IfOk result (λ c. conjunction c ∷ [] ≡ listed (parameters_get (frame_environment frame.now.columns.items) first (map expression args.now)) base) }
+    ensures list { IfOk result (λ c. conjunction c ∷ [] ≡ listed_plan (parameters_get (frame_environment frame.now.columns.items) first (map expression args.now)) base) }
     ensures narrow { IsOk result → is_wide (parameters_get (frame_environment frame.now.columns.items) first (map expression args.now)) base ≡ false }
     ensures fits { IsOk result → all_fit (parameters_get (frame_environment frame.now.columns.items) first (map expression args.now)) base ≡ true }
     ensures too_wide { result ≡ Err JumpFault.TooWide → ⊥ }

@@ -1,7 +1,7 @@
 //! What stands for the columns of a condition where it is read.
 
 ghost use Rattle.std.specs.Prelude.{◌≡◌, IfOk, map, slice_get};
-ghost use Rattle.cond_jumps.specs.Frames.{place};
+ghost use Rattle.cond_jumps.specs.Frames.{column_place_in};
 ghost use Rattle.call_jumps.specs.Stands.{stand_of, place_stand, or_nothing, left_stand, left_by, stands_of};
 
 use crate::standing::Standing;
@@ -24,7 +24,7 @@ pub enum Reader<'a> {
 
 /// The column of a frame, by its place.
 fn placed(frame: &Frame, column: Column) -> Result<Standing, AllocError>
-    ensures { IfOk result (λ s. stand_of s ≡ place_stand (place frame.now.columns.items column)) }
+    ensures { IfOk result (λ s. stand_of s ≡ place_stand (column_place_in frame.now.columns.items column)) }
 {
     match place(frame, column)? {
         None => Ok(Standing::nothing()),

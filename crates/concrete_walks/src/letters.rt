@@ -176,6 +176,7 @@ impl Letters {
                 written,
                 helpers,
                 rows,
+                ..
             } => match item(icfg.frames(), *proc) {
                 Some(frame) => add_inside(alloc, self, frame, written, *helpers, rows),
                 None => Ok(missing()),
@@ -185,6 +186,7 @@ impl Letters {
                 callee,
                 helpers,
                 rows,
+                ..
             } => match (item(icfg.frames(), *caller), self.callee(icfg, *callee)) {
                 (Some(frame), Some(callee)) => {
                     add_call(alloc, self, frame, callee, *helpers, rows)

@@ -8,13 +8,13 @@ use Rattle.lin_rows.specs.Rows.{LinearRow, Holds}
 use Rattle.lin_rows.specs.Sums.{row_of, summed}
 use Rattle.typed_tree.specs.Values.{truth}
 use Rattle.cond_jumps.specs.Forms.{Linear, Linears, amount, after}
-use Rattle.cond_jumps.specs.Comparisons.{below, above, equal, compared, never, always, named}
+use Rattle.cond_jumps.specs.Comparisons.{below_row, above_row, equal, compared, no_jumps, always, truth_of_column}
 use Rattle.cond_jumps.specs.Meaning.{Agrees, Meets, Sole, IsPath}
 use Rattle.cond_jumps.specs.Worth.{IsSum}
 use Rattle.cond_jumps.proofs.MeaningLemmas.{agrees_refl, hold_append, hold_left, hold_right, below_append}
 use Rattle.cond_jumps.proofs.FormLemmas.{below-summed, row_holds, row_held, ArePair, pair, AreNarrow, narrow_pair}
 
-pub never_path : (w : ℕ) (p : ℕ → ℤ) → IsPath w p never ⊥
+pub never_path : (w : ℕ) (p : ℕ → ℤ) → IsPath w p no_jumps ⊥
 never_path w p =
     record { narrow = λ n l. tt; so = λ n q l s m. m; back = λ n q l s x. x; single = λ n q l s. tt }
 
@@ -32,7 +32,7 @@ always_path w p =
     }
 
 -- a column has a truth value
-pub named_path : (w : ℕ) (p : ℕ → ℤ) (c : ℕ) (want : Bool) (v : ℤ) → c < w → p c ≡ v → IsPath w p (named c want) (v ≡ truth want)
+pub named_path : (w : ℕ) (p : ℕ → ℤ) (c : ℕ) (want : Bool) (v : ℤ) → c < w → p c ≡ v → IsPath w p (truth_of_column c want) (v ≡ truth want)
 named_path w p c want v inside e =
     record {
       narrow = λ n l. (((omega arith, tt), tt), tt);
@@ -43,7 +43,7 @@ named_path w p c want v inside e =
       single = λ n q l s. (no_helpers n q (row_of ((c, pos 1) ∷ []) Eq (truth want) ∷ []), (λ e m. m), tt);
     }
   where
-    from_row : (n : ℕ) (q : ℕ → ℤ) → w ≤ n → Agrees w p q → Meets n q (named c want n) → v ≡ truth want
+    from_row : (n : ℕ) (q : ℕ → ℤ) → w ≤ n → Agrees w p q → Meets n q (truth_of_column c want n) → v ≡ truth want
     from_row n q l s (inr h) = absurd h
     from_row n q l s (inl m) =
         let f : m.0 c ≡ q c = m.1.same c (omega arith) in
@@ -102,29 +102,29 @@ dot-difference r x y =
     let e = dot-opposite r y.terms in
     omega (arith, ints, d, e)
 
-below_so : (k : ℤ) (r : ℕ → ℤ) (x y : Linear) (u v : ℤ) → amount r x ≡ u → amount r y ≡ v → Holds r (below k x y) → (u -ℤ v) ≤ℤ k
+below_so : (k : ℤ) (r : ℕ → ℤ) (x y : Linear) (u v : ℤ) → amount r x ≡ u → amount r y ≡ v → Holds r (below_row k x y) → (u -ℤ v) ≤ℤ k
 below_so k r x y u v e f h =
     let d = dot-difference r x y in
     let i = row_held r (x.terms ++ opposite y.terms) Le ((k -ℤ x.constant) +ℤ y.constant) h in
     omega (arith, ints, d, i)
 
-below_back : (k : ℤ) (r : ℕ → ℤ) (x y : Linear) (u v : ℤ) → amount r x ≡ u → amount r y ≡ v → (u -ℤ v) ≤ℤ k → Holds r (below k x y)
+below_back : (k : ℤ) (r : ℕ → ℤ) (x y : Linear) (u v : ℤ) → amount r x ≡ u → amount r y ≡ v → (u -ℤ v) ≤ℤ k → Holds r (below_row k x y)
 below_back k r x y u v e f h =
     let d = dot-difference r x y in
     row_holds r (x.terms ++ opposite y.terms) Le ((k -ℤ x.constant) +ℤ y.constant) (omega (arith, ints, d))
 
 -- `x - y <= k`
-pub below_path : (w : ℕ) (p : ℕ → ℤ) (k : ℤ) (a b : Linears) (u v : ℤ) → IsSum w p a u → IsSum w p b v → IsPath w p (compared (below k) a b) ((u -ℤ v) ≤ℤ k)
+pub below_path : (w : ℕ) (p : ℕ → ℤ) (k : ℤ) (a b : Linears) (u v : ℤ) → IsSum w p a u → IsSum w p b v → IsPath w p (compared (below_row k) a b) ((u -ℤ v) ≤ℤ k)
 below_path w p k a b u v h i =
-    compared_path w p (below k) a b u v ((u -ℤ v) ≤ℤ k) h i
+    compared_path w p (below_row k) a b u v ((u -ℤ v) ≤ℤ k) h i
     (λ m x y f g. below-difference m x y f g)
     (λ r x y e f g. below_so k r x y u v e f g)
     (λ r x y e f g. below_back k r x y u v e f g)
 
 -- `y - x <= k`
-pub above_path : (w : ℕ) (p : ℕ → ℤ) (k : ℤ) (a b : Linears) (u v : ℤ) → IsSum w p a u → IsSum w p b v → IsPath w p (compared (above k) a b) ((v -ℤ u) ≤ℤ k)
+pub above_path : (w : ℕ) (p : ℕ → ℤ) (k : ℤ) (a b : Linears) (u v : ℤ) → IsSum w p a u → IsSum w p b v → IsPath w p (compared (above_row k) a b) ((v -ℤ u) ≤ℤ k)
 above_path w p k a b u v h i =
-    compared_path w p (above k) a b u v ((v -ℤ u) ≤ℤ k) h i
+    compared_path w p (above_row k) a b u v ((v -ℤ u) ≤ℤ k) h i
     (λ m x y f g. below-difference m y x g f)
     (λ r x y e f g. below_so k r y x v u f e g)
     (λ r x y e f g. below_back k r y x v u f e g)

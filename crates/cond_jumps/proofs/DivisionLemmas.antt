@@ -8,9 +8,9 @@ use Rattle.math_facts.proofs.Whole.{product_neg_left}
 use Rattle.math_facts.proofs.TermLaws.{dot-append, dot-opposite, dot-with_value, IsBelow_more, IsBelow-append, IsBelow-opposite, with_value_here, with_value_other}
 use Rattle.lin_rows.specs.declared.types.RowKind.TheVariants.{Le}
 use Rattle.lin_rows.specs.Rows.{RowsBelow}
-use Rattle.typed_tree.specs.Values.{is_zero, div_of, mod_of}
+use Rattle.typed_tree.specs.Values.{value_is_zero, div_of, mod_of}
 use Rattle.typed_tree.proofs.Euclidean.{euclidean}
-use Rattle.cond_jumps.specs.Forms.{Linear, Linears, amount, quotient_rows, over_quotient, divided, remaining}
+use Rattle.cond_jumps.specs.Forms.{Linear, Linears, amount, quotient_rows, over_quotient, linear_divided, remaining}
 use Rattle.cond_jumps.specs.Meaning.{Agrees, AllHold, Sole}
 use Rattle.cond_jumps.specs.Worth.{IsWorth, IsNarrow, IsSum}
 use Rattle.cond_jumps.proofs.MeaningLemmas.{agrees_on, all_hold_same, all_below_more, hold_append, hold_left, hold_right, below_append}
@@ -68,7 +68,7 @@ agrees_one_more n p q a e =
     at_end : (n : ℕ) (p q : ℕ → ℤ) → q n ≡ p n → (c : ℕ) → c ≡ n → q c ≡ p c
     at_end n p q e c f = let P : ℕ → Type 0 = λ m. q m ≡ p m in subst P (sym f) e
 
-pub division : (w : ℕ) (p : ℕ → ℤ) (k : ℤ) (a : Linears) (v : ℤ) → is_zero k ≡ false → IsSum w p a v →
+pub division : (w : ℕ) (p : ℕ → ℤ) (k : ℤ) (a : Linears) (v : ℤ) → value_is_zero k ≡ false → IsSum w p a v →
     (n : ℕ) (q : ℕ → ℤ) → w ≤ n → Agrees w p q → IsDivision n q k (a n) v
 division w p k a v z h n q l s =
     let x : Linear = a n in
@@ -102,7 +102,7 @@ division w p k a v z h n q l s =
     }
 
 -- a sum over a quotient, from what it is worth
-over_quotient_sum : (w : ℕ) (p : ℕ → ℤ) (k : ℤ) (a : Linears) (u v : ℤ) (terms : ℕ → List (ℕ × ℤ)) (constant : ℕ → ℤ) → is_zero k ≡ false → IsSum w p a u →
+over_quotient_sum : (w : ℕ) (p : ℕ → ℤ) (k : ℤ) (a : Linears) (u v : ℤ) (terms : ℕ → List (ℕ × ℤ)) (constant : ℕ → ℤ) → value_is_zero k ≡ false → IsSum w p a u →
     ((n m : ℕ) → IsBelow m (a n).terms → n + (a n).helpers < m → IsBelow m (terms n)) →
     ((n : ℕ) (r : ℕ → ℤ) → amount r (a n) ≡ u → r (n + (a n).helpers) ≡ div_of u k → dot r (terms n) +ℤ constant n ≡ v) →
     IsSum w p (λ n. over_quotient k (a n) (n + (a n).helpers) (terms n) (constant n)) v
@@ -127,13 +127,13 @@ over_quotient_sum w p k a u v terms constant z h narrow worth =
           };
     }
 
-pub divided_sum : (w : ℕ) (p : ℕ → ℤ) (k : ℤ) (a : Linears) (u : ℤ) → is_zero k ≡ false → IsSum w p a u → IsSum w p (divided k a) (div_of u k)
+pub divided_sum : (w : ℕ) (p : ℕ → ℤ) (k : ℤ) (a : Linears) (u : ℤ) → value_is_zero k ≡ false → IsSum w p a u → IsSum w p (linear_divided k a) (div_of u k)
 divided_sum w p k a u z h =
     over_quotient_sum w p k a u (div_of u k) (λ n. (n + (a n).helpers, pos 1) ∷ []) (λ n. pos 0) z h
     (λ n m b l. (l, tt))
     (λ n r e f. omega (arith, ints))
 
-pub remaining_sum : (w : ℕ) (p : ℕ → ℤ) (k : ℤ) (a : Linears) (u : ℤ) → is_zero k ≡ false → IsSum w p a u → IsSum w p (remaining k a) (mod_of u k)
+pub remaining_sum : (w : ℕ) (p : ℕ → ℤ) (k : ℤ) (a : Linears) (u : ℤ) → value_is_zero k ≡ false → IsSum w p a u → IsSum w p (remaining k a) (mod_of u k)
 remaining_sum w p k a u z h =
     over_quotient_sum w p k a u (mod_of u k) (λ n. (a n).terms ++ (n + (a n).helpers, neg_ℤ k) ∷ []) (λ n. (a n).constant) z h
     (λ n m b l. IsBelow-append m (a n).terms ((n + (a n).helpers, neg_ℤ k) ∷ []) b (l, tt))

@@ -12,12 +12,12 @@ use Rattle.typed_tree.specs.TypedTree.{TypedExpression, Lit, Truth, Var, Old, No
 use Rattle.typed_tree.specs.Values.{truth}
 use Rattle.typed_tree.specs.AffineForm.{divisor_of, read_at}
 use Rattle.letter_acts.specs.Frames.{Columns}
-use Rattle.cond_jumps.specs.Conjunctions.{Conjunction, Jumps, joined, each_with, Plan, Just, Then, With, listed}
-use Rattle.cond_jumps.specs.Forms.{Linear, Linears, column, after, divided, remaining}
-use Rattle.cond_jumps.specs.Comparisons.{compared, below, above, equal, never, always, named, literal, alike, equal_sums, equality, operation}
+use Rattle.cond_jumps.specs.Conjunctions.{Conjunction, Jumps, joined, each_with, Plan, Just, Then, With, listed_plan}
+use Rattle.cond_jumps.specs.Forms.{Linear, Linears, column, after, linear_divided, remaining}
+use Rattle.cond_jumps.specs.Comparisons.{compared, below_row, above_row, equal, no_jumps, always, truth_of_column, literal, alike, equal_sums, equality, operation_plan}
 use Rattle.cond_jumps.specs.Environments.{Environment}
-use Rattle.cond_jumps.specs.Paths.{constant_of, quotient, arithmetic, linear, is_truth, paths, gets, assigns}
-use Rattle.cond_jumps.specs.Frames.{place_from, or_else, if_constant, place, sum_at, plan_at, frame_environment}
+use Rattle.cond_jumps.specs.Paths.{constant_of, linear_quotient, arithmetic, linear, is_truth, paths, gets, assigns}
+use Rattle.cond_jumps.specs.Frames.{place_from, or_else, if_constant, column_place_in, linear_at, plan_at, frame_environment}
 use Rattle.cond_jumps.specs.Moving.{moved_column, moved_terms, moved_row, moved, IsEven, moved_sum, IsEvenSum, IsEvenPlan, IsEvenEnvironment}
 use Rattle.cond_jumps.proofs.FrameLemmas.{IsFound, found_from}
 use Rattle.cond_jumps.proofs.MovingLemmas.{map_append, difference-moved, moved_before, row_of-moved, after_even, number_even, column_even, negated_even, plus_even, minus_even, times_even, divided_even, remaining_even}
@@ -46,14 +46,14 @@ each_with-moved w k n (c ∷ cs) b l h =
     (λ j. g j ++ i j) ∙ sym (map_append (moved w k) (map (joined c) (b (n + c.helpers))) (each_with cs b n))
 
 -- what holds of each list that is used in a plan holds of its own list
-pub listed_even : (w : ℕ) (a : Plan) → IsEvenPlan w a → IsEven w (listed a)
+pub listed_even : (w : ℕ) (a : Plan) → IsEvenPlan w a → IsEven w (listed_plan a)
 listed_even w (Just a) h n k l = h n k l
 listed_even w (Then a b) h n k l =
     let e = listed_even w a h.0 n k l in
     let f = listed_even w b h.1 n k l in
-    (λ j. e j ++ f j) ∙ sym (map_append (moved w k) (listed a n) (listed b n))
+    (λ j. e j ++ f j) ∙ sym (map_append (moved w k) (listed_plan a n) (listed_plan b n))
 listed_even w (With a b) h n k l =
-    ap (λ (cs : List Conjunction). each_with cs (listed b) (n + k)) (listed_even w a h.0 n k l) ∙ each_with-moved w k n (listed a n) (listed b) l (listed_even w b h.1)
+    ap (λ (cs : List Conjunction). each_with cs (listed_plan b) (n + k)) (listed_even w a h.0 n k l) ∙ each_with-moved w k n (listed_plan a n) (listed_plan b) l (listed_even w b h.1)
 
 -- ---- comparisons
 
@@ -69,7 +69,7 @@ compared_even w row a b r h i n k l =
     (λ j. sym (map_append (moved_row w k) x.rows y.rows) j ++ r k x y j ∷ []) ∙ sym (map_append (moved_row w k) (x.rows ++ y.rows) (row x y ∷ [])) in
     (λ d. F (e d) (f d)) ∙ (λ d. record { rows = g d; helpers = x.helpers + y.helpers } ∷ [])
 
-below-moved : (w : ℕ) (z : ℤ) (k : ℕ) (x y : Linear) → below z (moved_sum w k x) (moved_sum w k y) ≡ moved_row w k (below z x y)
+below-moved : (w : ℕ) (z : ℤ) (k : ℕ) (x y : Linear) → below_row z (moved_sum w k x) (moved_sum w k y) ≡ moved_row w k (below_row z x y)
 below-moved w z k x y =
     row_of-moved w k (x.terms ++ opposite y.terms) (moved_terms w k x.terms ++ opposite (moved_terms w k y.terms)) Le ((z -ℤ x.constant) +ℤ y.constant) (difference-moved w k x y)
 
@@ -77,22 +77,22 @@ equal-moved : (w k : ℕ) (x y : Linear) → equal (moved_sum w k x) (moved_sum 
 equal-moved w k x y =
     row_of-moved w k (x.terms ++ opposite y.terms) (moved_terms w k x.terms ++ opposite (moved_terms w k y.terms)) Eq ((pos 0 -ℤ x.constant) +ℤ y.constant) (difference-moved w k x y)
 
-below_even : (w : ℕ) (z : ℤ) (a b : Linears) → IsEvenSum w a → IsEvenSum w b → IsEven w (compared (below z) a b)
-below_even w z a b h i = compared_even w (below z) a b (λ k x y. below-moved w z k x y) h i
+below_even : (w : ℕ) (z : ℤ) (a b : Linears) → IsEvenSum w a → IsEvenSum w b → IsEven w (compared (below_row z) a b)
+below_even w z a b h i = compared_even w (below_row z) a b (λ k x y. below-moved w z k x y) h i
 
-above_even : (w : ℕ) (z : ℤ) (a b : Linears) → IsEvenSum w a → IsEvenSum w b → IsEven w (compared (above z) a b)
-above_even w z a b h i = compared_even w (above z) a b (λ k x y. below-moved w z k y x) h i
+above_even : (w : ℕ) (z : ℤ) (a b : Linears) → IsEvenSum w a → IsEvenSum w b → IsEven w (compared (above_row z) a b)
+above_even w z a b h i = compared_even w (above_row z) a b (λ k x y. below-moved w z k y x) h i
 
 pub equal_even : (w : ℕ) (a b : Linears) → IsEvenSum w a → IsEvenSum w b → IsEven w (compared equal a b)
 equal_even w a b h i = compared_even w equal a b (λ k x y. equal-moved w k x y) h i
 
-never_even : (w : ℕ) → IsEven w never
+never_even : (w : ℕ) → IsEven w no_jumps
 never_even w n k l = refl
 
 always_even : (w : ℕ) → IsEven w always
 always_even w n k l = refl
 
-pub named_even : (w c : ℕ) (want : Bool) → c < w → IsEven w (named c want)
+pub named_even : (w c : ℕ) (want : Bool) → c < w → IsEven w (truth_of_column c want)
 named_even w c want inside n k l =
     let e : c ≡ moved_column w k c = sym (moved_before w k c inside) in
     λ i. record { rows = record { terms = (e i, pos 1) ∷ []; kind = Eq; bound = truth want } ∷ []; helpers = 0 } ∷ []
@@ -122,7 +122,7 @@ equality_even w true a b x y want h i j k = alike_even w a b want h i
 equality_even w false a b x y want h i j k = equal_sums_even w x y want j k
 
 operation_even : (w : ℕ) (op : Op) (kind : Bool) (a b : Bool → Plan) (x y : Linears) (want : Bool) → EvenPlans w a → EvenPlans w b → IsEvenSum w x → IsEvenSum w y →
-    IsEvenPlan w (operation op kind a b x y want)
+    IsEvenPlan w (operation_plan op kind a b x y want)
 unfolding EvenPlans
 operation_even w ops.Iff kind a b x y want h i j k = alike_even w a b want h i
 operation_even w ops.Implies kind a b x y true h i j k = (h false, (h true, i true))
@@ -149,11 +149,11 @@ operation_even w ops.Mod kind a b x y want h i j k = never_even w
 
 -- ---- sums of expressions
 
-divided_if_even : (w : ℕ) (o : Option ℤ) (a : Linears) → IsEvenSum w a → IsEvenSum w (quotient divided o a)
+divided_if_even : (w : ℕ) (o : Option ℤ) (a : Linears) → IsEvenSum w a → IsEvenSum w (linear_quotient linear_divided o a)
 divided_if_even w None a h = number_even w (pos 0)
 divided_if_even w (Some k) a h = divided_even w k a h
 
-remaining_if_even : (w : ℕ) (o : Option ℤ) (a : Linears) → IsEvenSum w a → IsEvenSum w (quotient remaining o a)
+remaining_if_even : (w : ℕ) (o : Option ℤ) (a : Linears) → IsEvenSum w a → IsEvenSum w (linear_quotient remaining o a)
 remaining_if_even w None a h = number_even w (pos 0)
 remaining_if_even w (Some k) a h = remaining_even w k a h
 
@@ -229,19 +229,19 @@ constant_inside frame n x None (Some y) f g e = by_test y.1.constant e
     by_test false d = absurd (cc)
 
 -- the place of a column is inside the frame
-pub place_inside : (frame : Columns) (c : Column) (x : ℕ × VarInfo) → place frame c ≡ Some x → x.0 < length frame
+pub place_inside : (frame : Columns) (c : Column) (x : ℕ × VarInfo) → column_place_in frame c ≡ Some x → x.0 < length frame
 place_inside frame (columns.Global n) x e = found_inside frame (columns.Global n) x e
 place_inside frame (columns.Old n) x e = constant_inside frame n x (place_from 0 frame (columns.Old n)) (place_from 0 frame (columns.Global n)) refl refl e
 place_inside frame (columns.Local n) x e = found_inside frame (columns.Local n) x e
 
 -- what stands for the columns of a frame is even from its width on
 pub frame_even : (w : ℕ) (frame : Columns) → length frame ≤ w → IsEvenEnvironment w (frame_environment frame)
-frame_even w frame l = record { sums = λ c. sum_even c (place frame c) refl; plans = λ c want. plan_even c want (place frame c) refl }
+frame_even w frame l = record { sums = λ c. sum_even c (column_place_in frame c) refl; plans = λ c want. plan_even c want (column_place_in frame c) refl }
   where
-    sum_even : (c : Column) (o : Option (ℕ × VarInfo)) → place frame c ≡ o → IsEvenSum w (sum_at o)
+    sum_even : (c : Column) (o : Option (ℕ × VarInfo)) → column_place_in frame c ≡ o → IsEvenSum w (linear_at o)
     sum_even c None e = number_even w (pos 0)
     sum_even c (Some x) e = let i : x.0 < length frame = place_inside frame c x e in column_even w x.0 (omega arith)
 
-    plan_even : (c : Column) (want : Bool) (o : Option (ℕ × VarInfo)) → place frame c ≡ o → IsEvenPlan w (plan_at o want)
+    plan_even : (c : Column) (want : Bool) (o : Option (ℕ × VarInfo)) → column_place_in frame c ≡ o → IsEvenPlan w (plan_at o want)
     plan_even c want None e = never_even w
     plan_even c want (Some x) e = let i : x.0 < length frame = place_inside frame c x e in named_even w x.0 want (omega arith)

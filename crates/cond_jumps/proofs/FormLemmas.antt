@@ -8,7 +8,7 @@ use Rattle.lin_rows.specs.declared.types.RowKind.{RowKind}
 use Rattle.lin_rows.specs.Rows.{LinearRow, Stands, Holds, RowsBelow}
 use Rattle.lin_rows.specs.Sums.{is_zero as sum_is_zero, led_by, added_at, row_of, summed}
 use Rattle.lin_rows.proofs.SummedLaws.{dot-summed}
-use Rattle.cond_jumps.specs.Forms.{Linear, Linears, amount, number, column, negated, after, over, plus, minus, times}
+use Rattle.cond_jumps.specs.Forms.{Linear, Linears, amount, linear_number, column, linear_negated, after, linear_over, linear_plus, linear_minus, linear_times}
 use Rattle.cond_jumps.specs.Meaning.{Agrees, AllHold, Sole}
 use Rattle.cond_jumps.specs.Worth.{IsWorth, IsNarrow, IsSum}
 use Rattle.cond_jumps.proofs.MeaningLemmas.{agrees_refl, agrees_on, all_hold_same, all_below_more, hold_append, hold_left, hold_right, below_append, sole_append}
@@ -60,11 +60,11 @@ worth_of_plain n q x v e f h =
           };
     }
 
-pub number_sum : (w : ℕ) (p : ℕ → ℤ) (k : ℤ) → IsSum w p (number k) k
+pub number_sum : (w : ℕ) (p : ℕ → ℤ) (k : ℤ) → IsSum w p (linear_number k) k
 number_sum w p k =
     record {
       narrow = λ n l. record { terms = tt; rows = tt };
-      worth = λ n q l a. worth_of_plain n q (number k n) k refl refl (λ r b. omega (arith, ints));
+      worth = λ n q l a. worth_of_plain n q (linear_number k n) k refl refl (λ r b. omega (arith, ints));
     }
 
 pub column_sum : (w : ℕ) (p : ℕ → ℤ) (c : ℕ) → c < w → IsSum w p (column c) (p c)
@@ -77,7 +77,7 @@ column_sum w p c inside =
           omega (arith, ints));
     }
 
-pub negated_sum : (w : ℕ) (p : ℕ → ℤ) (a : Linears) (v : ℤ) → IsSum w p a v → IsSum w p (negated a) (neg_ℤ v)
+pub negated_sum : (w : ℕ) (p : ℕ → ℤ) (a : Linears) (v : ℤ) → IsSum w p a v → IsSum w p (linear_negated a) (neg_ℤ v)
 negated_sum w p a v h =
     record {
       narrow = λ n l. let x = h.narrow n l in record { terms = IsBelow-opposite (n + (a n).helpers) (a n).terms x.terms; rows = x.rows };
@@ -160,7 +160,7 @@ narrow_pair w p a b u v h k n l =
 pub over_sum : (w : ℕ) (p : ℕ → ℤ) (a b : Linears) (u v z : ℤ) (terms : ℕ → List (ℕ × ℤ)) (constant : ℕ → ℤ) → IsSum w p a u → IsSum w p b v →
     ((n m : ℕ) → w ≤ n → AreNarrow m (a n) (after a b n) → IsBelow m (terms n)) →
     ((n : ℕ) (r : ℕ → ℤ) → amount r (a n) ≡ u → amount r (after a b n) ≡ v → dot r (terms n) +ℤ constant n ≡ z) →
-    IsSum w p (λ n. over (a n) (after a b n) (terms n) (constant n)) z
+    IsSum w p (λ n. linear_over (a n) (after a b n) (terms n) (constant n)) z
 over_sum w p a b u v z terms constant h k narrow worth =
     record {
       narrow = λ n l.
@@ -175,13 +175,13 @@ over_sum w p a b u v z terms constant h k narrow worth =
           };
     }
 
-pub plus_sum : (w : ℕ) (p : ℕ → ℤ) (a b : Linears) (u v : ℤ) → IsSum w p a u → IsSum w p b v → IsSum w p (plus a b) (u +ℤ v)
+pub plus_sum : (w : ℕ) (p : ℕ → ℤ) (a b : Linears) (u v : ℤ) → IsSum w p a u → IsSum w p b v → IsSum w p (linear_plus a b) (u +ℤ v)
 plus_sum w p a b u v h k =
     over_sum w p a b u v (u +ℤ v) (λ n. (a n).terms ++ (after a b n).terms) (λ n. (a n).constant +ℤ (after a b n).constant) h k
     (λ n m l i. IsBelow-append m (a n).terms (after a b n).terms i.first i.second)
     (λ n r e f. let d = dot-append r (a n).terms (after a b n).terms in omega (arith, ints, d))
 
-pub minus_sum : (w : ℕ) (p : ℕ → ℤ) (a b : Linears) (u v : ℤ) → IsSum w p a u → IsSum w p b v → IsSum w p (minus a b) (u -ℤ v)
+pub minus_sum : (w : ℕ) (p : ℕ → ℤ) (a b : Linears) (u v : ℤ) → IsSum w p a u → IsSum w p b v → IsSum w p (linear_minus a b) (u -ℤ v)
 minus_sum w p a b u v h k =
     over_sum w p a b u v (u -ℤ v) (λ n. (a n).terms ++ opposite (after a b n).terms) (λ n. (a n).constant -ℤ (after a b n).constant) h k
     (λ n m l i. IsBelow-append m (a n).terms (opposite (after a b n).terms) i.first (IsBelow-opposite m (after a b n).terms i.second))
@@ -199,7 +199,7 @@ scaled_amount r k x v e =
     omega (arith, ints)
 
 -- the value of a product, where one factor is its constant
-pub times_sum : (w : ℕ) (p : ℕ → ℤ) (k l : ℤ) (a b : Linears) (u v : ℤ) → (u ≡ k) ⊎ (v ≡ l) → IsSum w p a u → IsSum w p b v → IsSum w p (times k l a b) (u *ℤ v)
+pub times_sum : (w : ℕ) (p : ℕ → ℤ) (k l : ℤ) (a b : Linears) (u v : ℤ) → (u ≡ k) ⊎ (v ≡ l) → IsSum w p a u → IsSum w p b v → IsSum w p (linear_times k l a b) (u *ℤ v)
 times_sum w p k l a b u v c h i =
     over_sum w p a b u v (u *ℤ v) (λ n. scaled k (after a b n).terms ++ scaled l (a n).terms) (λ n. ((k *ℤ (after a b n).constant) +ℤ (l *ℤ (a n).constant)) -ℤ (k *ℤ l)) h i
     (λ n m z j. IsBelow-append m (scaled k (after a b n).terms) (scaled l (a n).terms) (IsBelow-scaled m k (after a b n).terms j.second) (IsBelow-scaled m l (a n).terms j.first))

@@ -14,13 +14,13 @@ use Rattle.lin_rows.specs.Points.{point_of}
 use Rattle.letter_acts.specs.Frames.{Columns, IsState, IsValue}
 use Rattle.cond_jumps.specs.Conjunctions.{Just}
 use Rattle.cond_jumps.specs.Forms.{column}
-use Rattle.cond_jumps.specs.Comparisons.{named}
-use Rattle.cond_jumps.specs.Frames.{same_column, place_from, or_else, if_constant, is_constant_place, fixed_in, place, sum_at, plan_at, frame_environment, IsShown}
+use Rattle.cond_jumps.specs.Comparisons.{truth_of_column}
+use Rattle.cond_jumps.specs.Frames.{same_frame_column, place_from, or_else, if_constant, is_constant_place, fixed_in, column_place_in, linear_at, plan_at, frame_environment, IsShown}
 use Rattle.cond_jumps.specs.Worth.{IsSum, IsChoice, Shows}
 use Rattle.cond_jumps.proofs.FormLemmas.{column_sum}
 use Rattle.cond_jumps.proofs.ComparisonLemmas.{named_path}
 
-pub same_column_is : (c d : Column) → same_column c d ≡ true → c ≡ d
+pub same_column_is : (c d : Column) → same_frame_column c d ≡ true → c ≡ d
 same_column_is (columns.Global m) (columns.Global n) e = ap columns.Global (eqb-true m n e)
 same_column_is (columns.Global m) (columns.Old n) e = absurd (false≢true e)
 same_column_is (columns.Global m) (columns.Local n) e = absurd (false≢true e)
@@ -40,9 +40,9 @@ pub record IsFound (k : ℕ) (frame : Columns) (c : Column) (x : ℕ × VarInfo)
 
 pub found_from : (k : ℕ) (frame : Columns) (c : Column) (x : ℕ × VarInfo) → place_from k frame c ≡ Some x → IsFound k frame c x
 found_from k [] c x e = absurd (cc)
-found_from k (d ∷ ds) c x e = by_test (same_column d.0 c) refl (found_from (suc k) ds c x) e
+found_from k (d ∷ ds) c x e = by_test (same_frame_column d.0 c) refl (found_from (suc k) ds c x) e
   where
-    by_test : (b : Bool) → same_column d.0 c ≡ b → (place_from (suc k) ds c ≡ Some x → IsFound (suc k) ds c x) →
+    by_test : (b : Bool) → same_frame_column d.0 c ≡ b → (place_from (suc k) ds c ≡ Some x → IsFound (suc k) ds c x) →
         (if b then Some (k, d.1) else place_from (suc k) ds c) ≡ Some x → IsFound k (d ∷ ds) c x
     by_test true f h g =
         let i : k ≡ x.0 = cc in
@@ -103,13 +103,13 @@ placed_old frame s values n x None (Some y) h f g e = by_test y.1.constant refl 
           typed = (let P : ℤ → Type 0 = λ z. IsValue x.1.ty z in subst P (sym o) r.typed);
         }
 
-pub placed : (frame : Columns) (s : State) (values : List ℤ) (c : Column) (x : ℕ × VarInfo) → IsShown frame s values → place frame c ≡ Some x → IsPlaced frame s values c x
+pub placed : (frame : Columns) (s : State) (values : List ℤ) (c : Column) (x : ℕ × VarInfo) → IsShown frame s values → column_place_in frame c ≡ Some x → IsPlaced frame s values c x
 placed frame s values (columns.Global n) x h e = placed_at frame s values (columns.Global n) x h (found_from 0 frame (columns.Global n) x e)
 placed frame s values (columns.Old n) x h e = placed_old frame s values n x (place_from 0 frame (columns.Old n)) (place_from 0 frame (columns.Global n)) h refl refl e
 placed frame s values (columns.Local n) x h e = placed_at frame s values (columns.Local n) x h (found_from 0 frame (columns.Local n) x e)
 
 -- a numbered column that has a truth value
-pub named_choice : (w : ℕ) (p : ℕ → ℤ) (c : ℕ) (v : ℤ) → c < w → p c ≡ v → IsTruth v → IsChoice w p (λ want. Just (named c want)) v
+pub named_choice : (w : ℕ) (p : ℕ → ℤ) (c : ℕ) (v : ℤ) → c < w → p c ≡ v → IsTruth v → IsChoice w p (λ want. Just (truth_of_column c want)) v
 named_choice w p c v l e t = record { truth_value = t; path = λ want. named_path w p c want v l e }
 
 is_truth_value : (t : Ty) (v : ℤ) → t ≡ types.Bool → IsValue t v → IsTruth v
@@ -121,8 +121,8 @@ pub frame_shows : (frame : Columns) (s : State) (values : List ℤ) → IsShown 
 frame_shows frame s values h =
     record {
       constants = λ c e. constant_stays c e;
-      sums = λ c t. sum_of_place c (place frame c) refl t;
-      choices = λ c t. choice_of_place c (place frame c) refl t;
+      sums = λ c t. sum_of_place c (column_place_in frame c) refl t;
+      choices = λ c t. choice_of_place c (column_place_in frame c) refl t;
     }
   where
     of_place : (n : ℕ) (o : Option (ℕ × VarInfo)) → place_from 0 frame (columns.Global n) ≡ o → is_constant_place o ≡ true → member s.old n ≡ member s.globals n
@@ -134,14 +134,14 @@ frame_shows frame s values h =
     constant_stays (columns.Old n) e = absurd (false≢true e)
     constant_stays (columns.Local n) e = absurd (false≢true e)
 
-    sum_of_place : (c : Column) (o : Option (ℕ × VarInfo)) → place frame c ≡ o → option_map (λ x. x.1.ty) o ≡ Some types.Int →
-        IsSum (length frame) (point_of values) (sum_at o) (column_value s c)
+    sum_of_place : (c : Column) (o : Option (ℕ × VarInfo)) → column_place_in frame c ≡ o → option_map (λ x. x.1.ty) o ≡ Some types.Int →
+        IsSum (length frame) (point_of values) (linear_at o) (column_value s c)
     sum_of_place c None e t = absurd (cc)
     sum_of_place c (Some x) e t =
         let r = placed frame s values c x h e in
         subst (IsSum (length frame) (point_of values) (column x.0)) r.value_is (column_sum (length frame) (point_of values) x.0 r.inside)
 
-    choice_of_place : (c : Column) (o : Option (ℕ × VarInfo)) → place frame c ≡ o → option_map (λ x. x.1.ty) o ≡ Some types.Bool →
+    choice_of_place : (c : Column) (o : Option (ℕ × VarInfo)) → column_place_in frame c ≡ o → option_map (λ x. x.1.ty) o ≡ Some types.Bool →
         IsChoice (length frame) (point_of values) (plan_at o) (column_value s c)
     choice_of_place c None e t = absurd (cc)
     choice_of_place c (Some x) e t =

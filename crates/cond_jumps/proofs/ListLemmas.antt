@@ -8,7 +8,7 @@ use Rattle.typed_tree.specs.TypedTree.{TypedExpression}
 use Rattle.typed_tree.specs.Values.{State, column_value, value, truth}
 use Rattle.letter_acts.specs.Values.{HoldBeyond}
 use Rattle.letter_acts.proofs.PointLemmas.{point_of-left, point_of-right, same_points, state_length, helpers_as_point}
-use Rattle.cond_jumps.specs.Conjunctions.{Conjunction, Jumps, listed}
+use Rattle.cond_jumps.specs.Conjunctions.{Conjunction, Jumps, listed_plan}
 use Rattle.cond_jumps.specs.Forms.{Linears}
 use Rattle.cond_jumps.specs.Paths.{paths, assigns}
 use Rattle.cond_jumps.specs.Meaning.{Agrees, Extends, Meets, Sole, Single, Narrow, IsPath}
@@ -96,7 +96,7 @@ pub paths_decide : PathsMean
 paths_decide frame s values e want h c =
     let k : IsChoice (length frame) (point_of values) (paths (frame_environment frame) false e) (value s e) =
     paths_mean (length frame) (point_of values) (frame_environment frame) s (frame_shows frame s values h) false e c.typed c.linear in
-    decided_at (length frame) (point_of values) (listed (paths (frame_environment frame) false e want)) (value s e ≡ truth want) values (length frame)
+    decided_at (length frame) (point_of values) (listed_plan (paths (frame_environment frame) false e want)) (value s e ≡ truth want) values (length frame)
     (state_length frame values h.state) (k.path want) (omega arith) (agrees_refl (length frame) (point_of values))
 
 pub conditions_are_truths : ConditionsAreTruths
@@ -125,7 +125,7 @@ shows_agrees w p q v s a h =
       sums = λ c t. sum_agrees w p q (v.sum c) (column_value s c) a (h.sums c t);
       choices = λ c t.
           let k = h.choices c t in
-          record { truth_value = k.truth_value; path = λ want. path_agrees w p q (listed (v.plan c want)) (column_value s c ≡ truth want) a (k.path want) };
+          record { truth_value = k.truth_value; path = λ want. path_agrees w p q (listed_plan (v.plan c want)) (column_value s c ≡ truth want) a (k.path want) };
     }
 
 -- the point has these values from column j on
@@ -177,11 +177,11 @@ assigns_decide frame s values news es h c l =
     let e : length values ≡ n = state_length frame values h.state in
     let a : Agrees n (point_of values) p = (let P : ℕ → Type 0 = λ k. Agrees k (point_of values) p in subst P e (longer_agrees values news)) in
     let k : Shows n p v s = shows_agrees n (point_of values) p v s a (frame_shows frame s values h) in
-    let i : IsPath m p (listed (assigns v n es)) (Read p n (map (value s) es)) = assigns_mean n m p v s k (omega arith) es c n (omega arith) in
+    let i : IsPath m p (listed_plan (assigns v n es)) (Read p n (map (value s) es)) = assigns_mean n m p v s k (omega arith) es c n (omega arith) in
     let f : length news ≡ length zs = l ∙ sym (length-values s es) in
     let so : Read p n zs → news ≡ zs =
     (λ r. let P : ℕ → Type 0 = λ j. Read p j zs in read_so p (length values) news zs (has_after values news) f (subst P (sym e) r)) in
     let back : news ≡ zs → Read p n zs = (λ r. let P : ℕ → Type 0 = λ j. Read p j zs in subst P e (read_back values news zs r)) in
     let g : length (values ++ news) ≡ m = length-append values news ∙ (λ d. e d + l d) in
-    decided_at m p (listed (assigns v n es)) (news ≡ zs) (values ++ news) m g
-    (path_as m p (listed (assigns v n es)) (Read p n zs) (news ≡ zs) so back i) (omega arith) (agrees_refl m p)
+    decided_at m p (listed_plan (assigns v n es)) (news ≡ zs) (values ++ news) m g
+    (path_as m p (listed_plan (assigns v n es)) (Read p n zs) (news ≡ zs) so back i) (omega arith) (agrees_refl m p)

@@ -10,7 +10,7 @@ use Rattle.lin_rows.specs.declared.types.RowKind.TheVariants.{Le}
 use Rattle.lin_rows.specs.Rows.{LinearRow, AscendsFrom, IsCoefficient, IsRow}
 use Rattle.lin_rows.proofs.RowLemmas.{summed_of_terms}
 use Rattle.lin_rows.specs.Sums.{is_zero, led_by, added_at, summed, row_of, SumsFit}
-use Rattle.cond_jumps.specs.Forms.{Linear, Linears, number, column, negated, after, over, plus, minus, times, quotient_rows, over_quotient, divided, remaining}
+use Rattle.cond_jumps.specs.Forms.{Linear, Linears, linear_number, column, linear_negated, after, linear_over, linear_plus, linear_minus, linear_times, quotient_rows, over_quotient, linear_divided, remaining}
 use Rattle.cond_jumps.specs.Moving.{moved_column, moved_terms, moved_row, moved_sum, IsEvenSum}
 use Rattle.cond_jumps.specs.Totals.{AreTotals}
 use Rattle.cond_jumps.proofs.TotalLemmas.{totals_sums_fit}
@@ -81,7 +81,7 @@ row_of-moved w k ts us kind bound e =
 pub same_linear : (x y : Linear) → x.terms ≡ y.terms → x.constant ≡ y.constant → x.rows ≡ y.rows → x.helpers ≡ y.helpers → x ≡ y
 same_linear x y t c r h = λ i. record { terms = t i; constant = c i; rows = r i; helpers = h i }
 
-pub number_even : (w : ℕ) (z : ℤ) → IsEvenSum w (number z)
+pub number_even : (w : ℕ) (z : ℤ) → IsEvenSum w (linear_number z)
 number_even w z n k l = refl
 
 pub column_even : (w c : ℕ) → c < w → IsEvenSum w (column c)
@@ -89,7 +89,7 @@ column_even w c inside n k l =
     let e : c ≡ moved_column w k c = sym (moved_before w k c inside) in
     same_linear (column c (n + k)) (moved_sum w k (column c n)) (ap (λ (d : ℕ). (d, pos 1) ∷ []) e) refl refl refl
 
-pub negated_even : (w : ℕ) (a : Linears) → IsEvenSum w a → IsEvenSum w (negated a)
+pub negated_even : (w : ℕ) (a : Linears) → IsEvenSum w a → IsEvenSum w (linear_negated a)
 negated_even w a h n k l =
     let F : Linear → Linear = λ x. record x { terms = opposite x.terms; constant = neg_ℤ x.constant } in
     ap F (h n k l) ∙ same_linear (F (moved_sum w k (a n))) (moved_sum w k (F (a n))) (opposite-moved w k (a n).terms) refl refl refl
@@ -104,9 +104,9 @@ after_even w a b h i n k l =
 over_even : (w : ℕ) (a b : Linears) (terms : Linear → Linear → List (ℕ × ℤ)) (constant : Linear → Linear → ℤ) → IsEvenSum w a → IsEvenSum w b →
     ((k : ℕ) (x y : Linear) → terms (moved_sum w k x) (moved_sum w k y) ≡ moved_terms w k (terms x y)) →
     ((k : ℕ) (x y : Linear) → constant (moved_sum w k x) (moved_sum w k y) ≡ constant x y) →
-    IsEvenSum w (λ n. over (a n) (after a b n) (terms (a n) (after a b n)) (constant (a n) (after a b n)))
+    IsEvenSum w (λ n. linear_over (a n) (after a b n) (terms (a n) (after a b n)) (constant (a n) (after a b n)))
 over_even w a b terms constant h i t c n k l =
-    let F : Linear → Linear → Linear = λ x y. over x y (terms x y) (constant x y) in
+    let F : Linear → Linear → Linear = λ x y. linear_over x y (terms x y) (constant x y) in
     let e : a (n + k) ≡ moved_sum w k (a n) = h n k l in
     let f : after a b (n + k) ≡ moved_sum w k (after a b n) = after_even w a b h i n k l in
     let x : Linear = a n in
@@ -114,7 +114,7 @@ over_even w a b terms constant h i t c n k l =
     let j : F (a (n + k)) (after a b (n + k)) ≡ F (moved_sum w k x) (moved_sum w k y) = (λ d. F (e d) (f d)) in
     j ∙ same_linear (F (moved_sum w k x) (moved_sum w k y)) (moved_sum w k (F x y)) (t k x y) (c k x y) (sym (map_append (moved_row w k) x.rows y.rows)) refl
 
-pub plus_even : (w : ℕ) (a b : Linears) → IsEvenSum w a → IsEvenSum w b → IsEvenSum w (plus a b)
+pub plus_even : (w : ℕ) (a b : Linears) → IsEvenSum w a → IsEvenSum w b → IsEvenSum w (linear_plus a b)
 plus_even w a b h i =
     over_even w a b (λ x y. x.terms ++ y.terms) (λ x y. x.constant +ℤ y.constant) h i
     (λ k x y. sym (map_append (λ (t : ℕ × ℤ). (moved_column w k t.0, t.1)) x.terms y.terms)) (λ k x y. refl)
@@ -125,11 +125,11 @@ difference-moved w k x y =
     ap (λ (l : List (ℕ × ℤ)). moved_terms w k x.terms ++ l) (opposite-moved w k y.terms)
     ∙ sym (map_append (λ (t : ℕ × ℤ). (moved_column w k t.0, t.1)) x.terms (opposite y.terms))
 
-pub minus_even : (w : ℕ) (a b : Linears) → IsEvenSum w a → IsEvenSum w b → IsEvenSum w (minus a b)
+pub minus_even : (w : ℕ) (a b : Linears) → IsEvenSum w a → IsEvenSum w b → IsEvenSum w (linear_minus a b)
 minus_even w a b h i =
     over_even w a b (λ x y. x.terms ++ opposite y.terms) (λ x y. x.constant -ℤ y.constant) h i (λ k x y. difference-moved w k x y) (λ k x y. refl)
 
-pub times_even : (w : ℕ) (m l : ℤ) (a b : Linears) → IsEvenSum w a → IsEvenSum w b → IsEvenSum w (times m l a b)
+pub times_even : (w : ℕ) (m l : ℤ) (a b : Linears) → IsEvenSum w a → IsEvenSum w b → IsEvenSum w (linear_times m l a b)
 times_even w m l a b h i =
     over_even w a b (λ x y. scaled m y.terms ++ scaled l x.terms) (λ x y. ((m *ℤ y.constant) +ℤ (l *ℤ x.constant)) -ℤ (m *ℤ l)) h i
     (λ k x y.
@@ -172,7 +172,7 @@ over_quotient_even w m a terms constant h t c n k l =
     ∙ sym (map_append (moved_row w k) x.rows (quotient_rows m x q)))
     refl
 
-pub divided_even : (w : ℕ) (m : ℤ) (a : Linears) → IsEvenSum w a → IsEvenSum w (divided m a)
+pub divided_even : (w : ℕ) (m : ℤ) (a : Linears) → IsEvenSum w a → IsEvenSum w (linear_divided m a)
 divided_even w m a h =
     over_quotient_even w m a (λ x q. (q, pos 1) ∷ []) (λ x. pos 0) h (λ k q r x e. ap (λ (c : ℕ). (c, pos 1) ∷ []) e) (λ k x. refl)
 

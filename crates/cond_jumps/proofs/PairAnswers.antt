@@ -15,9 +15,9 @@ use Rattle.cond_jumps.specs.declared.refusal.Refusal.{Refusal}
 use Rattle.cond_jumps.specs.declared.refusal.Refusal.TheVariants.{TooBig}
 use Rattle.cond_jumps.specs.declared.shapes.Shape.{Shape}
 use Rattle.cond_jumps.specs.declared.widths.Counts.{Counts}
-use Rattle.cond_jumps.specs.Comparisons.{never, named, operation}
+use Rattle.cond_jumps.specs.Comparisons.{no_jumps, truth_of_column, operation_plan}
 use Rattle.cond_jumps.specs.Conjs.{conjunctions}
-use Rattle.cond_jumps.specs.Conjunctions.{Plan, Just, Then, With, listed, list_fits, is_long, is_wide, all_fit}
+use Rattle.cond_jumps.specs.Conjunctions.{Plan, Just, Then, With, listed_plan, list_fits, is_long, is_wide, all_fit}
 use Rattle.cond_jumps.specs.Environments.{Environment}
 use Rattle.cond_jumps.specs.Forms.{Linears}
 use Rattle.cond_jumps.specs.ListView.{IsPlanList, IsPlanAnswer, sums_plan, shape_of, plan_of, other_plan_of, asked}
@@ -33,10 +33,10 @@ use Rattle.cond_jumps.proofs.WidthAnswers.{first_wide, second_wide}
 pub asked_true : (b : Bool) (p : Plan) → b ≡ true → asked b p ≡ p
 asked_true b p e = ap (λ (x : Bool). asked x p) e
 
-pub asked_false : (b : Bool) (p : Plan) → b ≡ false → asked b p ≡ Just never
+pub asked_false : (b : Bool) (p : Plan) → b ≡ false → asked b p ≡ Just no_jumps
 asked_false b p e = ap (λ (x : Bool). asked x p) e
 
-pub no_list : (n : ℕ) (v : Vec Conj Global) → v.items ≡ [] → IsPlanList (Just never) n v
+pub no_list : (n : ℕ) (v : Vec Conj Global) → v.items ≡ [] → IsPlanList (Just no_jumps) n v
 no_list n v e = record { seen = ap conjunctions e; fit = refl }
 
 pub not_asked : (b : Bool) (p : Plan) (n : ℕ) (v : Vec Conj Global) → b ≡ false → v.items ≡ [] → IsPlanList (asked b p) n v
@@ -49,10 +49,10 @@ pub was_asked : (b : Bool) (p : Plan) (n : ℕ) (v : Vec Conj Global) → b ≡ 
 was_asked b p n v e h = let P : Plan → Type 0 = λ z. IsPlanList z n v in subst P (asked_true b p e) h
 
 -- a list of one member
-pub one_width : (c : ℕ) (want : Bool) (n : ℕ) → IsWidth (Just (named c want)) n 1
+pub one_width : (c : ℕ) (want : Bool) (n : ℕ) → IsWidth (Just (truth_of_column c want)) n 1
 one_width c want n = record { narrow = refl; exact = refl }
 
-pub no_width : (n : ℕ) → IsWidth (Just never) n 0
+pub no_width : (n : ℕ) → IsWidth (Just no_jumps) n 0
 no_width n = record { narrow = refl; exact = refl }
 
 pub width_not_asked : (b : Bool) (p : Plan) (n : ℕ) → b ≡ false → IsWidth (asked b p) n 0
@@ -75,22 +75,22 @@ pub record IsFault (U : Plan → Type 0) : Type 0 where
 pub unfit : (n : ℕ) → IsFault (λ p. all_fit p n ≡ false)
 unfit n =
     record {
-      with_first = λ p q h. and_second (list_fits (listed (With p q) n)) (all_fit p n && all_fit q n) (and_first (all_fit p n) (all_fit q n) h);
-      with_second = λ p q h. and_second (list_fits (listed (With p q) n)) (all_fit p n && all_fit q n) (and_second (all_fit p n) (all_fit q n) h);
+      with_first = λ p q h. and_second (list_fits (listed_plan (With p q) n)) (all_fit p n && all_fit q n) (and_first (all_fit p n) (all_fit q n) h);
+      with_second = λ p q h. and_second (list_fits (listed_plan (With p q) n)) (all_fit p n && all_fit q n) (and_second (all_fit p n) (all_fit q n) h);
     }
 
 -- lists that are too wide
 pub wide : (n : ℕ) → IsFault (λ p. is_wide p n ≡ true)
 wide n =
     record {
-      with_first = λ p q h. first_wide (is_long (listed (With p q) n)) (is_wide p n) (is_wide q n) h;
-      with_second = λ p q h. second_wide (is_long (listed (With p q) n)) (is_wide p n) (is_wide q n) h;
+      with_first = λ p q h. first_wide (is_long (listed_plan (With p q) n)) (is_wide p n) (is_wide q n) h;
+      with_second = λ p q h. second_wide (is_long (listed_plan (With p q) n)) (is_wide p n) (is_wide q n) h;
     }
 
 -- one of two lists that are followed is too wide
 pub either_wide : (p q a b : Plan) (n : ℕ) → IsEitherWide p q n → is_wide (Then (With p a) (With q b)) n ≡ true
-either_wide p q a b n (inl h) = first_wide (is_long (listed (Then (With p a) (With q b)) n)) (is_wide (With p a) n) (is_wide (With q b) n) ((wide n).with_first p a h)
-either_wide p q a b n (inr h) = second_wide (is_long (listed (Then (With p a) (With q b)) n)) (is_wide (With p a) n) (is_wide (With q b) n) ((wide n).with_first q b h)
+either_wide p q a b n (inl h) = first_wide (is_long (listed_plan (Then (With p a) (With q b)) n)) (is_wide (With p a) n) (is_wide (With q b) n) ((wide n).with_first p a h)
+either_wide p q a b n (inr h) = second_wide (is_long (listed_plan (Then (With p a) (With q b)) n)) (is_wide (With p a) n) (is_wide (With q b) n) ((wide n).with_first q b h)
 
 -- faults that are handed on
 pub list_handed_on : (p : Plan) (n : ℕ) (r : Result (Vec Conj Global) Refusal) (f : Refusal) → IsErrAnd r (λ g. g ≡ f) → (f ≡ TooBig → all_fit p n ≡ false) → IsPlanAnswer p n r
@@ -111,7 +111,7 @@ widths_handed_on p q n (Err g) f h k = ((λ e. k.0 (sym h ∙ e)), (λ e. k.1 (s
 
 -- the plan of an operation that has the other value, by its shape
 other_shape_plan : (op : Op) (kind : Bool) (a b : Bool → Plan) (x y : Linears) (want : Bool) →
-    operation op kind a b x y (not want) ≡ other_plan_of (shape_of op kind want) a b (sums_plan op x y (not want))
+    operation_plan op kind a b x y (not want) ≡ other_plan_of (shape_of op kind want) a b (sums_plan op x y (not want))
 other_shape_plan Iff kind a b x y true = refl
 other_shape_plan Iff kind a b x y false = refl
 other_shape_plan Implies kind a b x y true = refl

@@ -14,7 +14,7 @@ use Rattle.typed_tree.specs.Laws.{IsTruth, FixedStay}
 use Rattle.letter_acts.specs.Frames.{IsValue}
 use Rattle.cond_jumps.specs.Forms.{column}
 use Rattle.cond_jumps.specs.Environments.{Environment}
-use Rattle.cond_jumps.specs.Passing.{Standing, Same, Numbered, Passed, standing_type, standing_sum, standing_plan, standing_environment, passed, passed_state, left_in, locals_of, imported, imported_state}
+use Rattle.cond_jumps.specs.Passing.{Standing, Same, Numbered, Passed, standing_type, standing_sum, standing_plan, standing_environment, passed, passed_state, left_in, passed_locals, imported, imported_state}
 use Rattle.cond_jumps.specs.Worth.{IsSum, IsChoice, Shows}
 use Rattle.cond_jumps.proofs.FormLemmas.{column_sum}
 use Rattle.cond_jumps.proofs.LinearLemmas.{linear_form}
@@ -102,7 +102,7 @@ global_stands m p v s globals n (Some x) h = h
 
 local_stands : (m : ℕ) (p : ℕ → ℤ) (v : Environment) (s : State) (args : List TypedExpression) (results : List (ℕ × Ty)) (zs : List ℤ) →
     AllByRecursion (λ e. is_linear v.fixed false e ≡ true) args → AreResults m p results zs → (n : ℕ) →
-    IsStanding m p v s (slice_get (locals_of args results) n) (member (map (value s) args ++ zs) n)
+    IsStanding m p v s (slice_get (passed_locals args results) n) (member (map (value s) args ++ zs) n)
 local_stands m p v s (e ∷ es) results zs h k zero = (h.0, refl)
 local_stands m p v s (e ∷ es) results zs h k (suc n) = local_stands m p v s es results zs h.1 k n
 local_stands m p v s [] [] zs h k n = tt

@@ -5,12 +5,12 @@ use Rattle.boogie_tree.specs.declared.tree.Ty.{Ty}
 use Rattle.boogie_tree.specs.declared.tree.Ty.TheVariants as types
 use Rattle.typed_tree.specs.TypedTree.{TypedExpression, Lit, Truth, Var, Old, Not, Neg, Bin}
 use Rattle.typed_tree.specs.Typing.{same_type, operation_type}
-use Rattle.typed_tree.specs.Values.{State, column_value, value, truth, is_zero, operation_value}
+use Rattle.typed_tree.specs.Values.{State, column_value, value, truth, value_is_zero, operation_value}
 use Rattle.typed_tree.specs.AffineForm.{read_at, is_linear}
 use Rattle.typed_tree.specs.Laws.{state_of}
 use Rattle.cond_jumps.specs.Conjunctions.{Plan}
 use Rattle.cond_jumps.specs.Forms.{Linears}
-use Rattle.cond_jumps.specs.Comparisons.{operation}
+use Rattle.cond_jumps.specs.Comparisons.{operation_plan}
 use Rattle.cond_jumps.specs.Environments.{Environment, type_in}
 use Rattle.cond_jumps.specs.Paths.{linear, is_truth, paths}
 use Rattle.cond_jumps.specs.Worth.{IsSum, IsChoice, Shows}
@@ -20,7 +20,7 @@ use Rattle.cond_jumps.proofs.TypeLemmas.{AreTyped, operands, only_is, not_both, 
 use Rattle.cond_jumps.proofs.TestLemmas.{IsTestOf, choice_of_test, test_of_choice, literal_test, not_test}
 use Rattle.cond_jumps.proofs.OperationLemmas.{sums_operation, choices_operation}
 
-not_value : (b : Bool) → truth (is_zero (truth b)) ≡ truth (not b)
+not_value : (b : Bool) → truth (value_is_zero (truth b)) ≡ truth (not b)
 not_value true = refl
 not_value false = refl
 
@@ -28,12 +28,12 @@ not_value false = refl
 operation_test : (w : ℕ) (p : ℕ → ℤ) (op : Op) (t : Ty) (kind : Bool) (a b : Bool → Plan) (xs ys : Linears) (u v : ℤ) →
     operation_type op t t ≡ Some types.Bool → kind ≡ same_type types.Bool t →
     (t ≡ types.Bool → IsTestOf w p a u) → (t ≡ types.Bool → IsTestOf w p b v) → (t ≡ types.Int → IsSum w p xs u) → (t ≡ types.Int → IsSum w p ys v) →
-    IsTestOf w p (operation op kind a b xs ys) (operation_value op u v)
+    IsTestOf w p (operation_plan op kind a b xs ys) (operation_value op u v)
 operation_test w p op types.Bool kind a b xs ys u v e k h i f g =
-    let P : Bool → Type 0 = λ z. IsTestOf w p (operation op z a b xs ys) (operation_value op u v) in
+    let P : Bool → Type 0 = λ z. IsTestOf w p (operation_plan op z a b xs ys) (operation_value op u v) in
     subst P (sym k) (choices_operation w p op a b xs ys u v e (h refl) (i refl))
 operation_test w p op types.Int kind a b xs ys u v e k h i f g =
-    let P : Bool → Type 0 = λ z. IsTestOf w p (operation op z a b xs ys) (operation_value op u v) in
+    let P : Bool → Type 0 = λ z. IsTestOf w p (operation_plan op z a b xs ys) (operation_value op u v) in
     subst P (sym k) (sums_operation w p op a b xs ys u v e (f refl) (g refl))
 
 -- the plans of a condition follow its value
@@ -51,7 +51,7 @@ paths_test w p v s h old (Not at e) t l =
     let r = paths_test w p v s h old e (only_is types.Bool (type_in v old e) types.Bool t).0 l in
     record {
       truth_value = not r.truth_value;
-      is = ap (λ (z : ℤ). truth (is_zero z)) r.is ∙ not_value r.truth_value;
+      is = ap (λ (z : ℤ). truth (value_is_zero z)) r.is ∙ not_value r.truth_value;
       test = not_test w p (paths v old e) r.truth_value r.test;
     }
 paths_test w p v s h old (Neg at e) t l = absurd (not_both (sym (only_is types.Int (type_in v old e) types.Bool t).1))

@@ -6,7 +6,7 @@ use Rattle.boogie_tree.specs.declared.tree.Column.{Column}
 use Rattle.boogie_tree.specs.declared.tree.VarInfo.{VarInfo}
 use Rattle.letter_acts.specs.Frames.{Columns}
 use Rattle.cond_jumps.specs.declared.columns.Spot.{Spot}
-use Rattle.cond_jumps.specs.Frames.{same_column, place_from}
+use Rattle.cond_jumps.specs.Frames.{same_frame_column, place_from}
 use Rattle.cond_jumps.specs.CodeView.{IsPlaceFound, FoundAt}
 
 slice_get_is : {X : Type 0} (xs : List X) (i : ℕ) (d e : X) → slice_get xs i ≡ Some e → get_or xs i d ≡ e
@@ -19,7 +19,7 @@ slice_get_inside [] i l = absurd (omega arith)
 slice_get_inside (x ∷ xs) zero l = (x, refl)
 slice_get_inside (x ∷ xs) (suc i) l = slice_get_inside xs i (omega arith)
 
-pub found_here : (columns : Columns) (c : Column) (i : ℕ) (x : Column × VarInfo) → i < length columns → x ≡ get_or columns i x → same_column x.0 c ≡ true →
+pub found_here : (columns : Columns) (c : Column) (i : ℕ) (x : Column × VarInfo) → i < length columns → x ≡ get_or columns i x → same_frame_column x.0 c ≡ true →
     place_from i (drop i columns) c ≡ place_from 0 columns c → FoundAt columns c i
 found_here columns c i x l e t h =
     let k : drop i columns ≡ x ∷ drop (suc i) columns = drop-cons columns i x l ∙ (λ j. sym e j ∷ drop (suc i) columns) in

@@ -3,7 +3,7 @@ use Rattle.std.proofs.Common.{◌≡◌, ℕ, zero, suc, ℤ, pos, negsuc, ◌+�
 use Rattle.std.specs.Prelude.{unsigned_abs}
 use Rattle.std.proofs.lemmas.Int.{ints}
 use Rattle.math_facts.proofs.Whole.{distrib_left, product_one_right, product_neg_left, product_neg_right, cancel_strict}
-use Rattle.typed_tree.specs.Values.{is_zero, div_of, mod_of}
+use Rattle.typed_tree.specs.Values.{value_is_zero, div_of, mod_of}
 use Rattle.typed_tree.proofs.Euclidean.{euclidean}
 
 -- the rows of the helper of a quotient, at amounts
@@ -12,7 +12,7 @@ pub record IsBetween (k a q : ℤ) : Type 0 where
   pub high : (a -ℤ (k *ℤ q)) ≤ℤ (pos (unsigned_abs k) -ℤ pos 1)
 
 -- the quotient meets them
-pub quotient_between : (a k : ℤ) → is_zero k ≡ false → IsBetween k a (div_of a k)
+pub quotient_between : (a k : ℤ) → value_is_zero k ≡ false → IsBetween k a (div_of a k)
 quotient_between a k h =
     let e = euclidean a k h in
     let whole : a ≡ (k *ℤ div_of a k) +ℤ mod_of a k = e.0 in
@@ -36,7 +36,7 @@ one_multiple g a q d l h m i =
     omega (arith, ints)
 
 -- two numbers that meet them are equal
-pub between_once : (k a q d : ℤ) → is_zero k ≡ false → IsBetween k a q → IsBetween k a d → q ≡ d
+pub between_once : (k a q d : ℤ) → value_is_zero k ≡ false → IsBetween k a q → IsBetween k a d → q ≡ d
 between_once (pos zero) a q d h x y = absurd (cc)
 between_once (pos (suc g)) a q d h x y =
     let l : (pos (suc g) *ℤ q) ≤ℤ a = x.low in

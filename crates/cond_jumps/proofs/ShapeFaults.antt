@@ -14,9 +14,9 @@ use Rattle.cond_jumps.specs.declared.shapes.Needs.{Needs}
 use Rattle.cond_jumps.specs.declared.shapes.Shape.{Shape}
 use Rattle.cond_jumps.specs.declared.shapes.Shape.TheVariants as shapes
 use Rattle.cond_jumps.specs.declared.widths.Counts.{Counts}
-use Rattle.cond_jumps.specs.Comparisons.{never}
+use Rattle.cond_jumps.specs.Comparisons.{no_jumps}
 use Rattle.cond_jumps.specs.Environments.{Environment}
-use Rattle.cond_jumps.specs.Conjunctions.{Plan, Just, Then, With, listed, list_fits, is_long, is_wide, all_fit}
+use Rattle.cond_jumps.specs.Conjunctions.{Plan, Just, Then, With, listed_plan, list_fits, is_long, is_wide, all_fit}
 use Rattle.cond_jumps.specs.ListView.{asked, sums_plan, shape_of, plan_of, other_plan_of}
 use Rattle.cond_jumps.specs.Moving.{IsEvenPlan}
 use Rattle.cond_jumps.specs.PairView.{ArePlanAnswers, AreWidthAnswers, IsUnfit, IsEitherWide, crossed}
@@ -28,7 +28,7 @@ use Rattle.cond_jumps.proofs.WidthAnswers.{first_wide, second_wide}
 
 -- a fault of a plan is one of each plan that it is a part of, and the empty list has none
 pub record IsPassedOn (U : Plan → Type 0) : Type 0 where
-  pub none : U (Just never) → ⊥
+  pub none : U (Just no_jumps) → ⊥
   pub then_first : (p q : Plan) → U p → U (Then p q)
   pub then_second : (p q : Plan) → U q → U (Then p q)
   pub with_first : (p q : Plan) → U p → U (With p q)
@@ -39,10 +39,10 @@ pub unfit_on : (n : ℕ) → IsPassedOn (λ p. all_fit p n ≡ false)
 unfit_on n =
     record {
       none = λ e. false≢true (sym e);
-      then_first = λ p q h. and_second (list_fits (listed (Then p q) n)) (all_fit p n && all_fit q n) (and_first (all_fit p n) (all_fit q n) h);
-      then_second = λ p q h. and_second (list_fits (listed (Then p q) n)) (all_fit p n && all_fit q n) (and_second (all_fit p n) (all_fit q n) h);
-      with_first = λ p q h. and_second (list_fits (listed (With p q) n)) (all_fit p n && all_fit q n) (and_first (all_fit p n) (all_fit q n) h);
-      with_second = λ p q h. and_second (list_fits (listed (With p q) n)) (all_fit p n && all_fit q n) (and_second (all_fit p n) (all_fit q n) h);
+      then_first = λ p q h. and_second (list_fits (listed_plan (Then p q) n)) (all_fit p n && all_fit q n) (and_first (all_fit p n) (all_fit q n) h);
+      then_second = λ p q h. and_second (list_fits (listed_plan (Then p q) n)) (all_fit p n && all_fit q n) (and_second (all_fit p n) (all_fit q n) h);
+      with_first = λ p q h. and_second (list_fits (listed_plan (With p q) n)) (all_fit p n && all_fit q n) (and_first (all_fit p n) (all_fit q n) h);
+      with_second = λ p q h. and_second (list_fits (listed_plan (With p q) n)) (all_fit p n && all_fit q n) (and_second (all_fit p n) (all_fit q n) h);
     }
 
 -- lists that are too wide
@@ -50,10 +50,10 @@ pub wide_on : (n : ℕ) → IsPassedOn (λ p. is_wide p n ≡ true)
 wide_on n =
     record {
       none = λ e. false≢true e;
-      then_first = λ p q h. first_wide (is_long (listed (Then p q) n)) (is_wide p n) (is_wide q n) h;
-      then_second = λ p q h. second_wide (is_long (listed (Then p q) n)) (is_wide p n) (is_wide q n) h;
-      with_first = λ p q h. first_wide (is_long (listed (With p q) n)) (is_wide p n) (is_wide q n) h;
-      with_second = λ p q h. second_wide (is_long (listed (With p q) n)) (is_wide p n) (is_wide q n) h;
+      then_first = λ p q h. first_wide (is_long (listed_plan (Then p q) n)) (is_wide p n) (is_wide q n) h;
+      then_second = λ p q h. second_wide (is_long (listed_plan (Then p q) n)) (is_wide p n) (is_wide q n) h;
+      with_first = λ p q h. first_wide (is_long (listed_plan (With p q) n)) (is_wide p n) (is_wide q n) h;
+      with_second = λ p q h. second_wide (is_long (listed_plan (With p q) n)) (is_wide p n) (is_wide q n) h;
     }
 
 -- ---- by the shape of the whole, a fault of the first operand, and one of the second

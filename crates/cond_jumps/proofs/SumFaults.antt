@@ -16,24 +16,24 @@ use Rattle.cond_jumps.specs.declared.sums.Divisor.{Divisor}
 use Rattle.cond_jumps.specs.declared.sums.Sum.{Sum}
 use Rattle.cond_jumps.specs.CodeView.{IsDivisorFound, is_combination, is_division}
 use Rattle.cond_jumps.specs.Environments.{Environment}
-use Rattle.cond_jumps.specs.Forms.{Linear, Linears, number, negated, quotient_rows}
-use Rattle.cond_jumps.specs.Frames.{sum_at}
+use Rattle.cond_jumps.specs.Forms.{Linear, Linears, linear_number, linear_negated, quotient_rows}
+use Rattle.cond_jumps.specs.Frames.{linear_at}
 use Rattle.cond_jumps.specs.Paths.{arithmetic, constant_of, constant_operation, linear}
 use Rattle.cond_jumps.specs.SumView.{sum_of, rows_fit, IsSumOf, IsBoxedAnswer}
 use Rattle.cond_jumps.proofs.AnswerLemmas.{handed_on, first_refused, first_too_big}
 
 -- what stands for a column has no rows, and so stands wherever helpers are numbered from
-pub column_sum_is : (place : Option (ℕ × VarInfo)) (n : ℕ) (s : Sum) → sum_of s ≡ sum_at place 0 → IsSumOf (sum_at place n) s
+pub column_sum_is : (place : Option (ℕ × VarInfo)) (n : ℕ) (s : Sum) → sum_of s ≡ linear_at place 0 → IsSumOf (linear_at place n) s
 column_sum_is None n s e = record { seen = e; fit = refl }
 column_sum_is (Some x) n s e = record { seen = e; fit = refl }
 
 -- the opposite of a sum
 pub opposite_is : (a : Linears) (n : ℕ) (x s : Sum) → IsSumOf (a n) x → sum_of s ≡ record (sum_of x) { terms = opposite (sum_of x).terms; constant = neg_ℤ (sum_of x).constant } →
-    IsSumOf (negated a n) s
+    IsSumOf (linear_negated a n) s
 opposite_is a n x s h e = record { seen = e ∙ ap (λ (y : Linear). record y { terms = opposite y.terms; constant = neg_ℤ y.constant }) h.seen; fit = h.fit }
 
 -- neither `+`, `-` and `*` nor `div` and `mod`
-pub no_arithmetic : (op : Op) (k l : ℤ) (d : Option ℤ) (a b : Linears) → is_combination op ≡ false → is_division op ≡ false → arithmetic op k l d a b ≡ number (pos 0)
+pub no_arithmetic : (op : Op) (k l : ℤ) (d : Option ℤ) (a b : Linears) → is_combination op ≡ false → is_division op ≡ false → arithmetic op k l d a b ≡ linear_number (pos 0)
 no_arithmetic Add k l d a b h i = absurd (false≢true (sym h))
 no_arithmetic Sub k l d a b h i = absurd (false≢true (sym h))
 no_arithmetic Mul k l d a b h i = absurd (false≢true (sym h))
@@ -51,7 +51,7 @@ no_arithmetic Gt k l d a b h i = refl
 no_arithmetic Ge k l d a b h i = refl
 
 -- `div` and `mod` by no divisor
-no_divisor : (op : Op) (k l : ℤ) (d : Option ℤ) (a b : Linears) → is_division op ≡ true → IsDivisorFound d None → arithmetic op k l d a b ≡ number (pos 0)
+no_divisor : (op : Op) (k l : ℤ) (d : Option ℤ) (a b : Linears) → is_division op ≡ true → IsDivisorFound d None → arithmetic op k l d a b ≡ linear_number (pos 0)
 no_divisor Div k l None a b h i = refl
 no_divisor Mod k l None a b h i = refl
 no_divisor Div k l (Some z) a b h i = absurd i
@@ -70,18 +70,18 @@ no_divisor Le k l d a b h i = absurd (false≢true h)
 no_divisor Gt k l d a b h i = absurd (false≢true h)
 no_divisor Ge k l d a b h i = absurd (false≢true h)
 
-zero_is : (x : Linears) (n : ℕ) (r : Result (Box Sum Global) Refusal) → x ≡ number (pos 0) → IsBoxedAnswer (number (pos 0) 0) r → IsBoxedAnswer (x n) r
+zero_is : (x : Linears) (n : ℕ) (r : Result (Box Sum Global) Refusal) → x ≡ linear_number (pos 0) → IsBoxedAnswer (linear_number (pos 0) 0) r → IsBoxedAnswer (x n) r
 zero_is x n r e h = let P : Linears → Type 0 = λ z. IsBoxedAnswer (z n) r in subst P (sym e) h
 
 -- no sum: 0
 pub no_sum_answer : (v : Environment) (old : Bool) (at : Span) (op : Op) (e f : TypedExpression) (n : ℕ) (r : Result (Box Sum Global) Refusal) → is_combination op ≡ false →
-    is_division op ≡ false → IsBoxedAnswer (number (pos 0) 0) r → IsBoxedAnswer (linear v old (Bin at op e f) n) r
+    is_division op ≡ false → IsBoxedAnswer (linear_number (pos 0) 0) r → IsBoxedAnswer (linear v old (Bin at op e f) n) r
 no_sum_answer v old at op e f n r h i z =
     zero_is (linear v old (Bin at op e f)) n r (no_arithmetic op (constant_of e) (constant_of f) (divisor_of f) (linear v old e) (linear v old f) h i) z
 
 -- a division by no divisor: 0
 pub no_quotient_answer : (v : Environment) (old : Bool) (at : Span) (op : Op) (e f d : TypedExpression) (n : ℕ) (r : Result (Box Sum Global) Refusal) → d ≡ f →
-    is_division op ≡ true → IsDivisorFound (divisor_of d) None → IsBoxedAnswer (number (pos 0) 0) r → IsBoxedAnswer (linear v old (Bin at op e f) n) r
+    is_division op ≡ true → IsDivisorFound (divisor_of d) None → IsBoxedAnswer (linear_number (pos 0) 0) r → IsBoxedAnswer (linear v old (Bin at op e f) n) r
 no_quotient_answer v old at op e f d n r i h k z =
     let D : TypedExpression → Type 0 = λ y. IsDivisorFound (divisor_of y) None in
     zero_is (linear v old (Bin at op e f)) n r (no_divisor op (constant_of e) (constant_of f) (divisor_of f) (linear v old e) (linear v old f) h (subst D i k)) z

@@ -7,9 +7,9 @@ use Rattle.boogie_tree.specs.declared.tree.Op.{Op}
 use Rattle.boogie_tree.specs.declared.tree.Op.TheVariants.{Iff, Implies, And, Or, Eq, Ne}
 use Rattle.typed_tree.specs.Values.{truth, same}
 use Rattle.typed_tree.specs.Laws.{IsTruth}
-use Rattle.cond_jumps.specs.Conjunctions.{Jumps, Plan, Then, With, listed}
+use Rattle.cond_jumps.specs.Conjunctions.{Jumps, Plan, Then, With, listed_plan}
 use Rattle.cond_jumps.specs.Forms.{Linears}
-use Rattle.cond_jumps.specs.Comparisons.{never, always, literal, alike, operation}
+use Rattle.cond_jumps.specs.Comparisons.{no_jumps, always, literal, alike, operation_plan}
 use Rattle.cond_jumps.specs.Meaning.{IsPath}
 use Rattle.cond_jumps.specs.Worth.{IsChoice}
 use Rattle.cond_jumps.proofs.MeaningLemmas.{path_as, path_either, path_both}
@@ -22,7 +22,7 @@ is_wanted b false = not b
 
 -- the plans say when the truth value b is the wanted one
 pub record IsTest (w : ℕ) (p : ℕ → ℤ) (a : Bool → Plan) (b : Bool) : Type 0 where
-  pub path : (want : Bool) → IsPath w p (listed (a want)) (is_wanted b want ≡ true)
+  pub path : (want : Bool) → IsPath w p (listed_plan (a want)) (is_wanted b want ≡ true)
 
 -- ---- truth values as numbers
 
@@ -51,7 +51,7 @@ choice_of_test w p a b v e h =
     let P : ℤ → Type 0 = λ z. IsChoice w p a z in
     subst P (sym e) (record {
       truth_value = truth_is b;
-      path = λ want. path_as w p (listed (a want)) (is_wanted b want ≡ true) (truth b ≡ truth want) (wanted_so b want) (wanted_back b want) (h.path want);
+      path = λ want. path_as w p (listed_plan (a want)) (is_wanted b want ≡ true) (truth b ≡ truth want) (wanted_so b want) (wanted_back b want) (h.path want);
     })
 
 -- a number that is a truth value, and a test of it
@@ -65,7 +65,7 @@ test_of_choice w p a v h = by_truth h.truth_value
   where
     as_test : (b : Bool) → v ≡ truth b → IsTest w p a b
     as_test b e = record {
-      path = λ want. path_as w p (listed (a want)) (v ≡ truth want) (is_wanted b want ≡ true)
+      path = λ want. path_as w p (listed_plan (a want)) (v ≡ truth want) (is_wanted b want ≡ true)
           (λ f. wanted_back b want (sym e ∙ f)) (λ f. e ∙ wanted_so b want f) (h.path want);
     }
 
@@ -95,17 +95,17 @@ and_back false y h = absurd (false≢true h)
 apart : (x y : Bool) → (x && y) ≡ false → x ≡ true → y ≡ true → ⊥
 apart x y e f g = false≢true (sym e ∙ and_so x y (f, g))
 
-then_path : (w : ℕ) (p : ℕ → ℤ) (a b : Plan) (x y : Bool) → (x && y) ≡ false → IsPath w p (listed a) (x ≡ true) → IsPath w p (listed b) (y ≡ true) →
-    IsPath w p (listed (Then a b)) ((x || y) ≡ true)
+then_path : (w : ℕ) (p : ℕ → ℤ) (a b : Plan) (x y : Bool) → (x && y) ≡ false → IsPath w p (listed_plan a) (x ≡ true) → IsPath w p (listed_plan b) (y ≡ true) →
+    IsPath w p (listed_plan (Then a b)) ((x || y) ≡ true)
 then_path w p a b x y e h k =
-    path_as w p (listed (Then a b)) ((x ≡ true) ⊎ (y ≡ true)) ((x || y) ≡ true) (or_so x y) (or_back x y)
-    (path_either w p (listed a) (listed b) (x ≡ true) (y ≡ true) (apart x y e) h k)
+    path_as w p (listed_plan (Then a b)) ((x ≡ true) ⊎ (y ≡ true)) ((x || y) ≡ true) (or_so x y) (or_back x y)
+    (path_either w p (listed_plan a) (listed_plan b) (x ≡ true) (y ≡ true) (apart x y e) h k)
 
-with_path : (w : ℕ) (p : ℕ → ℤ) (a b : Plan) (x y : Bool) → IsPath w p (listed a) (x ≡ true) → IsPath w p (listed b) (y ≡ true) →
-    IsPath w p (listed (With a b)) ((x && y) ≡ true)
+with_path : (w : ℕ) (p : ℕ → ℤ) (a b : Plan) (x y : Bool) → IsPath w p (listed_plan a) (x ≡ true) → IsPath w p (listed_plan b) (y ≡ true) →
+    IsPath w p (listed_plan (With a b)) ((x && y) ≡ true)
 with_path w p a b x y h k =
-    path_as w p (listed (With a b)) ((x ≡ true) × (y ≡ true)) ((x && y) ≡ true) (and_so x y) (and_back x y)
-    (path_both w p (listed a) (listed b) (x ≡ true) (y ≡ true) h k)
+    path_as w p (listed_plan (With a b)) ((x ≡ true) × (y ≡ true)) ((x && y) ≡ true) (and_so x y) (and_back x y)
+    (path_both w p (listed_plan a) (listed_plan b) (x ≡ true) (y ≡ true) h k)
 
 -- the same list for an equal test
 as_path : (w : ℕ) (p : ℕ → ℤ) (a : Jumps) (x y : Bool) → x ≡ y → IsPath w p a (x ≡ true) → IsPath w p a (y ≡ true)
@@ -123,10 +123,10 @@ literal_test w p b = record { path = λ want. by_cases b want }
     yes_path : IsPath w p always (true ≡ true)
     yes_path = path_as w p always (Unit {0}) (true ≡ true) (λ x. refl) (λ x. tt) (always_path w p)
 
-    no_path : IsPath w p never (false ≡ true)
-    no_path = path_as w p never ⊥ (false ≡ true) (λ x. absurd x) (λ e. false≢true e) (never_path w p)
+    no_path : IsPath w p no_jumps (false ≡ true)
+    no_path = path_as w p no_jumps ⊥ (false ≡ true) (λ x. absurd x) (λ e. false≢true e) (never_path w p)
 
-    by_cases : (b want : Bool) → IsPath w p (listed (literal b want)) (is_wanted b want ≡ true)
+    by_cases : (b want : Bool) → IsPath w p (listed_plan (literal b want)) (is_wanted b want ≡ true)
     by_cases true true = yes_path
     by_cases true false = no_path
     by_cases false true = no_path
@@ -134,7 +134,7 @@ literal_test w p b = record { path = λ want. by_cases b want }
 
 -- a test of the opposite
 pub not_test : (w : ℕ) (p : ℕ → ℤ) (a : Bool → Plan) (b : Bool) → IsTest w p a b → IsTest w p (λ want. a (not want)) (not b)
-not_test w p a b h = record { path = λ want. as_path w p (listed (a (not want))) (is_wanted b (not want)) (is_wanted (not b) want) (turned b want) (h.path (not want)) }
+not_test w p a b h = record { path = λ want. as_path w p (listed_plan (a (not want))) (is_wanted b (not want)) (is_wanted (not b) want) (turned b want) (h.path (not want)) }
   where
     turned : (b want : Bool) → is_wanted b (not want) ≡ is_wanted (not b) want
     turned true true = refl
@@ -158,7 +158,7 @@ pub alike_test : (w : ℕ) (p : ℕ → ℤ) (a b : Bool → Plan) (x y : Bool) 
 alike_test w p a b x y h k =
     record {
       path = λ want.
-          as_path w p (listed (alike a b want)) ((x && is_wanted y want) || (not x && is_wanted y (not want))) (is_wanted (is_wanted x y) want) (table x y want)
+          as_path w p (listed_plan (alike a b want)) ((x && is_wanted y want) || (not x && is_wanted y (not want))) (is_wanted (is_wanted x y) want) (table x y want)
           (then_path w p (With (a true) (b want)) (With (a false) (b (not want))) (x && is_wanted y want) (not x && is_wanted y (not want)) (once x y want)
           (with_path w p (a true) (b want) x (is_wanted y want) (h.path true) (k.path want))
           (with_path w p (a false) (b (not want)) (not x) (is_wanted y (not want)) (h.path false) (k.path (not want))));
@@ -186,7 +186,7 @@ alike_test w p a b x y h k =
 
 -- one condition, or else its opposite with another
 or_with : (w : ℕ) (p : ℕ → ℤ) (a b : Bool → Plan) (x y : Bool) (first second : Bool) → IsTest w p a x → IsTest w p b y →
-    IsPath w p (listed (Then (a first) (With (a (not first)) (b second)))) ((is_wanted x first || (is_wanted x (not first) && is_wanted y second)) ≡ true)
+    IsPath w p (listed_plan (Then (a first) (With (a (not first)) (b second)))) ((is_wanted x first || (is_wanted x (not first) && is_wanted y second)) ≡ true)
 or_with w p a b x y first second h k =
     then_path w p (a first) (With (a (not first)) (b second)) (is_wanted x first) (is_wanted x (not first) && is_wanted y second) (once x first (is_wanted y second))
     (h.path first) (with_path w p (a (not first)) (b second) (is_wanted x (not first)) (is_wanted y second) (h.path (not first)) (k.path second))
@@ -198,7 +198,7 @@ or_with w p a b x y first second h k =
     once false false z = refl
 
 pub implies_test : (w : ℕ) (p : ℕ → ℤ) (kind : Bool) (a b : Bool → Plan) (xs ys : Linears) (x y : Bool) → IsTest w p a x → IsTest w p b y →
-    IsTest w p (operation Implies kind a b xs ys) (not x || y)
+    IsTest w p (operation_plan Implies kind a b xs ys) (not x || y)
 implies_test w p kind a b xs ys x y h k = record { path = λ want. by_want want }
   where
     table : (x y : Bool) → (not x || (x && y)) ≡ (not x || y)
@@ -209,27 +209,27 @@ implies_test w p kind a b xs ys x y h k = record { path = λ want. by_want want 
     broken true y = refl
     broken false y = refl
 
-    by_want : (want : Bool) → IsPath w p (listed (operation Implies kind a b xs ys want)) (is_wanted (not x || y) want ≡ true)
+    by_want : (want : Bool) → IsPath w p (listed_plan (operation_plan Implies kind a b xs ys want)) (is_wanted (not x || y) want ≡ true)
     by_want true =
-        as_path w p (listed (Then (a false) (With (a true) (b true)))) (not x || (x && y)) (not x || y) (table x y) (or_with w p a b x y false true h k)
+        as_path w p (listed_plan (Then (a false) (With (a true) (b true)))) (not x || (x && y)) (not x || y) (table x y) (or_with w p a b x y false true h k)
     by_want false =
-        as_path w p (listed (With (a true) (b false))) (x && not y) (not (not x || y)) (broken x y) (with_path w p (a true) (b false) x (not y) (h.path true) (k.path false))
+        as_path w p (listed_plan (With (a true) (b false))) (x && not y) (not (not x || y)) (broken x y) (with_path w p (a true) (b false) x (not y) (h.path true) (k.path false))
 
 pub and_test : (w : ℕ) (p : ℕ → ℤ) (kind : Bool) (a b : Bool → Plan) (xs ys : Linears) (x y : Bool) → IsTest w p a x → IsTest w p b y →
-    IsTest w p (operation And kind a b xs ys) (x && y)
+    IsTest w p (operation_plan And kind a b xs ys) (x && y)
 and_test w p kind a b xs ys x y h k = record { path = λ want. by_want want }
   where
     table : (x y : Bool) → (not x || (x && not y)) ≡ not (x && y)
     table true y = refl
     table false y = refl
 
-    by_want : (want : Bool) → IsPath w p (listed (operation And kind a b xs ys want)) (is_wanted (x && y) want ≡ true)
+    by_want : (want : Bool) → IsPath w p (listed_plan (operation_plan And kind a b xs ys want)) (is_wanted (x && y) want ≡ true)
     by_want true = with_path w p (a true) (b true) x y (h.path true) (k.path true)
     by_want false =
-        as_path w p (listed (Then (a false) (With (a true) (b false)))) (not x || (x && not y)) (not (x && y)) (table x y) (or_with w p a b x y false false h k)
+        as_path w p (listed_plan (Then (a false) (With (a true) (b false)))) (not x || (x && not y)) (not (x && y)) (table x y) (or_with w p a b x y false false h k)
 
 pub or_test : (w : ℕ) (p : ℕ → ℤ) (kind : Bool) (a b : Bool → Plan) (xs ys : Linears) (x y : Bool) → IsTest w p a x → IsTest w p b y →
-    IsTest w p (operation Or kind a b xs ys) (x || y)
+    IsTest w p (operation_plan Or kind a b xs ys) (x || y)
 or_test w p kind a b xs ys x y h k = record { path = λ want. by_want want }
   where
     table : (x y : Bool) → (x || (not x && y)) ≡ (x || y)
@@ -240,11 +240,11 @@ or_test w p kind a b xs ys x y h k = record { path = λ want. by_want want }
     broken true y = refl
     broken false y = refl
 
-    by_want : (want : Bool) → IsPath w p (listed (operation Or kind a b xs ys want)) (is_wanted (x || y) want ≡ true)
+    by_want : (want : Bool) → IsPath w p (listed_plan (operation_plan Or kind a b xs ys want)) (is_wanted (x || y) want ≡ true)
     by_want true =
-        as_path w p (listed (Then (a true) (With (a false) (b true)))) (x || (not x && y)) (x || y) (table x y) (or_with w p a b x y true true h k)
+        as_path w p (listed_plan (Then (a true) (With (a false) (b true)))) (x || (not x && y)) (x || y) (table x y) (or_with w p a b x y true true h k)
     by_want false =
-        as_path w p (listed (With (a false) (b false))) (not x && not y) (not (x || y)) (broken x y) (with_path w p (a false) (b false) (not x) (not y) (h.path false) (k.path false))
+        as_path w p (listed_plan (With (a false) (b false))) (not x && not y) (not (x || y)) (broken x y) (with_path w p (a false) (b false) (not x) (not y) (h.path false) (k.path false))
 
 -- ---- comparisons
 

@@ -4,7 +4,7 @@ use Rattle.std.proofs.lemmas.Bool.{lt-ltb}
 use Rattle.std.proofs.lemmas.Bool.Decides.{nat_tests}
 use Rattle.cond_jumps.specs.declared.fault.JumpFault.{JumpFault}
 use Rattle.cond_jumps.specs.declared.fault.JumpFault.TheVariants.{TooWide, TooBig}
-use Rattle.cond_jumps.specs.Conjunctions.{Conjunction, joined, each_with, Plan, Then, With, listed, is_long, is_wide}
+use Rattle.cond_jumps.specs.Conjunctions.{Conjunction, joined, each_with, Plan, Then, With, listed_plan, is_long, is_wide}
 use Rattle.cond_jumps.specs.JoinView.{each_moved}
 use Rattle.cond_jumps.specs.Moving.{moved, IsEvenPlan}
 use Rattle.cond_jumps.specs.WidthView.{IsWidth, IsWidthAnswer, IsLimited}
@@ -49,18 +49,18 @@ all_narrow x a b h k l = rw (h, k, l) refl
 
 pub then_width : (p q : Plan) (n : ℕ) (a b m : ℕ) (r : Result ℕ JumpFault) → IsWidth p n a → IsWidth q n b → m ≡ a + b → IsLimited m r → IsWidthAnswer (Then p q) n r
 then_width p q n a b m (Ok w) h k e l =
-    let d = length-append (listed p n) (listed q n) in
-    let s : length (listed p n ++ listed q n) ≡ m = omega (arith, d, e, h.exact, k.exact) in
+    let d = length-append (listed_plan p n) (listed_plan q n) in
+    let s : length (listed_plan p n ++ listed_plan q n) ≡ m = omega (arith, d, e, h.exact, k.exact) in
     let i : m ≤ 4096 = l.1 in
     record {
-      narrow = all_narrow (is_long (listed p n ++ listed q n)) (is_wide p n) (is_wide q n) (not_long (listed p n ++ listed q n) (omega arith)) h.narrow k.narrow;
+      narrow = all_narrow (is_long (listed_plan p n ++ listed_plan q n)) (is_wide p n) (is_wide q n) (not_long (listed_plan p n ++ listed_plan q n) (omega arith)) h.narrow k.narrow;
       exact = l.0 ∙ sym s;
     }
 then_width p q n a b m (Err f) h k e l =
-    let d = length-append (listed p n) (listed q n) in
-    let s : length (listed p n ++ listed q n) ≡ m = omega (arith, d, e, h.exact, k.exact) in
+    let d = length-append (listed_plan p n) (listed_plan q n) in
+    let s : length (listed_plan p n ++ listed_plan q n) ≡ m = omega (arith, d, e, h.exact, k.exact) in
     let i : 4096 < m = l.1 in
-    ((λ t. ap (λ (x : Bool). x || (is_wide p n || is_wide q n)) (long (listed p n ++ listed q n) (omega arith))), (λ t. not_both (sym l.0 ∙ t)))
+    ((λ t. ap (λ (x : Bool). x || (is_wide p n || is_wide q n)) (long (listed_plan p n ++ listed_plan q n) (omega arith))), (λ t. not_both (sym l.0 ∙ t)))
   where
     not_both : TooWide ≡ TooBig → ⊥
     not_both t = cc
@@ -69,9 +69,9 @@ pub with_width : (p q : Plan) (n : ℕ) (a b m : ℕ) (r : Result ℕ JumpFault)
     IsWidthAnswer (With p q) n r
 with_width p q n a b m r i h k e l = by_answer r l
   where
-    members : length (each_with (listed p n) (listed q) n) ≡ m
+    members : length (each_with (listed_plan p n) (listed_plan q) n) ≡ m
     members =
-        ap length (each_moved_is n (listed p n) (listed q) (listed_even n q i)) ∙ length-each_moved n (listed p n) (listed q n)
+        ap length (each_moved_is n (listed_plan p n) (listed_plan q) (listed_even n q i)) ∙ length-each_moved n (listed_plan p n) (listed_plan q n)
         ∙ (λ j. sym h.exact j * sym k.exact j) ∙ sym e
 
     not_both : TooWide ≡ TooBig → ⊥
@@ -83,11 +83,11 @@ with_width p q n a b m r i h k e l = by_answer r l
         let j : m ≤ 4096 = g.1 in
         record {
           narrow =
-              all_narrow (is_long (each_with (listed p n) (listed q) n)) (is_wide p n) (is_wide q n) (not_long (each_with (listed p n) (listed q) n) (omega arith))
+              all_narrow (is_long (each_with (listed_plan p n) (listed_plan q) n)) (is_wide p n) (is_wide q n) (not_long (each_with (listed_plan p n) (listed_plan q) n) (omega arith))
               h.narrow k.narrow;
           exact = g.0 ∙ sym d;
         }
     by_answer (Err f) g =
         let d = members in
         let j : 4096 < m = g.1 in
-        ((λ t. ap (λ (x : Bool). x || (is_wide p n || is_wide q n)) (long (each_with (listed p n) (listed q) n) (omega arith))), (λ t. not_both (sym g.0 ∙ t)))
+        ((λ t. ap (λ (x : Bool). x || (is_wide p n || is_wide q n)) (long (each_with (listed_plan p n) (listed_plan q) n) (omega arith))), (λ t. not_both (sym g.0 ∙ t)))

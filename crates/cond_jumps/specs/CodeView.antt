@@ -8,7 +8,7 @@ use Rattle.boogie_tree.specs.declared.tree.VarInfo.{VarInfo}
 use Rattle.letter_acts.specs.Frames.{Columns}
 use Rattle.cond_jumps.specs.declared.sums.Divisor.{Divisor}
 use Rattle.cond_jumps.specs.declared.columns.Spot.{Spot}
-use Rattle.cond_jumps.specs.Forms.{Linear, over}
+use Rattle.cond_jumps.specs.Forms.{Linear, linear_over}
 use Rattle.cond_jumps.specs.Frames.{place_from}
 use Rattle.cond_jumps.specs.LongView.{long}
 
@@ -32,9 +32,9 @@ FoundAt columns c i = (i < length columns) × ((d : Column × VarInfo) → slice
 
 -- what `+`, `-` or `*` makes of two sums
 abbrev pub combination : Op → ℤ → ℤ → Linear → Linear → Linear
-combination ops.Add k l x y = over x y (x.terms ++ y.terms) (x.constant +ℤ y.constant)
-combination ops.Sub k l x y = over x y (x.terms ++ opposite y.terms) (x.constant -ℤ y.constant)
-combination op k l x y = over x y (scaled k y.terms ++ scaled l x.terms) (((k *ℤ y.constant) +ℤ (l *ℤ x.constant)) -ℤ (k *ℤ l))
+combination ops.Add k l x y = linear_over x y (x.terms ++ y.terms) (x.constant +ℤ y.constant)
+combination ops.Sub k l x y = linear_over x y (x.terms ++ opposite y.terms) (x.constant -ℤ y.constant)
+combination op k l x y = linear_over x y (scaled k y.terms ++ scaled l x.terms) (((k *ℤ y.constant) +ℤ (l *ℤ x.constant)) -ℤ (k *ℤ l))
 
 -- `+`, `-` or `*`
 abbrev pub is_combination : Op → Bool

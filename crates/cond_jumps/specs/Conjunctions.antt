@@ -29,10 +29,10 @@ pub data Plan : Type 0 where
   With : Plan → Plan → Plan
 
 -- the list of a plan
-abbrev pub listed : Plan → ℕ → List Conjunction
-listed (Just a) n = a n
-listed (Then a b) n = listed a n ++ listed b n
-listed (With a b) n = each_with (listed a n) (listed b) n
+abbrev pub listed_plan : Plan → ℕ → List Conjunction
+listed_plan (Just a) n = a n
+listed_plan (Then a b) n = listed_plan a n ++ listed_plan b n
+listed_plan (With a b) n = each_with (listed_plan a n) (listed_plan b) n
 
 -- more than 4,096 members
 abbrev pub is_long : List Conjunction → Bool
@@ -41,8 +41,8 @@ is_long cs = nat_lt 4096 (length cs)
 -- the list, or one that is used for a part of it, has more than 4,096 members
 abbrev pub is_wide : Plan → ℕ → Bool
 is_wide (Just a) n = is_long (a n)
-is_wide (Then a b) n = is_long (listed (Then a b) n) || (is_wide a n || is_wide b n)
-is_wide (With a b) n = is_long (listed (With a b) n) || (is_wide a n || is_wide b n)
+is_wide (Then a b) n = is_long (listed_plan (Then a b) n) || (is_wide a n || is_wide b n)
+is_wide (With a b) n = is_long (listed_plan (With a b) n) || (is_wide a n || is_wide b n)
 
 -- each number of a row fits
 abbrev pub row_fits : LinearRow → Bool
@@ -54,5 +54,5 @@ list_fits cs = list_all (λ c. list_all row_fits c.rows) cs
 -- each number of the rows of the list fits, and of each list that is used for a part of it
 abbrev pub all_fit : Plan → ℕ → Bool
 all_fit (Just a) n = list_fits (a n)
-all_fit (Then a b) n = list_fits (listed (Then a b) n) && (all_fit a n && all_fit b n)
-all_fit (With a b) n = list_fits (listed (With a b) n) && (all_fit a n && all_fit b n)
+all_fit (Then a b) n = list_fits (listed_plan (Then a b) n) && (all_fit a n && all_fit b n)
+all_fit (With a b) n = list_fits (listed_plan (With a b) n) && (all_fit a n && all_fit b n)

@@ -20,35 +20,35 @@ Linears = ℕ → Linear
 abbrev pub amount : (ℕ → ℤ) → Linear → ℤ
 amount point x = dot point x.terms +ℤ x.constant
 
-abbrev pub number : ℤ → Linears
-number k n = record { terms = []; constant = k; rows = []; helpers = 0 }
+abbrev pub linear_number : ℤ → Linears
+linear_number k n = record { terms = []; constant = k; rows = []; helpers = 0 }
 
 abbrev pub column : ℕ → Linears
 column c n = record { terms = (c, pos 1) ∷ []; constant = pos 0; rows = []; helpers = 0 }
 
-abbrev pub negated : Linears → Linears
-negated a n = let x = a n in record x { terms = opposite x.terms; constant = neg_ℤ x.constant }
+abbrev pub linear_negated : Linears → Linears
+linear_negated a n = let x = a n in record x { terms = opposite x.terms; constant = neg_ℤ x.constant }
 
 -- the second of two sums, its helpers numbered after those of the first
 abbrev pub after : Linears → Linears → Linears
 after a b n = b (n + (a n).helpers)
 
 -- terms and a constant with the helpers of two sums
-abbrev pub over : Linear → Linear → List (ℕ × ℤ) → ℤ → Linear
-over x y terms constant = record { terms = terms; constant = constant; rows = x.rows ++ y.rows; helpers = x.helpers + y.helpers }
+abbrev pub linear_over : Linear → Linear → List (ℕ × ℤ) → ℤ → Linear
+linear_over x y terms constant = record { terms = terms; constant = constant; rows = x.rows ++ y.rows; helpers = x.helpers + y.helpers }
 
-abbrev pub plus : Linears → Linears → Linears
-plus a b n = let x = a n in let y = after a b n in over x y (x.terms ++ y.terms) (x.constant +ℤ y.constant)
+abbrev pub linear_plus : Linears → Linears → Linears
+linear_plus a b n = let x = a n in let y = after a b n in linear_over x y (x.terms ++ y.terms) (x.constant +ℤ y.constant)
 
-abbrev pub minus : Linears → Linears → Linears
-minus a b n = let x = a n in let y = after a b n in over x y (x.terms ++ opposite y.terms) (x.constant -ℤ y.constant)
+abbrev pub linear_minus : Linears → Linears → Linears
+linear_minus a b n = let x = a n in let y = after a b n in linear_over x y (x.terms ++ opposite y.terms) (x.constant -ℤ y.constant)
 
 -- a*b, where one of them is worth its constant, k or l: k*b + l*a - k*l
-abbrev pub times : ℤ → ℤ → Linears → Linears → Linears
-times k l a b n =
+abbrev pub linear_times : ℤ → ℤ → Linears → Linears → Linears
+linear_times k l a b n =
     let x = a n in
     let y = after a b n in
-    over x y (scaled k y.terms ++ scaled l x.terms) (((k *ℤ y.constant) +ℤ (l *ℤ x.constant)) -ℤ (k *ℤ l))
+    linear_over x y (scaled k y.terms ++ scaled l x.terms) (((k *ℤ y.constant) +ℤ (l *ℤ x.constant)) -ℤ (k *ℤ l))
 
 -- `k*q - x <= 0` and `x - k*q <= |k|-1`, constants to the right
 abbrev pub quotient_rows : ℤ → Linear → ℕ → List LinearRow
@@ -62,8 +62,8 @@ over_quotient k x q terms constant =
     record { terms = terms; constant = constant; rows = x.rows ++ quotient_rows k x q; helpers = x.helpers + 1 }
 
 -- `a div k` is its helper q
-abbrev pub divided : ℤ → Linears → Linears
-divided k a n = let x = a n in let q = n + x.helpers in over_quotient k x q ((q, pos 1) ∷ []) (pos 0)
+abbrev pub linear_divided : ℤ → Linears → Linears
+linear_divided k a n = let x = a n in let q = n + x.helpers in over_quotient k x q ((q, pos 1) ∷ []) (pos 0)
 
 -- `a mod k` is a - k*q
 abbrev pub remaining : ℤ → Linears → Linears

@@ -10,15 +10,15 @@ use Rattle.cond_jumps.specs.declared.refusal.Refusal.{Refusal}
 use Rattle.cond_jumps.specs.declared.refusal.Refusal.TheVariants.{TooBig}
 use Rattle.cond_jumps.specs.declared.shapes.Shape.{Shape}
 use Rattle.cond_jumps.specs.declared.shapes.Shape.TheVariants as shapes
-use Rattle.cond_jumps.specs.Conjunctions.{Plan, Just, Then, With, listed, all_fit}
-use Rattle.cond_jumps.specs.Comparisons.{never, alike, operation}
+use Rattle.cond_jumps.specs.Conjunctions.{Plan, Just, Then, With, listed_plan, all_fit}
+use Rattle.cond_jumps.specs.Comparisons.{no_jumps, alike, operation_plan}
 use Rattle.cond_jumps.specs.Conjs.{conjunctions}
 use Rattle.cond_jumps.specs.Forms.{Linear, Linears}
 use Rattle.cond_jumps.specs.CompareView.{compared_row}
 
 -- the list of a plan, all of whose numbers fit
 pub record IsPlanList (p : Plan) (n : ℕ) (v : Vec Conj Global) : Type 0 where
-  pub seen : conjunctions v.items ≡ listed p n
+  pub seen : conjunctions v.items ≡ listed_plan p n
   pub fit : all_fit p n ≡ true
 
 -- that list, or the refusal that a number does not fit
@@ -32,11 +32,11 @@ row_by kind k true x y = compared_row kind k y x
 
 -- no list, whatever is wanted
 abbrev pub nothing : Bool → Plan
-nothing want = Just never
+nothing want = Just no_jumps
 
 -- an operation of two sums
 abbrev pub sums_plan : Op → Linears → Linears → Bool → Plan
-sums_plan op x y want = operation op false nothing nothing x y want
+sums_plan op x y want = operation_plan op false nothing nothing x y want
 
 -- how the list of an operation is put together from those of its operands
 abbrev pub shape_of : Op → Bool → Bool → Shape
@@ -67,4 +67,4 @@ other_plan_of shapes.Sums a b s = s
 -- the plan of a list that is asked for, or of none
 abbrev pub asked : Bool → Plan → Plan
 asked true p = p
-asked false p = Just never
+asked false p = Just no_jumps

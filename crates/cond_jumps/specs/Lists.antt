@@ -10,7 +10,7 @@ use Rattle.lin_rows.specs.Rows.{Holds}
 use Rattle.lin_rows.specs.Points.{point_of}
 use Rattle.letter_acts.specs.Frames.{Columns}
 use Rattle.letter_acts.specs.Values.{RowsHold}
-use Rattle.cond_jumps.specs.Conjunctions.{Conjunction, Plan, listed}
+use Rattle.cond_jumps.specs.Conjunctions.{Conjunction, Plan, listed_plan}
 use Rattle.cond_jumps.specs.Environments.{type_in}
 use Rattle.cond_jumps.specs.Paths.{paths, assigns}
 use Rattle.cond_jumps.specs.Worth.{IsSound}
@@ -22,7 +22,7 @@ path_plan frame e want = paths (frame_environment frame) false e want
 
 -- the list: over the frame, then the helpers
 abbrev pub path_list : Columns → TypedExpression → Bool → List Conjunction
-path_list frame e want = listed (path_plan frame e want) (length frame)
+path_list frame e want = listed_plan (path_plan frame e want) (length frame)
 
 abbrev pub assign_plan : Columns → List TypedExpression → Plan
 assign_plan frame es = assigns (frame_environment frame) (length frame) es
@@ -33,7 +33,7 @@ assign_width frame count = length frame + count
 
 -- the list of an assignment of these values to so many columns
 abbrev pub assign_list : Columns → ℕ → List TypedExpression → List Conjunction
-assign_list frame count es = listed (assign_plan frame es) (assign_width frame count)
+assign_list frame count es = listed_plan (assign_plan frame es) (assign_width frame count)
 
 -- a condition over the frame: typed, and its operators keep their rules
 pub record IsCondition (frame : Columns) (e : TypedExpression) : Type 0 where

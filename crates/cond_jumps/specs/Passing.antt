@@ -7,8 +7,8 @@ use Rattle.boogie_tree.specs.declared.tree.Column.TheVariants as columns
 use Rattle.typed_tree.specs.TypedTree.{TypedExpression}
 use Rattle.typed_tree.specs.Values.{State, value}
 use Rattle.cond_jumps.specs.Conjunctions.{Plan, Just}
-use Rattle.cond_jumps.specs.Forms.{Linears, number, column}
-use Rattle.cond_jumps.specs.Comparisons.{never, named}
+use Rattle.cond_jumps.specs.Forms.{Linears, linear_number, column}
+use Rattle.cond_jumps.specs.Comparisons.{no_jumps, truth_of_column}
 use Rattle.cond_jumps.specs.Environments.{Environment, type_in}
 use Rattle.cond_jumps.specs.Paths.{linear, paths}
 
@@ -25,15 +25,15 @@ standing_type v (Some (Numbered c t)) = Some t
 standing_type v (Some (Passed e)) = type_in v false e
 
 abbrev pub standing_sum : Environment → Option Standing → Linears
-standing_sum v None = number (pos 0)
+standing_sum v None = linear_number (pos 0)
 standing_sum v (Some (Same c)) = v.sum c
 standing_sum v (Some (Numbered c t)) = column c
 standing_sum v (Some (Passed e)) = linear v false e
 
 abbrev pub standing_plan : Environment → Option Standing → Bool → Plan
-standing_plan v None want = Just never
+standing_plan v None want = Just no_jumps
 standing_plan v (Some (Same c)) want = v.plan c want
-standing_plan v (Some (Numbered c t)) want = Just (named c want)
+standing_plan v (Some (Numbered c t)) want = Just (truth_of_column c want)
 standing_plan v (Some (Passed e)) want = paths v false e want
 
 -- the environment in which these stand for the columns
@@ -57,15 +57,15 @@ left_in n None = Same (columns.Global n)
 left_in n (Some x) = Numbered x.0 x.1
 
 -- the arguments, and then the columns of the results
-abbrev pub locals_of : List TypedExpression → List (ℕ × Ty) → List Standing
-locals_of args results = map Passed args ++ map (λ r. Numbered r.0 r.1) results
+abbrev pub passed_locals : List TypedExpression → List (ℕ × Ty) → List Standing
+passed_locals args results = map Passed args ++ map (λ r. Numbered r.0 r.1) results
 
 -- An ensures of a called procedure without body: a global that it may write stands in a new column, each old value is the
 -- value before the call, the parameters are the arguments, and the results stand in new columns.
 abbrev pub imported : (ℕ → Option (ℕ × Ty)) → List TypedExpression → List (ℕ × Ty) → Column → Option Standing
 imported written args results (columns.Global n) = Some (left_in n (written n))
 imported written args results (columns.Old n) = Some (Same (columns.Global n))
-imported written args results (columns.Local n) = slice_get (locals_of args results) n
+imported written args results (columns.Local n) = slice_get (passed_locals args results) n
 
 -- the state that such an ensures is about
 abbrev pub imported_state : State → List ℤ → List TypedExpression → List ℤ → State

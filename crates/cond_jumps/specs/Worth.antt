@@ -9,7 +9,7 @@ use Rattle.typed_tree.specs.TypedTree.{TypedExpression}
 use Rattle.typed_tree.specs.Values.{State, column_value, truth}
 use Rattle.typed_tree.specs.AffineForm.{is_linear}
 use Rattle.typed_tree.specs.Laws.{IsTruth, FixedStay}
-use Rattle.cond_jumps.specs.Conjunctions.{Plan, listed}
+use Rattle.cond_jumps.specs.Conjunctions.{Plan, listed_plan}
 use Rattle.cond_jumps.specs.Forms.{Linear, Linears, amount}
 use Rattle.cond_jumps.specs.Meaning.{Agrees, AllHold, Sole, IsPath}
 use Rattle.cond_jumps.specs.Environments.{Environment, type_in}
@@ -34,7 +34,7 @@ pub record IsSum (w : ℕ) (p : ℕ → ℤ) (a : Linears) (v : ℤ) : Type 0 wh
 -- v is a truth value, and the plans say when it is the wanted one
 pub record IsChoice (w : ℕ) (p : ℕ → ℤ) (a : Bool → Plan) (v : ℤ) : Type 0 where
   pub truth_value : IsTruth v
-  pub path : (want : Bool) → IsPath w p (listed (a want)) (v ≡ truth want)
+  pub path : (want : Bool) → IsPath w p (listed_plan (a want)) (v ≡ truth want)
 
 -- what stands for the columns has their values in the state, in which the constants have the values that they had at the procedure's entry
 pub record Shows (w : ℕ) (p : ℕ → ℤ) (v : Environment) (s : State) : Type 0 where

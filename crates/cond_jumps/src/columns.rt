@@ -1,7 +1,7 @@
 //! The places of columns in a frame.
 
 ghost use Rattle.std.specs.Prelude.{◌≡◌, true, false, IfOk, None, Some, ◌<◌, length, slice_get, IfSome};
-ghost use Rattle.cond_jumps.specs.Frames.{same_column, place_from, place};
+ghost use Rattle.cond_jumps.specs.Frames.{same_frame_column, place_from, column_place_in};
 ghost use Rattle.cond_jumps.specs.CodeView.{IsPlaceFound, FoundAt};
 
 use boogie_tree::{Column, Ty, VarInfo};
@@ -17,7 +17,7 @@ pub struct Spot {
 
 /// Whether two columns are the same.
 fn same_column(a: Column, b: Column) -> bool
-    ensures { result ≡ same_column a b }
+    ensures { result ≡ same_frame_column a b }
 {
     match (a, b) {
         (Column::Global(m), Column::Global(n)) => m == n,
@@ -66,7 +66,7 @@ fn first_place(frame: &Frame, column: Column) -> Result<Option<Spot>, AllocError
 
 /// The place of a column. Constants have no old columns: the old value of one is its value.
 pub fn place(frame: &Frame, column: Column) -> Result<Option<Spot>, AllocError>
-    ensures { IfOk result (λ o. IsPlaceFound (place frame.now.columns.items column) o) }
+    ensures { IfOk result (λ o. IsPlaceFound (column_place_in frame.now.columns.items column) o) }
 {
     match column {
         Column::Old(n) => old_place(frame, n),
@@ -76,7 +76,7 @@ pub fn place(frame: &Frame, column: Column) -> Result<Option<Spot>, AllocError>
 
 /// The place of an old column, or of a constant that has none.
 fn old_place(frame: &Frame, n: u32) -> Result<Option<Spot>, AllocError>
-    ensures { IfOk result (λ o. IsPlaceFound (place frame.now.columns.items (Column.Old n)) o) }
+    ensures { IfOk result (λ o. IsPlaceFound (column_place_in frame.now.columns.items (Column.Old n)) o) }
 {
     if let Some(found) = first_place(frame, Column::Old(n))? {
         return Ok(Some(found));

@@ -6,7 +6,7 @@ ghost use Rattle.lin_rows.specs.Sums.{row_of};
 ghost use Rattle.typed_tree.specs.Values.{truth};
 ghost use Rattle.cond_jumps.specs.Conjunctions.{row_fits};
 ghost use Rattle.math_facts.specs.Terms.{opposite};
-ghost use Rattle.cond_jumps.specs.Comparisons.{always, named};
+ghost use Rattle.cond_jumps.specs.Comparisons.{always, truth_of_column};
 ghost use Rattle.cond_jumps.specs.Conjs.{conjunctions};
 ghost use Rattle.cond_jumps.specs.CompareView.{IsListAnswer, compared_row, compared_list};
 ghost use Rattle.cond_jumps.specs.LongView.{long};
@@ -173,7 +173,7 @@ fn named_row(alloc: Global, column: u32, want: bool) -> Result<Row, Refusal>
 
 /// The column has the wanted truth value.
 pub fn named(alloc: Global, column: u32, want: bool) -> Result<Vec<Conj>, Refusal>
-    ensures { IsListAnswer (named column want 0) result }
+    ensures { IsListAnswer (truth_of_column column want 0) result }
 {
     let row = named_row(alloc, column, want)?;
     let rows = vec![in alloc; row]?;

@@ -4,8 +4,8 @@ ghost use Rattle.std.specs.Prelude.{◌≡◌, true, IfOk, pos, neg_ℤ, unsigne
 ghost use Rattle.typed_tree.specs.TypedView.{expression};
 ghost use Rattle.typed_tree.specs.AffineForm.{divisor_of, read_at};
 ghost use Rattle.cond_jumps.specs.CodeView.{IsDivisorFound, combination, is_combination, is_division};
-ghost use Rattle.cond_jumps.specs.Frames.{frame_environment, place, sum_at};
-ghost use Rattle.cond_jumps.specs.Forms.{number};
+ghost use Rattle.cond_jumps.specs.Frames.{frame_environment, column_place_in, linear_at};
+ghost use Rattle.cond_jumps.specs.Forms.{linear_number};
 ghost use Rattle.cond_jumps.specs.LongView.{long};
 ghost use Rattle.cond_jumps.specs.Paths.{constant_of, linear};
 ghost use Rattle.cond_jumps.specs.SumView.{sum_of, IsSumAnswer, IsBoxedAnswer, IsPartAnswer};
@@ -108,7 +108,7 @@ fn boxed(alloc: Global, sum: Sum) -> Result<Box<Sum>, AllocError>
 
 /// The sum that stands for a column of the frame.
 fn column_sum(alloc: Global, frame: &Frame, column: Column) -> Result<Box<Sum>, AllocError>
-    ensures { IfOk result (λ s. sum_of s.value ≡ sum_at (place frame.now.columns.items column) 0) }
+    ensures { IfOk result (λ s. sum_of s.value ≡ linear_at (column_place_in frame.now.columns.items column) 0) }
 {
     match place(frame, column)? {
         None => boxed(alloc, Sum::number(alloc, 0)?),
@@ -132,7 +132,7 @@ fn is_division(op: Op) -> bool
 
 /// A number as a sum.
 fn number(alloc: Global, n: i128) -> Result<Box<Sum>, Refusal>
-    ensures { IsBoxedAnswer (number n 0) result }
+    ensures { IsBoxedAnswer (linear_number n 0) result }
 {
     Ok(boxed(alloc, Sum::number(alloc, n)?)?)
 }

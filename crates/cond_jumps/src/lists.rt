@@ -2,10 +2,10 @@
 
 ghost use Rattle.std.specs.Prelude.{◌≡◌, ◌≤◌, IfOk, ℕ, true, false, not, length};
 ghost use Rattle.typed_tree.specs.TypedView.{expression};
-ghost use Rattle.cond_jumps.specs.Conjunctions.{Just, listed};
+ghost use Rattle.cond_jumps.specs.Conjunctions.{Just, listed_plan};
 ghost use Rattle.cond_jumps.specs.Conjs.{conjunctions};
-ghost use Rattle.cond_jumps.specs.Comparisons.{compared, equal_sums, literal, named};
-ghost use Rattle.cond_jumps.specs.Frames.{frame_environment, place, plan_at};
+ghost use Rattle.cond_jumps.specs.Comparisons.{compared, equal_sums, literal, truth_of_column};
+ghost use Rattle.cond_jumps.specs.Frames.{frame_environment, column_place_in, plan_at};
 ghost use Rattle.cond_jumps.specs.ListView.{IsPlanAnswer, asked, row_by, sums_plan};
 ghost use Rattle.cond_jumps.specs.PairView.{ArePlanLists, ArePlanAnswers};
 ghost use Rattle.cond_jumps.specs.Paths.{linear, is_truth, paths};
@@ -164,7 +164,7 @@ fn is_truth_column(frame: &Frame, column: Column) -> Result<bool, AllocError>
 
 /// Both lists of a column with that place.
 fn named_lists(alloc: Global, number: u32, want: bool, both: bool) -> Result<Lists, Refusal>
-    ensures { (n : ℕ) → ArePlanAnswers (Just (named number want)) (asked both (Just (named number (not want)))) n result }
+    ensures { (n : ℕ) → ArePlanAnswers (Just (truth_of_column number want)) (asked both (Just (truth_of_column number (not want)))) n result }
 {
     let wanted = named(alloc, number, want)?;
     if !both {
@@ -185,8 +185,8 @@ fn column_lists(
     want: bool,
     both: bool,
 ) -> Result<Lists, Refusal>
-    ensures { (n : ℕ) → ArePlanAnswers (plan_at (place frame.now.columns.items column) want)
-        (asked both (plan_at (place frame.now.columns.items column) (not want))) n result }
+    ensures { (n : ℕ) → ArePlanAnswers (plan_at (column_place_in frame.now.columns.items column) want)
+        (asked both (plan_at (column_place_in frame.now.columns.items column) (not want))) n result }
 {
     match place(frame, column)? {
         None => Ok(Lists {
@@ -199,7 +199,7 @@ fn column_lists(
 
 /// One empty conjunction, or none.
 fn always_if(alloc: Global, holds: bool) -> Result<Vec<Conj>, AllocError>
-    ensures { IfOk result (λ cs. conjunctions cs.items ≡ listed (literal holds true) 0) }
+    ensures { IfOk result (λ cs. conjunctions cs.items ≡ listed_plan (literal holds true) 0) }
 {
     if holds {
         always(alloc)

@@ -5,7 +5,7 @@ ghost use Rattle.math_facts.specs.Terms.{scaled, opposite};
 ghost use Rattle.lin_rows.specs.declared.types.RowKind.TheVariants.{Le};
 ghost use Rattle.lin_rows.specs.Sums.{row_of};
 ghost use Rattle.cond_jumps.specs.Conjunctions.{row_fits};
-ghost use Rattle.cond_jumps.specs.Forms.{number, column, over, quotient_rows};
+ghost use Rattle.cond_jumps.specs.Forms.{linear_number, column, linear_over, quotient_rows};
 ghost use Rattle.cond_jumps.specs.LongView.{long};
 ghost use Rattle.cond_jumps.specs.SumView.{sum_of, rows_fit, IsDivideAnswer};
 ghost use Rattle.cond_jumps.specs.Totals.{terms_of};
@@ -28,7 +28,7 @@ pub struct Sum {
 impl Sum {
     /// A number.
     pub fn number(alloc: Global, n: i128) -> Result<Self, AllocError>
-        ensures { IfOk result (λ s. sum_of s ≡ number n 0) }
+        ensures { IfOk result (λ s. sum_of s ≡ linear_number n 0) }
     {
         Ok(Sum {
             terms: Vec::new(alloc),
@@ -109,7 +109,7 @@ pub fn later(a: u32, b: u32) -> Result<u32, AllocError>
 /// `a + b`.
 pub fn plus(alloc: Global, a: Box<Sum>, b: Box<Sum>) -> Result<Box<Sum>, AllocError>
     ensures { IfOk result (λ s. sum_of s.value ≡
-        over (sum_of a.value) (sum_of b.value) ((sum_of a.value).terms ++ (sum_of b.value).terms) ((sum_of a.value).constant +ℤ (sum_of b.value).constant)) }
+        linear_over (sum_of a.value) (sum_of b.value) ((sum_of a.value).terms ++ (sum_of b.value).terms) ((sum_of a.value).constant +ℤ (sum_of b.value).constant)) }
 {
     let mut sum = a;
     let mut other = b;
@@ -120,7 +120,7 @@ pub fn plus(alloc: Global, a: Box<Sum>, b: Box<Sum>) -> Result<Box<Sum>, AllocEr
 /// Adds a sum to another one, which takes its terms and rows.
 fn add(alloc: Global, a: &mut Sum, b: &mut Sum) -> Result<(), AllocError>
     ensures { OnOk result (sum_of a.new ≡
-        over (sum_of a.old) (sum_of b.old) ((sum_of a.old).terms ++ (sum_of b.old).terms) ((sum_of a.old).constant +ℤ (sum_of b.old).constant)) }
+        linear_over (sum_of a.old) (sum_of b.old) ((sum_of a.old).terms ++ (sum_of b.old).terms) ((sum_of a.old).constant +ℤ (sum_of b.old).constant)) }
 {
     a.constant = Long::plus(alloc, &a.constant, &b.constant)?;
     a.helpers = later(a.helpers, b.helpers)?;
@@ -150,7 +150,7 @@ fn negate(alloc: Global, a: &mut Sum) -> Result<(), AllocError>
 /// `a - b`.
 pub fn minus(alloc: Global, a: Box<Sum>, b: Box<Sum>) -> Result<Box<Sum>, AllocError>
     ensures { IfOk result (λ s. sum_of s.value ≡
-        over (sum_of a.value) (sum_of b.value) ((sum_of a.value).terms ++ opposite (sum_of b.value).terms) ((sum_of a.value).constant -ℤ (sum_of b.value).constant)) }
+        linear_over (sum_of a.value) (sum_of b.value) ((sum_of a.value).terms ++ opposite (sum_of b.value).terms) ((sum_of a.value).constant -ℤ (sum_of b.value).constant)) }
 {
     let mut sum = a;
     let mut other = b;
@@ -161,7 +161,7 @@ pub fn minus(alloc: Global, a: Box<Sum>, b: Box<Sum>) -> Result<Box<Sum>, AllocE
 /// Subtracts a sum from another one, which takes its rows.
 fn subtract(alloc: Global, a: &mut Sum, b: &mut Sum) -> Result<(), AllocError>
     ensures { OnOk result (sum_of a.new ≡
-        over (sum_of a.old) (sum_of b.old) ((sum_of a.old).terms ++ opposite (sum_of b.old).terms) ((sum_of a.old).constant -ℤ (sum_of b.old).constant)) }
+        linear_over (sum_of a.old) (sum_of b.old) ((sum_of a.old).terms ++ opposite (sum_of b.old).terms) ((sum_of a.old).constant -ℤ (sum_of b.old).constant)) }
 {
     a.constant = Long::minus(alloc, &a.constant, &b.constant)?;
     a.helpers = later(a.helpers, b.helpers)?;
@@ -192,7 +192,7 @@ pub fn times(
     b: Box<Sum>,
 ) -> Result<Box<Sum>, AllocError>
     ensures { IfOk result (λ s. sum_of s.value ≡
-        over (sum_of a.value) (sum_of b.value) (scaled (long k.now) (sum_of b.value).terms ++ scaled (long l.now) (sum_of a.value).terms)
+        linear_over (sum_of a.value) (sum_of b.value) (scaled (long k.now) (sum_of b.value).terms ++ scaled (long l.now) (sum_of a.value).terms)
         (((long k.now *ℤ (sum_of b.value).constant) +ℤ (long l.now *ℤ (sum_of a.value).constant)) -ℤ (long k.now *ℤ long l.now))) }
 {
     let mut product = a;
@@ -204,7 +204,7 @@ pub fn times(
 /// Multiplies a sum by another one, whose rows it takes.
 fn multiply(alloc: Global, k: &Long, l: &Long, a: &mut Sum, b: &mut Sum) -> Result<(), AllocError>
     ensures { OnOk result (sum_of a.new ≡
-        over (sum_of a.old) (sum_of b.old) (scaled (long k.now) (sum_of b.old).terms ++ scaled (long l.now) (sum_of a.old).terms)
+        linear_over (sum_of a.old) (sum_of b.old) (scaled (long k.now) (sum_of b.old).terms ++ scaled (long l.now) (sum_of a.old).terms)
         (((long k.now *ℤ (sum_of b.old).constant) +ℤ (long l.now *ℤ (sum_of a.old).constant)) -ℤ (long k.now *ℤ long l.now))) }
 {
     a.constant = product_constant(alloc, k, l, &a.constant, &b.constant)?;

@@ -5,7 +5,7 @@ ghost use Rattle.typed_tree.specs.TypedView.{expression};
 ghost use Rattle.cond_jumps.specs.Conjunctions.{Plan, Then, With};
 ghost use Rattle.cond_jumps.specs.Comparisons.{literal};
 ghost use Rattle.cond_jumps.specs.Forms.{Linears};
-ghost use Rattle.cond_jumps.specs.Frames.{frame_environment, place, plan_at};
+ghost use Rattle.cond_jumps.specs.Frames.{frame_environment, column_place_in, plan_at};
 ghost use Rattle.cond_jumps.specs.ListView.{asked, sums_plan};
 ghost use Rattle.cond_jumps.specs.PairView.{crossed, AreWidths, AreWidthAnswers};
 ghost use Rattle.cond_jumps.specs.Moving.{IsEvenPlan};
@@ -92,7 +92,7 @@ fn literal_widths(value: bool, want: bool, both: bool) -> Counts
 /// The members of both lists of a truth value in a column.
 fn column_widths(frame: &Frame, column: Column, both: bool) -> Result<Counts, AllocError>
     ensures { IfOk result (λ w. (want : Bool) → (n : ℕ) →
-        AreWidths (plan_at (place frame.now.columns.items column) want) (asked both (plan_at (place frame.now.columns.items column) (not want))) n w) }
+        AreWidths (plan_at (column_place_in frame.now.columns.items column) want) (asked both (plan_at (column_place_in frame.now.columns.items column) (not want))) n w) }
 {
     match place(frame, column)? {
         None => Ok(Counts {

@@ -11,7 +11,7 @@ use Rattle.boogie_tree.specs.Names.{is_name, is_spelled, is_made}
 use Rattle.boogie_tree.specs.Tree.{Procedure, Declaration}
 use Rattle.typed_tree.specs.TypedTree.{TypedProcedure, TypedProgram}
 use Rattle.typed_tree.specs.Scope.{Scope}
-use Rattle.typing_rules.specs.Rules.{all_differ, meets, is_call, is_procedure, keeps_typing}
+use Rattle.typing_rules.specs.Rules.{all_differ, meets, is_call, procedure_keeps_rules, keeps_typing}
 use Rattle.typing_rules.specs.Shape.{are_arguments, are_names, is_procedure_shaped, has_shape}
 use Rattle.typing_rules.specs.ValidProgram.{has_entry, is_typed}
 use Rattle.std.proofs.lemmas.List.Folds.{list_all-append}
@@ -106,25 +106,25 @@ called_well : (scope : Scope) (procs : List TypedProcedure) (k : ℕ) (b : Bool)
 called_well scope procs k b e = ap (meets (is_call (record { scope = scope; procs = procs; modifies = 0 ∷ []; labels = []; loops = 0 }) [] [])) e
 
 link_kept : (count number : ℕ) (b : Bool) → number ≤ count → count ≤ 200 → (b ≡ true → number + 1 ≤ count) →
-    is_procedure (counter_info ∷ []) (typed_generated count).procs (typed_link b number) ≡ true
+    procedure_keeps_rules (counter_info ∷ []) (typed_generated count).procs (typed_link b number) ≡ true
 link_kept count number false l m h = rw (small number (omega arith)) refl
 link_kept count number true l m h =
     let w = typed_stands count (number + 1) (omega arith) (h refl) in
     rw (w.1, small number (omega arith)) refl
 
-main_kept : (count : ℕ) → 1 ≤ count → count ≤ 200 → is_procedure (counter_info ∷ []) (typed_generated count).procs typed_main ≡ true
+main_kept : (count : ℕ) → 1 ≤ count → count ≤ 200 → procedure_keeps_rules (counter_info ∷ []) (typed_generated count).procs typed_main ≡ true
 main_kept count l m = let w = typed_stands count 1 (omega arith) l in rw w.1 refl
 
-chain_kept : (count number rest : ℕ) → count ≤ 200 → number + rest ≤ count + 1 → list_all (is_procedure (counter_info ∷ []) (typed_generated count).procs) (typed_chain number rest) ≡ true
+chain_kept : (count number rest : ℕ) → count ≤ 200 → number + rest ≤ count + 1 → list_all (procedure_keeps_rules (counter_info ∷ []) (typed_generated count).procs) (typed_chain number rest) ≡ true
 unfolding typed_chain
 chain_kept count number zero m l = refl
 chain_kept count number (suc more) m l =
-    and_from (is_procedure (counter_info ∷ []) (typed_generated count).procs (typed_link (is_positive more) number)) (list_all (is_procedure (counter_info ∷ []) (typed_generated count).procs) (typed_chain (number + 1) more))
+    and_from (procedure_keeps_rules (counter_info ∷ []) (typed_generated count).procs (typed_link (is_positive more) number)) (list_all (procedure_keeps_rules (counter_info ∷ []) (typed_generated count).procs) (typed_chain (number + 1) more))
     (link_kept count number (is_positive more) (omega arith) m (λ e. let p = positive more e in omega arith)) (chain_kept count (number + 1) more m (omega arith))
 
 kept : (count : ℕ) → 1 ≤ count → count ≤ 200 → keeps_typing (typed_generated count) ≡ true
 kept count l m =
-    and_from (is_procedure (counter_info ∷ []) (typed_generated count).procs typed_main) (list_all (is_procedure (counter_info ∷ []) (typed_generated count).procs) (typed_chain 1 count))
+    and_from (procedure_keeps_rules (counter_info ∷ []) (typed_generated count).procs typed_main) (list_all (procedure_keeps_rules (counter_info ∷ []) (typed_generated count).procs) (typed_chain 1 count))
     (main_kept count l m) (chain_kept count 1 count m (omega arith))
 
 generated_typed : (count : ℕ) → 1 ≤ count → count ≤ 200 → is_typed (typed_generated count) ≡ true

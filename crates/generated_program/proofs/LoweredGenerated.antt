@@ -10,7 +10,7 @@ use Rattle.boogie_tree.specs.Places.{beginning}
 use Rattle.typed_tree.specs.TypedTree as typed
 use Rattle.typed_tree.specs.TypedTree.{TypedBlock, TypedProcedure, TypedProgram}
 use Rattle.boogie_places.specs.Places.{Place, located, points_of_body, places_from}
-use Rattle.lowered_graph.specs.Items.{Item, ItemFault, fault_span, stands_before, item_fault, earlier, items_at, items_of, first_of, first_fault}
+use Rattle.lowered_graph.specs.Items.{ProgramItem, ItemFault, fault_span, stands_before, item_fault, earlier, items_at, items_of, first_of, first_fault}
 use Rattle.std.proofs.lemmas.Option.{same_Some}
 use Rattle.generated_program.specs.Generated.{is_positive}
 use Rattle.generated_program.specs.Laws.{IsLowered}
@@ -29,9 +29,9 @@ link_block next number = typed.Then (typed_becomes (typed.Bin beginning Add (typ
 
 items_behind : (t : TypedProgram) (ps qs : List Place) → items_of t (ps ++ qs) ≡ items_of t ps ++ items_of t qs
 items_behind t [] qs = refl
-items_behind t (p ∷ ps) qs = ap (λ (is : List Item). items_at t p ++ is) (items_behind t ps qs) ∙ sym (append_assoc (items_at t p) (items_of t ps) (items_of t qs))
+items_behind t (p ∷ ps) qs = ap (λ (is : List ProgramItem). items_at t p ++ is) (items_behind t ps qs) ∙ sym (append_assoc (items_at t p) (items_of t ps) (items_of t qs))
 
-first_behind : (is js : List Item) → first_of is ≡ None → first_of js ≡ None → first_of (is ++ js) ≡ None
+first_behind : (is js : List ProgramItem) → first_of is ≡ None → first_of js ≡ None → first_of (is ++ js) ≡ None
 first_behind [] js a b = b
 first_behind (i ∷ is) js a b = let p = parts (item_fault i) (first_of is) a in rw (p.0, first_behind is js p.1 b) refl
   where

@@ -1,5 +1,5 @@
 -- How many procedures, places, letters and assertions the generated program has.
-use Rattle.std.proofs.Common.{◌≡◌, ℕ, zero, suc, ◌+◌, ◌*◌, ◌≤◌, Bool, true, false, List, [], ◌∷◌, ◌++◌, length, Some, slice_get, append_assoc, refl, ap, sym, ◌∙◌, subst, arith}
+use Rattle.std.proofs.Common.{◌≡◌, ℕ, zero, suc, ◌+◌, ◌*◌, ◌≤◌, Bool, true, false, List, [], ◌∷◌, ◌++◌, map, length, Some, slice_get, append_assoc, refl, ap, sym, ◌∙◌, subst, arith}
 use Rattle.std.specs.Prelude.{nat_eq}
 use Rattle.std.proofs.lemmas.Bool.Decides.{nat_tests}
 use Rattle.std.proofs.lemmas.List.{length-append, length-map}
@@ -7,7 +7,7 @@ use Rattle.std.proofs.lemmas.Option.{same_Some}
 use Rattle.typed_tree.specs.TypedTree.{TypedProcedure, TypedProgram}
 use Rattle.letter_acts.specs.declared.sites.Site.{Site}
 use Rattle.boogie_places.specs.Places.{Place, located, points_of_body, places_from}
-use Rattle.letter_table.specs.Letters.{Arc, Lettered, with_arcs, no_letters}
+use Rattle.letter_table.specs.Letters.{MarkedAct, Arc, Lettered, with_arcs, no_letters, lettered}
 use Rattle.lowered_graph.specs.Arcs.{start_arc, arcs_at, arcs_of}
 use Rattle.lowered_graph.specs.Lowered.{action_sites, sites_of, program_sites, lowered}
 use Rattle.boogie_points.specs.Actions.{action_at}
@@ -178,10 +178,12 @@ generated_sized more l =
     let more_letters = chain_letters procs 1 more one (stand count) (omega arith) (next_has_none 0 new.own one.acts new.have) in
     let whole = ap (λ (xs : List Arc). length (with_arcs no_letters (start_arc t ∷ xs)).acts) (arcs_split t first rest) ∙ ap (λ (x : Lettered). length x.acts) (arcs_behind no_letters starts (arcs_of t rest)) in
     let longer = new.longer in
+    let all_acts : List MarkedAct = (lettered (start_arc t ∷ arcs_of t (first ++ rest))).acts in
+    let unmarked : length (map (λ a. a.act) all_acts) ≡ length all_acts = length-map all_acts (λ (a : MarkedAct). a.act) in
     record {
       procedures = ap suc (chain_length 1 count) ∙ (let z : suc count ≡ count + 1 = omega arith in z);
       places = omega (arith, main_three, others, all, asserted, shown);
-      letters = omega (arith, four, longer, more_letters, whole);
+      letters = unmarked ∙ omega (arith, four, longer, more_letters, whole);
       assertions = shown ∙ asserted;
     }
 

@@ -13,8 +13,8 @@ use Rattle.boogie_tree.specs.Places.{beginning}
 use Rattle.typed_tree.specs.TypedTree as typed
 use Rattle.typed_tree.specs.Scope.{axiom_scope}
 use Rattle.typed_tree.specs.TypedTree.{TypedExpression, TypedStatement, TypedBlock, TypedProcedure, TypedProgram}
-use Rattle.boogie_types.specs.Sorted.{globals_of, global_names, axioms_of, procedures_of, implementations_of}
-use Rattle.boogie_types.specs.Naming.{each, both, named, hidden_arguments}
+use Rattle.boogie_types.specs.Sorted.{declared_globals, global_names, axioms_of, procedures_of, implementations_of}
+use Rattle.boogie_types.specs.Naming.{each, from_both, named, hidden_arguments}
 use Rattle.boogie_types.specs.Resolved.{named_procedure, program_of, named_program}
 use Rattle.generated_program.specs.Generated.{link_name, link, is_positive, chain, main_procedure, generated}
 use Rattle.generated_program.proofs.GeneratedNames.{link_found}
@@ -68,7 +68,7 @@ pub sorted_implementations : (ps : List Procedure) → implementations_of (map D
 sorted_implementations [] = refl
 sorted_implementations (p ∷ ps) = sorted_implementations ps
 
-pub sorted_globals : (ps : List Procedure) → globals_of (map Declares ps) ≡ []
+pub sorted_globals : (ps : List Procedure) → declared_globals (map Declares ps) ≡ []
 sorted_globals [] = refl
 sorted_globals (p ∷ ps) = sorted_globals ps
 
@@ -132,9 +132,9 @@ generated_named count m l =
     let all : each (named_procedure (generated count)) ps ≡ Some (typed_main ∷ typed_chain 1 count) =
     each_cons (named_procedure (generated count)) main_procedure (chain 1 count) typed_main (typed_chain 1 count) (main_named count m l) (chain_named count 1 count m (omega arith)) in
     let ds : List Declaration = generated count in
-    let axioms : each (named (axiom_scope (globals_of ds))) (axioms_of ds) ≡ Some [] = ap (each (named (axiom_scope (globals_of ds)))) (sorted_axioms ps) in
+    let axioms : each (named (axiom_scope (declared_globals ds))) (axioms_of ds) ≡ Some [] = ap (each (named (axiom_scope (declared_globals ds)))) (sorted_axioms ps) in
     let procs : each (named_procedure ds) (procedures_of ds) ≡ Some (typed_main ∷ typed_chain 1 count) = ap (each (named_procedure ds)) (chain_sorted count) ∙ all in
-    let globals : globals_of ds ≡ counter_info ∷ [] = ap (λ (gs : List VarInfo). counter_info ∷ gs) (sorted_globals ps) in
-    let first : named_program ds ≡ both (program_of ds) (Some []) (each (named_procedure ds) (procedures_of ds)) = ap (λ (o : Option (List TypedExpression)). both (program_of ds) o (each (named_procedure ds) (procedures_of ds))) axioms in
-    let second : both (program_of ds) (Some []) (each (named_procedure ds) (procedures_of ds)) ≡ Some (program_of ds [] (typed_main ∷ typed_chain 1 count)) = ap (λ (o : Option (List TypedProcedure)). both (program_of ds) (Some []) o) procs in
+    let globals : declared_globals ds ≡ counter_info ∷ [] = ap (λ (gs : List VarInfo). counter_info ∷ gs) (sorted_globals ps) in
+    let first : named_program ds ≡ from_both (program_of ds) (Some []) (each (named_procedure ds) (procedures_of ds)) = ap (λ (o : Option (List TypedExpression)). from_both (program_of ds) o (each (named_procedure ds) (procedures_of ds))) axioms in
+    let second : from_both (program_of ds) (Some []) (each (named_procedure ds) (procedures_of ds)) ≡ Some (program_of ds [] (typed_main ∷ typed_chain 1 count)) = ap (λ (o : Option (List TypedProcedure)). from_both (program_of ds) (Some []) o) procs in
     first ∙ (second ∙ ap (λ (gs : List VarInfo). Some (let t : TypedProgram = record { globals = gs; axioms = []; procs = typed_main ∷ typed_chain 1 count; entry = 0 } in t)) globals)

@@ -1,5 +1,5 @@
 -- The parts of a program's graph, once they are lowered.
-use Rattle.std.proofs.Common.{◌≡◌, ℕ, ◌+◌, ◌<◌, List, [], ◌∷◌, map, length, Option, Result, Ok, IfOk, sym, subst, arith}
+use Rattle.std.proofs.Common.{◌≡◌, ℕ, Bool, ◌+◌, ◌<◌, List, [], ◌∷◌, map, length, Option, Result, Ok, IfOk, refl, sym, ap, subst, arith}
 use Rattle.std.specs.List.{AllByRecursion}
 use Rattle.std.proofs.lemmas.List.{length-map}
 use Rattle.typed_tree.specs.TypedTree.{TypedProgram}
@@ -7,10 +7,11 @@ use Rattle.nwa_base.specs.declared.letters.Kind.{Kind}
 use Rattle.nwa_base.specs.declared.letters.Letter.{Letter}
 use Rattle.nwa_base.specs.Automata.{Automaton, IsEdge, IsBackEdge}
 use Rattle.letter_acts.specs.declared.sites.Site.{Site}
-use Rattle.letter_acts.specs.Acts.{PlainAct}
+use Rattle.letter_acts.specs.declared.acts.Act.{Act}
+use Rattle.letter_acts.specs.Acts.{PlainAct, plain_act, plain_acts, mark_of, marks_of}
 use Rattle.letter_acts.specs.Frames.{Columns}
 use Rattle.letter_acts.specs.Invariant.{Graph, site_places}
-use Rattle.letter_table.specs.Letters.{Lettered, lettered}
+use Rattle.letter_table.specs.Letters.{Lettered, lettered, marked_acts}
 use Rattle.lowered_graph.specs.Arcs.{first_error, program_arcs}
 use Rattle.lowered_graph.specs.Lowered.{program_sites, lowered}
 
@@ -44,9 +45,18 @@ automaton_is t states sites d n e f =
     let all : states ≡ first_error t + length (map (λ (s : ℕ × Site). s.1) (program_sites t)) = omega arith in
     λ i. record { states = all i; start = 0; finals = site_places (e i); insides = (f i).insides; calls = (f i).calls; backs = (f i).backs }
 
-pub graph_is : (t : TypedProgram) (nwa : Automaton) (acts : List PlainAct) (frames : List Columns) (names : List (List ℕ)) (owners : List ℕ) (entries exits : List (Option ℕ)) (sites : List Site) →
-    nwa ≡ (lowered t).automaton → acts ≡ (lowered t).acts → frames ≡ (lowered t).frames → names ≡ (lowered t).names → owners ≡ (lowered t).place_procs →
+pub graph_is : (t : TypedProgram) (nwa : Automaton) (acts : List PlainAct) (marks : List Bool) (frames : List Columns) (names : List (List ℕ)) (owners : List ℕ) (entries exits : List (Option ℕ)) (sites : List Site) →
+    nwa ≡ (lowered t).automaton → acts ≡ (lowered t).acts → marks ≡ (lowered t).marks → frames ≡ (lowered t).frames → names ≡ (lowered t).names → owners ≡ (lowered t).place_procs →
     entries ≡ (lowered t).entries → exits ≡ (lowered t).exits → sites ≡ (lowered t).sites →
-    ◌≡◌ {A = Graph} (record { automaton = nwa; acts = acts; frames = frames; names = names; place_procs = owners; entries = entries; exits = exits; sites = sites }) (lowered t)
-graph_is t nwa acts frames names owners entries exits sites a b c d e f g h =
-    λ i. record { automaton = a i; acts = b i; frames = c i; names = d i; place_procs = e i; entries = f i; exits = g i; sites = h i }
+    ◌≡◌ {A = Graph} (record { automaton = nwa; acts = acts; marks = marks; frames = frames; names = names; place_procs = owners; entries = entries; exits = exits; sites = sites }) (lowered t)
+graph_is t nwa acts marks frames names owners entries exits sites a b m c d e f g h =
+    λ i. record { automaton = a i; acts = b i; marks = m i; frames = c i; names = d i; place_procs = e i; entries = f i; exits = g i; sites = h i }
+
+-- acts with their marks, taken apart
+pub acts_apart : (acts : List Act) → plain_acts acts ≡ map (λ a. a.act) (marked_acts acts)
+acts_apart [] = refl
+acts_apart (a ∷ acts) = ap (λ (xs : List PlainAct). plain_act a ∷ xs) (acts_apart acts)
+
+pub marks_apart : (acts : List Act) → marks_of acts ≡ map (λ a. a.coarse) (marked_acts acts)
+marks_apart [] = refl
+marks_apart (a ∷ acts) = ap (λ (xs : List Bool). mark_of a ∷ xs) (marks_apart acts)

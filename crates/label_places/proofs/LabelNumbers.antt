@@ -245,14 +245,6 @@ has_body : (t : TypedProgram) (n : ℕ) (b : TypedBlock) (o : Option TypedProced
 has_body t n b None e h = absurd (cc)
 has_body t n b (Some q) e h = record { procedure = q; is = e; has = h }
 
-no_labels : (t : TypedProgram) (n : ℕ) (o : Option TypedProcedure) → option_and_then (λ q. q.body) o ≡ None → labels_if_any t n o ≡ []
-no_labels t n None h = refl
-no_labels t n (Some q) h = ap (λ (o : Option TypedBlock). labels_with t n q o) h
-
--- without a body there are no labels
-pub without_body : (t : TypedProgram) (n : ℕ) → body_if_any t n ≡ None → label_numbers t n ≡ []
-without_body t n h = no_labels t n (slice_get t.procs n) h
-
 -- with a body, by the numbers of the procedure
 pub with_marks : (t : TypedProgram) (n : ℕ) (b : TypedBlock) (m : Marks) → IsTrue (is_valid t) → body_if_any t n ≡ Some b → option_map (λ r. marks_of t (n, r)) (slice_get t.procs n) ≡ Some m →
     (m.exit ≡ m.body + block_points t.procs b) × (places_of t.procs b m.body m.exit ≡ label_numbers t n)

@@ -10,10 +10,10 @@ use Rattle.boogie_points.specs.Actions as actions
 use Rattle.boogie_points.specs.Actions.{Action, action_at}
 use Rattle.boogie_points.specs.Starts.{targets_at}
 use Rattle.boogie_places.specs.Places.{Place, IsPlaceIn, count_from, number_of, program_places}
-use Rattle.lowered_steps.specs.ProgramFrames.{frame_at, number_in}
+use Rattle.lowered_steps.specs.ProgramFrames.{frame_at, column_number}
 use Rattle.lowered_steps.specs.Edges.{Spot, At, Wrong, columns_before_locals, numbers_in}
 use Rattle.lowered_steps.specs.Stacks.{Stack}
-use Rattle.lowered_runs.specs.Choices.{place_number, way_to, call_choices, choices_of, spot_choices}
+use Rattle.lowered_runs.specs.Choices.{spot_place_number, way_to, call_choices, choices_of, spot_choices}
 use Rattle.lowered_graph.specs.Arcs as arcs
 use Rattle.lowered_graph.proofs.KnownPlaces.{PlaceLaws, IsKnown, known_place}
 use Rattle.lowered_graph.proofs.Joined.{IsKnownSpot}
@@ -55,24 +55,24 @@ standing_values values (Some p) = refl
 
 -- the number that choices read
 pub number_read : (l : PlaceLaws) (t : TypedProgram) → IsTrue (is_valid t) → (m : ℕ) (spot : Spot) → IsKnownSpot t m spot → (q : ℕ) (values : List ℤ) → arcs.spot_number t m spot ≡ q → (n : ℕ) →
-    place_number t n spot ≡ place_number t n (standing values (slice_get (program_places t) (q - 1))).spot
+    spot_place_number t n spot ≡ spot_place_number t n (standing values (slice_get (program_places t) (q - 1))).spot
 number_read l t v m (At p) k q values e n =
     let at : slice_get (program_places t) (q - 1) ≡ Some (record { proc = m; point = p }) = ap (λ (r : ℕ). slice_get (program_places t) (r - 1)) (sym e) ∙ found l t v m p k in
-    ap (λ (o : Option Place). place_number t n (standing values o).spot) (sym at)
+    ap (λ (o : Option Place). spot_place_number t n (standing values o).spot) (sym at)
 number_read l t v m (Wrong i) k q values e n =
     let at : slice_get (program_places t) (q - 1) ≡ None = ap (λ (r : ℕ). slice_get (program_places t) (r - 1)) (sym e) ∙ none_found t i in
-    ap (λ (o : Option Place). place_number t n (standing values o).spot) (sym at)
+    ap (λ (o : Option Place). spot_place_number t n (standing values o).spot) (sym at)
 
 -- ---- choices
 
 -- the choices of an action are those that another stack with the same values and a place of the same number tells
-pub same_choices : (t : TypedProgram) (n : ℕ) (p : Point) (a : Action) (helpers : List ℤ) (x y : Stack) → x.values ≡ y.values → place_number t n x.spot ≡ place_number t n y.spot →
+pub same_choices : (t : TypedProgram) (n : ℕ) (p : Point) (a : Action) (helpers : List ℤ) (x y : Stack) → x.values ≡ y.values → spot_place_number t n x.spot ≡ spot_place_number t n y.spot →
     choices_of t n p a helpers x ≡ choices_of t n p a helpers y
 same_choices t n p (actions.Check id at e next) helpers x y values place = refl
 same_choices t n p (actions.Suppose e next) helpers x y values place = refl
 same_choices t n p (actions.Demand id at e args next) helpers x y values place = refl
 same_choices t n p (actions.Write cs es next) helpers x y values place = refl
-same_choices t n p (actions.Guess c next) helpers x y values place = ap (λ (zs : List ℤ). Some (point_of zs (number_in (frame_at t n) c)) ∷ []) values
+same_choices t n p (actions.Guess c next) helpers x y values place = ap (λ (zs : List ℤ). Some (point_of zs (column_number (frame_at t n) c)) ∷ []) values
 same_choices t n p (actions.Test e hit miss) helpers x y values place = refl
 same_choices t n p (actions.Pick ways) helpers x y values place = ap (λ (q : ℕ). Some (pos (way_to t n q ways)) ∷ []) place
 same_choices t n p (actions.Jump next) helpers x y values place = refl
@@ -82,7 +82,7 @@ same_choices t n p (actions.Grant f args e next) helpers x y values place = ap (
 same_choices t n p (actions.Finish f args targets next) helpers x y values place = ap (call_choices t.globals (slice_get t.procs f) (numbers_in (frame_at t n) (targets_at p.todo)) helpers) values
 same_choices t n p actions.Leave helpers x y values place = refl
 
-pub same_spot_choices : (t : TypedProgram) (n : ℕ) (spot : Spot) (helpers : List ℤ) (x y : Stack) → x.values ≡ y.values → place_number t n x.spot ≡ place_number t n y.spot →
+pub same_spot_choices : (t : TypedProgram) (n : ℕ) (spot : Spot) (helpers : List ℤ) (x y : Stack) → x.values ≡ y.values → spot_place_number t n x.spot ≡ spot_place_number t n y.spot →
     spot_choices t n spot helpers x ≡ spot_choices t n spot helpers y
 same_spot_choices t n (At p) helpers x y values place = same_choices t n p (action_at t n p) helpers x y values place
 same_spot_choices t n (Wrong i) helpers x y values place = refl

@@ -21,9 +21,10 @@ use Rattle.lowered_steps.specs.Stacks.{Pending, Stack, IsStep, inside, call, bac
 use Rattle.lowered_imports.specs.Laws.{helpers_of}
 use Rattle.lowered_runs.specs.Choices.{spot_choices}
 use Rattle.lowered_graph.specs.Arcs.{place_number, spot_number, return_point, return_place, entering_rows, entering, program_arcs}
-use Rattle.letter_table.specs.Letters.{inside_arc, lettered}
+use Rattle.letter_table.specs.Letters.{MarkedAct, exact_act, inside_arc, lettered}
 use Rattle.lowered_graph.specs.LetterLaws.{InsideOf, CallOf, BackOf}
 use Rattle.lowered_graph.specs.Lowered.{lowered}
+use Rattle.lowered_graph.proofs.ActNumbers.{act_got}
 use Rattle.lowered_graph.proofs.LetterSets.{insides_are, calls_are, backs_are}
 use Rattle.lowered_graph.proofs.KnownPlaces.{PlaceLaws, IsKnown, known_number, known_once}
 use Rattle.lowered_graph.proofs.CallPlaces.{entered_has_body, leaves_there, return_known}
@@ -32,27 +33,27 @@ use Rattle.lowered_graph.proofs.StartLetter.{IsEntered, start_led}
 use Rattle.lowered_graph.proofs.Alphabet.{letters_of, frame_is}
 use Rattle.lowered_graph.proofs.Joined.{IsKnownSpot, IsKnownStack, from_start_or_place, same_stack}
 use Rattle.lowered_graph.proofs.JoinedBack.{inside_parts, no_inside, letter_act, stands_at, CallFrom, call_from}
-use Rattle.lowered_choices.specs.Traces.{Position, LeadsInside, LeadsIn, LeadsBack}
+use Rattle.lowered_choices.specs.Traces.{TracePosition, LeadsInside, LeadsIn, LeadsBack}
 use Rattle.lowered_choices.proofs.ReadOff.{enter_reads_none, leave_reads_none}
 
 -- ---- stacks as positions
 
 -- where a stack stands, with these helpers
-abbrev pub standing_at : TypedProgram → Stack → List ℤ → Position
+abbrev pub standing_at : TypedProgram → Stack → List ℤ → TracePosition
 standing_at t x helpers = record { place = spot_number t x.proc x.spot; values = x.values; helpers = helpers }
 
-abbrev pub pending_at : TypedProgram → Pending → List ℤ → Position
+abbrev pub pending_at : TypedProgram → Pending → List ℤ → TracePosition
 pending_at t b helpers = record { place = place_number t b.proc b.point; values = b.values; helpers = helpers }
 
 -- the open calls are at these positions
-abbrev pub PendAt : TypedProgram → List Pending → List Position → Type 0
+abbrev pub PendAt : TypedProgram → List Pending → List TracePosition → Type 0
 PendAt t [] [] = Unit {0}
 PendAt t [] (x ∷ xs) = ⊥
 PendAt t (b ∷ bs) [] = ⊥
 PendAt t (b ∷ bs) (x ∷ xs) = (pending_at t b x.helpers ≡ x) × PendAt t bs xs
 
 -- a step to a position, with these positions before the calls that are then open; what is chosen by its helpers is chosen by those of the position
-pub record ToldBack (t : TypedProgram) (x : Stack) (y : Position) (after : List Position) : Type 0 where
+pub record ToldBack (t : TypedProgram) (x : Stack) (y : TracePosition) (after : List TracePosition) : Type 0 where
   pub next : Stack
   pub step : IsStep t x next
   pub told : (z : Stack) → spot_choices t x.proc x.spot (helpers_of t x next step) z ≡ spot_choices t x.proc x.spot y.helpers z
@@ -102,12 +103,12 @@ spot_not_zero l t v m (Wrong i) k e = omega arith
 
 -- ---- inside letters
 
-inside_found : (t : TypedProgram) (x : Stack) (y : Position) (after : List Position) (act : PlainAct) (n : ℕ) (p : Point) (known : IsKnown t n p) (w : EdgeOfArc t n p (action_at t n p) (inside_arc (spot_number t x.proc x.spot) act y.place)) →
-    (n ≡ x.proc) × (At p ≡ x.spot) → InsideHolds (letters_of t) x.values y.values y.helpers act → PendAt t x.below after → ToldBack t x y after
+inside_found : (t : TypedProgram) (x : Stack) (y : TracePosition) (after : List TracePosition) (act : MarkedAct) (n : ℕ) (p : Point) (known : IsKnown t n p) (w : EdgeOfArc t n p (action_at t n p) (inside_arc (spot_number t x.proc x.spot) act y.place)) →
+    (n ≡ x.proc) × (At p ≡ x.spot) → InsideHolds (letters_of t) x.values y.values y.helpers act.act → PendAt t x.below after → ToldBack t x y after
 inside_found t x y after act n p known w at holds pend =
     let edge : Edge = w.edge in
-    let parts = inside_parts (place_number t n p) (spot_number t x.proc x.spot) (inside_act n edge.written edge.rows.helpers edge.rows.rows) act (spot_number t n edge.to) y.place w.is in
-    let holds_so : HoldsInside (frame_of (letters_of t) n) edge.written edge.rows.helpers edge.rows.rows x.values y.values y.helpers = subst (InsideHolds (letters_of t) x.values y.values y.helpers) (sym parts.1) holds in
+    let parts = inside_parts (place_number t n p) (spot_number t x.proc x.spot) (exact_act (inside_act n edge.written edge.rows.helpers edge.rows.rows)) act (spot_number t n edge.to) y.place w.is in
+    let holds_so : HoldsInside (frame_of (letters_of t) n) edge.written edge.rows.helpers edge.rows.rows x.values y.values y.helpers = subst (λ (m : MarkedAct). InsideHolds (letters_of t) x.values y.values y.helpers m.act) (sym parts.1) holds in
     let h : HoldsInside (frame_at t n) edge.written edge.rows.helpers edge.rows.rows x.values y.values y.helpers =
     subst (λ (f : Columns). HoldsInside f edge.written edge.rows.helpers edge.rows.rows x.values y.values y.helpers) (frame_is t n known.procedure known.is) holds_so in
     let here : Stack = record { proc = n; spot = At p; values = x.values; below = x.below } in
@@ -121,26 +122,26 @@ inside_found t x y after act n p known w at holds pend =
     } in
     subst (λ (s : Stack). ToldBack t s y after) (same_stack here x at.0 at.1 refl refl) one
 
-pub inside_told : (l : PlaceLaws) (t : TypedProgram) → IsTrue (is_valid t) → (x : Stack) → IsKnownStack t x → (a : Letter) (hs : List ℤ) (y : Position) (after : List Position) →
+pub inside_told : (l : PlaceLaws) (t : TypedProgram) → IsTrue (is_valid t) → (x : Stack) → IsKnownStack t x → (a : Letter) (hs : List ℤ) (y : TracePosition) (after : List TracePosition) →
     Member (lowered t).automaton.insides (spot_number t x.proc x.spot, a, y.place) → LeadsInside (letters_of t) a (standing_at t x hs) y → PendAt t x.below after → ToldBack t x y after
 inside_told l t v x k a hs y after m led pend =
     let q : ℕ = spot_number t x.proc x.spot in
     let h : InsideOf (program_arcs t) (lettered (program_arcs t)).acts q a y.place = (insides_are (program_arcs t) q y.place a).0 m in
-    let is : inside_act led.proc led.written led.helpers led.rows ≡ h.act = same_act (inside_act led.proc led.written led.helpers led.rows) h.act (act_of (letters_of t) a) led.act (letter_act t a h.act h.letter) in
-    let holds : InsideHolds (letters_of t) x.values y.values y.helpers h.act = subst (InsideHolds (letters_of t) x.values y.values y.helpers) is (record { leads = led.leads; helped = led.helped }) in
+    let is : inside_act led.proc led.written led.helpers led.rows ≡ h.act.act = same_act (inside_act led.proc led.written led.helpers led.rows) h.act.act (act_of (letters_of t) a) led.act (letter_act t a h.act h.letter) in
+    let holds : InsideHolds (letters_of t) x.values y.values y.helpers h.act.act = subst (InsideHolds (letters_of t) x.values y.values y.helpers) is (record { leads = led.leads; helped = led.helped }) in
     elim (from_start_or_place t v (inside_arc q h.act y.place) h.arc) [
       | inl start ↦ absurd (spot_not_zero l t v x.proc x.spot k.spot (cc))
       | inr w ↦ elim w.3 [
-        | inl edge ↦ (let parts = inside_parts (place_number t w.0 w.1) q (inside_act w.0 edge.edge.written edge.edge.rows.helpers edge.edge.rows.rows) h.act (spot_number t w.0 edge.edge.to) y.place edge.is in
+        | inl edge ↦ (let parts = inside_parts (place_number t w.0 w.1) q (exact_act (inside_act w.0 edge.edge.written edge.edge.rows.helpers edge.edge.rows.rows)) h.act (spot_number t w.0 edge.edge.to) y.place edge.is in
             inside_found t x y after h.act w.0 w.1 w.2 edge (stands_at l t v x k w.0 w.1 w.2 parts.0) holds pend)
-        | inr c ↦ absurd (no_inside q (place_number t w.0 w.1) h.act (call_act w.0 c.callee c.rows.helpers c.rows.rows) y.place (place_number t c.callee (point_of_call t c.callee (slice_get t.procs c.callee)))
+        | inr c ↦ absurd (no_inside q (place_number t w.0 w.1) h.act (exact_act (call_act w.0 c.callee c.rows.helpers c.rows.rows)) y.place (place_number t c.callee (point_of_call t c.callee (slice_get t.procs c.callee)))
             (return_place t c.callee) (numbers_in (frame_at t w.0) (targets_at w.1.todo)) (place_number t w.0 (settled (past_first t.procs w.1.todo))) (sym c.is))
       ]
     ]
 
 -- ---- calls
 
-pub call_told : (l : PlaceLaws) (t : TypedProgram) → IsTrue (is_valid t) → (x : Stack) → IsKnownStack t x → (a : Letter) (hs : List ℤ) (y : Position) (after : List Position) →
+pub call_told : (l : PlaceLaws) (t : TypedProgram) → IsTrue (is_valid t) → (x : Stack) → IsKnownStack t x → (a : Letter) (hs : List ℤ) (y : TracePosition) (after : List TracePosition) →
     Member (lowered t).automaton.calls (spot_number t x.proc x.spot, a, y.place) → LeadsIn (letters_of t) a (standing_at t x hs) y → PendAt t x.below after → ToldBack t x y (standing_at t x hs ∷ after)
 call_told l t v x k a hs y after m led pend =
     let q : ℕ = spot_number t x.proc x.spot in
@@ -152,7 +153,7 @@ call_told l t v x k a hs y after m led pend =
     let at = stands_at l t v x k n p w.known w.parts.place in
     let b = entered_has_body t n p f w.args w.known w.action in
     let is : call_act led.caller led.callee led.helpers led.rows ≡ call_act n f w.rows.helpers w.rows.rows =
-    same_act (call_act led.caller led.callee led.helpers led.rows) h.act (act_of (letters_of t) a) led.act (letter_act t a h.act h.letter) ∙ sym w.parts.act in
+    same_act (call_act led.caller led.callee led.helpers led.rows) h.act.act (act_of (letters_of t) a) led.act (letter_act t a h.act h.letter) ∙ ap (λ (m : MarkedAct). m.act) (sym w.parts.act) in
     let holds : CallLeads (frame_of (letters_of t) n) (frame_of (letters_of t) f) w.rows.helpers w.rows.rows x.values y.values = subst (CallHolds (letters_of t) x.values y.values) is led.leads in
     let from : CallLeads (frame_at t n) (frame_of (letters_of t) f) w.rows.helpers w.rows.rows x.values y.values =
     subst (λ (c : Columns). CallLeads c (frame_of (letters_of t) f) w.rows.helpers w.rows.rows x.values y.values) (frame_is t n w.known.procedure w.known.is) holds in
@@ -173,7 +174,7 @@ call_told l t v x k a hs y after m led pend =
 
 -- ---- returns
 
-pub back_told : (l : PlaceLaws) (t : TypedProgram) → IsTrue (is_valid t) → (x : Stack) → IsKnownStack t x → (a : Letter) (hs gs : List ℤ) (y : Position) (after : List Position) (below : Pending) (rest : List Pending) →
+pub back_told : (l : PlaceLaws) (t : TypedProgram) → IsTrue (is_valid t) → (x : Stack) → IsKnownStack t x → (a : Letter) (hs gs : List ℤ) (y : TracePosition) (after : List TracePosition) (below : Pending) (rest : List Pending) →
     x.below ≡ below ∷ rest → Member (lowered t).automaton.backs (spot_number t x.proc x.spot, place_number t below.proc below.point, a, y.place) →
     LeadsBack (letters_of t) a (standing_at t x hs) (pending_at t below gs) y → PendAt t rest after → ToldBack t x y after
 back_told l t v x k a hs gs y after below rest stack m led pend =
@@ -191,11 +192,12 @@ back_told l t v x k a hs gs y after below rest stack m led pend =
     let at = stands_at l t v x k f exit (return_known t f b.0 b.1 b.2 b.3) w.parts.from in
     let targets : List ℕ = numbers_in (frame_at t n) (targets_at p.todo) in
     let rows : Conjunction = w.rows in
-    let backs = same_back led.call h.call led.targets h.targets (same_act (back_act led.call led.targets) (back_act h.call h.targets) (act_of (letters_of t) a) led.act (letter_act t a (back_act h.call h.targets) h.letter)) in
+    let backs = same_back led.call h.call led.targets h.targets (same_act (back_act led.call led.targets) (back_act h.call h.targets) (act_of (letters_of t) a) led.act (letter_act t a (exact_act (back_act h.call h.targets)) h.letter)) in
     let led_to : led.targets ≡ targets = backs.1 ∙ sym w.parts.targets in
     let called_so : slice_get (letters_of t).acts h.call ≡ Some (call_act led.caller led.callee led.helpers led.rows) = ap (slice_get (letters_of t).acts) (sym backs.0) ∙ led.called in
     let is : call_act led.caller led.callee led.helpers led.rows ≡ call_act n f rows.helpers rows.rows =
-    same_act (call_act led.caller led.callee led.helpers led.rows) h.act (slice_get (letters_of t).acts h.call) called_so h.called ∙ sym w.parts.act in
+    same_act (call_act led.caller led.callee led.helpers led.rows) h.act.act (slice_get (letters_of t).acts h.call) called_so
+    (act_got (lettered (program_arcs t)).acts h.call h.act h.called) ∙ ap (λ (m : MarkedAct). m.act) (sym w.parts.act) in
     let holds : BackLeads (frame_of (letters_of t) n) (frame_of (letters_of t) f) rows.helpers rows.rows led.targets x.values below.values y.values =
     subst (BackHolds (letters_of t) led.targets x.values below.values y.values) is led.leads in
     let to_targets : BackLeads (frame_of (letters_of t) n) (frame_of (letters_of t) f) rows.helpers rows.rows targets x.values below.values y.values =
@@ -223,13 +225,13 @@ back_told l t v x k a hs gs y after below rest stack m led pend =
 -- ---- the letter of the start
 
 -- the first step from place 0
-pub record FirstTold (t : TypedProgram) (y : Position) : Type 0 where
+pub record FirstTold (t : TypedProgram) (y : TracePosition) : Type 0 where
   pub stack : Stack
   pub start : IsStart t stack
   pub stands : standing_at t stack y.helpers ≡ y
   pub none_open : stack.below ≡ []
 
-pub first_told : (l : PlaceLaws) (t : TypedProgram) → IsTrue (is_valid t) → (a : Letter) (x y : Position) → Member (lowered t).automaton.insides (0, a, y.place) → LeadsInside (letters_of t) a x y → FirstTold t y
+pub first_told : (l : PlaceLaws) (t : TypedProgram) → IsTrue (is_valid t) → (a : Letter) (x y : TracePosition) → Member (lowered t).automaton.insides (0, a, y.place) → LeadsInside (letters_of t) a x y → FirstTold t y
 first_told l t v a x y m led =
     let h : InsideOf (program_arcs t) (lettered (program_arcs t)).acts 0 a y.place = (insides_are (program_arcs t) 0 y.place a).0 m in
     let frame : Columns = frame_at t t.entry in
@@ -237,11 +239,11 @@ first_told l t v a x y m led =
     let rows : List LinearRow = entering_rows (width_at t t.entry) (olds_of frame) in
     let first : Point = start_point_of t (slice_get t.procs t.entry) in
     let entry = valid.entry t v in
-    let is : inside_act led.proc led.written led.helpers led.rows ≡ h.act = same_act (inside_act led.proc led.written led.helpers led.rows) h.act (act_of (letters_of t) a) led.act (letter_act t a h.act h.letter) in
+    let is : inside_act led.proc led.written led.helpers led.rows ≡ h.act.act = same_act (inside_act led.proc led.written led.helpers led.rows) h.act.act (act_of (letters_of t) a) led.act (letter_act t a h.act h.letter) in
     elim (from_start_or_place t v (inside_arc 0 h.act y.place) h.arc) [
-      | inl start ↦ (let parts = inside_parts 0 0 (entering t.entry frame) h.act (place_number t t.entry first) y.place start in
+      | inl start ↦ (let parts = inside_parts 0 0 (exact_act (entering t.entry frame)) h.act (place_number t t.entry first) y.place start in
           let holds : HoldsInside (frame_of (letters_of t) t.entry) written 0 rows x.values y.values y.helpers =
-          subst (InsideHolds (letters_of t) x.values y.values y.helpers) (is ∙ sym parts.1) (record { leads = led.leads; helped = led.helped }) in
+          subst (InsideHolds (letters_of t) x.values y.values y.helpers) (is ∙ ap (λ (m : MarkedAct). m.act) (sym parts.1)) (record { leads = led.leads; helped = led.helped }) in
           let leads : InsideLeads frame written 0 rows x.values y.values = subst (λ (f : Columns). InsideLeads f written 0 rows x.values y.values) (frame_is t t.entry entry.0 entry.2) holds.leads in
           let entered : IsEntered t y.values = start_led t t.entry x.values y.values leads in
           record {
@@ -260,7 +262,7 @@ first_told l t v a x y m led =
             none_open = refl;
           })
       | inr w ↦ elim w.3 [
-        | inl edge ↦ (let parts = inside_parts (place_number t w.0 w.1) 0 (inside_act w.0 edge.edge.written edge.edge.rows.helpers edge.edge.rows.rows) h.act (spot_number t w.0 edge.edge.to) y.place edge.is in
+        | inl edge ↦ (let parts = inside_parts (place_number t w.0 w.1) 0 (exact_act (inside_act w.0 edge.edge.written edge.edge.rows.helpers edge.edge.rows.rows)) h.act (spot_number t w.0 edge.edge.to) y.place edge.is in
             absurd (place_not_zero l t v w.0 w.1 w.2 parts.0))
         | inr c ↦ absurd (cc)
       ]

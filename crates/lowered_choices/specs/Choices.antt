@@ -9,7 +9,7 @@ use Rattle.lowered_steps.specs.ProgramFrames.{shown}
 use Rattle.lowered_steps.specs.Edges.{At, Wrong}
 use Rattle.lowered_steps.specs.Stacks.{Stack}
 use Rattle.lowered_runs.specs.Choices.{ToldStep, machine_choices}
-use Rattle.lowered_choices.specs.Traces.{Position}
+use Rattle.lowered_choices.specs.Traces.{TracePosition}
 
 -- ---- choices
 
@@ -19,20 +19,20 @@ standing values None = record { proc = 0; spot = Wrong 0; values = values; below
 standing values (Some p) = record { proc = p.proc; spot = At p.point; values = values; below = [] }
 
 -- the same by the number of the place: the places of a program are numbered from 1 on, behind the start
-abbrev pub stack_at : TypedProgram → Position → Stack
+abbrev pub stack_at : TypedProgram → TracePosition → Stack
 stack_at t x = standing x.values (slice_get (program_places t) (x.place - 1))
 
-abbrev pub step_to : TypedProgram → Position → ToldStep
+abbrev pub step_to : TypedProgram → TracePosition → ToldStep
 step_to t x = record { after = stack_at t x; helpers = x.helpers }
 
 -- The choices that are told of the positions behind the letters, one for each step of the run, None where it takes none: those of the start, from the
 -- position behind the first letter, and those of each further letter.
-abbrev pub trace_choices : TypedProgram → List Position → List (Option ℤ)
+abbrev pub trace_choices : TypedProgram → List TracePosition → List (Option ℤ)
 trace_choices t [] = []
 trace_choices t (x ∷ xs) = machine_choices t (stack_at t x) (map (step_to t) xs)
 
 -- how many steps the run makes
-abbrev pub trace_steps : TypedProgram → List Position → ℕ
+abbrev pub trace_steps : TypedProgram → List TracePosition → ℕ
 trace_steps t xs = length (trace_choices t xs)
 
 -- ---- runs that fail
@@ -47,7 +47,7 @@ pub record FailsAtLast (t : TypedProgram) (choices : List (Option ℤ)) (i : ℕ
   pub fails : step t here last ≡ Failed i
 
 -- The run that takes these choices has come to the place of the position, with the values there.
-pub record ComesTo (t : TypedProgram) (choices : List (Option ℤ)) (x : Position) : Type 0 where
+pub record ComesTo (t : TypedProgram) (choices : List (Option ℤ)) (x : TracePosition) : Type 0 where
   pub here : Config
   pub leads : run t (start t) choices ≡ Went here
   pub place : number_of t (record { proc = here.top.proc; point = here.top.point }) ≡ x.place

@@ -11,7 +11,7 @@ use Rattle.letter_acts.specs.Invariant.{Graph, alphabet_of}
 
 -- A position: the state of the run, the values of the columns of the frame there, and the helpers of the inside letter that leads to it. Those of
 -- other letters are not asked for.
-pub record Position : Type 0 where
+pub record TracePosition : Type 0 where
   pub place : ℕ
   pub values : List ℤ
   pub helpers : List ℤ
@@ -19,7 +19,7 @@ pub record Position : Type 0 where
 -- ---- letters
 
 -- an inside letter leads from x to y, and its rows hold with the helpers of y
-pub record LeadsInside (al : Alphabet) (a : Letter) (x y : Position) : Type 0 where
+pub record LeadsInside (al : Alphabet) (a : Letter) (x y : TracePosition) : Type 0 where
   pub proc : ℕ
   pub written : List ℕ
   pub helpers : ℕ
@@ -29,7 +29,7 @@ pub record LeadsInside (al : Alphabet) (a : Letter) (x y : Position) : Type 0 wh
   pub helped : leads.rows_hold.helpers ≡ y.helpers
 
 -- a call leads from x to y
-pub record LeadsIn (al : Alphabet) (a : Letter) (x y : Position) : Type 0 where
+pub record LeadsIn (al : Alphabet) (a : Letter) (x y : TracePosition) : Type 0 where
   pub caller : ℕ
   pub callee : ℕ
   pub helpers : ℕ
@@ -38,7 +38,7 @@ pub record LeadsIn (al : Alphabet) (a : Letter) (x y : Position) : Type 0 where
   pub leads : CallLeads (frame_of al caller) (frame_of al callee) helpers rows x.values y.values
 
 -- a return leads from x, where its call was made at b, to y
-pub record LeadsBack (al : Alphabet) (a : Letter) (x b y : Position) : Type 0 where
+pub record LeadsBack (al : Alphabet) (a : Letter) (x b y : TracePosition) : Type 0 where
   pub call : ℕ
   pub targets : List ℕ
   pub caller : ℕ
@@ -50,7 +50,7 @@ pub record LeadsBack (al : Alphabet) (a : Letter) (x b y : Position) : Type 0 wh
   pub leads : BackLeads (frame_of al caller) (frame_of al callee) helpers rows targets x.values b.values y.values
 
 -- what the edges of a graph and their letters allow between positions
-abbrev pub told_steps : Graph → Steps Position
+abbrev pub told_steps : Graph → Steps TracePosition
 told_steps g = record {
   inside = λ a x y. Member g.automaton.insides (x.place, a, y.place) × LeadsInside (alphabet_of g) a x y;
   call = λ a x y. Member g.automaton.calls (x.place, a, y.place) × LeadsIn (alphabet_of g) a x y;
@@ -60,13 +60,13 @@ told_steps g = record {
 -- ---- traces
 
 -- the place of the last of these positions, and q where there is none
-abbrev pub last_place : ℕ → List Position → ℕ
+abbrev pub last_place : ℕ → List TracePosition → ℕ
 last_place q [] = q
 last_place q (x ∷ xs) = last_place x.place xs
 
 -- A trace of a word that ends where assertion i fails: a position before the first letter, at the start of the automaton, and one behind each letter;
 -- each letter leads from its position to the next, a return seeing the position at which its call was made.
-pub record IsTrace (g : Graph) (i : ℕ) (w : List Letter) (first : Position) (more : List Position) : Type 0 where
+pub record IsTrace (g : Graph) (i : ℕ) (w : List Letter) (first : TracePosition) (more : List TracePosition) : Type 0 where
   pub start : first.place ≡ g.automaton.start
   pub along : GoesAlong (told_steps g) w (first ∷ more)
   pub site : Site

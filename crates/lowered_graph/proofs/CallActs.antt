@@ -8,16 +8,16 @@ use Rattle.boogie_tree.specs.declared.tree.Column.{Column}
 use Rattle.boogie_tree.specs.declared.tree.Column.TheVariants as columns
 use Rattle.boogie_tree.specs.declared.tree.VarInfo.{VarInfo}
 use Rattle.typed_tree.specs.TypedTree.{TypedExpression, Lit, Truth, Var, Old, Not, Neg, Bin, TypedProcedure, TypedProgram}
-use Rattle.letter_acts.specs.Frames.{Columns, added, globals_from, old_columns, locals_from, is_parameter, is_result, places, results_of}
+use Rattle.letter_acts.specs.Frames.{Columns, added, globals_from, old_columns, locals_from, is_parameter, is_result, places, result_columns}
 use Rattle.letter_acts.specs.Invariant.{AreDistinct, MayName, Take, type_at, written_by, BackIsActed}
 use Rattle.cond_jumps.specs.Conjunctions.{Conjunction, Just}
-use Rattle.cond_jumps.specs.Forms.{number, column}
+use Rattle.cond_jumps.specs.Forms.{linear_number, column}
 use Rattle.cond_jumps.specs.Comparisons.{equal, compared}
 use Rattle.cond_jumps.specs.Environments.{Environment}
 use Rattle.cond_jumps.specs.Frames.{frame_environment}
 use Rattle.boogie_run.specs.Needs.{locals_at, locals_if_any}
 use Rattle.typing_rules.specs.Rules.{results_of as results_of_procedure}
-use Rattle.lowered_steps.specs.ProgramFrames.{frame_at, width_at, number_in}
+use Rattle.lowered_steps.specs.ProgramFrames.{frame_at, width_at, column_number}
 use Rattle.lowered_steps.specs.Edges.{argument_sum, parameters_get, call_list, columns_before_locals, numbers_in}
 use Rattle.lowered_steps.specs.Moves.{AreArguments, AreTargets, HasParameters}
 use Rattle.lowered_steps.specs.Stacks.{IsAmong}
@@ -35,7 +35,7 @@ argument_names A v s (Lit at k) n = linear_names A v s false (Lit at k) n
 argument_names A v s (Truth at b) n = record { terms = tt; rows = tt }
 argument_names A v s (Var at c) n = linear_names A v s false (Var at c) n
 argument_names A v s (Old at e) n = linear_names A v s false (Old at e) n
-argument_names A v s (Not at e) n = minus_names A (number (pos 1)) (argument_sum v e) n (record { terms = tt; rows = tt }) (argument_names A v s e (n + 0))
+argument_names A v s (Not at e) n = minus_names A (linear_number (pos 1)) (argument_sum v e) n (record { terms = tt; rows = tt }) (argument_names A v s e (n + 0))
 argument_names A v s (Neg at e) n = linear_names A v s false (Neg at e) n
 argument_names A v s (Bin at op a b) n = linear_names A v s false (Bin at op a b) n
 
@@ -185,7 +185,7 @@ rest_counted n k [] h = refl
 rest_counted n k (v ∷ vs) h = ap (λ (c : Bool). added (not c) n (places is_result (suc n) (locals_from (suc k) vs))) h.0 ∙ ap (λ (l : List ℕ). n ∷ l) (rest_counted (suc n) (suc k) vs h.1)
 
 results_are : (t : TypedProgram) (f : ℕ) (q : TypedProcedure) → slice_get t.procs f ≡ Some q → q.params ≤ length q.locals → HasParameters q →
-    results_of (frame_at t f) ≡ count_up (columns_before_locals t + q.params) (length (drop q.params q.locals))
+    result_columns (frame_at t f) ≡ count_up (columns_before_locals t + q.params) (length (drop q.params q.locals))
 results_are t f q e l h =
     let globals : Columns = globals_from 0 t.globals in
     let olds : Columns = old_columns 0 t.globals in
@@ -224,7 +224,7 @@ takes_from t n f j (suc count) (v ∷ vs) (w ∷ rest) (c ∷ cs) h e g =
     let more : vs ≡ take count rest = cc in
     let here : j + 0 ≡ j = omega arith in
     let local : slice_get (locals_at t f) j ≡ Some w = subst (λ (m : ℕ). slice_get (locals_at t f) m ≡ Some w) here (h 0 w refl) in
-    let target : type_at (frame_at t n) (number_in (frame_at t n) c) ≡ Some v.ty = stands_type t n v.ty c (target_stands t n v.ty c g.0) in
+    let target : type_at (frame_at t n) (column_number (frame_at t n) c) ≡ Some v.ty = stands_type t n v.ty c (target_stands t n v.ty c g.0) in
     let result : type_at (frame_at t f) (columns_before_locals t + j) ≡ Some w.ty = type_of_local t f j w local in
     let next : columns_before_locals t + suc j ≡ suc (columns_before_locals t + j) = omega arith in
     let later : (i : ℕ) (x : VarInfo) → slice_get rest i ≡ Some x → slice_get (locals_at t f) (suc j + i) ≡ Some x =
@@ -233,7 +233,7 @@ takes_from t n f j (suc count) (v ∷ vs) (w ∷ rest) (c ∷ cs) h e g =
       subst (λ (m : ℕ). Take (frame_at t n) (frame_at t f) (numbers_in (frame_at t n) cs) (count_up m (length rest))) next (takes_from t n f (suc j) count vs rest cs later more g.1),
     )
 
-takes_results : (t : TypedProgram) (n f : ℕ) (args : List TypedExpression) (cs : List Column) → CallIsKnown t n f args cs → Take (frame_at t n) (frame_at t f) (numbers_in (frame_at t n) cs) (results_of (frame_at t f))
+takes_results : (t : TypedProgram) (n f : ℕ) (args : List TypedExpression) (cs : List Column) → CallIsKnown t n f args cs → Take (frame_at t n) (frame_at t f) (numbers_in (frame_at t n) cs) (result_columns (frame_at t f))
 takes_results t n f args cs w =
     let q : TypedProcedure = w.procedure in
     let enough : q.params + q.results ≤ length q.locals = w.enough in

@@ -13,11 +13,11 @@ use Rattle.math_facts.specs.Terms.{IsBelow}
 use Rattle.lin_rows.specs.Rows.{LinearRow}
 use Rattle.letter_acts.specs.Frames.{Columns}
 use Rattle.letter_acts.specs.Invariant.{AreDistinct, MayWrite, IsOld, inside_width}
-use Rattle.cond_jumps.specs.Conjunctions.{Conjunction, listed, joined}
+use Rattle.cond_jumps.specs.Conjunctions.{Conjunction, listed_plan, joined}
 use Rattle.cond_jumps.specs.Forms.{Linear}
 use Rattle.cond_jumps.specs.Environments.{Environment}
-use Rattle.cond_jumps.specs.Frames.{place_from, or_else, if_constant, place, sum_at, plan_at, frame_environment}
-use Rattle.cond_jumps.specs.Passing.{Standing, Same, Numbered, Passed, standing_sum, standing_plan, standing_environment, passed, left_in, locals_of, imported}
+use Rattle.cond_jumps.specs.Frames.{place_from, or_else, if_constant, column_place_in, linear_at, plan_at, frame_environment}
+use Rattle.cond_jumps.specs.Passing.{Standing, Same, Numbered, Passed, standing_sum, standing_plan, standing_environment, passed, left_in, passed_locals, imported}
 use Rattle.cond_jumps.specs.Paths.{paths}
 use Rattle.cond_jumps.specs.Lists.{path_list, assign_list}
 use Rattle.cond_jumps.proofs.FrameLemmas.{IsFound, found_from}
@@ -25,7 +25,7 @@ use Rattle.boogie_points.specs.Points.{Point, settled, past_first}
 use Rattle.boogie_points.specs.Actions as actions
 use Rattle.boogie_points.specs.Actions.{Action, ensured_conditions}
 use Rattle.boogie_points.specs.Starts.{targets_at}
-use Rattle.lowered_steps.specs.ProgramFrames.{frame_at, number_in}
+use Rattle.lowered_steps.specs.ProgramFrames.{frame_at, column_number}
 use Rattle.lowered_steps.specs.Edges as edges
 use Rattle.lowered_steps.specs.Edges.{Spot, At, Wrong, Edge, leads, no_rows, those_in, those_not_in, import_written, typed_column, left_if, left_at, found_or_0, results_at, all_hold, import_environment, import_list, import_edges, passed_list, skips, numbers_in, inside_edges}
 use Rattle.lowered_steps.specs.Stacks.{IsAmong}
@@ -55,7 +55,7 @@ list_wider A B f n (x ∷ cs) h = (rows_so (IsNamed A n x.helpers) (IsNamed B n 
 pub each_wider : (A B : ℕ → Type 0) (v : Environment) → ((c : ℕ) → A c → B c) → EachNames A v → EachNames B v
 each_wider A B v f h = record {
   sums = λ c n. sum_wider A B f n (v.sum c n) (h.sums c n);
-  plans = λ c want n. list_wider A B f n (listed (v.plan c want) n) (h.plans c want n);
+  plans = λ c want n. list_wider A B f n (listed_plan (v.plan c want) n) (h.plans c want n);
 }
 
 -- a place is inside the frame
@@ -75,7 +75,7 @@ old_inside frame g x None (Some y) e f h = by_test y.1.constant h
     by_test true k = found_inside frame (columns.Global g) x (f ∙ k)
     by_test false k = absurd (cc)
 
-place_inside : (frame : Columns) (c : Column) (x : ℕ × VarInfo) → place frame c ≡ Some x → x.0 < length frame
+place_inside : (frame : Columns) (c : Column) (x : ℕ × VarInfo) → column_place_in frame c ≡ Some x → x.0 < length frame
 place_inside frame (columns.Global g) x e = found_inside frame (columns.Global g) x e
 place_inside frame (columns.Old g) x e = old_inside frame g x (place_from 0 frame (columns.Old g)) (place_from 0 frame (columns.Global g)) refl refl e
 place_inside frame (columns.Local l) x e = found_inside frame (columns.Local l) x e
@@ -83,15 +83,15 @@ place_inside frame (columns.Local l) x e = found_inside frame (columns.Local l) 
 -- the columns of a frame
 pub frame_names : (frame : Columns) → EachNames (λ c. c < length frame) (frame_environment frame)
 frame_names frame = record {
-  sums = λ c n. sum_named (place frame c) n (λ x e. place_inside frame c x e);
-  plans = λ c want n. plan_named (place frame c) want n (λ x e. place_inside frame c x e);
+  sums = λ c n. sum_named (column_place_in frame c) n (λ x e. place_inside frame c x e);
+  plans = λ c want n. plan_named (column_place_in frame c) want n (λ x e. place_inside frame c x e);
 }
   where
-    sum_named : (o : Option (ℕ × VarInfo)) (n : ℕ) → ((x : ℕ × VarInfo) → o ≡ Some x → x.0 < length frame) → SumNames (λ c. c < length frame) n (sum_at o n)
+    sum_named : (o : Option (ℕ × VarInfo)) (n : ℕ) → ((x : ℕ × VarInfo) → o ≡ Some x → x.0 < length frame) → SumNames (λ c. c < length frame) n (linear_at o n)
     sum_named None n h = record { terms = tt; rows = tt }
     sum_named (Some x) n h = column_names (λ c. c < length frame) x.0 n (h x refl)
 
-    plan_named : (o : Option (ℕ × VarInfo)) (want : Bool) (n : ℕ) → ((x : ℕ × VarInfo) → o ≡ Some x → x.0 < length frame) → ListNames (λ c. c < length frame) n (listed (plan_at o want) n)
+    plan_named : (o : Option (ℕ × VarInfo)) (want : Bool) (n : ℕ) → ((x : ℕ × VarInfo) → o ≡ Some x → x.0 < length frame) → ListNames (λ c. c < length frame) n (listed_plan (plan_at o want) n)
     plan_named None want n h = tt
     plan_named (Some x) want n h = named_names (λ c. c < length frame) x.0 want n (h x refl)
 
@@ -108,7 +108,7 @@ standing_names A v stands s h = record {
     sum_named (Some (Numbered k ty)) n g = column_names A k n (g k ty refl)
     sum_named (Some (Passed e)) n g = linear_names A v s false e n
 
-    plan_named : (o : Option Standing) (want : Bool) (n : ℕ) → ((k : ℕ) (ty : Ty) → o ≡ Some (Numbered k ty) → A k) → ListNames A n (listed (standing_plan v o want) n)
+    plan_named : (o : Option Standing) (want : Bool) (n : ℕ) → ((k : ℕ) (ty : Ty) → o ≡ Some (Numbered k ty) → A k) → ListNames A n (listed_plan (standing_plan v o want) n)
     plan_named None want n g = tt
     plan_named (Some (Same c)) want n g = s.plans c want n
     plan_named (Some (Numbered k ty)) want n g = named_names A k want n (g k ty refl)
@@ -163,7 +163,7 @@ writes_some : (modified targets : List ℕ) (c : ℕ) → 1 ≤ length (import_w
 writes_some [] targets c = omega arith
 writes_some (m ∷ ms) targets c = omega arith
 
-locals_below : (bound : ℕ) (args : List TypedExpression) (results : List (ℕ × Ty)) (n k : ℕ) (ty : Ty) → AllByRecursion (λ r. r.0 < bound) results → slice_get (locals_of args results) n ≡ Some (Numbered k ty) → k < bound
+locals_below : (bound : ℕ) (args : List TypedExpression) (results : List (ℕ × Ty)) (n k : ℕ) (ty : Ty) → AllByRecursion (λ r. r.0 < bound) results → slice_get (passed_locals args results) n ≡ Some (Numbered k ty) → k < bound
 locals_below bound (a ∷ args) results zero k ty h e = absurd (cc)
 locals_below bound (a ∷ args) results (suc n) k ty h e = locals_below bound args results n k ty h e
 locals_below bound [] [] n k ty h e = absurd (cc)
@@ -277,8 +277,8 @@ import_within frame globals q args targets =
     let n : ℕ = length frame + length written in
     let k : ℕ = length (those_in targets q.modifies) in
     let v : Environment = import_environment frame globals q args targets in
-    append_within frame written (map (joined (record { rows = []; helpers = k })) (listed (all_hold v (ensured_conditions q.specs)) (n + k)))
-    (behind_helpers frame written n k (listed (all_hold v (ensured_conditions q.specs)) (n + k)) refl (all_hold_names (λ c. c < n + k) v (import_names frame globals q args targets) (ensured_conditions q.specs) (n + k)))
+    append_within frame written (map (joined (record { rows = []; helpers = k })) (listed_plan (all_hold v (ensured_conditions q.specs)) (n + k)))
+    (behind_helpers frame written n k (listed_plan (all_hold v (ensured_conditions q.specs)) (n + k)) refl (all_hold_names (λ c. c < n + k) v (import_names frame globals q args targets) (ensured_conditions q.specs) (n + k)))
 
 -- ---- edges
 
@@ -365,13 +365,13 @@ edge_acted t n p (actions.Demand id at c args next) e w m =
     both_acted t n (passed_list (frame_at t n) args c true) (passed_list (frame_at t n) args c false) (At next) (Wrong id) e (passed_within (frame_at t n) args c true) (passed_within (frame_at t n) args c false) m
 edge_acted t n p (actions.Write cs es next) e w m =
     let frame : Columns = frame_at t n in
-    let count : length (numbers_in frame cs) ≡ length cs = length-map cs (number_in frame) in
+    let count : length (numbers_in frame cs) ≡ length cs = length-map cs (column_number frame) in
     leads_acted t n (numbers_in frame cs) (assign_list frame (length es) es) (At next) e
     (record { may_write = standing_written t n cs w.targets; distinct = standing_distinct t n cs w.targets w.differ; new = standing_new t n cs w.targets })
     (assign_within frame (numbers_in frame cs) es (w.as_many ∙ sym count)) m
 edge_acted t n p (actions.Guess c next) e w m =
-    leads_acted t n (number_in (frame_at t n) c ∷ []) no_rows (At next) e
-    (record { may_write = (stands_written t n w.0 c w.1, tt); distinct = (λ m. m, tt); new = (stands_new t n w.0 c w.1, tt) }) (no_rows_within (frame_at t n) (number_in (frame_at t n) c ∷ [])) m
+    leads_acted t n (column_number (frame_at t n) c ∷ []) no_rows (At next) e
+    (record { may_write = (stands_written t n w.0 c w.1, tt); distinct = (λ m. m, tt); new = (stands_new t n w.0 c w.1, tt) }) (no_rows_within (frame_at t n) (column_number (frame_at t n) c ∷ [])) m
 edge_acted t n p (actions.Test c hit miss) e w m = both_acted t n (path_list (frame_at t n) c true) (path_list (frame_at t n) c false) (At hit) (At miss) e (path_within (frame_at t n) c true) (path_within (frame_at t n) c false) m
 edge_acted t n p (actions.Pick ways) e w m = skips_acted t n ways e m
 edge_acted t n p (actions.Jump next) e w m = skips_acted t n (next ∷ []) e m

@@ -18,7 +18,7 @@ use Rattle.lowered_steps.specs.Edges.{Spot, At, Wrong, Edge, leads, no_rows, imp
 use Rattle.cond_jumps.specs.Lists.{path_list}
 use Rattle.lowered_steps.specs.Stacks.{IsAmong}
 use Rattle.lowered_graph.specs.Arcs.{place_number, spot_number, return_place, inside_arcs, action_arcs, arcs_at, arcs_of}
-use Rattle.letter_table.specs.Letters.{Arc, inside_arc, call_arc}
+use Rattle.letter_table.specs.Letters.{Arc, inside_arc, call_arc, exact_act}
 use Rattle.lowered_graph.specs.Lowered.{site, action_sites, sites_of}
 use Rattle.lowered_graph.proofs.Lists.{among_either, member_either, member_front, member_rest}
 
@@ -57,7 +57,7 @@ sites_so t (r ∷ ps) p s (inr i) m = member_rest (action_sites t r.proc (action
 -- ---- inside arcs
 
 abbrev pub arc_of_edge : TypedProgram → ℕ → Point → Edge → Arc
-arc_of_edge t n p e = inside_arc (place_number t n p) (inside_act n e.written e.rows.helpers e.rows.rows) (spot_number t n e.to)
+arc_of_edge t n p e = inside_arc (place_number t n p) (exact_act (inside_act n e.written e.rows.helpers e.rows.rows)) (spot_number t n e.to)
 
 -- each inside edge has its arc
 pub edge_arc : (t : TypedProgram) (n : ℕ) (p : Point) (a : Action) (e : Edge) → IsAmong (inside_edges t n p a) e → Member (action_arcs t n p a) (arc_of_edge t n p e)
@@ -87,7 +87,7 @@ mapped_arc t n p a arc m = let h = map_among (arc_of_edge t n p) (inside_edges t
 -- a call's arc
 abbrev pub arc_of_call : TypedProgram → ℕ → Point → ℕ → Conjunction → Arc
 arc_of_call t n p f c =
-    call_arc (place_number t n p) (call_act n f c.helpers c.rows) (place_number t f (point_of_call t f (slice_get t.procs f)))
+    call_arc (place_number t n p) (exact_act (call_act n f c.helpers c.rows)) (place_number t f (point_of_call t f (slice_get t.procs f)))
     (return_place t f) (numbers_in (frame_at t n) (targets_at p.todo)) (place_number t n (settled (past_first t.procs p.todo)))
 
 pub record CallOfArc (t : TypedProgram) (n : ℕ) (p : Point) (a : Action) (arc : Arc) : Type 0 where

@@ -13,10 +13,10 @@ use Rattle.nwa_base.specs.Members.{Member}
 use Rattle.nwa_base.proofs.LetterLemmas.{eqb-refl}
 use Rattle.letter_acts.specs.Frames.{Columns, added, globals_from, old_columns, locals_from, is_old_column}
 use Rattle.letter_acts.specs.Invariant.{AreDistinct, MayWrite, MayTarget, IsOld, type_at}
-use Rattle.cond_jumps.specs.Frames.{same_column, place_from, place}
+use Rattle.cond_jumps.specs.Frames.{same_frame_column, place_from, column_place_in}
 use Rattle.cond_jumps.proofs.FrameLemmas.{IsFound, found_from}
 use Rattle.boogie_run.specs.Needs.{locals_at}
-use Rattle.lowered_steps.specs.ProgramFrames.{frame_at, number_in, number_if_any}
+use Rattle.lowered_steps.specs.ProgramFrames.{frame_at, column_number, column_number_if_any}
 use Rattle.lowered_steps.specs.Edges.{those_not_in, import_written, numbers_in}
 use Rattle.letter_acts.specs.Reading.{is_listed}
 use Rattle.lowered_steps.specs.Moves.{IsTarget, AreTargets}
@@ -65,7 +65,7 @@ frame_stands t n =
 
 -- ---- where a column is found
 
-itself : (c : Column) → same_column c c ≡ true
+itself : (c : Column) → same_frame_column c c ≡ true
 itself (columns.Global m) = eqb-refl m
 itself (columns.Old m) = eqb-refl m
 itself (columns.Local m) = eqb-refl m
@@ -76,9 +76,9 @@ found_some k [] c i v e = absurd (cc)
 found_some k (d ∷ ds) c zero v e =
     let same : d ≡ (c, v) = cc in
     let first : d.0 ≡ c = ap (λ (x : Column × VarInfo). x.0) same in
-    let test : same_column d.0 c ≡ true = ap (λ (x : Column). same_column x c) first ∙ itself c in
+    let test : same_frame_column d.0 c ≡ true = ap (λ (x : Column). same_frame_column x c) first ∙ itself c in
     ((k, d.1), ap (λ (b : Bool). if b then Some (k, d.1) else place_from (suc k) ds c) test)
-found_some k (d ∷ ds) c (suc i) v e = by_test (same_column d.0 c) (found_some (suc k) ds c i v e)
+found_some k (d ∷ ds) c (suc i) v e = by_test (same_frame_column d.0 c) (found_some (suc k) ds c i v e)
   where
     by_test : (b : Bool) → ((x : ℕ × VarInfo) × (place_from (suc k) ds c ≡ Some x)) → (x : ℕ × VarInfo) × ((if b then Some (k, d.1) else place_from (suc k) ds c) ≡ Some x)
     by_test true h = ((k, d.1), refl)
@@ -124,49 +124,49 @@ local_stands t n l v e =
 -- the column stands at its number, varies, has the type and is no old column
 pub record StandsAt (t : TypedProgram) (n : ℕ) (ty : Ty) (c : Column) : Type 0 where
   pub info : VarInfo
-  pub stands : slice_get (frame_at t n) (number_in (frame_at t n) c) ≡ Some (c, info)
+  pub stands : slice_get (frame_at t n) (column_number (frame_at t n) c) ≡ Some (c, info)
   pub varies : info.constant ≡ false
   pub type : info.ty ≡ ty
   pub no_old : is_old_column c ≡ false
 
 -- the place of a column that is found
-number_found : (t : TypedProgram) (n : ℕ) (c : Column) (x : ℕ × VarInfo) → place_from 0 (frame_at t n) c ≡ Some x → place (frame_at t n) c ≡ place_from 0 (frame_at t n) c →
-    slice_get (frame_at t n) (number_in (frame_at t n) c) ≡ Some (c, x.1)
+number_found : (t : TypedProgram) (n : ℕ) (c : Column) (x : ℕ × VarInfo) → place_from 0 (frame_at t n) c ≡ Some x → column_place_in (frame_at t n) c ≡ place_from 0 (frame_at t n) c →
+    slice_get (frame_at t n) (column_number (frame_at t n) c) ≡ Some (c, x.1)
 number_found t n c x e p =
     let f : IsFound 0 (frame_at t n) c x = found_from 0 (frame_at t n) c x e in
     let at : x.0 ≡ 0 + f.index = f.at in
     let index : f.index ≡ x.0 = omega arith in
-    let number : number_in (frame_at t n) c ≡ x.0 = ap number_if_any (p ∙ e) in
+    let number : column_number (frame_at t n) c ≡ x.0 = ap column_number_if_any (p ∙ e) in
     ap (slice_get (frame_at t n)) (number ∙ sym index) ∙ f.stands
 
 pub target_stands : (t : TypedProgram) (n : ℕ) (ty : Ty) (c : Column) → IsTarget t n ty c → StandsAt t n ty c
 target_stands t n ty (columns.Global g) h =
     let found = found_some 0 (frame_at t n) (columns.Global g) g h.info (global_stands t n g h.info h.is) in
-    let stands : slice_get (frame_at t n) (number_in (frame_at t n) (columns.Global g)) ≡ Some (columns.Global g, found.0.1) = number_found t n (columns.Global g) found.0 found.1 refl in
-    let known : slice_get t.globals g ≡ Some found.0.1 = all_get (StandsFor t n) (frame_at t n) (number_in (frame_at t n) (columns.Global g)) (columns.Global g, found.0.1) (frame_stands t n) stands in
+    let stands : slice_get (frame_at t n) (column_number (frame_at t n) (columns.Global g)) ≡ Some (columns.Global g, found.0.1) = number_found t n (columns.Global g) found.0 found.1 refl in
+    let known : slice_get t.globals g ≡ Some found.0.1 = all_get (StandsFor t n) (frame_at t n) (column_number (frame_at t n) (columns.Global g)) (columns.Global g, found.0.1) (frame_stands t n) stands in
     let same : h.info ≡ found.0.1 = (let e : Some h.info ≡ Some found.0.1 = sym h.is ∙ known in cc) in
     record { info = found.0.1; stands = stands; varies = subst (λ (v : VarInfo). v.constant ≡ false) same h.varies; type = subst (λ (v : VarInfo). v.ty ≡ ty) same h.type; no_old = refl }
 target_stands t n ty (columns.Old g) h = absurd h
 target_stands t n ty (columns.Local l) h =
     let at = local_stands t n l h.info h.is in
     let found = found_some 0 (frame_at t n) (columns.Local l) at.0 h.info at.1 in
-    let stands : slice_get (frame_at t n) (number_in (frame_at t n) (columns.Local l)) ≡ Some (columns.Local l, found.0.1) = number_found t n (columns.Local l) found.0 found.1 refl in
-    let known : slice_get (locals_at t n) l ≡ Some found.0.1 = all_get (StandsFor t n) (frame_at t n) (number_in (frame_at t n) (columns.Local l)) (columns.Local l, found.0.1) (frame_stands t n) stands in
+    let stands : slice_get (frame_at t n) (column_number (frame_at t n) (columns.Local l)) ≡ Some (columns.Local l, found.0.1) = number_found t n (columns.Local l) found.0 found.1 refl in
+    let known : slice_get (locals_at t n) l ≡ Some found.0.1 = all_get (StandsFor t n) (frame_at t n) (column_number (frame_at t n) (columns.Local l)) (columns.Local l, found.0.1) (frame_stands t n) stands in
     let same : h.info ≡ found.0.1 = (let e : Some h.info ≡ Some found.0.1 = sym h.is ∙ known in cc) in
     record { info = found.0.1; stands = stands; varies = subst (λ (v : VarInfo). v.constant ≡ false) same h.varies; type = subst (λ (v : VarInfo). v.ty ≡ ty) same h.type; no_old = refl }
 
-pub stands_written : (t : TypedProgram) (n : ℕ) (ty : Ty) (c : Column) → StandsAt t n ty c → MayWrite (frame_at t n) (number_in (frame_at t n) c)
+pub stands_written : (t : TypedProgram) (n : ℕ) (ty : Ty) (c : Column) → StandsAt t n ty c → MayWrite (frame_at t n) (column_number (frame_at t n) c)
 stands_written t n ty c h = subst (λ (o : Option (Column × VarInfo)). IsSomeAnd o (λ v. v.1.constant ≡ false)) (sym h.stands) h.varies
 
-pub stands_new : (t : TypedProgram) (n : ℕ) (ty : Ty) (c : Column) → StandsAt t n ty c → IsOld (frame_at t n) (number_in (frame_at t n) c) → ⊥
+pub stands_new : (t : TypedProgram) (n : ℕ) (ty : Ty) (c : Column) → StandsAt t n ty c → IsOld (frame_at t n) (column_number (frame_at t n) c) → ⊥
 stands_new t n ty c h old =
     let is : is_old_column c ≡ true = subst (λ (o : Option (Column × VarInfo)). IsSomeAnd o (λ v. is_old_column v.0 ≡ true)) h.stands old in
     false≢true (sym h.no_old ∙ is)
 
-pub stands_target : (t : TypedProgram) (n : ℕ) (ty : Ty) (c : Column) → StandsAt t n ty c → MayTarget (frame_at t n) (number_in (frame_at t n) c)
+pub stands_target : (t : TypedProgram) (n : ℕ) (ty : Ty) (c : Column) → StandsAt t n ty c → MayTarget (frame_at t n) (column_number (frame_at t n) c)
 stands_target t n ty c h = subst (λ (o : Option (Column × VarInfo)). IsSomeAnd o (λ v. (v.1.constant ≡ false) × (is_old_column v.0 ≡ false))) (sym h.stands) (h.varies, h.no_old)
 
-pub stands_type : (t : TypedProgram) (n : ℕ) (ty : Ty) (c : Column) → StandsAt t n ty c → type_at (frame_at t n) (number_in (frame_at t n) c) ≡ Some ty
+pub stands_type : (t : TypedProgram) (n : ℕ) (ty : Ty) (c : Column) → StandsAt t n ty c → type_at (frame_at t n) (column_number (frame_at t n) c) ≡ Some ty
 stands_type t n ty c h = ap (option_map (λ v. v.1.ty)) h.stands ∙ ap Some h.type
 
 -- ---- lists of targets
@@ -188,13 +188,13 @@ standing_targets t n [] h = tt
 standing_targets t n (c ∷ cs) h = (stands_target t n h.0.0 c h.0.1, standing_targets t n cs h.1)
 
 -- equal numbers are those of one column
-same_number : (t : TypedProgram) (n : ℕ) (ty uy : Ty) (c d : Column) → StandsAt t n ty c → StandsAt t n uy d → number_in (frame_at t n) c ≡ number_in (frame_at t n) d → c ≡ d
+same_number : (t : TypedProgram) (n : ℕ) (ty uy : Ty) (c d : Column) → StandsAt t n ty c → StandsAt t n uy d → column_number (frame_at t n) c ≡ column_number (frame_at t n) d → c ≡ d
 same_number t n ty uy c d h k e =
     let both : Some (c, h.info) ≡ Some (d, k.info) = sym h.stands ∙ ap (slice_get (frame_at t n)) e ∙ k.stands in
     let pair : (c, h.info) ≡ (d, k.info) = cc in
     ap (λ (x : Column × VarInfo). x.0) pair
 
-number_there : (t : TypedProgram) (n : ℕ) (ty : Ty) (c : Column) (cs : List Column) → StandsAt t n ty c → AreStanding t n cs → Member (numbers_in (frame_at t n) cs) (number_in (frame_at t n) c) → Member cs c
+number_there : (t : TypedProgram) (n : ℕ) (ty : Ty) (c : Column) (cs : List Column) → StandsAt t n ty c → AreStanding t n cs → Member (numbers_in (frame_at t n) cs) (column_number (frame_at t n) c) → Member cs c
 number_there t n ty c [] h k m = m
 number_there t n ty c (d ∷ cs) h k (inl e) = inl (same_number t n k.0.0 ty d c k.0.1 h e)
 number_there t n ty c (d ∷ cs) h k (inr m) = inr (number_there t n ty c cs h k.1 m)

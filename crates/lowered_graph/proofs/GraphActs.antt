@@ -24,10 +24,10 @@ use Rattle.boogie_run.specs.Needs.{locals_at}
 use Rattle.lowered_steps.specs.ProgramFrames.{frame_at}
 use Rattle.lowered_steps.specs.Edges.{Edge, numbers_in}
 use Rattle.lowered_graph.specs.Arcs.{place_number, spot_number, return_place, entering_rows, entering, program_arcs}
-use Rattle.letter_table.specs.Letters.{Arc, inside_arc, call_arc, place_from, act_number, unless_there, with_act, Lettered, with_arc, with_arcs, no_letters, lettered}
+use Rattle.letter_table.specs.Letters.{MarkedAct, exact_act, Arc, inside_arc, call_arc, act_place_from, act_number, unless_there, with_act, Lettered, with_arc, with_arcs, no_letters, lettered}
 use Rattle.lowered_graph.specs.Lowered.{lowered}
 use Rattle.letter_acts.specs.Widths.{back_width, act_width, ActsFit}
-use Rattle.lowered_graph.proofs.ActNumbers.{act_numbered, longer_get, longer_than, with_longer}
+use Rattle.lowered_graph.proofs.ActNumbers.{act_numbered, act_got, longer_get, longer_than, with_longer}
 use Rattle.lowered_graph.proofs.LetterEdges.{arcs_longer}
 use Rattle.lowered_graph.proofs.KnownPlaces.{IsKnown}
 use Rattle.lowered_graph.proofs.EdgeArcs.{EdgeOfArc}
@@ -49,46 +49,46 @@ pub record ActionsAreTyped (t : TypedProgram) : Type 0 where
 
 -- ---- each act is that of an arc
 
-pub data ActOf (arcs : List Arc) (acts : List PlainAct) (a : PlainAct) : Type 0 where
+pub data ActOf (arcs : List Arc) (acts : List MarkedAct) (a : MarkedAct) : Type 0 where
   of_inside : (q e : ℕ) → Member arcs (inside_arc q a e) → ActOf arcs acts a
   of_call : (q e x : ℕ) (targets : List ℕ) (k : ℕ) → Member arcs (call_arc q a e x targets k) → ActOf arcs acts a
-  of_back : (q e x : ℕ) (b : PlainAct) (targets : List ℕ) (k call : ℕ) → Member arcs (call_arc q b e x targets k) → slice_get acts call ≡ Some b → back_act call targets ≡ a → ActOf arcs acts a
+  of_back : (q e x : ℕ) (b : MarkedAct) (targets : List ℕ) (k call : ℕ) → Member arcs (call_arc q b e x targets k) → slice_get acts call ≡ Some b → exact_act (back_act call targets) ≡ a → ActOf arcs acts a
 
-later_act : (b : Arc) (arcs : List Arc) (acts : List PlainAct) (a : PlainAct) → ActOf arcs acts a → ActOf (b ∷ arcs) acts a
+later_act : (b : Arc) (arcs : List Arc) (acts : List MarkedAct) (a : MarkedAct) → ActOf arcs acts a → ActOf (b ∷ arcs) acts a
 later_act b arcs acts a (of_inside q e m) = of_inside q e (inr m)
 later_act b arcs acts a (of_call q e x targets k m) = of_call q e x targets k (inr m)
 later_act b arcs acts a (of_back q e x c targets k call m i j) = of_back q e x c targets k call (inr m) i j
 
-unless_member : (acts : List PlainAct) (b a : PlainAct) (o : Option ℕ) → Member (unless_there acts b o) a → Member acts a ⊎ (b ≡ a)
+unless_member : (acts : List MarkedAct) (b a : MarkedAct) (o : Option ℕ) → Member (unless_there acts b o) a → Member acts a ⊎ (b ≡ a)
 unless_member acts b a None m = before_or_last acts b a m
 unless_member acts b a (Some n) m = inl m
 
-with_member : (acts : List PlainAct) (b a : PlainAct) → Member (with_act acts b) a → Member acts a ⊎ (b ≡ a)
-with_member acts b a m = unless_member acts b a (place_from 0 acts b) m
+with_member : (acts : List MarkedAct) (b a : MarkedAct) → Member (with_act acts b) a → Member acts a ⊎ (b ≡ a)
+with_member acts b a m = unless_member acts b a (act_place_from 0 acts b) m
 
-called_number : (d : Lettered) (q : ℕ) (b : PlainAct) (e x : ℕ) (targets : List ℕ) (k : ℕ) (arcs : List Arc) →
+called_number : (d : Lettered) (q : ℕ) (b : MarkedAct) (e x : ℕ) (targets : List ℕ) (k : ℕ) (arcs : List Arc) →
     slice_get (with_arcs (with_arc d (call_arc q b e x targets k)) arcs).acts (act_number d.acts b) ≡ Some b
 called_number d q b e x targets k arcs =
-    let called : List PlainAct = with_act d.acts b in
-    let back : PlainAct = back_act (act_number d.acts b) targets in
+    let called : List MarkedAct = with_act d.acts b in
+    let back : MarkedAct = exact_act (back_act (act_number d.acts b) targets) in
     longer_get called (with_arcs (with_arc d (call_arc q b e x targets k)) arcs).acts (act_number d.acts b) b
     (longer_than called (with_act called back) (with_arcs (with_arc d (call_arc q b e x targets k)) arcs).acts (with_longer called back) (arcs_longer (with_arc d (call_arc q b e x targets k)) arcs))
     (act_numbered d.acts b)
 
-acts_from : (d : Lettered) (arcs : List Arc) (a : PlainAct) → Member (with_arcs d arcs).acts a → Member d.acts a ⊎ ActOf arcs (with_arcs d arcs).acts a
+acts_from : (d : Lettered) (arcs : List Arc) (a : MarkedAct) → Member (with_arcs d arcs).acts a → Member d.acts a ⊎ ActOf arcs (with_arcs d arcs).acts a
 acts_from d [] a m = inl m
 acts_from d (inside_arc q b e ∷ arcs) a m = elim (acts_from (with_arc d (inside_arc q b e)) arcs a m) [
   | inl k ↦ elim (with_member d.acts b a k) [
     | inl old ↦ inl old
-    | inr is ↦ inr (of_inside q e (inl (ap (λ (c : PlainAct). inside_arc q c e) is)))
+    | inr is ↦ inr (of_inside q e (inl (ap (λ (c : MarkedAct). inside_arc q c e) is)))
   ]
   | inr h ↦ inr (later_act (inside_arc q b e) arcs (with_arcs (with_arc d (inside_arc q b e)) arcs).acts a h)
 ]
 acts_from d (call_arc q b e x targets k ∷ arcs) a m = elim (acts_from (with_arc d (call_arc q b e x targets k)) arcs a m) [
-  | inl i ↦ elim (with_member (with_act d.acts b) (back_act (act_number d.acts b) targets) a i) [
+  | inl i ↦ elim (with_member (with_act d.acts b) (exact_act (back_act (act_number d.acts b) targets)) a i) [
     | inl j ↦ elim (with_member d.acts b a j) [
       | inl old ↦ inl old
-      | inr is ↦ inr (of_call q e x targets k (inl (ap (λ (c : PlainAct). call_arc q c e x targets k) is)))
+      | inr is ↦ inr (of_call q e x targets k (inl (ap (λ (c : MarkedAct). call_arc q c e x targets k) is)))
     ]
     | inr is ↦ inr (of_back q e x b targets k (act_number d.acts b) (inl refl) (called_number d q b e x targets k arcs) is)
   ]
@@ -162,14 +162,14 @@ entering_acted t n q e fit =
 
 -- ---- the acts of edges and calls
 
-inside_acted : (t : TypedProgram) → ActionsAreTyped t → (a : PlainAct) (q e n : ℕ) (p : Point) → IsKnown t n p → EdgeOfArc t n p (action_at t n p) (inside_arc q a e) → act_width (letters_of t) a ≤ 2 ^ 32 → IsActed (letters_of t) a
+inside_acted : (t : TypedProgram) → ActionsAreTyped t → (a : MarkedAct) (q e n : ℕ) (p : Point) → IsKnown t n p → EdgeOfArc t n p (action_at t n p) (inside_arc q a e) → act_width (letters_of t) a.act ≤ 2 ^ 32 → IsActed (letters_of t) a.act
 inside_acted t w a q e n p known h fit =
     let edge : Edge = h.edge in
     let own : PlainAct = inside_act n edge.written edge.rows.helpers edge.rows.rows in
-    let parts = inside_parts (place_number t n p) q own a (spot_number t n edge.to) e h.is in
+    let parts = inside_parts (place_number t n p) q (exact_act own) a (spot_number t n edge.to) e h.is in
     let acted : EdgeIsActed t n edge = edge_acted t n p (action_at t n p) edge (w.writes n p known) h.among in
     let same : frame_of (letters_of t) n ≡ frame_at t n = frame_is t n known.procedure known.is in
-    let fit_so : act_width (letters_of t) own ≤ 2 ^ 32 = subst (λ (b : PlainAct). act_width (letters_of t) b ≤ 2 ^ 32) (sym parts.1) fit in
+    let fit_so : act_width (letters_of t) own ≤ 2 ^ 32 = subst (λ (b : MarkedAct). act_width (letters_of t) b.act ≤ 2 ^ 32) (sym parts.1) fit in
     let one : InsideIsActed (letters_of t) n edge.written edge.rows.helpers edge.rows.rows = record {
       proc_exists = proc_exists t n known.procedure known.is;
       may_write = subst (λ (f : Columns). AllByRecursion (MayWrite f) edge.written) (sym same) acted.may_write;
@@ -177,9 +177,9 @@ inside_acted t w a q e n p known h fit =
       numbers_fit = fit_so;
       within = subst (λ (f : Columns). AllByRecursion (λ r. IsBelow (inside_width f edge.written edge.rows.helpers) r.terms) edge.rows.rows) (sym same) acted.within;
     } in
-    subst (IsActed (letters_of t)) parts.1 one
+    subst (λ (b : MarkedAct). IsActed (letters_of t) b.act) parts.1 one
 
-call_acted : (t : TypedProgram) → ActionsAreTyped t → (a : PlainAct) (q to from : ℕ) (targets : List ℕ) (behind : ℕ) → CallFrom t a q to from targets behind → act_width (letters_of t) a ≤ 2 ^ 32 → IsActed (letters_of t) a
+call_acted : (t : TypedProgram) → ActionsAreTyped t → (a : MarkedAct) (q to from : ℕ) (targets : List ℕ) (behind : ℕ) → CallFrom t a q to from targets behind → act_width (letters_of t) a.act ≤ 2 ^ 32 → IsActed (letters_of t) a.act
 call_acted t w a q to from targets behind c fit =
     let n : ℕ = c.proc in
     let f : ℕ = c.callee in
@@ -192,13 +192,13 @@ call_acted t w a q to from targets behind c fit =
     let one : CallIsActed (letters_of t) n f c.rows.helpers c.rows.rows = record {
       caller_exists = proc_exists t n c.known.procedure c.known.is;
       callee_exists = proc_exists t f known.procedure known.is;
-      numbers_fit = subst (λ (b : PlainAct). act_width (letters_of t) b ≤ 2 ^ 32) (sym c.parts.act) fit;
+      numbers_fit = subst (λ (b : MarkedAct). act_width (letters_of t) b.act ≤ 2 ^ 32) (sym c.parts.act) fit;
       may_name = subst (λ (g : Columns). AllByRecursion (λ r. AllByRecursion (λ x. MayName g (frame_of (letters_of t) f) c.rows.helpers x.0) r.terms) c.rows.rows) (sym caller)
           (subst (λ (g : Columns). AllByRecursion (λ r. AllByRecursion (λ x. MayName (frame_at t n) g c.rows.helpers x.0) r.terms) c.rows.rows) (sym callee) may);
     } in
-    subst (IsActed (letters_of t)) c.parts.act one
+    subst (λ (b : MarkedAct). IsActed (letters_of t) b.act) c.parts.act one
 
-return_acted : (t : TypedProgram) → ActionsAreTyped t → (b : PlainAct) (q to from : ℕ) (targets : List ℕ) (behind call : ℕ) → CallFrom t b q to from targets behind → slice_get (letters_of t).acts call ≡ Some b →
+return_acted : (t : TypedProgram) → ActionsAreTyped t → (b : MarkedAct) (q to from : ℕ) (targets : List ℕ) (behind call : ℕ) → CallFrom t b q to from targets behind → slice_get (letters_of t).acts call ≡ Some b.act →
     act_width (letters_of t) (back_act call targets) ≤ 2 ^ 32 → IsActed (letters_of t) (back_act call targets)
 return_acted t w b q to from targets behind call c is fit =
     let n : ℕ = c.proc in
@@ -209,7 +209,7 @@ return_acted t w b q to from targets behind call c is fit =
     let known : CallIsKnown t n f c.args cs = w.calls n c.point f c.args c.known c.action in
     let caller : frame_of (letters_of t) n ≡ frame_at t n = frame_is t n c.known.procedure c.known.is in
     let callee : frame_of (letters_of t) f ≡ frame_at t f = frame_is t f known.procedure known.is in
-    let found : slice_get (letters_of t).acts call ≡ Some own = is ∙ ap Some (sym c.parts.act) in
+    let found : slice_get (letters_of t).acts call ≡ Some own = is ∙ ap (λ (m : MarkedAct). Some m.act) (sym c.parts.act) in
     let fit_call : back_width (letters_of t) targets (Some own) ≤ 2 ^ 32 = subst (λ (o : Option PlainAct). back_width (letters_of t) targets o ≤ 2 ^ 32) found fit in
     let fit_caller : length (frame_of (letters_of t) f) + length (frame_at t n) + length (written_by (frame_at t n) targets) + c.rows.helpers ≤ 2 ^ 32 =
     subst (λ (g : Columns). length (frame_of (letters_of t) f) + length g + length (written_by g targets) + c.rows.helpers ≤ 2 ^ 32) caller fit_call in
@@ -222,24 +222,25 @@ return_acted t w b q to from targets behind call c is fit =
     subst (λ (g : Columns). BackIsActed g (frame_of (letters_of t) f) c.rows.helpers targets) (sym caller) (subst (λ (g : Columns). BackIsActed (frame_at t n) g c.rows.helpers targets) (sym callee) one) in
     subst (BackIsActedFrom (letters_of t) targets) (sym found) both
 
-act_acted : (t : TypedProgram) → IsTrue (is_valid t) → ActionsAreTyped t → (a : PlainAct) → ActOf (program_arcs t) (letters_of t).acts a → act_width (letters_of t) a ≤ 2 ^ 32 → IsActed (letters_of t) a
+act_acted : (t : TypedProgram) → IsTrue (is_valid t) → ActionsAreTyped t → (a : MarkedAct) → ActOf (program_arcs t) (lettered (program_arcs t)).acts a → act_width (letters_of t) a.act ≤ 2 ^ 32 → IsActed (letters_of t) a.act
 act_acted t v w a (of_inside q e m) fit = elim (from_start_or_place t v (inside_arc q a e) m) [
   | inl start ↦ (let entry = valid.entry t v in
       let first : Point = start_point_of t (slice_get t.procs t.entry) in
-      let parts = inside_parts 0 q (entering t.entry (frame_at t t.entry)) a (place_number t t.entry first) e start in
-      subst (IsActed (letters_of t)) parts.1 (entering_acted t t.entry entry.0 entry.2 (subst (λ (b : PlainAct). act_width (letters_of t) b ≤ 2 ^ 32) (sym parts.1) fit)))
+      let parts = inside_parts 0 q (exact_act (entering t.entry (frame_at t t.entry))) a (place_number t t.entry first) e start in
+      subst (λ (b : MarkedAct). IsActed (letters_of t) b.act) parts.1 (entering_acted t t.entry entry.0 entry.2 (subst (λ (b : MarkedAct). act_width (letters_of t) b.act ≤ 2 ^ 32) (sym parts.1) fit)))
   | inr k ↦ elim k.3 [
     | inl edge ↦ inside_acted t w a q e k.0 k.1 k.2 edge fit
-    | inr c ↦ absurd (no_inside q (place_number t k.0 k.1) a (call_act k.0 c.callee c.rows.helpers c.rows.rows) e (place_number t c.callee (point_of_call t c.callee (slice_get t.procs c.callee)))
+    | inr c ↦ absurd (no_inside q (place_number t k.0 k.1) a (exact_act (call_act k.0 c.callee c.rows.helpers c.rows.rows)) e (place_number t c.callee (point_of_call t c.callee (slice_get t.procs c.callee)))
         (return_place t c.callee) (numbers_in (frame_at t k.0) (targets_at k.1.todo)) (place_number t k.0 (settled (past_first t.procs k.1.todo))) (sym c.is))
   ]
 ]
 act_acted t v w a (of_call q e x targets k m) fit = call_acted t w a q e x targets k (call_from t v a q e x targets k m) fit
 act_acted t v w a (of_back q e x b targets k call m is same) fit =
-    subst (IsActed (letters_of t)) same (return_acted t w b q e x targets k call (call_from t v b q e x targets k m) is (subst (λ (c : PlainAct). act_width (letters_of t) c ≤ 2 ^ 32) (sym same) fit))
+    subst (λ (c : MarkedAct). IsActed (letters_of t) c.act) same
+    (return_acted t w b q e x targets k call (call_from t v b q e x targets k m) (act_got (lettered (program_arcs t)).acts call b is) (subst (λ (c : MarkedAct). act_width (letters_of t) c.act ≤ 2 ^ 32) (sym same) fit))
 
-each_acted : (t : TypedProgram) → IsTrue (is_valid t) → ActionsAreTyped t → (xs : List PlainAct) → ((a : PlainAct) → Member xs a → ActOf (program_arcs t) (letters_of t).acts a) →
-    AllByRecursion (λ a. act_width (letters_of t) a ≤ 2 ^ 32) xs → AllByRecursion (IsActed (letters_of t)) xs
+each_acted : (t : TypedProgram) → IsTrue (is_valid t) → ActionsAreTyped t → (xs : List MarkedAct) → ((a : MarkedAct) → Member xs a → ActOf (program_arcs t) (lettered (program_arcs t)).acts a) →
+    AllByRecursion (λ a. act_width (letters_of t) a ≤ 2 ^ 32) (map (λ m. m.act) xs) → AllByRecursion (IsActed (letters_of t)) (map (λ m. m.act) xs)
 each_acted t v w [] h fit = tt
 each_acted t v w (a ∷ xs) h fit = (act_acted t v w a (h a (inl refl)) fit.0, each_acted t v w xs (λ b m. h b (inr m)) fit.1)
 

@@ -13,7 +13,7 @@ use Rattle.letter_acts.specs.declared.sites.Site.{Site}
 use Rattle.letter_acts.specs.Frames.{Columns}
 use Rattle.letter_acts.specs.Acts.{PlainAct, inside_act, call_act, back_act, act_of, frame_of}
 use Rattle.letter_acts.specs.Invariant.{IsPlaceOf, InsideStays, IsOld, WritesNoOld, InsideFollows, CallEnters, CallFollows, BackLeaves, BackFollows, HasOneCall, HasEdges}
-use Rattle.cond_jumps.specs.Conjunctions.{Conjunction, listed, joined}
+use Rattle.cond_jumps.specs.Conjunctions.{Conjunction, listed_plan, joined}
 use Rattle.cond_jumps.specs.Forms.{Linear, column, after}
 use Rattle.cond_jumps.specs.Comparisons.{equal}
 use Rattle.cond_jumps.specs.Environments.{Environment}
@@ -27,10 +27,10 @@ use Rattle.lowered_steps.specs.ProgramFrames.{frame_at, width_at}
 use Rattle.lowered_steps.specs.Edges.{Spot, At, Wrong, Edge, inside_edges, argument_sum, columns_before_locals, parameters_get, call_list, numbers_in}
 use Rattle.lowered_steps.specs.Stacks.{IsAmong}
 use Rattle.lowered_graph.specs.Arcs.{place_number, error_place, spot_number, return_place, entering, start_arc, program_arcs}
-use Rattle.letter_table.specs.Letters.{inside_arc, lettered}
+use Rattle.letter_table.specs.Letters.{MarkedAct, exact_act, inside_arc, lettered}
 use Rattle.lowered_graph.specs.LetterLaws.{InsideOf, CallOf, BackOf}
 use Rattle.lowered_graph.specs.Lowered.{site, program_sites, entry_of, exit_of, place_owners, lowered}
-use Rattle.lowered_graph.proofs.ActNumbers.{one_index}
+use Rattle.lowered_graph.proofs.ActNumbers.{one_index, act_got}
 use Rattle.lowered_graph.proofs.LetterSets.{acts_differ, insides_are, calls_are, backs_are}
 use Rattle.lowered_graph.proofs.KnownPlaces.{PlaceLaws, IsKnown, known_start, known_entry, known_number, known_once}
 use Rattle.lowered_graph.proofs.CallPlaces.{entered_has_body}
@@ -86,35 +86,35 @@ has_act : (t : TypedProgram) (a : Letter) (act : PlainAct) → act_of (letters_o
 has_act t a act e = subst (λ (o : Option PlainAct). IsSome o) (sym e) refl
 
 -- by the letter of the start
-start_follows : (l : PlaceLaws) (t : TypedProgram) → IsTrue (is_valid t) → (a : Letter) (act : PlainAct) (q e : ℕ) → act_of (letters_of t) a ≡ Some act → start_arc t ≡ inside_arc q act e → InsideFollows (lowered t) (q, a, e)
+start_follows : (l : PlaceLaws) (t : TypedProgram) → IsTrue (is_valid t) → (a : Letter) (act : MarkedAct) (q e : ℕ) → act_of (letters_of t) a ≡ Some act.act → start_arc t ≡ inside_arc q act e → InsideFollows (lowered t) (q, a, e)
 start_follows l t v a act q e found is =
     let first : Point = start_point_of t (slice_get t.procs t.entry) in
-    let parts = inside_parts 0 q (entering t.entry (frame_at t t.entry)) act (place_number t t.entry first) e is in
-    let found_so : act_of (letters_of t) a ≡ Some (entering t.entry (frame_at t t.entry)) = found ∙ ap Some (sym parts.1) in
+    let parts = inside_parts 0 q (exact_act (entering t.entry (frame_at t t.entry))) act (place_number t t.entry first) e is in
+    let found_so : act_of (letters_of t) a ≡ Some (entering t.entry (frame_at t t.entry)) = found ∙ ap (λ (m : MarkedAct). Some m.act) (sym parts.1) in
     let known : IsKnown t t.entry first = known_start l t v in
     let stays : IsPlaceOf (place_owners t) t.entry q × IsPlaceOf (place_owners t) t.entry e =
     (subst (IsPlaceOf (place_owners t) t.entry) parts.0 refl, subst (IsPlaceOf (place_owners t) t.entry) parts.2 (owner_is l t v t.entry first known)) in
     record {
-      letter = has_act t a act found;
+      letter = has_act t a act.act found;
       stays = subst (λ (o : Option PlainAct). InsideStays (lowered t) o q e) (sym found_so) stays;
       to = subst (λ (m : ℕ). m ≢ 0) parts.2 (not_the_start l t v t.entry (At first) known);
       olds = λ n. absurd (n (sym parts.0));
     }
 
-edge_follows : (l : PlaceLaws) (t : TypedProgram) → IsTrue (is_valid t) → WriteNoOlds t → (a : Letter) (act : PlainAct) (q e n : ℕ) (p : Point) → IsKnown t n p → act_of (letters_of t) a ≡ Some act →
+edge_follows : (l : PlaceLaws) (t : TypedProgram) → IsTrue (is_valid t) → WriteNoOlds t → (a : Letter) (act : MarkedAct) (q e n : ℕ) (p : Point) → IsKnown t n p → act_of (letters_of t) a ≡ Some act.act →
     EdgeOfArc t n p (action_at t n p) (inside_arc q act e) → InsideFollows (lowered t) (q, a, e)
 edge_follows l t v w a act q e n p known found h =
     let edge : Edge = h.edge in
     let own : PlainAct = inside_act n edge.written edge.rows.helpers edge.rows.rows in
-    let parts = inside_parts (place_number t n p) q own act (spot_number t n edge.to) e h.is in
-    let found_so : act_of (letters_of t) a ≡ Some own = found ∙ ap Some (sym parts.1) in
+    let parts = inside_parts (place_number t n p) q (exact_act own) act (spot_number t n edge.to) e h.is in
+    let found_so : act_of (letters_of t) a ≡ Some own = found ∙ ap (λ (m : MarkedAct). Some m.act) (sym parts.1) in
     let to : IsKnownSpot t n edge.to = spot_known l t v n p edge.to known (edge_lands t n p (action_at t n p) edge h.among) in
     let stays : IsPlaceOf (place_owners t) n q × IsPlaceOf (place_owners t) n e =
     (subst (IsPlaceOf (place_owners t) n) parts.0 (owner_is l t v n p known), subst (IsPlaceOf (place_owners t) n) parts.2 (spot_owner l t v n edge.to to)) in
     let olds : AllByRecursion (λ c. IsOld (frame_of (letters_of t) n) c → ⊥) edge.written =
     subst (λ (f : Columns). AllByRecursion (λ c. IsOld f c → ⊥) edge.written) (sym (frame_is t n known.procedure known.is)) (w n p known edge h.among) in
     record {
-      letter = has_act t a act found;
+      letter = has_act t a act.act found;
       stays = subst (λ (o : Option PlainAct). InsideStays (lowered t) o q e) (sym found_so) stays;
       to = subst (λ (m : ℕ). m ≢ 0) parts.2 (not_the_start l t v n edge.to to);
       olds = λ m. subst (λ (o : Option PlainAct). WritesNoOld (letters_of t) o) (sym found_so) olds;
@@ -123,12 +123,12 @@ edge_follows l t v w a act q e n p known found h =
 inside_follows : (l : PlaceLaws) (t : TypedProgram) → IsTrue (is_valid t) → WriteNoOlds t → (edge : ℕ × Letter × ℕ) → Member (lowered t).automaton.insides edge → InsideFollows (lowered t) edge
 inside_follows l t v w edge m =
     let h : InsideOf (program_arcs t) (lettered (program_arcs t)).acts edge.0 edge.1 edge.2 = (insides_are (program_arcs t) edge.0 edge.2 edge.1).0 m in
-    let found : act_of (letters_of t) edge.1 ≡ Some h.act = letter_act t edge.1 h.act h.letter in
+    let found : act_of (letters_of t) edge.1 ≡ Some h.act.act = letter_act t edge.1 h.act h.letter in
     elim (from_start_or_place t v (inside_arc edge.0 h.act edge.2) h.arc) [
       | inl start ↦ start_follows l t v edge.1 h.act edge.0 edge.2 found start
       | inr k ↦ elim k.3 [
         | inl e ↦ edge_follows l t v w edge.1 h.act edge.0 edge.2 k.0 k.1 k.2 found e
-        | inr c ↦ absurd (no_inside edge.0 (place_number t k.0 k.1) h.act (call_act k.0 c.callee c.rows.helpers c.rows.rows) edge.2 (place_number t c.callee (point_of_call t c.callee (slice_get t.procs c.callee)))
+        | inr c ↦ absurd (no_inside edge.0 (place_number t k.0 k.1) h.act (exact_act (call_act k.0 c.callee c.rows.helpers c.rows.rows)) edge.2 (place_number t c.callee (point_of_call t c.callee (slice_get t.procs c.callee)))
             (return_place t c.callee) (numbers_in (frame_at t k.0) (targets_at k.1.todo)) (place_number t k.0 (settled (past_first t.procs k.1.todo))) (sym c.is))
       ]
     ]
@@ -151,18 +151,18 @@ exit_got t f q b e k =
 call_follows : (l : PlaceLaws) (t : TypedProgram) → IsTrue (is_valid t) → (edge : ℕ × Letter × ℕ) → Member (lowered t).automaton.calls edge → CallFollows (lowered t) edge
 call_follows l t v edge m =
     let h : CallOf (program_arcs t) (lettered (program_arcs t)).acts edge.0 edge.1 edge.2 = (calls_are (program_arcs t) edge.0 edge.2 edge.1).0 m in
-    let found : act_of (letters_of t) edge.1 ≡ Some h.act = letter_act t edge.1 h.act h.letter in
+    let found : act_of (letters_of t) edge.1 ≡ Some h.act.act = letter_act t edge.1 h.act h.letter in
     let w : CallFrom t h.act edge.0 edge.2 h.from h.targets h.behind = call_from t v h.act edge.0 edge.2 h.from h.targets h.behind h.arc in
     let n : ℕ = w.proc in
     let f : ℕ = w.callee in
     let b = entered_has_body t n w.point f w.args w.known w.action in
     let entry : Point = point_of_call t f (slice_get t.procs f) in
     let to : place_number t f entry ≡ edge.2 = w.parts.to in
-    let found_so : act_of (letters_of t) edge.1 ≡ Some (call_act n f w.rows.helpers w.rows.rows) = found ∙ ap Some (sym w.parts.act) in
+    let found_so : act_of (letters_of t) edge.1 ≡ Some (call_act n f w.rows.helpers w.rows.rows) = found ∙ ap (λ (m : MarkedAct). Some m.act) (sym w.parts.act) in
     let enters : IsPlaceOf (place_owners t) n edge.0 × (slice_get (lowered t).entries f ≡ Some (Some edge.2)) =
     (subst (IsPlaceOf (place_owners t) n) w.parts.place (owner_is l t v n w.point w.known), entry_got t f b.0 b.1 b.2 b.3 ∙ ap (λ (m : ℕ). Some (Some m)) to) in
     record {
-      letter = has_act t edge.1 h.act found;
+      letter = has_act t edge.1 h.act.act found;
       enters = subst (λ (o : Option PlainAct). CallEnters (lowered t) o edge.0 edge.2) (sym found_so) enters;
       to = subst (λ (m : ℕ). m ≢ 0) to (not_the_start l t v f (At entry) (known_entry l t v f b.0 b.1 b.2 b.3));
     }
@@ -170,7 +170,7 @@ call_follows l t v edge m =
 back_follows : (l : PlaceLaws) (t : TypedProgram) → IsTrue (is_valid t) → (edge : ℕ × ℕ × Letter × ℕ) → Member (lowered t).automaton.backs edge → BackFollows (lowered t) edge
 back_follows l t v edge m =
     let h : BackOf (program_arcs t) (lettered (program_arcs t)).acts edge.0 edge.1 edge.2 edge.3 = (backs_are (program_arcs t) edge.0 edge.1 edge.3 edge.2).0 m in
-    let found : act_of (letters_of t) edge.2 ≡ Some (back_act h.call h.targets) = letter_act t edge.2 (back_act h.call h.targets) h.letter in
+    let found : act_of (letters_of t) edge.2 ≡ Some (back_act h.call h.targets) = letter_act t edge.2 (exact_act (back_act h.call h.targets)) h.letter in
     let w : CallFrom t h.act edge.1 h.to edge.0 h.targets edge.3 = call_from t v h.act edge.1 h.to edge.0 h.targets edge.3 h.arc in
     let n : ℕ = w.proc in
     let f : ℕ = w.callee in
@@ -179,7 +179,8 @@ back_follows l t v edge m =
     let known : IsKnown t n next = behind_known l t v n w.point f w.args w.known w.action in
     let to : place_number t n next ≡ edge.3 = w.parts.behind in
     let call : edge.2.call ≡ h.call = ap (λ (a : Letter). a.call) h.letter.1 in
-    let act_is : slice_get (letters_of t).acts edge.2.call ≡ Some (call_act n f w.rows.helpers w.rows.rows) = ap (slice_get (letters_of t).acts) call ∙ h.called ∙ ap Some (sym w.parts.act) in
+    let act_is : slice_get (letters_of t).acts edge.2.call ≡ Some (call_act n f w.rows.helpers w.rows.rows) =
+    ap (slice_get (letters_of t).acts) call ∙ act_got (lettered (program_arcs t)).acts h.call h.act h.called ∙ ap (λ (m : MarkedAct). Some m.act) (sym w.parts.act) in
     let leaves : (slice_get (lowered t).exits f ≡ Some (Some edge.0)) × IsPlaceOf (place_owners t) n edge.1 × IsPlaceOf (place_owners t) n edge.3 = (
       exit_got t f b.0 b.1 b.2 b.3 ∙ ap (λ (m : ℕ). Some (Some m)) w.parts.from,
       subst (IsPlaceOf (place_owners t) n) w.parts.place (owner_is l t v n w.point w.known),
@@ -194,7 +195,7 @@ back_follows l t v edge m =
 -- ---- one call letter
 
 -- the list of a call has one member
-pub one_member : (v : Environment) (j : ℕ) (es : List TypedExpression) (n : ℕ) → (c : Conjunction) × (listed (parameters_get v j es) n ≡ c ∷ [])
+pub one_member : (v : Environment) (j : ℕ) (es : List TypedExpression) (n : ℕ) → (c : Conjunction) × (listed_plan (parameters_get v j es) n ≡ c ∷ [])
 one_member v j [] n = (record { rows = []; helpers = 0 }, refl)
 one_member v j (e ∷ es) n =
     let x : Linear = column j n in
@@ -220,7 +221,7 @@ entered_same : (a : Action) (f g : ℕ) (es ds : List TypedExpression) → a ≡
 entered_same a f g es ds i j = let e : actions.Enter f es ≡ actions.Enter g ds = sym i ∙ j in (cc, cc)
 
 -- two calls from one place have one act
-one_act : (l : PlaceLaws) (t : TypedProgram) → IsTrue (is_valid t) → (act bct : PlainAct) (q to from : ℕ) (targets : List ℕ) (behind : ℕ) (to' from' : ℕ) (targets' : List ℕ) (behind' : ℕ) →
+one_act : (l : PlaceLaws) (t : TypedProgram) → IsTrue (is_valid t) → (act bct : MarkedAct) (q to from : ℕ) (targets : List ℕ) (behind : ℕ) (to' from' : ℕ) (targets' : List ℕ) (behind' : ℕ) →
     CallFrom t act q to from targets behind → CallFrom t bct q to' from' targets' behind' → act ≡ bct
 one_act l t v act bct q to from targets behind to' from' targets' behind' w u =
     let same = known_once l t v w.proc u.proc w.point u.point w.known u.known (w.parts.place ∙ sym u.parts.place) in
@@ -231,10 +232,10 @@ one_act l t v act bct q to from targets behind to' from' targets' behind' w u =
     subst (λ (n : ℕ). IsAmong (call_list t n w.callee w.args) u.rows) (sym same.0)
     (subst (λ (f : ℕ). IsAmong (call_list t u.proc f w.args) u.rows) (sym call.0) (subst (λ (es : List TypedExpression). IsAmong (call_list t u.proc u.callee es) u.rows) (sym call.1) u.among)) in
     let rows : w.rows ≡ u.rows = one_rows t w.proc w.callee w.args w.rows u.rows w.among in_w in
-    sym w.parts.act ∙ (λ i. call_act (same.0 i) (call.0 i) (rows i).helpers (rows i).rows) ∙ u.parts.act
+    sym w.parts.act ∙ (λ i. exact_act (call_act (same.0 i) (call.0 i) (rows i).helpers (rows i).rows)) ∙ u.parts.act
 
-one_id : (t : TypedProgram) (act bct : PlainAct) (m n : ℕ) → slice_get (letters_of t).acts m ≡ Some act → slice_get (letters_of t).acts n ≡ Some bct → act ≡ bct → m ≡ n
-one_id t act bct m n i j e = one_index (letters_of t).acts m n act (acts_differ (program_arcs t)) i (j ∙ ap Some (sym e))
+one_id : (t : TypedProgram) (act bct : MarkedAct) (m n : ℕ) → slice_get (lettered (program_arcs t)).acts m ≡ Some act → slice_get (lettered (program_arcs t)).acts n ≡ Some bct → act ≡ bct → m ≡ n
+one_id t act bct m n i j e = one_index (lettered (program_arcs t)).acts m n act (acts_differ (program_arcs t)) i (j ∙ ap Some (sym e))
 
 has_one_call : (l : PlaceLaws) (t : TypedProgram) → IsTrue (is_valid t) → HasOneCall (lowered t).automaton
 has_one_call l t v = record {

@@ -18,6 +18,7 @@ use Rattle.letter_table.specs.Letters.{lettered}
 use Rattle.lowered_graph.specs.Arcs.{error_place, first_error, program_arcs}
 use Rattle.lowered_graph.specs.LetterLaws.{InsideOf, CallOf, BackOf}
 use Rattle.lowered_graph.specs.Lowered.{program_sites, lowered}
+use Rattle.lowered_graph.proofs.ActNumbers.{act_got}
 use Rattle.lowered_graph.proofs.LetterSets.{insides_are, calls_are, backs_are}
 use Rattle.lowered_graph.proofs.JoinedBack.{letter_act}
 use Rattle.lowered_graph.proofs.SiteNumbers.{number_of_site, sites_numbered, site_positive, site_place}
@@ -84,21 +85,21 @@ insides_lead : (t : TypedProgram) → HasProcedures (lowered t) → HasEdges (lo
 insides_lead t p g = all_from_members (IsEdge (lowered t).automaton.states Inside) (lowered t).automaton.insides (λ e m.
     let h : InsideOf (program_arcs t) (lettered (program_arcs t)).acts e.0 e.1 e.2 = (insides_are (program_arcs t) e.0 e.2 e.1).0 m in
     let f : InsideFollows (lowered t) e = all_member (InsideFollows (lowered t)) (lowered t).automaton.insides e m g.insides in
-    inside_is (lowered t) p e.0 e.2 e.1 h.act h.letter.1 (subst (λ (o : Option PlainAct). InsideStays (lowered t) o e.0 e.2) (letter_act t e.1 h.act h.letter) f.stays))
+    inside_is (lowered t) p e.0 e.2 e.1 h.act.act h.letter.1 (subst (λ (o : Option PlainAct). InsideStays (lowered t) o e.0 e.2) (letter_act t e.1 h.act h.letter) f.stays))
 
 calls_lead : (t : TypedProgram) → HasProcedures (lowered t) → HasEdges (lowered t) → AllByRecursion (IsEdge (lowered t).automaton.states Call) (lowered t).automaton.calls
 calls_lead t p g = all_from_members (IsEdge (lowered t).automaton.states Call) (lowered t).automaton.calls (λ e m.
     let h : CallOf (program_arcs t) (lettered (program_arcs t)).acts e.0 e.1 e.2 = (calls_are (program_arcs t) e.0 e.2 e.1).0 m in
     let f : CallFollows (lowered t) e = all_member (CallFollows (lowered t)) (lowered t).automaton.calls e m g.calls in
-    call_is (lowered t) p e.0 e.2 e.1 h.act h.letter.1 (subst (λ (o : Option PlainAct). CallEnters (lowered t) o e.0 e.2) (letter_act t e.1 h.act h.letter) f.enters))
+    call_is (lowered t) p e.0 e.2 e.1 h.act.act h.letter.1 (subst (λ (o : Option PlainAct). CallEnters (lowered t) o e.0 e.2) (letter_act t e.1 h.act h.letter) f.enters))
 
 backs_lead : (t : TypedProgram) → HasProcedures (lowered t) → HasEdges (lowered t) → AllByRecursion (IsBackEdge (lowered t).automaton.states) (lowered t).automaton.backs
 backs_lead t p g = all_from_members (IsBackEdge (lowered t).automaton.states) (lowered t).automaton.backs (λ e m.
     let h : BackOf (program_arcs t) (lettered (program_arcs t)).acts e.0 e.1 e.2 e.3 = (backs_are (program_arcs t) e.0 e.1 e.3 e.2).0 m in
     let f : BackFollows (lowered t) e = all_member (BackFollows (lowered t)) (lowered t).automaton.backs e m g.backs in
     let call : e.2.call ≡ h.call = ap (λ (a : Letter). a.call) h.letter.1 in
-    let act : slice_get (lowered t).acts e.2.call ≡ Some h.act = ap (slice_get (lowered t).acts) call ∙ h.called in
-    back_is (lowered t) p e.0 e.1 e.3 e.2 h.act (ap (λ (a : Letter). a.kind) h.letter.1) (subst (λ (o : Option PlainAct). BackLeaves (lowered t) o e.0 e.1 e.3) act f.leaves))
+    let act : slice_get (lowered t).acts e.2.call ≡ Some h.act.act = ap (slice_get (lowered t).acts) call ∙ act_got (lettered (program_arcs t)).acts h.call h.act h.called in
+    back_is (lowered t) p e.0 e.1 e.3 e.2 h.act.act (ap (λ (a : Letter). a.kind) h.letter.1) (subst (λ (o : Option PlainAct). BackLeaves (lowered t) o e.0 e.1 e.3) act f.leaves))
 
 -- ---- final states
 

@@ -22,10 +22,10 @@ use Rattle.lowered_steps.specs.ProgramFrames.{frame_at}
 use Rattle.lowered_steps.specs.Edges.{Spot, At, Wrong, Edge, call_list, numbers_in}
 use Rattle.lowered_steps.specs.Stacks.{Pending, Stack, IsAmong, IsStep, inside, call, back}
 use Rattle.lowered_graph.specs.Arcs.{place_number, spot_number, return_point, return_place, program_arcs}
-use Rattle.letter_table.specs.Letters.{inside_arc, call_arc, lettered}
+use Rattle.letter_table.specs.Letters.{MarkedAct, exact_act, inside_arc, call_arc, lettered}
 use Rattle.lowered_graph.specs.LetterLaws.{IsLetterOf, InsideOf, CallOf, BackOf}
 use Rattle.lowered_graph.specs.Lowered.{lowered}
-use Rattle.lowered_graph.proofs.ActNumbers.{act_of_letter}
+use Rattle.lowered_graph.proofs.ActNumbers.{act_got, act_of_letter}
 use Rattle.lowered_graph.proofs.LetterSets.{insides_are, calls_are, backs_are}
 use Rattle.lowered_graph.proofs.KnownPlaces.{PlaceLaws, IsKnown, known_number, known_once}
 use Rattle.lowered_graph.proofs.CallPlaces.{entered_has_body, leaves_there, return_known}
@@ -35,10 +35,10 @@ use Rattle.lowered_graph.proofs.Joined.{seen, stacked, StepsTo, IsKnownSpot, IsK
 
 -- ---- parts of arcs and acts
 
-pub inside_parts : (q p : ℕ) (a b : PlainAct) (e f : ℕ) → inside_arc q a e ≡ inside_arc p b f → (q ≡ p) × (a ≡ b) × (e ≡ f)
+pub inside_parts : (q p : ℕ) (a b : MarkedAct) (e f : ℕ) → inside_arc q a e ≡ inside_arc p b f → (q ≡ p) × (a ≡ b) × (e ≡ f)
 inside_parts q p a b e f is = (cc, cc, cc)
 
-pub record CallParts (q p : ℕ) (a b : PlainAct) (e f x y : ℕ) (ts us : List ℕ) (k j : ℕ) : Type 0 where
+pub record CallParts (q p : ℕ) (a b : MarkedAct) (e f x y : ℕ) (ts us : List ℕ) (k j : ℕ) : Type 0 where
   pub place : q ≡ p
   pub act : a ≡ b
   pub to : e ≡ f
@@ -46,15 +46,15 @@ pub record CallParts (q p : ℕ) (a b : PlainAct) (e f x y : ℕ) (ts us : List 
   pub targets : ts ≡ us
   pub behind : k ≡ j
 
-pub call_parts : (q p : ℕ) (a b : PlainAct) (e f x y : ℕ) (ts us : List ℕ) (k j : ℕ) → call_arc q a e x ts k ≡ call_arc p b f y us j → CallParts q p a b e f x y ts us k j
+pub call_parts : (q p : ℕ) (a b : MarkedAct) (e f x y : ℕ) (ts us : List ℕ) (k j : ℕ) → call_arc q a e x ts k ≡ call_arc p b f y us j → CallParts q p a b e f x y ts us k j
 call_parts q p a b e f x y ts us k j is = record { place = cc; act = cc; to = cc; from = cc; targets = cc; behind = cc }
 
-pub no_inside : (q p : ℕ) (a b : PlainAct) (e f x : ℕ) (ts : List ℕ) (k : ℕ) → inside_arc q a e ≡ call_arc p b f x ts k → ⊥
+pub no_inside : (q p : ℕ) (a b : MarkedAct) (e f x : ℕ) (ts : List ℕ) (k : ℕ) → inside_arc q a e ≡ call_arc p b f x ts k → ⊥
 no_inside q p a b e f x ts k is = cc
 
 -- the act of a letter
-pub letter_act : (t : TypedProgram) (a : Letter) (act : PlainAct) → IsLetterOf (letters_of t).acts act a → act_of (letters_of t) a ≡ Some act
-letter_act t a act l = ap (act_of (letters_of t)) l.1 ∙ act_of_letter (letters_of t) a.id act l.0
+pub letter_act : (t : TypedProgram) (a : Letter) (act : MarkedAct) → IsLetterOf (lettered (program_arcs t)).acts act a → act_of (letters_of t) a ≡ Some act.act
+letter_act t a act l = ap (act_of (letters_of t)) l.1 ∙ act_of_letter (letters_of t) a.id act.act (act_got (lettered (program_arcs t)).acts a.id act l.0)
 
 -- ---- which place a stack stands at
 
@@ -89,13 +89,13 @@ pub record StepBack (t : TypedProgram) (x : Stack) (y : ℕ × Situation) (after
   pub seen_so : seen t next ≡ y
   pub stacked_so : stacked t next.below ≡ after
 
-inside_found : (t : TypedProgram) (x : Stack) (y : ℕ × Situation) (after : List (ℕ × Situation)) (act : PlainAct) (n : ℕ) (p : Point) (known : IsKnown t n p) (w : EdgeOfArc t n p (action_at t n p) (inside_arc (spot_number t x.proc x.spot) act y.0)) →
-    (n ≡ x.proc) × (At p ≡ x.spot) → ActInside (letters_of t) (Some act) (situation x.proc x.values) y.1 → stacked t x.below ≡ after → StepBack t x y after
+inside_found : (t : TypedProgram) (x : Stack) (y : ℕ × Situation) (after : List (ℕ × Situation)) (act : MarkedAct) (n : ℕ) (p : Point) (known : IsKnown t n p) (w : EdgeOfArc t n p (action_at t n p) (inside_arc (spot_number t x.proc x.spot) act y.0)) →
+    (n ≡ x.proc) × (At p ≡ x.spot) → ActInside (letters_of t) (Some act.act) (situation x.proc x.values) y.1 → stacked t x.below ≡ after → StepBack t x y after
 inside_found t x y after act n p known w at means e =
     let edge : Edge = w.edge in
-    let parts = inside_parts (place_number t n p) (spot_number t x.proc x.spot) (inside_act n edge.written edge.rows.helpers edge.rows.rows) act (spot_number t n edge.to) y.0 w.is in
+    let parts = inside_parts (place_number t n p) (spot_number t x.proc x.spot) (exact_act (inside_act n edge.written edge.rows.helpers edge.rows.rows)) act (spot_number t n edge.to) y.0 w.is in
     let means_so : ActInside (letters_of t) (Some (inside_act n edge.written edge.rows.helpers edge.rows.rows)) (situation x.proc x.values) y.1 =
-    subst (λ (a : PlainAct). ActInside (letters_of t) (Some a) (situation x.proc x.values) y.1) (sym parts.1) means in
+    subst (λ (a : MarkedAct). ActInside (letters_of t) (Some a.act) (situation x.proc x.values) y.1) (sym parts.1) means in
     let meant = inside_meant t n known.procedure edge.written edge.rows.helpers edge.rows.rows (situation x.proc x.values) y.1 known.is means_so in
     let here : Stack = record { proc = n; spot = At p; values = x.values; below = x.below } in
     let next : Stack = record { proc = n; spot = edge.to; values = y.1.values; below = x.below } in
@@ -112,26 +112,26 @@ inside_back : (l : PlaceLaws) (t : TypedProgram) → IsTrue (is_valid t) → (x 
 inside_back l t v x k a y after m means e =
     let q : ℕ = spot_number t x.proc x.spot in
     let h : InsideOf (program_arcs t) (lettered (program_arcs t)).acts q a y.0 = (insides_are (program_arcs t) q y.0 a).0 m in
-    let means_so : ActInside (letters_of t) (Some h.act) (situation x.proc x.values) y.1 =
+    let means_so : ActInside (letters_of t) (Some h.act.act) (situation x.proc x.values) y.1 =
     subst (λ (o : Option PlainAct). ActInside (letters_of t) o (situation x.proc x.values) y.1) (letter_act t a h.act h.letter) means in
     elim (from_start_or_place t v (inside_arc q h.act y.0) h.arc) [
       | inl start ↦ absurd (not_zero l t v x.proc x.spot k.spot (cc))
       | inr w ↦ elim w.3 [
-        | inl edge ↦ (let parts = inside_parts (place_number t w.0 w.1) q (inside_act w.0 edge.edge.written edge.edge.rows.helpers edge.edge.rows.rows) h.act (spot_number t w.0 edge.edge.to) y.0 edge.is in
+        | inl edge ↦ (let parts = inside_parts (place_number t w.0 w.1) q (exact_act (inside_act w.0 edge.edge.written edge.edge.rows.helpers edge.edge.rows.rows)) h.act (spot_number t w.0 edge.edge.to) y.0 edge.is in
             inside_found t x y after h.act w.0 w.1 w.2 edge (stands_at l t v x k w.0 w.1 w.2 parts.0) means_so e)
-        | inr c ↦ absurd (no_inside q (place_number t w.0 w.1) h.act (call_act w.0 c.callee c.rows.helpers c.rows.rows) y.0 (place_number t c.callee (point_of_call t c.callee (slice_get t.procs c.callee)))
+        | inr c ↦ absurd (no_inside q (place_number t w.0 w.1) h.act (exact_act (call_act w.0 c.callee c.rows.helpers c.rows.rows)) y.0 (place_number t c.callee (point_of_call t c.callee (slice_get t.procs c.callee)))
             (return_place t c.callee) (numbers_in (frame_at t w.0) (targets_at w.1.todo)) (place_number t w.0 (settled (past_first t.procs w.1.todo))) (sym c.is))
       ]
     ]
 
 -- an arc of a call
-abbrev pub call_arc_of : TypedProgram → ℕ → Point → ℕ → Conjunction → PlainAct → ℕ → ℕ → ℕ → List ℕ → ℕ → Type 0
+abbrev pub call_arc_of : TypedProgram → ℕ → Point → ℕ → Conjunction → MarkedAct → ℕ → ℕ → ℕ → List ℕ → ℕ → Type 0
 call_arc_of t n p f c act q to from targets behind =
-    CallParts (place_number t n p) q (call_act n f c.helpers c.rows) act (place_number t f (point_of_call t f (slice_get t.procs f))) to (return_place t f) from
+    CallParts (place_number t n p) q (exact_act (call_act n f c.helpers c.rows)) act (place_number t f (point_of_call t f (slice_get t.procs f))) to (return_place t f) from
     (numbers_in (frame_at t n) (targets_at p.todo)) targets (place_number t n (settled (past_first t.procs p.todo))) behind
 
 -- where an arc of a call comes from
-pub record CallFrom (t : TypedProgram) (act : PlainAct) (q to from : ℕ) (targets : List ℕ) (behind : ℕ) : Type 0 where
+pub record CallFrom (t : TypedProgram) (act : MarkedAct) (q to from : ℕ) (targets : List ℕ) (behind : ℕ) : Type 0 where
   pub proc : ℕ
   pub point : Point
   pub known : IsKnown t proc point
@@ -142,11 +142,11 @@ pub record CallFrom (t : TypedProgram) (act : PlainAct) (q to from : ℕ) (targe
   pub among : IsAmong (call_list t proc callee args) rows
   pub parts : call_arc_of t proc point callee rows act q to from targets behind
 
-pub call_from : (t : TypedProgram) → IsTrue (is_valid t) → (act : PlainAct) (q to from : ℕ) (targets : List ℕ) (behind : ℕ) → Member (program_arcs t) (call_arc q act to from targets behind) → CallFrom t act q to from targets behind
+pub call_from : (t : TypedProgram) → IsTrue (is_valid t) → (act : MarkedAct) (q to from : ℕ) (targets : List ℕ) (behind : ℕ) → Member (program_arcs t) (call_arc q act to from targets behind) → CallFrom t act q to from targets behind
 call_from t v act q to from targets behind m = elim (from_start_or_place t v (call_arc q act to from targets behind) m) [
   | inl start ↦ absurd (cc)
   | inr w ↦ elim w.3 [
-    | inl edge ↦ absurd (no_inside (place_number t w.0 w.1) q (inside_act w.0 edge.edge.written edge.edge.rows.helpers edge.edge.rows.rows) act (spot_number t w.0 edge.edge.to) to from targets behind edge.is)
+    | inl edge ↦ absurd (no_inside (place_number t w.0 w.1) q (exact_act (inside_act w.0 edge.edge.written edge.edge.rows.helpers edge.edge.rows.rows)) act (spot_number t w.0 edge.edge.to) to from targets behind edge.is)
     | inr c ↦ record {
       proc = w.0;
       point = w.1;
@@ -156,7 +156,7 @@ call_from t v act q to from targets behind m = elim (from_start_or_place t v (ca
       action = c.action;
       rows = c.rows;
       among = c.among;
-      parts = call_parts (place_number t w.0 w.1) q (call_act w.0 c.callee c.rows.helpers c.rows.rows) act (place_number t c.callee (point_of_call t c.callee (slice_get t.procs c.callee))) to
+      parts = call_parts (place_number t w.0 w.1) q (exact_act (call_act w.0 c.callee c.rows.helpers c.rows.rows)) act (place_number t c.callee (point_of_call t c.callee (slice_get t.procs c.callee))) to
           (return_place t c.callee) from (numbers_in (frame_at t w.0) (targets_at w.1.todo)) targets (place_number t w.0 (settled (past_first t.procs w.1.todo))) behind c.is;
     }
   ]
@@ -173,7 +173,7 @@ call_back l t v x k a y after m means e =
     let f : ℕ = w.callee in
     let at = stands_at l t v x k n p w.known w.parts.place in
     let b = entered_has_body t n p f w.args w.known w.action in
-    let act_is : act_of (letters_of t) a ≡ Some (call_act n f w.rows.helpers w.rows.rows) = letter_act t a h.act h.letter ∙ ap Some (sym w.parts.act) in
+    let act_is : act_of (letters_of t) a ≡ Some (call_act n f w.rows.helpers w.rows.rows) = letter_act t a h.act h.letter ∙ ap (λ (m : MarkedAct). Some m.act) (sym w.parts.act) in
     let means_so : ActCalls (letters_of t) (Some (call_act n f w.rows.helpers w.rows.rows)) (situation x.proc x.values) y.1 =
     subst (λ (o : Option PlainAct). ActCalls (letters_of t) o (situation x.proc x.values) y.1) act_is means in
     let meant = call_meant t n f w.known.procedure b.0 w.rows.helpers w.rows.rows (situation x.proc x.values) y.1 w.known.is b.2 means_so in
@@ -208,8 +208,8 @@ back_back l t v x k a y after below rest stack m means e =
     let at = stands_at l t v x k f exit (return_known t f b.0 b.1 b.2 b.3) w.parts.from in
     let targets : List ℕ = numbers_in (frame_at t n) (targets_at p.todo) in
     let rows : Conjunction = w.rows in
-    let act_is : act_of (letters_of t) a ≡ Some (back_act h.call targets) = letter_act t a (back_act h.call h.targets) h.letter ∙ ap (λ (ts : List ℕ). Some (back_act h.call ts)) (sym w.parts.targets) in
-    let call_is : slice_get (letters_of t).acts h.call ≡ Some (call_act n f rows.helpers rows.rows) = h.called ∙ ap Some (sym w.parts.act) in
+    let act_is : act_of (letters_of t) a ≡ Some (back_act h.call targets) = letter_act t a (exact_act (back_act h.call h.targets)) h.letter ∙ ap (λ (ts : List ℕ). Some (back_act h.call ts)) (sym w.parts.targets) in
+    let call_is : slice_get (letters_of t).acts h.call ≡ Some (call_act n f rows.helpers rows.rows) = act_got (lettered (program_arcs t)).acts h.call h.act h.called ∙ ap (λ (m : MarkedAct). Some m.act) (sym w.parts.act) in
     let returns : ActReturns (letters_of t) (Some (back_act h.call targets)) (situation x.proc x.values) (situation below.proc below.values) y.1 =
     subst (λ (o : Option PlainAct). ActReturns (letters_of t) o (situation x.proc x.values) (situation below.proc below.values) y.1) act_is means in
     let from_call : ReturnsFrom (letters_of t) targets (Some (call_act n f rows.helpers rows.rows)) (situation x.proc x.values) (situation below.proc below.values) y.1 =

@@ -3,9 +3,9 @@ use Rattle.std.proofs.Common.{◌≡◌, ◌⊎◌, ℕ, List, [], ◌∷◌, �
 use Rattle.std.specs.Prelude.{slice_get}
 use Rattle.nwa_base.specs.Members.{Member}
 use Rattle.nwa_base.specs.declared.letters.Letter.{Letter}
-use Rattle.letter_acts.specs.Acts.{PlainAct, back_act, letter_of}
+use Rattle.letter_acts.specs.Acts.{back_act, letter_of}
 use Rattle.letter_acts.specs.Invariant.{AreDistinct}
-use Rattle.letter_table.specs.Letters.{Arc, inside_arc, call_arc, act_number, with_act, numbered_letter, Lettered, with_arc, with_arcs}
+use Rattle.letter_table.specs.Letters.{MarkedAct, exact_act, Arc, inside_arc, call_arc, act_number, with_act, numbered_letter, Lettered, with_arc, with_arcs}
 use Rattle.lowered_graph.specs.LetterLaws.{InsideOf, CallOf, BackOf}
 use Rattle.lowered_graph.proofs.ActNumbers.{act_numbered, IsLonger, longer_get, longer_itself, longer_than, with_longer, with_distinct}
 use Rattle.lowered_graph.proofs.Lists.{before_or_last}
@@ -16,7 +16,7 @@ arc_longer : (d : Lettered) (a : Arc) → IsLonger d.acts (with_arc d a).acts
 arc_longer d (inside_arc q a e) = with_longer d.acts a
 arc_longer d (call_arc q a e x targets k) =
     longer_than d.acts (with_act d.acts a) (with_arc d (call_arc q a e x targets k)).acts (with_longer d.acts a)
-    (with_longer (with_act d.acts a) (back_act (act_number d.acts a) targets))
+    (with_longer (with_act d.acts a) (exact_act (back_act (act_number d.acts a) targets)))
 
 pub arcs_longer : (d : Lettered) (arcs : List Arc) → IsLonger d.acts (with_arcs d arcs).acts
 arcs_longer d [] = longer_itself d.acts
@@ -24,7 +24,7 @@ arcs_longer d (a ∷ arcs) = longer_than d.acts (with_arc d a).acts (with_arcs (
 
 arc_distinct : (d : Lettered) (a : Arc) → AreDistinct d.acts → AreDistinct (with_arc d a).acts
 arc_distinct d (inside_arc q a e) h = with_distinct d.acts a h
-arc_distinct d (call_arc q a e x targets k) h = with_distinct (with_act d.acts a) (back_act (act_number d.acts a) targets) (with_distinct d.acts a h)
+arc_distinct d (call_arc q a e x targets k) h = with_distinct (with_act d.acts a) (exact_act (back_act (act_number d.acts a) targets)) (with_distinct d.acts a h)
 
 pub arcs_distinct : (d : Lettered) (arcs : List Arc) → AreDistinct d.acts → AreDistinct (with_arcs d arcs).acts
 arcs_distinct d [] h = h
@@ -33,27 +33,27 @@ arcs_distinct d (a ∷ arcs) h = arcs_distinct (with_arc d a) arcs (arc_distinct
 -- ---- the letters of an arc, in the final list
 
 -- the letter of an inside arc
-inside_letter : (d : Lettered) (q : ℕ) (a : PlainAct) (e : ℕ) (arcs : List Arc) →
+inside_letter : (d : Lettered) (q : ℕ) (a : MarkedAct) (e : ℕ) (arcs : List Arc) →
     slice_get (with_arcs (with_arc d (inside_arc q a e)) arcs).acts (act_number d.acts a) ≡ Some a
 inside_letter d q a e arcs =
     longer_get (with_act d.acts a) (with_arcs (with_arc d (inside_arc q a e)) arcs).acts (act_number d.acts a) a (arcs_longer (with_arc d (inside_arc q a e)) arcs) (act_numbered d.acts a)
 
 -- the letter of a call
-call_letter : (d : Lettered) (q : ℕ) (a : PlainAct) (e x : ℕ) (targets : List ℕ) (k : ℕ) (arcs : List Arc) →
+call_letter : (d : Lettered) (q : ℕ) (a : MarkedAct) (e x : ℕ) (targets : List ℕ) (k : ℕ) (arcs : List Arc) →
     slice_get (with_arcs (with_arc d (call_arc q a e x targets k)) arcs).acts (act_number d.acts a) ≡ Some a
 call_letter d q a e x targets k arcs =
-    let called : List PlainAct = with_act d.acts a in
-    let back : PlainAct = back_act (act_number d.acts a) targets in
+    let called : List MarkedAct = with_act d.acts a in
+    let back : MarkedAct = exact_act (back_act (act_number d.acts a) targets) in
     longer_get called (with_arcs (with_arc d (call_arc q a e x targets k)) arcs).acts (act_number d.acts a) a
     (longer_than called (with_act called back) (with_arcs (with_arc d (call_arc q a e x targets k)) arcs).acts (with_longer called back) (arcs_longer (with_arc d (call_arc q a e x targets k)) arcs))
     (act_numbered d.acts a)
 
 -- the letter of its return
-back_letter : (d : Lettered) (q : ℕ) (a : PlainAct) (e x : ℕ) (targets : List ℕ) (k : ℕ) (arcs : List Arc) →
-    slice_get (with_arcs (with_arc d (call_arc q a e x targets k)) arcs).acts (act_number (with_act d.acts a) (back_act (act_number d.acts a) targets)) ≡ Some (back_act (act_number d.acts a) targets)
+back_letter : (d : Lettered) (q : ℕ) (a : MarkedAct) (e x : ℕ) (targets : List ℕ) (k : ℕ) (arcs : List Arc) →
+    slice_get (with_arcs (with_arc d (call_arc q a e x targets k)) arcs).acts (act_number (with_act d.acts a) (exact_act (back_act (act_number d.acts a) targets))) ≡ Some (exact_act (back_act (act_number d.acts a) targets))
 back_letter d q a e x targets k arcs =
-    let called : List PlainAct = with_act d.acts a in
-    let back : PlainAct = back_act (act_number d.acts a) targets in
+    let called : List MarkedAct = with_act d.acts a in
+    let back : MarkedAct = exact_act (back_act (act_number d.acts a) targets) in
     longer_get (with_act called back) (with_arcs (with_arc d (call_arc q a e x targets k)) arcs).acts (act_number called back) back (arcs_longer (with_arc d (call_arc q a e x targets k)) arcs)
     (act_numbered called back)
 
@@ -70,20 +70,20 @@ member_last (z ∷ xs) y = inr (member_last xs y)
 
 -- ---- each edge is that of an arc
 
-inside_later : (b : Arc) (arcs : List Arc) (acts : List PlainAct) (q : ℕ) (x : Letter) (e : ℕ) → InsideOf arcs acts q x e → InsideOf (b ∷ arcs) acts q x e
+inside_later : (b : Arc) (arcs : List Arc) (acts : List MarkedAct) (q : ℕ) (x : Letter) (e : ℕ) → InsideOf arcs acts q x e → InsideOf (b ∷ arcs) acts q x e
 inside_later b arcs acts q x e h = record { act = h.act; arc = inr h.arc; letter = h.letter }
 
-call_later : (b : Arc) (arcs : List Arc) (acts : List PlainAct) (q : ℕ) (x : Letter) (e : ℕ) → CallOf arcs acts q x e → CallOf (b ∷ arcs) acts q x e
+call_later : (b : Arc) (arcs : List Arc) (acts : List MarkedAct) (q : ℕ) (x : Letter) (e : ℕ) → CallOf arcs acts q x e → CallOf (b ∷ arcs) acts q x e
 call_later b arcs acts q x e h = record { act = h.act; from = h.from; targets = h.targets; behind = h.behind; arc = inr h.arc; letter = h.letter }
 
-back_later : (b : Arc) (arcs : List Arc) (acts : List PlainAct) (f q : ℕ) (x : Letter) (e : ℕ) → BackOf arcs acts f q x e → BackOf (b ∷ arcs) acts f q x e
+back_later : (b : Arc) (arcs : List Arc) (acts : List MarkedAct) (f q : ℕ) (x : Letter) (e : ℕ) → BackOf arcs acts f q x e → BackOf (b ∷ arcs) acts f q x e
 back_later b arcs acts f q x e h = record { act = h.act; to = h.to; targets = h.targets; call = h.call; arc = inr h.arc; called = h.called; letter = h.letter }
 
-inside_here : (d : Lettered) (q : ℕ) (a : PlainAct) (e : ℕ) (arcs : List Arc) (p : ℕ) (x : Letter) (r : ℕ) →
+inside_here : (d : Lettered) (q : ℕ) (a : MarkedAct) (e : ℕ) (arcs : List Arc) (p : ℕ) (x : Letter) (r : ℕ) →
     ◌≡◌ {A = ℕ × Letter × ℕ} (q, numbered_letter d.acts a, e) (p, x, r) →
     InsideOf (inside_arc q a e ∷ arcs) (with_arcs (with_arc d (inside_arc q a e)) arcs).acts p x r
 inside_here d q a e arcs p x r is =
-    let acts : List PlainAct = (with_arcs (with_arc d (inside_arc q a e)) arcs).acts in
+    let acts : List MarkedAct = (with_arcs (with_arc d (inside_arc q a e)) arcs).acts in
     let one : InsideOf (inside_arc q a e ∷ arcs) acts q (numbered_letter d.acts a) e =
     record { act = a; arc = inl refl; letter = (inside_letter d q a e arcs, refl) } in
     subst (λ (edge : ℕ × Letter × ℕ). InsideOf (inside_arc q a e ∷ arcs) acts edge.0 edge.1 edge.2) is one
@@ -101,11 +101,11 @@ insides_from d (call_arc q a e f targets k ∷ arcs) p x r m =
       | inr h ↦ inr (inside_later (call_arc q a e f targets k) arcs (with_arcs (with_arc d (call_arc q a e f targets k)) arcs).acts p x r h)
     ]
 
-call_here : (d : Lettered) (q : ℕ) (a : PlainAct) (e f : ℕ) (targets : List ℕ) (k : ℕ) (arcs : List Arc) (p : ℕ) (x : Letter) (r : ℕ) →
+call_here : (d : Lettered) (q : ℕ) (a : MarkedAct) (e f : ℕ) (targets : List ℕ) (k : ℕ) (arcs : List Arc) (p : ℕ) (x : Letter) (r : ℕ) →
     ◌≡◌ {A = ℕ × Letter × ℕ} (q, numbered_letter d.acts a, e) (p, x, r) →
     CallOf (call_arc q a e f targets k ∷ arcs) (with_arcs (with_arc d (call_arc q a e f targets k)) arcs).acts p x r
 call_here d q a e f targets k arcs p x r is =
-    let acts : List PlainAct = (with_arcs (with_arc d (call_arc q a e f targets k)) arcs).acts in
+    let acts : List MarkedAct = (with_arcs (with_arc d (call_arc q a e f targets k)) arcs).acts in
     let one : CallOf (call_arc q a e f targets k ∷ arcs) acts q (numbered_letter d.acts a) e =
     record { act = a; from = f; targets = targets; behind = k; arc = inl refl; letter = (call_letter d q a e f targets k arcs, refl) } in
     subst (λ (edge : ℕ × Letter × ℕ). CallOf (call_arc q a e f targets k ∷ arcs) acts edge.0 edge.1 edge.2) is one
@@ -123,12 +123,12 @@ calls_from d (call_arc q a e f targets k ∷ arcs) p x r m =
       | inr h ↦ inr (call_later (call_arc q a e f targets k) arcs (with_arcs (with_arc d (call_arc q a e f targets k)) arcs).acts p x r h)
     ]
 
-back_here : (d : Lettered) (q : ℕ) (a : PlainAct) (e f : ℕ) (targets : List ℕ) (k : ℕ) (arcs : List Arc) (g p : ℕ) (x : Letter) (r : ℕ) →
-    ◌≡◌ {A = ℕ × ℕ × Letter × ℕ} (f, q, numbered_letter (with_act d.acts a) (back_act (act_number d.acts a) targets), k) (g, p, x, r) →
+back_here : (d : Lettered) (q : ℕ) (a : MarkedAct) (e f : ℕ) (targets : List ℕ) (k : ℕ) (arcs : List Arc) (g p : ℕ) (x : Letter) (r : ℕ) →
+    ◌≡◌ {A = ℕ × ℕ × Letter × ℕ} (f, q, numbered_letter (with_act d.acts a) (exact_act (back_act (act_number d.acts a) targets)), k) (g, p, x, r) →
     BackOf (call_arc q a e f targets k ∷ arcs) (with_arcs (with_arc d (call_arc q a e f targets k)) arcs).acts g p x r
 back_here d q a e f targets k arcs g p x r is =
-    let acts : List PlainAct = (with_arcs (with_arc d (call_arc q a e f targets k)) arcs).acts in
-    let back : Letter = numbered_letter (with_act d.acts a) (back_act (act_number d.acts a) targets) in
+    let acts : List MarkedAct = (with_arcs (with_arc d (call_arc q a e f targets k)) arcs).acts in
+    let back : Letter = numbered_letter (with_act d.acts a) (exact_act (back_act (act_number d.acts a) targets)) in
     let one : BackOf (call_arc q a e f targets k ∷ arcs) acts f q back k =
     record { act = a; to = e; targets = targets; call = act_number d.acts a; arc = inl refl; called = call_letter d q a e f targets k arcs; letter = (back_letter d q a e f targets k arcs, refl) } in
     subst (λ (edge : ℕ × ℕ × Letter × ℕ). BackOf (call_arc q a e f targets k ∷ arcs) acts edge.0 edge.1 edge.2 edge.3) is one
@@ -142,7 +142,7 @@ backs_from d (inside_arc q a e ∷ arcs) g p x r m =
     ]
 backs_from d (call_arc q a e f targets k ∷ arcs) g p x r m =
     elim (backs_from (with_arc d (call_arc q a e f targets k)) arcs g p x r m) [
-      | inl h ↦ elim (before_or_last d.backs (f, q, numbered_letter (with_act d.acts a) (back_act (act_number d.acts a) targets), k) (g, p, x, r) h) [
+      | inl h ↦ elim (before_or_last d.backs (f, q, numbered_letter (with_act d.acts a) (exact_act (back_act (act_number d.acts a) targets)), k) (g, p, x, r) h) [
         | inl old ↦ inl old
         | inr is ↦ inr (back_here d q a e f targets k arcs g p x r is)
       ]
@@ -161,7 +161,7 @@ arc_calls_stay d (call_arc q a e f targets k) edge m = member_before d.calls (q,
 
 arc_backs_stay : (d : Lettered) (a : Arc) (edge : ℕ × ℕ × Letter × ℕ) → Member d.backs edge → Member (with_arc d a).backs edge
 arc_backs_stay d (inside_arc q a e) edge m = m
-arc_backs_stay d (call_arc q a e f targets k) edge m = member_before d.backs (f, q, numbered_letter (with_act d.acts a) (back_act (act_number d.acts a) targets), k) edge m
+arc_backs_stay d (call_arc q a e f targets k) edge m = member_before d.backs (f, q, numbered_letter (with_act d.acts a) (exact_act (back_act (act_number d.acts a) targets)), k) edge m
 
 insides_stay : (d : Lettered) (arcs : List Arc) (edge : ℕ × Letter × ℕ) → Member d.insides edge → Member (with_arcs d arcs).insides edge
 insides_stay d [] edge m = m
@@ -178,22 +178,22 @@ backs_stay d (a ∷ arcs) edge m = backs_stay (with_arc d a) arcs edge (arc_back
 -- ---- each arc has its edges
 
 -- an inside arc has the edge by some letter with its act
-pub record HasInside (d : Lettered) (q : ℕ) (a : PlainAct) (e : ℕ) : Type 0 where
+pub record HasInside (d : Lettered) (q : ℕ) (a : MarkedAct) (e : ℕ) : Type 0 where
   pub id : ℕ
   pub act : slice_get d.acts id ≡ Some a
-  pub edge : Member d.insides (q, letter_of id a, e)
+  pub edge : Member d.insides (q, letter_of id a.act, e)
 
 -- a call has its edge, and the one of its return
-pub record HasCall (d : Lettered) (q : ℕ) (a : PlainAct) (e f : ℕ) (targets : List ℕ) (k : ℕ) : Type 0 where
+pub record HasCall (d : Lettered) (q : ℕ) (a : MarkedAct) (e f : ℕ) (targets : List ℕ) (k : ℕ) : Type 0 where
   pub id : ℕ
   pub back : ℕ
   pub act : slice_get d.acts id ≡ Some a
-  pub back_is : slice_get d.acts back ≡ Some (back_act id targets)
-  pub edge : Member d.calls (q, letter_of id a, e)
+  pub back_is : slice_get d.acts back ≡ Some (exact_act (back_act id targets))
+  pub edge : Member d.calls (q, letter_of id a.act, e)
   pub back_edge : Member d.backs (f, q, letter_of back (back_act id targets), k)
 
 -- the arc is the first one
-inside_first : (d : Lettered) (b : Arc) (arcs : List Arc) (q : ℕ) (a : PlainAct) (e : ℕ) → b ≡ inside_arc q a e → HasInside (with_arcs (with_arc d b) arcs) q a e
+inside_first : (d : Lettered) (b : Arc) (arcs : List Arc) (q : ℕ) (a : MarkedAct) (e : ℕ) → b ≡ inside_arc q a e → HasInside (with_arcs (with_arc d b) arcs) q a e
 inside_first d b arcs q a e is =
     let one : HasInside (with_arcs (with_arc d (inside_arc q a e)) arcs) q a e =
     record {
@@ -203,16 +203,16 @@ inside_first d b arcs q a e is =
     } in
     subst (λ (c : Arc). HasInside (with_arcs (with_arc d c) arcs) q a e) (sym is) one
 
-pub inside_lettered : (d : Lettered) (arcs : List Arc) (q : ℕ) (a : PlainAct) (e : ℕ) → Member arcs (inside_arc q a e) → HasInside (with_arcs d arcs) q a e
+pub inside_lettered : (d : Lettered) (arcs : List Arc) (q : ℕ) (a : MarkedAct) (e : ℕ) → Member arcs (inside_arc q a e) → HasInside (with_arcs d arcs) q a e
 inside_lettered d [] q a e m = absurd m
 inside_lettered d (b ∷ arcs) q a e (inl is) = inside_first d b arcs q a e is
 inside_lettered d (b ∷ arcs) q a e (inr m) = inside_lettered (with_arc d b) arcs q a e m
 
-call_first : (d : Lettered) (b : Arc) (arcs : List Arc) (q : ℕ) (a : PlainAct) (e f : ℕ) (targets : List ℕ) (k : ℕ) → b ≡ call_arc q a e f targets k →
+call_first : (d : Lettered) (b : Arc) (arcs : List Arc) (q : ℕ) (a : MarkedAct) (e f : ℕ) (targets : List ℕ) (k : ℕ) → b ≡ call_arc q a e f targets k →
     HasCall (with_arcs (with_arc d b) arcs) q a e f targets k
 call_first d b arcs q a e f targets k is =
     let arc : Arc = call_arc q a e f targets k in
-    let back : PlainAct = back_act (act_number d.acts a) targets in
+    let back : MarkedAct = exact_act (back_act (act_number d.acts a) targets) in
     let one : HasCall (with_arcs (with_arc d arc) arcs) q a e f targets k =
     record {
       id = act_number d.acts a;
@@ -224,7 +224,7 @@ call_first d b arcs q a e f targets k is =
     } in
     subst (λ (c : Arc). HasCall (with_arcs (with_arc d c) arcs) q a e f targets k) (sym is) one
 
-pub call_lettered : (d : Lettered) (arcs : List Arc) (q : ℕ) (a : PlainAct) (e f : ℕ) (targets : List ℕ) (k : ℕ) → Member arcs (call_arc q a e f targets k) →
+pub call_lettered : (d : Lettered) (arcs : List Arc) (q : ℕ) (a : MarkedAct) (e f : ℕ) (targets : List ℕ) (k : ℕ) → Member arcs (call_arc q a e f targets k) →
     HasCall (with_arcs d arcs) q a e f targets k
 call_lettered d [] q a e f targets k m = absurd m
 call_lettered d (b ∷ arcs) q a e f targets k (inl is) = call_first d b arcs q a e f targets k is

@@ -3,16 +3,16 @@ use Rattle.std.proofs.Common.{◌≡◌, ◌∙◌, ℕ, List, Some, inl, inr, s
 use Rattle.std.specs.Prelude.{slice_get}
 use Rattle.nwa_base.specs.Members.{Member}
 use Rattle.nwa_base.specs.declared.letters.Letter.{Letter}
-use Rattle.letter_acts.specs.Acts.{PlainAct, back_act, letter_of}
-use Rattle.letter_table.specs.Letters.{Arc, no_letters, lettered}
+use Rattle.letter_acts.specs.Acts.{back_act, letter_of}
+use Rattle.letter_table.specs.Letters.{MarkedAct, exact_act, Arc, no_letters, lettered}
 use Rattle.lowered_graph.specs.LetterLaws as law
 use Rattle.lowered_graph.specs.LetterLaws.{InsideOf, CallOf, BackOf}
-use Rattle.letter_table.proofs.SameActs.{same_act_so, same_act_back}
+use Rattle.letter_table.proofs.SameActs.{same_marked_so, same_marked_back}
 use Rattle.lowered_graph.proofs.ActNumbers.{one_index}
 use Rattle.lowered_graph.proofs.LetterEdges.{arcs_longer, arcs_distinct, insides_from, calls_from, backs_from, HasInside, HasCall, inside_lettered, call_lettered}
 
 pub same_act_decides : law.SameActDecides
-same_act_decides a b = (λ h. same_act_so a b h, λ e. same_act_back a b e)
+same_act_decides a b = (λ h. same_marked_so a b h, λ e. same_marked_back a b e)
 
 pub acts_appended : law.ActsAreAppended
 acts_appended d arcs = arcs_longer d arcs
@@ -21,8 +21,8 @@ pub acts_differ : law.ActsDiffer
 acts_differ arcs = arcs_distinct no_letters arcs tt
 
 -- of an act there is one letter
-one_letter : (arcs : List Arc) (a : PlainAct) (n : ℕ) (x : Letter) → slice_get (lettered arcs).acts n ≡ Some a → law.IsLetterOf (lettered arcs).acts a x → letter_of n a ≡ x
-one_letter arcs a n x e l = ap (λ (i : ℕ). letter_of i a) (one_index (lettered arcs).acts n x.id a (acts_differ arcs) e l.0) ∙ sym l.1
+one_letter : (arcs : List Arc) (a : MarkedAct) (n : ℕ) (x : Letter) → slice_get (lettered arcs).acts n ≡ Some a → law.IsLetterOf (lettered arcs).acts a x → letter_of n a.act ≡ x
+one_letter arcs a n x e l = ap (λ (i : ℕ). letter_of i a.act) (one_index (lettered arcs).acts n x.id a (acts_differ arcs) e l.0) ∙ sym l.1
 
 inside_member : (arcs : List Arc) (q e : ℕ) (x : Letter) → InsideOf arcs (lettered arcs).acts q x e → Member (lettered arcs).insides (q, x, e)
 inside_member arcs q e x h =
@@ -50,9 +50,9 @@ back_member : (arcs : List Arc) (f q e : ℕ) (x : Letter) → BackOf arcs (lett
 back_member arcs f q e x h =
     let i : HasCall (lettered arcs) q h.act h.to f h.targets e = call_lettered no_letters arcs q h.act h.to f h.targets e h.arc in
     let called : i.id ≡ h.call = one_index (lettered arcs).acts i.id h.call h.act (acts_differ arcs) i.act h.called in
-    let named : back_act h.call h.targets ≡ back_act i.id h.targets = ap (λ (c : ℕ). back_act c h.targets) (sym called) in
-    let letter : law.IsLetterOf (lettered arcs).acts (back_act i.id h.targets) x = subst (λ (a : PlainAct). law.IsLetterOf (lettered arcs).acts a x) named h.letter in
-    subst (λ (y : Letter). Member (lettered arcs).backs (f, q, y, e)) (one_letter arcs (back_act i.id h.targets) i.back x i.back_is letter) i.back_edge
+    let named : exact_act (back_act h.call h.targets) ≡ exact_act (back_act i.id h.targets) = ap (λ (c : ℕ). exact_act (back_act c h.targets)) (sym called) in
+    let letter : law.IsLetterOf (lettered arcs).acts (exact_act (back_act i.id h.targets)) x = subst (λ (a : MarkedAct). law.IsLetterOf (lettered arcs).acts a x) named h.letter in
+    subst (λ (y : Letter). Member (lettered arcs).backs (f, q, y, e)) (one_letter arcs (exact_act (back_act i.id h.targets)) i.back x i.back_is letter) i.back_edge
 
 pub backs_are : law.BacksAreArcs
 backs_are arcs f q e x = (

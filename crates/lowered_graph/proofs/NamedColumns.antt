@@ -10,11 +10,11 @@ use Rattle.typed_tree.specs.AffineForm.{divisor_of}
 use Rattle.math_facts.specs.Terms.{scaled, opposite}
 use Rattle.lin_rows.specs.Rows.{LinearRow}
 use Rattle.lin_rows.specs.Sums.{is_zero, led_by, added_at, summed}
-use Rattle.cond_jumps.specs.Conjunctions.{Conjunction, Jumps, joined, each_with, Plan, Just, Then, With, listed}
-use Rattle.cond_jumps.specs.Forms.{Linear, Linears, number, column, negated, after, plus, minus, times, quotient_rows, divided, remaining}
-use Rattle.cond_jumps.specs.Comparisons.{below, above, equal, compared, never, always, named, literal, alike, equal_sums, equality, operation}
+use Rattle.cond_jumps.specs.Conjunctions.{Conjunction, Jumps, joined, each_with, Plan, Just, Then, With, listed_plan}
+use Rattle.cond_jumps.specs.Forms.{Linear, Linears, linear_number, column, linear_negated, after, linear_plus, linear_minus, linear_times, quotient_rows, linear_divided, remaining}
+use Rattle.cond_jumps.specs.Comparisons.{below_row, above_row, equal, compared, no_jumps, always, truth_of_column, literal, alike, equal_sums, equality, operation_plan}
 use Rattle.cond_jumps.specs.Environments.{Environment}
-use Rattle.cond_jumps.specs.Paths.{constant_of, quotient, arithmetic, linear, is_truth, paths, gets, assigns}
+use Rattle.cond_jumps.specs.Paths.{constant_of, linear_quotient, arithmetic, linear, is_truth, paths, gets, assigns}
 use Rattle.letter_acts.proofs.ListLemmas.{all_weaker, all_append}
 
 -- each term's column has the property
@@ -40,7 +40,7 @@ ListNames A n cs = AllByRecursion (λ c. RowsName (IsNamed A n c.helpers) c.rows
 -- so does what stands for the columns, wherever the helpers begin
 pub record EachNames (A : ℕ → Type 0) (v : Environment) : Type 0 where
   pub sums : (c : Column) (n : ℕ) → SumNames A n (v.sum c n)
-  pub plans : (c : Column) (want : Bool) (n : ℕ) → ListNames A n (listed (v.plan c want) n)
+  pub plans : (c : Column) (want : Bool) (n : ℕ) → ListNames A n (listed_plan (v.plan c want) n)
 
 -- ---- lists
 
@@ -95,13 +95,13 @@ helper_named A n k = inr (omega arith, omega arith)
 
 -- ---- sums
 
-number_names : (A : ℕ → Type 0) (k : ℤ) (n : ℕ) → SumNames A n (number k n)
+number_names : (A : ℕ → Type 0) (k : ℤ) (n : ℕ) → SumNames A n (linear_number k n)
 number_names A k n = record { terms = tt; rows = tt }
 
 pub column_names : (A : ℕ → Type 0) (c n : ℕ) → A c → SumNames A n (column c n)
 column_names A c n a = record { terms = (inl a, tt); rows = tt }
 
-negated_names : (A : ℕ → Type 0) (a : Linears) (n : ℕ) → SumNames A n (a n) → SumNames A n (negated a n)
+negated_names : (A : ℕ → Type 0) (a : Linears) (n : ℕ) → SumNames A n (a n) → SumNames A n (linear_negated a n)
 negated_names A a n h = record { terms = opposite_named (IsNamed A n (a n).helpers) (a n).terms h.terms; rows = h.rows }
 
 -- the helpers of both, in a sum over both
@@ -123,16 +123,16 @@ differ_terms A n x y h k =
     let P : ℕ → Type 0 = IsNamed A n (x.helpers + y.helpers) in
     all_append (λ t. P t.0) x.terms (opposite y.terms) (first_terms A n x y h) (opposite_named P y.terms (second_terms A n x y k))
 
-plus_names : (A : ℕ → Type 0) (a b : Linears) (n : ℕ) → SumNames A n (a n) → SumNames A (n + (a n).helpers) (after a b n) → SumNames A n (plus a b n)
+plus_names : (A : ℕ → Type 0) (a b : Linears) (n : ℕ) → SumNames A n (a n) → SumNames A (n + (a n).helpers) (after a b n) → SumNames A n (linear_plus a b n)
 plus_names A a b n h k =
     let x : Linear = a n in
     let y : Linear = after a b n in
     record { terms = all_append (λ t. IsNamed A n (x.helpers + y.helpers) t.0) x.terms y.terms (first_terms A n x y h) (second_terms A n x y k); rows = both_rows A n x y h k }
 
-pub minus_names : (A : ℕ → Type 0) (a b : Linears) (n : ℕ) → SumNames A n (a n) → SumNames A (n + (a n).helpers) (after a b n) → SumNames A n (minus a b n)
+pub minus_names : (A : ℕ → Type 0) (a b : Linears) (n : ℕ) → SumNames A n (a n) → SumNames A (n + (a n).helpers) (after a b n) → SumNames A n (linear_minus a b n)
 minus_names A a b n h k = record { terms = differ_terms A n (a n) (after a b n) h k; rows = both_rows A n (a n) (after a b n) h k }
 
-times_names : (A : ℕ → Type 0) (k l : ℤ) (a b : Linears) (n : ℕ) → SumNames A n (a n) → SumNames A (n + (a n).helpers) (after a b n) → SumNames A n (times k l a b n)
+times_names : (A : ℕ → Type 0) (k l : ℤ) (a b : Linears) (n : ℕ) → SumNames A n (a n) → SumNames A (n + (a n).helpers) (after a b n) → SumNames A n (linear_times k l a b n)
 times_names A k l a b n h g =
     let x : Linear = a n in
     let y : Linear = after a b n in
@@ -154,7 +154,7 @@ quotient_names A n k x h =
       (summed_named P (x.terms ++ (q, neg_ℤ k) ∷ []) (all_append (λ t. P t.0) x.terms ((q, neg_ℤ k) ∷ []) terms (helper_named A n x.helpers, tt)), tt),
     )
 
-divided_names : (A : ℕ → Type 0) (k : ℤ) (a : Linears) (n : ℕ) → SumNames A n (a n) → SumNames A n (divided k a n)
+divided_names : (A : ℕ → Type 0) (k : ℤ) (a : Linears) (n : ℕ) → SumNames A n (a n) → SumNames A n (linear_divided k a n)
 divided_names A k a n h = record { terms = (helper_named A n (a n).helpers, tt); rows = quotient_names A n k (a n) h }
 
 remaining_names : (A : ℕ → Type 0) (k : ℤ) (a : Linears) (n : ℕ) → SumNames A n (a n) → SumNames A n (remaining k a n)
@@ -166,7 +166,7 @@ remaining_names A k a n h =
       rows = quotient_names A n k x h;
     }
 
-quotient_by : (A : ℕ → Type 0) (part : ℤ → Linears → Linears) (o : Option ℤ) (a : Linears) (n : ℕ) → ((k : ℤ) → SumNames A n (part k a n)) → SumNames A n (quotient part o a n)
+quotient_by : (A : ℕ → Type 0) (part : ℤ → Linears → Linears) (o : Option ℤ) (a : Linears) (n : ℕ) → ((k : ℤ) → SumNames A n (part k a n)) → SumNames A n (linear_quotient part o a n)
 quotient_by A part None a n h = number_names A (pos 0) n
 quotient_by A part (Some k) a n h = h k
 
@@ -174,7 +174,7 @@ arithmetic_names : (A : ℕ → Type 0) (op : Op) (k l : ℤ) (d : Option ℤ) (
 arithmetic_names A ops.Add k l d a b n h g = plus_names A a b n h (g (n + (a n).helpers))
 arithmetic_names A ops.Sub k l d a b n h g = minus_names A a b n h (g (n + (a n).helpers))
 arithmetic_names A ops.Mul k l d a b n h g = times_names A k l a b n h (g (n + (a n).helpers))
-arithmetic_names A ops.Div k l d a b n h g = quotient_by A divided d a n (λ m. divided_names A m a n h)
+arithmetic_names A ops.Div k l d a b n h g = quotient_by A linear_divided d a n (λ m. divided_names A m a n h)
 arithmetic_names A ops.Mod k l d a b n h g = quotient_by A remaining d a n (λ m. remaining_names A m a n h)
 arithmetic_names A ops.Iff k l d a b n h g = number_names A (pos 0) n
 arithmetic_names A ops.Implies k l d a b n h g = number_names A (pos 0) n
@@ -203,10 +203,10 @@ linear_names A v s old (Bin at op a b) n =
 abbrev NamesBoth : (Linear → Linear → LinearRow) → Type 1
 NamesBoth row = (P : ℕ → Type 0) (x y : Linear) → AreNamed P x.terms → AreNamed P y.terms → AreNamed P (row x y).terms
 
-below_both : (k : ℤ) → NamesBoth (below k)
+below_both : (k : ℤ) → NamesBoth (below_row k)
 below_both k P x y h g = summed_named P (x.terms ++ opposite y.terms) (all_append (λ t. P t.0) x.terms (opposite y.terms) h (opposite_named P y.terms g))
 
-above_both : (k : ℤ) → NamesBoth (above k)
+above_both : (k : ℤ) → NamesBoth (above_row k)
 above_both k P x y h g = below_both k P y x g h
 
 equal_both : NamesBoth equal
@@ -222,7 +222,7 @@ compared_names A row r a b n h k =
 pub equal_names : (A : ℕ → Type 0) (a b : Linears) (n : ℕ) → SumNames A n (a n) → SumNames A (n + (a n).helpers) (after a b n) → ListNames A n (compared equal a b n)
 equal_names A a b n h k = compared_names A equal equal_both a b n h k
 
-pub named_names : (A : ℕ → Type 0) (c : ℕ) (want : Bool) (n : ℕ) → A c → ListNames A n (named c want n)
+pub named_names : (A : ℕ → Type 0) (c : ℕ) (want : Bool) (n : ℕ) → A c → ListNames A n (truth_of_column c want n)
 named_names A c want n a = ((summed_named (IsNamed A n 0) ((c, pos 1) ∷ []) (inl a, tt), tt), tt)
 
 joined_names : (A : ℕ → Type 0) (n : ℕ) (c : Conjunction) (ds : List Conjunction) → RowsName (IsNamed A n c.helpers) c.rows → ListNames A (n + c.helpers) ds → ListNames A n (map (joined c) ds)
@@ -241,18 +241,18 @@ each_names A n (c ∷ cs) b h k =
 
 -- a plan names these columns wherever its helpers begin
 abbrev pub PlanNames : (ℕ → Type 0) → Plan → Type 0
-PlanNames A a = (n : ℕ) → ListNames A n (listed a n)
+PlanNames A a = (n : ℕ) → ListNames A n (listed_plan a n)
 
 then_names : (A : ℕ → Type 0) (a b : Plan) → PlanNames A a → PlanNames A b → PlanNames A (Then a b)
-then_names A a b h k n = all_append (λ c. RowsName (IsNamed A n c.helpers) c.rows) (listed a n) (listed b n) (h n) (k n)
+then_names A a b h k n = all_append (λ c. RowsName (IsNamed A n c.helpers) c.rows) (listed_plan a n) (listed_plan b n) (h n) (k n)
 
 pub with_names : (A : ℕ → Type 0) (a b : Plan) → PlanNames A a → PlanNames A b → PlanNames A (With a b)
-with_names A a b h k n = each_names A n (listed a n) (listed b) (h n) k
+with_names A a b h k n = each_names A n (listed_plan a n) (listed_plan b) (h n) k
 
 pub always_names : (A : ℕ → Type 0) → PlanNames A (Just always)
 always_names A n = (tt, tt)
 
-never_names : (A : ℕ → Type 0) → PlanNames A (Just never)
+never_names : (A : ℕ → Type 0) → PlanNames A (Just no_jumps)
 never_names A n = tt
 
 literal_names : (A : ℕ → Type 0) (b want : Bool) → PlanNames A (literal b want)
@@ -272,7 +272,7 @@ compares A row r a b h k n = compared_names A row r a b n (h n) (k (n + (a n).he
 equal_sums_names : (A : ℕ → Type 0) (x y : Linears) (want : Bool) → ((m : ℕ) → SumNames A m (x m)) → ((m : ℕ) → SumNames A m (y m)) → PlanNames A (equal_sums x y want)
 equal_sums_names A x y true h k = compares A equal equal_both x y h k
 equal_sums_names A x y false h k =
-    then_names A (Just (compared (below (negsuc 0)) x y)) (Just (compared (above (negsuc 0)) x y)) (compares A (below (negsuc 0)) (below_both (negsuc 0)) x y h k) (compares A (above (negsuc 0)) (above_both (negsuc 0)) x y h k)
+    then_names A (Just (compared (below_row (negsuc 0)) x y)) (Just (compared (above_row (negsuc 0)) x y)) (compares A (below_row (negsuc 0)) (below_both (negsuc 0)) x y h k) (compares A (above_row (negsuc 0)) (above_both (negsuc 0)) x y h k)
 
 equality_names : (A : ℕ → Type 0) (kind : Bool) (a b : Bool → Plan) (x y : Linears) (want : Bool) → ((w : Bool) → PlanNames A (a w)) → ((w : Bool) → PlanNames A (b w)) → ((m : ℕ) → SumNames A m (x m)) → ((m : ℕ) → SumNames A m (y m)) →
     PlanNames A (equality kind a b x y want)
@@ -280,7 +280,7 @@ equality_names A true a b x y want p q h k = alike_names A a b want p q
 equality_names A false a b x y want p q h k = equal_sums_names A x y want h k
 
 operation_names : (A : ℕ → Type 0) (op : Op) (kind : Bool) (a b : Bool → Plan) (x y : Linears) (want : Bool) → ((w : Bool) → PlanNames A (a w)) → ((w : Bool) → PlanNames A (b w)) →
-    ((m : ℕ) → SumNames A m (x m)) → ((m : ℕ) → SumNames A m (y m)) → PlanNames A (operation op kind a b x y want)
+    ((m : ℕ) → SumNames A m (x m)) → ((m : ℕ) → SumNames A m (y m)) → PlanNames A (operation_plan op kind a b x y want)
 operation_names A ops.Iff kind a b x y want p q h k = alike_names A a b want p q
 operation_names A ops.Implies kind a b x y true p q h k = then_names A (a false) (With (a true) (b true)) (p false) (with_names A (a true) (b true) (p true) (q true))
 operation_names A ops.Implies kind a b x y false p q h k = with_names A (a true) (b false) (p true) (q false)
@@ -290,14 +290,14 @@ operation_names A ops.Or kind a b x y true p q h k = then_names A (a true) (With
 operation_names A ops.Or kind a b x y false p q h k = with_names A (a false) (b false) (p false) (q false)
 operation_names A ops.Eq kind a b x y want p q h k = equality_names A kind a b x y want p q h k
 operation_names A ops.Ne kind a b x y want p q h k = equality_names A kind a b x y (not want) p q h k
-operation_names A ops.Lt kind a b x y true p q h k = compares A (below (negsuc 0)) (below_both (negsuc 0)) x y h k
-operation_names A ops.Lt kind a b x y false p q h k = compares A (above (pos 0)) (above_both (pos 0)) x y h k
-operation_names A ops.Le kind a b x y true p q h k = compares A (below (pos 0)) (below_both (pos 0)) x y h k
-operation_names A ops.Le kind a b x y false p q h k = compares A (above (negsuc 0)) (above_both (negsuc 0)) x y h k
-operation_names A ops.Gt kind a b x y true p q h k = compares A (above (negsuc 0)) (above_both (negsuc 0)) x y h k
-operation_names A ops.Gt kind a b x y false p q h k = compares A (below (pos 0)) (below_both (pos 0)) x y h k
-operation_names A ops.Ge kind a b x y true p q h k = compares A (above (pos 0)) (above_both (pos 0)) x y h k
-operation_names A ops.Ge kind a b x y false p q h k = compares A (below (negsuc 0)) (below_both (negsuc 0)) x y h k
+operation_names A ops.Lt kind a b x y true p q h k = compares A (below_row (negsuc 0)) (below_both (negsuc 0)) x y h k
+operation_names A ops.Lt kind a b x y false p q h k = compares A (above_row (pos 0)) (above_both (pos 0)) x y h k
+operation_names A ops.Le kind a b x y true p q h k = compares A (below_row (pos 0)) (below_both (pos 0)) x y h k
+operation_names A ops.Le kind a b x y false p q h k = compares A (above_row (negsuc 0)) (above_both (negsuc 0)) x y h k
+operation_names A ops.Gt kind a b x y true p q h k = compares A (above_row (negsuc 0)) (above_both (negsuc 0)) x y h k
+operation_names A ops.Gt kind a b x y false p q h k = compares A (below_row (pos 0)) (below_both (pos 0)) x y h k
+operation_names A ops.Ge kind a b x y true p q h k = compares A (above_row (pos 0)) (above_both (pos 0)) x y h k
+operation_names A ops.Ge kind a b x y false p q h k = compares A (below_row (negsuc 0)) (below_both (negsuc 0)) x y h k
 operation_names A ops.Add kind a b x y want p q h k = never_names A
 operation_names A ops.Sub kind a b x y want p q h k = never_names A
 operation_names A ops.Mul kind a b x y want p q h k = never_names A
@@ -318,8 +318,8 @@ paths_names A v s old (Bin at op a b) want =
 -- a column gets a value
 gets_names : (A : ℕ → Type 0) (kind : Bool) (a : Bool → Plan) (x : Linears) (j : ℕ) → A j → ((w : Bool) → PlanNames A (a w)) → ((m : ℕ) → SumNames A m (x m)) → PlanNames A (gets kind a x j)
 gets_names A true a x j here h k =
-    then_names A (With (a true) (Just (named j true))) (With (a false) (Just (named j false))) (with_names A (a true) (Just (named j true)) (h true) (λ n. named_names A j true n here))
-    (with_names A (a false) (Just (named j false)) (h false) (λ n. named_names A j false n here))
+    then_names A (With (a true) (Just (truth_of_column j true))) (With (a false) (Just (truth_of_column j false))) (with_names A (a true) (Just (truth_of_column j true)) (h true) (λ n. named_names A j true n here))
+    (with_names A (a false) (Just (truth_of_column j false)) (h false) (λ n. named_names A j false n here))
 gets_names A false a x j here h k = compares A equal equal_both (column j) x (λ m. column_names A j m here) k
 
 -- columns from j on get values

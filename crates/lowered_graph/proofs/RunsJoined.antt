@@ -26,10 +26,11 @@ use Rattle.lowered_steps.specs.ProgramFrames.{frame_at, width_at}
 use Rattle.lowered_steps.specs.Edges.{Spot, At, Wrong}
 use Rattle.lowered_steps.specs.Stacks.{Stack, IsStart, Reaches, MachineFails}
 use Rattle.lowered_graph.specs.Arcs.{place_number, error_place, spot_number, entering_rows, entering, program_arcs}
-use Rattle.letter_table.specs.Letters.{inside_arc, call_arc, no_letters, lettered}
+use Rattle.letter_table.specs.Letters.{MarkedAct, exact_act, inside_arc, call_arc, no_letters, lettered}
 use Rattle.lowered_graph.specs.LetterLaws.{InsideOf, CallOf}
 use Rattle.lowered_graph.specs.Lowered.{site, program_sites, lowered}
 use Rattle.lowered_graph.specs.Laws.{ErrorWord}
+use Rattle.lowered_graph.proofs.ActNumbers.{act_got}
 use Rattle.lowered_graph.proofs.LetterEdges.{HasInside, inside_lettered}
 use Rattle.lowered_graph.proofs.LetterSets.{insides_are, calls_are}
 use Rattle.lowered_graph.proofs.KnownPlaces.{PlaceLaws, IsKnown, known_start, known_number}
@@ -141,11 +142,11 @@ start_steps t v x s =
     let written : List ℕ = map (λ o. o.0) (olds_of frame) in
     let act : PlainAct = entering t.entry frame in
     let to : ℕ = place_number t t.entry (first_point t) in
-    let h : HasInside (lettered (program_arcs t)) 0 act to = inside_lettered no_letters (program_arcs t) 0 act to (inl refl) in
+    let h : HasInside (lettered (program_arcs t)) 0 (exact_act act) to = inside_lettered no_letters (program_arcs t) 0 (exact_act act) to (inl refl) in
     let entered : IsEntered t x.values = record { globals = s.globals; as_many = s.as_many; locals = s.locals; is = s.values } in
     let led : InsideLeads frame written 0 (entering_rows (width_at t t.entry) (olds_of frame)) x.values x.values = start_leads t t.entry x.values s.state entered in
     let means : ActInside (letters_of t) (act_of (letters_of t) (letter_of h.id act)) (situation t.entry x.values) (situation t.entry x.values) =
-    inside_means t t.entry h.id entry.0 written 0 (entering_rows (width_at t t.entry) (olds_of frame)) x.values x.values entry.2 h.act led in
+    inside_means t t.entry h.id entry.0 written 0 (entering_rows (width_at t t.entry) (olds_of frame)) x.values x.values entry.2 (act_got (lettered (program_arcs t)).acts h.id (exact_act act) h.act) led in
     let here : Stack = record { proc = t.entry; spot = At (first_point t); values = x.values; below = [] } in
     let same : here ≡ x = (λ i. record { proc = sym s.proc i; spot = sym s.spot i; values = x.values; below = sym s.below i }) in
     let one : StepsTo t (letter_of h.id act) [] (0, situation t.entry x.values) (seen t here) (stacked t here.below) = ((h.edge, means), refl) in
@@ -211,9 +212,9 @@ first_inside l t v a first y after m means e =
     let rows : List LinearRow = entering_rows (width_at t t.entry) (olds_of frame) in
     let entry = valid.entry t v in
     elim (from_start_or_place t v (inside_arc 0 h.act y.0) h.arc) [
-      | inl start ↦ (let parts = inside_parts 0 0 (entering t.entry frame) h.act (place_number t t.entry (first_point t)) y.0 start in
+      | inl start ↦ (let parts = inside_parts 0 0 (exact_act (entering t.entry frame)) h.act (place_number t t.entry (first_point t)) y.0 start in
           let means_so : ActInside (letters_of t) (Some (entering t.entry frame)) first y.1 =
-          subst (λ (o : Option PlainAct). ActInside (letters_of t) o first y.1) (letter_act t a h.act h.letter ∙ ap Some (sym parts.1)) means in
+          subst (λ (o : Option PlainAct). ActInside (letters_of t) o first y.1) (letter_act t a h.act h.letter ∙ ap (λ (m : MarkedAct). Some m.act) (sym parts.1)) means in
           let meant = inside_meant t t.entry entry.0 written 0 rows first y.1 entry.2 means_so in
           let entered : IsEntered t y.1.values = start_led t t.entry first.values y.1.values meant.2 in
           record {
@@ -232,7 +233,7 @@ first_inside l t v a first y after m means e =
             stacked_so = e;
           })
       | inr w ↦ elim w.3 [
-        | inl edge ↦ (let parts = inside_parts (place_number t w.0 w.1) 0 (inside_act w.0 edge.edge.written edge.edge.rows.helpers edge.edge.rows.rows) h.act (spot_number t w.0 edge.edge.to) y.0 edge.is in
+        | inl edge ↦ (let parts = inside_parts (place_number t w.0 w.1) 0 (exact_act (inside_act w.0 edge.edge.written edge.edge.rows.helpers edge.edge.rows.rows)) h.act (spot_number t w.0 edge.edge.to) y.0 edge.is in
             absurd (place_not_zero l t v w.0 w.1 w.2 parts.0))
         | inr c ↦ absurd (cc)
       ]

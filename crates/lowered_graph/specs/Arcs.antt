@@ -7,7 +7,7 @@ use Rattle.lin_rows.specs.declared.types.RowKind.TheVariants.{Eq}
 use Rattle.letter_acts.specs.Acts.{PlainAct, inside_act, call_act}
 use Rattle.letter_acts.specs.Frames.{Columns, olds_of}
 use Rattle.cond_jumps.specs.Conjunctions.{Conjunction}
-use Rattle.letter_table.specs.Letters.{Arc, inside_arc, call_arc}
+use Rattle.letter_table.specs.Letters.{Arc, inside_arc, call_arc, exact_act}
 use Rattle.boogie_points.specs.Points.{Point, at_exit, settled, past_first}
 use Rattle.boogie_points.specs.Actions as actions
 use Rattle.boogie_points.specs.Actions.{Action, action_at, ensured_conditions}
@@ -52,17 +52,17 @@ abbrev pub entering : ℕ → Columns → PlainAct
 entering n frame = inside_act n (map (λ o. o.0) (olds_of frame)) 0 (entering_rows (length frame) (olds_of frame))
 
 abbrev pub start_arc : TypedProgram → Arc
-start_arc t = inside_arc 0 (entering t.entry (frame_at t t.entry)) (place_number t t.entry (start_point_of t (slice_get t.procs t.entry)))
+start_arc t = inside_arc 0 (exact_act (entering t.entry (frame_at t t.entry))) (place_number t t.entry (start_point_of t (slice_get t.procs t.entry)))
 
 -- ---- the arcs of a place
 
 abbrev pub inside_arcs : TypedProgram → ℕ → Point → List Edge → List Arc
 inside_arcs t n here edges =
-    map (λ e. inside_arc (place_number t n here) (inside_act n e.written e.rows.helpers e.rows.rows) (spot_number t n e.to)) edges
+    map (λ e. inside_arc (place_number t n here) (exact_act (inside_act n e.written e.rows.helpers e.rows.rows)) (spot_number t n e.to)) edges
 
 abbrev pub call_arcs : TypedProgram → ℕ → Point → ℕ → List Conjunction → List Arc
 call_arcs t n here f cs =
-    map (λ c. call_arc (place_number t n here) (call_act n f c.helpers c.rows) (place_number t f (point_of_call t f (slice_get t.procs f)))
+    map (λ c. call_arc (place_number t n here) (exact_act (call_act n f c.helpers c.rows)) (place_number t f (point_of_call t f (slice_get t.procs f)))
     (return_place t f) (numbers_in (frame_at t n) (targets_at here.todo)) (place_number t n (settled (past_first t.procs here.todo)))) cs
 
 abbrev pub action_arcs : TypedProgram → ℕ → Point → Action → List Arc

@@ -76,7 +76,7 @@ needed_at t p = needed_by t p.proc p.point (action_at t p.proc p.point)
 -- ---- items
 
 -- an item: where it stands in the text, and the lists that its edges need
-pub record Item : Type 0 where
+pub record ProgramItem : Type 0 where
   pub span : Span
   pub needed : List Needed
 
@@ -161,15 +161,15 @@ all_needed t (p ∷ ps) = needed_at t p ++ all_needed t ps
 abbrev pub begins_item : TypedProgram → Place → Bool
 begins_item t p = nat_eq p.point.part 0 || nat_eq (stage_parts t p.point.stage p.point.todo) 1
 
-abbrev pub items_at : TypedProgram → Place → List Item
+abbrev pub items_at : TypedProgram → Place → List ProgramItem
 items_at t p = if begins_item t p then record { span = place_span t p; needed = all_needed t (item_places t p) } ∷ [] else []
 
-abbrev pub items_of : TypedProgram → List Place → List Item
+abbrev pub items_of : TypedProgram → List Place → List ProgramItem
 items_of t [] = []
 items_of t (p ∷ ps) = items_at t p ++ items_of t ps
 
 -- the axioms, statements, invariants, and requires and ensures of procedures with a body
-abbrev pub program_items : TypedProgram → List Item
+abbrev pub program_items : TypedProgram → List ProgramItem
 program_items t = items_of t (program_places t)
 
 -- ---- faults
@@ -179,10 +179,10 @@ pub data ItemFault : Type 0 where
   TooWide : Span → ItemFault
   TooBig : Span → ItemFault
 
-abbrev pub is_too_wide : Item → Bool
+abbrev pub is_too_wide : ProgramItem → Bool
 is_too_wide i = list_any (λ n. is_wide n.plan n.base) i.needed
 
-abbrev pub is_too_big : Item → Bool
+abbrev pub is_too_big : ProgramItem → Bool
 is_too_big i = list_any (λ n. not (all_fit n.plan n.base)) i.needed
 
 abbrev pub stands_before : Span → Span → Bool
@@ -193,7 +193,7 @@ fault_span (TooWide at) = at
 fault_span (TooBig at) = at
 
 -- the fault of an item, if any; where it has both, it is too wide
-abbrev pub item_fault : Item → Option ItemFault
+abbrev pub item_fault : ProgramItem → Option ItemFault
 item_fault i = if is_too_wide i then Some (TooWide i.span) else (if is_too_big i then Some (TooBig i.span) else None)
 
 -- of two faults the one that stands first in the text; of two at one place the first one
@@ -202,7 +202,7 @@ earlier None g = g
 earlier (Some f) None = Some f
 earlier (Some f) (Some g) = if stands_before (fault_span g) (fault_span f) then Some g else Some f
 
-abbrev pub first_of : List Item → Option ItemFault
+abbrev pub first_of : List ProgramItem → Option ItemFault
 first_of [] = None
 first_of (i ∷ is) = earlier (item_fault i) (first_of is)
 

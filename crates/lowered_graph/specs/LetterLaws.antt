@@ -2,35 +2,35 @@
 use Rattle.std.specs.Prelude.{◌≡◌, ◌↔◌, ℕ, IsTrue, List, ◌++◌, Some, slice_get}
 use Rattle.nwa_base.specs.declared.letters.Letter.{Letter}
 use Rattle.nwa_base.specs.Members.{Member}
-use Rattle.letter_acts.specs.Acts.{PlainAct, back_act, letter_of}
+use Rattle.letter_acts.specs.Acts.{back_act, letter_of}
 use Rattle.letter_acts.specs.Invariant.{AreDistinct}
-use Rattle.letter_table.specs.Letters.{Arc, inside_arc, call_arc, same_act, Lettered, with_arcs, lettered}
+use Rattle.letter_table.specs.Letters.{MarkedAct, exact_act, Arc, inside_arc, call_arc, same_marked, Lettered, with_arcs, lettered}
 
--- The test of two acts passes exactly where they are one.
+-- The test of two acts with their marks passes exactly where they are one.
 abbrev pub SameActDecides : Type 0
-SameActDecides = (a b : PlainAct) → IsTrue (same_act a b) ↔ (a ≡ b)
+SameActDecides = (a b : MarkedAct) → IsTrue (same_marked a b) ↔ (a ≡ b)
 
 -- Further arcs only append acts.
 abbrev pub ActsAreAppended : Type 0
-ActsAreAppended = (d : Lettered) (arcs : List Arc) → (more : List PlainAct) × ((with_arcs d arcs).acts ≡ d.acts ++ more)
+ActsAreAppended = (d : Lettered) (arcs : List Arc) → (more : List MarkedAct) × ((with_arcs d arcs).acts ≡ d.acts ++ more)
 
--- No act has two letters.
+-- No act with its mark has two letters.
 abbrev pub ActsDiffer : Type 0
 ActsDiffer = (arcs : List Arc) → AreDistinct (lettered arcs).acts
 
 -- the letter of an act of the list
-abbrev pub IsLetterOf : List PlainAct → PlainAct → Letter → Type 0
-IsLetterOf acts a x = (slice_get acts x.id ≡ Some a) × (x ≡ letter_of x.id a)
+abbrev pub IsLetterOf : List MarkedAct → MarkedAct → Letter → Type 0
+IsLetterOf acts a x = (slice_get acts x.id ≡ Some a) × (x ≡ letter_of x.id a.act)
 
 -- an inside arc leads from q to e by the act of this letter
-pub record InsideOf (arcs : List Arc) (acts : List PlainAct) (q : ℕ) (x : Letter) (e : ℕ) : Type 0 where
-  pub act : PlainAct
+pub record InsideOf (arcs : List Arc) (acts : List MarkedAct) (q : ℕ) (x : Letter) (e : ℕ) : Type 0 where
+  pub act : MarkedAct
   pub arc : Member arcs (inside_arc q act e)
   pub letter : IsLetterOf acts act x
 
 -- a call does so
-pub record CallOf (arcs : List Arc) (acts : List PlainAct) (q : ℕ) (x : Letter) (e : ℕ) : Type 0 where
-  pub act : PlainAct
+pub record CallOf (arcs : List Arc) (acts : List MarkedAct) (q : ℕ) (x : Letter) (e : ℕ) : Type 0 where
+  pub act : MarkedAct
   pub from : ℕ
   pub targets : List ℕ
   pub behind : ℕ
@@ -38,14 +38,14 @@ pub record CallOf (arcs : List Arc) (acts : List PlainAct) (q : ℕ) (x : Letter
   pub letter : IsLetterOf acts act x
 
 -- the return of a call from q leads from f to e, by the letter whose act names the letter of the call
-pub record BackOf (arcs : List Arc) (acts : List PlainAct) (f q : ℕ) (x : Letter) (e : ℕ) : Type 0 where
-  pub act : PlainAct
+pub record BackOf (arcs : List Arc) (acts : List MarkedAct) (f q : ℕ) (x : Letter) (e : ℕ) : Type 0 where
+  pub act : MarkedAct
   pub to : ℕ
   pub targets : List ℕ
   pub call : ℕ
   pub arc : Member arcs (call_arc q act to f targets e)
   pub called : slice_get acts call ≡ Some act
-  pub letter : IsLetterOf acts (back_act call targets) x
+  pub letter : IsLetterOf acts (exact_act (back_act call targets)) x
 
 -- The edges by letters are exactly those of the arcs, each by the letter of its act.
 abbrev pub InsidesAreArcs : Type 0

@@ -72,7 +72,8 @@ lowered t =
     let procs : List (ℕ × TypedProcedure) = counted_procs 0 t.procs in
     record {
       automaton = automaton_of t d sites;
-      acts = d.acts;
+      acts = map (λ a. a.act) d.acts;
+      marks = map (λ a. a.coarse) d.acts;
       frames = map (λ q. frame_at t q.0) procs;
       names = map (λ q. q.name) t.procs;
       place_procs = place_owners t;

@@ -30,7 +30,7 @@ use Rattle.boogie_points.specs.Starts.{targets_at}
 use Rattle.boogie_run.specs.Configurations.{Config, state_of}
 use Rattle.boogie_run.specs.Needs.{locals_at}
 use Rattle.boogie_run.specs.Steps.{put, all_put, modifies_of, granted_state}
-use Rattle.lowered_steps.specs.ProgramFrames.{frame_at, variable_values, shown, number_in, number_if_any}
+use Rattle.lowered_steps.specs.ProgramFrames.{frame_at, variable_values, shown, column_number, column_number_if_any}
 use Rattle.lowered_steps.specs.Edges.{found_from, those_in, import_written, left_at, found_or_0, results_at, numbers_in, import_environment}
 use Rattle.lowered_steps.specs.Moves.{HasTypes, FrameKeeps, IsTarget, AreTargets}
 use Rattle.typing_rules.specs.Rules.{results_of}
@@ -100,7 +100,7 @@ globals_length k (v ∷ vs) = ap suc (globals_length (suc k) vs)
 
 -- a column that may be written stands in the frame under its number
 pub target_stands : (t : TypedProgram) (n : ℕ) (ty : Ty) (c : Column) → IsTarget t n ty c →
-    (d : Column × VarInfo) × (slice_get (frame_at t n) (number_in (frame_at t n) c) ≡ Some d) × (d.1.ty ≡ ty)
+    (d : Column × VarInfo) × (slice_get (frame_at t n) (column_number (frame_at t n) c) ≡ Some d) × (d.1.ty ≡ ty)
 target_stands t n ty (columns.Global g) h =
     let r = globals_stand 0 t.globals (old_columns 0 t.globals ++ locals_from 0 (locals_at t n)) g h.info h.is in
     ((r.0, h.info), ap (slice_get (frame_at t n)) (number_of_global t n g h.info h.is) ∙ r.1, h.type)
@@ -112,7 +112,7 @@ target_stands t n ty (columns.Local l) h =
     let r = locals_stand 0 (locals_at t n) l h.info h.is in
     let counted : length globals ≡ length t.globals = globals_length 0 t.globals in
     let at : before_locals t + l ≡ length globals + (length olds + l) = omega arith in
-    let number : number_in (frame_at t n) (columns.Local l) ≡ before_locals t + l = ap number_if_any (local_place t n l h.info h.is) in
+    let number : column_number (frame_at t n) (columns.Local l) ≡ before_locals t + l = ap column_number_if_any (local_place t n l h.info h.is) in
     ((r.0, h.info), ap (slice_get (frame_at t n)) (number ∙ at) ∙ slice_behind globals (olds ++ locals) (length olds + l) ∙ slice_behind olds locals l ∙ r.1, h.type)
 
 targets_inside : (t : TypedProgram) (n : ℕ) (vs : List VarInfo) (cs : List Column) (m : ℕ) → length (frame_at t n) ≡ m → AreTargets t n vs cs → AllByRecursion (λ c. c < m) (numbers_in (frame_at t n) cs)
@@ -121,7 +121,7 @@ targets_inside t n [] (c ∷ cs) m e h = absurd h
 targets_inside t n (v ∷ vs) [] m e h = absurd h
 targets_inside t n (v ∷ vs) (c ∷ cs) m e h =
     let r = target_stands t n v.ty c h.0 in
-    let inside : number_in (frame_at t n) c < length (frame_at t n) = slice_get_within (frame_at t n) (number_in (frame_at t n) c) r.0 r.1 in
+    let inside : column_number (frame_at t n) c < length (frame_at t n) = slice_get_within (frame_at t n) (column_number (frame_at t n) c) r.0 r.1 in
     (omega arith, targets_inside t n vs cs m e h.1)
 
 -- values at the places of targets are of their types
@@ -131,7 +131,7 @@ targets_typed t n [] (c ∷ cs) zs s h = absurd h
 targets_typed t n (v ∷ vs) [] zs s h = absurd h
 targets_typed t n (v ∷ vs) (c ∷ cs) zs s h =
     let r = target_stands t n v.ty c h.0 in
-    (subst (λ (ty : Ty). IsValue ty (point_of zs (number_in (frame_at t n) c))) r.2 (state_at (frame_at t n) zs (number_in (frame_at t n) c) r.0 s r.1), targets_typed t n vs cs zs s h.1)
+    (subst (λ (ty : Ty). IsValue ty (point_of zs (column_number (frame_at t n) c))) r.2 (state_at (frame_at t n) zs (column_number (frame_at t n) c) r.0 s r.1), targets_typed t n vs cs zs s h.1)
 
 -- so is that of a global
 pub global_typed : (t : TypedProgram) (n g : ℕ) (v : VarInfo) (zs : List ℤ) → IsState (frame_at t n) zs → slice_get t.globals g ≡ Some v → IsValue v.ty (point_of zs g)
@@ -288,7 +288,7 @@ module _ (t : TypedProgram) (c : Config) (f : ℕ) (args : List TypedExpression)
     results_count =
         types_length (results_of k.procedure) results results_typed
         ∙ sym (targets_count t c.top.proc (results_of k.procedure) (targets_at c.top.point.todo) k.targets)
-        ∙ sym (length-map (targets_at c.top.point.todo) (number_in (frame_at t c.top.proc)))
+        ∙ sym (length-map (targets_at c.top.point.todo) (column_number (frame_at t c.top.proc)))
 
     pub results_read : results ≡ picked after targets
     results_read =

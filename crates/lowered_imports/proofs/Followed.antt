@@ -10,12 +10,12 @@ use Rattle.boogie_tree.specs.declared.tree.Ty.TheVariants as types
 use Rattle.boogie_tree.specs.declared.tree.Column.{Column}
 use Rattle.typed_tree.specs.TypedTree.{TypedExpression, Lit, Truth, Var, Old, Not, Neg, Bin, TypedInvariant}
 use Rattle.typed_tree.specs.Typing.{same_type, only, operation_type}
-use Rattle.typed_tree.specs.Values.{State, column_value, value, truth, is_zero, same, operation_value}
+use Rattle.typed_tree.specs.Values.{State, column_value, value, truth, value_is_zero, same, operation_value}
 use Rattle.typed_tree.specs.AffineForm.{read_at, divisor_of, is_linear}
 use Rattle.typed_tree.specs.Laws.{state_of, FixedStay}
-use Rattle.cond_jumps.specs.Conjunctions.{Conjunction, Jumps, Plan, Then, With, joined, each_with, listed}
-use Rattle.cond_jumps.specs.Forms.{Linears, negated}
-use Rattle.cond_jumps.specs.Comparisons.{literal, alike, operation}
+use Rattle.cond_jumps.specs.Conjunctions.{Conjunction, Jumps, Plan, Then, With, joined, each_with, listed_plan}
+use Rattle.cond_jumps.specs.Forms.{Linears, linear_negated}
+use Rattle.cond_jumps.specs.Comparisons.{literal, alike, operation_plan}
 use Rattle.cond_jumps.specs.Meaning.{Agrees, Meets, IsPath}
 use Rattle.cond_jumps.specs.Environments.{Environment, type_in}
 use Rattle.cond_jumps.specs.Paths.{constant_of, arithmetic, linear, is_truth, paths}
@@ -54,22 +54,22 @@ meets_each n p (c ∷ cs) b Q k h = elim (meets_append n p (map (joined c) (b (n
 -- ---- lists of which no member is met
 
 pub record IsRefused (w : ℕ) (p : ℕ → ℤ) (a : Plan) : Type 0 where
-  pub never : (n : ℕ) (q : ℕ → ℤ) → w ≤ n → Agrees w p q → Meets n q (listed a n) → ⊥
+  pub never : (n : ℕ) (q : ℕ → ℤ) → w ≤ n → Agrees w p q → Meets n q (listed_plan a n) → ⊥
 
 later_agrees : (w n : ℕ) (p q r : ℕ → ℤ) → w ≤ n → Agrees w p q → Agrees n q r → Agrees w p r
 later_agrees w n p q r l a b = record { same = λ c k. b.same c (omega arith) ∙ a.same c k }
 
 refused_then : (w : ℕ) (p : ℕ → ℤ) (a b : Plan) → IsRefused w p a → IsRefused w p b → IsRefused w p (Then a b)
 refused_then w p a b h k = record {
-  never = λ n q l s m. elim (meets_append n q (listed a n) (listed b n) m) [ inl i ↦ h.never n q l s i | inr i ↦ k.never n q l s i ];
+  never = λ n q l s m. elim (meets_append n q (listed_plan a n) (listed_plan b n) m) [ inl i ↦ h.never n q l s i | inr i ↦ k.never n q l s i ];
 }
 
 refused_first : (w : ℕ) (p : ℕ → ℤ) (a b : Plan) → IsRefused w p a → IsRefused w p (With a b)
-refused_first w p a b h = record { never = λ n q l s m. h.never n q l s (meets_each n q (listed a n) (listed b) (Unit {0}) (λ j r k i o. tt) m).0 }
+refused_first w p a b h = record { never = λ n q l s m. h.never n q l s (meets_each n q (listed_plan a n) (listed_plan b) (Unit {0}) (λ j r k i o. tt) m).0 }
 
 refused_second : (w : ℕ) (p : ℕ → ℤ) (a b : Plan) → IsRefused w p b → IsRefused w p (With a b)
 refused_second w p a b h = record {
-  never = λ n q l s m. (meets_each n q (listed a n) (listed b) ⊥ (λ j r k i o. h.never j r (omega arith) (later_agrees w n p q r l s i) o) m).1;
+  never = λ n q l s m. (meets_each n q (listed_plan a n) (listed_plan b) ⊥ (λ j r k i o. h.never j r (omega arith) (later_agrees w n p q r l s i) o) m).1;
 }
 
 -- v is a truth value, and the plans meet nothing for the other one
@@ -101,19 +101,19 @@ alike_refused w p a b false true h k = refused_then w p (With (a true) (b true))
 alike_refused w p a b false false h k = refused_then w p (With (a true) (b false)) (With (a false) (b true)) (refused_first w p (a true) (b false) h) (refused_second w p (a false) (b true) k)
 
 implies_refused : (w : ℕ) (p : ℕ → ℤ) (a b : Bool → Plan) (xs ys : Linears) (x y : Bool) → IsRefused w p (a (not x)) → IsRefused w p (b (not y)) →
-    IsRefused w p (operation Implies true a b xs ys (not (not x || y)))
+    IsRefused w p (operation_plan Implies true a b xs ys (not (not x || y)))
 implies_refused w p a b xs ys true true h k = refused_second w p (a true) (b false) k
 implies_refused w p a b xs ys true false h k = refused_then w p (a false) (With (a true) (b true)) h (refused_second w p (a true) (b true) k)
 implies_refused w p a b xs ys false y h k = refused_first w p (a true) (b false) h
 
 and_refused : (w : ℕ) (p : ℕ → ℤ) (a b : Bool → Plan) (xs ys : Linears) (x y : Bool) → IsRefused w p (a (not x)) → IsRefused w p (b (not y)) →
-    IsRefused w p (operation And true a b xs ys (not (x && y)))
+    IsRefused w p (operation_plan And true a b xs ys (not (x && y)))
 and_refused w p a b xs ys true true h k = refused_then w p (a false) (With (a true) (b false)) h (refused_second w p (a true) (b false) k)
 and_refused w p a b xs ys true false h k = refused_second w p (a true) (b true) k
 and_refused w p a b xs ys false y h k = refused_first w p (a true) (b true) h
 
 or_refused : (w : ℕ) (p : ℕ → ℤ) (a b : Bool → Plan) (xs ys : Linears) (x y : Bool) → IsRefused w p (a (not x)) → IsRefused w p (b (not y)) →
-    IsRefused w p (operation Or true a b xs ys (not (x || y)))
+    IsRefused w p (operation_plan Or true a b xs ys (not (x || y)))
 or_refused w p a b xs ys true y h k = refused_first w p (a false) (b false) h
 or_refused w p a b xs ys false true h k = refused_second w p (a false) (b false) k
 or_refused w p a b xs ys false false h k = refused_then w p (a true) (With (a false) (b true)) h (refused_second w p (a false) (b true) k)
@@ -147,7 +147,7 @@ ne_refused w p a b true h = h
 ne_refused w p a b false h = h
 
 truths_followed : (w : ℕ) (p : ℕ → ℤ) (op : Op) (a b : Bool → Plan) (xs ys : Linears) (x y : Bool) → operation_type op types.Bool types.Bool ≡ Some types.Bool →
-    IsRefused w p (a (not x)) → IsRefused w p (b (not y)) → IsFollowed w p (operation op true a b xs ys) (operation_value op (truth x) (truth y))
+    IsRefused w p (a (not x)) → IsRefused w p (b (not y)) → IsFollowed w p (operation_plan op true a b xs ys) (operation_value op (truth x) (truth y))
 truths_followed w p Iff a b xs ys x y t h k = record { truth_value = is_wanted x y; is = iff_value x y; refused = alike_refused w p a b x y h k }
 truths_followed w p Implies a b xs ys x y t h k = record { truth_value = not x || y; is = implies_value x y; refused = implies_refused w p a b xs ys x y h k }
 truths_followed w p And a b xs ys x y t h k = record { truth_value = x && y; is = and_value x y; refused = and_refused w p a b xs ys x y h k }
@@ -165,22 +165,22 @@ truths_followed w p Div a b xs ys x y t h k = absurd (cc)
 truths_followed w p Mod a b xs ys x y t h k = absurd (cc)
 
 choices_followed : (w : ℕ) (p : ℕ → ℤ) (op : Op) (a b : Bool → Plan) (xs ys : Linears) (u v : ℤ) → operation_type op types.Bool types.Bool ≡ Some types.Bool →
-    IsFollowed w p a u → IsFollowed w p b v → IsFollowed w p (operation op true a b xs ys) (operation_value op u v)
+    IsFollowed w p a u → IsFollowed w p b v → IsFollowed w p (operation_plan op true a b xs ys) (operation_value op u v)
 choices_followed w p op a b xs ys u v t h k =
-    let P : ℤ → ℤ → Type 0 = λ y z. IsFollowed w p (operation op true a b xs ys) (operation_value op y z) in
+    let P : ℤ → ℤ → Type 0 = λ y z. IsFollowed w p (operation_plan op true a b xs ys) (operation_value op y z) in
     let r : P (truth h.truth_value) (truth k.truth_value) = truths_followed w p op a b xs ys h.truth_value k.truth_value t h.refused k.refused in
     subst (λ (y : ℤ). P y v) (sym h.is) (subst (λ (z : ℤ). P (truth h.truth_value) z) (sym k.is) r)
 
 operation_followed : (w : ℕ) (p : ℕ → ℤ) (op : Op) (t : Ty) (kind : Bool) (a b : Bool → Plan) (xs ys : Linears) (u v : ℤ) →
     operation_type op t t ≡ Some types.Bool → kind ≡ same_type types.Bool t →
     (t ≡ types.Bool → IsFollowed w p a u) → (t ≡ types.Bool → IsFollowed w p b v) → (t ≡ types.Int → IsSum w p xs u) → (t ≡ types.Int → IsSum w p ys v) →
-    IsFollowed w p (operation op kind a b xs ys) (operation_value op u v)
+    IsFollowed w p (operation_plan op kind a b xs ys) (operation_value op u v)
 operation_followed w p op types.Bool kind a b xs ys u v e k h i f g =
-    let P : Bool → Type 0 = λ z. IsFollowed w p (operation op z a b xs ys) (operation_value op u v) in
+    let P : Bool → Type 0 = λ z. IsFollowed w p (operation_plan op z a b xs ys) (operation_value op u v) in
     subst P (sym k) (choices_followed w p op a b xs ys u v e (h refl) (i refl))
 operation_followed w p op types.Int kind a b xs ys u v e k h i f g =
-    let P : Bool → Type 0 = λ z. IsFollowed w p (operation op z a b xs ys) (operation_value op u v) in
-    subst P (sym k) (followed_of_test w p (operation op false a b xs ys) (operation_value op u v) (sums_operation w p op a b xs ys u v e (f refl) (g refl)))
+    let P : Bool → Type 0 = λ z. IsFollowed w p (operation_plan op z a b xs ys) (operation_value op u v) in
+    subst P (sym k) (followed_of_test w p (operation_plan op false a b xs ys) (operation_value op u v) (sums_operation w p op a b xs ys u v e (f refl) (g refl)))
 
 -- ---- environments
 
@@ -192,9 +192,9 @@ pub record Follows (w : ℕ) (p : ℕ → ℤ) (v : Environment) (s : State) : T
 
 -- the same with literals for truth values
 abbrev with_literals : Environment → State → Environment
-with_literals v s = record { type = v.type; fixed = v.fixed; sum = v.sum; plan = λ c. literal (not (is_zero (column_value s c))) }
+with_literals v s = record { type = v.type; fixed = v.fixed; sum = v.sum; plan = λ c. literal (not (value_is_zero (column_value s c))) }
 
-truth_again : (b : Bool) → truth b ≡ truth (not (is_zero (truth b)))
+truth_again : (b : Bool) → truth b ≡ truth (not (value_is_zero (truth b)))
 truth_again true = refl
 truth_again false = refl
 
@@ -204,8 +204,8 @@ literals_show w p v s h = record {
   sums = h.sums;
   choices = λ c t.
       let f : IsFollowed w p (v.plan c) (column_value s c) = h.choices c t in
-      let b : Bool = not (is_zero (column_value s c)) in
-      choice_of_test w p (literal b) b (column_value s c) (f.is ∙ truth_again f.truth_value ∙ ap (λ (z : ℤ). truth (not (is_zero z))) (sym f.is)) (literal_test w p b);
+      let b : Bool = not (value_is_zero (column_value s c)) in
+      choice_of_test w p (literal b) b (column_value s c) (f.is ∙ truth_again f.truth_value ∙ ap (λ (z : ℤ). truth (not (value_is_zero z))) (sym f.is)) (literal_test w p b);
 }
 
 linear_same : (v : Environment) (s : State) (old : Bool) (e : TypedExpression) → linear (with_literals v s) old e ≡ linear v old e
@@ -214,7 +214,7 @@ linear_same v s old (Truth at b) = refl
 linear_same v s old (Var at c) = refl
 linear_same v s old (Old at e) = linear_same v s true e
 linear_same v s old (Not at e) = refl
-linear_same v s old (Neg at e) = ap negated (linear_same v s old e)
+linear_same v s old (Neg at e) = ap linear_negated (linear_same v s old e)
 linear_same v s old (Bin at op a b) = λ i. arithmetic op (constant_of a) (constant_of b) (divisor_of b) (linear_same v s old a i) (linear_same v s old b i)
 
 type_same : (v : Environment) (s : State) (old : Bool) (e : TypedExpression) → type_in (with_literals v s) old e ≡ type_in v old e
@@ -234,7 +234,7 @@ linear_followed w p v s h old e t l =
 
 -- ---- conditions
 
-not_value : (b : Bool) → truth (is_zero (truth b)) ≡ truth (not b)
+not_value : (b : Bool) → truth (value_is_zero (truth b)) ≡ truth (not b)
 not_value true = refl
 not_value false = refl
 
@@ -255,7 +255,7 @@ paths_followed w p v s h old (Not at e) t l =
     let r = paths_followed w p v s h old e (only_is types.Bool (type_in v old e) types.Bool t).0 l in
     record {
       truth_value = not r.truth_value;
-      is = ap (λ (z : ℤ). truth (is_zero z)) r.is ∙ not_value r.truth_value;
+      is = ap (λ (z : ℤ). truth (value_is_zero z)) r.is ∙ not_value r.truth_value;
       refused = not_refused w p (paths v old e) r.truth_value r.refused;
     }
 paths_followed w p v s h old (Neg at e) t l = absurd (not_both (sym (only_is types.Int (type_in v old e) types.Bool t).1))
@@ -286,7 +286,7 @@ AreTrue s is = AllByRecursion (λ i. value s i.cond ≡ pos 1) is
 zero_is_not_one : pos 0 ≡ pos 1 → ⊥
 zero_is_not_one e = absurd (omega (arith, ints))
 
-true_of : (w : ℕ) (p : ℕ → ℤ) (a : Bool → Plan) (v : ℤ) → IsFollowed w p a v → (n : ℕ) (q : ℕ → ℤ) → w ≤ n → Agrees w p q → Meets n q (listed (a true) n) → v ≡ pos 1
+true_of : (w : ℕ) (p : ℕ → ℤ) (a : Bool → Plan) (v : ℤ) → IsFollowed w p a v → (n : ℕ) (q : ℕ → ℤ) → w ≤ n → Agrees w p q → Meets n q (listed_plan (a true) n) → v ≡ pos 1
 true_of w p a v f n q l s m = by_truth f.truth_value f.is f.refused
   where
     by_truth : (b : Bool) → v ≡ truth b → IsRefused w p (a (not b)) → v ≡ pos 1
@@ -294,16 +294,16 @@ true_of w p a v f n q l s m = by_truth f.truth_value f.is f.refused
     by_truth false e r = absurd (r.never n q l s m)
 
 pub all_followed : (w : ℕ) (p : ℕ → ℤ) (v : Environment) (s : State) → Follows w p v s → (is : List TypedInvariant) → AllByRecursion (IsTypedIn v) is →
-    (n : ℕ) (q : ℕ → ℤ) → w ≤ n → Agrees w p q → Meets n q (listed (all_hold v is) n) → AreTrue s is
+    (n : ℕ) (q : ℕ → ℤ) → w ≤ n → Agrees w p q → Meets n q (listed_plan (all_hold v is) n) → AreTrue s is
 all_followed w p v s h [] t n q l a m = tt
 all_followed w p v s h (i ∷ is) t n q l a m =
-    let r = meets_each n q (listed (paths v false i.cond true) n) (listed (all_hold v is)) (AreTrue s is)
+    let r = meets_each n q (listed_plan (paths v false i.cond true) n) (listed_plan (all_hold v is)) (AreTrue s is)
     (λ j r k b o. all_followed w p v s h is t.1 j r (omega arith) (later_agrees w n p q r l a b) o) m in
     (true_of w p (paths v false i.cond) (value s i.cond) (paths_followed w p v s h false i.cond t.0.typed t.0.linear) n q l a r.0, r.1)
 
 pub all_hold_path : (w : ℕ) (p : ℕ → ℤ) (v : Environment) (s : State) → Shows w p v s → (is : List TypedInvariant) → AllByRecursion (IsTypedIn v) is →
-    IsPath w p (listed (all_hold v is)) (AreTrue s is)
+    IsPath w p (listed_plan (all_hold v is)) (AreTrue s is)
 all_hold_path w p v s h [] t = always_path w p
 all_hold_path w p v s h (i ∷ is) t =
-    path_both w p (listed (paths v false i.cond true)) (listed (all_hold v is)) (value s i.cond ≡ pos 1) (AreTrue s is)
+    path_both w p (listed_plan (paths v false i.cond true)) (listed_plan (all_hold v is)) (value s i.cond ≡ pos 1) (AreTrue s is)
     ((paths_mean w p v s h false i.cond t.0.typed t.0.linear).path true) (all_hold_path w p v s h is t.1)

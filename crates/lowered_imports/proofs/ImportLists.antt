@@ -15,7 +15,7 @@ use Rattle.letter_acts.specs.Values.{picked, put_all}
 use Rattle.letter_acts.specs.Invariant.{AreDistinct}
 use Rattle.letter_acts.proofs.PointLemmas.{set_here, length-put_all, put_all_other, put_picked}
 use Rattle.boogie_run.specs.Needs.{locals_at}
-use Rattle.lowered_steps.specs.ProgramFrames.{frame_at, number_in, number_if_any}
+use Rattle.lowered_steps.specs.ProgramFrames.{frame_at, column_number, column_number_if_any}
 use Rattle.lowered_steps.specs.Edges.{those_in, those_not_in, found_from, import_written, numbers_in}
 use Rattle.letter_acts.specs.Reading.{is_listed}
 use Rattle.lowered_steps.specs.Moves.{AreTargets}
@@ -261,13 +261,13 @@ two_writings s held results ms ts =
 
 -- ---- numbers of columns
 
-pub number_of_global : (t : TypedProgram) (n g : ℕ) (v : VarInfo) → slice_get t.globals g ≡ Some v → number_in (frame_at t n) (columns.Global g) ≡ g
-number_of_global t n g v e = ap number_if_any (global_place t n g v e)
+pub number_of_global : (t : TypedProgram) (n g : ℕ) (v : VarInfo) → slice_get t.globals g ≡ Some v → column_number (frame_at t n) (columns.Global g) ≡ g
+number_of_global t n g v e = ap column_number_if_any (global_place t n g v e)
 
-number_of_local : (t : TypedProgram) (n l : ℕ) (v : VarInfo) → slice_get (locals_at t n) l ≡ Some v → number_in (frame_at t n) (columns.Local l) ≡ before_locals t + l
-number_of_local t n l v e = ap number_if_any (local_place t n l v e)
+number_of_local : (t : TypedProgram) (n l : ℕ) (v : VarInfo) → slice_get (locals_at t n) l ≡ Some v → column_number (frame_at t n) (columns.Local l) ≡ before_locals t + l
+number_of_local t n l v e = ap column_number_if_any (local_place t n l v e)
 
-same_column_of : (t : TypedProgram) (n : ℕ) (x y : Column) → IsThere t n x → IsThere t n y → number_in (frame_at t n) x ≡ number_in (frame_at t n) y → x ≡ y
+same_column_of : (t : TypedProgram) (n : ℕ) (x y : Column) → IsThere t n x → IsThere t n y → column_number (frame_at t n) x ≡ column_number (frame_at t n) y → x ≡ y
 same_column_of t n (columns.Old g) y h k e = absurd h
 same_column_of t n (columns.Global g) (columns.Old m) h k e = absurd k
 same_column_of t n (columns.Local l) (columns.Old m) h k e = absurd k
@@ -295,7 +295,7 @@ pub numbers_distinct : (t : TypedProgram) (n : ℕ) (cs : List Column) → AllBy
 numbers_distinct t n [] h d = tt
 numbers_distinct t n (c ∷ cs) h d = (λ k. d.0 (from_number cs h.1 k), numbers_distinct t n cs h.1 d.1)
   where
-    from_number : (xs : List Column) → AllByRecursion (IsThere t n) xs → Member (numbers_in (frame_at t n) xs) (number_in (frame_at t n) c) → Member xs c
+    from_number : (xs : List Column) → AllByRecursion (IsThere t n) xs → Member (numbers_in (frame_at t n) xs) (column_number (frame_at t n) c) → Member xs c
     from_number [] a k = absurd k
     from_number (x ∷ xs) a (inl e) = inl (same_column_of t n x c a.0 h.0 e)
     from_number (x ∷ xs) a (inr k) = inr (from_number xs a.1 k)

@@ -17,9 +17,9 @@ use Rattle.nwa_base.specs.Members.{Member}
 use Rattle.letter_acts.specs.Frames.{IsValue}
 use Rattle.cond_jumps.specs.Conjunctions.{Just}
 use Rattle.cond_jumps.specs.Forms.{column}
-use Rattle.cond_jumps.specs.Comparisons.{named}
+use Rattle.cond_jumps.specs.Comparisons.{truth_of_column}
 use Rattle.cond_jumps.specs.Environments.{Environment}
-use Rattle.cond_jumps.specs.Passing.{Standing, Same, Numbered, Passed, standing_type, standing_sum, standing_plan, standing_environment, left_in, locals_of, imported, imported_state}
+use Rattle.cond_jumps.specs.Passing.{Standing, Same, Numbered, Passed, standing_type, standing_sum, standing_plan, standing_environment, left_in, passed_locals, imported, imported_state}
 use Rattle.cond_jumps.specs.Worth.{IsSum, Shows}
 use Rattle.cond_jumps.proofs.FormLemmas.{column_sum}
 use Rattle.cond_jumps.proofs.LinearLemmas.{linear_form}
@@ -119,7 +119,7 @@ both_truths : (b : Bool) → truth (not b) ≡ truth b → ⊥
 both_truths true e = absurd (omega (arith, ints))
 both_truths false e = absurd (omega (arith, ints))
 
-named_followed : (m : ℕ) (p : ℕ → ℤ) (c : ℕ) (z : ℤ) → c < m → IsTruth z → (IsTruth (p c) → p c ≡ z) → IsFollowed m p (λ want. Just (named c want)) z
+named_followed : (m : ℕ) (p : ℕ → ℤ) (c : ℕ) (z : ℤ) → c < m → IsTruth z → (IsTruth (p c) → p c ≡ z) → IsFollowed m p (λ want. Just (truth_of_column c want)) z
 named_followed m p c z l (inl e) near = record {
   truth_value = false;
   is = e;
@@ -165,7 +165,7 @@ global_near m p v s globals n (Some x) h = h
 
 local_near : (m : ℕ) (p : ℕ → ℤ) (v : Environment) (s : State) (args : List TypedExpression) (results : List (ℕ × Ty)) (zs : List ℤ) →
     AllByRecursion (λ e. is_linear v.fixed false e ≡ true) args → AreResults m p results zs → (n : ℕ) →
-    IsStandingNear m p v s (slice_get (locals_of args results) n) (member (map (value s) args ++ zs) n)
+    IsStandingNear m p v s (slice_get (passed_locals args results) n) (member (map (value s) args ++ zs) n)
 local_near m p v s (e ∷ es) results zs h k zero = (h.0, refl)
 local_near m p v s (e ∷ es) results zs h k (suc n) = local_near m p v s es results zs h.1 k n
 local_near m p v s [] [] zs h k n = tt

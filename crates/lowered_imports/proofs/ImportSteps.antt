@@ -15,7 +15,7 @@ use Rattle.letter_acts.specs.Values.{picked, put_all}
 use Rattle.letter_acts.specs.Invariant.{AreDistinct}
 use Rattle.letter_acts.specs.Meaning.{InsideLeads}
 use Rattle.letter_acts.proofs.PointLemmas.{point_of-left, point_of-right, picked_put}
-use Rattle.cond_jumps.specs.Conjunctions.{Conjunction, joined, listed}
+use Rattle.cond_jumps.specs.Conjunctions.{Conjunction, joined, listed_plan}
 use Rattle.cond_jumps.specs.Lists.{Decide}
 use Rattle.cond_jumps.specs.Meaning.{Agrees, AllHold, Extends, Meets}
 use Rattle.cond_jumps.specs.Environments.{Environment}
@@ -141,7 +141,7 @@ module _ (t : TypedProgram) (Known : ℕ → Point → Type 0) (know : KnowsPoin
   ensured = ensured_conditions k.procedure.specs
 
   abbrev conditions : ℕ → List Conjunction
-  conditions m = listed (all_hold (points.environment t c f args k keeps) ensured) m
+  conditions m = listed_plan (all_hold (points.environment t c f args k keeps) ensured) m
 
   abbrev list : List Conjunction
   list = import_list frame t.globals k.procedure args targets
@@ -218,7 +218,7 @@ module _ (t : TypedProgram) (Known : ℕ → Point → Type 0) (know : KnowsPoin
     conditions_met h =
         let w : ℕ = length frame + length written + length both in
         let decided : Decide values (conditions w) (AreTrue (points.ensured_state t c f args k keeps held results held_typed results_typed) ensured) =
-        decided_at w (point_of values) (listed (all_hold (points.environment t c f args k keeps) ensured)) (AreTrue (points.ensured_state t c f args k keeps held results held_typed results_typed) ensured) values w values_counted
+        decided_at w (point_of values) (listed_plan (all_hold (points.environment t c f args k keeps) ensured)) (AreTrue (points.ensured_state t c f args k keeps held results held_typed results_typed) ensured) values w values_counted
         (all_hold_path w (point_of values) (points.environment t c f args k keeps) (points.ensured_state t c f args k keeps held results held_typed results_typed) values_show ensured (points.ensured_typed t c f args k keeps))
         (omega arith) (agrees_refl w (point_of values)) in
         member_met values (conditions w) (decided.exactly.1 h)

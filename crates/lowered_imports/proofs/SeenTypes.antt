@@ -15,9 +15,9 @@ use Rattle.typed_tree.specs.Typing.{same_type, is_some_of, only, operation_type,
 use Rattle.typed_tree.specs.AffineForm.{read_at, is_linear, forms_fit}
 use Rattle.typed_tree.specs.KeptRules.{is_arithmetic, is_right}
 use Rattle.letter_acts.specs.Frames.{Columns, added, globals_from, old_columns, locals_from}
-use Rattle.cond_jumps.specs.Frames.{place_from, place, if_constant, or_else, is_constant_place, fixed_in, frame_environment}
+use Rattle.cond_jumps.specs.Frames.{place_from, column_place_in, if_constant, or_else, is_constant_place, fixed_in, frame_environment}
 use Rattle.cond_jumps.specs.Environments.{Environment, type_in}
-use Rattle.cond_jumps.specs.Passing.{Numbered, Passed, standing_type, standing_environment, passed, left_in, locals_of}
+use Rattle.cond_jumps.specs.Passing.{Numbered, Passed, standing_type, standing_environment, passed, left_in, passed_locals}
 use Rattle.cond_jumps.proofs.TypeLemmas.{only_is}
 use Rattle.boogie_run.specs.Needs.{locals_at}
 use Rattle.lowered_steps.specs.ProgramFrames.{frame_at}
@@ -187,7 +187,7 @@ or_constant o p m v h e = by_test v.constant refl
     by_test false c = let r = h.varies c in (r.0, ap (λ (x : Option (ℕ × VarInfo)). or_else x (if_constant p)) r.1)
 
 -- the old value of a global has a place
-pub old_of_global : (t : TypedProgram) (n g : ℕ) (v : VarInfo) → slice_get t.globals g ≡ Some v → (k : ℕ) × (place (frame_at t n) (columns.Old g) ≡ Some (k, v))
+pub old_of_global : (t : TypedProgram) (n g : ℕ) (v : VarInfo) → slice_get t.globals g ≡ Some v → (k : ℕ) × (column_place_in (frame_at t n) (columns.Old g) ≡ Some (k, v))
 old_of_global t n g v e =
     let locals : Columns = locals_from 0 (locals_at t n) in
     let zero_more : 0 + g ≡ g = omega arith in
@@ -234,7 +234,7 @@ same_constants t n ls s i = λ d c. of_column c d
 pub frame_sees : (t : TypedProgram) (n : ℕ) (s : Scope) → IsScope t (locals_at t n) s → Sees s (frame_environment (frame_at t n))
 frame_sees t n s i = record { now = λ c x h. now c x h; entry = λ c x h. entry c x h }
   where
-    typed : (c : Column) (k : ℕ) (x : VarInfo) → place (frame_at t n) c ≡ Some (k, x) → option_map (λ y. y.1.ty) (place (frame_at t n) c) ≡ Some x.ty
+    typed : (c : Column) (k : ℕ) (x : VarInfo) → column_place_in (frame_at t n) c ≡ Some (k, x) → option_map (λ y. y.1.ty) (column_place_in (frame_at t n) c) ≡ Some x.ty
     typed c k x e = ap (option_map (λ y. y.1.ty)) e
 
     now : (c : Column) (x : VarInfo) → variable_at s c ≡ Some x → (frame_environment (frame_at t n)).type c ≡ Some x.ty
@@ -260,7 +260,7 @@ pub passed_sees : (t : TypedProgram) (n : ℕ) (s : Scope) (params : List VarInf
     Sees s (standing_environment (frame_environment (frame_at t n)) (passed args))
 passed_sees t n s params args i a = record { now = λ c x h. now c x h; entry = λ c x h. entry c x h }
   where
-    typed : (c : Column) (k : ℕ) (x : VarInfo) → place (frame_at t n) c ≡ Some (k, x) → option_map (λ y. y.1.ty) (place (frame_at t n) c) ≡ Some x.ty
+    typed : (c : Column) (k : ℕ) (x : VarInfo) → column_place_in (frame_at t n) c ≡ Some (k, x) → option_map (λ y. y.1.ty) (column_place_in (frame_at t n) c) ≡ Some x.ty
     typed c k x e = ap (option_map (λ y. y.1.ty)) e
 
     now : (c : Column) (x : VarInfo) → variable_at s c ≡ Some x → standing_type (frame_environment (frame_at t n)) (passed args c) ≡ Some x.ty
@@ -292,7 +292,7 @@ results_typed t n base written v (y ∷ ys) (c ∷ cs) (suc l) x a h = results_t
 
 locals_typed : (t : TypedProgram) (n base : ℕ) (written : List ℕ) (p r : ℕ) (ls : List VarInfo) (args : List TypedExpression) (cs : List Column) (l : ℕ) (x : VarInfo) →
     AreArguments (frame_at t n) (take p ls) args → AreTargets t n (take r (drop p ls)) cs → slice_get (take (p + r) ls) l ≡ Some x →
-    standing_type (frame_environment (frame_at t n)) (slice_get (locals_of args (results_at base written (numbers_in (frame_at t n) cs) (take r (drop p ls)))) l) ≡ Some x.ty
+    standing_type (frame_environment (frame_at t n)) (slice_get (passed_locals args (results_at base written (numbers_in (frame_at t n) cs) (take r (drop p ls)))) l) ≡ Some x.ty
 locals_typed t n base written zero r ls [] cs l x a b h =
     let e : 0 + r ≡ r = omega arith in
     results_typed t n base written (frame_environment (frame_at t n)) (take r ls) cs l x b (ap (λ (m : ℕ). slice_get (take m ls) l) (sym e) ∙ h)
@@ -308,8 +308,8 @@ locals_typed t n base written (suc p) r (y ∷ ys) (d ∷ ds) cs l x a b h =
   where
     by_number : (l : ℕ) → slice_get (y ∷ take (p + r) ys) l ≡ Some x →
         ((k : ℕ) → slice_get (take (p + r) ys) k ≡ Some x →
-        standing_type (frame_environment (frame_at t n)) (slice_get (locals_of ds (results_at base written (numbers_in (frame_at t n) cs) (take r (drop p ys)))) k) ≡ Some x.ty) →
-        standing_type (frame_environment (frame_at t n)) (slice_get (locals_of (d ∷ ds) (results_at base written (numbers_in (frame_at t n) cs) (take r (drop p ys)))) l) ≡ Some x.ty
+        standing_type (frame_environment (frame_at t n)) (slice_get (passed_locals ds (results_at base written (numbers_in (frame_at t n) cs) (take r (drop p ys)))) k) ≡ Some x.ty) →
+        standing_type (frame_environment (frame_at t n)) (slice_get (passed_locals (d ∷ ds) (results_at base written (numbers_in (frame_at t n) cs) (take r (drop p ys)))) l) ≡ Some x.ty
     by_number zero g again = a.0.typed ∙ (let same : y ≡ x = cc in ap (λ (z : VarInfo). Some z.ty) same)
     by_number (suc k) g again = again k g
 

@@ -12,7 +12,7 @@ use Rattle.nwa_base.specs.Members.{Member}
 use Rattle.letter_acts.specs.Frames.{ConstantsFirst}
 use Rattle.letter_acts.specs.Invariant.{AreDistinct}
 use Rattle.typing_rules.specs.Counts.{numbers_fit}
-use Rattle.typing_rules.specs.Rules.{all_differ, same_column, meets, is_condition, is_body_if_any, is_specification, is_procedure, keeps_typing, params_of, context_of}
+use Rattle.typing_rules.specs.Rules.{all_differ, same_column, meets, is_condition, is_body_if_any, is_specification, procedure_keeps_rules, keeps_typing, params_of, context_of}
 use Rattle.typing_rules.specs.Shape.{are_names, is_shaped_block, block_labels, counts_from, are_locals, are_modified, is_body_shaped, is_procedure_shaped, has_shape}
 use Rattle.typing_rules.specs.ValidProgram.{has_entry, is_typed, is_valid}
 use Rattle.boogie_points.specs.Actions.{plain_conditions, free_conditions, ensured_conditions}
@@ -144,12 +144,12 @@ module _ (t : TypedProgram) (valid : IsTrue (is_valid t)) where
   kept_part = (and_parts (keeps_typing t) (has_entry t) rules_part).0
 
   pub axioms_right : list_all (is_condition (axiom_scope t.globals)) t.axioms ≡ true
-  axioms_right = (and_parts (list_all (is_condition (axiom_scope t.globals)) t.axioms) (list_all (is_procedure t.globals t.procs) t.procs) kept_part).0
+  axioms_right = (and_parts (list_all (is_condition (axiom_scope t.globals)) t.axioms) (list_all (procedure_keeps_rules t.globals t.procs) t.procs) kept_part).0
 
   pub specifications_right : (n : ℕ) (p : TypedProcedure) → slice_get t.procs n ≡ Some p → list_all (is_specification t.globals p) p.specs ≡ true
   specifications_right n p e =
-      let procedures = (and_parts (list_all (is_condition (axiom_scope t.globals)) t.axioms) (list_all (is_procedure t.globals t.procs) t.procs) kept_part).1 in
-      let whole = all_at (is_procedure t.globals t.procs) t.procs n p procedures e in
+      let procedures = (and_parts (list_all (is_condition (axiom_scope t.globals)) t.axioms) (list_all (procedure_keeps_rules t.globals t.procs) t.procs) kept_part).1 in
+      let whole = all_at (procedure_keeps_rules t.globals t.procs) t.procs n p procedures e in
       (and_parts (list_all (is_specification t.globals p) p.specs) (is_body_if_any (context_of t.globals t.procs p) p.body) whole).0
 
   procedure_rest : (n : ℕ) (p : TypedProcedure) → slice_get t.procs n ≡ Some p → (are_locals p && (are_modified t.globals p.modifies && is_body_shaped t.procs p.body)) ≡ true

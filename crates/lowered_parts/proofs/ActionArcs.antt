@@ -12,8 +12,8 @@ use Rattle.cond_jumps.specs.Lists.{path_list, assign_list}
 use Rattle.boogie_points.specs.Points.{Point, at_exit, settled, past_first}
 use Rattle.boogie_points.specs.Actions.{Action, Check, Suppose, Demand, Write, Guess, Test, Pick, Jump, Enter, Keep, Grant, Finish, Leave, guarded, checked, one_of, unseen_action, chosen_columns, ensured_conditions}
 use Rattle.boogie_points.specs.Starts.{point_of_call, targets_at}
-use Rattle.letter_table.specs.Letters.{Arc, inside_arc, call_arc}
-use Rattle.lowered_steps.specs.ProgramFrames.{frame_at, number_in}
+use Rattle.letter_table.specs.Letters.{Arc, inside_arc, call_arc, exact_act}
+use Rattle.lowered_steps.specs.ProgramFrames.{frame_at, column_number}
 use Rattle.lowered_steps.specs.Edges.{Spot, At, Wrong, Edge, leads, no_rows, skips, inside_edges, import_written, import_list, import_edges, call_list, numbers_in, passed_list}
 use Rattle.lowered_graph.specs.Arcs.{place_number, error_place, spot_number, return_place, inside_arcs, call_arcs, action_arcs}
 use Rattle.lowered_graph.specs.Lowered.{action_sites}
@@ -39,10 +39,10 @@ module _ (t : TypedProgram) (n : ℕ) (here : Point) where
   -- an edge for each member of a list
   pub inside_list : (written : List ℕ) (cs : List Conjunction) (to : Spot) → inside_arcs t n here (leads written cs to) ≡ list_arcs n place written cs (spot_number t n to)
   inside_list written cs to =
-      map_twice (λ e. inside_arc place (inside_act n e.written e.rows.helpers e.rows.rows) (spot_number t n e.to)) (λ c. record { to = to; written = written; rows = c }) cs
+      map_twice (λ e. inside_arc place (exact_act (inside_act n e.written e.rows.helpers e.rows.rows)) (spot_number t n e.to)) (λ c. record { to = to; written = written; rows = c }) cs
 
   pub inside_both : (xs ys : List Edge) → inside_arcs t n here (xs ++ ys) ≡ inside_arcs t n here xs ++ inside_arcs t n here ys
-  inside_both xs ys = map-append (λ e. inside_arc place (inside_act n e.written e.rows.helpers e.rows.rows) (spot_number t n e.to)) xs ys
+  inside_both xs ys = map-append (λ e. inside_arc place (exact_act (inside_act n e.written e.rows.helpers e.rows.rows)) (spot_number t n e.to)) xs ys
 
   two_lists : (cs ds : List Conjunction) (hit miss : Spot) →
       inside_arcs t n here (leads [] cs hit ++ leads [] ds miss) ≡ list_arcs n place [] cs (spot_number t n hit) ++ list_arcs n place [] ds (spot_number t n miss)
@@ -69,8 +69,8 @@ module _ (t : TypedProgram) (n : ℕ) (here : Point) where
       action_arcs t n here (Write cs es next) ≡ list_arcs n place (numbers_in (frame_at t n) cs) (assign_list (frame_at t n) (length es) es) (place_number t n next)
   write_arcs cs es next = inside_list (numbers_in (frame_at t n) cs) (assign_list (frame_at t n) (length es) es) (At next)
 
-  pub guess_arcs : (c : Column) (next : Point) → action_arcs t n here (Guess c next) ≡ skip_arcs n place (number_in (frame_at t n) c ∷ []) (place_number t n next)
-  guess_arcs c next = inside_list (number_in (frame_at t n) c ∷ []) no_rows (At next)
+  pub guess_arcs : (c : Column) (next : Point) → action_arcs t n here (Guess c next) ≡ skip_arcs n place (column_number (frame_at t n) c ∷ []) (place_number t n next)
+  guess_arcs c next = inside_list (column_number (frame_at t n) c ∷ []) no_rows (At next)
 
   skips_arcs : (ways : List Point) → inside_arcs t n here (skips ways) ≡ ways_arcs n place (map (place_number t n) ways)
   skips_arcs [] = refl

@@ -17,7 +17,7 @@ use Rattle.lowered_steps.specs.ProgramFrames.{frame_at}
 use Rattle.lowered_steps.specs.Edges.{call_list, numbers_in}
 use Rattle.lowered_graph.specs.Arcs.{place_number, error_place, return_place, arcs_at, arcs_of, action_arcs}
 use Rattle.lowered_graph.specs.Lowered.{action_sites, sites_of}
-use Rattle.lowered_graph.specs.Items.{Needed, Item, import_needed, call_needed, needed_at, needed_by, all_needed, items_at, items_of, begins_item, place_span, item_places}
+use Rattle.lowered_graph.specs.Items.{Needed, ProgramItem, import_needed, call_needed, needed_at, needed_by, all_needed, items_at, items_of, begins_item, place_span, item_places}
 use Rattle.lowered_parts.specs.Parts.{Walked, Leads, Adds}
 use Rattle.lowered_parts.specs.Lists.{demand_arcs, demand_needed, entered_arcs}
 use Rattle.lowered_parts.specs.Making.{Makes, noted, MakesItem}
@@ -62,7 +62,7 @@ none_behind (x ∷ xs) = none_behind xs
 -- a place that begins no item
 unbegun : (t : TypedProgram) (p : Place) → begins_item t p ≡ false → items_at t p ≡ []
 unbegun t p e =
-    let item : List Item = record { span = place_span t p; needed = all_needed t (item_places t p) } ∷ [] in
+    let item : List ProgramItem = record { span = place_span t p; needed = all_needed t (item_places t p) } ∷ [] in
     ap (λ (b : Bool). if b then item else []) e
 
 -- ---- the calls of a body
@@ -173,7 +173,7 @@ module _ (t : TypedProgram) (n : ℕ) (q : TypedProcedure) (body : TypedBlock) (
     no_items k zero h l = refl
     no_items k (suc m) h l =
         let first : items_at t (record { proc = n; point = part k }) ≡ [] = unbegun t (record { proc = n; point = part k }) (later k h l) in
-        ap (λ (xs : List Item). xs ++ items_of t (located n (parts_from calling (k + 1) m))) first ∙ no_items (k + 1) m (omega arith) l
+        ap (λ (xs : List ProgramItem). xs ++ items_of t (located n (parts_from calling (k + 1) m))) first ∙ no_items (k + 1) m (omega arith) l
 
     rest_none : (m : ℕ) → m ≡ parts → items_of t (located n (parts_from calling 1 m)) ≡ []
     rest_none zero e = refl
@@ -185,11 +185,11 @@ module _ (t : TypedProgram) (n : ℕ) (q : TypedProcedure) (body : TypedBlock) (
     pub one_call : items_of t (located n (parts_from calling 0 (parts + 1))) ≡ record { span = sp; needed = all_needed t (located n (parts_from calling 0 (parts + 1))) } ∷ []
     one_call =
         let e : parts + 1 ≡ suc parts = omega arith in
-        let item : Item = record { span = sp; needed = all_needed t (located n (parts_from calling 0 (parts + 1))) } in
+        let item : ProgramItem = record { span = sp; needed = all_needed t (located n (parts_from calling 0 (parts + 1))) } in
         let first : items_at t (record { proc = n; point = part 0 }) ≡ item ∷ [] =
         ap (λ (x : Span). record { span = x; needed = all_needed t (located n (parts_from calling 0 (parts + 1))) } ∷ []) (numbers.span_at t n q body found whole s b loop id at under 0) in
         ap (λ (m : ℕ). items_of t (located n (parts_from calling 0 m))) e
-        ∙ ap (λ (xs : List Item). xs ++ items_of t (located n (parts_from calling 1 parts))) first ∙ ap (λ (xs : List Item). item ∷ xs) (rest_none parts refl)
+        ∙ ap (λ (xs : List ProgramItem). xs ++ items_of t (located n (parts_from calling 1 parts))) first ∙ ap (λ (xs : List ProgramItem). item ∷ xs) (rest_none parts refl)
 
     pub call_added : (w c : Bool) (old mid new : Walked) → old.program ≡ t → PartsMade (parts + 1) w c old mid → new ≡ noted mid sp w c →
         Adds (located n (points_in t.procs s b loop id at under)) old new

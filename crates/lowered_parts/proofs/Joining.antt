@@ -14,7 +14,7 @@ use Rattle.boogie_places.specs.Places.{Place}
 use Rattle.letter_table.specs.Letters.{Arc, Lettered, with_arc, with_arcs}
 use Rattle.lowered_graph.specs.Arcs.{arcs_at, arcs_of}
 use Rattle.lowered_graph.specs.Lowered.{action_sites, sites_of}
-use Rattle.lowered_graph.specs.Items.{Needed, Item, ItemFault, fault_span, stands_before, earlier, item_fault, first_of, items_at, items_of}
+use Rattle.lowered_graph.specs.Items.{Needed, ProgramItem, ItemFault, fault_span, stands_before, earlier, item_fault, first_of, items_at, items_of}
 use Rattle.lowered_parts.specs.Parts.{Walked, some_is_wide, some_is_big, IsTrouble, Leads, Adds}
 use Rattle.lowered_parts.specs.Making.{Makes}
 
@@ -36,7 +36,7 @@ sites_of-append t (p ∷ ps) qs =
 
 pub items_of-append : (t : TypedProgram) (ps qs : List Place) → items_of t (ps ++ qs) ≡ items_of t ps ++ items_of t qs
 items_of-append t [] qs = refl
-items_of-append t (p ∷ ps) qs = ap (λ (xs : List Item). items_at t p ++ xs) (items_of-append t ps qs) ∙ sym (append_assoc (items_at t p) (items_of t ps) (items_of t qs))
+items_of-append t (p ∷ ps) qs = ap (λ (xs : List ProgramItem). items_at t p ++ xs) (items_of-append t ps qs) ∙ sym (append_assoc (items_at t p) (items_of t ps) (items_of t qs))
 
 -- ---- the earlier fault
 
@@ -85,7 +85,7 @@ none_first None b e = refl
 none_first (Some f) None e = e
 none_first (Some f) (Some g) e = some_always (stands_before (fault_span g) (fault_span f)) f g e
 
-pub first_of-append : (xs ys : List Item) → first_of (xs ++ ys) ≡ earlier (first_of xs) (first_of ys)
+pub first_of-append : (xs ys : List ProgramItem) → first_of (xs ++ ys) ≡ earlier (first_of xs) (first_of ys)
 first_of-append [] ys = refl
 first_of-append (x ∷ xs) ys = ap (λ (f : Option ItemFault). earlier (item_fault x) f) (first_of-append xs ys) ∙ sym (earlier_assoc (item_fault x) (first_of xs) (first_of ys))
 

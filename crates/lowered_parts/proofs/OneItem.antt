@@ -10,7 +10,7 @@ use Rattle.boogie_places.specs.Places.{Place, located, parts_from}
 use Rattle.letter_table.specs.Letters.{Arc, with_arcs}
 use Rattle.lowered_graph.specs.Arcs.{action_arcs, arcs_of}
 use Rattle.lowered_graph.specs.Lowered.{action_sites, sites_of}
-use Rattle.lowered_graph.specs.Items.{Needed, Item, ItemFault, TooWide, TooBig, earlier, item_fault, first_of, items_of, needed_by, place_span, stage_parts, begins_item, item_places, all_needed}
+use Rattle.lowered_graph.specs.Items.{Needed, ProgramItem, ItemFault, TooWide, TooBig, earlier, item_fault, first_of, items_of, needed_by, place_span, stage_parts, begins_item, item_places, all_needed}
 use Rattle.lowered_parts.specs.Parts.{Walked, some_is_wide, some_is_big, IsTrouble, Leads, Adds}
 use Rattle.lowered_parts.specs.Making.{Makes, trouble_at, noted, asserted, MakesItem}
 use Rattle.lowered_parts.proofs.Joining.{earlier_none, no_more, both_made, made, none_first}
@@ -47,7 +47,7 @@ pub one_item : (t : TypedProgram) (ps : List Place) (at : Span) (needed : List N
     old.program ≡ t → map (λ s. s.1) (sites_of t ps) ≡ ss → arcs_of t ps ≡ arcs → items_of t ps ≡ record { span = at; needed = needed } ∷ [] →
     MakesItem at ss arcs needed old new → Adds ps old new
 one_item t ps at needed arcs ss old new p s a i m =
-    let item : Item = record { span = at; needed = needed } in
+    let item : ProgramItem = record { span = at; needed = needed } in
     let faults : new.fault ≡ earlier m.mid.fault (trouble_at at m.wide m.big) = ap (λ (x : Walked). x.fault) m.faults in
     let told : trouble_at at m.wide m.big ≡ item_fault item = fault_told needed at m.wide m.big m.made.trouble in
     let one : first_of (items_of t ps) ≡ item_fault item = ap first_of i ∙ earlier_none (item_fault item) in
@@ -135,7 +135,7 @@ module _ (t : TypedProgram) (n : ℕ) (here : Point) (a : Action) (at : Span) wh
       let places : item_places t place ≡ place ∷ [] = ap (λ (k : ℕ). map (λ point. record { proc = n; point = point }) (parts_from here here.part k)) one in
       let lists : all_needed t (item_places t place) ≡ needed_by t n here a =
       ap (all_needed t) places ∙ no_more (needed_by t n here (action_at t n here)) ∙ ap (needed_by t n here) e in
-      let item : List Item = record { span = place_span t place; needed = all_needed t (item_places t place) } ∷ [] in
+      let item : List ProgramItem = record { span = place_span t place; needed = all_needed t (item_places t place) } ∷ [] in
       let same : item ≡ record { span = at; needed = needed_by t n here a } ∷ [] =
       ap (λ (x : Span). record { span = x; needed = all_needed t (item_places t place) } ∷ []) s ∙ ap (λ (l : List Needed). record { span = at; needed = l } ∷ []) lists in
       no_more (if begins_item t place then item else []) ∙ ap (λ (b : Bool). if b then item else []) first ∙ same

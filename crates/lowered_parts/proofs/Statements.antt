@@ -12,7 +12,7 @@ use Rattle.boogie_points.specs.Points.{Todo, Point, at_exit, before, settled, pa
 use Rattle.boogie_points.specs.Actions.{Action, action_at, statement_action, Check, Suppose, Write, Guess, Jump, checked, guarded, head_action, havoc_action, one_of, ways_to, point_behind, next_part}
 use Rattle.boogie_places.specs.Places.{at_statement, points_in, points_of, located, parts_from}
 use Rattle.letter_table.specs.Letters.{Arc}
-use Rattle.lowered_steps.specs.ProgramFrames.{frame_at, number_in}
+use Rattle.lowered_steps.specs.ProgramFrames.{frame_at, column_number}
 use Rattle.lowered_steps.specs.Edges.{numbers_in}
 use Rattle.lowered_graph.specs.Arcs.{place_number, error_place, action_arcs}
 use Rattle.lowered_graph.specs.Lowered.{action_sites}
@@ -167,16 +167,16 @@ module _ (t : TypedProgram) (n : ℕ) (q : TypedProcedure) (body : TypedBlock) (
 
     pub havoc_added : (sp : Span) (cs : List Column) (i : ℕ) (c : Column) (to : ℕ) (old new : Walked) → old.program ≡ t → slice_get cs i ≡ Some c →
         ((d : Column) → slice_get cs (i + 1) ≡ Some d → to ≡ at + (i + 1)) → (slice_get cs (i + 1) ≡ None → to ≡ behind (Havoc sp cs)) →
-        Leads (skip_arcs n (at + i) (number_in (frame_at t n) c ∷ []) to) [] false false old new → Adds (located n (point (Havoc sp cs) i ∷ [])) old new
+        Leads (skip_arcs n (at + i) (column_number (frame_at t n) c ∷ []) to) [] false false old new → Adds (located n (point (Havoc sp cs) i ∷ [])) old new
     havoc_added sp cs i c to old new p e go end h =
         let here : Point = point (Havoc sp cs) i in
         let d = havoc_does (slice_get cs i) (slice_get cs (i + 1)) c here (settled (past t.procs (Havoc sp cs) b loop id at ∷ under)) e to
         (λ x y. go x y ∙ sym (numbered (Havoc sp cs) (i + 1))) end in
-        let edges : List Arc = skip_arcs n (at + i) (number_in (frame_at t n) c ∷ []) to in
+        let edges : List Arc = skip_arcs n (at + i) (column_number (frame_at t n) c ∷ []) to in
         placed t n here (Guess c d.0) sp [] edges [] old new
         (does (Havoc sp cs) i ∙ d.1) (span (Havoc sp cs) i) refl p refl
-        (arcs.guess_arcs t n here c d.0 ∙ ap (λ (x : ℕ). skip_arcs n x (number_in (frame_at t n) c ∷ []) (place_number t n d.0)) (numbered (Havoc sp cs) i)
-        ∙ ap (λ (x : ℕ). skip_arcs n (at + i) (number_in (frame_at t n) c ∷ []) x) (sym d.2))
+        (arcs.guess_arcs t n here c d.0 ∙ ap (λ (x : ℕ). skip_arcs n x (column_number (frame_at t n) c ∷ []) (place_number t n d.0)) (numbered (Havoc sp cs) i)
+        ∙ ap (λ (x : ℕ). skip_arcs n (at + i) (column_number (frame_at t n) c ∷ []) x) (sym d.2))
         refl (plain_item sp edges old new h)
 
     -- ---- an if, and the head of a loop

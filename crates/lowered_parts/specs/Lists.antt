@@ -5,13 +5,13 @@ use Rattle.letter_acts.specs.Acts.{inside_act, call_act}
 use Rattle.letter_acts.specs.Frames.{Columns}
 use Rattle.cond_jumps.specs.Conjunctions.{Conjunction}
 use Rattle.cond_jumps.specs.Lists.{path_list, assign_list, assign_plan, assign_width}
-use Rattle.letter_table.specs.Letters.{Arc, inside_arc, call_arc}
+use Rattle.letter_table.specs.Letters.{Arc, inside_arc, call_arc, exact_act}
 use Rattle.lowered_steps.specs.Edges.{no_rows, passed_list}
 use Rattle.lowered_graph.specs.Items.{Needed, path_needed, passed_needed}
 
 -- an edge of procedure n for each member of a list, from one place to another; each writes these columns
 abbrev pub list_arcs : ℕ → ℕ → List ℕ → List Conjunction → ℕ → List Arc
-list_arcs n place written cs to = map (λ c. inside_arc place (inside_act n written c.helpers c.rows) to) cs
+list_arcs n place written cs to = map (λ c. inside_arc place (exact_act (inside_act n written c.helpers c.rows)) to) cs
 
 -- one that writes these columns with any values
 abbrev pub skip_arcs : ℕ → ℕ → List ℕ → ℕ → List Arc
@@ -48,4 +48,4 @@ demand_needed frame args e = passed_needed frame args e true ∷ passed_needed f
 -- a call of procedure f for each member of a list: from a place to the callee's entry, and back from where it returns, with its results to
 -- these columns, behind the call
 abbrev pub entered_arcs : ℕ → ℕ → ℕ → ℕ → ℕ → List ℕ → ℕ → List Conjunction → List Arc
-entered_arcs n f place entry exit targets behind cs = map (λ c. call_arc place (call_act n f c.helpers c.rows) entry exit targets behind) cs
+entered_arcs n f place entry exit targets behind cs = map (λ c. call_arc place (exact_act (call_act n f c.helpers c.rows)) entry exit targets behind) cs

@@ -162,7 +162,7 @@ module _ (t : TypedProgram) (Known : ℕ → Point → Type 0) (know : KnowsPoin
       let rest : shown_below t f.entry fs ≡ y.below = cc in
       let r : Config = resumed c f fs in
       let cs : List Column = targets_at f.point.todo in
-      let zs : List ℤ = steps.results_of t c.top in
+      let zs : List ℤ = steps.results_left t c.top in
       let wr : IsWritten r (all_written r cs zs) (all_state_written (state_of r) cs zs) = all_written_is r cs zs in
       let led : BackLeads (frame_at t f.proc) (frame_at t c.top.proc) k.helpers k.rows (numbers_in (frame_at t f.proc) cs) (shown t (state_of c)) (shown t (waiting c f)) y.values =
       subst (λ (x : Pending). BackLeads (frame_at t x.proc) (frame_at t c.top.proc) k.helpers k.rows (numbers_in (frame_at t x.proc) (targets_at x.point.todo)) (shown t (state_of c)) x.values y.values) (sym pending) leads in

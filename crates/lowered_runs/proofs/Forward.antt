@@ -72,11 +72,11 @@ module _ (t : TypedProgram) (Known : ℕ → Point → Type 0) (know : KnowsPoin
       let next : Point = settled (past_first t.procs b.point.todo) in
       let leads : AllByRecursion (Known b.proc) (onward t.procs b.point (actions.Enter c.top.proc waits.args)) =
       subst (λ (a : Action). AllByRecursion (Known b.proc) (onward t.procs b.point a)) waits.calls (know.onward b.proc b.point below.0.known) in
-      let x : Config = moved_to (all_written (resumed c b rest) (targets_at b.point.todo) (steps.results_of t c.top)) next in
+      let x : Config = moved_to (all_written (resumed c b rest) (targets_at b.point.todo) (steps.results_left t c.top)) next in
       let same : x ≡ mid = cc in
       subst (Follows c) same (record {
         step = leave_goes t c b rest opened is g.top.keeps keeps waits (know.constants_first c.top.proc) (know.constants_first b.proc);
-        good = written_good t Known (resumed c b rest) (targets_at b.point.todo) (steps.results_of t c.top) next (resumed_keeps t c b rest g.top.keeps keeps) below.2
+        good = written_good t Known (resumed c b rest) (targets_at b.point.todo) (steps.results_left t c.top) next (resumed_keeps t c b rest g.top.keeps keeps) below.2
             (results_taken t c b g.top.keeps waits) leads.0;
       })
 

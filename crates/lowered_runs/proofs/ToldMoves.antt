@@ -13,7 +13,7 @@ use Rattle.typed_tree.specs.TypedTree.{TypedExpression, TypedProgram}
 use Rattle.typed_tree.specs.Values.{State, value, member, column_value}
 use Rattle.lin_rows.specs.Points.{point_of}
 use Rattle.letter_acts.specs.Frames.{old_columns}
-use Rattle.cond_jumps.specs.Frames.{place}
+use Rattle.cond_jumps.specs.Frames.{column_place_in}
 use Rattle.cond_jumps.proofs.FrameLemmas.{placed}
 use Rattle.boogie_points.specs.Points.{Point}
 use Rattle.boogie_points.specs.Actions as actions
@@ -23,29 +23,29 @@ use Rattle.boogie_run.specs.Configurations.{Config, state_of}
 use Rattle.boogie_run.specs.Needs.{Need, Nothing, need_of_column, need_of_action, is_taken, locals_at}
 use Rattle.math_facts.specs.Optional.{or_zero as number_chosen}
 use Rattle.boogie_run.specs.Steps.{Went, act, put, moved_to, written, values, entered, went_if}
-use Rattle.lowered_steps.specs.ProgramFrames.{frame_at, shown, variable_values, number_in, number_if_any}
+use Rattle.lowered_steps.specs.ProgramFrames.{frame_at, shown, variable_values, column_number, column_number_if_any}
 use Rattle.lowered_steps.specs.Edges.{Spot, At, columns_before_locals}
 use Rattle.lowered_steps.specs.Moves.{FrameKeeps, IsTarget, IsTypedAction, IsGood, IsMove, KnowsPoints, shown_stack, filled}
 use Rattle.lowered_steps.proofs.FrameColumns.{types_length, shown_is_shown}
 use Rattle.lowered_steps.proofs.Places.{IsThere, global_place, local_place, before_locals, olds_length}
 use Rattle.lowered_steps.proofs.Writes.{target_there}
 use Rattle.lowered_steps.proofs.Goodness.{done_is, none_missing}
-use Rattle.lowered_runs.specs.Choices.{place_number, way_to, choices_of}
+use Rattle.lowered_runs.specs.Choices.{spot_place_number, way_to, choices_of}
 use Rattle.lowered_runs.proofs.Taken.{WentWay, went_way, some_taken, taken_by_need, all_at}
 use Rattle.lowered_runs.proofs.Forward.{IsOwn, Follows, own_or_call, move_own}
 
 -- ---- the value of a column that was written
 
 -- a column of a frame that is shown has its value
-column_read : (t : TypedProgram) (n : ℕ) (s : State) (x : Column) → FrameKeeps t n s → IsThere t n x → point_of (shown t s) (number_in (frame_at t n) x) ≡ column_value s x
+column_read : (t : TypedProgram) (n : ℕ) (s : State) (x : Column) → FrameKeeps t n s → IsThere t n x → point_of (shown t s) (column_number (frame_at t n) x) ≡ column_value s x
 column_read t n s (columns.Global g) k h =
-    let e : place (frame_at t n) (columns.Global g) ≡ Some (g, h.0) = global_place t n g h.0 h.1 in
-    let at : number_in (frame_at t n) (columns.Global g) ≡ g = ap number_if_any e in
+    let e : column_place_in (frame_at t n) (columns.Global g) ≡ Some (g, h.0) = global_place t n g h.0 h.1 in
+    let at : column_number (frame_at t n) (columns.Global g) ≡ g = ap column_number_if_any e in
     ap (point_of (shown t s)) at ∙ (placed (frame_at t n) s (shown t s) (columns.Global g) (g, h.0) (shown_is_shown t n s k) e).value_is
 column_read t n s (columns.Old g) k h = absurd h
 column_read t n s (columns.Local l) k h =
-    let e : place (frame_at t n) (columns.Local l) ≡ Some (before_locals t + l, h.0) = local_place t n l h.0 h.1 in
-    let at : number_in (frame_at t n) (columns.Local l) ≡ before_locals t + l = ap number_if_any e in
+    let e : column_place_in (frame_at t n) (columns.Local l) ≡ Some (before_locals t + l, h.0) = local_place t n l h.0 h.1 in
+    let at : column_number (frame_at t n) (columns.Local l) ≡ before_locals t + l = ap column_number_if_any e in
     ap (point_of (shown t s)) at ∙ (placed (frame_at t n) s (shown t s) (columns.Local l) (before_locals t + l, h.0) (shown_is_shown t n s k) e).value_is
 
 member_put : (zs : List ℤ) (n : ℕ) (z : ℤ) → n < length zs → member (put zs n z) n ≡ z
@@ -136,9 +136,9 @@ module _ (t : TypedProgram) (Known : ℕ → Point → Type 0) (know : KnowsPoin
       let d_is : d ≡ moved_to (written c x z) next = same ∙ mid_is in
       let there : IsThere t n x = target_there t n typed.0 x typed.1 in
       let keeps : FrameKeeps t n (state_of (written c x z)) = written_keeps c x z next (subst (IsGood t Known) d_is h) in
-      let read : point_of (shown t (state_of (written c x z))) (number_in (frame_at t n) x) ≡ z =
+      let read : point_of (shown t (state_of (written c x z))) (column_number (frame_at t n) x) ≡ z =
       column_read t n (state_of (written c x z)) x keeps there ∙ written_value t c x z g.top.keeps there in
-      let shown_is : point_of (shown t (state_of d)) (number_in (frame_at t n) x) ≡ z = ap (λ (e : Config). point_of (shown t (state_of e)) (number_in (frame_at t n) x)) d_is ∙ read in
+      let shown_is : point_of (shown t (state_of d)) (column_number (frame_at t n) x) ≡ z = ap (λ (e : Config). point_of (shown t (state_of e)) (column_number (frame_at t n) x)) d_is ∙ read in
       record {
         move = m;
         told = λ helpers. ap (λ (a : Action). choices_of t n c.top.point a helpers (shown_stack t d)) is ∙ (λ i. Some (shown_is i) ∷ []) ∙ (λ i. sym some i ∷ map Some (sym none i));
@@ -163,7 +163,7 @@ module _ (t : TypedProgram) (Known : ℕ → Point → Type 0) (know : KnowsPoin
       let taken : is_taken (need_of_action t n (actions.Pick ways)) (Some (pos k)) ≡ true = below_is k (length ways) inside in
       let goes : act t c (pos k) (actions.Pick ways) ≡ Went m.mid = ap (λ (o : Option Point). went_if o c) found ∙ ap Went w.same in
       let spot : (shown_stack t d).spot ≡ At p = ap (λ (e : Config). At e.top.point) (same ∙ sym w.same) in
-      let number : way_to t n (place_number t n (shown_stack t d).spot) ways ≡ k = ap (λ (x : Spot). way_to t n (place_number t n x) ways) spot in
+      let number : way_to t n (spot_place_number t n (shown_stack t d).spot) ways ≡ k = ap (λ (x : Spot). way_to t n (spot_place_number t n x) ways) spot in
       record {
         move = record {
           plain = m.plain;

@@ -9,7 +9,7 @@ use Rattle.boogie_points.specs.Actions as actions
 use Rattle.boogie_points.specs.Actions.{Action, action_at, ensured_conditions}
 use Rattle.boogie_points.specs.Starts.{targets_at}
 use Rattle.boogie_places.specs.Places.{number_of}
-use Rattle.lowered_steps.specs.ProgramFrames.{frame_at, number_in}
+use Rattle.lowered_steps.specs.ProgramFrames.{frame_at, column_number}
 use Rattle.lowered_steps.specs.Edges.{Spot, At, Wrong, numbers_in, columns_before_locals}
 use Rattle.lowered_steps.specs.Stacks.{Stack, IsStep}
 use Rattle.lowered_imports.specs.Imports.{import_choices, told_globals}
@@ -18,9 +18,9 @@ use Rattle.lowered_imports.specs.Laws.{helpers_of}
 -- ---- one step
 
 -- the number of a place; 0 for the failing of an assertion
-abbrev pub place_number : TypedProgram → ℕ → Spot → ℕ
-place_number t n (At p) = number_of t (record { proc = n; point = p })
-place_number t n (Wrong i) = 0
+abbrev pub spot_place_number : TypedProgram → ℕ → Spot → ℕ
+spot_place_number t n (At p) = number_of t (record { proc = n; point = p })
+spot_place_number t n (Wrong i) = 0
 
 -- the first of these ways that leads to the place of that number
 abbrev pub way_to : TypedProgram → ℕ → ℕ → List Point → ℕ
@@ -36,8 +36,8 @@ call_choices globals (Some q) targets helpers after =
 -- The choices of the steps of a run that an action of procedure n stands for, with the helpers of the machine's step and the stack behind it: one a
 -- step, None where nothing is chosen. An entry is followed by the choices of its results and locals.
 abbrev pub choices_of : TypedProgram → ℕ → Point → Action → List ℤ → Stack → List (Option ℤ)
-choices_of t n p (actions.Guess c next) helpers y = Some (point_of y.values (number_in (frame_at t n) c)) ∷ []
-choices_of t n p (actions.Pick ways) helpers y = Some (pos (way_to t n (place_number t n y.spot) ways)) ∷ []
+choices_of t n p (actions.Guess c next) helpers y = Some (point_of y.values (column_number (frame_at t n) c)) ∷ []
+choices_of t n p (actions.Pick ways) helpers y = Some (pos (way_to t n (spot_place_number t n y.spot) ways)) ∷ []
 choices_of t n p (actions.Enter f args) helpers y = None ∷ map Some (drop (columns_before_locals t + length args) y.values)
 choices_of t n p (actions.Keep f args c next) helpers y = call_choices t.globals (slice_get t.procs f) (numbers_in (frame_at t n) (targets_at p.todo)) helpers y.values
 choices_of t n p (actions.Grant f args e next) helpers y = call_choices t.globals (slice_get t.procs f) (numbers_in (frame_at t n) (targets_at p.todo)) helpers y.values

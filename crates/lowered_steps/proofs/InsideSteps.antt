@@ -11,7 +11,7 @@ use Rattle.letter_acts.specs.Meaning.{InsideLeads}
 use Rattle.cond_jumps.specs.Conjunctions.{Conjunction}
 use Rattle.cond_jumps.specs.Lists.{path_list, IsCondition, IsMet, Decide}
 use Rattle.lin_rows.specs.Points.{point_of}
-use Rattle.cond_jumps.specs.Conjunctions.{listed}
+use Rattle.cond_jumps.specs.Conjunctions.{listed_plan}
 use Rattle.cond_jumps.specs.Environments.{Environment}
 use Rattle.cond_jumps.specs.Frames.{frame_environment}
 use Rattle.cond_jumps.specs.Passing.{passed, standing_environment}
@@ -159,7 +159,7 @@ passed_decides t n s args e want k typed =
     let shows : Shows (length frame) point env (passed_state s args) =
     passed_show (length frame) point (frame_environment frame) s (frame_shows frame s values (shown_is_shown t n s k)) args typed.arguments in
     let choice : IsChoice (length frame) point (paths env false e) (value (passed_state s args) e) = paths_mean (length frame) point env (passed_state s args) shows false e typed.typed typed.linear in (
-      lists.decided_at (length frame) point (listed (paths env false e want)) (value (passed_state s args) e ≡ truth want) values (length frame)
+      lists.decided_at (length frame) point (listed_plan (paths env false e want)) (value (passed_state s args) e ≡ truth want) values (length frame)
           (state_length frame values (shown_state t n s k)) (choice.path want) (omega arith) (agrees_refl (length frame) point),
       choice.truth_value,
     )

@@ -8,7 +8,7 @@ use Rattle.boogie_tree.specs.declared.tree.VarInfo.{VarInfo}
 use Rattle.typed_tree.specs.TypedTree.{TypedProcedure, TypedProgram}
 use Rattle.typed_tree.specs.Values.{State}
 use Rattle.lin_rows.specs.Points.{point_of}
-use Rattle.letter_acts.specs.Frames.{Columns, added, globals_from, old_columns, locals_from, is_result, places, results_of}
+use Rattle.letter_acts.specs.Frames.{Columns, added, globals_from, old_columns, locals_from, is_result, places, result_columns}
 use Rattle.letter_acts.specs.Values.{picked}
 use Rattle.letter_acts.proofs.ListLemmas.{places-append}
 use Rattle.boogie_run.specs.Needs.{locals_at, locals_if_any}
@@ -80,7 +80,7 @@ drop_length (suc n) [] l = absurd (omega arith)
 drop_length (suc n) (z ∷ zs) l = let h = drop_length n zs (omega arith) in omega arith
 
 pub results_picked : (t : TypedProgram) (p : ℕ) (s : State) (q : TypedProcedure) → FrameKeeps t p s → slice_get t.procs p ≡ Some q → HasParameters q → q.params ≤ length q.locals →
-    picked (shown t s) (results_of (frame_at t p)) ≡ drop q.params s.locals
+    picked (shown t s) (result_columns (frame_at t p)) ≡ drop q.params s.locals
 results_picked t p s q k e h l =
     let own : locals_at t p ≡ q.locals = ap locals_if_any e in
     let vs : List VarInfo = locals_at t p in

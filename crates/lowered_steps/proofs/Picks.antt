@@ -5,7 +5,7 @@ use Rattle.boogie_tree.specs.declared.tree.VarInfo.{VarInfo}
 use Rattle.typed_tree.specs.TypedTree.{TypedProgram}
 use Rattle.typed_tree.specs.Values.{State}
 use Rattle.lin_rows.specs.Points.{point_of}
-use Rattle.letter_acts.specs.Frames.{IsFrame, ConstantsFirst, added, globals_from, is_variable, is_constant, places, globals_of, variables_of, constants_of}
+use Rattle.letter_acts.specs.Frames.{IsFrame, ConstantsFirst, added, globals_from, is_variable, is_fixed_column, places, globals_of, variables_of, constants_of}
 use Rattle.letter_acts.specs.Values.{picked}
 use Rattle.letter_acts.proofs.FrameLemmas.{global_count, variables_are, constants_are}
 use Rattle.cond_jumps.specs.Worth.{Read}
@@ -42,7 +42,7 @@ variables_picked values front (z ∷ zs) rest j (v ∷ vs) e l =
     (rw count at (variables_picked values (front ++ z ∷ []) zs rest (suc j) vs more (omega arith)))
 
 constants_picked : (values front zs rest : List ℤ) (j : ℕ) (vs : List VarInfo) → values ≡ front ++ (zs ++ rest) → length zs ≡ length vs →
-    picked values (places is_constant (length front) (globals_from j vs)) ≡ constant_values vs zs
+    picked values (places is_fixed_column (length front) (globals_from j vs)) ≡ constant_values vs zs
 constants_picked values front [] rest j [] e l = refl
 constants_picked values front [] rest j (v ∷ vs) e l = absurd (omega arith)
 constants_picked values front (z ∷ zs) rest j [] e l = absurd (omega arith)
@@ -50,7 +50,7 @@ constants_picked values front (z ∷ zs) rest j (v ∷ vs) e l =
     let more : values ≡ (front ++ z ∷ []) ++ (zs ++ rest) = e ∙ sym (append_assoc front (z ∷ []) (zs ++ rest)) in
     let count : length (front ++ z ∷ []) ≡ suc (length front) = length-append front (z ∷ []) ∙ omega arith in
     let here : point_of values (length front) ≡ z = ap (λ (xs : List ℤ). point_of xs (length front)) e ∙ point_behind front (zs ++ rest) z in
-    picked_added values v.constant (length front) (places is_constant (suc (length front)) (globals_from (suc j) vs)) z (constant_values vs zs) here
+    picked_added values v.constant (length front) (places is_fixed_column (suc (length front)) (globals_from (suc j) vs)) z (constant_values vs zs) here
     (rw count at (constants_picked values (front ++ z ∷ []) zs rest (suc j) vs more (omega arith)))
 
 pub shown_variables : (t : TypedProgram) (n : ℕ) (s : State) → ConstantsFirst (locals_at t n) → length s.globals ≡ length t.globals → picked (shown t s) (variables_of (frame_at t n)) ≡ variable_values t.globals s.globals

@@ -9,10 +9,10 @@ use Rattle.typed_tree.specs.TypedTree.{TypedProgram}
 use Rattle.typed_tree.specs.Values.{State}
 use Rattle.letter_acts.specs.Frames.{Columns, added, globals_from, old_columns, locals_from}
 use Rattle.letter_acts.specs.Values.{put_all}
-use Rattle.cond_jumps.specs.Frames.{same_column, place_from, place}
+use Rattle.cond_jumps.specs.Frames.{same_frame_column, place_from, column_place_in}
 use Rattle.boogie_run.specs.Needs.{locals_at}
 use Rattle.boogie_run.specs.Steps.{put}
-use Rattle.lowered_steps.specs.ProgramFrames.{frame_at, variable_values, shown, number_in, number_if_any}
+use Rattle.lowered_steps.specs.ProgramFrames.{frame_at, variable_values, shown, column_number, column_number_if_any}
 use Rattle.lowered_steps.specs.Edges.{numbers_in}
 use Rattle.std.specs.List.{AllByRecursion}
 use Rattle.std.proofs.lemmas.Option.{slice_get_within}
@@ -26,11 +26,11 @@ other_number : (m n : ℕ) → m < n → nat_eq m n ≡ false
 other_number m n l = grind (arith, nat_tests)
 
 -- the first column is found where it is the one that is looked for
-found_first : (k : ℕ) (d : Column × VarInfo) (ds : Columns) (c : Column) → same_column d.0 c ≡ true → place_from k (d ∷ ds) c ≡ Some (k, d.1)
+found_first : (k : ℕ) (d : Column × VarInfo) (ds : Columns) (c : Column) → same_frame_column d.0 c ≡ true → place_from k (d ∷ ds) c ≡ Some (k, d.1)
 found_first k d ds c e = rw e refl
 
 -- and else behind it
-found_later : (k : ℕ) (d : Column × VarInfo) (ds : Columns) (c : Column) → same_column d.0 c ≡ false → place_from k (d ∷ ds) c ≡ place_from (suc k) ds c
+found_later : (k : ℕ) (d : Column × VarInfo) (ds : Columns) (c : Column) → same_frame_column d.0 c ≡ false → place_from k (d ∷ ds) c ≡ place_from (suc k) ds c
 found_later k d ds c e = rw e refl
 
 place_of_global : (k j : ℕ) (vs : List VarInfo) (rest : Columns) (n : ℕ) (v : VarInfo) → slice_get vs n ≡ Some v → place_from k (globals_from j vs ++ rest) (columns.Global (j + n)) ≡ Some (k + n, v)
@@ -75,7 +75,7 @@ place_of_local k j (w ∷ ws) (suc n) v e =
     let c : nat_eq j (suc j + n) ≡ false = other_number j (suc j + n) (omega arith) in
     rw (a, b) (found_later k (columns.Local j, w) (locals_from (suc j) ws) (columns.Local (suc j + n)) c ∙ place_of_local (suc k) (suc j) ws n v e)
 
-pub global_place : (t : TypedProgram) (p n : ℕ) (v : VarInfo) → slice_get t.globals n ≡ Some v → place (frame_at t p) (columns.Global n) ≡ Some (n, v)
+pub global_place : (t : TypedProgram) (p n : ℕ) (v : VarInfo) → slice_get t.globals n ≡ Some v → column_place_in (frame_at t p) (columns.Global n) ≡ Some (n, v)
 global_place t p n v e =
     let z : 0 + n ≡ n = omega arith in
     rw z at (place_of_global 0 0 t.globals (old_columns 0 t.globals ++ locals_from 0 (locals_at t p)) n v e)
@@ -115,7 +115,7 @@ no_global_place t p n e =
 abbrev pub before_locals : TypedProgram → ℕ
 before_locals t = length t.globals + length (old_columns 0 t.globals)
 
-pub local_place : (t : TypedProgram) (p n : ℕ) (v : VarInfo) → slice_get (locals_at t p) n ≡ Some v → place (frame_at t p) (columns.Local n) ≡ Some (before_locals t + n, v)
+pub local_place : (t : TypedProgram) (p n : ℕ) (v : VarInfo) → slice_get (locals_at t p) n ≡ Some v → column_place_in (frame_at t p) (columns.Local n) ≡ Some (before_locals t + n, v)
 local_place t p n v e =
     let z : 0 + n ≡ n = omega arith in
     let y : 0 + length t.globals ≡ length t.globals = omega arith in
@@ -181,20 +181,20 @@ IsThere t p (columns.Old n) = ⊥
 IsThere t p (columns.Local n) = (v : VarInfo) × (slice_get (locals_at t p) n ≡ Some v)
 
 pub written_shown : (t : TypedProgram) (p : ℕ) (s : State) (c : Column) (v : ℤ) → IsLong t s → IsThere t p c →
-    slice_set (shown t s) (number_in (frame_at t p) c) v ≡ shown t (state_written s c v)
+    slice_set (shown t s) (column_number (frame_at t p) c) v ≡ shown t (state_written s c v)
 written_shown t p s (columns.Old n) v l h = absurd h
 written_shown t p s (columns.Global n) v l (x, e) =
     let rest : List ℤ = variable_values t.globals s.old ++ s.locals in
-    let at : number_in (frame_at t p) (columns.Global n) ≡ n = ap number_if_any (global_place t p n x e) in
+    let at : column_number (frame_at t p) (columns.Global n) ≡ n = ap column_number_if_any (global_place t p n x e) in
     let inside : n < length t.globals = slice_get_within t.globals n x e in
     rw at (put_is_set (s.globals ++ rest) n v ∙ put_in_front s.globals rest n v (let g = l.globals in omega arith))
 written_shown t p s (columns.Local n) v l (x, e) =
     let olds : List ℤ = variable_values t.globals s.old in
-    let at : number_in (frame_at t p) (columns.Local n) ≡ before_locals t + n = ap number_if_any (local_place t p n x e) in
+    let at : column_number (frame_at t p) (columns.Local n) ≡ before_locals t + n = ap column_number_if_any (local_place t p n x e) in
     let counted : length olds ≡ length (old_columns 0 t.globals) = olds_length 0 t.globals s.old l.old in
     let g : length s.globals ≡ length t.globals = l.globals in
-    let place : before_locals t + n ≡ length s.globals + (length olds + n) = omega arith in
-    rw (at, place) (put_is_set (s.globals ++ (olds ++ s.locals)) (length s.globals + (length olds + n)) v
+    let column_place_in : before_locals t + n ≡ length s.globals + (length olds + n) = omega arith in
+    rw (at, column_place_in) (put_is_set (s.globals ++ (olds ++ s.locals)) (length s.globals + (length olds + n)) v
     ∙ put_behind s.globals (olds ++ s.locals) (length olds + n) v
     ∙ ap (λ (zs : List ℤ). s.globals ++ zs) (put_behind olds s.locals n v))
 

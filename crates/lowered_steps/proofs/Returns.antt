@@ -9,7 +9,7 @@ use Rattle.boogie_tree.specs.declared.tree.VarInfo.{VarInfo}
 use Rattle.typed_tree.specs.TypedTree.{TypedProcedure, TypedProgram}
 use Rattle.typed_tree.specs.Values.{State, value, member}
 use Rattle.lin_rows.specs.Points.{point_of}
-use Rattle.letter_acts.specs.Frames.{Columns, ConstantsFirst, added, old_columns, results_of, olds_of, globals_of}
+use Rattle.letter_acts.specs.Frames.{Columns, ConstantsFirst, added, old_columns, result_columns, olds_of, globals_of}
 use Rattle.letter_acts.specs.Values.{picked, put_all}
 use Rattle.letter_acts.specs.Meaning.{BackLeads, returned_values}
 use Rattle.cond_jumps.specs.Worth.{Read}
@@ -23,7 +23,7 @@ use Rattle.boogie_run.specs.Needs.{locals_at, locals_if_any}
 use Rattle.boogie_run.specs.Steps.{values, all_written, moved_to, results_if_any}
 use Rattle.boogie_run.specs.Steps as steps
 use Rattle.typing_rules.specs.Rules.{results_of as results_of_procedure}
-use Rattle.lowered_steps.specs.ProgramFrames.{frame_at, width_at, shown, variable_values, number_in}
+use Rattle.lowered_steps.specs.ProgramFrames.{frame_at, width_at, shown, variable_values, column_number}
 use Rattle.lowered_steps.specs.Edges.{call_list, columns_before_locals, numbers_in}
 use Rattle.lowered_steps.specs.Stacks.{Pending, Stack, IsStep, back}
 use Rattle.lowered_steps.specs.Moves.{HasTypes, FrameKeeps, AreTargets, Awaits, shown_stack, shown_below}
@@ -142,12 +142,12 @@ resumed_keeps t c b rest k h = record {
   constants = λ g v e c. h.constants g v e c ∙ k.constants g v e c;
 }
 
-pub results_taken : (t : TypedProgram) (c : Config) (b : Frame) → FrameKeeps t c.top.proc (state_of c) → (w : Awaits t c.top b) → AreTaken t b.proc (targets_at b.point.todo) (steps.results_of t c.top)
+pub results_taken : (t : TypedProgram) (c : Config) (b : Frame) → FrameKeeps t c.top.proc (state_of c) → (w : Awaits t c.top b) → AreTaken t b.proc (targets_at b.point.todo) (steps.results_left t c.top)
 results_taken t c b k w =
     let q : TypedProcedure = w.procedure in
     let own : locals_at t c.top.proc ≡ q.locals = ap locals_if_any w.is in
     let typed : HasTypes q.locals c.top.locals = subst (λ (vs : List VarInfo). HasTypes vs c.top.locals) own k.locals in
-    let results : steps.results_of t c.top ≡ take q.results (drop q.params c.top.locals) = ap (λ (o : Option TypedProcedure). results_if_any o c.top.locals) w.is in
+    let results : steps.results_left t c.top ≡ take q.results (drop q.params c.top.locals) = ap (λ (o : Option TypedProcedure). results_if_any o c.top.locals) w.is in
     let taken : AreTaken t b.proc (targets_at b.point.todo) (take q.results (drop q.params c.top.locals)) =
     targets_taken t b.proc (results_of_procedure q) (targets_at b.point.todo) (take q.results (drop q.params c.top.locals)) w.targets
     (types_take q.results (drop q.params q.locals) (drop q.params c.top.locals) (types_drop q.params q.locals c.top.locals typed)) in
@@ -162,7 +162,7 @@ take_at_most {X} (suc n) (x ∷ xs) = let h = take_at_most {X = X} n xs in omega
 pub returned_is : (t : TypedProgram) (c : Config) (b : Frame) (rest : List Frame) → FrameKeeps t c.top.proc (state_of c) → FrameKeeps t b.proc (waiting c b) → (w : Awaits t c.top b) →
     ConstantsFirst (locals_at t c.top.proc) → ConstantsFirst (locals_at t b.proc) →
     returned_values (frame_at t b.proc) (frame_at t c.top.proc) (numbers_in (frame_at t b.proc) (targets_at b.point.todo)) (shown t (state_of c)) (shown t (waiting c b))
-    ≡ shown t (all_state_written (state_of (resumed c b rest)) (targets_at b.point.todo) (steps.results_of t c.top))
+    ≡ shown t (all_state_written (state_of (resumed c b rest)) (targets_at b.point.todo) (steps.results_left t c.top))
 returned_is t c b rest k h w first_callee first_caller =
     let q : TypedProcedure = w.procedure in
     let caller : Columns = frame_at t b.proc in
@@ -179,22 +179,22 @@ returned_is t c b rest k h w first_callee first_caller =
     ap (λ (n : ℕ). take n (shown t (state_of c))) counts ∙ shown_globals t c.top.proc (state_of c) first_callee own in
     let behind : drop (length (globals_of caller)) (shown t (waiting c b)) ≡ variable_values t.globals b.entry ++ b.locals = shown_rest t b.proc (waiting c b) first_caller theirs in
     let inside : q.params ≤ length q.locals = (let e = w.enough in omega arith) in
-    let results : picked (shown t (state_of c)) (results_of callee) ≡ zs = results_picked t c.top.proc (state_of c) q k w.is w.shape inside in
-    let run_results : steps.results_of t c.top ≡ take q.results zs = ap (λ (o : Option TypedProcedure). results_if_any o c.top.locals) w.is in
+    let results : picked (shown t (state_of c)) (result_columns callee) ≡ zs = results_picked t c.top.proc (state_of c) q k w.is w.shape inside in
+    let run_results : steps.results_left t c.top ≡ take q.results zs = ap (λ (o : Option TypedProcedure). results_if_any o c.top.locals) w.is in
     let few : length ws ≤ q.results = (
-    let a : length ws ≡ length cs = length-map cs (number_in caller) in
+    let a : length ws ≡ length cs = length-map cs (column_number caller) in
     let d : length cs ≡ length (results_of_procedure q) = targets_length t b.proc (results_of_procedure q) cs w.targets in
     let f : length (results_of_procedure q) ≤ q.results = take_at_most q.results (drop q.params q.locals) in
     omega arith) in
-    let taken : AreTaken t b.proc cs (steps.results_of t c.top) = results_taken t c b k w in
+    let taken : AreTaken t b.proc cs (steps.results_left t c.top) = results_taken t c b k w in
     let kept : FrameKeeps t b.proc s = resumed_keeps t c b rest k h in
-    let written : put_all (shown t s) ws (steps.results_of t c.top) ≡ shown t (all_state_written s cs (steps.results_of t c.top)) =
-    all_written_shown t b.proc s cs (steps.results_of t c.top) (is_long t b.proc s kept) (taken_there t b.proc cs (steps.results_of t c.top) taken) in
+    let written : put_all (shown t s) ws (steps.results_left t c.top) ≡ shown t (all_state_written s cs (steps.results_left t c.top)) =
+    all_written_shown t b.proc s cs (steps.results_left t c.top) (is_long t b.proc s kept) (taken_there t b.proc cs (steps.results_left t c.top) taken) in
     (λ i. put_all (front i ++ behind i) ws (results i)) ∙ sym (put_front (shown t s) ws q.results zs few) ∙ ap (put_all (shown t s) ws) (sym run_results) ∙ written
 
 pub leave_goes : (t : TypedProgram) (c : Config) (b : Frame) (rest : List Frame) → c.below ≡ b ∷ rest → action_at t c.top.proc c.top.point ≡ actions.Leave → FrameKeeps t c.top.proc (state_of c) →
     FrameKeeps t b.proc (waiting c b) → (w : Awaits t c.top b) → ConstantsFirst (locals_at t c.top.proc) → ConstantsFirst (locals_at t b.proc) →
-    IsStep t (shown_stack t c) (shown_stack t (moved_to (all_written (resumed c b rest) (targets_at b.point.todo) (steps.results_of t c.top)) (settled (past_first t.procs b.point.todo))))
+    IsStep t (shown_stack t c) (shown_stack t (moved_to (all_written (resumed c b rest) (targets_at b.point.todo) (steps.results_left t c.top)) (settled (past_first t.procs b.point.todo))))
 leave_goes t c b rest opened is k h w first_callee first_caller =
     let f : ℕ = c.top.proc in
     let n : ℕ = b.proc in
@@ -202,7 +202,7 @@ leave_goes t c b rest opened is k h w first_callee first_caller =
     let u : State = state_of c in
     let r : Config = resumed c b rest in
     let cs : List Column = targets_at b.point.todo in
-    let rs : List ℤ = steps.results_of t c.top in
+    let rs : List ℤ = steps.results_left t c.top in
     let d : Config = all_written r cs rs in
     let next : Point = settled (past_first t.procs b.point.todo) in
     let own : length c.globals ≡ length t.globals = types_length t.globals c.globals k.globals in

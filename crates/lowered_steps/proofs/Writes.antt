@@ -26,7 +26,7 @@ use Rattle.boogie_points.specs.Actions.{Action, action_at}
 use Rattle.boogie_run.specs.Configurations.{Config, state_of}
 use Rattle.boogie_run.specs.Needs.{locals_at}
 use Rattle.boogie_run.specs.Steps.{put, written, all_written, moved_to, values}
-use Rattle.lowered_steps.specs.ProgramFrames.{frame_at, shown, number_in}
+use Rattle.lowered_steps.specs.ProgramFrames.{frame_at, shown, column_number}
 use Rattle.lowered_steps.specs.Edges.{At, Edge, numbers_in}
 use Rattle.lowered_steps.specs.Stacks.{Stack, IsStep}
 use Rattle.lowered_steps.specs.Moves.{HasTypes, FrameKeeps, IsTarget, AreAssigned, shown_stack, shown_below}
@@ -163,7 +163,7 @@ write_goes t c cs es next is k h =
     let m : MetMember (shown t s ++ zs) list = member_met (shown t s ++ zs) list (decided.exactly.1 refl) in
     let after : put_all (shown t s) w zs ≡ shown t (all_state_written s cs zs) = all_written_shown t n s cs zs (is_long t n s k) (taken_there t n cs zs taken) in
     let state_after : IsState frame (shown t (all_state_written s cs zs)) = shown_state t n (all_state_written s cs zs) (keeps_all_written t n s cs zs k taken) in
-    let count : length zs ≡ length w = taken_length t n cs zs taken ∙ sym (length-map cs (number_in frame)) in
+    let count : length zs ≡ length w = taken_length t n cs zs taken ∙ sym (length-map cs (column_number frame)) in
     let led = assignment_leads frame w (shown t s) zs m.member (shown_state t n s k) (subst (IsState frame) (sym after) state_after) count m.met in
     let e : Edge = record { to = At next; written = w; rows = m.member } in
     subst (IsStep t (shown_stack t c)) (stack_of_written t c (all_written c cs zs) (all_state_written s cs zs) next (all_written_is c cs zs))
@@ -179,7 +179,7 @@ guess_goes t c x ty z next is k h v =
     let n : ℕ = c.top.proc in
     let frame : Columns = frame_at t n in
     let s : State = state_of c in
-    let w : List ℕ = number_in frame x ∷ [] in
+    let w : List ℕ = column_number frame x ∷ [] in
     let none : Conjunction = record { rows = []; helpers = 0 } in
     let taken : AreTaken t n (x ∷ []) (z ∷ []) = ((ty, h, v), tt) in
     let after : put_all (shown t s) w (z ∷ []) ≡ shown t (state_written s x z) = all_written_shown t n s (x ∷ []) (z ∷ []) (is_long t n s k) (taken_there t n (x ∷ []) (z ∷ []) taken) in

@@ -23,7 +23,7 @@ use Rattle.boogie_points.specs.Actions.{Action}
 use Rattle.boogie_run.specs.Configurations.{Config, state_of}
 use Rattle.boogie_run.specs.Needs.{Truth, need_of_type, need_of, need_of_column, is_taken, locals_at}
 use Rattle.boogie_run.specs.Steps.{put, moved_to, written, all_written, values, went_if}
-use Rattle.lowered_steps.specs.ProgramFrames.{frame_at, shown, variable_values, number_in}
+use Rattle.lowered_steps.specs.ProgramFrames.{frame_at, shown, variable_values, column_number}
 use Rattle.lowered_steps.specs.Edges.{Spot, At, Edge, inside_edges, skips, numbers_in, no_rows}
 use Rattle.lowered_steps.specs.Stacks.{Stack, IsAmong}
 use Rattle.lowered_steps.specs.Moves.{HasTypes, FrameKeeps, IsTarget, AreAssigned, shown_stack, shown_below}
@@ -115,7 +115,7 @@ write_back t c cs es next x after k typed i h =
     let l : IsLed w list (At next) x = among_led w list (At next) x i in
     let led : InsideLeads frame w x.rows.helpers x.rows.rows (shown t s) after = subst (λ (y : List ℕ). InsideLeads frame y x.rows.helpers x.rows.rows (shown t s) after) l.written_is h in
     let taken : AreTaken t n cs zs = assigned_taken t n s cs es k typed in
-    let as_many : length led.news ≡ length es = led.as_many ∙ length-map cs (number_in frame) ∙ sym (taken_length t n cs zs taken) ∙ length-map es (value s) in
+    let as_many : length led.news ≡ length es = led.as_many ∙ length-map cs (column_number frame) ∙ sym (taken_length t n cs zs taken) ∙ length-map es (value s) in
     let decided : Decide (shown t s ++ led.news) list (led.news ≡ zs) =
     lists.assigns_decide frame s (shown t s) led.news es (shown_is_shown t n s k) (assigned_sound t n cs es typed) as_many in
     let news : led.news ≡ zs = decided.exactly.0 (some_met (shown t s ++ led.news) list x.rows l.member led.rows_hold) in
@@ -208,7 +208,7 @@ guess_back t c y ty next x after k target i h =
     let n : ℕ = c.top.proc in
     let frame : Columns = frame_at t n in
     let s : State = state_of c in
-    let w : List ℕ = number_in frame y ∷ [] in
+    let w : List ℕ = column_number frame y ∷ [] in
     let l : IsLed w no_rows (At next) x = among_led w no_rows (At next) x i in
     let led : InsideLeads frame w x.rows.helpers x.rows.rows (shown t s) after = subst (λ (ys : List ℕ). InsideLeads frame ys x.rows.helpers x.rows.rows (shown t s) after) l.written_is h in
     let one = one_new led.news led.as_many in

@@ -6,8 +6,8 @@ use Rattle.boogie_tree.specs.declared.tree.VarInfo.{VarInfo}
 use Rattle.typed_tree.specs.TypedTree.{TypedExpression, Lit, Truth, Var, Old, Not, Neg, Bin, TypedProcedure, TypedProgram, TypedInvariant}
 use Rattle.typed_tree.specs.Values.{truth}
 use Rattle.letter_acts.specs.Frames.{Columns, old_columns}
-use Rattle.cond_jumps.specs.Conjunctions.{Conjunction, Plan, Just, With, listed}
-use Rattle.cond_jumps.specs.Forms.{Linears, number, column, minus}
+use Rattle.cond_jumps.specs.Conjunctions.{Conjunction, Plan, Just, With, listed_plan}
+use Rattle.cond_jumps.specs.Forms.{Linears, linear_number, column, linear_minus}
 use Rattle.cond_jumps.specs.Comparisons.{compared, equal, always}
 use Rattle.cond_jumps.specs.Environments.{Environment}
 use Rattle.cond_jumps.specs.Paths.{linear, paths}
@@ -19,7 +19,7 @@ use Rattle.boogie_points.specs.Actions as actions
 use Rattle.boogie_points.specs.Actions.{Action, ensured_conditions}
 use Rattle.boogie_points.specs.Starts.{targets_at}
 use Rattle.letter_acts.specs.Reading.{is_listed}
-use Rattle.lowered_steps.specs.ProgramFrames.{frame_at, width_at, number_in}
+use Rattle.lowered_steps.specs.ProgramFrames.{frame_at, width_at, column_number}
 
 -- where an inside edge leads in its procedure: to a point, or to the failing of an assertion
 pub data Spot : Type 0 where
@@ -106,7 +106,7 @@ import_environment frame globals q args targets =
 -- All its ensures together, behind a helper for each modified global that is a target, too.
 abbrev pub import_list : Columns → List VarInfo → TypedProcedure → List TypedExpression → List ℕ → List Conjunction
 import_list frame globals q args targets =
-    listed (With (Just (only_helpers (length (those_in targets q.modifies)))) (all_hold (import_environment frame globals q args targets) (ensured_conditions q.specs)))
+    listed_plan (With (Just (only_helpers (length (those_in targets q.modifies)))) (all_hold (import_environment frame globals q args targets) (ensured_conditions q.specs)))
     (length frame + length (import_written q.modifies targets))
 
 abbrev pub import_edges : Columns → List VarInfo → Option TypedProcedure → List TypedExpression → List ℕ → Point → List Edge
@@ -117,7 +117,7 @@ import_edges frame globals (Some q) args targets next = leads (import_written q.
 
 -- a requires of a called procedure, with the arguments for its parameters
 abbrev pub passed_list : Columns → List TypedExpression → TypedExpression → Bool → List Conjunction
-passed_list frame args e want = listed (paths (standing_environment (frame_environment frame) (passed args)) false e want) (length frame)
+passed_list frame args e want = listed_plan (paths (standing_environment (frame_environment frame) (passed args)) false e want) (length frame)
 
 abbrev pub skips : List Point → List Edge
 skips [] = []
@@ -125,7 +125,7 @@ skips (p ∷ ps) = leads [] no_rows (At p) ++ skips ps
 
 -- the numbers of columns in a frame
 abbrev pub numbers_in : Columns → List Column → List ℕ
-numbers_in frame cs = map (number_in frame) cs
+numbers_in frame cs = map (column_number frame) cs
 
 -- An assertion leads on where it is true, and to its failing where it is false; a call without body does all it does by one edge.
 abbrev pub inside_edges : TypedProgram → ℕ → Point → Action → List Edge
@@ -135,7 +135,7 @@ inside_edges t n here (actions.Suppose e next) = leads [] (path_list (frame_at t
 inside_edges t n here (actions.Demand id at e args next) =
     leads [] (passed_list (frame_at t n) args e true) (At next) ++ leads [] (passed_list (frame_at t n) args e false) (Wrong id)
 inside_edges t n here (actions.Write cs es next) = leads (numbers_in (frame_at t n) cs) (assign_list (frame_at t n) (length es) es) (At next)
-inside_edges t n here (actions.Guess c next) = leads (number_in (frame_at t n) c ∷ []) no_rows (At next)
+inside_edges t n here (actions.Guess c next) = leads (column_number (frame_at t n) c ∷ []) no_rows (At next)
 inside_edges t n here (actions.Test e hit miss) =
     leads [] (path_list (frame_at t n) e true) (At hit) ++ leads [] (path_list (frame_at t n) e false) (At miss)
 inside_edges t n here (actions.Pick ways) = skips ways
@@ -154,10 +154,10 @@ inside_edges t n here actions.Leave = []
 -- an argument as a sum: a truth value is a literal, a name, or one less a name
 abbrev pub argument_sum : Environment → TypedExpression → Linears
 argument_sum v (Lit at n) = linear v false (Lit at n)
-argument_sum v (Truth at b) = number (truth b)
+argument_sum v (Truth at b) = linear_number (truth b)
 argument_sum v (Var at c) = linear v false (Var at c)
 argument_sum v (Old at e) = linear v false (Old at e)
-argument_sum v (Not at e) = minus (number (pos 1)) (argument_sum v e)
+argument_sum v (Not at e) = linear_minus (linear_number (pos 1)) (argument_sum v e)
 argument_sum v (Neg at e) = linear v false (Neg at e)
 argument_sum v (Bin at op a b) = linear v false (Bin at op a b)
 
@@ -173,4 +173,4 @@ columns_before_locals t = length t.globals + length (old_columns 0 t.globals)
 -- The rows of a call from procedure n to procedure f: over the caller's frame, the callee's frame, and the helpers. The list has one member.
 abbrev pub call_list : TypedProgram → ℕ → ℕ → List TypedExpression → List Conjunction
 call_list t n f args =
-    listed (parameters_get (frame_environment (frame_at t n)) (width_at t n + columns_before_locals t) args) (width_at t n + width_at t f)
+    listed_plan (parameters_get (frame_environment (frame_at t n)) (width_at t n + columns_before_locals t) args) (width_at t n + width_at t f)

@@ -5,7 +5,7 @@ use Rattle.boogie_tree.specs.declared.tree.VarInfo.{VarInfo}
 use Rattle.typed_tree.specs.TypedTree.{TypedProgram}
 use Rattle.typed_tree.specs.Values.{State}
 use Rattle.letter_acts.specs.Frames.{Columns, added, globals_from, old_columns, locals_from}
-use Rattle.cond_jumps.specs.Frames.{place}
+use Rattle.cond_jumps.specs.Frames.{column_place_in}
 use Rattle.boogie_run.specs.Needs.{locals_at}
 
 -- the frame of procedure n: constants and globals, the old values of those that vary, its parameters, results and locals
@@ -26,10 +26,10 @@ variable_values (v ∷ vs) (z ∷ zs) = added (not v.constant) z (variable_value
 abbrev pub shown : TypedProgram → State → List ℤ
 shown t s = s.globals ++ (variable_values t.globals s.old ++ s.locals)
 
-abbrev pub number_if_any : Option (ℕ × VarInfo) → ℕ
-number_if_any None = 0
-number_if_any (Some x) = x.0
+abbrev pub column_number_if_any : Option (ℕ × VarInfo) → ℕ
+column_number_if_any None = 0
+column_number_if_any (Some x) = x.0
 
 -- the number of a column in a frame
-abbrev pub number_in : Columns → Column → ℕ
-number_in frame c = number_if_any (place frame c)
+abbrev pub column_number : Columns → Column → ℕ
+column_number frame c = column_number_if_any (column_place_in frame c)

@@ -3,11 +3,11 @@ use Rattle.std.specs.Prelude.{◌≡◌, ℕ, ◌+◌, ℤ, List, [], ◌∷◌,
 use Rattle.nwa_base.specs.declared.letters.Letter.{Letter}
 use Rattle.letter_acts.specs.Acts.{PlainAct, inside_act, call_act, back_act, Alphabet, act_of}
 use Rattle.letter_acts.specs.Invariant.{Graph, alphabet_of}
-use Rattle.path_rows.specs.Versions.{Stage, part_of}
+use Rattle.path_rows.specs.Versions.{PathStage, part_of}
 use Rattle.frame_rows.specs.Rows.{columns_from}
 use Rattle.path_rows.specs.Paths.{start_frame, first_stage}
 use Rattle.path_rows.specs.Solutions.{read}
-use Rattle.lowered_choices.specs.Traces.{Position}
+use Rattle.lowered_choices.specs.Traces.{TracePosition}
 
 -- the columns of the helpers of a letter with this act, which makes its columns from this number on
 abbrev pub helper_columns : Option PlainAct → ℕ → List ℕ
@@ -17,22 +17,22 @@ helper_columns (Some (call_act caller callee helpers rows)) made = []
 helper_columns (Some (back_act c targets)) made = []
 
 -- the position in this state where the path has come to this stage, with these helpers
-abbrev pub position_at : (ℕ → ℤ) → ℕ → List ℤ → Stage → Position
-position_at point q helpers p = record { place = q; values = read point p.here; helpers = helpers }
+abbrev pub solved_position : (ℕ → ℤ) → ℕ → List ℤ → PathStage → TracePosition
+solved_position point q helpers p = record { place = q; values = read point p.here; helpers = helpers }
 
 -- the positions behind the letters, in these states, from where the path has come to
-abbrev pub positions_from : (ℕ → ℤ) → Alphabet → Stage → List Letter → List ℕ → List Position
+abbrev pub positions_from : (ℕ → ℤ) → Alphabet → PathStage → List Letter → List ℕ → List TracePosition
 positions_from point al p [] states = []
 positions_from point al p (a ∷ w) [] = []
 positions_from point al p (a ∷ w) (q ∷ states) =
-    position_at point q (read point (helper_columns (act_of al a) p.made)) (part_of al a p).after ∷ positions_from point al (part_of al a p).after w states
+    solved_position point q (read point (helper_columns (act_of al a) p.made)) (part_of al a p).after ∷ positions_from point al (part_of al a p).after w states
 
 -- the position before the first letter
-abbrev pub first_position : (ℕ → ℤ) → Graph → Position
-first_position point g = position_at point g.automaton.start [] (first_stage (start_frame g))
+abbrev pub first_position : (ℕ → ℤ) → Graph → TracePosition
+first_position point g = solved_position point g.automaton.start [] (first_stage (start_frame g))
 
 -- those behind the letters of a word, along a run
-abbrev pub next_positions : (ℕ → ℤ) → Graph → List Letter → List ℕ → List Position
+abbrev pub next_positions : (ℕ → ℤ) → Graph → List Letter → List ℕ → List TracePosition
 next_positions point g w [] = []
 next_positions point g w (q ∷ states) = positions_from point (alphabet_of g) (first_stage (start_frame g)) w states
 

@@ -8,7 +8,7 @@ use Rattle.boogie_tree.specs.declared.tree.VarInfo.{VarInfo}
 use Rattle.typed_tree.specs.TypedTree.{TypedExpression, TypedProcedure, TypedProgram}
 use Rattle.letter_acts.specs.Frames.{Columns}
 use Rattle.letter_acts.specs.Acts.{call_act, inside_act}
-use Rattle.letter_table.specs.Letters.{Arc, Lettered, call_arc, inside_arc, with_arc, with_arcs}
+use Rattle.letter_table.specs.Letters.{Arc, Lettered, call_arc, exact_act, inside_arc, with_arc, with_arcs}
 use Rattle.cond_jumps.specs.declared.conj.Conj.{Conj}
 use Rattle.cond_jumps.specs.Conjs.{conjunction, conjunctions}
 use Rattle.cond_jumps.specs.Conjunctions.{Conjunction, is_wide, all_fit}
@@ -31,10 +31,10 @@ arcs_joined d (x ∷ xs) ys = arcs_joined (with_arc d x) xs ys
 -- one member more of a list
 pub member_joined : (d : Lettered) (n place to : ℕ) (written : List ℕ) (cs : List Conj) (c : Conj) →
     with_arcs d (list_arcs n place written (conjunctions (cs ++ c ∷ [])) to)
-    ≡ with_arc (with_arcs d (list_arcs n place written (conjunctions cs) to)) (inside_arc place (inside_act n written (conjunction c).helpers (conjunction c).rows) to)
+    ≡ with_arc (with_arcs d (list_arcs n place written (conjunctions cs) to)) (inside_arc place (exact_act (inside_act n written (conjunction c).helpers (conjunction c).rows)) to)
 member_joined d n place to written [] c = refl
 member_joined d n place to written (x ∷ xs) c =
-    member_joined (with_arc d (inside_arc place (inside_act n written (conjunction x).helpers (conjunction x).rows) to)) n place to written xs c
+    member_joined (with_arc d (inside_arc place (exact_act (inside_act n written (conjunction x).helpers (conjunction x).rows)) to)) n place to written xs c
 
 apart : false ≡ true → ⊥
 apart e = cc
@@ -166,7 +166,7 @@ told_refused xs k f (Err e) old h t = tt
 -- a call by its one conjunction
 pub entered : (n f place after : ℕ) (c : Conjunction) (cs : List Conjunction) (m l : Marks) (us ts : List ℕ) (k : Needed) (old new : Walked) →
     c ∷ [] ≡ cs → m ≡ l → us ≡ ts → IsMade k →
-    new ≡ record old { lettered = with_arc old.lettered (call_arc place (call_act n f c.helpers c.rows) m.entry m.returns us after) } →
+    new ≡ record old { lettered = with_arc old.lettered (call_arc place (exact_act (call_act n f c.helpers c.rows)) m.entry m.returns us after) } →
     Leads (entered_arcs n f place l.entry l.returns ts after cs) (k ∷ []) false false old new
 entered n f place after c cs m l us ts k old new e d u made g =
     let one : Leads (entered_arcs n f place m.entry m.returns us after (c ∷ [])) (k ∷ []) false false old new =

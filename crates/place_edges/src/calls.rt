@@ -129,6 +129,7 @@ pub fn enter(
                 callee: called.callee,
                 helpers,
                 rows,
+                coarse: false,
             };
             let edges = CallEdges {
                 from: here.place,

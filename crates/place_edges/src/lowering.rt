@@ -3,7 +3,7 @@
 ghost use Rattle.std.specs.Prelude.{◌≡◌, OnOk};
 ghost use Rattle.cond_jumps.specs.Conjs.{conjunction, conjunctions};
 ghost use Rattle.letter_acts.specs.Acts.{call_act, inside_act};
-ghost use Rattle.letter_table.specs.Letters.{call_arc, inside_arc, with_arc, with_arcs};
+ghost use Rattle.letter_table.specs.Letters.{MarkedAct, call_arc, exact_act, inside_arc, with_arc, with_arcs};
 ghost use Rattle.lowered_parts.specs.Lists.{list_arcs};
 
 use crate::columns::numbers;
@@ -64,13 +64,14 @@ fn add_member(
     member: Conj,
     to: u32,
 ) -> Result<(), AllocError>
-    ensures { OnOk result (table.new ≡ with_arc table.old (inside_arc here.place (inside_act here.proc written.now (conjunction member).helpers (conjunction member).rows) to)) }
+    ensures { OnOk result (table.new ≡ with_arc table.old (inside_arc here.place (exact_act (inside_act here.proc written.now (conjunction member).helpers (conjunction member).rows)) to)) }
 {
     let step = InsideStep {
         proc: here.proc,
         written: Vec::from_slice(alloc, written)?,
         helpers: member.helpers,
         rows: member.rows,
+        coarse: false,
     };
     table.add_inside(here.place, step, to)
 }
@@ -200,7 +201,7 @@ impl<'a> Lowering<'a> {
 
     /// An edge by an inside act.
     pub fn step(&mut self, from: u32, step: InsideStep, to: u32) -> Result<(), AllocError>
-        ensures { OnOk result (self.new ≡ record self.old { lettered = with_arc self.old.lettered (inside_arc from (inside_act step.proc step.written.items step.helpers step.rows.items) to) }) }
+        ensures { OnOk result (self.new ≡ record self.old { lettered = with_arc self.old.lettered (inside_arc from (record { act = inside_act step.proc step.written.items step.helpers step.rows.items; coarse = step.coarse }) to) }) }
     {
         self.table.add_inside(from, step, to)
     }
@@ -227,6 +228,7 @@ impl<'a> Lowering<'a> {
             written: Vec::from_slice(self.alloc, written)?,
             helpers: 0,
             rows: Vec::new(self.alloc),
+            coarse: false,
         };
         self.table.add_inside(here.place, step, to)
     }
@@ -240,7 +242,7 @@ impl<'a> Lowering<'a> {
     ) -> Result<(), AllocError>
         ensures { OnOk result (self.new ≡ record self.old {
           lettered = with_arc self.old.lettered
-              (call_arc edges.from (call_act step.caller step.callee step.helpers step.rows.items) edges.to edges.exit targets.items edges.after);
+              (call_arc edges.from (record { act = call_act step.caller step.callee step.helpers step.rows.items; coarse = step.coarse }) edges.to edges.exit targets.items edges.after);
         }) }
     {
         self.table.add_call(step, targets, edges)

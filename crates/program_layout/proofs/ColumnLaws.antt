@@ -8,10 +8,10 @@ use Rattle.boogie_tree.specs.declared.tree.VarInfo.{VarInfo}
 use Rattle.typed_tree.specs.TypedTree.{TypedProgram}
 use Rattle.typing_rules.specs.ValidProgram.{is_valid}
 use Rattle.letter_acts.specs.Frames.{Columns, added, globals_from, old_columns, locals_from}
-use Rattle.cond_jumps.specs.Frames.{place}
+use Rattle.cond_jumps.specs.Frames.{column_place_in}
 use Rattle.cond_jumps.proofs.FrameLemmas.{found_from}
 use Rattle.boogie_run.specs.Needs.{locals_at}
-use Rattle.lowered_steps.specs.ProgramFrames.{frame_at, number_in, number_if_any}
+use Rattle.lowered_steps.specs.ProgramFrames.{frame_at, column_number, column_number_if_any}
 use Rattle.lowered_steps.specs.Edges.{columns_before_locals}
 use Rattle.program_layout.specs.Layouts.{StandsIn}
 use Rattle.program_layout.proofs.FitLaws.{local_fits}
@@ -105,7 +105,7 @@ in_locals j (v ∷ vs) (suc i) m w e =
 
 -- ---- the numbers of columns
 
-global_found : (t : TypedProgram) (p m : ℕ) (o : Option (ℕ × VarInfo)) → place (frame_at t p) (columns.Global m) ≡ o → IsSome o → number_if_any o ≡ m
+global_found : (t : TypedProgram) (p m : ℕ) (o : Option (ℕ × VarInfo)) → column_place_in (frame_at t p) (columns.Global m) ≡ o → IsSome o → column_number_if_any o ≡ m
 global_found t p m None e s = absurd (cc)
 global_found t p m (Some x) e s =
     let f = found_from 0 (frame_at t p) (columns.Global m) x e in
@@ -116,10 +116,10 @@ global_found t p m (Some x) e s =
     (no_global_in_olds 0 t.globals locals m x.1 (λ k. no_global_in_locals 0 (locals_at t p) k m x.1)) f.stands in
     omega arith
 
-pub global_number : (t : TypedProgram) (p m : ℕ) → IsSome (place (frame_at t p) (columns.Global m)) → number_in (frame_at t p) (columns.Global m) ≡ m
-global_number t p m s = global_found t p m (place (frame_at t p) (columns.Global m)) refl s
+pub global_number : (t : TypedProgram) (p m : ℕ) → IsSome (column_place_in (frame_at t p) (columns.Global m)) → column_number (frame_at t p) (columns.Global m) ≡ m
+global_number t p m s = global_found t p m (column_place_in (frame_at t p) (columns.Global m)) refl s
 
-local_found : (t : TypedProgram) (p m : ℕ) (o : Option (ℕ × VarInfo)) → place (frame_at t p) (columns.Local m) ≡ o → IsSome o → (number_if_any o ≡ columns_before_locals t + m) × (m < length (locals_at t p))
+local_found : (t : TypedProgram) (p m : ℕ) (o : Option (ℕ × VarInfo)) → column_place_in (frame_at t p) (columns.Local m) ≡ o → IsSome o → (column_number_if_any o ≡ columns_before_locals t + m) × (m < length (locals_at t p))
 local_found t p m None e s = absurd (cc)
 local_found t p m (Some x) e s =
     let f = found_from 0 (frame_at t p) (columns.Local m) x e in
@@ -134,17 +134,17 @@ local_found t p m (Some x) e s =
     let j : h.index < length (locals_at t p) = l.1 in
     (omega arith, omega arith)
 
-pub local_number : (t : TypedProgram) (p m : ℕ) → IsSome (place (frame_at t p) (columns.Local m)) →
-    (number_in (frame_at t p) (columns.Local m) ≡ columns_before_locals t + m) × (m < length (locals_at t p))
-local_number t p m s = local_found t p m (place (frame_at t p) (columns.Local m)) refl s
+pub local_number : (t : TypedProgram) (p m : ℕ) → IsSome (column_place_in (frame_at t p) (columns.Local m)) →
+    (column_number (frame_at t p) (columns.Local m) ≡ columns_before_locals t + m) × (m < length (locals_at t p))
+local_number t p m s = local_found t p m (column_place_in (frame_at t p) (columns.Local m)) refl s
 
-pub global_here : (t : TypedProgram) (c : Column) (m : ℕ) → c ≡ columns.Global m → (p : ℕ) → StandsIn (frame_at t p) c → m ≡ number_in (frame_at t p) c
+pub global_here : (t : TypedProgram) (c : Column) (m : ℕ) → c ≡ columns.Global m → (p : ℕ) → StandsIn (frame_at t p) c → m ≡ column_number (frame_at t p) c
 global_here t c m e p =
-    subst (λ (d : Column). StandsIn (frame_at t p) d → m ≡ number_in (frame_at t p) d) (sym e) (λ s. sym (global_number t p m s))
+    subst (λ (d : Column). StandsIn (frame_at t p) d → m ≡ column_number (frame_at t p) d) (sym e) (λ s. sym (global_number t p m s))
 
-pub local_here : (t : TypedProgram) (c : Column) (m b : ℕ) → c ≡ columns.Local m → b ≡ columns_before_locals t → (p : ℕ) → StandsIn (frame_at t p) c → b + m ≡ number_in (frame_at t p) c
+pub local_here : (t : TypedProgram) (c : Column) (m b : ℕ) → c ≡ columns.Local m → b ≡ columns_before_locals t → (p : ℕ) → StandsIn (frame_at t p) c → b + m ≡ column_number (frame_at t p) c
 local_here t c m b e f p =
-    subst (λ (d : Column). StandsIn (frame_at t p) d → b + m ≡ number_in (frame_at t p) d) (sym e)
+    subst (λ (d : Column). StandsIn (frame_at t p) d → b + m ≡ column_number (frame_at t p) d) (sym e)
     (λ s. ap (λ (n : ℕ). n + m) f ∙ sym ((local_number t p m s).0))
 
 pub local_has_number : (t : TypedProgram) → IsTrue (is_valid t) → (c : Column) (m b : ℕ) → c ≡ columns.Local m → b ≡ columns_before_locals t → (p : ℕ) → StandsIn (frame_at t p) c → b + m < 2 ^ 32

@@ -3,7 +3,7 @@ use Rattle.std.specs.Prelude.{◌≡◌, ℕ, ◌+◌, List, [], ◌∷◌, ◌+
 use Rattle.boogie_tree.specs.declared.tree.Column.{Column}
 use Rattle.boogie_tree.specs.declared.tree.Column.TheVariants as columns
 use Rattle.boogie_tree.specs.declared.tree.VarInfo.{VarInfo}
-use Rattle.cond_jumps.specs.Frames.{place}
+use Rattle.cond_jumps.specs.Frames.{column_place_in}
 use Rattle.typed_tree.specs.TypedTree.{TypedBlock, TypedProcedure, TypedProgram}
 use Rattle.typing_rules.specs.Counts.{block_assertions, block_points, body_assertions, body_points, checked_at_call, plain_ensures}
 use Rattle.typing_rules.specs.ValidProgram.{is_valid}
@@ -61,6 +61,6 @@ pub record IsLayout (t : TypedProgram) (frames : List Columns) (marks : List Mar
 
 -- a column of the frame that is no old one
 abbrev pub StandsIn : Columns → Column → Type 0
-StandsIn frame (columns.Global n) = IsSome (place frame (columns.Global n))
+StandsIn frame (columns.Global n) = IsSome (column_place_in frame (columns.Global n))
 StandsIn frame (columns.Old n) = ⊥
-StandsIn frame (columns.Local n) = IsSome (place frame (columns.Local n))
+StandsIn frame (columns.Local n) = IsSome (column_place_in frame (columns.Local n))

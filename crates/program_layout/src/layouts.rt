@@ -98,7 +98,7 @@ impl<'a> Layout<'a> {
     ghost use Rattle.typing_rules.specs.Counts.{checked_at_call};
     ghost use Rattle.typing_rules.specs.TypedParts.{typed_program};
     ghost use Rattle.typing_rules.specs.ValidProgram.{is_valid};
-    ghost use Rattle.lowered_steps.specs.ProgramFrames.{frame_at, number_in};
+    ghost use Rattle.lowered_steps.specs.ProgramFrames.{frame_at, column_number};
     ghost use Rattle.lowered_steps.specs.Edges.{columns_before_locals};
     ghost use Rattle.lowered_graph.specs.Arcs.{first_error, error_place};
     ghost use Rattle.lowered_graph.specs.Lowered.{counted_procs, program_sites};
@@ -159,7 +159,7 @@ impl<'a> Layout<'a> {
     /// The number of a column in the frame of every procedure that has it.
     pub fn column(&self, column: Column) -> u32
         requires { (n : ℕ) × StandsIn (frame_at (typed_program self.now) n) column }
-        ensures { (n : ℕ) → StandsIn (frame_at (typed_program self.now) n) column → result ≡ number_in (frame_at (typed_program self.now) n) column }
+        ensures { (n : ℕ) → StandsIn (frame_at (typed_program self.now) n) column → result ≡ column_number (frame_at (typed_program self.now) n) column }
     {
         match column {
             Column::Global(number) => number,

@@ -2,19 +2,19 @@
 use Rattle.std.proofs.Common.{◌≡◌, ℕ, zero, suc, ◌+◌, ◌<◌, ◌≤◌, ◌^◌, Bool, true, false, not, List, [], ◌∷◌, ◌++◌, map, length, take, get_or, None, Some, refl, sym, ap, ◌∙◌, subst, arith}
 use Rattle.std.specs.Prelude.{Result, Ok, Err, OnOk, slice_get, nat_lt, nat_eq, if◌then◌else◌}
 use Rattle.std.specs.List.{AllByRecursion}
-use Rattle.std.proofs.lemmas.List.{map-append, take_more}
+use Rattle.std.proofs.lemmas.List.{map-append}
 use Rattle.std.proofs.lemmas.Option.{slice_get_within, slice_get-get_or, slice_get-map}
 use Rattle.std.proofs.lemmas.Bool.Decides.{nat_tests}
 use Rattle.boogie_tree.specs.declared.span.Span.{Span}
 use Rattle.boogie_tree.specs.declared.tree.Column.{Column}
-use Rattle.typed_tree.specs.TypedTree.{TypedGuard, TypedInvariant, Havoc, While, Break, Goto, Return, TypedBlock, Then, TypedProcedure, TypedProgram}
+use Rattle.typed_tree.specs.TypedTree.{TypedGuard, TypedInvariant, Havoc, While, Goto, TypedBlock, TypedProcedure, TypedProgram}
 use Rattle.typing_rules.specs.Counts.{one_if, plain_invariants}
 use Rattle.std.specs.Option.{option_map}
 use Rattle.boogie_points.specs.Points.{Todo, settled, past, found_block}
 use Rattle.boogie_points.specs.Actions.{point_behind, first_assertion, first_place, free_conditions}
 use Rattle.boogie_points.proofs.ConditionLaws.{taken_less}
 use Rattle.boogie_places.specs.Places.{at_statement, parts_from, located}
-use Rattle.lowered_steps.specs.ProgramFrames.{frame_at, number_in}
+use Rattle.lowered_steps.specs.ProgramFrames.{frame_at, column_number}
 use Rattle.lowered_graph.specs.Arcs.{place_number}
 use Rattle.lowered_parts.specs.Parts.{Walked, Leads, Adds}
 use Rattle.lowered_parts.specs.Lists.{skip_arcs}
@@ -22,17 +22,14 @@ use Rattle.lowered_parts.specs.Making.{MakesItem}
 use Rattle.lowered_parts.specs.Items.{checked_sites, checked_arcs, checked_needed, ways_arcs}
 use Rattle.lowered_parts.proofs.Joining.{both_lead, no_more}
 use Rattle.lowered_parts.proofs.Numbers.{part_added}
-use Rattle.lowered_parts.proofs.Statements.{havoc_added, invariant_added, break_added, return_added, goto_added}
+use Rattle.lowered_parts.proofs.Statements.{havoc_added, invariant_added, goto_added}
 use Rattle.program_layout.specs.Layouts.{StandsIn}
 use Rattle.program_walk.specs.Bounds.{IsAssertion, HasNumbers}
-use Rattle.program_walk.specs.Walks.{label_or_exit, behind_loop, IsBody, InvariantsAdd, PlainlyAdds, StatementAdds}
+use Rattle.program_walk.specs.Walks.{label_or_exit, IsBody, InvariantsAdd, PlainlyAdds, StatementAdds}
 
 -- a member that is read
 pub read_at : {X : Type 0} (xs : List X) (i : ℕ) (x : X) → i < length xs → x ≡ get_or xs i x → slice_get xs i ≡ Some x
 read_at xs i x h e = slice_get-get_or xs i x h ∙ ap (λ y. Some y) (sym e)
-
-pub taken_at : {X : Type 0} (xs : List X) (i : ℕ) (x : X) → i < length xs → x ≡ get_or xs i x → take (i + 1) xs ≡ take i xs ++ x ∷ []
-taken_at xs i x h e = take_more xs i x h ∙ ap (λ y. take i xs ++ y ∷ []) (sym e)
 
 all_at : {X : Type 0} (P : X → Type 0) (xs : List X) (i : ℕ) (x : X) → AllByRecursion P xs → slice_get xs i ≡ Some x → P x
 all_at P [] i x h e = cc
@@ -62,10 +59,10 @@ past_end (x ∷ xs) (suc i) e = let h : length xs ≤ i = past_end xs i e in ome
 
 pub havoc_step : (t u : TypedProgram) (n : ℕ) (cs : List Column) (at after i to : ℕ) (c : Column) (old mid new : Walked) → u ≡ t → mid.program ≡ t → slice_get cs i ≡ Some c →
     to ≡ (if nat_lt (i + 1) (length cs) then at + i + 1 else after) → HavocDone t n cs at after i old mid →
-    Leads (skip_arcs n (at + i) (number_in (frame_at u n) c ∷ []) to) [] false false mid new → HavocDone t n cs at after (i + 1) old new
+    Leads (skip_arcs n (at + i) (column_number (frame_at u n) c ∷ []) to) [] false false mid new → HavocDone t n cs at after (i + 1) old new
 havoc_step t u n cs at after i to c old mid new e p r d done h = λ span id q whole b loop under f k behind.
-    let led : Leads (skip_arcs n (at + i) (number_in (frame_at t n) c ∷ []) to) [] false false mid new =
-    subst (λ (x : TypedProgram). Leads (skip_arcs n (at + i) (number_in (frame_at x n) c ∷ []) to) [] false false mid new) e h in
+    let led : Leads (skip_arcs n (at + i) (column_number (frame_at t n) c ∷ []) to) [] false false mid new =
+    subst (λ (x : TypedProgram). Leads (skip_arcs n (at + i) (column_number (frame_at x n) c ∷ []) to) [] false false mid new) e h in
     part_added n (at_statement (Havoc span cs) b loop id at under) i old mid new (done span id q whole b loop under f k behind)
     (havoc_added t n q whole f k b loop id at under span cs i c to mid new p r
     (λ x y. to_next i (length cs) to at after d (slice_get_within cs (i + 1) x y))
@@ -191,13 +188,3 @@ goes_to t u n place exit labels loops after span id (k ∷ ks) old new e p h l =
     all_ways q whole body [] = refl
     all_ways q whole body (j ∷ js) = let f : label_or_exit labels exit j ≡ place_number t n (point_behind (found_block t.procs j whole false (first_assertion t.procs n) (first_place t n + length (free_conditions q.specs)) [])) = body.ways j in
         ap (λ (x : ℕ). x ∷ map (label_or_exit labels exit) js) f ∙ ap (λ (xs : List ℕ). place_number t n (point_behind (found_block t.procs j whole false (first_assertion t.procs n) (first_place t n + length (free_conditions q.specs)) [])) ∷ xs) (all_ways q whole body js)
-
-pub breaks : (t : TypedProgram) (n place exit : ℕ) (labels loops : List ℕ) (after : ℕ) (span : Span) (id k : ℕ) (old new : Walked) → old.program ≡ t →
-    Leads (skip_arcs n place [] (behind_loop loops exit k)) [] false false old new → StatementAdds t n exit labels loops after (Break span k) id place old new
-breaks t n place exit labels loops after span id k old new p l = λ q whole b loop under body behind looped.
-    break_added t n q whole body.procedure body.statements b loop id place under span k (behind_loop loops exit k) old new p (looped (Then (Break span k) b) id place k) l
-
-pub returns_at : (t : TypedProgram) (n place exit : ℕ) (labels loops : List ℕ) (after : ℕ) (span : Span) (id : ℕ) (old new : Walked) → old.program ≡ t →
-    Leads (skip_arcs n place [] exit) [] false false old new → StatementAdds t n exit labels loops after (Return span) id place old new
-returns_at t n place exit labels loops after span id old new p l = λ q whole b loop under body behind looped.
-    return_added t n q whole body.procedure body.statements b loop id place under span exit old new p body.ends l

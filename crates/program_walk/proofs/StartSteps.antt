@@ -1,12 +1,11 @@
 -- The start of a program: its edge, and the conditions behind it.
-use Rattle.std.proofs.Common.{◌≡◌, ℕ, zero, suc, ◌+◌, ◌<◌, ◌≤◌, pos, negsuc, true, List, [], ◌∷◌, ◌++◌, map, length, take, drop, Option, None, Some, refl, sym, ap, ◌∙◌, subst, append_assoc, arith}
+use Rattle.std.proofs.Common.{◌≡◌, ℕ, zero, suc, ◌+◌, ◌<◌, ◌≤◌, Bool, true, false, List, [], ◌∷◌, ◌++◌, map, length, take, drop, Option, None, Some, refl, sym, ap, ◌∙◌, subst, append_assoc, arith}
 use Rattle.std.specs.Prelude.{slice_get, nat_lt, if◌then◌else◌}
 use Rattle.std.specs.Option.{option_map}
 use Rattle.std.proofs.lemmas.List.{take_all, length-append, length-map, map-append}
 use Rattle.std.proofs.lemmas.Option.{slice_get_within}
 use Rattle.std.proofs.lemmas.Bool.Decides.{nat_tests}
 use Rattle.boogie_tree.specs.declared.span.Span.{Span}
-use Rattle.boogie_tree.specs.declared.tree.Column.{Column}
 use Rattle.boogie_tree.specs.declared.tree.Column.TheVariants as columns
 use Rattle.typed_tree.specs.declared.types.TExpr.{TExpr}
 use Rattle.typed_tree.specs.declared.types.TExprKind.{TExprKind}
@@ -16,20 +15,17 @@ use Rattle.typed_tree.specs.TypedView as view
 use Rattle.typed_tree.specs.TypedTree.{TypedExpression, TypedInvariant, TypedSpecification, TypedProcedure, TypedProgram}
 use Rattle.typing_rules.specs.Counts.{checked_at_call}
 use Rattle.typing_rules.specs.TypedParts.{TypedParts, typed_program}
-use Rattle.lin_rows.specs.Rows.{LinearRow}
-use Rattle.lin_rows.specs.Sums.{row_of}
-use Rattle.lin_rows.specs.declared.types.RowKind.TheVariants.{Eq}
 use Rattle.letter_acts.specs.Acts.{PlainAct}
-use Rattle.letter_acts.specs.Frames.{Columns, old_at}
+use Rattle.letter_acts.specs.Frames.{Columns}
 use Rattle.cond_jumps.specs.Lists.{path_list}
 use Rattle.boogie_points.specs.Points.{Point}
 use Rattle.boogie_points.specs.Actions.{plain_conditions, start_conditions}
 use Rattle.boogie_points.specs.Starts.{start_point_of}
 use Rattle.boogie_points.proofs.ConditionLaws.{plain_step, plain_requires_counted}
 use Rattle.boogie_places.specs.Places.{parts_from, located}
-use Rattle.letter_table.specs.Letters.{inside_arc, with_arc}
+use Rattle.letter_table.specs.Letters.{exact_act, inside_arc, with_arc}
 use Rattle.lowered_steps.specs.ProgramFrames.{frame_at}
-use Rattle.lowered_graph.specs.Arcs.{place_number, entering, entering_rows}
+use Rattle.lowered_graph.specs.Arcs.{place_number, entering}
 use Rattle.lowered_graph.specs.Items.{path_needed, condition_span, start_span}
 use Rattle.boogie_tree.specs.Apart.{nowhere}
 use Rattle.lowered_parts.specs.Parts.{Walked, Adds}
@@ -262,27 +258,15 @@ pub frame_found : {X : Type 0} (f : X → Columns) (o : Option X) (x : X) (p : O
 frame_found f o x None cs e h = let g : option_map f (Some x) ≡ None = subst (λ y. option_map f y ≡ None) e h in cc
 frame_found f o x (Some q) cs e h = let g : Some (f x) ≡ Some cs = subst (λ y. option_map f y ≡ Some cs) e h in cc
 
-pub begun : (t : TypedProgram) (n count entry to : ℕ) (act : PlainAct) (old new : Walked) → IsStart t n count entry → to ≡ (if nat_lt 0 count then 1 else entry) → act ≡ entering n (frame_at t n) →
-    new ≡ record old { lettered = with_arc old.lettered (inside_arc 0 act to) } → Begins t old new
-begun t n count entry to act old new s leads is_act e = λ q whole found body.
+pub begun : (t : TypedProgram) (n count entry to : ℕ) (act : PlainAct) (old new : Walked) (coarse : Bool) → IsStart t n count entry → to ≡ (if nat_lt 0 count then 1 else entry) → coarse ≡ false → act ≡ entering n (frame_at t n) →
+    new ≡ record old { lettered = with_arc old.lettered (inside_arc 0 (record { act = act; coarse = coarse }) to) } → Begins t old new
+begun t n count entry to act old new coarse s leads exact is_act e = λ q whole found body.
     let total : length (start_conditions t q) ≡ count = all_conditions t q ∙ sym (counted_conditions t n count entry q s found) in
     let place : to ≡ place_number t t.entry (start_point_of t (slice_get t.procs t.entry)) =
     starts_at t q whole found body to
     (λ some. to_first count to entry leads (omega arith)) (λ none. to_body count to entry leads (omega arith) ∙ s.place) in
-    e ∙ ap (λ (a : PlainAct). record old { lettered = with_arc old.lettered (inside_arc 0 a to) }) (is_act ∙ ap (λ (m : ℕ). entering m (frame_at t m)) s.proc)
-    ∙ ap (λ (m : ℕ). record old { lettered = with_arc old.lettered (inside_arc 0 (entering t.entry (frame_at t t.entry)) m) }) place
+    e ∙ ap (λ (c : Bool). record old { lettered = with_arc old.lettered (inside_arc 0 (record { act = act; coarse = c }) to) }) exact
+    ∙ ap (λ (a : PlainAct). record old { lettered = with_arc old.lettered (inside_arc 0 (exact_act a) to) }) (is_act ∙ ap (λ (m : ℕ). entering m (frame_at t m)) s.proc)
+    ∙ ap (λ (m : ℕ). record old { lettered = with_arc old.lettered (inside_arc 0 (exact_act (entering t.entry (frame_at t t.entry))) m) }) place
 
 -- ---- old columns
-
-old_first : (c : Column) (n : ℕ) (rest : List (ℕ × ℕ)) → old_at c n rest ≡ old_at c n [] ++ rest
-old_first (columns.Global g) n rest = refl
-old_first (columns.Old g) n rest = refl
-old_first (columns.Local l) n rest = refl
-
-pub rows_more : (left more : List (ℕ × ℕ)) (o : ℕ × ℕ) (k after : ℕ) (row : LinearRow) (whole rows next : List LinearRow) → left ≡ o ∷ more → after ≡ k + 1 →
-    row ≡ row_of ((o.1, negsuc 0) ∷ (k, pos 1) ∷ []) Eq (pos 0) → next ≡ rows ++ row ∷ [] → rows ++ entering_rows k left ≡ whole → next ++ entering_rows after more ≡ whole
-rows_more left more o k after row whole rows next e a r d h =
-    let s : after ≡ suc k = omega (arith, a) in
-    ap (λ (l : List LinearRow). l ++ entering_rows after more) d ∙ append_assoc rows (row ∷ []) (entering_rows after more)
-    ∙ ap (λ (x : LinearRow). rows ++ x ∷ entering_rows after more) r ∙ ap (λ (m : ℕ). rows ++ row_of ((o.1, negsuc 0) ∷ (k, pos 1) ∷ []) Eq (pos 0) ∷ entering_rows m more) s
-    ∙ ap (λ (l : List (ℕ × ℕ)). rows ++ entering_rows k l) (sym e) ∙ h

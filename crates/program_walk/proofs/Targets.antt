@@ -45,11 +45,11 @@ front_by a false e x o m f h = some_later a x m (f h)
 found_front : (k : ℕ) (xs ys : Columns) (c : Column) → IsSome (place_from k xs c) → IsSome (place_from k (xs ++ ys) c)
 found_front k [] ys c h = cc
 found_front k (x ∷ xs) ys c h =
-    front_by (column.same_column x.0 c) (column.same_column x.0 c) refl (k, x.1) (place_from (suc k) xs c) (place_from (suc k) (xs ++ ys) c) (λ l. found_front (suc k) xs ys c l) h
+    front_by (column.same_frame_column x.0 c) (column.same_frame_column x.0 c) refl (k, x.1) (place_from (suc k) xs c) (place_from (suc k) (xs ++ ys) c) (λ l. found_front (suc k) xs ys c l) h
 
 found_behind : (k : ℕ) (xs ys : Columns) (c : Column) → ((j : ℕ) → IsSome (place_from j ys c)) → IsSome (place_from k (xs ++ ys) c)
 found_behind k [] ys c h = h k
-found_behind k (x ∷ xs) ys c h = some_later (column.same_column x.0 c) (k, x.1) (place_from (suc k) (xs ++ ys) c) (found_behind (suc k) xs ys c h)
+found_behind k (x ∷ xs) ys c h = some_later (column.same_frame_column x.0 c) (k, x.1) (place_from (suc k) (xs ++ ys) c) (found_behind (suc k) xs ys c h)
 
 global_found : (j k g m : ℕ) (vs : List VarInfo) (v : VarInfo) → m ≡ k + g → slice_get vs g ≡ Some v → IsSome (place_from j (globals_from k vs) (columns.Global m))
 global_found j k g m [] v e d = cc

@@ -119,14 +119,6 @@ block_step t u n exit labels loops now after b id at xs k i j ni nj before next 
 
 -- ---- numbers and targets
 
-pub first_fits : (t : TypedProgram) (frame : Columns) (s : TypedStatement) (b : TypedBlock) (id at : ℕ) → BlockFits t frame (Then s b) id at → StatementFits t frame s id at
-first_fits t frame s b id at h =
-    let a : 0 < id = h.0.first in
-    let l = h.0.last in
-    let f : id + (assertions t.procs s + block_assertions t.procs b) < 2 ^ 32 = h.0.fits in
-    let p : at + (points t.procs s + block_points t.procs b) < 2 ^ 32 = h.0.places in
-    (record { first = a; last = omega arith; fits = omega arith; places = omega arith }, h.1.0)
-
 pub rest_fits : (t : TypedProgram) (frame : Columns) (s : TypedStatement) (b : TypedBlock) (id at ni nj : ℕ) → ni ≡ id + assertions t.procs s → nj ≡ at + points t.procs s → BlockFits t frame (Then s b) id at → BlockFits t frame b ni nj
 rest_fits t frame s b id at ni nj d e h =
     let a : 0 < id = h.0.first in

@@ -1,6 +1,6 @@
 //! The start of a program: the edge that gives each old column the value of its global, and the conditions that are assumed behind it.
 
-ghost use Rattle.std.specs.Prelude.{◌≡◌, ◌+◌, ◌<◌, ◌≤◌, ◌^◌, pos, negsuc, [], ◌∷◌, ◌++◌, map, length, List, IsSome, IfOk, OnOk, nat_lt, slice_get, if◌then◌else◌};
+ghost use Rattle.std.specs.Prelude.{◌≡◌, ◌+◌, ◌<◌, ◌≤◌, ◌^◌, false, pos, negsuc, [], ◌∷◌, ◌++◌, map, length, List, IsSome, IfOk, OnOk, nat_lt, slice_get, if◌then◌else◌};
 ghost use Rattle.std.specs.Option.{option_map};
 ghost use Rattle.typed_tree.specs.TypedTree as tree;
 ghost use Rattle.typed_tree.specs.TypedView as view;
@@ -132,7 +132,8 @@ fn numbers_of(alloc: Global, olds: &[(u32, u32)]) -> Result<Vec<u32>, AllocError
 
 /// What enters a procedure with that frame.
 fn entering_step(alloc: Global, proc: u32, frame: &Frame) -> Result<InsideStep, AllocError>
-    ensures { IfOk result (λ step. inside_act step.proc step.written.items step.helpers step.rows.items ≡ entering proc frame.now.columns.items) }
+    ensures act { IfOk result (λ step. inside_act step.proc step.written.items step.helpers step.rows.items ≡ entering proc frame.now.columns.items) }
+    ensures exact { IfOk result (λ step. step.coarse ≡ false) }
 {
     let Ok(width) = u32::try_from(frame.columns.len()) else {
         return Err(AllocError);
@@ -143,6 +144,7 @@ fn entering_step(alloc: Global, proc: u32, frame: &Frame) -> Result<InsideStep, 
         written: numbers_of(alloc, &olds)?,
         helpers: 0,
         rows: rows_of(alloc, &olds, width)?,
+        coarse: false,
     })
 }
 

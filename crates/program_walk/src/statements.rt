@@ -7,7 +7,7 @@ ghost use Rattle.typed_tree.specs.TypedTree as tree;
 ghost use Rattle.typed_tree.specs.TypedView as view;
 ghost use Rattle.typing_rules.specs.Counts.{plain_invariants};
 ghost use Rattle.typing_rules.specs.TypedParts.{typed_program};
-ghost use Rattle.lowered_steps.specs.ProgramFrames.{frame_at, number_in};
+ghost use Rattle.lowered_steps.specs.ProgramFrames.{frame_at, column_number};
 ghost use Rattle.lowered_parts.specs.Lists.{skip_arcs};
 ghost use Rattle.lowered_parts.specs.Items.{only_labels, ways_arcs};
 ghost use Rattle.lowered_parts.specs.Parts.{Leads};
@@ -82,7 +82,7 @@ pub(crate) fn chosen(first: bool, one: u32, other: u32) -> u32
 fn guess(lowering: &mut Lowering<'_>, here: Here, column: Column, to: u32) -> Result<(), AllocError>
     requires { StandsIn (frame_at (typed_program lowering.old.parts) here.proc) column }
     ensures program { OnOk result (typed_program lowering.new.parts ≡ typed_program lowering.old.parts) }
-    ensures led { OnOk result (Leads (skip_arcs here.proc here.place (number_in (frame_at (typed_program lowering.old.parts) here.proc) column ∷ []) to) [] false false (walked lowering.old) (walked lowering.new)) }
+    ensures led { OnOk result (Leads (skip_arcs here.proc here.place (column_number (frame_at (typed_program lowering.old.parts) here.proc) column ∷ []) to) [] false false (walked lowering.old) (walked lowering.new)) }
 {
     let written = lowering.layout().column(column);
     lowering.skip(here, &[written], to)

@@ -16,7 +16,7 @@ use Rattle.typed_tree.specs.KeptRules.{is_arithmetic, is_right}
 use Rattle.typed_tree.specs.Scope.{Scope, unless_hidden, variable_at, fixed}
 use Rattle.typed_tree.specs.TypedTree.{TypedExpression, Lit, Truth, Var, Old, Not, Neg, Bin}
 use Rattle.typed_tree.specs.Typing.{type_of, only, operation_type, is_some_of, has_type}
-use Rattle.typed_tree.specs.Values.{State, at_entry, is_zero, value}
+use Rattle.typed_tree.specs.Values.{State, at_entry, value_is_zero, value}
 use Rattle.typing_rules.specs.Rules.{Context, meets, is_member, is_writable, column_has, values_agree, arguments_agree, results_agree}
 use Rattle.run_defaults.specs.Reading.{HasColumn, Divides, Reads}
 use Rattle.run_defaults.proofs.Parts.{not_of, meets_some}
@@ -45,13 +45,13 @@ ReadsIn g l (Bin at op a b) = ReadsIn g l a × ReadsIn g l b × DividesBy op b
 
 -- ---- in a state
 
-nonzero : (s : State) (e : TypedExpression) → is_divisor (divisor_of e) ≡ true → is_zero (value s e) ≡ false
-nonzero s (Lit at n) h = not_of (is_zero n) h
+nonzero : (s : State) (e : TypedExpression) → is_divisor (divisor_of e) ≡ true → value_is_zero (value s e) ≡ false
+nonzero s (Lit at n) h = not_of (value_is_zero n) h
 nonzero s (Truth at b) h = absurd (false≢true h)
 nonzero s (Var at c) h = absurd (false≢true h)
 nonzero s (Old at e) h = absurd (false≢true h)
 nonzero s (Not at e) h = absurd (false≢true h)
-nonzero s (Neg at (Lit at1 n)) h = not_of (is_zero (neg_ℤ n)) h
+nonzero s (Neg at (Lit at1 n)) h = not_of (value_is_zero (neg_ℤ n)) h
 nonzero s (Neg at (Truth at1 b)) h = absurd (false≢true h)
 nonzero s (Neg at (Var at1 c)) h = absurd (false≢true h)
 nonzero s (Neg at (Old at1 e)) h = absurd (false≢true h)

@@ -13,7 +13,7 @@ use Rattle.boogie_points.specs.Actions.{Action, action_at}
 use Rattle.boogie_points.specs.Starts.{targets_at}
 use Rattle.boogie_run.specs.Configurations.{Frame, Config, state_of}
 use Rattle.boogie_run.specs.Needs.{locals_at, locals_if_any}
-use Rattle.boogie_run.specs.Steps.{Went, values, passed_state, granted_state, modifies_of, results_of, results_if_any, start}
+use Rattle.boogie_run.specs.Steps.{Went, values, passed_state, granted_state, modifies_of, results_left, results_if_any, start}
 use Rattle.boogie_run.specs.Runs.{run}
 use Rattle.run_defaults.specs.Reading.{Reads}
 use Rattle.run_defaults.specs.Acting.{CanWrite, IsVariable, Passes, Receives, HasChosen, Returns, ActsOnWhatIs}
@@ -71,7 +71,7 @@ module _ (t : TypedProgram) (valid : IsTrue (is_valid t)) where
 
   -- ---- returns
 
-  results_there : (c : Config) (p : TypedProcedure) → slice_get t.procs c.top.proc ≡ Some p → length c.top.locals ≡ length (locals_at t c.top.proc) → length (results_of t c.top) ≡ p.results
+  results_there : (c : Config) (p : TypedProcedure) → slice_get t.procs c.top.proc ≡ Some p → length c.top.locals ≡ length (locals_at t c.top.proc) → length (results_left t c.top) ≡ p.results
   results_there c p e l =
       ap (λ (o : Option TypedProcedure). length (results_if_any o c.top.locals)) e
       ∙ results_length t valid c.top.proc p e c.top.locals (l ∙ declared c.top.proc p e)
@@ -86,7 +86,7 @@ module _ (t : TypedProgram) (valid : IsTrue (is_valid t)) where
       let d : Config = record { globals = c.globals; top = f; below = fs } in (
         k.0,
         some_and
-            (λ (x : TypedProcedure). (length (results_of t c.top) ≡ x.results) × Receives d (targets_at f.point.todo) x)
+            (λ (x : TypedProcedure). (length (results_left t c.top) ≡ x.results) × Receives d (targets_at f.point.todo) x)
             (slice_get t.procs c.top.proc) p r.top.found (
               results_there c p r.top.found full.locals,
               (targets.0, all_write d (length t.globals) (length q.locals) (targets_at f.point.todo) full.globals (w.0.locals ∙ declared f.proc q found) targets.1),

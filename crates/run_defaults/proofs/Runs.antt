@@ -12,7 +12,7 @@ use Rattle.boogie_points.specs.Actions.{Action, action_at, start_conditions}
 use Rattle.boogie_points.specs.Starts.{point_of_procedure, point_of_call, unless_none, start_point_of, targets_at}
 use Rattle.boogie_run.specs.Configurations.{Frame, Config, state_of}
 use Rattle.boogie_run.specs.Needs.{need, is_taken, locals_at, locals_if_any}
-use Rattle.boogie_run.specs.Steps.{Outcome, Went, Blocked, Failed, Ended, Refused, values, written, all_written, moved_to, kept_on, kept_to, passed_state, granted_state, finished, entered, left, results_of, is_true, went_if, act, with_global, with_local, next, step, start}
+use Rattle.boogie_run.specs.Steps.{Outcome, Went, Blocked, Failed, Ended, Refused, values, written, all_written, moved_to, kept_on, kept_to, passed_state, granted_state, finished, entered, left, results_left, is_true, went_if, act, with_global, with_local, next, step, start}
 use Rattle.boogie_run.specs.Runs.{then_goes_on, run}
 use Rattle.run_defaults.specs.Standing.{AtCall}
 use Rattle.run_defaults.proofs.Parts.{below_of, most_of}
@@ -135,8 +135,8 @@ module _ (t : TypedProgram) (valid : IsTrue (is_valid t)) where
         below = h.1;
         calls = k.1;
       } in
-      let e : Config = all_written d (targets_at f.point.todo) (results_of t c.top) in
-      moved_fits d e (moved_to e (settled (past_first t.procs f.point.todo))) fits (same_all_written d (targets_at f.point.todo) (results_of t c.top)) full refl refl refl refl refl
+      let e : Config = all_written d (targets_at f.point.todo) (results_left t c.top) in
+      moved_fits d e (moved_to e (settled (past_first t.procs f.point.todo))) fits (same_all_written d (targets_at f.point.todo) (results_left t c.top)) full refl refl refl refl refl
       (settled_keeps t f.proc w.frame.procedure w.frame.body (past_first t.procs f.point.todo)
       (past_first_nested t w.frame.procedure w.frame.body f.point.todo w.frame.keeps.nested))
 

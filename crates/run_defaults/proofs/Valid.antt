@@ -10,7 +10,7 @@ use Rattle.boogie_tree.specs.declared.tree.VarInfo.{VarInfo}
 use Rattle.typed_tree.specs.TypedTree.{TypedExpression, TypedInvariant, TypedBlock, TypedSpecification, Requires, Ensures, TypedProcedure, TypedProgram}
 use Rattle.typed_tree.specs.Scope.{axiom_scope, requires_scope, body_scope}
 use Rattle.typing_rules.specs.Counts.{numbers_fit}
-use Rattle.typing_rules.specs.Rules.{all_differ, meets, is_condition, is_body, is_body_if_any, is_specification, is_procedure, keeps_typing, params_of, own_labels, within, context_of}
+use Rattle.typing_rules.specs.Rules.{all_differ, meets, is_condition, is_body, is_body_if_any, is_specification, procedure_keeps_rules, keeps_typing, params_of, own_labels, within, context_of}
 use Rattle.typing_rules.specs.Shape.{are_names, are_locals, are_modified, is_body_shaped, is_procedure_shaped, has_shape}
 use Rattle.typing_rules.specs.ValidProgram.{has_body, has_entry, is_typed, is_valid}
 use Rattle.boogie_points.specs.Actions.{plain_conditions, free_conditions, ensured_conditions, results_from, chosen_columns, start_conditions}
@@ -101,7 +101,7 @@ module _ (t : TypedProgram) (valid : IsTrue (is_valid t)) where
   rules_part : (keeps_typing t && has_entry t) ≡ true
   rules_part = (and_parts (has_shape t) (keeps_typing t && has_entry t) typed_part).1
 
-  kept_part : (list_all (is_condition (axiom_scope t.globals)) t.axioms && list_all (is_procedure t.globals t.procs) t.procs) ≡ true
+  kept_part : (list_all (is_condition (axiom_scope t.globals)) t.axioms && list_all (procedure_keeps_rules t.globals t.procs) t.procs) ≡ true
   kept_part = (and_parts (keeps_typing t) (has_entry t) rules_part).0
 
   pub entry_found : (p : TypedProcedure) × (b : TypedBlock) × (slice_get t.procs t.entry ≡ Some p) × (p.body ≡ Some b)
@@ -113,8 +113,8 @@ module _ (t : TypedProgram) (valid : IsTrue (is_valid t)) where
   module _ (n : ℕ) (p : TypedProcedure) (found : slice_get t.procs n ≡ Some p) where
     procedure_kept : (list_all (is_specification t.globals p) p.specs && is_body_if_any (context_of t.globals t.procs p) p.body) ≡ true
     procedure_kept =
-        all_at (is_procedure t.globals t.procs) t.procs n p
-        (and_parts (list_all (is_condition (axiom_scope t.globals)) t.axioms) (list_all (is_procedure t.globals t.procs) t.procs) kept_part).1 found
+        all_at (procedure_keeps_rules t.globals t.procs) t.procs n p
+        (and_parts (list_all (is_condition (axiom_scope t.globals)) t.axioms) (list_all (procedure_keeps_rules t.globals t.procs) t.procs) kept_part).1 found
 
     specified : list_all (is_specification t.globals p) p.specs ≡ true
     specified = (and_parts (list_all (is_specification t.globals p) p.specs) (is_body_if_any (context_of t.globals t.procs p) p.body) procedure_kept).0
@@ -164,7 +164,7 @@ module _ (t : TypedProgram) (valid : IsTrue (is_valid t)) where
     start_read =
         all_append (ReadsIn (length t.globals) (length p.locals)) t.axioms (map (λ (i : TypedInvariant). i.cond) (plain_conditions p.specs))
         (axioms_read t (length p.locals) t.axioms
-        (and_parts (list_all (is_condition (axiom_scope t.globals)) t.axioms) (list_all (is_procedure t.globals t.procs) t.procs) kept_part).0)
+        (and_parts (list_all (is_condition (axiom_scope t.globals)) t.axioms) (list_all (procedure_keeps_rules t.globals t.procs) t.procs) kept_part).0)
         (conditions_of t p.params (length p.locals) (plain_conditions p.specs) (omega (arith, enough)) plain_read)
 
     -- the body, as the one block that is still to do

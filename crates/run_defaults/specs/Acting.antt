@@ -9,7 +9,7 @@ use Rattle.boogie_points.specs.Actions.{Action, Check, Suppose, Demand, Write, G
 use Rattle.boogie_points.specs.Starts.{targets_at}
 use Rattle.boogie_run.specs.Configurations.{Frame, Config, state_of}
 use Rattle.boogie_run.specs.Needs.{locals_at}
-use Rattle.boogie_run.specs.Steps.{passed_state, granted_state, results_of}
+use Rattle.boogie_run.specs.Steps.{passed_state, granted_state, results_left}
 use Rattle.run_defaults.specs.Reading.{Reads}
 use Rattle.run_defaults.specs.Standing.{AtCall}
 
@@ -44,7 +44,7 @@ Returns t c (f ∷ fs) =
     AtCall c.top.proc f.point.todo
     × IsSomeAnd (slice_get t.procs c.top.proc)
     (λ q.
-    (length (results_of t c.top) ≡ q.results)
+    (length (results_left t c.top) ≡ q.results)
     × Receives (record { globals = c.globals; top = f; below = fs }) (targets_at f.point.todo) q)
 
 -- What the action reads and writes is there; a called procedure exists, and one that is entered has a body.

@@ -5,7 +5,7 @@ use Rattle.boogie_tree.specs.declared.tree.Op.TheVariants.{Div, Mod}
 use Rattle.boogie_tree.specs.declared.tree.Column.{Column}
 use Rattle.boogie_tree.specs.declared.tree.Column.TheVariants as columns
 use Rattle.typed_tree.specs.TypedTree.{TypedExpression, Lit, Truth, Var, Old, Not, Neg, Bin}
-use Rattle.typed_tree.specs.Values.{State, at_entry, is_zero, value}
+use Rattle.typed_tree.specs.Values.{State, at_entry, value_is_zero, value}
 
 -- the column is there
 abbrev pub HasColumn : State → Column → Type 0
@@ -15,8 +15,8 @@ HasColumn s (columns.Local n) = n < length s.locals
 
 -- a divisor is not 0
 abbrev pub Divides : Op → ℤ → Type 0
-Divides Div k = is_zero k ≡ false
-Divides Mod k = is_zero k ≡ false
+Divides Div k = value_is_zero k ≡ false
+Divides Mod k = value_is_zero k ≡ false
 Divides op k = Unit {0}
 
 -- Each column that the expression reads is there, and no divisor is 0.

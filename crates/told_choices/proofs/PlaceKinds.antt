@@ -13,7 +13,7 @@ use Rattle.boogie_points.specs.Starts.{targets_at}
 use Rattle.boogie_points.proofs.ConditionLaws.{plain_requires_counted}
 use Rattle.boogie_places.specs.Places.{parts_from, at_statement, points_in, points_of, points_of_body, start_points, located, points_with, places_from, starts_if_any}
 use Rattle.letter_acts.specs.Frames.{Columns}
-use Rattle.lowered_steps.specs.ProgramFrames.{frame_at, number_in}
+use Rattle.lowered_steps.specs.ProgramFrames.{frame_at, column_number}
 use Rattle.lowered_steps.specs.Edges.{numbers_in}
 use Rattle.told_choices.specs.Kinds.{PlainKind, Silent, Guesses, Imports, kind_of, kind_at, place_kinds}
 use Rattle.told_choices.specs.Walks.{silent, guess, guard_kind, goto_kind, called_kind, call_kinds, statement_kinds, block_kinds, body_kinds, kinds_from, start_kinds, program_kinds}
@@ -21,7 +21,7 @@ use Rattle.told_choices.specs.Walks.{silent, guess, guard_kind, goto_kind, calle
 -- ---- kinds of actions
 
 module _ (t : TypedProgram) (n : ℕ) (p : Point) where
-  guess_kind : (c : Column) (m : Option Column) (here after : Point) → kind_of t n p (havoc_action (Some c) m here after) ≡ Guesses (number_in (frame_at t n) c)
+  guess_kind : (c : Column) (m : Option Column) (here after : Point) → kind_of t n p (havoc_action (Some c) m here after) ≡ Guesses (column_number (frame_at t n) c)
   guess_kind c None here after = refl
   guess_kind c (Some d) here after = refl
 
@@ -100,7 +100,7 @@ module _ (t : TypedProgram) (n : ℕ) (q : TypedProcedure) (body : TypedBlock) (
       let after : Point = settled (past t.procs (Havoc sp all) b loop id at ∷ under) in
       let k_is : k + 0 ≡ k = omega arith in
       let e : slice_get all k ≡ Some c = ap (slice_get all) (sym k_is) ∙ h 0 in
-      let here : kind_here p ≡ Guesses (number_in frame c) =
+      let here : kind_here p ≡ Guesses (column_number frame c) =
       kind_is p ∙ ap (λ (o : Option Column). kind_of t n p (havoc_action o (slice_get all (k + 1)) p after)) e ∙ guess_kind t n p c (slice_get all (k + 1)) p after in
       let rest : map kind_here (parts_from (at_statement (Havoc sp all) b loop id at under) (k + 1) (length cs)) ≡ map (guess frame) cs =
       havoc_places sp all b loop id at under (k + 1) cs (λ j. (let s : (k + 1) + j ≡ k + suc j = omega arith in ap (slice_get all) s ∙ h (suc j))) in

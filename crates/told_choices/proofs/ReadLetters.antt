@@ -8,11 +8,11 @@ use Rattle.nwa_base.specs.Runs.{StepsOn}
 use Rattle.letter_acts.specs.Frames.{Columns}
 use Rattle.letter_acts.specs.Acts.{PlainAct, inside_act, call_act, back_act, Alphabet, frame_of, act_of}
 use Rattle.letter_acts.specs.Invariant.{Graph, alphabet_of}
-use Rattle.path_rows.specs.Versions.{Stage, act_part, part_of, return_part, back_part}
+use Rattle.path_rows.specs.Versions.{PathStage, act_part, part_of, return_part, back_part}
 use Rattle.frame_rows.specs.Rows.{columns_from}
 use Rattle.path_rows.specs.Paths.{repeated, path_along, start_frame, first_stage, path_of}
 use Rattle.path_rows.specs.Solutions.{read}
-use Rattle.lowered_choices.specs.Traces.{Position}
+use Rattle.lowered_choices.specs.Traces.{TracePosition}
 use Rattle.path_traces.specs.Solved.{helper_columns, positions_from, next_positions}
 use Rattle.told_choices.specs.Made.{columns_made, helpers_end}
 use Rattle.told_choices.proofs.Steps.{drop_here, drop_past}
@@ -38,7 +38,7 @@ columns_many n (suc k) = let r : length (columns_from (suc n) k) ≡ k = columns
 
 -- ---- what a letter makes
 
-record MadeBy (al : Alphabet) (o : Option PlainAct) (p : Stage) : Type 0 where
+record MadeBy (al : Alphabet) (o : Option PlainAct) (p : PathStage) : Type 0 where
   columns : (act_part al o p).columns ≡ columns_made al o
   after : (act_part al o p).after.made ≡ p.made + columns_made al o
 
@@ -46,13 +46,13 @@ back_made : (caller callee : Columns) (targets : List ℕ) (made : ℕ) (exit : 
 back_made caller callee targets made exit [] = (refl, refl)
 back_made caller callee targets made exit (before ∷ saved) = (refl, refl)
 
-return_made : (al : Alphabet) (targets : List ℕ) (o : Option PlainAct) (p : Stage) → ((return_part al targets o p).columns ≡ 0) × ((return_part al targets o p).after.made ≡ p.made)
+return_made : (al : Alphabet) (targets : List ℕ) (o : Option PlainAct) (p : PathStage) → ((return_part al targets o p).columns ≡ 0) × ((return_part al targets o p).after.made ≡ p.made)
 return_made al targets None p = (refl, refl)
 return_made al targets (Some (inside_act q written helpers rows)) p = (refl, refl)
 return_made al targets (Some (call_act caller callee helpers rows)) p = back_made (frame_of al caller) (frame_of al callee) targets p.made p.here p.saved
 return_made al targets (Some (back_act c more)) p = (refl, refl)
 
-made_by : (al : Alphabet) (o : Option PlainAct) (p : Stage) → MadeBy al o p
+made_by : (al : Alphabet) (o : Option PlainAct) (p : PathStage) → MadeBy al o p
 made_by al None p = record { columns = refl; after = (let e : p.made ≡ p.made + 0 = omega arith in e) }
 made_by al (Some (inside_act q written helpers rows)) p = record { columns = refl; after = refl }
 made_by al (Some (call_act caller callee helpers rows)) p = record { columns = omega arith; after = omega arith }
@@ -68,11 +68,11 @@ helpers_within al (Some (back_act c targets)) made = omega arith
 
 -- ---- the states of a path
 
-first_state : (al : Alphabet) (n : ℕ) (p : Stage) (w : List Letter) → (more : List (List ℕ)) × ((path_along al n p w).states ≡ p.here ∷ more)
+first_state : (al : Alphabet) (n : ℕ) (p : PathStage) (w : List Letter) → (more : List (List ℕ)) × ((path_along al n p w).states ≡ p.here ∷ more)
 first_state al n p [] = ([], refl)
 first_state al n p (a ∷ w) = ((path_along al (suc n) (part_of al a p).after w).states, refl)
 
-states_many : (al : Alphabet) (n : ℕ) (p : Stage) (w : List Letter) → length (path_along al n p w).states ≡ length w + 1
+states_many : (al : Alphabet) (n : ℕ) (p : PathStage) (w : List Letter) → length (path_along al n p w).states ≡ length w + 1
 states_many al n p [] = refl
 states_many al n p (a ∷ w) =
     let r : length (path_along al (suc n) (part_of al a p).after w).states ≡ length w + 1 = states_many al (suc n) (part_of al a p).after w in
@@ -94,15 +94,15 @@ run_many m run front (a ∷ w) (q ∷ e ∷ more) s =
 
 -- ---- the letters that are read
 
-pub record IsRead (point : ℕ → ℤ) (al : Alphabet) (letters : List Letter) (versions : List (List ℕ)) (run : List ℕ) (i made : ℕ) (done whole : List Position) : Type 0 where
-  pub stage : Stage
+pub record IsRead (point : ℕ → ℤ) (al : Alphabet) (letters : List Letter) (versions : List (List ℕ)) (run : List ℕ) (i made : ℕ) (done whole : List TracePosition) : Type 0 where
+  pub stage : PathStage
   pub made_is : stage.made ≡ made
   pub versions_are : (path_along al (i + 1) stage (drop i letters)).states ≡ drop i versions
   pub columns : made + length (path_along al (i + 1) stage (drop i letters)).column_at ≤ 2 ^ 32
   pub rest : done ++ positions_from point al stage (drop i letters) (drop (i + 1) run) ≡ whole
 
 -- the columns of the next letter still have numbers
-pub more_columns : (point : ℕ → ℤ) (al : Alphabet) (letters : List Letter) (versions : List (List ℕ)) (run : List ℕ) (i made : ℕ) (done whole : List Position) (a : Letter) → slice_get letters i ≡ Some a →
+pub more_columns : (point : ℕ → ℤ) (al : Alphabet) (letters : List Letter) (versions : List (List ℕ)) (run : List ℕ) (i made : ℕ) (done whole : List TracePosition) (a : Letter) → slice_get letters i ≡ Some a →
     IsRead point al letters versions run i made done whole → made + columns_made al (act_of al a) ≤ 2 ^ 32
 more_columns point al letters versions run i made done whole a e h =
     let left : drop i letters ≡ a ∷ drop (i + 1) letters = drop_here letters i a e in
@@ -113,7 +113,7 @@ more_columns point al letters versions run i made done whole a e h =
     let made_so = made_by al (act_of al a) h.stage in
     omega (arith, many, columns, made_so.columns)
 
-pub read_more : (point : ℕ → ℤ) (al : Alphabet) (letters : List Letter) (versions : List (List ℕ)) (run : List ℕ) (i made : ℕ) (done whole : List Position) (a : Letter) (place : ℕ) (v : List ℕ) (columns : ℕ) (x : Position) →
+pub read_more : (point : ℕ → ℤ) (al : Alphabet) (letters : List Letter) (versions : List (List ℕ)) (run : List ℕ) (i made : ℕ) (done whole : List TracePosition) (a : Letter) (place : ℕ) (v : List ℕ) (columns : ℕ) (x : TracePosition) →
     slice_get letters i ≡ Some a → slice_get run (i + 1) ≡ Some place → slice_get versions (i + 1) ≡ Some v → columns ≡ columns_made al (act_of al a) →
     x ≡ record { place = place; values = read point v; helpers = read point (helper_columns (act_of al a) made) } →
     IsRead point al letters versions run i made done whole → IsRead point al letters versions run (i + 1) (made + columns) (done ++ x ∷ []) whole
@@ -137,7 +137,7 @@ read_more point al letters versions run i made done whole a place v columns x e 
     let x_so : x ≡ record { place = place; values = read point part.after.here; helpers = read point (helper_columns (act_of al a) h.stage.made) } =
     x_is ∙ (λ k. record { place = place; values = read point (v_is k); helpers = read point (helper_columns (act_of al a) (sym h.made_is k)) }) in
     let rest : done ++ (x ∷ positions_from point al part.after w (drop (i + 1 + 1) run)) ≡ whole =
-    ap (λ (y : Position). done ++ (y ∷ positions_from point al part.after w (drop (i + 1 + 1) run))) x_so
+    ap (λ (y : TracePosition). done ++ (y ∷ positions_from point al part.after w (drop (i + 1 + 1) run))) x_so
     ∙ sym (λ k. done ++ positions_from point al h.stage (left k) (runs k)) ∙ h.rest in
     record {
       stage = part.after;
@@ -154,7 +154,7 @@ none_read point g letters versions [] v e columns many got = absurd (omega arith
 none_read point g letters versions (q ∷ states) v e columns many got =
     let al : Alphabet = alphabet_of g in
     let frame : Columns = start_frame g in
-    let p : Stage = first_stage frame in
+    let p : PathStage = first_stage frame in
     let head = first_state al 1 p letters in
     let both : Some v ≡ Some p.here = sym got ∙ ap (λ (l : List (List ℕ)). slice_get l 0) (e ∙ head.1) in
     let v_is : v ≡ p.here = cc in
@@ -170,6 +170,6 @@ none_read point g letters versions (q ∷ states) v e columns many got =
     }
 
 -- behind the last letter
-pub all_read : (point : ℕ → ℤ) (al : Alphabet) (letters : List Letter) (versions : List (List ℕ)) (run : List ℕ) (i made : ℕ) (done whole : List Position) → length letters ≤ i → IsRead point al letters versions run i made done whole → done ≡ whole
+pub all_read : (point : ℕ → ℤ) (al : Alphabet) (letters : List Letter) (versions : List (List ℕ)) (run : List ℕ) (i made : ℕ) (done whole : List TracePosition) → length letters ≤ i → IsRead point al letters versions run i made done whole → done ≡ whole
 all_read point al letters versions run i made done whole less h =
     sym (append-nil done) ∙ ap (λ (w : List Letter). done ++ positions_from point al h.stage w (drop (i + 1) run)) (sym (drop_past letters i less)) ∙ h.rest

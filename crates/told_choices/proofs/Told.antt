@@ -19,10 +19,10 @@ use Rattle.boogie_points.specs.Points.{Point}
 use Rattle.boogie_points.specs.Actions as actions
 use Rattle.boogie_points.specs.Actions.{Action, action_at}
 use Rattle.boogie_places.specs.Places.{Place, IsOneOf, IsPlaceIn, count_from, number_of, program_places, onward}
-use Rattle.lowered_steps.specs.ProgramFrames.{frame_at, number_in}
+use Rattle.lowered_steps.specs.ProgramFrames.{frame_at, column_number}
 use Rattle.lowered_steps.specs.Edges.{columns_before_locals, numbers_in}
 use Rattle.boogie_points.specs.Starts.{targets_at}
-use Rattle.lowered_runs.specs.Choices.{place_number as number_at, way_to, call_choices, choices_of, spot_choices, told_choices}
+use Rattle.lowered_runs.specs.Choices.{spot_place_number as number_at, way_to, call_choices, choices_of, spot_choices, told_choices}
 use Rattle.lowered_graph.specs.Arcs.{place_number, return_point, program_arcs}
 use Rattle.lowered_graph.specs.LetterLaws.{CallOf, BackOf}
 use Rattle.lowered_graph.specs.Lowered.{lowered}
@@ -31,13 +31,13 @@ use Rattle.lowered_graph.proofs.LetterSets.{calls_are, backs_are}
 use Rattle.lowered_graph.proofs.KnownPlaces.{PlaceLaws, IsKnown, place_known, known_once, known_onward}
 use Rattle.lowered_graph.proofs.CallPlaces.{entered_has_body, leaves_there, return_known}
 use Rattle.lowered_graph.proofs.JoinedBack.{CallFrom, call_from}
-use Rattle.lowered_choices.specs.Traces.{Position}
+use Rattle.lowered_choices.specs.Traces.{TracePosition}
 use Rattle.lowered_choices.specs.Choices.{standing, stack_at, step_to, trace_choices}
 use Rattle.lowered_choices.proofs.ReadOff.{found, standing_values}
-use Rattle.path_rows.specs.Versions.{Stage, part_of}
+use Rattle.path_rows.specs.Versions.{PathStage, part_of}
 use Rattle.path_rows.specs.Paths.{start_frame, first_stage}
 use Rattle.path_rows.specs.Solutions.{read}
-use Rattle.path_traces.specs.Solved.{helper_columns, position_at, positions_from, next_positions}
+use Rattle.path_traces.specs.Solved.{helper_columns, solved_position, positions_from, next_positions}
 use Rattle.told_choices.specs.Kinds.{PlainKind, kind_of, kind_at, place_kinds}
 use Rattle.told_choices.specs.Telling.{first_to, kind_choices, choices_if_any, letter_choices, further_choices, all_choices}
 use Rattle.told_choices.proofs.Ways.{pick_ends, pick_way}
@@ -113,7 +113,7 @@ module _ (l : PlaceLaws) (t : TypedProgram) (v : IsTrue (is_valid t)) (q : ℕ) 
   way_taken run kinds.Back front a e s = absurd (no_back (slice_index run s.0) a e s.2)
 
   -- the number of the next place is read off its position
-  next_number : (run : List ℕ) (kind : Kind) (front : List Letter) (a : Letter) (y : Position) → StepsTo (lowered t).automaton run kind front q a y.place → number_at t x.proc (stack_at t y).spot ≡ y.place
+  next_number : (run : List ℕ) (kind : Kind) (front : List Letter) (a : Letter) (y : TracePosition) → StepsTo (lowered t).automaton run kind front q a y.place → number_at t x.proc (stack_at t y).spot ≡ y.place
   next_number run kind front a y s =
       let w = way_taken run kind front a y.place s in
       let onto : IsOneOf (onward t.procs x.point (action_at t x.proc x.point)) w.0 = subst (λ (o : Action). IsOneOf (onward t.procs x.point o) w.0) (sym is) w.1 in
@@ -121,20 +121,20 @@ module _ (l : PlaceLaws) (t : TypedProgram) (v : IsTrue (is_valid t)) (q : ℕ) 
       let at : slice_get (program_places t) (y.place - 1) ≡ Some (record { proc = x.proc; point = w.0 }) = ap (λ (r : ℕ). slice_get (program_places t) (r - 1)) (sym w.2) ∙ found l t v x.proc w.0 k in
       ap (λ (o : Option Place). number_at t x.proc (standing y.values o).spot) at ∙ w.2
 
-  way_told : (run : List ℕ) (kind : Kind) (front : List Letter) (a : Letter) (y : Position) → StepsTo (lowered t).automaton run kind front q a y.place →
+  way_told : (run : List ℕ) (kind : Kind) (front : List Letter) (a : Letter) (y : TracePosition) → StepsTo (lowered t).automaton run kind front q a y.place →
       way_to t x.proc (number_at t x.proc (stack_at t y).spot) ways ≡ first_to y.place (leaving q (lowered t).automaton.insides)
   way_told run kind front a y s = ap (λ (r : ℕ). way_to t x.proc r ways) (next_number run kind front a y s) ∙ pick_way l t v q x ways some got here.1 is y.place
 
 -- ---- one letter
 
-action_told : (t : TypedProgram) (edges : List (ℕ × Letter × ℕ)) (n : ℕ) (p : Point) (y : Position) (a : Action) →
+action_told : (t : TypedProgram) (edges : List (ℕ × Letter × ℕ)) (n : ℕ) (p : Point) (y : TracePosition) (a : Action) →
     ((ways : List Point) → a ≡ actions.Pick ways → way_to t n (number_at t n (stack_at t y).spot) ways ≡ first_to y.place edges) →
     choices_of t n p a y.helpers (stack_at t y) ≡ kind_choices t edges (kind_of t n p a) y
 action_told t edges n p y (actions.Check id at e next) h = refl
 action_told t edges n p y (actions.Suppose e next) h = refl
 action_told t edges n p y (actions.Demand id at e args next) h = refl
 action_told t edges n p y (actions.Write cs es next) h = refl
-action_told t edges n p y (actions.Guess c next) h = ap (λ (zs : List ℤ). Some (point_of zs (number_in (frame_at t n) c)) ∷ []) (standing_values y.values (slice_get (program_places t) (y.place - 1)))
+action_told t edges n p y (actions.Guess c next) h = ap (λ (zs : List ℤ). Some (point_of zs (column_number (frame_at t n) c)) ∷ []) (standing_values y.values (slice_get (program_places t) (y.place - 1)))
 action_told t edges n p y (actions.Test e hit miss) h = refl
 action_told t edges n p y (actions.Pick ways) h = ap (λ (k : ℕ). Some (pos k) ∷ []) (h ways refl)
 action_told t edges n p y (actions.Jump next) h = refl
@@ -144,7 +144,7 @@ action_told t edges n p y (actions.Grant f args e next) h = ap (call_choices t.g
 action_told t edges n p y (actions.Finish f args targets next) h = ap (call_choices t.globals (slice_get t.procs f) (numbers_in (frame_at t n) (targets_at p.todo)) y.helpers) (standing_values y.values (slice_get (program_places t) (y.place - 1)))
 action_told t edges n p y actions.Leave h = refl
 
-letter_told : (l : PlaceLaws) (t : TypedProgram) → IsTrue (is_valid t) → (run : List ℕ) (kind : Kind) (front : List Letter) (a : Letter) (x y : Position) → 1 ≤ x.place → StepsTo (lowered t).automaton run kind front x.place a y.place →
+letter_told : (l : PlaceLaws) (t : TypedProgram) → IsTrue (is_valid t) → (run : List ℕ) (kind : Kind) (front : List Letter) (a : Letter) (x y : TracePosition) → 1 ≤ x.place → StepsTo (lowered t).automaton run kind front x.place a y.place →
     (o : Option Place) → slice_get (program_places t) (x.place - 1) ≡ o →
     spot_choices t (standing x.values o).proc (standing x.values o).spot y.helpers (stack_at t y) ≡ choices_if_any t (leaving x.place (lowered t).automaton.insides) (option_map (kind_at t) o) y
 letter_told l t v run kind front a x y some s None got = refl
@@ -167,13 +167,13 @@ above_zero : (n : ℕ) → (n ≡ 0 → ⊥) → 1 ≤ n
 above_zero zero h = absurd (h refl)
 above_zero (suc n) h = omega arith
 
-further_told : (l : PlaceLaws) (t : TypedProgram) → IsTrue (is_valid t) → IsGraph (lowered t) → (point : ℕ → ℤ) (al : Alphabet) (run : List ℕ) (p : Stage) (front w : List Letter) (x : Position) (states : List ℕ) → 1 ≤ x.place →
+further_told : (l : PlaceLaws) (t : TypedProgram) → IsTrue (is_valid t) → IsGraph (lowered t) → (point : ℕ → ℤ) (al : Alphabet) (run : List ℕ) (p : PathStage) (front w : List Letter) (x : TracePosition) (states : List ℕ) → 1 ≤ x.place →
     StepsOn (lowered t).automaton run front w (x.place ∷ states) →
     told_choices t (stack_at t x) (map (step_to t) (positions_from point al p w states)) ≡ further_choices t (place_kinds t) (lowered t).automaton.insides x.place (positions_from point al p w states)
 further_told l t v ok point al run p front [] x states some s = refl
 further_told l t v ok point al run p front (a ∷ w) x [] some s = refl
 further_told l t v ok point al run p front (a ∷ w) x (e ∷ states) some s =
-    let y : Position = position_at point e (read point (helper_columns (act_of al a) p.made)) (part_of al a p).after in
+    let y : TracePosition = solved_position point e (read point (helper_columns (act_of al a) p.made)) (part_of al a p).after in
     let first : spot_choices t (stack_at t x).proc (stack_at t x).spot y.helpers (stack_at t y) ≡ letter_choices t (place_kinds t) (lowered t).automaton.insides x.place y =
     letter_told l t v run a.kind front a x y some s.0 (slice_get (program_places t) (x.place - 1)) refl
     ∙ ap (λ (o : Option PlainKind). choices_if_any t (leaving x.place (lowered t).automaton.insides) o y) (sym (slice_get-map (kind_at t) (program_places t) (x.place - 1))) in
@@ -189,10 +189,10 @@ all_told l t v ok point [] (q ∷ states) r = refl
 all_told l t v ok point (a ∷ w) (q ∷ []) r = refl
 all_told l t v ok point (a ∷ w) (q ∷ e ∷ states) r =
     let al : Alphabet = alphabet_of (lowered t) in
-    let p : Stage = first_stage (start_frame (lowered t)) in
+    let p : PathStage = first_stage (start_frame (lowered t)) in
     let run : List ℕ = q ∷ e ∷ states in
-    let y : Position = position_at point e (read point (helper_columns (act_of al a) p.made)) (part_of al a p).after in
-    let more : List Position = positions_from point al (part_of al a p).after w states in
+    let y : TracePosition = solved_position point e (read point (helper_columns (act_of al a) p.made)) (part_of al a p).after in
+    let more : List TracePosition = positions_from point al (part_of al a p).after w states in
     let values = standing_values y.values (slice_get (program_places t) (y.place - 1)) in
     let s = r.is_run.steps in
     let rest = further_told l t v ok point al run (part_of al a p).after (a ∷ []) w y states (above_zero e (not_first t ok run a.kind [] q a e s.0)) s.1 in

@@ -6,7 +6,7 @@ use Rattle.boogie_points.specs.Actions as actions
 use Rattle.boogie_points.specs.Actions.{Action, action_at}
 use Rattle.boogie_points.specs.Starts.{targets_at}
 use Rattle.boogie_places.specs.Places.{Place, program_places}
-use Rattle.lowered_steps.specs.ProgramFrames.{frame_at, number_in}
+use Rattle.lowered_steps.specs.ProgramFrames.{frame_at, column_number}
 use Rattle.lowered_steps.specs.Edges.{numbers_in}
 
 pub data PlainKind : Type 0 where
@@ -22,7 +22,7 @@ pub data PlainKind : Type 0 where
   Imports : ℕ → List ℕ → PlainKind
 
 abbrev pub kind_of : TypedProgram → ℕ → Point → Action → PlainKind
-kind_of t n p (actions.Guess c next) = Guesses (number_in (frame_at t n) c)
+kind_of t n p (actions.Guess c next) = Guesses (column_number (frame_at t n) c)
 kind_of t n p (actions.Pick ways) = Picks
 kind_of t n p (actions.Enter f args) = Enters (length args)
 kind_of t n p (actions.Keep f args c next) = Imports f (numbers_in (frame_at t n) (targets_at p.todo))

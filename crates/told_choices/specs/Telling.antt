@@ -8,7 +8,7 @@ use Rattle.nwa_base.specs.Edges.{leaving}
 use Rattle.typed_tree.specs.TypedTree.{TypedProgram}
 use Rattle.lowered_steps.specs.Edges.{columns_before_locals}
 use Rattle.lowered_runs.specs.Choices.{call_choices}
-use Rattle.lowered_choices.specs.Traces.{Position}
+use Rattle.lowered_choices.specs.Traces.{TracePosition}
 use Rattle.told_choices.specs.Kinds.{PlainKind, Silent, Guesses, Picks, Enters, Imports}
 
 -- which of these edges is the first that leads to that state; their number where none does
@@ -17,23 +17,23 @@ first_to q [] = 0
 first_to q (e ∷ es) = if nat_eq e.2 q then 0 else suc (first_to q es)
 
 -- the choices of the steps at a place of this kind, from which these inside edges lead, on the way to a position
-abbrev pub kind_choices : TypedProgram → List (ℕ × Letter × ℕ) → PlainKind → Position → List (Option ℤ)
+abbrev pub kind_choices : TypedProgram → List (ℕ × Letter × ℕ) → PlainKind → TracePosition → List (Option ℤ)
 kind_choices t edges Silent y = None ∷ []
 kind_choices t edges (Guesses c) y = Some (point_of y.values c) ∷ []
 kind_choices t edges Picks y = Some (pos (first_to y.place edges)) ∷ []
 kind_choices t edges (Enters k) y = None ∷ map Some (drop (columns_before_locals t + k) y.values)
 kind_choices t edges (Imports f targets) y = call_choices t.globals (slice_get t.procs f) targets y.helpers y.values
 
-abbrev pub choices_if_any : TypedProgram → List (ℕ × Letter × ℕ) → Option PlainKind → Position → List (Option ℤ)
+abbrev pub choices_if_any : TypedProgram → List (ℕ × Letter × ℕ) → Option PlainKind → TracePosition → List (Option ℤ)
 choices_if_any t edges None y = []
 choices_if_any t edges (Some k) y = kind_choices t edges k y
 
 -- those of a letter from this place to a position
-abbrev pub letter_choices : TypedProgram → List PlainKind → List (ℕ × Letter × ℕ) → ℕ → Position → List (Option ℤ)
+abbrev pub letter_choices : TypedProgram → List PlainKind → List (ℕ × Letter × ℕ) → ℕ → TracePosition → List (Option ℤ)
 letter_choices t kinds insides q y = choices_if_any t (leaving q insides) (slice_get kinds (q - 1)) y
 
 -- those of all further letters
-abbrev pub further_choices : TypedProgram → List PlainKind → List (ℕ × Letter × ℕ) → ℕ → List Position → List (Option ℤ)
+abbrev pub further_choices : TypedProgram → List PlainKind → List (ℕ × Letter × ℕ) → ℕ → List TracePosition → List (Option ℤ)
 further_choices t kinds insides q [] = []
 further_choices t kinds insides q (y ∷ more) = letter_choices t kinds insides q y ++ further_choices t kinds insides y.place more
 
@@ -42,7 +42,7 @@ abbrev pub first_choices : TypedProgram → List ℤ → List (Option ℤ)
 first_choices t values = map Some (take (length t.globals) values) ++ map Some (drop (columns_before_locals t) values)
 
 -- those of the run through all positions behind the letters
-abbrev pub all_choices : TypedProgram → List PlainKind → List (ℕ × Letter × ℕ) → List Position → List (Option ℤ)
+abbrev pub all_choices : TypedProgram → List PlainKind → List (ℕ × Letter × ℕ) → List TracePosition → List (Option ℤ)
 all_choices t kinds insides [] = []
 all_choices t kinds insides (y ∷ more) = first_choices t y.values ++ further_choices t kinds insides y.place more
 
@@ -56,6 +56,6 @@ abbrev pub ChoicesFit : List (Option ℤ) → Type 0
 ChoicesFit choices = AllByRecursion ChoiceFits choices
 
 -- the values and helpers of the position fit
-pub record PositionFits (x : Position) : Type 0 where
+pub record PositionFits (x : TracePosition) : Type 0 where
   pub values : AllByRecursion Fits x.values
   pub helpers : AllByRecursion Fits x.helpers

@@ -16,8 +16,8 @@ plain_kind (code.Imports f targets) = spec.Imports f targets.items
 abbrev pub plain_kinds : List Kind → List spec.PlainKind
 plain_kinds ks = map plain_kind ks
 
-abbrev pub plain_position : Position → traces.Position
+abbrev pub plain_position : Position → traces.TracePosition
 plain_position x = record { place = x.place; values = x.values.items; helpers = x.helpers.items }
 
-abbrev pub plain_positions : List Position → List traces.Position
+abbrev pub plain_positions : List Position → List traces.TracePosition
 plain_positions xs = map plain_position xs

@@ -4,7 +4,7 @@ use Rattle.boogie_tree.specs.declared.tree.Column.{Column}
 use Rattle.typed_tree.specs.TypedTree.{TypedExpression, TypedGuard, Any, Cond, TypedStatement, Assert, Assume, Havoc, Assign, Call, If, While, Break, Goto, Return, Label, TypedBlock, Empty, Then, TypedProcedure, TypedProgram}
 use Rattle.letter_acts.specs.Frames.{Columns}
 use Rattle.boogie_points.specs.Actions.{plain_conditions, free_conditions, ensured_conditions}
-use Rattle.lowered_steps.specs.ProgramFrames.{frame_at, number_in}
+use Rattle.lowered_steps.specs.ProgramFrames.{frame_at, column_number}
 use Rattle.lowered_steps.specs.Edges.{numbers_in}
 use Rattle.told_choices.specs.Kinds.{PlainKind, Silent, Guesses, Picks, Enters, Imports}
 
@@ -12,7 +12,7 @@ abbrev pub silent : ℕ → List PlainKind
 silent n = replicate n Silent
 
 abbrev pub guess : Columns → Column → PlainKind
-guess frame c = Guesses (number_in frame c)
+guess frame c = Guesses (column_number frame c)
 
 abbrev pub guard_kind : TypedGuard → PlainKind
 guard_kind Any = Picks

@@ -4,14 +4,14 @@ ghost use Rattle.std.specs.Prelude.{◌≡◌, ◌+◌, length, IfOk};
 ghost use Rattle.std.specs.Option.{option_map};
 ghost use Rattle.cond_jumps.specs.Frames as frames;
 ghost use Rattle.letter_acts.specs.Frames.{old_columns};
-ghost use Rattle.lowered_steps.specs.ProgramFrames.{number_in};
+ghost use Rattle.lowered_steps.specs.ProgramFrames.{column_number};
 ghost use Rattle.lowered_steps.specs.Edges.{numbers_in};
 
 use boogie_tree::{Column, VarInfo};
 use std::alloc::{AllocError, Global};
 
 fn same_column(first: Column, second: Column) -> bool
-    ensures { result ≡ frames.same_column first second }
+    ensures { result ≡ frames.same_frame_column first second }
 {
     match (first, second) {
         (Column::Global(m), Column::Global(n)) => m == n,
@@ -37,7 +37,7 @@ fn place_of(frame: &[(Column, VarInfo)], column: Column) -> Option<(usize, bool)
 
 /// The number of an old column in a frame: that of the constant itself, where the global is one, and 0 where there is none.
 fn old_number(frame: &[(Column, VarInfo)], global: u32) -> usize
-    ensures { result ≡ number_in frame.now (Column.Old global) }
+    ensures { result ≡ column_number frame.now (Column.Old global) }
 {
     if let Some((place, _)) = place_of(frame, Column::Old(global)) {
         return place;
@@ -50,7 +50,7 @@ fn old_number(frame: &[(Column, VarInfo)], global: u32) -> usize
 
 /// The number of a column in a frame; 0 where it has none.
 pub(crate) fn column_number(frame: &[(Column, VarInfo)], column: Column) -> usize
-    ensures { result ≡ number_in frame.now column }
+    ensures { result ≡ column_number frame.now column }
 {
     match column {
         Column::Global(_) | Column::Local(_) => match place_of(frame, column) {

@@ -3,7 +3,7 @@ use Rattle.typed_tree.specs.declared.types.TExpr.{TExpr}
 use Rattle.typed_tree.specs.TypedTree.{TypedExpression}
 use Rattle.typed_tree.specs.TypedView.{expression}
 use Rattle.cond_jumps.specs.declared.fault.JumpFault.TheVariants.{TooWide, TooBig}
-use Rattle.cond_jumps.specs.Conjunctions.{listed, is_wide, all_fit}
+use Rattle.cond_jumps.specs.Conjunctions.{listed_plan, is_wide, all_fit}
 use Rattle.cond_jumps.specs.Environments.{Environment}
 use Rattle.cond_jumps.specs.Frames.{frame_environment}
 use Rattle.cond_jumps.specs.ListView.{IsPlanList}
@@ -55,7 +55,7 @@ loop-place-preserved c =
     let m : length c.args.frame.now.columns.items ≤ n = (let r : n ≡ length c.args.frame.now.columns.items = c.requires in omega (arith, r)) in
     let one : IsPlanList (paths v false (expression x) true) n c.in_ok-one.one =
     record {
-      seen = c.in_ok-one.ensures.list ∙ (λ j. listed (paths v false (expression x) true) (sym c.requires j));
+      seen = c.in_ok-one.ensures.list ∙ (λ j. listed_plan (paths v false (expression x) true) (sym c.requires j));
       fit = (λ j. all_fit (paths v false (expression x) true) (c.requires j)) ∙ c.in_ok-one.ensures.fits refl;
     }
     in (

@@ -3,7 +3,7 @@ use Rattle.std.specs.Prelude.{IfOk}
 use Rattle.typed_tree.specs.TypedTree.{TypedExpression}
 use Rattle.typed_tree.specs.TypedView.{expression}
 use Rattle.letter_acts.specs.Frames.{Columns}
-use Rattle.cond_jumps.specs.Conjunctions.{Conjunction, listed, is_wide, all_fit}
+use Rattle.cond_jumps.specs.Conjunctions.{Conjunction, listed_plan, is_wide, all_fit}
 use Rattle.cond_jumps.specs.Conjs.{conjunctions}
 use Rattle.cond_jumps.specs.Frames.{frame_environment}
 use Rattle.call_jumps.specs.Conjoined.{conjoined}
@@ -20,7 +20,7 @@ returns c =
     let P : conjoined (frame_environment cols) es ≡ conjoined (frame_environment (numbered_columns c.args.width)) es = (λ j. conjoined (frame_environment (K j)) es) in
     let wides : is_wide (conjoined (frame_environment cols) es) (length cols) ≡ is_wide (conjoined (frame_environment (numbered_columns c.args.width)) es) c.args.width = (λ j. is_wide (P j) (W j)) in
     let fits : all_fit (conjoined (frame_environment cols) es) (length cols) ≡ all_fit (conjoined (frame_environment (numbered_columns c.args.width)) es) c.args.width = (λ j. all_fit (P j) (W j)) in
-    let lists : listed (conjoined (frame_environment cols) es) (length cols) ≡ listed (conjoined (frame_environment (numbered_columns c.args.width)) es) c.args.width = (λ j. listed (P j) (W j)) in
+    let lists : listed_plan (conjoined (frame_environment cols) es) (length cols) ≡ listed_plan (conjoined (frame_environment (numbered_columns c.args.width)) es) c.args.width = (λ j. listed_plan (P j) (W j)) in
     let Q : List Conjunction → Type 0 = λ l. IfOk c.all_paths.result (λ cs. conjunctions cs.items ≡ l) in
     record {
       list = subst Q lists c.all_paths.ensures.list;

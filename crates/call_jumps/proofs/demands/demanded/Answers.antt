@@ -3,7 +3,7 @@ use Rattle.std.specs.Prelude.{IfOk}
 use Rattle.typed_tree.specs.TypedTree.{TypedExpression}
 use Rattle.typed_tree.specs.TypedView.{expression}
 use Rattle.letter_acts.specs.Frames.{Columns}
-use Rattle.cond_jumps.specs.Conjunctions.{Conjunction, listed, is_wide, all_fit}
+use Rattle.cond_jumps.specs.Conjunctions.{Conjunction, listed_plan, is_wide, all_fit}
 use Rattle.cond_jumps.specs.Conjs.{conjunctions}
 use Rattle.cond_jumps.specs.Lists.{path_plan}
 use Rattle.call_jumps.specs.CallLists.{passed_plan}
@@ -29,7 +29,7 @@ returns c =
     let wides : is_wide (path_plan cols d c.args.want) (length cols) ≡ is_wide (passed_plan F args e c.args.want) (length F) = (λ j. is_wide (P j) (W j)) in
     let fits : all_fit (path_plan cols d c.args.want) (length cols) ≡ all_fit (passed_plan F args e c.args.want) (length F) = (λ j. all_fit (P j) (W j)) in
     let Q : List Conjunction → Type 0 = λ l. IfOk c.paths.result (λ cs. conjunctions cs.items ≡ l) in
-    let lists : listed (path_plan cols d c.args.want) (length cols) ≡ listed (passed_plan F args e c.args.want) (length F) = (λ j. listed (P j) (W j)) in
+    let lists : listed_plan (path_plan cols d c.args.want) (length cols) ≡ listed_plan (passed_plan F args e c.args.want) (length F) = (λ j. listed_plan (P j) (W j)) in
     record {
       list = subst Q lists c.paths.ensures.list;
       narrow = λ k. sym wides ∙ c.paths.ensures.narrow k;

@@ -4,7 +4,7 @@ use Rattle.typed_tree.specs.TypedTree.{TypedExpression, TypedProcedure}
 use Rattle.typed_tree.specs.TypedView.{expression, procedure}
 use Rattle.letter_acts.specs.Frames.{Columns}
 use Rattle.cond_jumps.specs.declared.fault.JumpFault.TheVariants.{TooWide, TooBig}
-use Rattle.cond_jumps.specs.Conjunctions.{joined, listed, is_wide, all_fit}
+use Rattle.cond_jumps.specs.Conjunctions.{joined, listed_plan, is_wide, all_fit}
 use Rattle.cond_jumps.specs.Conjs.{conjunctions}
 use Rattle.cond_jumps.specs.Frames.{frame_environment}
 use Rattle.lowered_steps.specs.Edges.{those_in}
@@ -58,7 +58,7 @@ returns-clause-list c =
     let P : conjoined (frame_environment (numbered_columns c.in_ok-layout.layout.width)) (map expression c.as_slice.result.now) ≡ import_plan F G q args targets =
     (λ j. conjoined (frame_environment (numbered_columns (wd j))) (cs j)) ∙ import_plan_is F G q args targets in
     let n : c.len.result ≡ length (those_in targets q.modifies) = c.len.ensures ∙ c.in_ok-layout.layout.targeted.ok.0 ∙ ap length c.in_ok-layout.ensures.targeted in
-    let l : conjunctions c.in_ok-conjs.conjs.items ≡ listed (import_plan F G q args targets) (import_base F q targets) = c.in_ok-conjs.ensures.list ∙ (λ j. listed (P j) (wd j)) in
+    let l : conjunctions c.in_ok-conjs.conjs.items ≡ listed_plan (import_plan F G q args targets) (import_base F q targets) = c.in_ok-conjs.ensures.list ∙ (λ j. listed_plan (P j) (wd j)) in
     c.in_ok-all.ensures ∙ (λ j. map (joined (record { rows = []; helpers = n j })) (l j)) ∙ sym (import_list_is F G q args targets)
 
 pub returns-clause-narrow : goal.returns-clause-narrow

@@ -8,8 +8,8 @@ use Rattle.typed_tree.specs.AffineForm.{divisor_of}
 use Rattle.cond_jumps.specs.declared.sums.Divisor.{Divisor}
 use Rattle.cond_jumps.specs.declared.sums.Sum.{Sum}
 use Rattle.cond_jumps.specs.CodeView.{is_division, IsDivisorFound}
-use Rattle.cond_jumps.specs.Forms.{negated}
-use Rattle.cond_jumps.specs.Frames.{frame_environment, place}
+use Rattle.cond_jumps.specs.Forms.{linear_negated}
+use Rattle.cond_jumps.specs.Frames.{frame_environment, column_place_in}
 use Rattle.cond_jumps.specs.Environments.{Environment}
 use Rattle.cond_jumps.specs.Paths.{linear}
 use Rattle.cond_jumps.specs.SumView.{IsSumOf, IsBoxedAnswer, rows_fit}
@@ -88,7 +88,7 @@ returns-in_ok-column_sum-in-Var t c =
     let P : TypedExpression → Type 0 = λ e. IsSumOf (linear v c.args.old e c.args.next) c.in_ok-column_sum-in-Var.field-0.value in
     let Q : Column → Type 0 = λ k. IsSumOf (v.sum k c.args.next) c.in_ok-column_sum-in-Var.field-0.value in
     subst P (sym (ap (kind_view c.args.expr.now.span) c.in-Var.is))
-    (subst Q c.read_at.ensures (column_sum_is (place c.args.frame.now.columns.items c.read_at.result) c.args.next c.in_ok-column_sum-in-Var.field-0.value c.in_ok-column_sum-in-Var.ensures))
+    (subst Q c.read_at.ensures (column_sum_is (column_place_in c.args.frame.now.columns.items c.read_at.result) c.args.next c.in_ok-column_sum-in-Var.field-0.value c.in_ok-column_sum-in-Var.ensures))
 
 pub returns-in_ok-negated-in-Neg : goal.returns-in_ok-negated-in-Neg
 returns-in_ok-negated-in-Neg t c =
@@ -105,7 +105,7 @@ returns-in_err-sum-in-Neg t c =
     let P : TypedExpression → Type 0 = λ e. IsBoxedAnswer (linear v c.args.old e c.args.next) c.from_residual-in_err-sum-in-Neg.result in
     let Q : TypedExpression → Type 0 = λ e. rows_fit (linear v c.args.old e c.args.next).rows ≡ false in
     subst P (sym (ap (kind_view c.args.expr.now.span) c.in-Neg.is))
-    (handed_on (negated (linear v c.args.old (expression c.in-Neg.inner.value)) c.args.next) c.from_residual-in_err-sum-in-Neg.result c.in_err-sum-in-Neg.field-0.0
+    (handed_on (linear_negated (linear v c.args.old (expression c.in-Neg.inner.value)) c.args.next) c.from_residual-in_err-sum-in-Neg.result c.in_err-sum-in-Neg.field-0.0
     c.from_residual-in_err-sum-in-Neg.ensures.1 (λ u. subst Q (ap expression c.deref-in-Neg.ensures) (c.in_err-sum-in-Neg.ensures u)))
 
 pub returns-in_err-a-in-Bin : goal.returns-in_err-a-in-Bin

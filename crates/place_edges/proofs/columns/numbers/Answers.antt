@@ -1,6 +1,6 @@
 use Rattle.std.proofs.Common.{◌∙◌, ◌++◌, ◌∷◌, [], take, ap, sym}
 use Rattle.boogie_tree.specs.declared.tree.Column.TheVariants.{Global}
-use Rattle.lowered_steps.specs.ProgramFrames.{frame_at, number_in}
+use Rattle.lowered_steps.specs.ProgramFrames.{frame_at, column_number}
 use Rattle.lowered_steps.specs.Edges.{numbers_in}
 use Rattle.program_layout.specs.Layouts.{StandsIn}
 use Rattle.typing_rules.specs.TypedParts.{typed_program}
@@ -16,4 +16,4 @@ loop-column-preserved c = λ n h.
     ∙ (ap (λ ns. ns ++ c.column.result ∷ []) (c.loop-column.invariant n h)
     ∙ (ap (λ m. numbers_in (frame_at (typed_program c.args.layout.now) n) (take c.loop-column.column-index c.args.columns.now) ++ m ∷ [])
     (c.column.ensures n (each_of (StandsIn (frame_at (typed_program c.args.layout.now) n)) c.args.columns.now c.loop-column.column-index (Global 0) c.loop-column-test.true h))
-    ∙ sym (one_more (number_in (frame_at (typed_program c.args.layout.now) n)) c.args.columns.now c.loop-column.column-index (Global 0) c.loop-column-test.true)))
+    ∙ sym (one_more (column_number (frame_at (typed_program c.args.layout.now) n)) c.args.columns.now c.loop-column.column-index (Global 0) c.loop-column-test.true)))

@@ -19,5 +19,5 @@ returns-clause-begins c =
     on_ok _ _ c.step.result
     (λ e. begun (typed_program c.args.lowering.now.parts) c.args.start.proc c.args.start.conditions c.args.start.entry c.first.result
     (inside_act c.in_ok-step.step.proc c.in_ok-step.step.written.items c.in_ok-step.step.helpers c.in_ok-step.step.rows.items) (walked c.args.lowering.now) (walked c.step.new.self)
-    c.requires.start c.first.ensures (c.in_ok-step.ensures ∙ ap (λ (x : Columns). entering c.args.start.proc x) frame) (ap walked e))
+    c.in_ok-step.step.coarse c.requires.start c.first.ensures c.in_ok-step.ensures.exact (c.in_ok-step.ensures.act ∙ ap (λ (x : Columns). entering c.args.start.proc x) frame) (ap walked e))
     c.step.ensures

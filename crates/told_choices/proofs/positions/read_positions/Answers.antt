@@ -37,12 +37,12 @@ loop-i-init c =
     slice_get-map (λ v. v.items) c.args.versions.now 0 ∙ ap (option_map (λ v. v.items)) (slice_get_read c.args.versions.now (length c.args.versions.now) 0 c.index-versions-0.result refl less c.index-versions-0.is) in
     let none : plain_positions c.in_ok-found.found.items ≡ [] = ap plain_positions c.in_ok-found.ensures.items in
     let point = point_of c.args.point.now in
-    let whole : List traces.Position = next_positions point c.args.icfg.now c.args.letters.now c.args.run.now in
+    let whole : List traces.TracePosition = next_positions point c.args.icfg.now c.args.letters.now c.args.run.now in
     let read = none_read (point_of c.args.point.now) c.args.icfg.now c.args.letters.now (map (λ v. v.items) c.args.versions.now) c.args.run.now c.index-versions-0.result.items c.requires.versions c.requires.columns c.requires.run got in
     record {
       read =
           subst (λ (m : ℕ). IsRead point (alphabet_of c.args.icfg.now) c.args.letters.now (map (λ v. v.items) c.args.versions.now) c.args.run.now 0 m (plain_positions c.in_ok-found.found.items) whole) (sym (ap length c.as_slice-made.ensures.value))
-          (subst (λ (done : List traces.Position). IsRead point (alphabet_of c.args.icfg.now) c.args.letters.now (map (λ v. v.items) c.args.versions.now) c.args.run.now 0 (length c.index-versions-0.result.items) done whole) (sym none) read);
+          (subst (λ (done : List traces.TracePosition). IsRead point (alphabet_of c.args.icfg.now) c.args.letters.now (map (λ v. v.items) c.args.versions.now) c.args.run.now 0 (length c.index-versions-0.result.items) done whole) (sym none) read);
       fits = λ h. subst (AllByRecursion PositionFits) (sym none) tt;
     }
 
@@ -90,7 +90,7 @@ loop-i-preserved c =
     let a : Letter = get_or c.args.letters.now c.loop-i.i d in
     let al : Alphabet = alphabet_of c.args.icfg.now in
     let point = point_of c.args.point.now in
-    let whole : List traces.Position = next_positions point c.args.icfg.now c.args.letters.now c.args.run.now in
+    let whole : List traces.TracePosition = next_positions point c.args.icfg.now c.args.letters.now c.args.run.now in
     let versions : List (List ℕ) = map (λ v. v.items) c.args.versions.now in
     let o : Option PlainAct = option_map (λ a. plain_act a.now) c.act_of-act.result in
     let is : o ≡ act_of al a = c.act_of-act.ensures in
@@ -99,13 +99,13 @@ loop-i-preserved c =
     let runs : c.loop-i.i + 1 < length c.args.run.now = omega (arith, c.requires.run) in
     let got : slice_get versions (c.loop-i.i + 1) ≡ Some c.index-versions-i.result.items =
     slice_get-map (λ v. v.items) c.args.versions.now (c.loop-i.i + 1) ∙ ap (option_map (λ v. v.items)) (slice_get_read c.args.versions.now (length c.args.versions.now) (c.loop-i.i + 1) c.index-versions-i.result refl less c.index-versions-i.is) in
-    let x : traces.Position = plain_position c.in_ok-next.next in
+    let x : traces.TracePosition = plain_position c.in_ok-next.next in
     let x_is : x ≡ record { place = get_or c.args.run.now (c.loop-i.i + 1) 0; values = read point c.index-versions-i.result.items; helpers = read point (helper_columns (act_of al a) c.loop-i.made) } =
     c.in_ok-next.ensures.value ∙ (λ k. record { place = get_or c.args.run.now (c.loop-i.i + 1) 0; values = read point (c.deref.ensures.value k); helpers = read point (helper_columns (is k) c.loop-i.made) }) in
     let items : plain_positions c.push.new.self.items ≡ plain_positions c.loop-i.found.items ++ x ∷ [] = ap plain_positions c.in_ok-push.ensures.items ∙ map-append plain_position c.loop-i.found.items (c.in_ok-next.next ∷ []) in
     record {
       read =
-          subst (λ (done : List traces.Position). IsRead point al c.args.letters.now versions c.args.run.now (c.loop-i.i + 1) (c.loop-i.made + c.columns_made-made.result) done whole) (sym items)
+          subst (λ (done : List traces.TracePosition). IsRead point al c.args.letters.now versions c.args.run.now (c.loop-i.i + 1) (c.loop-i.made + c.columns_made-made.result) done whole) (sym items)
           (read_more point al c.args.letters.now versions c.args.run.now c.loop-i.i c.loop-i.made (plain_positions c.loop-i.found.items) whole a (get_or c.args.run.now (c.loop-i.i + 1) 0) c.index-versions-i.result.items c.columns_made-made.result x
           (slice_get-get_or c.args.letters.now c.loop-i.i d c.loop-i-test.true) (slice_get-get_or c.args.run.now (c.loop-i.i + 1) 0 runs) got (c.columns_made-made.ensures ∙ ap (columns_made al) is) x_is c.loop-i.invariant.read);
       fits = λ h. subst (AllByRecursion PositionFits) (sym items) (all_snoc PositionFits (plain_positions c.loop-i.found.items) x (c.loop-i.invariant.fits h) (c.in_ok-next.ensures.fits h));

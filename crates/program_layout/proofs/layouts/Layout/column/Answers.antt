@@ -1,6 +1,6 @@
 use Rattle.std.proofs.Common.{◌≡◌, ◌+◌, ◌<◌, ◌^◌, ℕ, sym, subst, arith}
 use Rattle.typing_rules.specs.TypedParts.{TypedParts, typed_program}
-use Rattle.lowered_steps.specs.ProgramFrames.{frame_at, number_in}
+use Rattle.lowered_steps.specs.ProgramFrames.{frame_at, column_number}
 use Rattle.program_layout.specs.Layouts.{StandsIn}
 use Rattle.program_layout.proofs.ColumnLaws.{global_here, local_here, local_has_number}
 use Rattle.program_layout.proofs.layouts.Layout.column.Goals as goal
@@ -17,5 +17,5 @@ returns-in-Global c = global_here (typed_program c.args.self.now) c.args.column 
 
 pub returns-in-Local : goal.returns-in-Local
 returns-in-Local c =
-    subst (λ (p : TypedParts). (n : ℕ) → StandsIn (frame_at (typed_program p) n) c.args.column → c.self.inside.before_locals + c.in-Local.number ≡ number_in (frame_at (typed_program p) n) c.args.column) c.self.view_is
+    subst (λ (p : TypedParts). (n : ℕ) → StandsIn (frame_at (typed_program p) n) c.args.column → c.self.inside.before_locals + c.in-Local.number ≡ column_number (frame_at (typed_program p) n) c.args.column) c.self.view_is
     (local_here (typed_program c.self.inside.program.now) c.args.column c.in-Local.number c.self.inside.before_locals c.in-Local.is c.self.invariant.before)
