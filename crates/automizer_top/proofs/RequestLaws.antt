@@ -8,7 +8,7 @@ use Rattle.std.proofs.lemmas.Bool.{and_parts, leb-true}
 use Rattle.std.proofs.lemmas.Option.{same_Some, none-some, cond_some}
 use Rattle.clap.specs.Kinds.{Kinds}
 use Rattle.clap.specs.Walk.{Row, first_of}
-use Rattle.automizer_top.specs.CommandLine.{Task, Check, Replay, Print, Verify, Big, Settings, Request, is_number_in, number_in, task_of, settings_of, request_of, request_by, faults, values, requested}
+use Rattle.automizer_top.specs.CommandLine.{Task, Check, Replay, Print, Verify, Big, Settings, Request, is_number_in, number_in_bounds, task_of, settings_of, request_of, request_by, faults, values, requested}
 use Rattle.automizer_top.specs.Report.{Ask}
 
 -- the name of the program text
@@ -53,7 +53,7 @@ nothing_asked words s x none e = none-some (record { task = x; settings = s }) (
 
 -- ---- settings are in their ranges
 
-number_within : (least most : ℕ) (text : List ℕ) (n : ℕ) → number_in least most text ≡ Some n → n ≤ most
+number_within : (least most : ℕ) (text : List ℕ) (n : ℕ) → number_in_bounds least most text ≡ Some n → n ≤ most
 number_within least most text n e =
     let v = digits_value 10 text in
     let c = cond_some (is_number_in least most text) v n e in
@@ -82,12 +82,12 @@ rounds_by (Some x) (Some n) None depth s e = absurd (none-some s e)
 rounds_by (Some x) (Some n) (Some w) None s e = absurd (none-some s e)
 rounds_by (Some x) (Some n) (Some w) (Some d) s e = ap (λ (u : Settings). Some u.limits.rounds) (same_Some (record { entry = x; limits = record { rounds = n; workers = w; depth = d } }) s e)
 
-number_by : (text : Option (List ℕ)) (n : ℕ) → option_and_then (number_in 1 100000) text ≡ Some n → n ≤ 100000
+number_by : (text : Option (List ℕ)) (n : ℕ) → option_and_then (number_in_bounds 1 100000) text ≡ Some n → n ≤ 100000
 number_by None n e = absurd (none-some n e)
 number_by (Some text) n e = number_within 1 100000 text n e
 
 abbrev number_at : ℕ → ℕ → List ℕ → List Row → Option ℕ
-number_at least most id rows = option_and_then (number_in least most) (first_of id rows)
+number_at least most id rows = option_and_then (number_in_bounds least most) (first_of id rows)
 
 request_rounds : (rows : List Row) (r : Request) → request_of rows ≡ Some r → r.settings.limits.rounds ≤ 100000
 request_rounds rows r e =

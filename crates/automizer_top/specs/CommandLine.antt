@@ -67,8 +67,8 @@ abbrev pub is_number_in : ℕ → ℕ → List ℕ → Bool
 is_number_in least most text = bytes_eq (decimal (digits_value 10 text)) text
     && (nat_le least (digits_value 10 text) && nat_le (digits_value 10 text) most)
 
-abbrev pub number_in : ℕ → ℕ → List ℕ → Option ℕ
-number_in least most text = if is_number_in least most text then Some (digits_value 10 text) else None
+abbrev pub number_in_bounds : ℕ → ℕ → List ℕ → Option ℕ
+number_in_bounds least most text = if is_number_in least most text then Some (digits_value 10 text) else None
 
 -- the text has no digit, or begins with a plus or a superfluous zero
 abbrev pub is_padded : List ℕ → Bool
@@ -78,7 +78,7 @@ abbrev pub task_of_one : List ℕ → List ℕ → Option Task
 task_of_one mode program =
     if bytes_eq mode (codes "print") then Some (Print program)
     else (if bytes_eq mode (codes "verify") then Some (Verify program)
-    else (if bytes_eq mode (codes "big") then option_map Big (number_in 1 200 program) else None))
+    else (if bytes_eq mode (codes "big") then option_map Big (number_in_bounds 1 200 program) else None))
 
 abbrev pub task_of_two : List ℕ → List ℕ → List ℕ → Option Task
 task_of_two mode program second =
@@ -98,9 +98,9 @@ task_of rows = option_and_then (λ mode. option_and_then (λ program. task_by mo
 abbrev pub settings_of : List Row → Option Settings
 settings_of rows = option_and_then (λ entry. option_and_then (λ rounds. option_and_then (λ workers. option_map
     (λ depth. record { entry = entry; limits = record { rounds = rounds; workers = workers; depth = depth } })
-    (option_and_then (number_in 0 64) (first_of (codes "depth") rows)))
-    (option_and_then (number_in 1 64) (first_of (codes "workers") rows)))
-    (option_and_then (number_in 1 100000) (first_of (codes "rounds") rows)))
+    (option_and_then (number_in_bounds 0 64) (first_of (codes "depth") rows)))
+    (option_and_then (number_in_bounds 1 64) (first_of (codes "workers") rows)))
+    (option_and_then (number_in_bounds 1 100000) (first_of (codes "rounds") rows)))
     (first_of (codes "entry") rows)
 
 abbrev pub request_of : List Row → Option Request

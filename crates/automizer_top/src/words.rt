@@ -139,7 +139,7 @@ fn is_padded(digits: &[u8]) -> bool
 
 /// The number that the text spells in decimal digits, without sign or leading zero, where it lies in that range.
 fn number(text: &str, least: u32, most: u32) -> Option<u32>
-    ensures value { result ≡ line.number_in least most text.now }
+    ensures value { result ≡ line.number_in_bounds least most text.now }
     ensures within { IfSome result (λ n. (least ≤ n) × (n ≤ most)) }
 {
     if is_padded(text.as_bytes()) {
@@ -168,7 +168,7 @@ fn task_of_two<'a>(mode: &str, program: &'a str, second: &'a str) -> Option<Task
 
 /// What `big` asks for.
 fn generated<'a>(count: &str) -> Option<Task<'a>>
-    ensures task { option_map task result ≡ option_map line.Big (line.number_in 1 200 count.now) }
+    ensures task { option_map task result ≡ option_map line.Big (line.number_in_bounds 1 200 count.now) }
     ensures counted { IfSome result IsCounted }
 {
     let count = number(count, 1, 200)?;

@@ -2,7 +2,7 @@
 use Rattle.std.specs.Prelude.{Bool}
 use Rattle.boogie_tree.specs.declared.tree.Column.{Column}
 use Rattle.boogie_tree.specs.declared.tree.VarInfo.{VarInfo}
-use Rattle.letter_acts.specs.Frames.{is_global, is_constant, is_variable, is_result, is_local, is_old_column}
+use Rattle.letter_acts.specs.Frames.{is_global, is_fixed_column, is_variable, is_result, is_local, is_old_column}
 use Rattle.frame_rows.specs.declared.frames.Class.{Class}
 use Rattle.frame_rows.specs.declared.frames.Class.TheVariants.{Global, Constant, Variable, Outcome, Local, Old}
 
@@ -13,7 +13,7 @@ is_old c = is_old_column c.0
 -- the column is of this class
 abbrev pub is_of : Class → (Column × VarInfo) → Bool
 is_of Global = is_global
-is_of Constant = is_constant
+is_of Constant = is_fixed_column
 is_of Variable = is_variable
 is_of Outcome = is_result
 is_of Local = is_local

@@ -123,6 +123,7 @@ fn inside(
             written,
             helpers,
             rows,
+            coarse: false,
         }),
         Err(_) => Err(RowFault::Memory),
     }
@@ -144,6 +145,7 @@ fn ruled(alloc: Global, kind: &str, head: &[u32], rows: &str) -> Result<Act, Row
             callee: *callee,
             helpers: *helpers,
             rows: made,
+            coarse: false,
         }),
         [proc, helpers, written @ ..] => inside(alloc, *proc, *helpers, written, made),
         _ => Err(RowFault::Past),
