@@ -1,7 +1,8 @@
 #!/usr/bin/env python3
 """Prints how much stack the program needs at least, in KB, for the deepest legal programs of several kinds, in each mode: stack.py [PROGRAM ..]
 
-It wants the proved program: cd crates/automizer && rt run"""
+It wants the proved program: cd crates/automizer && rt run. It tells no less than the 0.9 MB that the program touches before its work begins; what needs no
+more than these is not told apart."""
 import os
 import pathlib
 import resource
@@ -23,6 +24,16 @@ def nested(head: str, inner: str, depth: int) -> str:
 def sums() -> str:
     """Sums in sums, to the right."""
     return "(x + " * (DEPTH - 2) + "x" + ")" * (DEPTH - 2)
+
+
+def joined(operator: str) -> str:
+    """Operations with that boolean operator, each in the one before, to the right."""
+    return f"(b {operator} " * (DEPTH - 2) + "b" + ")" * (DEPTH - 2)
+
+
+def enclosed() -> str:
+    """Negations of what is in parentheses."""
+    return "!(" * (DEPTH - 2) + "b" + ")" * (DEPTH - 2)
 
 
 def opposites() -> str:
@@ -49,6 +60,10 @@ KINDS = {
     "an assertion of opposites in conditions": program(nested("if (*) { ", f"assert {opposites()} <= {opposites()} || b;", DEPTH - 1)),
     "an assertion of negations in loops": program(nested("while (*) { ", f"assert {negations()};", DEPTH - 1)),
     "an assignment of sums in else branches": program(nested("if (*) { } else { ", f"x := {sums()};", DEPTH - 1)),
+    "an assignment of implications in else branches": program(nested("if (*) { } else { ", f"b := {joined('==>')};", DEPTH - 1)),
+    "an assignment of equivalences in else branches": program(nested("if (*) { } else { ", f"b := {joined('<==>')};", DEPTH - 1)),
+    "an assignment of conjunctions in else branches": program(nested("if (*) { } else { ", f"b := {joined('&&')};", DEPTH - 1)),
+    "an assignment of negations in parentheses in else branches": program(nested("if (*) { } else { ", f"b := {enclosed()};", DEPTH - 1)),
     "an assignment of negations in loops": program(nested("while (*) { ", f"b := {negations()};", DEPTH - 1)),
     "a call of sums and negations in loops": program(nested("while (*) { ", f"call x := p({sums()}, {negations()});", DEPTH - 1)),
     "guards of negations in conditions": program(chosen(negations())),
@@ -58,6 +73,17 @@ KINDS = {
 # What is no failure, so that `replay` answers it once the program is typed; the annotation of nothing, which `check` rejects once the program is lowered;
 # and a failure without values, which goes as far as it can.
 SECONDS = {"replay": "unsafe\nrounds 0\nassertion 1 line 1\nsteps 1000000\nvalues 0\n", "check": "safe\nrounds 0\nannotation 1\nend\n"}
+# A program, and an annotation of it whose one predicate is as deep as it may be; a triple is tried with it, and rejected.
+SMALL = "procedure main() { var x: int; x := 1; assert x >= 1; }\n"
+ANNOTATION = "safe\nrounds 1\nannotation 1\npred 2 main {predicate}\ntriple in 0 1 2 (leaf 0:-1 1:1)\ntriple in 2 3 1 (leaf 0:1 1:1)\nnode 0 0 0\nnode 1 1 0\nnode 2 2 0 2\nnode 3 3 0\nnode 4 4 0 1\nstep 0 0 1\nstep 1 1 2\nstep 2 2 3\nstep 2 3 4\nend\n"
+
+
+def predicate() -> str:
+    """Conjunctions in disjunctions and disjunctions in conjunctions, to the left."""
+    inner = "(le -1 -1 l:x)"
+    for level in range(DEPTH):
+        inner = f"({'and' if level % 2 else 'or'} {inner} (le -1 -1 l:x))"
+    return inner
 
 
 def ends(words: list[str], stack: int) -> bool:
@@ -99,6 +125,10 @@ def main() -> None:
                         more = ["--workers", "1", "--rounds", "2"]
                     said.append(f"{mode} {needed([each, mode, first, *more])}")
                 print(f"{kind}: {', '.join(said)} KB", flush=True)
+        pathlib.Path(first).write_text(SMALL, encoding="ascii")
+        pathlib.Path(second).write_text(ANNOTATION.format(predicate=predicate()), encoding="ascii")
+        for each in programs:
+            print(f"an annotation of a deep predicate: check {needed([each, 'check', first, second])} KB", flush=True)
 
 
 if __name__ == "__main__":
