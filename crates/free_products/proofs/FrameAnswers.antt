@@ -17,17 +17,17 @@ use Rattle.free_products.proofs.NarrowLemmas.{plain_letters}
 use Rattle.free_products.proofs.FreedLemmas.{freed_same, length_append, map_length}
 use Rattle.free_products.proofs.MeanLemmas.{all_freed_length}
 
-length-product_columns : (m k : ℕ) → length (product_columns m k) ≡ k
+pub length-product_columns : (m k : ℕ) → length (product_columns m k) ≡ k
 length-product_columns m zero = refl
 length-product_columns m (suc k) = ap suc (length-product_columns (suc m) k)
 
-length-widened : (frame : Columns) (m k : ℕ) → length (widened frame m k) ≡ length frame + k
+pub length-widened : (frame : Columns) (m k : ℕ) → length (widened frame m k) ≡ length frame + k
 length-widened frame m k = let e = length-product_columns m k in let f = length_append frame (product_columns m k) in omega (arith, e, f)
 
-none_widened : (frame : Columns) (m k : ℕ) → k ≡ 0 → widened frame m k ≡ frame
+pub none_widened : (frame : Columns) (m k : ℕ) → k ≡ 0 → widened frame m k ≡ frame
 none_widened frame m k e = ap (widened frame m) e ∙ append-nil frame
 
-exact_letters : (low more k : ℕ) (cs : List Conjunction) → k ≡ 0 → map (marked_letter low k more) cs ≡ map exact_letter cs
+pub exact_letters : (low more k : ℕ) (cs : List Conjunction) → k ≡ 0 → map (marked_letter low k more) cs ≡ map exact_letter cs
 exact_letters low more k cs e = ap (λ (j : ℕ). map (marked_letter low j more) cs) e ∙ each cs
   where
     each : (cs : List Conjunction) → map (marked_letter low 0 more) cs ≡ map exact_letter cs
@@ -76,7 +76,7 @@ no_append : {X : Type 0} (xs ys : List X) → length (xs ++ ys) ≡ 0 → (lengt
 no_append [] ys e = (refl, e)
 no_append (x ∷ xs) ys e = absurd (omega (arith, e))
 
-all_same : (g : Column → Bool) (m : ℕ) (es : List TypedExpression) → length (all_free_products g es) ≡ 0 → all_freed g m es ≡ es
+pub all_same : (g : Column → Bool) (m : ℕ) (es : List TypedExpression) → length (all_free_products g es) ≡ 0 → all_freed g m es ≡ es
 all_same g m [] h = refl
 all_same g m (e ∷ es) h =
     let p = no_append (free_products g false e) (all_free_products g es) h in

@@ -60,7 +60,7 @@ pub fn letters_over(
 }
 
 /// Conjunctions over a frame without products, each its own letter.
-fn all_exact(alloc: Global, conjs: Vec<Conj>) -> Result<Vec<MarkedConj>, AllocError>
+pub fn all_exact(alloc: Global, conjs: Vec<Conj>) -> Result<Vec<MarkedConj>, AllocError>
     ensures { IfOk result (λ ls. all_marked ls.items ≡ map exact_letter (conjunctions conjs.items)) }
 {
     let mut all = Vec::with_capacity(alloc, conjs.len())?;

@@ -142,7 +142,7 @@ fn letter_within(alloc: Global, span: &ProductSpan, conj: &Conj) -> Result<Marke
 }
 
 /// The letter of a conjunction over `low` columns of a frame, `count` products, `more` further columns, and its helpers.
-fn letter(
+pub fn letter(
     alloc: Global,
     low: u32,
     count: u32,

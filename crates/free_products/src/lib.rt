@@ -10,7 +10,7 @@ mod letters;
 mod ties;
 mod told;
 
-pub use conditions::{free_assign, free_paths, letters_over, widened};
+pub use conditions::{all_exact, free_assign, free_paths, letters_over, widened};
 pub use freeing::{FreedExpr, FreedExprs, all_count, all_freed, freed, product_count};
-pub use letters::MarkedConj;
+pub use letters::{MarkedConj, letter};
 pub use told::told_condition;
