@@ -134,8 +134,8 @@ module _ (t : TypedProgram) (Known : ℕ → Point → Type 0) (know : KnowsPoin
 
   told_step : (c : Config) (s : ToldStep) → IsGood t Known c → IsToldStep t (shown_stack t c) s → LeadsOn c s ⊎ Stops c s
   told_step c s g st = elim (import_or_not (action_at t c.top.proc c.top.point)) [
-    | inl plain ↦ by_kind c s g (backward t Known know c s.after g plain st.step)
-    | inr at_call ↦ (let m : IsToldImport t Import c s.after (helpers_of t (shown_stack t c) s.after st.step) = tells.told c s.after g at_call st.step in
+    | inl plain ↦ by_kind c s g (backward t Known know c s.after g plain st.step st.exact)
+    | inr at_call ↦ (let m : IsToldImport t Import c s.after (helpers_of t (shown_stack t c) s.after st.step) = tells.told c s.after g at_call st.step st.exact in
         inl (record {
           after = m.after;
           good = imports.good c m.after g m.import;

@@ -24,6 +24,7 @@ use Rattle.lowered_imports.specs.Laws.{helpers_of}
 use Rattle.lowered_runs.specs.Choices.{spot_place_number as number_at, spot_choices, ToldStep, AreToldSteps, told_choices, machine_choices}
 use Rattle.lowered_graph.specs.Arcs.{place_number, error_place, spot_number}
 use Rattle.lowered_graph.specs.Lowered.{site, program_sites, lowered}
+use Rattle.lowered_graph.specs.Laws.{IsExactWord}
 use Rattle.lowered_graph.proofs.KnownPlaces.{PlaceLaws, IsKnown, known_start, known_number}
 use Rattle.lowered_graph.proofs.Alphabet.{letters_of}
 use Rattle.lowered_graph.proofs.Joined.{IsKnownSpot, IsKnownStack, step_known}
@@ -70,7 +71,7 @@ abbrev Led : TypedProgram → Kind → Letter → List TracePosition → TracePo
 Led t kind a before x y after = Leads (told_steps (lowered t)) kind a before x y (λ s. s ≡ after)
 
 by_below : (l : PlaceLaws) (t : TypedProgram) → IsTrue (is_valid t) → (x : Stack) → IsKnownStack t x → (a : Letter) (hs : List ℤ) (b : TracePosition) (before : List TracePosition) (y : TracePosition) (below : List Pending) → x.below ≡ below → PendAt t below (b ∷ before) →
-    Member (lowered t).automaton.backs (spot_number t x.proc x.spot, b.place, a, y.place) → LeadsBack (letters_of t) a (standing_at t x hs) b y → ToldBack t x y before
+    Member (lowered t).automaton.backs (spot_number t x.proc x.spot, b.place, a, y.place) → LeadsBack (letters_of t) a (standing_at t x hs) b y → ToldBack t x a y before
 by_below l t v x k a hs b before y [] e pend m led = absurd pend
 by_below l t v x k a hs b before y (c ∷ rest) e pend m led =
     back_told l t v x k a hs b.helpers y before c rest e
@@ -78,11 +79,11 @@ by_below l t v x k a hs b before y (c ∷ rest) e pend m led =
     (subst (λ (p : TracePosition). LeadsBack (letters_of t) a (standing_at t x hs) p y) (sym pend.0) led) pend.1
 
 letter_told : (l : PlaceLaws) (t : TypedProgram) → IsTrue (is_valid t) → (x : Stack) → IsKnownStack t x → (kind : Kind) (a : Letter) (hs : List ℤ) (before : List TracePosition) (y : TracePosition) (after : List TracePosition) → PendAt t x.below before →
-    Led t kind a before (standing_at t x hs) y after → ToldBack t x y after
-letter_told l t v x k kinds.Inside a hs before y after pend h = subst (ToldBack t x y) h.1 (inside_told l t v x k a hs y before h.0.0 h.0.1 pend)
-letter_told l t v x k kinds.Call a hs before y after pend h = subst (ToldBack t x y) h.1 (call_told l t v x k a hs y before h.0.0 h.0.1 pend)
+    Led t kind a before (standing_at t x hs) y after → ToldBack t x a y after
+letter_told l t v x k kinds.Inside a hs before y after pend h = subst (ToldBack t x a y) h.1 (inside_told l t v x k a hs y before h.0.0 h.0.1 pend)
+letter_told l t v x k kinds.Call a hs before y after pend h = subst (ToldBack t x a y) h.1 (call_told l t v x k a hs y before h.0.0 h.0.1 pend)
 letter_told l t v x k kinds.Back a hs [] y after pend h = absurd h
-letter_told l t v x k kinds.Back a hs (b ∷ before) y after pend h = subst (ToldBack t x y) h.1 (by_below l t v x k a hs b before y x.below refl pend h.0.0 h.0.1)
+letter_told l t v x k kinds.Back a hs (b ∷ before) y after pend h = subst (ToldBack t x a y) h.1 (by_below l t v x k a hs b before y x.below refl pend h.0.0 h.0.1)
 
 -- ---- its choices
 
@@ -100,9 +101,9 @@ here_found l t v x k q e p at helpers z =
     let got : slice_get (program_places t) (q.place - 1) ≡ Some (record { proc = x.proc; point = p }) = ap (λ (r : ℕ). slice_get (program_places t) (r - 1)) (sym number) ∙ found l t v x.proc p known in
     ap (λ (s : Spot). spot_choices t x.proc s helpers z) at ∙ ap (λ (o : Option Place). spot_choices t (standing q.values o).proc (standing q.values o).spot helpers z) (sym got)
 
-letter_choices : (l : PlaceLaws) (t : TypedProgram) → IsTrue (is_valid t) → (x : Stack) → IsKnownStack t x → (q y : TracePosition) (after : List TracePosition) → standing_at t x q.helpers ≡ q → (b : ToldBack t x y after) →
+letter_choices : (l : PlaceLaws) (t : TypedProgram) → IsTrue (is_valid t) → (x : Stack) → IsKnownStack t x → (a : Letter) (q y : TracePosition) (after : List TracePosition) → standing_at t x q.helpers ≡ q → (b : ToldBack t x a y after) →
     spot_choices t x.proc x.spot (helpers_of t x b.next b.step) b.next ≡ spot_choices t (stack_at t q).proc (stack_at t q).spot y.helpers (stack_at t y)
-letter_choices l t v x k q y after stands b =
+letter_choices l t v x k a q y after stands b =
     let from = step_from t x b.next b.step in
     let known : IsKnownStack t b.next = step_known l t v x b.next k b.step in
     let values : b.next.values ≡ (stack_at t y).values = ap (λ (p : TracePosition). p.values) b.stands ∙ sym (standing_values y.values (slice_get (program_places t) (y.place - 1))) in
@@ -132,24 +133,24 @@ record Told (t : TypedProgram) (i : ℕ) (x : Stack) (q : TracePosition) (more :
   are : AreToldSteps t i x steps
   aligned : Aligned t x q steps more
 
-goes_told : (l : PlaceLaws) (t : TypedProgram) → IsTrue (is_valid t) → (m i : ℕ) (line : Span) → Member (program_sites t) (site t m i line) → (w : List Letter) (x : Stack) → IsKnownStack t x → (before : List TracePosition) (q : TracePosition) (more : List TracePosition) →
+goes_told : (l : PlaceLaws) (t : TypedProgram) → IsTrue (is_valid t) → (m i : ℕ) (line : Span) → Member (program_sites t) (site t m i line) → (w : List Letter) → IsExactWord (lowered t) w → (x : Stack) → IsKnownStack t x → (before : List TracePosition) (q : TracePosition) (more : List TracePosition) →
     standing_at t x q.helpers ≡ q → PendAt t x.below before → GoesThrough (told_steps (lowered t)) before q w more → last_place q.place more ≡ error_place t i → Told t i x q more
-goes_told l t v m i line s [] x k before q [] stands pend h e = record {
+goes_told l t v m i line s [] marks x k before q [] stands pend h e = record {
   steps = [];
   are = wrong_spot l t v x.proc x.spot k.spot m i line s (ap (λ (p : TracePosition). p.place) stands ∙ e);
   aligned = stands;
 }
-goes_told l t v m i line s [] x k before q (y ∷ more) stands pend h e = absurd h
-goes_told l t v m i line s (a ∷ w) x k before q [] stands pend h e = absurd h
-goes_told l t v m i line s (a ∷ w) x k before q (y ∷ more) stands pend h e =
+goes_told l t v m i line s [] marks x k before q (y ∷ more) stands pend h e = absurd h
+goes_told l t v m i line s (a ∷ w) marks x k before q [] stands pend h e = absurd h
+goes_told l t v m i line s (a ∷ w) marks x k before q (y ∷ more) stands pend h e =
     let f = leads_stack (told_steps (lowered t)) a.kind a before q y (λ stack. GoesThrough (told_steps (lowered t)) stack y w more) h in
     let led : Led t a.kind a before (standing_at t x q.helpers) y f.0 = subst (λ (p : TracePosition). Led t a.kind a before p y f.0) (sym stands) f.1 in
-    let b : ToldBack t x y f.0 = letter_told l t v x k a.kind a q.helpers before y f.0 pend led in
-    let first : spot_choices t x.proc x.spot (helpers_of t x b.next b.step) b.next ≡ spot_choices t (stack_at t q).proc (stack_at t q).spot y.helpers (stack_at t y) = letter_choices l t v x k q y f.0 stands b in
-    let r : Told t i b.next y more = goes_told l t v m i line s w b.next (step_known l t v x b.next k b.step) f.0 y more b.stands b.pend f.2 e in
+    let b : ToldBack t x a y f.0 = letter_told l t v x k a.kind a q.helpers before y f.0 pend led in
+    let first : spot_choices t x.proc x.spot (helpers_of t x b.next b.step) b.next ≡ spot_choices t (stack_at t q).proc (stack_at t q).spot y.helpers (stack_at t y) = letter_choices l t v x k a q y f.0 stands b in
+    let r : Told t i b.next y more = goes_told l t v m i line s w marks.1 b.next (step_known l t v x b.next k b.step) f.0 y more b.stands b.pend f.2 e in
     record {
       steps = record { after = b.next; helpers = helpers_of t x b.next b.step } ∷ r.steps;
-      are = (record { step = b.step; helpers = refl }, r.are);
+      are = (record { step = b.step; exact = b.exact marks.0; helpers = refl }, r.are);
       aligned = (stands, first, r.aligned);
     }
 
@@ -180,31 +181,31 @@ aligned_stands t x q (s ∷ ss) [] h = absurd h
 aligned_stands t x q (s ∷ ss) (y ∷ more) h = h.0
 
 -- a trace has a first letter
-started_trace : (l : PlaceLaws) (t : TypedProgram) → IsTrue (is_valid t) → (m i : ℕ) (line : Span) → Member (program_sites t) (site t m i line) → (w : List Letter) (first : TracePosition) (more : List TracePosition) → first.place ≡ 0 →
+started_trace : (l : PlaceLaws) (t : TypedProgram) → IsTrue (is_valid t) → (m i : ℕ) (line : Span) → Member (program_sites t) (site t m i line) → (w : List Letter) → IsExactWord (lowered t) w → (first : TracePosition) (more : List TracePosition) → first.place ≡ 0 →
     GoesThrough (told_steps (lowered t)) [] first w more → last_place first.place more ≡ error_place t i → (y : TracePosition) × (rest : List TracePosition) × (more ≡ y ∷ rest) × Started t i y rest
-started_trace l t v m i line s [] first [] e h ends = absurd (omega arith)
-started_trace l t v m i line s [] first (y ∷ more) e h ends = absurd h
-started_trace l t v m i line s (a ∷ w) first [] e h ends = absurd h
-started_trace l t v m i line s (a ∷ w) first (y ∷ more) e h ends =
+started_trace l t v m i line s [] marks first [] e h ends = absurd (omega arith)
+started_trace l t v m i line s [] marks first (y ∷ more) e h ends = absurd h
+started_trace l t v m i line s (a ∷ w) marks first [] e h ends = absurd h
+started_trace l t v m i line s (a ∷ w) marks first (y ∷ more) e h ends =
     let f = leads_stack (told_steps (lowered t)) a.kind a [] first y (λ stack. GoesThrough (told_steps (lowered t)) stack y w more) h in
     let b = first_letter l t v a.kind a first y f.0 e f.1 in
     let x : Stack = b.0.stack in
     let pend : PendAt t x.below f.0 = subst (PendAt t x.below) b.1 (subst (λ (bs : List Pending). PendAt t bs []) (sym b.0.none_open) tt) in
-    (y, more, refl, record { stack = x; start = b.0.start; told = goes_told l t v m i line s w x (start_known l t v x b.0.start) f.0 y more b.0.stands pend f.2 ends })
+    (y, more, refl, record { stack = x; start = b.0.start; told = goes_told l t v m i line s w marks.1 x (start_known l t v x b.0.start) f.0 y more b.0.stands pend f.2 ends })
 
-trace_started : (l : PlaceLaws) (t : TypedProgram) (i : ℕ) (w : List Letter) (first : TracePosition) (more : List TracePosition) → IsTrue (is_valid t) → IsTrace (lowered t) i w first more →
+trace_started : (l : PlaceLaws) (t : TypedProgram) (i : ℕ) (w : List Letter) (first : TracePosition) (more : List TracePosition) → IsTrue (is_valid t) → IsExactWord (lowered t) w → IsTrace (lowered t) i w first more →
     (y : TracePosition) × (rest : List TracePosition) × (more ≡ y ∷ rest) × Started t i y rest
-trace_started l t i w first more v r =
+trace_started l t i w first more v marks r =
     let owner = member_site (program_sites t) r.site r.is_site in
     let n : ℕ = owner.0 in
     let line : Span = record { line = r.site.id.line; col = 0 } in
     let to : r.site.place ≡ error_place t i = site_place t (n, r.site) owner.1 ∙ ap (error_place t) r.number in
     let is : ◌≡◌ {A = ℕ × Site} (n, r.site) (site t n i line) = (λ j. (n, record { id = record { number = r.number j; line = r.site.id.line }; place = to j })) in
-    started_trace l t v n i line (subst (Member (program_sites t)) is owner.1) w first more r.start ((along_by_stack (told_steps (lowered t)) w first more).0 r.along) (r.ends ∙ to)
+    started_trace l t v n i line (subst (Member (program_sites t)) is owner.1) w marks first more r.start ((along_by_stack (told_steps (lowered t)) w first more).0 r.along) (r.ends ∙ to)
 
 pub traces_fail : PlaceLaws → TracesFail
-traces_fail l t i w first more v r =
-    let b = trace_started l t i w first more v r in
+traces_fail l t i w first more v marks r =
+    let b = trace_started l t i w first more v marks r in
     let s : Started t i b.0 b.1 = b.3 in
     let x : Stack = s.stack in
     let same : machine_choices t x s.told.steps ≡ trace_choices t (b.0 ∷ b.1) =
@@ -262,13 +263,13 @@ last_is q [] x = refl
 last_is q (y ∷ front) x = last_is y front x
 
 pub traces_are_run : PlaceLaws → TracesAreRun
-traces_are_run l t i w first [] x y rest v r =
-    let b = trace_started l t i w first (x ∷ y ∷ rest) v r in
+traces_are_run l t i w first [] x y rest v marks r =
+    let b = trace_started l t i w first (x ∷ y ∷ rest) v marks r in
     let head : b.0 ≡ x = cc in
     let tail : b.1 ≡ y ∷ rest = cc in
     comes_to t v i x [] y rest (subst (Started t i x) tail (subst (λ (q : TracePosition). Started t i q b.1) head b.3))
-traces_are_run l t i w first (q ∷ front) x y rest v r =
-    let b = trace_started l t i w first (q ∷ (front ++ x ∷ y ∷ rest)) v r in
+traces_are_run l t i w first (q ∷ front) x y rest v marks r =
+    let b = trace_started l t i w first (q ∷ (front ++ x ∷ y ∷ rest)) v marks r in
     let head : b.0 ≡ q = cc in
     let tail : b.1 ≡ front ++ x ∷ y ∷ rest = cc in
     let apart : front ++ x ∷ y ∷ rest ≡ (front ++ x ∷ []) ++ y ∷ rest = sym (append_assoc front (x ∷ []) (y ∷ rest)) in

@@ -13,7 +13,7 @@ use Rattle.boogie_run.specs.Steps.{Failed}
 use Rattle.boogie_run.specs.Runs.{run}
 use Rattle.lowered_steps.specs.ProgramFrames.{frame_at}
 use Rattle.lowered_steps.specs.Edges.{numbers_in}
-use Rattle.lowered_steps.specs.Stacks.{Stack, IsStep}
+use Rattle.lowered_steps.specs.Stacks.{Stack, IsStep, IsExact}
 use Rattle.lowered_steps.specs.Moves.{IsGood, shown_stack}
 use Rattle.lowered_imports.specs.Imports.{IsKnownImport, IsImport, later, import_choices, told_globals}
 use Rattle.lowered_imports.specs.KnownPoints.{IsPointOf, StandsAtImport}
@@ -57,17 +57,17 @@ run_of_import t valid c choices i g at_call fails =
     let r : FailsLater t c choices i = runs_import t (IsPointOf t) c s.callee s.args choices i g s.known fails in
     record { after = r.behind; import = r.whole; rest = r.rest; shorter = r.fewer; fails = r.fails }
 
-back_of_import : (t : TypedProgram) → IsTrue (is_valid t) → (c : Config) (y : Stack) → IsGood t (IsPointOf t) c → IsAtImport t c → (s : IsStep t (shown_stack t c) y) →
+back_of_import : (t : TypedProgram) → IsTrue (is_valid t) → (c : Config) (y : Stack) → IsGood t (IsPointOf t) c → IsAtImport t c → (s : IsStep t (shown_stack t c) y) → IsExact t (shown_stack t c) y s →
     IsToldBy t c y (helpers_of t (shown_stack t c) y s)
-back_of_import t valid c y g at_call s =
+back_of_import t valid c y g at_call s exact =
     let k : StandsAtImport t c.top.proc c.top.point = imports_known t valid c.top.proc c.top.point g.top.known at_call in
-    imports_back t c k.callee k.args y valid g k.known s
+    imports_back t c k.callee k.args y valid g k.known s exact
 
-told_of_import : (t : TypedProgram) → IsTrue (is_valid t) → (c : Config) (y : Stack) → IsGood t (IsPointOf t) c → IsAtImport t c → (s : IsStep t (shown_stack t c) y) →
+told_of_import : (t : TypedProgram) → IsTrue (is_valid t) → (c : Config) (y : Stack) → IsGood t (IsPointOf t) c → IsAtImport t c → (s : IsStep t (shown_stack t c) y) → IsExact t (shown_stack t c) y s →
     IsToldImport t (IsImport t) c y (helpers_of t (shown_stack t c) y s)
-told_of_import t valid c y g at_call s =
+told_of_import t valid c y g at_call s exact =
     let hs : List ℤ = helpers_of t (shown_stack t c) y s in
-    let b : IsToldBy t c y hs = back_of_import t valid c y g at_call s in
+    let b : IsToldBy t c y hs = back_of_import t valid c y g at_call s exact in
     let q : TypedProcedure = b.whole.known.procedure in
     let told : choices_of t c.top.proc c.top.point (action_at t c.top.proc c.top.point) hs y ≡ imports.choices_of t c b.behind b.whole =
     known_choices t c.top.proc c.top.point b.whole.callee b.whole.args hs y b.whole.known ∙ (λ i. import_choices (sym b.held i ++ sym b.results i) (ensured_conditions q.specs)) in
@@ -82,10 +82,10 @@ pub imports_are_steps : (t : TypedProgram) → IsTrue (is_valid t) → ImportsAr
 imports_are_steps t valid = record {
   goes = λ c d g m. (imports_go t c d valid g m).0;
   good = λ c d g m. (imports_go t c d valid g m).1;
-  back = λ c y g at_call s. let b = back_of_import t valid c y g at_call s in record { after = b.behind; import = b.whole; shown = b.shown };
+  back = λ c y g at_call s exact. let b = back_of_import t valid c y g at_call s exact in record { after = b.behind; import = b.whole; shown = b.shown };
   runs = λ c d g m. record { choices = imports.choices_of t c d m; goes = λ rest. imports_run t (IsPointOf t) c d g m rest };
   run = λ c choices i g at_call fails. run_of_import t valid c choices i g at_call fails;
 }
 
 pub imports_are_told : (t : TypedProgram) → IsTrue (is_valid t) → ImportsAreTold t (IsPointOf t) (IsImport t)
-imports_are_told t valid = record { told = λ c y g at_call s. told_of_import t valid c y g at_call s }
+imports_are_told t valid = record { told = λ c y g at_call s exact. told_of_import t valid c y g at_call s exact }

@@ -1,6 +1,6 @@
 -- The numbers of acts by first occurrence: each act has one, in each longer list of acts, too.
 use Rattle.std.proofs.Common.{◌≡◌, ◌∙◌, ℕ, zero, suc, ◌+◌, Bool, true, false, List, [], ◌∷◌, ◌++◌, map, length, Option, None, Some, inl, inr, refl, sym, ap, subst, arith, if◌then◌else◌}
-use Rattle.std.specs.Prelude.{slice_get}
+use Rattle.std.specs.Prelude.{slice_get, unwrap_or}
 use Rattle.std.proofs.lemmas.Bool.{false≢true}
 use Rattle.nwa_base.specs.Members.{Member}
 use Rattle.nwa_base.specs.Letters.{same_letter}
@@ -128,6 +128,14 @@ act_got (b ∷ acts) zero a e =
     let is : b ≡ a = cc in
     ap (λ (m : MarkedAct). Some m.act) is
 act_got (b ∷ acts) (suc n) a e = act_got acts n a e
+
+-- and the marks
+pub mark_got : (acts : List MarkedAct) (n : ℕ) (a : MarkedAct) → slice_get acts n ≡ Some a → unwrap_or (slice_get (map (λ m. m.coarse) acts) n) false ≡ a.coarse
+mark_got [] n a e = absurd (cc)
+mark_got (b ∷ acts) zero a e =
+    let is : b ≡ a = cc in
+    ap (λ (m : MarkedAct). m.coarse) is
+mark_got (b ∷ acts) (suc n) a e = mark_got acts n a e
 
 -- ---- the letter of an act
 

@@ -10,20 +10,27 @@ use Rattle.boogie_tree.specs.declared.tree.VarInfo.{VarInfo}
 use Rattle.typed_tree.specs.TypedTree.{TypedExpression, Lit, Truth, Var, Old, Not, Neg, Bin, TypedProcedure, TypedProgram}
 use Rattle.letter_acts.specs.Frames.{Columns, added, globals_from, old_columns, locals_from, is_parameter, is_result, places, result_columns}
 use Rattle.letter_acts.specs.Invariant.{AreDistinct, MayName, Take, type_at, written_by, BackIsActed}
-use Rattle.cond_jumps.specs.Conjunctions.{Conjunction, Just}
+use Rattle.cond_jumps.specs.Conjunctions.{Just, listed_plan}
 use Rattle.cond_jumps.specs.Forms.{linear_number, column}
 use Rattle.cond_jumps.specs.Comparisons.{equal, compared}
 use Rattle.cond_jumps.specs.Environments.{Environment}
-use Rattle.cond_jumps.specs.Frames.{frame_environment}
+use Rattle.cond_jumps.specs.Frames.{frame_environment, fixed_in}
+use Rattle.free_products.specs.FreeProducts.{all_freed}
+use Rattle.free_products.specs.Letters.{MarkedConjunction}
+use Rattle.free_products.specs.FrameLetters.{widened, all_product_count}
+use Rattle.free_products.proofs.MeanLemmas.{all_freed_length}
 use Rattle.boogie_run.specs.Needs.{locals_at, locals_if_any}
 use Rattle.typing_rules.specs.Rules.{results_of as results_of_procedure}
 use Rattle.lowered_steps.specs.ProgramFrames.{frame_at, width_at, column_number}
-use Rattle.lowered_steps.specs.Edges.{argument_sum, parameters_get, call_list, columns_before_locals, numbers_in}
+use Rattle.lowered_steps.specs.Edges.{argument_sum, parameters_get, call_plan, call_letters, columns_before_locals, numbers_in, local_count}
 use Rattle.lowered_steps.specs.Moves.{AreArguments, AreTargets, HasParameters}
 use Rattle.lowered_steps.specs.Stacks.{IsAmong}
 use Rattle.lowered_graph.proofs.NamedColumns.{RowsName, AreNamed, IsNamed, SumNames, ListNames, EachNames, column_names, equal_names, minus_names, PlanNames, with_names, always_names, linear_names}
 use Rattle.lowered_graph.proofs.FrameTargets.{local_place, AreStanding, target_stands, targets_stand, stands_type, standing_targets, standing_distinct}
-use Rattle.lowered_graph.proofs.EdgeActs.{frame_names, each_wider}
+use Rattle.lowered_graph.proofs.EdgeActs.{wide_length, frame_names, each_wider}
+use Rattle.lowered_graph.proofs.LetterNames.{LettersName, letters_name}
+use Rattle.lowered_steps.proofs.Enters.{width_is}
+use Rattle.lowered_steps.proofs.Goodness.{take_at_most}
 use Rattle.lowered_graph.proofs.Lists.{get_behind}
 use Rattle.letter_acts.proofs.ListLemmas.{all_weaker}
 use Rattle.lowered_graph.proofs.StartLetter.{globals_count}
@@ -90,11 +97,39 @@ pub record CallIsKnown (t : TypedProgram) (n f : ℕ) (args : List TypedExpressi
   pub targets : AreTargets t n (results_of_procedure procedure) cs
   pub targets_differ : AreDistinct cs
 
-call_named : (t : TypedProgram) (n f : ℕ) (args : List TypedExpression) → ListNames (CallColumns t n (length args)) (width_at t n + width_at t f) (call_list t n f args)
-call_named t n f args =
-    let A : ℕ → Type 0 = CallColumns t n (length args) in
-    parameters_names A (frame_environment (frame_at t n)) (each_wider (λ c. c < width_at t n) A (frame_environment (frame_at t n)) (λ c l. inl l) (frame_names (frame_at t n)))
-    (width_at t n + columns_before_locals t) args (λ c l u. inr (l, u)) (width_at t n + width_at t f)
+-- the same with the products behind the caller's columns
+abbrev WideColumns : TypedProgram → ℕ → ℕ → ℕ → ℕ → Type 0
+WideColumns t n free count c = (c < width_at t n + free) ⊎ ((width_at t n + free + columns_before_locals t ≤ c) × (c < width_at t n + free + columns_before_locals t + count))
+
+wide_named : (t : TypedProgram) (n f : ℕ) (args : List TypedExpression) → let free : ℕ = all_product_count (frame_at t n) args in
+    ListNames (WideColumns t n free (length args)) (width_at t n + free + width_at t f) (listed_plan (call_plan t n args) (width_at t n + free + width_at t f))
+wide_named t n f args =
+    let free : ℕ = all_product_count (frame_at t n) args in
+    let wide : Columns = widened (frame_at t n) (local_count t n) free in
+    let width : length wide ≡ width_at t n + free = wide_length (frame_at t n) (local_count t n) free in
+    let fs : List TypedExpression = all_freed (fixed_in (frame_at t n)) (local_count t n) args in
+    let many : length fs ≡ length args = all_freed_length (fixed_in (frame_at t n)) (local_count t n) args in
+    let A : ℕ → Type 0 = WideColumns t n free (length args) in
+    parameters_names A (frame_environment wide) (each_wider (λ c. c < length wide) A (frame_environment wide) (λ c l. inl (let k : c < length wide = l in omega arith)) (frame_names wide))
+    (width_at t n + free + columns_before_locals t) fs (λ c l u. inr (l, (let k : c < width_at t n + free + columns_before_locals t + length fs = u in omega arith))) (width_at t n + free + width_at t f)
+
+call_named : (t : TypedProgram) (n f : ℕ) (args : List TypedExpression) → columns_before_locals t + length args ≤ width_at t f →
+    LettersName (CallColumns t n (length args)) (width_at t n + width_at t f) (call_letters t n f args)
+call_named t n f args room =
+    let free : ℕ = all_product_count (frame_at t n) args in
+    letters_name (width_at t n) free (width_at t f) (WideColumns t n free (length args)) (CallColumns t n (length args)) (λ d h. bounded free d h) (λ d l h. inl l) (λ d l h. further free d l h)
+    (listed_plan (call_plan t n args) (width_at t n + free + width_at t f)) (wide_named t n f args)
+  where
+    bounded : (free d : ℕ) → WideColumns t n free (length args) d → d < width_at t n + free + width_at t f
+    bounded free d (inl l) = (let a : d < width_at t n + free = l in omega arith)
+    bounded free d (inr h) = (let a : d < width_at t n + free + columns_before_locals t + length args = h.1 in omega arith)
+
+    further : (free d : ℕ) → d < width_at t f → WideColumns t n free (length args) (width_at t n + free + d) → CallColumns t n (length args) (width_at t n + d)
+    further free d l (inl h) = absurd (let a : width_at t n + free + d < width_at t n + free = h in omega arith)
+    further free d l (inr h) =
+        let a : width_at t n + free + columns_before_locals t ≤ width_at t n + free + d = h.0 in
+        let b : width_at t n + free + d < width_at t n + free + columns_before_locals t + length args = h.1 in
+        inr (omega arith, omega arith)
 
 named_may : (t : TypedProgram) (n f k : ℕ) (args : List TypedExpression) (cs : List Column) → CallIsKnown t n f args cs → (c : ℕ) → IsNamed (CallColumns t n (length args)) (width_at t n + width_at t f) k c →
     MayName (frame_at t n) (frame_at t f) k c
@@ -128,14 +163,25 @@ among_all P [] x h m = absurd m
 among_all P (y ∷ xs) x h (inl e) = subst P e h.0
 among_all P (y ∷ xs) x h (inr m) = among_all P xs x h.1 m
 
+-- what is passed stands among the callee's locals
+passed_room : (t : TypedProgram) (n f : ℕ) (args : List TypedExpression) (cs : List Column) → CallIsKnown t n f args cs → columns_before_locals t + length args ≤ width_at t f
+passed_room t n f args cs w =
+    let count : length args ≡ length (take w.procedure.params w.procedure.locals) = arguments_count (frame_at t n) (take w.procedure.params w.procedure.locals) args w.arguments in
+    let few : length (take w.procedure.params w.procedure.locals) ≤ w.procedure.params = take_at_most w.procedure.params w.procedure.locals in
+    let enough : w.procedure.params + w.procedure.results ≤ length w.procedure.locals = w.enough in
+    let own : length (locals_at t f) ≡ length w.procedure.locals = ap (λ (o : Option TypedProcedure). length (locals_if_any o)) w.is in
+    let wide : width_at t f ≡ columns_before_locals t + length (locals_at t f) = width_is t f in
+    omega arith
+
 -- the rows of a call name the caller's columns, the callee's parameters and the helpers
-pub call_may_name : (t : TypedProgram) (n f : ℕ) (args : List TypedExpression) (cs : List Column) → CallIsKnown t n f args cs → (c : Conjunction) → IsAmong (call_list t n f args) c →
-    AllByRecursion (λ r. AllByRecursion (λ x. MayName (frame_at t n) (frame_at t f) c.helpers x.0) r.terms) c.rows
+pub call_may_name : (t : TypedProgram) (n f : ℕ) (args : List TypedExpression) (cs : List Column) → CallIsKnown t n f args cs → (c : MarkedConjunction) → IsAmong (call_letters t n f args) c →
+    AllByRecursion (λ r. AllByRecursion (λ x. MayName (frame_at t n) (frame_at t f) c.plain.helpers x.0) r.terms) c.plain.rows
 call_may_name t n f args cs w c m =
-    let A : ℕ → Type 0 = IsNamed (CallColumns t n (length args)) (width_at t n + width_at t f) c.helpers in
-    let named : RowsName A c.rows = among_all (λ d. RowsName (IsNamed (CallColumns t n (length args)) (width_at t n + width_at t f) d.helpers) d.rows) (call_list t n f args) c (call_named t n f args) m in
-    all_weaker (λ r. AreNamed A r.terms) (λ r. AllByRecursion (λ x. MayName (frame_at t n) (frame_at t f) c.helpers x.0) r.terms)
-    (λ r h. all_weaker (λ x. A x.0) (λ x. MayName (frame_at t n) (frame_at t f) c.helpers x.0) (λ x k. named_may t n f c.helpers args cs w x.0 k) r.terms h) c.rows named
+    let A : ℕ → Type 0 = IsNamed (CallColumns t n (length args)) (width_at t n + width_at t f) c.plain.helpers in
+    let named : RowsName A c.plain.rows = among_all (λ d. RowsName (IsNamed (CallColumns t n (length args)) (width_at t n + width_at t f) d.plain.helpers) d.plain.rows) (call_letters t n f args) c
+    (call_named t n f args (passed_room t n f args cs w)) m in
+    all_weaker (λ r. AreNamed A r.terms) (λ r. AllByRecursion (λ x. MayName (frame_at t n) (frame_at t f) c.plain.helpers x.0) r.terms)
+    (λ r h. all_weaker (λ x. A x.0) (λ x. MayName (frame_at t n) (frame_at t f) c.plain.helpers x.0) (λ x k. named_may t n f c.plain.helpers args cs w x.0 k) r.terms h) c.plain.rows named
 
 -- ---- results
 

@@ -1,6 +1,6 @@
 -- The acts of inside edges are as a graph keeps them.
-use Rattle.std.proofs.Common.{◌≡◌, ◌∙◌, ℕ, zero, suc, ◌+◌, ◌<◌, ◌≤◌, ℤ, Bool, true, false, List, [], ◌∷◌, ◌++◌, map, length, Option, None, Some, inl, inr, refl, sym, subst, arith, nat_eq, if◌then◌else◌}
-use Rattle.std.specs.Prelude.{slice_get, take, drop}
+use Rattle.std.proofs.Common.{◌≡◌, ◌∙◌, ℕ, zero, suc, ◌+◌, ◌<◌, ◌≤◌, ℤ, Bool, true, false, List, [], ◌∷◌, ◌++◌, map, length, Option, None, Some, inl, inr, refl, sym, ap, subst, arith, nat_eq, if◌then◌else◌}
+use Rattle.std.specs.Prelude.{slice_get}
 use Rattle.std.specs.List.{AllByRecursion}
 use Rattle.std.specs.Option.{option_map}
 use Rattle.std.proofs.lemmas.List.{length-append, length-map}
@@ -8,30 +8,45 @@ use Rattle.boogie_tree.specs.declared.tree.Ty.{Ty}
 use Rattle.boogie_tree.specs.declared.tree.Column.{Column}
 use Rattle.boogie_tree.specs.declared.tree.Column.TheVariants as columns
 use Rattle.boogie_tree.specs.declared.tree.VarInfo.{VarInfo}
-use Rattle.typed_tree.specs.TypedTree.{TypedExpression, TypedInvariant, TypedProcedure, TypedProgram}
+use Rattle.typed_tree.specs.TypedTree.{TypedExpression, TypedProcedure, TypedProgram}
+use Rattle.typing_rules.specs.Rules.{results_of}
 use Rattle.math_facts.specs.Terms.{IsBelow}
 use Rattle.lin_rows.specs.Rows.{LinearRow}
 use Rattle.letter_acts.specs.Frames.{Columns}
 use Rattle.letter_acts.specs.Invariant.{AreDistinct, MayWrite, IsOld, inside_width}
-use Rattle.cond_jumps.specs.Conjunctions.{Conjunction, listed_plan, joined}
+use Rattle.cond_jumps.specs.Conjunctions.{Conjunction, listed_plan}
 use Rattle.cond_jumps.specs.Forms.{Linear}
 use Rattle.cond_jumps.specs.Environments.{Environment}
-use Rattle.cond_jumps.specs.Frames.{place_from, or_else, if_constant, column_place_in, linear_at, plan_at, frame_environment}
+use Rattle.cond_jumps.specs.Frames.{place_from, or_else, if_constant, column_place_in, linear_at, plan_at, fixed_in, frame_environment}
 use Rattle.cond_jumps.specs.Passing.{Standing, Same, Numbered, Passed, standing_sum, standing_plan, standing_environment, passed, left_in, passed_locals, imported}
 use Rattle.cond_jumps.specs.Paths.{paths}
 use Rattle.cond_jumps.specs.Lists.{path_list, assign_list}
 use Rattle.cond_jumps.proofs.FrameLemmas.{IsFound, found_from}
+use Rattle.free_products.specs.FreeProducts.{freed, all_freed}
+use Rattle.free_products.specs.Letters.{MarkedConjunction, marked_letter}
+use Rattle.free_products.specs.FrameLetters.{product_columns, widened, product_count, all_product_count, passed_count, passed_arguments, freed_passed_plan, told_condition, path_letters, assign_letters, told_letters, passed_letters}
+use Rattle.free_products.proofs.MeanLemmas.{all_freed_length}
 use Rattle.boogie_points.specs.Points.{Point, settled, past_first}
 use Rattle.boogie_points.specs.Actions as actions
-use Rattle.boogie_points.specs.Actions.{Action, ensured_conditions}
+use Rattle.boogie_points.specs.Actions.{Action}
 use Rattle.boogie_points.specs.Starts.{targets_at}
 use Rattle.lowered_steps.specs.ProgramFrames.{frame_at, column_number}
 use Rattle.lowered_steps.specs.Edges as edges
-use Rattle.lowered_steps.specs.Edges.{Spot, At, Wrong, Edge, leads, no_rows, those_in, those_not_in, import_written, typed_column, left_if, left_at, found_or_0, results_at, all_hold, import_environment, import_list, import_edges, passed_list, skips, numbers_in, inside_edges}
+use Rattle.lowered_steps.specs.Edges.{Spot, At, Wrong, Edge, leads, no_rows, those_in, those_not_in, import_written, typed_column, left_if, left_at, found_or_0, results_at, all_hold, behind_helpers, told_ensures, import_products, whole_columns, import_environment, import_plan, import_letters, import_edges, skips, numbers_in, local_count, inside_edges}
 use Rattle.lowered_steps.specs.Stacks.{IsAmong}
 use Rattle.lowered_graph.proofs.NamedColumns.{RowsName, AreNamed, IsNamed, SumNames, ListNames, EachNames, terms_so, rows_so, column_names, named_names, PlanNames, with_names, always_names, linear_names, paths_names, assigns_names}
+use Rattle.lowered_graph.proofs.LetterNames.{LettersName, letters_name}
 use Rattle.lowered_graph.proofs.FrameTargets.{StandsAt, AreStanding, AreVarying, stands_written, stands_new, standing_written, standing_new, standing_distinct, import_may_write, import_new, import_distinct}
 use Rattle.lowered_graph.proofs.Lists.{among_either}
+
+-- ---- a frame with products
+
+products_length : (m k : ℕ) → length (product_columns m k) ≡ k
+products_length m zero = refl
+products_length m (suc k) = ap suc (products_length (suc m) k)
+
+pub wide_length : (frame : Columns) (m k : ℕ) → length (widened frame m k) ≡ length frame + k
+wide_length frame m k = let e : length (product_columns m k) ≡ k = products_length m k in length-append frame (product_columns m k) ∙ omega arith
 
 -- ---- what stands for the columns
 
@@ -182,38 +197,54 @@ some_written : (modified targets : List ℕ) → 1 ≤ length targets → 1 ≤ 
 some_written modified [] l = absurd (omega arith)
 some_written modified (c ∷ targets) l = writes_some modified targets c
 
--- the columns of the frame, the written ones, and the helpers of modified globals that are targets
-abbrev import_bound : Columns → TypedProcedure → List ℕ → ℕ
-import_bound frame q targets = length frame + length (import_written q.modifies targets) + length (those_in targets q.modifies)
+-- the columns of products
+whole_below : (bound n k : ℕ) → n + k ≤ bound → AllByRecursion (λ r. r.0 < bound) (whole_columns n k)
+whole_below bound n zero l = tt
+whole_below bound n (suc k) l = ((let b : n < bound = omega arith in b), whole_below bound (suc n) k (omega arith))
 
-import_names : (frame : Columns) (globals : List VarInfo) (q : TypedProcedure) (args : List TypedExpression) (targets : List ℕ) →
-    EachNames (λ c. c < import_bound frame q targets) (import_environment frame globals q args targets)
-import_names frame globals q args targets =
-    let base : ℕ = length frame in
+both_below : (bound : ℕ) (rs qs : List (ℕ × Ty)) → AllByRecursion (λ r. r.0 < bound) rs → AllByRecursion (λ r. r.0 < bound) qs → AllByRecursion (λ r. r.0 < bound) (rs ++ qs)
+both_below bound [] qs h k = k
+both_below bound (r ∷ rs) qs h k = (h.0, both_below bound rs qs h.1 k)
+
+-- the columns of the frame and the products, the written ones, and the helpers of modified globals that are targets
+abbrev import_bound : Columns → TypedProcedure → List TypedExpression → List ℕ → ℕ
+import_bound frame q args targets = length frame + import_products frame q args + length (import_written q.modifies targets) + length (those_in targets q.modifies)
+
+import_names : (frame : Columns) (m : ℕ) (globals : List VarInfo) (q : TypedProcedure) (args : List TypedExpression) (targets : List ℕ) →
+    EachNames (λ c. c < import_bound frame q args targets) (import_environment frame m globals q args targets)
+import_names frame m globals q args targets =
+    let told : ℕ = all_product_count frame args in
+    let seconds : ℕ = all_product_count frame (told_ensures frame q args) in
+    let wide : Columns = widened frame m (import_products frame q args) in
+    let base : ℕ = length frame + import_products frame q args in
     let written : List ℕ = import_written q.modifies targets in
-    let bound : ℕ = import_bound frame q targets in
-    let results : List (ℕ × Ty) = results_at base written targets (take q.results (drop q.params q.locals)) in
+    let bound : ℕ = import_bound frame q args targets in
+    let width : length wide ≡ base = wide_length frame m (import_products frame q args) in
+    let results : List (ℕ × Ty) = results_at base written targets (results_of q) ++ whole_columns (length frame + told) seconds in
     let more : length written ≡ length q.modifies + length (those_not_in q.modifies targets) = length-append q.modifies (those_not_in q.modifies targets) in
-    standing_names (λ c. c < bound) (frame_environment frame) (imported (left_at globals base q.modifies targets) args results)
-    (each_wider (λ c. c < base) (λ c. c < bound) (frame_environment frame) (λ c l. (let k : c < base = l in omega arith)) (frame_names frame))
-    (by_column base written bound results (results_below base bound written targets (take q.results (drop q.params q.locals)) (some_written q.modifies targets) (omega arith)) more)
+    standing_names (λ c. c < bound) (frame_environment wide) (imported (left_at globals base q.modifies targets) (all_freed (fixed_in frame) m args) results)
+    (each_wider (λ c. c < length wide) (λ c. c < bound) (frame_environment wide) (λ c l. (let k : c < length wide = l in omega arith)) (frame_names wide))
+    (by_column base written bound (all_freed (fixed_in frame) m args) results (both_below bound (results_at base written targets (results_of q)) (whole_columns (length frame + told) seconds)
+    (results_below base bound written targets (results_of q) (some_written q.modifies targets) (omega arith)) (whole_below bound (length frame + told) seconds (omega arith))) more)
   where
-    by_column : (base : ℕ) (written : List ℕ) (bound : ℕ) (results : List (ℕ × Ty)) → AllByRecursion (λ r. r.0 < length frame + length (import_written q.modifies targets) + length (those_in targets q.modifies)) results →
+    by_column : (base : ℕ) (written : List ℕ) (bound : ℕ) (es : List TypedExpression) (results : List (ℕ × Ty)) →
+        AllByRecursion (λ r. r.0 < length frame + import_products frame q args + length (import_written q.modifies targets) + length (those_in targets q.modifies)) results →
         length (import_written q.modifies targets) ≡ length q.modifies + length (those_not_in q.modifies targets) →
-        (c : Column) (k : ℕ) (ty : Ty) → imported (left_at globals (length frame) q.modifies targets) args results c ≡ Some (Numbered k ty) → k < import_bound frame q targets
-    by_column base written bound results h more (columns.Global n) k ty e =
-        let is : left_in n (left_at globals (length frame) q.modifies targets n) ≡ Numbered k ty = cc in
-        left_below globals (length frame) (import_bound frame q targets) n (edges.found_from 0 q.modifies n) (edges.found_from (length frame + length (import_written q.modifies targets)) (those_in targets q.modifies) n) k ty
+        (c : Column) (k : ℕ) (ty : Ty) → imported (left_at globals (length frame + import_products frame q args) q.modifies targets) es results c ≡ Some (Numbered k ty) → k < import_bound frame q args targets
+    by_column base written bound es results h more (columns.Global n) k ty e =
+        let from : ℕ = length frame + import_products frame q args in
+        let is : left_in n (left_at globals from q.modifies targets n) ≡ Numbered k ty = cc in
+        left_below globals from (import_bound frame q args targets) n (edges.found_from 0 q.modifies n) (edges.found_from (from + length (import_written q.modifies targets)) (those_in targets q.modifies) n) k ty
         (λ i f. (let l : i < 0 + length q.modifies = found_below 0 q.modifies n i f in omega arith))
-        (λ i f. found_below (length frame + length (import_written q.modifies targets)) (those_in targets q.modifies) n i f) is
-    by_column base written bound results h more (columns.Old n) k ty e = absurd (cc)
-    by_column base written bound results h more (columns.Local n) k ty e = locals_below (import_bound frame q targets) args results n k ty h e
+        (λ i f. found_below (from + length (import_written q.modifies targets)) (those_in targets q.modifies) n i f) is
+    by_column base written bound es results h more (columns.Old n) k ty e = absurd (cc)
+    by_column base written bound es results h more (columns.Local n) k ty e = locals_below (import_bound frame q args targets) es results n k ty h e
 
 -- ---- lists within columns
 
--- the rows of each member are over the act's columns
-abbrev pub AreWithin : Columns → List ℕ → List Conjunction → Type 0
-AreWithin frame written cs = AllByRecursion (λ c. AllByRecursion (λ r. IsBelow (inside_width frame written c.helpers) r.terms) c.rows) cs
+-- the rows of each letter are over the act's columns
+abbrev pub AreWithin : Columns → List ℕ → List MarkedConjunction → Type 0
+AreWithin frame written ls = AllByRecursion (λ l. AllByRecursion (λ r. IsBelow (inside_width frame written l.plain.helpers) r.terms) l.plain.rows) ls
 
 below_terms : (m : ℕ) (ts : List (ℕ × ℤ)) → AreNamed (λ c. c < m) ts → IsBelow m ts
 below_terms m [] h = tt
@@ -227,58 +258,88 @@ named_below : (n k c : ℕ) → IsNamed (λ c. c < n) n k c → c < n + k
 named_below n k c (inl l) = let b : c < n = l in omega arith
 named_below n k c (inr h) = h.1
 
-pub list_within : (frame : Columns) (written : List ℕ) (n : ℕ) (cs : List Conjunction) → n ≡ length frame + length written → ListNames (λ c. c < n) n cs → AreWithin frame written cs
-list_within frame written n [] e h = tt
-list_within frame written n (c ∷ cs) e h =
-    let rows : AllByRecursion (λ r. IsBelow (n + c.helpers) r.terms) c.rows =
-    below_rows (n + c.helpers) c.rows (rows_so (IsNamed (λ c. c < n) n c.helpers) (λ x. x < n + c.helpers) (λ x i. named_below n c.helpers x i) c.rows h.0) in
-    (subst (λ (m : ℕ). AllByRecursion (λ r. IsBelow (m + c.helpers) r.terms) c.rows) e rows, list_within frame written n cs e h.1)
+name_within : (frame : Columns) (written : List ℕ) (n : ℕ) (ls : List MarkedConjunction) → n ≡ length frame + length written → LettersName (λ c. c < n) n ls → AreWithin frame written ls
+name_within frame written n [] e h = tt
+name_within frame written n (l ∷ ls) e h =
+    let rows : AllByRecursion (λ r. IsBelow (n + l.plain.helpers) r.terms) l.plain.rows =
+    below_rows (n + l.plain.helpers) l.plain.rows (rows_so (IsNamed (λ c. c < n) n l.plain.helpers) (λ x. x < n + l.plain.helpers) (λ x i. named_below n l.plain.helpers x i) l.plain.rows h.0) in
+    (subst (λ (m : ℕ). AllByRecursion (λ r. IsBelow (m + l.plain.helpers) r.terms) l.plain.rows) e rows, name_within frame written n ls e h.1)
 
-path_within : (frame : Columns) (e : TypedExpression) (want : Bool) → AreWithin frame [] (path_list frame e want)
-path_within frame e want =
-    list_within frame [] (length frame) (path_list frame e want) (omega arith) (paths_names (λ c. c < length frame) (frame_environment frame) (frame_names frame) false e want (length frame))
+-- the letters of a list over the frame, the products and further columns
+letters_below : (low count more w : ℕ) (cs : List Conjunction) → w ≡ low + count + more → ListNames (λ c. c < w) w cs → LettersName (λ c. c < low + more) (low + more) (map (marked_letter low count more) cs)
+letters_below low count more w cs e h =
+    letters_name low count more (λ c. c < low + count + more) (λ c. c < low + more) (λ d l. l) (λ d l k. (let a : d < low = l in omega arith)) (λ d l k. (let a : d < more = l in omega arith)) cs
+    (subst (λ (n : ℕ). ListNames (λ c. c < n) n cs) e h)
 
-passed_within : (frame : Columns) (args : List TypedExpression) (e : TypedExpression) (want : Bool) → AreWithin frame [] (passed_list frame args e want)
-passed_within frame args e want =
-    list_within frame [] (length frame) (passed_list frame args e want) (omega arith)
-    (paths_names (λ c. c < length frame) (standing_environment (frame_environment frame) (passed args)) (passed_names (λ c. c < length frame) (frame_environment frame) args (frame_names frame)) false e want (length frame))
+pub letters_within : (frame : Columns) (written : List ℕ) (count more w : ℕ) (cs : List Conjunction) → w ≡ length frame + count + more → more ≡ length written → ListNames (λ c. c < w) w cs →
+    AreWithin frame written (map (marked_letter (length frame) count more) cs)
+letters_within frame written count more w cs e f h =
+    name_within frame written (length frame + more) (map (marked_letter (length frame) count more) cs) (omega arith) (letters_below (length frame) count more w cs e h)
 
-assign_within : (frame : Columns) (written : List ℕ) (es : List TypedExpression) → length es ≡ length written → AreWithin frame written (assign_list frame (length es) es)
-assign_within frame written es e =
-    let bound : ℕ = length frame + length es in
-    list_within frame written bound (assign_list frame (length es) es) (omega arith)
-    (assigns_names (λ c. c < bound) (frame_environment frame) (each_wider (λ c. c < length frame) (λ c. c < bound) (frame_environment frame) (λ c l. (let k : c < length frame = l in omega arith)) (frame_names frame)) (length frame) es
-    (λ c l u. u) bound)
+path_within : (frame : Columns) (m : ℕ) (e : TypedExpression) (want : Bool) → AreWithin frame [] (path_letters frame m e want)
+path_within frame m e want =
+    let k : ℕ = product_count frame e in
+    let wide : Columns = widened frame m k in
+    let width : length wide ≡ length frame + k = wide_length frame m k in
+    letters_within frame [] k 0 (length wide) (path_list wide (freed (fixed_in frame) m false e) want) (omega arith) refl
+    (paths_names (λ c. c < length wide) (frame_environment wide) (frame_names wide) false (freed (fixed_in frame) m false e) want (length wide))
+
+told_within : (frame : Columns) (m : ℕ) (args : List TypedExpression) (e : TypedExpression) (want : Bool) → AreWithin frame [] (told_letters frame m args e want)
+told_within frame m args e want =
+    let k : ℕ = passed_count frame args e in
+    let wide : Columns = widened frame m k in
+    let width : length wide ≡ length frame + k = wide_length frame m k in
+    let given : List TypedExpression = passed_arguments (fixed_in frame) m args e in
+    letters_within frame [] k 0 (length wide) (listed_plan (freed_passed_plan frame m args e want) (length wide)) (omega arith) refl
+    (paths_names (λ c. c < length wide) (standing_environment (frame_environment wide) (passed given)) (passed_names (λ c. c < length wide) (frame_environment wide) given (frame_names wide)) false
+    (freed (fixed_in frame) (length args) false e) want (length wide))
+
+passed_within : (frame : Columns) (m : ℕ) (args : List TypedExpression) (e : TypedExpression) (want : Bool) → AreWithin frame [] (passed_letters frame m args e want)
+passed_within frame m args e want = told_within frame m args (told_condition (fixed_in frame) args e) want
+
+assign_within : (frame : Columns) (m : ℕ) (written : List ℕ) (es : List TypedExpression) → length es ≡ length written → AreWithin frame written (assign_letters frame m (length es) es)
+assign_within frame m written es e =
+    let k : ℕ = all_product_count frame es in
+    let wide : Columns = widened frame m k in
+    let width : length wide ≡ length frame + k = wide_length frame m k in
+    let fs : List TypedExpression = all_freed (fixed_in frame) m es in
+    let many : length fs ≡ length es = all_freed_length (fixed_in frame) m es in
+    let bound : ℕ = length wide + length es in
+    letters_within frame written k (length es) bound (assign_list wide (length es) fs) (omega arith) e
+    (assigns_names (λ c. c < bound) (frame_environment wide) (each_wider (λ c. c < length wide) (λ c. c < bound) (frame_environment wide) (λ c l. (let k : c < length wide = l in omega arith)) (frame_names wide)) (length wide) fs
+    (λ c l u. (let b : c < length wide + length fs = u in omega arith)) bound)
 
 no_rows_within : (frame : Columns) (written : List ℕ) → AreWithin frame written no_rows
 no_rows_within frame written = (tt, tt)
 
-all_hold_names : (A : ℕ → Type 0) (v : Environment) → EachNames A v → (is : List TypedInvariant) → PlanNames A (all_hold v is)
+all_hold_names : (A : ℕ → Type 0) (v : Environment) → EachNames A v → (es : List TypedExpression) → PlanNames A (all_hold v es)
 all_hold_names A v s [] = always_names A
-all_hold_names A v s (i ∷ is) = with_names A (paths v false i.cond true) (all_hold v is) (paths_names A v s false i.cond true) (all_hold_names A v s is)
+all_hold_names A v s (e ∷ es) = with_names A (paths v false e true) (all_hold v es) (paths_names A v s false e true) (all_hold_names A v s es)
 
--- members behind so many helpers
-behind_helpers : (frame : Columns) (written : List ℕ) (n k : ℕ) (cs : List Conjunction) → n ≡ length frame + length written → ListNames (λ c. c < n + k) (n + k) cs →
-    AreWithin frame written (map (joined (record { rows = []; helpers = k })) cs)
-behind_helpers frame written n k [] e h = tt
-behind_helpers frame written n k (c ∷ cs) e h =
-    let rows : AllByRecursion (λ r. IsBelow (n + k + c.helpers) r.terms) c.rows =
-    below_rows (n + k + c.helpers) c.rows (rows_so (IsNamed (λ c. c < n + k) (n + k) c.helpers) (λ x. x < n + k + c.helpers) (λ x i. named_below (n + k) c.helpers x i) c.rows h.0) in
-    (subst (λ (m : ℕ). AllByRecursion (λ r. IsBelow m r.terms) c.rows) (let s : n + k + c.helpers ≡ length frame + length written + (k + c.helpers) = omega arith in s) rows, behind_helpers frame written n k cs e h.1)
+-- letters behind so many helpers
+behind_within : (frame : Columns) (written : List ℕ) (n k : ℕ) (f : Conjunction → MarkedConjunction) (cs : List Conjunction) → n ≡ length frame + length written + k → LettersName (λ c. c < n) n (map f cs) →
+    AreWithin frame written (map (λ c. behind_helpers k (f c)) cs)
+behind_within frame written n k f [] e h = tt
+behind_within frame written n k f (c ∷ cs) e h =
+    let l : MarkedConjunction = f c in
+    let rows : AllByRecursion (λ r. IsBelow (n + l.plain.helpers) r.terms) l.plain.rows =
+    below_rows (n + l.plain.helpers) l.plain.rows (rows_so (IsNamed (λ c. c < n) n l.plain.helpers) (λ x. x < n + l.plain.helpers) (λ x i. named_below n l.plain.helpers x i) l.plain.rows h.0) in (
+      subst (λ (m : ℕ). AllByRecursion (λ r. IsBelow m r.terms) l.plain.rows) (let s : n + l.plain.helpers ≡ length frame + length written + (k + l.plain.helpers) = omega arith in s) rows,
+      behind_within frame written n k f cs e h.1,
+    )
 
-append_within : (frame : Columns) (written : List ℕ) (cs : List Conjunction) → AreWithin frame written cs → AreWithin frame written (cs ++ [])
-append_within frame written [] h = tt
-append_within frame written (c ∷ cs) h = (h.0, append_within frame written cs h.1)
-
-import_within : (frame : Columns) (globals : List VarInfo) (q : TypedProcedure) (args : List TypedExpression) (targets : List ℕ) →
-    AreWithin frame (import_written q.modifies targets) (import_list frame globals q args targets)
-import_within frame globals q args targets =
+import_within : (frame : Columns) (m : ℕ) (globals : List VarInfo) (q : TypedProcedure) (args : List TypedExpression) (targets : List ℕ) →
+    AreWithin frame (import_written q.modifies targets) (import_letters frame m globals q args targets)
+import_within frame m globals q args targets =
     let written : List ℕ = import_written q.modifies targets in
-    let n : ℕ = length frame + length written in
+    let free : ℕ = import_products frame q args in
     let k : ℕ = length (those_in targets q.modifies) in
-    let v : Environment = import_environment frame globals q args targets in
-    append_within frame written (map (joined (record { rows = []; helpers = k })) (listed_plan (all_hold v (ensured_conditions q.specs)) (n + k)))
-    (behind_helpers frame written n k (listed_plan (all_hold v (ensured_conditions q.specs)) (n + k)) refl (all_hold_names (λ c. c < n + k) v (import_names frame globals q args targets) (ensured_conditions q.specs) (n + k)))
+    let w : ℕ = import_bound frame q args targets in
+    let v : Environment = import_environment frame m globals q args targets in
+    let es : List TypedExpression = all_freed (fixed_in frame) (length args + length (results_of q)) (told_ensures frame q args) in
+    let cs : List Conjunction = listed_plan (import_plan frame m globals q args targets) w in
+    behind_within frame written (length frame + (length written + k)) k (marked_letter (length frame) free (length written + k)) cs (omega arith)
+    (letters_below (length frame) free (length written + k) w cs (omega arith) (all_hold_names (λ c. c < w) v (import_names frame m globals q args targets) es w))
 
 -- ---- edges
 
@@ -328,10 +389,10 @@ record WrittenColumns (t : TypedProgram) (n : ℕ) (written : List ℕ) : Type 0
 nothing_written : (t : TypedProgram) (n : ℕ) → WrittenColumns t n []
 nothing_written t n = record { may_write = tt; distinct = tt; new = tt }
 
-leads_acted : (t : TypedProgram) (n : ℕ) (written : List ℕ) (cs : List Conjunction) (to : Spot) (e : Edge) → WrittenColumns t n written → AreWithin (frame_at t n) written cs → IsAmong (leads written cs to) e → EdgeIsActed t n e
+leads_acted : (t : TypedProgram) (n : ℕ) (written : List ℕ) (cs : List MarkedConjunction) (to : Spot) (e : Edge) → WrittenColumns t n written → AreWithin (frame_at t n) written cs → IsAmong (leads written cs to) e → EdgeIsActed t n e
 leads_acted t n written [] to e w h m = absurd m
 leads_acted t n written (c ∷ cs) to e w h (inl is) =
-    let one : EdgeIsActed t n (record { to = to; written = written; rows = c }) = record { may_write = w.may_write; distinct = w.distinct; within = h.0; new = w.new } in
+    let one : EdgeIsActed t n (record { to = to; written = written; rows = c.plain; coarse = c.coarse }) = record { may_write = w.may_write; distinct = w.distinct; within = h.0; new = w.new } in
     subst (EdgeIsActed t n) is one
 leads_acted t n written (c ∷ cs) to e w h (inr m) = leads_acted t n written cs to e w h.1 m
 
@@ -343,36 +404,36 @@ skips_acted t n (p ∷ ways) e m = elim (among_either (leads [] no_rows (At p)) 
 ]
 
 import_acted : (t : TypedProgram) (n : ℕ) (o : Option TypedProcedure) (args : List TypedExpression) (cs : List Column) (next : Point) (e : Edge) → ((q : TypedProcedure) → o ≡ Some q → ImportWrites t n q cs) →
-    IsAmong (import_edges (frame_at t n) t.globals o args (numbers_in (frame_at t n) cs) next) e → EdgeIsActed t n e
+    IsAmong (import_edges (frame_at t n) (local_count t n) t.globals o args (numbers_in (frame_at t n) cs) next) e → EdgeIsActed t n e
 import_acted t n None args cs next e h m = absurd m
 import_acted t n (Some q) args cs next e h m =
     let w : ImportWrites t n q cs = h q refl in
     let targets : List ℕ = numbers_in (frame_at t n) cs in
-    leads_acted t n (import_written q.modifies targets) (import_list (frame_at t n) t.globals q args targets) (At next) e
+    leads_acted t n (import_written q.modifies targets) (import_letters (frame_at t n) (local_count t n) t.globals q args targets) (At next) e
     (record { may_write = import_may_write t n q.modifies cs w.modified w.targets; distinct = import_distinct t n q.modifies cs w.modified_differ w.targets w.targets_differ; new = import_new t n q.modifies cs w.modified w.targets })
-    (import_within (frame_at t n) t.globals q args targets) m
+    (import_within (frame_at t n) (local_count t n) t.globals q args targets) m
 
-both_acted : (t : TypedProgram) (n : ℕ) (xs ys : List Conjunction) (to other : Spot) (e : Edge) → AreWithin (frame_at t n) [] xs → AreWithin (frame_at t n) [] ys → IsAmong (leads [] xs to ++ leads [] ys other) e → EdgeIsActed t n e
+both_acted : (t : TypedProgram) (n : ℕ) (xs ys : List MarkedConjunction) (to other : Spot) (e : Edge) → AreWithin (frame_at t n) [] xs → AreWithin (frame_at t n) [] ys → IsAmong (leads [] xs to ++ leads [] ys other) e → EdgeIsActed t n e
 both_acted t n xs ys to other e h k m = elim (among_either (leads [] xs to) (leads [] ys other) e m) [
   | inl i ↦ leads_acted t n [] xs to e (nothing_written t n) h i
   | inr i ↦ leads_acted t n [] ys other e (nothing_written t n) k i
 ]
 
 pub edge_acted : (t : TypedProgram) (n : ℕ) (p : Point) (a : Action) (e : Edge) → ActionWrites t n p a → IsAmong (inside_edges t n p a) e → EdgeIsActed t n e
-edge_acted t n p (actions.Check id at c next) e w m = both_acted t n (path_list (frame_at t n) c true) (path_list (frame_at t n) c false) (At next) (Wrong id) e (path_within (frame_at t n) c true) (path_within (frame_at t n) c false) m
-edge_acted t n p (actions.Suppose c next) e w m = leads_acted t n [] (path_list (frame_at t n) c true) (At next) e (nothing_written t n) (path_within (frame_at t n) c true) m
+edge_acted t n p (actions.Check id at c next) e w m = both_acted t n (path_letters (frame_at t n) (local_count t n) c true) (path_letters (frame_at t n) (local_count t n) c false) (At next) (Wrong id) e (path_within (frame_at t n) (local_count t n) c true) (path_within (frame_at t n) (local_count t n) c false) m
+edge_acted t n p (actions.Suppose c next) e w m = leads_acted t n [] (path_letters (frame_at t n) (local_count t n) c true) (At next) e (nothing_written t n) (path_within (frame_at t n) (local_count t n) c true) m
 edge_acted t n p (actions.Demand id at c args next) e w m =
-    both_acted t n (passed_list (frame_at t n) args c true) (passed_list (frame_at t n) args c false) (At next) (Wrong id) e (passed_within (frame_at t n) args c true) (passed_within (frame_at t n) args c false) m
+    both_acted t n (passed_letters (frame_at t n) (local_count t n) args c true) (passed_letters (frame_at t n) (local_count t n) args c false) (At next) (Wrong id) e (passed_within (frame_at t n) (local_count t n) args c true) (passed_within (frame_at t n) (local_count t n) args c false) m
 edge_acted t n p (actions.Write cs es next) e w m =
     let frame : Columns = frame_at t n in
     let count : length (numbers_in frame cs) ≡ length cs = length-map cs (column_number frame) in
-    leads_acted t n (numbers_in frame cs) (assign_list frame (length es) es) (At next) e
+    leads_acted t n (numbers_in frame cs) (assign_letters frame (local_count t n) (length es) es) (At next) e
     (record { may_write = standing_written t n cs w.targets; distinct = standing_distinct t n cs w.targets w.differ; new = standing_new t n cs w.targets })
-    (assign_within frame (numbers_in frame cs) es (w.as_many ∙ sym count)) m
+    (assign_within frame (local_count t n) (numbers_in frame cs) es (w.as_many ∙ sym count)) m
 edge_acted t n p (actions.Guess c next) e w m =
     leads_acted t n (column_number (frame_at t n) c ∷ []) no_rows (At next) e
     (record { may_write = (stands_written t n w.0 c w.1, tt); distinct = (λ m. m, tt); new = (stands_new t n w.0 c w.1, tt) }) (no_rows_within (frame_at t n) (column_number (frame_at t n) c ∷ [])) m
-edge_acted t n p (actions.Test c hit miss) e w m = both_acted t n (path_list (frame_at t n) c true) (path_list (frame_at t n) c false) (At hit) (At miss) e (path_within (frame_at t n) c true) (path_within (frame_at t n) c false) m
+edge_acted t n p (actions.Test c hit miss) e w m = both_acted t n (path_letters (frame_at t n) (local_count t n) c true) (path_letters (frame_at t n) (local_count t n) c false) (At hit) (At miss) e (path_within (frame_at t n) (local_count t n) c true) (path_within (frame_at t n) (local_count t n) c false) m
 edge_acted t n p (actions.Pick ways) e w m = skips_acted t n ways e m
 edge_acted t n p (actions.Jump next) e w m = skips_acted t n (next ∷ []) e m
 edge_acted t n p (actions.Enter f args) e w m = absurd m

@@ -30,7 +30,7 @@ use Rattle.letter_acts.specs.Widths.{back_width, act_width, ActsFit}
 use Rattle.lowered_graph.proofs.ActNumbers.{act_numbered, act_got, longer_get, longer_than, with_longer}
 use Rattle.lowered_graph.proofs.LetterEdges.{arcs_longer}
 use Rattle.lowered_graph.proofs.KnownPlaces.{IsKnown}
-use Rattle.lowered_graph.proofs.EdgeArcs.{EdgeOfArc}
+use Rattle.lowered_graph.proofs.EdgeArcs.{edge_act, called_act, EdgeOfArc}
 use Rattle.lowered_graph.proofs.Alphabet.{letters_of, frame_is, proc_exists}
 use Rattle.lowered_graph.proofs.Joined.{from_start_or_place}
 use Rattle.lowered_graph.proofs.JoinedBack.{inside_parts, no_inside, CallFrom, call_from}
@@ -75,7 +75,7 @@ called_number d q b e x targets k arcs =
     (longer_than called (with_act called back) (with_arcs (with_arc d (call_arc q b e x targets k)) arcs).acts (with_longer called back) (arcs_longer (with_arc d (call_arc q b e x targets k)) arcs))
     (act_numbered d.acts b)
 
-acts_from : (d : Lettered) (arcs : List Arc) (a : MarkedAct) → Member (with_arcs d arcs).acts a → Member d.acts a ⊎ ActOf arcs (with_arcs d arcs).acts a
+pub acts_from : (d : Lettered) (arcs : List Arc) (a : MarkedAct) → Member (with_arcs d arcs).acts a → Member d.acts a ⊎ ActOf arcs (with_arcs d arcs).acts a
 acts_from d [] a m = inl m
 acts_from d (inside_arc q b e ∷ arcs) a m = elim (acts_from (with_arc d (inside_arc q b e)) arcs a m) [
   | inl k ↦ elim (with_member d.acts b a k) [
@@ -166,7 +166,7 @@ inside_acted : (t : TypedProgram) → ActionsAreTyped t → (a : MarkedAct) (q e
 inside_acted t w a q e n p known h fit =
     let edge : Edge = h.edge in
     let own : PlainAct = inside_act n edge.written edge.rows.helpers edge.rows.rows in
-    let parts = inside_parts (place_number t n p) q (exact_act own) a (spot_number t n edge.to) e h.is in
+    let parts = inside_parts (place_number t n p) q (edge_act n edge) a (spot_number t n edge.to) e h.is in
     let acted : EdgeIsActed t n edge = edge_acted t n p (action_at t n p) edge (w.writes n p known) h.among in
     let same : frame_of (letters_of t) n ≡ frame_at t n = frame_is t n known.procedure known.is in
     let fit_so : act_width (letters_of t) own ≤ 2 ^ 32 = subst (λ (b : MarkedAct). act_width (letters_of t) b.act ≤ 2 ^ 32) (sym parts.1) fit in
@@ -183,18 +183,18 @@ call_acted : (t : TypedProgram) → ActionsAreTyped t → (a : MarkedAct) (q to 
 call_acted t w a q to from targets behind c fit =
     let n : ℕ = c.proc in
     let f : ℕ = c.callee in
-    let own : PlainAct = call_act n f c.rows.helpers c.rows.rows in
+    let own : PlainAct = call_act n f c.letter.plain.helpers c.letter.plain.rows in
     let known : CallIsKnown t n f c.args (targets_at c.point.todo) = w.calls n c.point f c.args c.known c.action in
     let caller : frame_of (letters_of t) n ≡ frame_at t n = frame_is t n c.known.procedure c.known.is in
     let callee : frame_of (letters_of t) f ≡ frame_at t f = frame_is t f known.procedure known.is in
-    let may : AllByRecursion (λ r. AllByRecursion (λ x. MayName (frame_at t n) (frame_at t f) c.rows.helpers x.0) r.terms) c.rows.rows =
-    call_may_name t n f c.args (targets_at c.point.todo) known c.rows c.among in
-    let one : CallIsActed (letters_of t) n f c.rows.helpers c.rows.rows = record {
+    let may : AllByRecursion (λ r. AllByRecursion (λ x. MayName (frame_at t n) (frame_at t f) c.letter.plain.helpers x.0) r.terms) c.letter.plain.rows =
+    call_may_name t n f c.args (targets_at c.point.todo) known c.letter c.among in
+    let one : CallIsActed (letters_of t) n f c.letter.plain.helpers c.letter.plain.rows = record {
       caller_exists = proc_exists t n c.known.procedure c.known.is;
       callee_exists = proc_exists t f known.procedure known.is;
       numbers_fit = subst (λ (b : MarkedAct). act_width (letters_of t) b.act ≤ 2 ^ 32) (sym c.parts.act) fit;
-      may_name = subst (λ (g : Columns). AllByRecursion (λ r. AllByRecursion (λ x. MayName g (frame_of (letters_of t) f) c.rows.helpers x.0) r.terms) c.rows.rows) (sym caller)
-          (subst (λ (g : Columns). AllByRecursion (λ r. AllByRecursion (λ x. MayName (frame_at t n) g c.rows.helpers x.0) r.terms) c.rows.rows) (sym callee) may);
+      may_name = subst (λ (g : Columns). AllByRecursion (λ r. AllByRecursion (λ x. MayName g (frame_of (letters_of t) f) c.letter.plain.helpers x.0) r.terms) c.letter.plain.rows) (sym caller)
+          (subst (λ (g : Columns). AllByRecursion (λ r. AllByRecursion (λ x. MayName (frame_at t n) g c.letter.plain.helpers x.0) r.terms) c.letter.plain.rows) (sym callee) may);
     } in
     subst (λ (b : MarkedAct). IsActed (letters_of t) b.act) c.parts.act one
 
@@ -204,22 +204,22 @@ return_acted t w b q to from targets behind call c is fit =
     let n : ℕ = c.proc in
     let f : ℕ = c.callee in
     let cs : List Column = targets_at c.point.todo in
-    let own : PlainAct = call_act n f c.rows.helpers c.rows.rows in
+    let own : PlainAct = call_act n f c.letter.plain.helpers c.letter.plain.rows in
     let numbers : List ℕ = numbers_in (frame_at t n) cs in
     let known : CallIsKnown t n f c.args cs = w.calls n c.point f c.args c.known c.action in
     let caller : frame_of (letters_of t) n ≡ frame_at t n = frame_is t n c.known.procedure c.known.is in
     let callee : frame_of (letters_of t) f ≡ frame_at t f = frame_is t f known.procedure known.is in
     let found : slice_get (letters_of t).acts call ≡ Some own = is ∙ ap (λ (m : MarkedAct). Some m.act) (sym c.parts.act) in
     let fit_call : back_width (letters_of t) targets (Some own) ≤ 2 ^ 32 = subst (λ (o : Option PlainAct). back_width (letters_of t) targets o ≤ 2 ^ 32) found fit in
-    let fit_caller : length (frame_of (letters_of t) f) + length (frame_at t n) + length (written_by (frame_at t n) targets) + c.rows.helpers ≤ 2 ^ 32 =
-    subst (λ (g : Columns). length (frame_of (letters_of t) f) + length g + length (written_by g targets) + c.rows.helpers ≤ 2 ^ 32) caller fit_call in
-    let fit_callee : length (frame_at t f) + length (frame_at t n) + length (written_by (frame_at t n) targets) + c.rows.helpers ≤ 2 ^ 32 =
-    subst (λ (g : Columns). length g + length (frame_at t n) + length (written_by (frame_at t n) targets) + c.rows.helpers ≤ 2 ^ 32) callee fit_caller in
-    let fit_so : length (frame_at t f) + length (frame_at t n) + length (written_by (frame_at t n) numbers) + c.rows.helpers ≤ 2 ^ 32 =
-    subst (λ (ts : List ℕ). length (frame_at t f) + length (frame_at t n) + length (written_by (frame_at t n) ts) + c.rows.helpers ≤ 2 ^ 32) (sym c.parts.targets) fit_callee in
-    let one : BackIsActed (frame_at t n) (frame_at t f) c.rows.helpers targets = subst (BackIsActed (frame_at t n) (frame_at t f) c.rows.helpers) c.parts.targets (back_acted t n f c.args cs c.rows.helpers known fit_so) in
-    let both : BackIsActed (frame_of (letters_of t) n) (frame_of (letters_of t) f) c.rows.helpers targets =
-    subst (λ (g : Columns). BackIsActed g (frame_of (letters_of t) f) c.rows.helpers targets) (sym caller) (subst (λ (g : Columns). BackIsActed (frame_at t n) g c.rows.helpers targets) (sym callee) one) in
+    let fit_caller : length (frame_of (letters_of t) f) + length (frame_at t n) + length (written_by (frame_at t n) targets) + c.letter.plain.helpers ≤ 2 ^ 32 =
+    subst (λ (g : Columns). length (frame_of (letters_of t) f) + length g + length (written_by g targets) + c.letter.plain.helpers ≤ 2 ^ 32) caller fit_call in
+    let fit_callee : length (frame_at t f) + length (frame_at t n) + length (written_by (frame_at t n) targets) + c.letter.plain.helpers ≤ 2 ^ 32 =
+    subst (λ (g : Columns). length g + length (frame_at t n) + length (written_by (frame_at t n) targets) + c.letter.plain.helpers ≤ 2 ^ 32) callee fit_caller in
+    let fit_so : length (frame_at t f) + length (frame_at t n) + length (written_by (frame_at t n) numbers) + c.letter.plain.helpers ≤ 2 ^ 32 =
+    subst (λ (ts : List ℕ). length (frame_at t f) + length (frame_at t n) + length (written_by (frame_at t n) ts) + c.letter.plain.helpers ≤ 2 ^ 32) (sym c.parts.targets) fit_callee in
+    let one : BackIsActed (frame_at t n) (frame_at t f) c.letter.plain.helpers targets = subst (BackIsActed (frame_at t n) (frame_at t f) c.letter.plain.helpers) c.parts.targets (back_acted t n f c.args cs c.letter.plain.helpers known fit_so) in
+    let both : BackIsActed (frame_of (letters_of t) n) (frame_of (letters_of t) f) c.letter.plain.helpers targets =
+    subst (λ (g : Columns). BackIsActed g (frame_of (letters_of t) f) c.letter.plain.helpers targets) (sym caller) (subst (λ (g : Columns). BackIsActed (frame_at t n) g c.letter.plain.helpers targets) (sym callee) one) in
     subst (BackIsActedFrom (letters_of t) targets) (sym found) both
 
 act_acted : (t : TypedProgram) → IsTrue (is_valid t) → ActionsAreTyped t → (a : MarkedAct) → ActOf (program_arcs t) (lettered (program_arcs t)).acts a → act_width (letters_of t) a.act ≤ 2 ^ 32 → IsActed (letters_of t) a.act
@@ -230,7 +230,7 @@ act_acted t v w a (of_inside q e m) fit = elim (from_start_or_place t v (inside_
       subst (λ (b : MarkedAct). IsActed (letters_of t) b.act) parts.1 (entering_acted t t.entry entry.0 entry.2 (subst (λ (b : MarkedAct). act_width (letters_of t) b.act ≤ 2 ^ 32) (sym parts.1) fit)))
   | inr k ↦ elim k.3 [
     | inl edge ↦ inside_acted t w a q e k.0 k.1 k.2 edge fit
-    | inr c ↦ absurd (no_inside q (place_number t k.0 k.1) a (exact_act (call_act k.0 c.callee c.rows.helpers c.rows.rows)) e (place_number t c.callee (point_of_call t c.callee (slice_get t.procs c.callee)))
+    | inr c ↦ absurd (no_inside q (place_number t k.0 k.1) a (called_act k.0 c.callee c.letter) e (place_number t c.callee (point_of_call t c.callee (slice_get t.procs c.callee)))
         (return_place t c.callee) (numbers_in (frame_at t k.0) (targets_at k.1.todo)) (place_number t k.0 (settled (past_first t.procs k.1.todo))) (sym c.is))
   ]
 ]

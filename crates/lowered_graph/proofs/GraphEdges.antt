@@ -17,14 +17,17 @@ use Rattle.cond_jumps.specs.Conjunctions.{Conjunction, listed_plan, joined}
 use Rattle.cond_jumps.specs.Forms.{Linear, column, after}
 use Rattle.cond_jumps.specs.Comparisons.{equal}
 use Rattle.cond_jumps.specs.Environments.{Environment}
-use Rattle.cond_jumps.specs.Frames.{frame_environment}
+use Rattle.cond_jumps.specs.Frames.{frame_environment, fixed_in}
+use Rattle.free_products.specs.FreeProducts.{all_freed}
+use Rattle.free_products.specs.Letters.{MarkedConjunction, marked_letter}
+use Rattle.free_products.specs.FrameLetters.{widened, all_product_count}
 use Rattle.boogie_points.specs.Points.{Point, settled, past_first}
 use Rattle.boogie_points.specs.Actions as actions
 use Rattle.boogie_points.specs.Actions.{Action, action_at}
 use Rattle.boogie_points.specs.Starts.{point_of_call, start_point_of, targets_at}
 use Rattle.boogie_places.specs.Places.{count_from, program_places}
 use Rattle.lowered_steps.specs.ProgramFrames.{frame_at, width_at}
-use Rattle.lowered_steps.specs.Edges.{Spot, At, Wrong, Edge, inside_edges, argument_sum, columns_before_locals, parameters_get, call_list, numbers_in}
+use Rattle.lowered_steps.specs.Edges.{Spot, At, Wrong, Edge, inside_edges, argument_sum, columns_before_locals, parameters_get, call_letters, numbers_in, local_count}
 use Rattle.lowered_steps.specs.Stacks.{IsAmong}
 use Rattle.lowered_graph.specs.Arcs.{place_number, error_place, spot_number, return_place, entering, start_arc, program_arcs}
 use Rattle.letter_table.specs.Letters.{MarkedAct, exact_act, inside_arc, lettered}
@@ -34,7 +37,7 @@ use Rattle.lowered_graph.proofs.ActNumbers.{one_index, act_got}
 use Rattle.lowered_graph.proofs.LetterSets.{acts_differ, insides_are, calls_are, backs_are}
 use Rattle.lowered_graph.proofs.KnownPlaces.{PlaceLaws, IsKnown, known_start, known_entry, known_number, known_once}
 use Rattle.lowered_graph.proofs.CallPlaces.{entered_has_body}
-use Rattle.lowered_graph.proofs.EdgeArcs.{EdgeOfArc, edge_lands}
+use Rattle.lowered_graph.proofs.EdgeArcs.{edge_act, called_act, EdgeOfArc, edge_lands}
 use Rattle.lowered_graph.proofs.Alphabet.{letters_of, counted_get, frame_is}
 use Rattle.lowered_graph.proofs.Joined.{IsKnownSpot, from_start_or_place, spot_known, behind_known}
 use Rattle.lowered_graph.proofs.JoinedBack.{inside_parts, no_inside, letter_act, CallFrom, call_from}
@@ -106,7 +109,7 @@ edge_follows : (l : PlaceLaws) (t : TypedProgram) → IsTrue (is_valid t) → Wr
 edge_follows l t v w a act q e n p known found h =
     let edge : Edge = h.edge in
     let own : PlainAct = inside_act n edge.written edge.rows.helpers edge.rows.rows in
-    let parts = inside_parts (place_number t n p) q (exact_act own) act (spot_number t n edge.to) e h.is in
+    let parts = inside_parts (place_number t n p) q (edge_act n edge) act (spot_number t n edge.to) e h.is in
     let found_so : act_of (letters_of t) a ≡ Some own = found ∙ ap (λ (m : MarkedAct). Some m.act) (sym parts.1) in
     let to : IsKnownSpot t n edge.to = spot_known l t v n p edge.to known (edge_lands t n p (action_at t n p) edge h.among) in
     let stays : IsPlaceOf (place_owners t) n q × IsPlaceOf (place_owners t) n e =
@@ -128,7 +131,7 @@ inside_follows l t v w edge m =
       | inl start ↦ start_follows l t v edge.1 h.act edge.0 edge.2 found start
       | inr k ↦ elim k.3 [
         | inl e ↦ edge_follows l t v w edge.1 h.act edge.0 edge.2 k.0 k.1 k.2 found e
-        | inr c ↦ absurd (no_inside edge.0 (place_number t k.0 k.1) h.act (exact_act (call_act k.0 c.callee c.rows.helpers c.rows.rows)) edge.2 (place_number t c.callee (point_of_call t c.callee (slice_get t.procs c.callee)))
+        | inr c ↦ absurd (no_inside edge.0 (place_number t k.0 k.1) h.act (called_act k.0 c.callee c.letter) edge.2 (place_number t c.callee (point_of_call t c.callee (slice_get t.procs c.callee)))
             (return_place t c.callee) (numbers_in (frame_at t k.0) (targets_at k.1.todo)) (place_number t k.0 (settled (past_first t.procs k.1.todo))) (sym c.is))
       ]
     ]
@@ -158,7 +161,7 @@ call_follows l t v edge m =
     let b = entered_has_body t n w.point f w.args w.known w.action in
     let entry : Point = point_of_call t f (slice_get t.procs f) in
     let to : place_number t f entry ≡ edge.2 = w.parts.to in
-    let found_so : act_of (letters_of t) edge.1 ≡ Some (call_act n f w.rows.helpers w.rows.rows) = found ∙ ap (λ (m : MarkedAct). Some m.act) (sym w.parts.act) in
+    let found_so : act_of (letters_of t) edge.1 ≡ Some (call_act n f w.letter.plain.helpers w.letter.plain.rows) = found ∙ ap (λ (m : MarkedAct). Some m.act) (sym w.parts.act) in
     let enters : IsPlaceOf (place_owners t) n edge.0 × (slice_get (lowered t).entries f ≡ Some (Some edge.2)) =
     (subst (IsPlaceOf (place_owners t) n) w.parts.place (owner_is l t v n w.point w.known), entry_got t f b.0 b.1 b.2 b.3 ∙ ap (λ (m : ℕ). Some (Some m)) to) in
     record {
@@ -179,7 +182,7 @@ back_follows l t v edge m =
     let known : IsKnown t n next = behind_known l t v n w.point f w.args w.known w.action in
     let to : place_number t n next ≡ edge.3 = w.parts.behind in
     let call : edge.2.call ≡ h.call = ap (λ (a : Letter). a.call) h.letter.1 in
-    let act_is : slice_get (letters_of t).acts edge.2.call ≡ Some (call_act n f w.rows.helpers w.rows.rows) =
+    let act_is : slice_get (letters_of t).acts edge.2.call ≡ Some (call_act n f w.letter.plain.helpers w.letter.plain.rows) =
     ap (slice_get (letters_of t).acts) call ∙ act_got (lettered (program_arcs t)).acts h.call h.act h.called ∙ ap (λ (m : MarkedAct). Some m.act) (sym w.parts.act) in
     let leaves : (slice_get (lowered t).exits f ≡ Some (Some edge.0)) × IsPlaceOf (place_owners t) n edge.1 × IsPlaceOf (place_owners t) n edge.3 = (
       exit_got t f b.0 b.1 b.2 b.3 ∙ ap (λ (m : ℕ). Some (Some m)) w.parts.from,
@@ -204,18 +207,20 @@ one_member v j (e ∷ es) n =
     let rest = one_member v (suc j) es (n + first.helpers) in
     (joined first rest.0, ap (λ (cs : List Conjunction). map (joined first) cs ++ []) rest.1)
 
-among_one : (c : Conjunction) (cs : List Conjunction) (a b : Conjunction) → cs ≡ c ∷ [] → IsAmong cs a → IsAmong cs b → a ≡ b
-among_one c cs a b e i j = both (subst (λ (xs : List Conjunction). IsAmong xs a) e i) (subst (λ (xs : List Conjunction). IsAmong xs b) e j)
+among_one : (c : MarkedConjunction) (cs : List MarkedConjunction) (a b : MarkedConjunction) → cs ≡ c ∷ [] → IsAmong cs a → IsAmong cs b → a ≡ b
+among_one c cs a b e i j = both (subst (λ (xs : List MarkedConjunction). IsAmong xs a) e i) (subst (λ (xs : List MarkedConjunction). IsAmong xs b) e j)
   where
     both : IsAmong (c ∷ []) a → IsAmong (c ∷ []) b → a ≡ b
     both (inl x) (inl y) = sym x ∙ y
     both (inl x) (inr m) = absurd m
     both (inr m) y = absurd m
 
-one_rows : (t : TypedProgram) (n f : ℕ) (args : List TypedExpression) (c d : Conjunction) → IsAmong (call_list t n f args) c → IsAmong (call_list t n f args) d → c ≡ d
-one_rows t n f args c d i j =
-    let one = one_member (frame_environment (frame_at t n)) (width_at t n + columns_before_locals t) args (width_at t n + width_at t f) in
-    among_one one.0 (call_list t n f args) c d one.1 i j
+one_letter : (t : TypedProgram) (n f : ℕ) (args : List TypedExpression) (c d : MarkedConjunction) → IsAmong (call_letters t n f args) c → IsAmong (call_letters t n f args) d → c ≡ d
+one_letter t n f args c d i j =
+    let free : ℕ = all_product_count (frame_at t n) args in
+    let one = one_member (frame_environment (widened (frame_at t n) (local_count t n) free)) (width_at t n + free + columns_before_locals t) (all_freed (fixed_in (frame_at t n)) (local_count t n) args)
+    (width_at t n + free + width_at t f) in
+    among_one (marked_letter (width_at t n) free (width_at t f) one.0) (call_letters t n f args) c d (ap (map (marked_letter (width_at t n) free (width_at t f))) one.1) i j
 
 entered_same : (a : Action) (f g : ℕ) (es ds : List TypedExpression) → a ≡ actions.Enter f es → a ≡ actions.Enter g ds → (f ≡ g) × (es ≡ ds)
 entered_same a f g es ds i j = let e : actions.Enter f es ≡ actions.Enter g ds = sym i ∙ j in (cc, cc)
@@ -228,11 +233,11 @@ one_act l t v act bct q to from targets behind to' from' targets' behind' w u =
     let there : action_at t w.proc w.point ≡ actions.Enter u.callee u.args =
     ap (λ (n : ℕ). action_at t n w.point) same.0 ∙ ap (action_at t u.proc) same.1 ∙ u.action in
     let call = entered_same (action_at t w.proc w.point) w.callee u.callee w.args u.args w.action there in
-    let in_w : IsAmong (call_list t w.proc w.callee w.args) u.rows =
-    subst (λ (n : ℕ). IsAmong (call_list t n w.callee w.args) u.rows) (sym same.0)
-    (subst (λ (f : ℕ). IsAmong (call_list t u.proc f w.args) u.rows) (sym call.0) (subst (λ (es : List TypedExpression). IsAmong (call_list t u.proc u.callee es) u.rows) (sym call.1) u.among)) in
-    let rows : w.rows ≡ u.rows = one_rows t w.proc w.callee w.args w.rows u.rows w.among in_w in
-    sym w.parts.act ∙ (λ i. exact_act (call_act (same.0 i) (call.0 i) (rows i).helpers (rows i).rows)) ∙ u.parts.act
+    let in_w : IsAmong (call_letters t w.proc w.callee w.args) u.letter =
+    subst (λ (n : ℕ). IsAmong (call_letters t n w.callee w.args) u.letter) (sym same.0)
+    (subst (λ (f : ℕ). IsAmong (call_letters t u.proc f w.args) u.letter) (sym call.0) (subst (λ (es : List TypedExpression). IsAmong (call_letters t u.proc u.callee es) u.letter) (sym call.1) u.among)) in
+    let letters : w.letter ≡ u.letter = one_letter t w.proc w.callee w.args w.letter u.letter w.among in_w in
+    sym w.parts.act ∙ (λ i. called_act (same.0 i) (call.0 i) (letters i)) ∙ u.parts.act
 
 one_id : (t : TypedProgram) (act bct : MarkedAct) (m n : ℕ) → slice_get (lettered (program_arcs t)).acts m ≡ Some act → slice_get (lettered (program_arcs t)).acts n ≡ Some bct → act ≡ bct → m ≡ n
 one_id t act bct m n i j e = one_index (lettered (program_arcs t)).acts m n act (acts_differ (program_arcs t)) i (j ∙ ap Some (sym e))

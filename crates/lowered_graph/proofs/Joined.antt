@@ -20,13 +20,13 @@ use Rattle.lowered_steps.specs.ProgramFrames.{frame_at}
 use Rattle.lowered_steps.specs.Edges.{Spot, At, Wrong, numbers_in}
 use Rattle.lowered_steps.specs.Stacks.{Pending, Stack, IsStep, inside, call, back}
 use Rattle.lowered_graph.specs.Arcs.{place_number, spot_number, return_place, start_arc, arcs_at, program_arcs}
-use Rattle.letter_table.specs.Letters.{Arc, exact_act, no_letters, lettered}
+use Rattle.letter_table.specs.Letters.{MarkedAct, Arc, exact_act, no_letters, lettered}
 use Rattle.lowered_graph.specs.Lowered.{site, program_sites, lowered}
 use Rattle.lowered_graph.proofs.ActNumbers.{act_got}
 use Rattle.lowered_graph.proofs.LetterEdges.{HasInside, HasCall, inside_lettered, call_lettered}
 use Rattle.lowered_graph.proofs.KnownPlaces.{PlaceLaws, IsKnown, place_known, known_place, known_onward, known_entry}
 use Rattle.lowered_graph.proofs.CallPlaces.{entered_has_body, leaves_at}
-use Rattle.lowered_graph.proofs.EdgeArcs.{arcs_so, arcs_back, sites_so, arc_of_edge, edge_arc, EdgeOfArc, arc_of_call, CallOfArc, arc_back, call_arc_so, Lands, edge_lands}
+use Rattle.lowered_graph.proofs.EdgeArcs.{arcs_so, arcs_back, sites_so, edge_act, called_act, arc_of_edge, edge_arc, EdgeOfArc, arc_of_call, CallOfArc, arc_back, call_arc_so, Lands, edge_lands}
 use Rattle.lowered_graph.proofs.Alphabet.{letters_of, situation, inside_means, call_means, back_means}
 
 -- ---- stacks as the automaton sees them
@@ -115,11 +115,12 @@ step_seen t x y k (inside p e at among led proc spot below) =
     let n : ℕ = x.proc in
     let here : IsKnown t n p = known_at t n x.spot p at k.spot in
     let act : PlainAct = inside_act n e.written e.rows.helpers e.rows.rows in
+    let marked : MarkedAct = edge_act n e in
     let arc : Member (program_arcs t) (arc_of_edge t n p e) = arc_there t n p (arc_of_edge t n p e) here (edge_arc t n p (action_at t n p) e among) in
-    let h : HasInside (lettered (program_arcs t)) (place_number t n p) (exact_act act) (spot_number t n e.to) = inside_lettered no_letters (program_arcs t) (place_number t n p) (exact_act act) (spot_number t n e.to) arc in
+    let h : HasInside (lettered (program_arcs t)) (place_number t n p) marked (spot_number t n e.to) = inside_lettered no_letters (program_arcs t) (place_number t n p) marked (spot_number t n e.to) arc in
     let a : Letter = letter_of h.id act in
     let means : ActInside (letters_of t) (act_of (letters_of t) a) (situation n x.values) (situation n y.values) =
-    inside_means t n h.id here.procedure e.written e.rows.helpers e.rows.rows x.values y.values here.is (act_got (lettered (program_arcs t)).acts h.id (exact_act act) h.act) led in
+    inside_means t n h.id here.procedure e.written e.rows.helpers e.rows.rows x.values y.values here.is (act_got (lettered (program_arcs t)).acts h.id marked h.act) led in
     let one : StepsTo t a (stacked t x.below) (place_number t n p, situation n x.values) (spot_number t n e.to, situation n y.values) (stacked t x.below) = ((h.edge, means), refl) in (
       a,
       subst (λ (z : Stack). StepsTo t a (stacked t x.below) (spot_number t n x.spot, situation n x.values) (seen t z) (stacked t z.below)) (same_stack (record { proc = n; spot = e.to; values = y.values; below = x.below }) y (sym proc) (sym spot) refl (sym below))
@@ -129,15 +130,16 @@ step_seen t x y k (call p f args c at is among led proc spot below) =
     let n : ℕ = x.proc in
     let here : IsKnown t n p = known_at t n x.spot p at k.spot in
     let b = entered_has_body t n p f args here is in
-    let act : PlainAct = call_act n f c.helpers c.rows in
+    let act : PlainAct = call_act n f c.plain.helpers c.plain.rows in
+    let marked : MarkedAct = called_act n f c in
     let entry : ℕ = place_number t f (point_of_call t f (slice_get t.procs f)) in
     let targets : List ℕ = numbers_in (frame_at t n) (targets_at p.todo) in
     let behind : ℕ = place_number t n (settled (past_first t.procs p.todo)) in
     let arc : Member (program_arcs t) (arc_of_call t n p f c) = arc_there t n p (arc_of_call t n p f c) here (call_arc_so t n p (action_at t n p) f args c is among) in
-    let h : HasCall (lettered (program_arcs t)) (place_number t n p) (exact_act act) entry (return_place t f) targets behind = call_lettered no_letters (program_arcs t) (place_number t n p) (exact_act act) entry (return_place t f) targets behind arc in
+    let h : HasCall (lettered (program_arcs t)) (place_number t n p) marked entry (return_place t f) targets behind = call_lettered no_letters (program_arcs t) (place_number t n p) marked entry (return_place t f) targets behind arc in
     let a : Letter = letter_of h.id act in
     let means : ActCalls (letters_of t) (act_of (letters_of t) a) (situation n x.values) (situation f y.values) =
-    call_means t n f h.id here.procedure b.0 c.helpers c.rows x.values y.values here.is b.2 (act_got (lettered (program_arcs t)).acts h.id (exact_act act) h.act) led in
+    call_means t n f h.id here.procedure b.0 c.plain.helpers c.plain.rows x.values y.values here.is b.2 (act_got (lettered (program_arcs t)).acts h.id marked h.act) led in
     let pending : Pending = record { proc = n; point = p; values = x.values } in
     let one : StepsTo t a (stacked t x.below) (place_number t n p, situation n x.values) (entry, situation f y.values) (stacked t (pending ∷ x.below)) = ((h.edge, means), refl) in (
       a,
@@ -150,17 +152,18 @@ step_seen t x y k (back p b args c at is below calls among led proc spot) =
     let n : ℕ = b.proc in
     let here : IsKnown t f p = known_at t f x.spot p at k.spot in
     let all : AllByRecursion (λ b. IsKnown t b.proc b.point) (b ∷ y.below) = subst (AllByRecursion (λ b. IsKnown t b.proc b.point)) below k.below in
-    let act : PlainAct = call_act n f c.helpers c.rows in
+    let act : PlainAct = call_act n f c.plain.helpers c.plain.rows in
+    let marked : MarkedAct = called_act n f c in
     let entry : ℕ = place_number t f (point_of_call t f (slice_get t.procs f)) in
     let targets : List ℕ = numbers_in (frame_at t n) (targets_at b.point.todo) in
     let next : Point = settled (past_first t.procs b.point.todo) in
     let arc : Member (program_arcs t) (arc_of_call t n b.point f c) = arc_there t n b.point (arc_of_call t n b.point f c) all.0 (call_arc_so t n b.point (action_at t n b.point) f args c calls among) in
-    let h : HasCall (lettered (program_arcs t)) (place_number t n b.point) (exact_act act) entry (return_place t f) targets (place_number t n next) =
-    call_lettered no_letters (program_arcs t) (place_number t n b.point) (exact_act act) entry (return_place t f) targets (place_number t n next) arc in
+    let h : HasCall (lettered (program_arcs t)) (place_number t n b.point) marked entry (return_place t f) targets (place_number t n next) =
+    call_lettered no_letters (program_arcs t) (place_number t n b.point) marked entry (return_place t f) targets (place_number t n next) arc in
     let a : Letter = letter_of h.back (back_act h.id targets) in
     let means : ActReturns (letters_of t) (act_of (letters_of t) a) (situation f x.values) (situation n b.values) (situation n y.values) =
-    back_means t n f h.id h.back all.0.procedure here.procedure c.helpers c.rows targets x.values b.values y.values all.0.is here.is
-    (act_got (lettered (program_arcs t)).acts h.id (exact_act act) h.act) (act_got (lettered (program_arcs t)).acts h.back (exact_act (back_act h.id targets)) h.back_is) led in
+    back_means t n f h.id h.back all.0.procedure here.procedure c.plain.helpers c.plain.rows targets x.values b.values y.values all.0.is here.is
+    (act_got (lettered (program_arcs t)).acts h.id marked h.act) (act_got (lettered (program_arcs t)).acts h.back (exact_act (back_act h.id targets)) h.back_is) led in
     let one : StepsTo t a (stacked t (b ∷ y.below)) (return_place t f, situation f x.values) (place_number t n next, situation n y.values) (stacked t y.below) = ((h.back_edge, means), refl) in
     let left : return_place t f ≡ place_number t f p = ap (place_number t f) (sym (leaves_at t f p here is)) in
     let from_point : StepsTo t a (stacked t (b ∷ y.below)) (place_number t f p, situation f x.values) (place_number t n next, situation n y.values) (stacked t y.below) =

@@ -14,6 +14,7 @@ pub mod RunsJoined
 pub mod GraphParts
 pub mod GraphEdges
 pub mod NamedColumns
+pub mod LetterNames
 pub mod FrameTargets
 pub mod EdgeActs
 pub mod CallActs
@@ -22,3 +23,4 @@ pub mod GraphActs
 pub mod GraphNames
 pub mod TargetsDiffer
 pub mod WholeGraph
+pub mod ExactLetters

@@ -1,5 +1,6 @@
--- The stack machine over points fails an assertion exactly where some feasible word leads to where it fails.
-use Rattle.std.proofs.Common.{◌≡◌, ◌↔◌, ◌∙◌, ℕ, zero, suc, ◌+◌, ◌<◌, ◌≤◌, List, [], ◌∷◌, map, length, Option, Some, inl, inr, refl, sym, ap, subst, arith, IsTrue}
+-- Where the stack machine over points fails an assertion, some feasible word leads to where it fails; and where such a word has no coarse letter, the
+-- machine fails it by exact steps.
+use Rattle.std.proofs.Common.{◌≡◌, ◌∙◌, ℕ, zero, suc, ◌+◌, ◌<◌, ◌≤◌, List, [], ◌∷◌, map, length, Option, Some, inl, inr, refl, sym, ap, subst, arith, IsTrue}
 use Rattle.std.specs.Prelude.{slice_get}
 use Rattle.std.specs.List.{AllByRecursion}
 use Rattle.boogie_tree.specs.declared.span.Span.{Span}
@@ -13,7 +14,7 @@ use Rattle.nwa_base.specs.declared.letters.Letter.{Letter}
 use Rattle.lin_rows.specs.Rows.{LinearRow}
 use Rattle.letter_acts.specs.declared.sites.Site.{Site}
 use Rattle.letter_acts.specs.Frames.{Columns, IsState, olds_of}
-use Rattle.letter_acts.specs.Acts.{PlainAct, inside_act, letter_of, act_of}
+use Rattle.letter_acts.specs.Acts.{PlainAct, letter_of, act_of}
 use Rattle.letter_acts.specs.Meaning.{InsideLeads, Situation, ActInside}
 use Rattle.letter_acts.specs.Ways.{Leads, Goes}
 use Rattle.letter_acts.specs.Feasible.{IsSituation, meaning, edges, machine, FeasibleWay}
@@ -24,12 +25,12 @@ use Rattle.boogie_points.specs.Starts.{start_point_of}
 use Rattle.boogie_places.specs.Places.{program_places}
 use Rattle.lowered_steps.specs.ProgramFrames.{frame_at, width_at}
 use Rattle.lowered_steps.specs.Edges.{Spot, At, Wrong}
-use Rattle.lowered_steps.specs.Stacks.{Stack, IsStart, Reaches, MachineFails}
+use Rattle.lowered_steps.specs.Stacks.{Stack, IsStart, Reaches, MachineFails, ExactlyReaches, MachineFailsExactly}
 use Rattle.lowered_graph.specs.Arcs.{place_number, error_place, spot_number, entering_rows, entering, program_arcs}
 use Rattle.letter_table.specs.Letters.{MarkedAct, exact_act, inside_arc, call_arc, no_letters, lettered}
 use Rattle.lowered_graph.specs.LetterLaws.{InsideOf, CallOf}
 use Rattle.lowered_graph.specs.Lowered.{site, program_sites, lowered}
-use Rattle.lowered_graph.specs.Laws.{ErrorWord}
+use Rattle.lowered_graph.specs.Laws.{ErrorWord, IsExactWord, MachineJoins}
 use Rattle.lowered_graph.proofs.ActNumbers.{act_got}
 use Rattle.lowered_graph.proofs.LetterEdges.{HasInside, inside_lettered}
 use Rattle.lowered_graph.proofs.LetterSets.{insides_are, calls_are}
@@ -38,6 +39,7 @@ use Rattle.lowered_graph.proofs.StartLetter.{IsEntered, start_led, start_leads}
 use Rattle.lowered_graph.proofs.Alphabet.{letters_of, situation, frame_is, proc_exists, inside_means, inside_meant}
 use Rattle.lowered_graph.proofs.Joined.{seen, stacked, StepsTo, IsKnownSpot, IsKnownStack, from_start_or_place, step_known, step_seen}
 use Rattle.lowered_graph.proofs.JoinedBack.{inside_parts, letter_act, StepBack, step_back}
+use Rattle.lowered_graph.proofs.EdgeArcs.{edge_act}
 use Rattle.lowered_graph.proofs.SiteNumbers.{site_positive, site_place}
 
 -- a way of the automaton and its letters
@@ -103,17 +105,18 @@ wrong_spot l t v n (At p) k m i line s e =
     absurd (omega arith)
 wrong_spot l t v n (Wrong j) k m i line s e = ap Wrong (site_number t v n m j i k.0 line k.1 s e)
 
-goes_reach : (l : PlaceLaws) (t : TypedProgram) → IsTrue (is_valid t) → (w : List Letter) (x : Stack) → IsKnownStack t x → (after : List (ℕ × Situation)) (last : ℕ × Situation) → Ways t (stacked t x.below) (seen t x) w after last →
-    (m i : ℕ) (line : Span) → Member (program_sites t) (site t m i line) → last.0 ≡ error_place t i → (k : ℕ) × Reaches t i k x
-goes_reach l t v [] x known after last h m i line s e = (0, wrong_spot l t v x.proc x.spot known.spot m i line s (ap (λ (y : ℕ × Situation). y.0) h.1 ∙ e))
-goes_reach l t v (a ∷ w) x known after last h m i line s e =
+-- a way by letters that are not coarse is one of exact steps
+goes_reach : (l : PlaceLaws) (t : TypedProgram) → IsTrue (is_valid t) → (w : List Letter) → IsExactWord (lowered t) w → (x : Stack) → IsKnownStack t x → (after : List (ℕ × Situation)) (last : ℕ × Situation) → Ways t (stacked t x.below) (seen t x) w after last →
+    (m i : ℕ) (line : Span) → Member (program_sites t) (site t m i line) → last.0 ≡ error_place t i → (k : ℕ) × ExactlyReaches t i k x
+goes_reach l t v [] marks x known after last h m i line s e = (0, wrong_spot l t v x.proc x.spot known.spot m i line s (ap (λ (y : ℕ × Situation). y.0) h.1 ∙ e))
+goes_reach l t v (a ∷ w) marks x known after last h m i line s e =
     let f = leads_stack (machine (lowered t).automaton (letters_of t)) a.kind a (stacked t x.below) (seen t x) h.0 (λ stack. Ways t stack h.0 w after last) h.1 in
-    let b : StepBack t x h.0 f.0 = step_back l t v x known a h.0 f.0 f.1 in
+    let b : StepBack t x a h.0 f.0 = step_back l t v x known a h.0 f.0 f.1 in
     let y : Stack = b.next in
     let on : Ways t (stacked t y.below) (seen t y) w after last =
     subst (λ (z : ℕ × Situation). Ways t (stacked t y.below) z w after last) (sym b.seen_so) (subst (λ (stack : List (ℕ × Situation)). Ways t stack h.0 w after last) (sym b.stacked_so) f.2) in
-    let r = goes_reach l t v w y (step_known l t v x y known b.step) after last on m i line s e in
-    (suc r.0, (y, b.step, r.1))
+    let r = goes_reach l t v w marks.1 y (step_known l t v x y known b.step) after last on m i line s e in
+    (suc r.0, (y, b.step, b.exact marks.0, r.1))
 
 -- ---- the start
 
@@ -233,7 +236,7 @@ first_inside l t v a first y after m means e =
             stacked_so = e;
           })
       | inr w ↦ elim w.3 [
-        | inl edge ↦ (let parts = inside_parts (place_number t w.0 w.1) 0 (exact_act (inside_act w.0 edge.edge.written edge.edge.rows.helpers edge.edge.rows.rows)) h.act (spot_number t w.0 edge.edge.to) y.0 edge.is in
+        | inl edge ↦ (let parts = inside_parts (place_number t w.0 w.1) 0 (edge_act w.0 edge.edge) h.act (spot_number t w.0 edge.edge.to) y.0 edge.is in
             absurd (place_not_zero l t v w.0 w.1 w.2 parts.0))
         | inr c ↦ absurd (cc)
       ]
@@ -256,22 +259,22 @@ first_step l t v kinds.Inside a first y after h = first_inside l t v a first y a
 first_step l t v kinds.Call a first y after h = absurd (first_call l t v a y.0 h.0.0)
 first_step l t v kinds.Back a first y after h = absurd h
 
-way_fails : (l : PlaceLaws) (t : TypedProgram) → IsTrue (is_valid t) → (w : List Letter) (first : Situation) (after : List (ℕ × Situation)) (last : ℕ × Situation) → Ways t [] (0, first) w after last →
-    (m i : ℕ) (line : Span) → Member (program_sites t) (site t m i line) → last.0 ≡ error_place t i → MachineFails t i
-way_fails l t v [] first after last h m i line s e =
+way_fails : (l : PlaceLaws) (t : TypedProgram) → IsTrue (is_valid t) → (w : List Letter) → IsExactWord (lowered t) w → (first : Situation) (after : List (ℕ × Situation)) (last : ℕ × Situation) → Ways t [] (0, first) w after last →
+    (m i : ℕ) (line : Span) → Member (program_sites t) (site t m i line) → last.0 ≡ error_place t i → MachineFailsExactly t i
+way_fails l t v [] marks first after last h m i line s e =
     let zero_is : 0 ≡ last.0 = ap (λ (x : ℕ × Situation). x.0) h.1 in
     absurd (let is : 0 ≡ error_place t i = zero_is ∙ e in omega arith)
-way_fails l t v (a ∷ w) first after last h m i line s e =
+way_fails l t v (a ∷ w) marks first after last h m i line s e =
     let f = leads_stack (machine (lowered t).automaton (letters_of t)) a.kind a [] (0, first) h.0 (λ stack. Ways t stack h.0 w after last) h.1 in
     let b : FirstStep t h.0 f.0 = first_step l t v a.kind a first h.0 f.0 f.1 in
     let x : Stack = b.stack in
     let on : Ways t (stacked t x.below) (seen t x) w after last =
     subst (λ (z : ℕ × Situation). Ways t (stacked t x.below) z w after last) (sym b.seen_so) (subst (λ (stack : List (ℕ × Situation)). Ways t stack h.0 w after last) (sym b.stacked_so) f.2) in
-    let r = goes_reach l t v w x (start_known l t v x b.start) after last on m i line s e in
+    let r = goes_reach l t v w marks.1 x (start_known l t v x b.start) after last on m i line s e in
     (r.0, x, b.start, r.1)
 
-pub word_fails : (l : PlaceLaws) (t : TypedProgram) → IsTrue (is_valid t) → (i : ℕ) → ErrorWord (lowered t) i → MachineFails t i
-word_fails l t v i h =
+pub word_fails : (l : PlaceLaws) (t : TypedProgram) → IsTrue (is_valid t) → (i : ℕ) → (h : ErrorWord (lowered t) i) → IsExactWord (lowered t) h.word → MachineFailsExactly t i
+word_fails l t v i h marks =
     let way : FeasibleWay (letters_of t) h.word = (feasible_by_way (letters_of t) h.word).0 h.feasible in
     let r = goes_together (edges (lowered t).automaton) (meaning (letters_of t)) h.word [] h.open_calls way.open_calls 0 h.site.place way.first way.last h.goes way.goes in
     let owner = member_site (program_sites t) h.site h.is_site in
@@ -280,7 +283,7 @@ word_fails l t v i h =
     let to : h.site.place ≡ error_place t i = place ∙ ap (error_place t) h.number in
     let is : ◌≡◌ {A = ℕ × Site} (n, h.site) (site t n i (record { line = h.site.id.line; col = 0 })) =
     (λ j. (n, record { id = record { number = h.number j; line = h.site.id.line }; place = to j })) in
-    way_fails l t v h.word way.first r.0 (h.site.place, way.last) r.3 n i (record { line = h.site.id.line; col = 0 }) (subst (Member (program_sites t)) is owner.1) to
+    way_fails l t v h.word marks way.first r.0 (h.site.place, way.last) r.3 n i (record { line = h.site.id.line; col = 0 }) (subst (Member (program_sites t)) is owner.1) to
 
-pub machine_fails : (l : PlaceLaws) (t : TypedProgram) → IsTrue (is_valid t) → (i : ℕ) → MachineFails t i ↔ ErrorWord (lowered t) i
-machine_fails l t v i = (λ h. fails_word l t v i h, λ h. word_fails l t v i h)
+pub machine_fails : (l : PlaceLaws) (t : TypedProgram) → IsTrue (is_valid t) → (i : ℕ) → MachineJoins t i
+machine_fails l t v i = record { follows = λ h. fails_word l t v i h; leads = λ h marks. word_fails l t v i h marks }

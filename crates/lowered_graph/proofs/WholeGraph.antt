@@ -27,7 +27,7 @@ use Rattle.lowered_graph.proofs.GraphActs.{ActionsAreTyped, acts_acted}
 use Rattle.lowered_graph.proofs.GraphNames.{are_named}
 use Rattle.lowered_graph.proofs.TargetsDiffer.{targets_differ, assigned_differ}
 
-known_point : (t : TypedProgram) (n : ℕ) (p : Point) → IsKnown t n p → IsPointOf t n p
+pub known_point : (t : TypedProgram) (n : ℕ) (p : Point) → IsKnown t n p → IsPointOf t n p
 known_point t n p k = record { procedure = k.procedure; body = k.body; is = k.is; has = k.has_body; among = elim k.stands [ inl h ↦ inr h | inr h ↦ inl h ] }
 
 -- ---- what actions write

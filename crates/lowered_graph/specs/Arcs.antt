@@ -6,7 +6,7 @@ use Rattle.lin_rows.specs.Sums.{row_of}
 use Rattle.lin_rows.specs.declared.types.RowKind.TheVariants.{Eq}
 use Rattle.letter_acts.specs.Acts.{PlainAct, inside_act, call_act}
 use Rattle.letter_acts.specs.Frames.{Columns, olds_of}
-use Rattle.cond_jumps.specs.Conjunctions.{Conjunction}
+use Rattle.free_products.specs.Letters.{MarkedConjunction}
 use Rattle.letter_table.specs.Letters.{Arc, inside_arc, call_arc, exact_act}
 use Rattle.boogie_points.specs.Points.{Point, at_exit, settled, past_first}
 use Rattle.boogie_points.specs.Actions as actions
@@ -14,7 +14,7 @@ use Rattle.boogie_points.specs.Actions.{Action, action_at, ensured_conditions}
 use Rattle.boogie_points.specs.Starts.{point_of_call, start_point_of, targets_at}
 use Rattle.boogie_places.specs.Places.{Place, number_of, program_places}
 use Rattle.lowered_steps.specs.ProgramFrames.{frame_at}
-use Rattle.lowered_steps.specs.Edges.{Spot, At, Wrong, Edge, inside_edges, call_list, numbers_in}
+use Rattle.lowered_steps.specs.Edges.{Spot, At, Wrong, Edge, inside_edges, call_letters, numbers_in}
 
 -- ---- numbers of places
 
@@ -58,15 +58,15 @@ start_arc t = inside_arc 0 (exact_act (entering t.entry (frame_at t t.entry))) (
 
 abbrev pub inside_arcs : TypedProgram → ℕ → Point → List Edge → List Arc
 inside_arcs t n here edges =
-    map (λ e. inside_arc (place_number t n here) (exact_act (inside_act n e.written e.rows.helpers e.rows.rows)) (spot_number t n e.to)) edges
+    map (λ e. inside_arc (place_number t n here) (record { act = inside_act n e.written e.rows.helpers e.rows.rows; coarse = e.coarse }) (spot_number t n e.to)) edges
 
-abbrev pub call_arcs : TypedProgram → ℕ → Point → ℕ → List Conjunction → List Arc
+abbrev pub call_arcs : TypedProgram → ℕ → Point → ℕ → List MarkedConjunction → List Arc
 call_arcs t n here f cs =
-    map (λ c. call_arc (place_number t n here) (exact_act (call_act n f c.helpers c.rows)) (place_number t f (point_of_call t f (slice_get t.procs f)))
+    map (λ c. call_arc (place_number t n here) (record { act = call_act n f c.plain.helpers c.plain.rows; coarse = c.coarse }) (place_number t f (point_of_call t f (slice_get t.procs f)))
     (return_place t f) (numbers_in (frame_at t n) (targets_at here.todo)) (place_number t n (settled (past_first t.procs here.todo)))) cs
 
 abbrev pub action_arcs : TypedProgram → ℕ → Point → Action → List Arc
-action_arcs t n here (actions.Enter f args) = call_arcs t n here f (call_list t n f args)
+action_arcs t n here (actions.Enter f args) = call_arcs t n here f (call_letters t n f args)
 action_arcs t n here action = inside_arcs t n here (inside_edges t n here action)
 
 abbrev pub arcs_at : TypedProgram → Place → List Arc

@@ -8,17 +8,16 @@ use Rattle.typed_tree.specs.BrokenRules.{expression_span}
 use Rattle.typing_rules.specs.Counts.{checked_at_call}
 use Rattle.letter_acts.specs.Frames.{Columns}
 use Rattle.cond_jumps.specs.Conjunctions.{Plan, is_wide, all_fit}
-use Rattle.cond_jumps.specs.Paths.{paths}
-use Rattle.cond_jumps.specs.Frames.{frame_environment}
-use Rattle.cond_jumps.specs.Passing.{passed, standing_environment}
-use Rattle.cond_jumps.specs.Lists.{path_plan, assign_plan, assign_width}
+use Rattle.cond_jumps.specs.Frames.{fixed_in}
+use Rattle.cond_jumps.specs.Lists.{assign_width}
+use Rattle.free_products.specs.FrameLetters.{widened, product_count, all_product_count, passed_count, told_condition, freed_path_plan, freed_assign_plan, freed_passed_plan}
 use Rattle.boogie_points.specs.Points.{Todo, Start, Entry, Body, Exit, Stage, Point}
 use Rattle.boogie_points.specs.Actions as actions
 use Rattle.boogie_points.specs.Actions.{Action, action_at, plain_conditions, free_conditions, ensured_conditions}
 use Rattle.boogie_points.specs.Starts.{targets_at}
 use Rattle.boogie_places.specs.Places.{Place, parts_from, program_places}
 use Rattle.lowered_steps.specs.ProgramFrames.{frame_at, width_at}
-use Rattle.lowered_steps.specs.Edges.{import_written, import_environment, those_in, all_hold, parameters_get, columns_before_locals, numbers_in}
+use Rattle.lowered_steps.specs.Edges.{import_written, import_products, import_plan, those_in, call_plan, local_count, numbers_in}
 use Rattle.boogie_tree.specs.Apart.{nowhere}
 
 -- ---- the lists that the edges of a place need
@@ -28,40 +27,48 @@ pub record Needed : Type 0 where
   pub plan : Plan
   pub base : ℕ
 
-abbrev pub path_needed : Columns → TypedExpression → Bool → Needed
-path_needed frame e want = record { plan = path_plan frame e want; base = length frame }
+-- of a condition over a frame whose locals have numbers below m, and its products
+abbrev pub path_needed : Columns → ℕ → TypedExpression → Bool → Needed
+path_needed frame m e want = record { plan = freed_path_plan frame m e want; base = length (widened frame m (product_count frame e)) }
 
-abbrev pub passed_needed : Columns → List TypedExpression → TypedExpression → Bool → Needed
-passed_needed frame args e want =
-    record { plan = paths (standing_environment (frame_environment frame) (passed args)) false e want; base = length frame }
+-- of an assignment of these values to so many columns
+abbrev pub assign_needed : Columns → ℕ → List TypedExpression → ℕ → Needed
+assign_needed frame m es count = record { plan = freed_assign_plan frame m es; base = assign_width (widened frame m (all_product_count frame es)) count }
+
+-- of a requires of a called procedure, told with these arguments
+abbrev pub told_needed : Columns → ℕ → List TypedExpression → TypedExpression → Bool → Needed
+told_needed frame m args e want = record { plan = freed_passed_plan frame m args e want; base = length (widened frame m (passed_count frame args e)) }
+
+abbrev pub passed_needed : Columns → ℕ → List TypedExpression → TypedExpression → Bool → Needed
+passed_needed frame m args e want = told_needed frame m args (told_condition (fixed_in frame) args e) want
 
 -- all ensures of a procedure without body together, behind a helper for each modified global that is a target, too
-abbrev pub import_needed : Columns → List VarInfo → Option TypedProcedure → List TypedExpression → List ℕ → List Needed
-import_needed frame globals None args targets = []
-import_needed frame globals (Some q) args targets =
+abbrev pub import_needed : Columns → ℕ → List VarInfo → Option TypedProcedure → List TypedExpression → List ℕ → List Needed
+import_needed frame m globals None args targets = []
+import_needed frame m globals (Some q) args targets =
     record {
-      plan = all_hold (import_environment frame globals q args targets) (ensured_conditions q.specs);
-      base = length frame + length (import_written q.modifies targets) + length (those_in targets q.modifies);
+      plan = import_plan frame m globals q args targets;
+      base = length frame + import_products frame q args + length (import_written q.modifies targets) + length (those_in targets q.modifies);
     }
     ∷ []
 
 -- the rows of a call
 abbrev pub call_needed : TypedProgram → ℕ → ℕ → List TypedExpression → Needed
 call_needed t n f args = record {
-  plan = parameters_get (frame_environment (frame_at t n)) (width_at t n + columns_before_locals t) args;
-  base = width_at t n + width_at t f;
+  plan = call_plan t n args;
+  base = width_at t n + all_product_count (frame_at t n) args + width_at t f;
 }
 
 abbrev pub import_at : TypedProgram → ℕ → Point → ℕ → List TypedExpression → List Needed
-import_at t n here f args = import_needed (frame_at t n) t.globals (slice_get t.procs f) args (numbers_in (frame_at t n) (targets_at here.todo))
+import_at t n here f args = import_needed (frame_at t n) (local_count t n) t.globals (slice_get t.procs f) args (numbers_in (frame_at t n) (targets_at here.todo))
 
 abbrev pub needed_by : TypedProgram → ℕ → Point → Action → List Needed
-needed_by t n here (actions.Check i at e next) = path_needed (frame_at t n) e true ∷ path_needed (frame_at t n) e false ∷ []
-needed_by t n here (actions.Suppose e next) = path_needed (frame_at t n) e true ∷ []
-needed_by t n here (actions.Demand i at e args next) = passed_needed (frame_at t n) args e true ∷ passed_needed (frame_at t n) args e false ∷ []
-needed_by t n here (actions.Write cs es next) = record { plan = assign_plan (frame_at t n) es; base = assign_width (frame_at t n) (length cs) } ∷ []
+needed_by t n here (actions.Check i at e next) = path_needed (frame_at t n) (local_count t n) e true ∷ path_needed (frame_at t n) (local_count t n) e false ∷ []
+needed_by t n here (actions.Suppose e next) = path_needed (frame_at t n) (local_count t n) e true ∷ []
+needed_by t n here (actions.Demand i at e args next) = passed_needed (frame_at t n) (local_count t n) args e true ∷ passed_needed (frame_at t n) (local_count t n) args e false ∷ []
+needed_by t n here (actions.Write cs es next) = assign_needed (frame_at t n) (local_count t n) es (length cs) ∷ []
 needed_by t n here (actions.Guess c next) = []
-needed_by t n here (actions.Test e hit miss) = path_needed (frame_at t n) e true ∷ path_needed (frame_at t n) e false ∷ []
+needed_by t n here (actions.Test e hit miss) = path_needed (frame_at t n) (local_count t n) e true ∷ path_needed (frame_at t n) (local_count t n) e false ∷ []
 needed_by t n here (actions.Pick ways) = []
 needed_by t n here (actions.Jump next) = []
 needed_by t n here (actions.Enter f args) = call_needed t n f args ∷ []

@@ -1,5 +1,6 @@
 -- What holds of the graph of every typed program.
-use Rattle.std.specs.Prelude.{◌≡◌, ◌↔◌, ℕ, IsTrue, List, []}
+use Rattle.std.specs.Prelude.{◌≡◌, ℕ, false, IsTrue, List, []}
+use Rattle.std.specs.List.{AllByRecursion}
 use Rattle.typed_tree.specs.TypedTree.{TypedProgram}
 use Rattle.typing_rules.specs.ValidProgram.{is_valid}
 use Rattle.nwa_base.specs.declared.letters.Letter.{Letter}
@@ -8,9 +9,9 @@ use Rattle.nwa_base.specs.Members.{Member}
 use Rattle.letter_acts.specs.declared.sites.Site.{Site}
 use Rattle.letter_acts.specs.Feasible.{IsFeasible, edges}
 use Rattle.letter_acts.specs.Ways.{Goes}
-use Rattle.letter_acts.specs.Invariant.{Graph, IsGraph, alphabet_of}
+use Rattle.letter_acts.specs.Invariant.{Graph, IsGraph, alphabet_of, mark_at}
 use Rattle.boogie_run.specs.Runs.{Fails}
-use Rattle.lowered_steps.specs.Stacks.{MachineFails}
+use Rattle.lowered_steps.specs.Stacks.{MachineFails, MachineFailsExactly}
 use Rattle.lowered_graph.specs.Lowered.{lowered}
 use Rattle.letter_acts.specs.Widths.{ActsFit}
 
@@ -24,16 +25,27 @@ pub record ErrorWord (g : Graph) (i : ℕ) : Type 0 where
   pub goes : Goes (edges g.automaton) [] g.automaton.start word open_calls site.place
   pub feasible : IsFeasible (alphabet_of g) word
 
--- Faithful: the program has a run that fails assertion i exactly where some feasible word ends where assertion i fails.
-abbrev pub IsFaithful : TypedProgram → Graph → Type 0
-IsFaithful t g = (i : ℕ) → Fails t i ↔ ErrorWord g i
+-- no letter of the word is coarse
+abbrev pub IsExactWord : Graph → List Letter → Type 0
+IsExactWord g word = AllByRecursion (λ a. mark_at g a.id ≡ false) word
+
+-- Faithful: where the program has a run that fails assertion i, some feasible word ends where assertion i fails; and where some such word has no
+-- coarse letter, the program has such a run.
+pub record IsFaithful (t : TypedProgram) (g : Graph) : Type 0 where
+  pub follows : (i : ℕ) → Fails t i → ErrorWord g i
+  pub leads : (i : ℕ) → (e : ErrorWord g i) → IsExactWord g e.word → Fails t i
 
 abbrev pub LoweringIsFaithful : Type 0
 LoweringIsFaithful = (t : TypedProgram) → IsTrue (is_valid t) → IsFaithful t (lowered t)
 
--- The stack machine over points fails an assertion exactly where some feasible word leads to where it fails.
+-- Where the stack machine over points fails an assertion, some feasible word leads to where it fails; and where such a word has no coarse letter, the
+-- machine fails it by exact steps.
+pub record MachineJoins (t : TypedProgram) (i : ℕ) : Type 0 where
+  pub follows : MachineFails t i → ErrorWord (lowered t) i
+  pub leads : (e : ErrorWord (lowered t) i) → IsExactWord (lowered t) e.word → MachineFailsExactly t i
+
 abbrev pub MachineIsJoined : Type 0
-MachineIsJoined = (t : TypedProgram) → IsTrue (is_valid t) → (i : ℕ) → MachineFails t i ↔ ErrorWord (lowered t) i
+MachineIsJoined = (t : TypedProgram) → IsTrue (is_valid t) → (i : ℕ) → MachineJoins t i
 
 -- The graph of a typed program is as the invariant of graphs asks, wherever the numbers of the columns of its acts fit.
 abbrev pub LoweredIsGraph : Type 0
@@ -42,3 +54,10 @@ LoweredIsGraph = (t : TypedProgram) → IsTrue (is_valid t) → ActsFit (alphabe
 -- The edges of the graph of a typed program lead between its states, by letters of their kind, whatever the numbers of its columns.
 abbrev pub LoweredIsAutomaton : Type 0
 LoweredIsAutomaton = (t : TypedProgram) → IsTrue (is_valid t) → IsAutomaton (lowered t).automaton
+
+-- Typed programs have no free products: no letter of their graphs is coarse.
+abbrev pub LettersAreExact : Type 0
+LettersAreExact = (t : TypedProgram) → IsTrue (is_valid t) → (n : ℕ) → mark_at (lowered t) n ≡ false
+
+abbrev pub WordsAreExact : Type 0
+WordsAreExact = (t : TypedProgram) (w : List Letter) → IsTrue (is_valid t) → IsExactWord (lowered t) w

@@ -18,16 +18,16 @@ pub fn letters_of_arcs()
     ensures backs { letters.BacksAreArcs }
 {}
 
-/// The stack machine of a typed program over its points fails an assertion exactly where some feasible word leads, in the
-/// automaton of its graph, to the place where that assertion fails.
+/// Where the stack machine of a typed program over its points fails an assertion, some feasible word leads, in the automaton of its graph, to
+/// the place where that assertion fails; and where such a word has no coarse letter, the machine fails it by exact steps.
 pub fn machine_runs_are_words()
     ensures { law.MachineIsJoined }
 {
     places_of_typed_programs();
 }
 
-/// Faithful: some run of a typed program fails an assertion exactly where some feasible word leads, in the automaton of its graph, to
-/// the place where that assertion fails.
+/// Faithful: where some run of a typed program fails an assertion, some feasible word leads, in the automaton of its graph, to the place
+/// where that assertion fails; and where such a word has no coarse letter, some run fails it.
 pub fn lowering_is_faithful()
     ensures { law.LoweringIsFaithful }
 {
@@ -50,3 +50,9 @@ pub fn lowered_programs_have_automata()
     places_of_typed_programs();
     points_of_typed_programs();
 }
+
+/// No letter of the graph of a typed program is coarse, since typing lets no product of two expressions in; so no word has a coarse letter.
+pub fn letters_are_exact()
+    ensures letters { law.LettersAreExact }
+    ensures words { law.WordsAreExact }
+{}

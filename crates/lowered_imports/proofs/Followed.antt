@@ -8,7 +8,7 @@ use Rattle.boogie_tree.specs.declared.tree.Op.TheVariants.{Iff, Implies, And, Or
 use Rattle.boogie_tree.specs.declared.tree.Ty.{Ty}
 use Rattle.boogie_tree.specs.declared.tree.Ty.TheVariants as types
 use Rattle.boogie_tree.specs.declared.tree.Column.{Column}
-use Rattle.typed_tree.specs.TypedTree.{TypedExpression, Lit, Truth, Var, Old, Not, Neg, Bin, TypedInvariant}
+use Rattle.typed_tree.specs.TypedTree.{TypedExpression, Lit, Truth, Var, Old, Not, Neg, Bin}
 use Rattle.typed_tree.specs.Typing.{same_type, only, operation_type}
 use Rattle.typed_tree.specs.Values.{State, column_value, value, truth, value_is_zero, same, operation_value}
 use Rattle.typed_tree.specs.AffineForm.{read_at, divisor_of, is_linear}
@@ -275,13 +275,13 @@ paths_followed w p v s h old (Bin at op a b) t l =
 
 -- ---- all of several conditions
 
--- a condition that is typed
-pub record IsTypedIn (v : Environment) (i : TypedInvariant) : Type 0 where
-  pub typed : type_in v false i.cond ≡ Some types.Bool
-  pub linear : is_linear v.fixed false i.cond ≡ true
+-- a condition that is typed, and whose operators keep their rules
+pub record IsTypedIn (v : Environment) (e : TypedExpression) : Type 0 where
+  pub typed : type_in v false e ≡ Some types.Bool
+  pub linear : is_linear v.fixed false e ≡ true
 
-abbrev pub AreTrue : State → List TypedInvariant → Type 0
-AreTrue s is = AllByRecursion (λ i. value s i.cond ≡ pos 1) is
+abbrev pub AreTrue : State → List TypedExpression → Type 0
+AreTrue s es = AllByRecursion (λ e. value s e ≡ pos 1) es
 
 zero_is_not_one : pos 0 ≡ pos 1 → ⊥
 zero_is_not_one e = absurd (omega (arith, ints))
@@ -293,17 +293,17 @@ true_of w p a v f n q l s m = by_truth f.truth_value f.is f.refused
     by_truth true e r = e
     by_truth false e r = absurd (r.never n q l s m)
 
-pub all_followed : (w : ℕ) (p : ℕ → ℤ) (v : Environment) (s : State) → Follows w p v s → (is : List TypedInvariant) → AllByRecursion (IsTypedIn v) is →
-    (n : ℕ) (q : ℕ → ℤ) → w ≤ n → Agrees w p q → Meets n q (listed_plan (all_hold v is) n) → AreTrue s is
+pub all_followed : (w : ℕ) (p : ℕ → ℤ) (v : Environment) (s : State) → Follows w p v s → (es : List TypedExpression) → AllByRecursion (IsTypedIn v) es →
+    (n : ℕ) (q : ℕ → ℤ) → w ≤ n → Agrees w p q → Meets n q (listed_plan (all_hold v es) n) → AreTrue s es
 all_followed w p v s h [] t n q l a m = tt
-all_followed w p v s h (i ∷ is) t n q l a m =
-    let r = meets_each n q (listed_plan (paths v false i.cond true) n) (listed_plan (all_hold v is)) (AreTrue s is)
-    (λ j r k b o. all_followed w p v s h is t.1 j r (omega arith) (later_agrees w n p q r l a b) o) m in
-    (true_of w p (paths v false i.cond) (value s i.cond) (paths_followed w p v s h false i.cond t.0.typed t.0.linear) n q l a r.0, r.1)
+all_followed w p v s h (e ∷ es) t n q l a m =
+    let r = meets_each n q (listed_plan (paths v false e true) n) (listed_plan (all_hold v es)) (AreTrue s es)
+    (λ j r k b o. all_followed w p v s h es t.1 j r (omega arith) (later_agrees w n p q r l a b) o) m in
+    (true_of w p (paths v false e) (value s e) (paths_followed w p v s h false e t.0.typed t.0.linear) n q l a r.0, r.1)
 
-pub all_hold_path : (w : ℕ) (p : ℕ → ℤ) (v : Environment) (s : State) → Shows w p v s → (is : List TypedInvariant) → AllByRecursion (IsTypedIn v) is →
-    IsPath w p (listed_plan (all_hold v is)) (AreTrue s is)
+pub all_hold_path : (w : ℕ) (p : ℕ → ℤ) (v : Environment) (s : State) → Shows w p v s → (es : List TypedExpression) → AllByRecursion (IsTypedIn v) es →
+    IsPath w p (listed_plan (all_hold v es)) (AreTrue s es)
 all_hold_path w p v s h [] t = always_path w p
-all_hold_path w p v s h (i ∷ is) t =
-    path_both w p (listed_plan (paths v false i.cond true)) (listed_plan (all_hold v is)) (value s i.cond ≡ pos 1) (AreTrue s is)
-    ((paths_mean w p v s h false i.cond t.0.typed t.0.linear).path true) (all_hold_path w p v s h is t.1)
+all_hold_path w p v s h (e ∷ es) t =
+    path_both w p (listed_plan (paths v false e true)) (listed_plan (all_hold v es)) (value s e ≡ pos 1) (AreTrue s es)
+    ((paths_mean w p v s h false e t.0.typed t.0.linear).path true) (all_hold_path w p v s h es t.1)

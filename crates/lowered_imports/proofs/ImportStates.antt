@@ -17,7 +17,7 @@ use Rattle.boogie_places.specs.Places.{onward}
 use Rattle.boogie_run.specs.Configurations.{Config, state_of}
 use Rattle.boogie_run.specs.Steps.{moved_to, all_written, all_put, modifies_of, finished}
 use Rattle.lowered_steps.specs.ProgramFrames.{frame_at, shown}
-use Rattle.lowered_steps.specs.Edges.{At, inside_edges, import_edges, numbers_in}
+use Rattle.lowered_steps.specs.Edges.{At, inside_edges, import_edges, numbers_in, local_count}
 use Rattle.lowered_steps.specs.Stacks.{Stack}
 use Rattle.lowered_steps.specs.Moves.{HasTypes, FrameKeeps, AreTargets, IsGood, KnowsPoints, shown_stack, shown_below}
 use Rattle.typing_rules.specs.Rules.{results_of}
@@ -34,7 +34,7 @@ later_none p = let e : p.part + 0 ≡ p.part = omega arith in λ i. record p { p
 
 -- what an action at a call without body is: its edges are those of the whole call, and it leads behind the call
 pub record IsImportAction (t : TypedProgram) (n : ℕ) (p : Point) (f : ℕ) (args : List TypedExpression) (a : Action) : Type 0 where
-  pub edges : inside_edges t n p a ≡ import_edges (frame_at t n) t.globals (slice_get t.procs f) args (numbers_in (frame_at t n) (targets_at p.todo)) (settled (past_first t.procs p.todo))
+  pub edges : inside_edges t n p a ≡ import_edges (frame_at t n) (local_count t n) t.globals (slice_get t.procs f) args (numbers_in (frame_at t n) (targets_at p.todo)) (settled (past_first t.procs p.todo))
   pub onward_is : onward t.procs p a ≡ settled (past_first t.procs p.todo) ∷ []
   pub no_entry : (g : ℕ) (es : List TypedExpression) → a ≡ actions.Enter g es → ⊥
   pub no_return : a ≡ actions.Leave → ⊥

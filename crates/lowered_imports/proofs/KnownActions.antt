@@ -8,7 +8,7 @@ use Rattle.boogie_tree.specs.declared.tree.Ty.TheVariants as types
 use Rattle.boogie_tree.specs.declared.tree.Column.{Column}
 use Rattle.boogie_tree.specs.declared.tree.Column.TheVariants as columns
 use Rattle.boogie_tree.specs.declared.tree.VarInfo.{VarInfo}
-use Rattle.typed_tree.specs.AffineForm.{is_empty, is_linear}
+use Rattle.typed_tree.specs.AffineForm.{is_empty}
 use Rattle.typed_tree.specs.Typing.{same_type}
 use Rattle.typed_tree.specs.KeptRules.{is_right}
 use Rattle.typed_tree.specs.Scope.{Scope, axiom_scope, requires_scope, body_scope, variable_at}
@@ -18,8 +18,8 @@ use Rattle.typing_rules.specs.Rules.{Context, all_differ, same_column, is_member
 use Rattle.typing_rules.specs.Shape.{is_simple, is_argument, are_arguments, params_if_any, is_shaped, is_shaped_block}
 use Rattle.typing_rules.specs.ValidProgram.{is_valid}
 use Rattle.letter_acts.specs.Invariant.{AreDistinct}
-use Rattle.cond_jumps.specs.Lists.{IsCondition}
-use Rattle.cond_jumps.specs.Frames.{fixed_in, frame_environment}
+use Rattle.cond_jumps.specs.Frames.{frame_environment}
+use Rattle.free_products.specs.FrameLaws.{IsDividedCondition}
 use Rattle.cond_jumps.specs.Passing.{passed, standing_environment}
 use Rattle.boogie_points.specs.Points.{Todo, Stage, Start, Entry, Body, Exit, Point, settled, past}
 use Rattle.boogie_points.specs.Actions as actions
@@ -28,10 +28,11 @@ use Rattle.boogie_places.proofs.Closed.{all_append, plain_count}
 use Rattle.boogie_run.proofs.TypedPoints.{IsInside}
 use Rattle.boogie_run.specs.Needs.{locals_if_any, locals_at}
 use Rattle.lowered_steps.specs.ProgramFrames.{frame_at}
-use Rattle.lowered_steps.specs.Edges.{numbers_in, import_environment}
+use Rattle.lowered_steps.specs.Edges.{numbers_in}
+use Rattle.lowered_steps.proofs.Parameters.{arguments_divided}
 use Rattle.lowered_steps.specs.Moves.{IsTarget, AreAssigned, IsPassed, IsSimple, AreArguments, AreTargets, IsTypedAction, IsKnownCall}
-use Rattle.lowered_imports.specs.Imports.{IsEnsured, later, IsKnownImport}
-use Rattle.lowered_imports.proofs.SeenTypes.{IsScope, same_types, same_constants, right_typed, right_linear, unhidden, frame_sees, passed_sees, import_sees}
+use Rattle.lowered_imports.specs.Imports.{ensures_environment, IsEnsured, later, IsKnownImport}
+use Rattle.lowered_imports.proofs.SeenTypes.{IsScope, same_types, right_typed, right_divided, unhidden, frame_sees, passed_sees, import_sees}
 use Rattle.lowered_imports.proofs.ValidParts.{all_at, all_get, meets_some, not_of, distinct_of, column_itself, plain_right, free_right, ensured_right, IsRequired, IsEnsuring, axioms_right, specifications_right, enough_locals, has_parameters, modified_right}
 use Rattle.lowered_imports.proofs.RightPoints.{IsRight, PartRight, FirstRight, StageRight, PointRight}
 
@@ -43,12 +44,12 @@ pub record IsBodyCall (t : TypedProgram) (n : ℕ) (p : Point) (f : ℕ) (args :
 
 -- what is known of the action at a point
 abbrev pub IsKnownAction : TypedProgram → ℕ → Point → Action → Type 0
-IsKnownAction t n p (actions.Check id at e next) = IsCondition (frame_at t n) e
-IsKnownAction t n p (actions.Suppose e next) = IsCondition (frame_at t n) e
+IsKnownAction t n p (actions.Check id at e next) = IsDividedCondition (frame_environment (frame_at t n)) e
+IsKnownAction t n p (actions.Suppose e next) = IsDividedCondition (frame_environment (frame_at t n)) e
 IsKnownAction t n p (actions.Demand id at e args next) = IsPassed (frame_at t n) args e
 IsKnownAction t n p (actions.Write cs es next) = AreAssigned t n cs es
 IsKnownAction t n p (actions.Guess c next) = (ty : Ty) × IsTarget t n ty c
-IsKnownAction t n p (actions.Test e hit miss) = IsCondition (frame_at t n) e
+IsKnownAction t n p (actions.Test e hit miss) = IsDividedCondition (frame_environment (frame_at t n)) e
 IsKnownAction t n p (actions.Pick ways) = Unit {0}
 IsKnownAction t n p (actions.Jump next) = Unit {0}
 IsKnownAction t n p (actions.Enter f args) = IsBodyCall t n p f args
@@ -93,12 +94,6 @@ if_boolean : (ty : Ty) (e : TypedExpression) → is_argument ty e ≡ true → t
 if_boolean types.Int e h b = absurd (cc)
 if_boolean types.Bool e h b = simple_of e h
 
-pub linear_arguments : (t : TypedProgram) (n : ℕ) (vs : List VarInfo) (es : List TypedExpression) → AreArguments (frame_at t n) vs es → AllByRecursion (λ e. is_linear (fixed_in (frame_at t n)) false e ≡ true) es
-linear_arguments t n [] [] h = tt
-linear_arguments t n [] (e ∷ es) h = absurd h
-linear_arguments t n (v ∷ vs) [] h = absurd h
-linear_arguments t n (v ∷ vs) (e ∷ es) h = (h.0.linear, linear_arguments t n vs es h.1)
-
 -- no member stands there, so the list is no longer
 past_end : {X : Type 0} (xs : List X) (n : ℕ) → slice_get xs n ≡ None → length xs ≤ n
 past_end [] n h = omega arith
@@ -128,10 +123,10 @@ module _ (t : TypedProgram) (valid : IsTrue (is_valid t)) (n : ℕ) (q : TypedPr
   }
 
   -- a condition in a scope whose locals are those of the procedure
-  condition_in : (s : Scope) (e : TypedExpression) → IsScope t (locals_at t n) s → is_condition s e ≡ true → IsCondition (frame_at t n) e
+  condition_in : (s : Scope) (e : TypedExpression) → IsScope t (locals_at t n) s → is_condition s e ≡ true → IsDividedCondition (frame_environment (frame_at t n)) e
   condition_in s e i h = record {
     typed = right_typed s (frame_environment (frame_at t n)) types.Bool e (frame_sees t n s i) h;
-    linear = right_linear s (frame_at t n) types.Bool e (same_constants t n (locals_at t n) s i) h;
+    divided = right_divided s types.Bool e h;
   }
 
   -- ---- statements of the body
@@ -140,7 +135,7 @@ module _ (t : TypedProgram) (valid : IsTrue (is_valid t)) (n : ℕ) (q : TypedPr
     scope_is : IsScope t (locals_at t n) k.scope
     scope_is = own_scope k.scope inside.scope
 
-    condition : (e : TypedExpression) → is_condition k.scope e ≡ true → IsCondition (frame_at t n) e
+    condition : (e : TypedExpression) → is_condition k.scope e ≡ true → IsDividedCondition (frame_environment (frame_at t n)) e
     condition e h = condition_in k.scope e scope_is h
 
     target : (c : Column) → is_writable k c ≡ true → (ty : Ty) × IsTarget t n ty c
@@ -180,7 +175,7 @@ module _ (t : TypedProgram) (valid : IsTrue (is_valid t)) (n : ℕ) (q : TypedPr
             type = v.0.ty;
             target = target_as c v.0 to.0 to.1 v.1;
             typed = right_typed k.scope (frame_environment (frame_at t n)) v.0.ty e (frame_sees t n k.scope scope_is) v.2;
-            linear = right_linear k.scope (frame_at t n) v.0.ty e (same_constants t n (locals_at t n) k.scope scope_is) v.2;
+            divided = right_divided k.scope v.0.ty e v.2;
           },
           assigned cs es writable.1 parts.1,
         )
@@ -194,7 +189,7 @@ module _ (t : TypedProgram) (valid : IsTrue (is_valid t)) (n : ℕ) (q : TypedPr
         let simple = and_parts (is_argument v.ty e) (are_arguments vs es) a in (
           record {
             typed = right_typed k.scope (frame_environment (frame_at t n)) v.ty e (frame_sees t n k.scope scope_is) parts.0;
-            linear = right_linear k.scope (frame_at t n) v.ty e (same_constants t n (locals_at t n) k.scope scope_is) parts.0;
+            divided = right_divided k.scope v.ty e parts.0;
             simple = if_boolean v.ty e simple.0;
           },
           arguments vs es parts.1 simple.1,
@@ -247,9 +242,9 @@ module _ (t : TypedProgram) (valid : IsTrue (is_valid t)) (n : ℕ) (q : TypedPr
   ensured_all p cs es a b (i ∷ is) h =
       let s : Scope = body_scope t.globals (take (p.params + p.results) p.locals) in (
         record {
-          typed = right_typed s (import_environment (frame_at t n) t.globals p es (numbers_in (frame_at t n) cs)) types.Bool i.cond
+          typed = right_typed s (ensures_environment (frame_at t n) t.globals p es (numbers_in (frame_at t n) cs)) types.Bool i.cond
               (import_sees t n s p es cs (record { globals = refl; locals = λ l x g. g }) a b) h.0;
-          linear = right_linear s (frame_at t n) types.Bool i.cond (same_constants t n (take (p.params + p.results) p.locals) s (record { globals = refl; locals = λ l x g. g })) h.0;
+          divided = right_divided s types.Bool i.cond h.0;
         },
         ensured_all p cs es a b is h.1,
       )
@@ -273,10 +268,12 @@ module _ (t : TypedProgram) (valid : IsTrue (is_valid t)) (n : ℕ) (q : TypedPr
           let s : Scope = requires_scope t.globals (params_of p) in
           let h : is_condition s i.cond ≡ true = all_get (IsRequired t.globals p) (plain_conditions p.specs) m i (plain_right t.globals p p.specs (specifications_right t valid f p is)) e in
           record {
-            typed = right_typed s (standing_environment (frame_environment (frame_at t n)) (passed es)) types.Bool i.cond
-                (passed_sees t n s (params_of p) es (record { globals = refl; locals = λ j x g. g }) args) h;
-            linear = right_linear s (frame_at t n) types.Bool i.cond (same_constants t n (params_of p) s (record { globals = refl; locals = λ j x g. g })) h;
-            arguments = linear_arguments t n (take p.params p.locals) es args;
+            condition = record {
+              typed = right_typed s (standing_environment (frame_environment (frame_at t n)) (passed es)) types.Bool i.cond
+                  (passed_sees t n s (params_of p) es (record { globals = refl; locals = λ j x g. g }) args) h;
+              divided = right_divided s types.Bool i.cond h;
+            };
+            arguments = arguments_divided (frame_at t n) (take p.params p.locals) es args;
           }
 
       entered : (c : TypedBlock) → p.body ≡ Some c → IsBodyCall t n here f es
@@ -341,7 +338,7 @@ module _ (t : TypedProgram) (valid : IsTrue (is_valid t)) (n : ℕ) (q : TypedPr
 
     -- ---- the other statements
 
-    checked_known : (free : Bool) (p : Point) (id : ℕ) (at : Span) (e : TypedExpression) (next : Point) → IsCondition (frame_at t n) e → IsKnownAction t n p (checked free id at e next)
+    checked_known : (free : Bool) (p : Point) (id : ℕ) (at : Span) (e : TypedExpression) (next : Point) → IsDividedCondition (frame_environment (frame_at t n)) e → IsKnownAction t n p (checked free id at e next)
     checked_known true p id at e next h = h
     checked_known false p id at e next h = h
 
@@ -427,7 +424,7 @@ module _ (t : TypedProgram) (valid : IsTrue (is_valid t)) (n : ℕ) (q : TypedPr
     entry_known p m None d there e = tt
     entry_known p m (Some i) d there e = by_more d
       where
-        is : IsCondition (frame_at t n) i.cond
+        is : IsDividedCondition (frame_environment (frame_at t n)) i.cond
         is = condition_in (requires_scope t.globals (params_of q)) i.cond params_scope
             (all_get (IsRequired t.globals q) (free_conditions q.specs) m i (free_right t.globals q q.specs (specifications_right t valid n q found)) e)
 
@@ -442,25 +439,25 @@ module _ (t : TypedProgram) (valid : IsTrue (is_valid t)) (n : ℕ) (q : TypedPr
         (condition_in (body_scope t.globals (take (q.params + q.results) q.locals)) i.cond results_scope
         (all_get (IsEnsuring t.globals q) (ensured_conditions q.specs) m i (ensured_right t.globals q q.specs (specifications_right t valid n q found)) e))
 
-    axioms_known : (es : List TypedExpression) → list_all (is_condition (axiom_scope t.globals)) es ≡ true → AllByRecursion (IsCondition (frame_at t n)) es
+    axioms_known : (es : List TypedExpression) → list_all (is_condition (axiom_scope t.globals)) es ≡ true → AllByRecursion (IsDividedCondition (frame_environment (frame_at t n))) es
     axioms_known [] h = tt
     axioms_known (e ∷ es) h =
         let parts = and_parts (is_condition (axiom_scope t.globals) e) (list_all (is_condition (axiom_scope t.globals)) es) h in
         (condition_in (axiom_scope t.globals) e (record { globals = refl; locals = λ l x g. absurd (cc) }) parts.0, axioms_known es parts.1)
 
-    required_known : (is : List TypedInvariant) → AllByRecursion (IsRequired t.globals q) is → AllByRecursion (IsCondition (frame_at t n)) (map (λ i. i.cond) is)
+    required_known : (is : List TypedInvariant) → AllByRecursion (IsRequired t.globals q) is → AllByRecursion (IsDividedCondition (frame_environment (frame_at t n))) (map (λ i. i.cond) is)
     required_known [] h = tt
     required_known (i ∷ is) h = (condition_in (requires_scope t.globals (params_of q)) i.cond params_scope h.0, required_known is h.1)
 
-    starts_known : AllByRecursion (IsCondition (frame_at t n)) (start_conditions t q)
+    starts_known : AllByRecursion (IsDividedCondition (frame_environment (frame_at t n))) (start_conditions t q)
     starts_known =
-        all_append (IsCondition (frame_at t n)) t.axioms (map (λ i. i.cond) (plain_conditions q.specs)) (axioms_known t.axioms (axioms_right t valid))
+        all_append (IsDividedCondition (frame_environment (frame_at t n))) t.axioms (map (λ i. i.cond) (plain_conditions q.specs)) (axioms_known t.axioms (axioms_right t valid))
         (required_known (plain_conditions q.specs) (plain_right t.globals q q.specs (specifications_right t valid n q found)))
 
     start_known : (p : Point) (m : ℕ) (o d : Option TypedExpression) (there first : Point) → slice_get (start_conditions t q) m ≡ o → IsKnownAction t n p (start_action o d there first)
     start_known p m None d there first e = tt
-    start_known p m (Some c) None there first e = all_get (IsCondition (frame_at t n)) (start_conditions t q) m c starts_known e
-    start_known p m (Some c) (Some d) there first e = all_get (IsCondition (frame_at t n)) (start_conditions t q) m c starts_known e
+    start_known p m (Some c) None there first e = all_get (IsDividedCondition (frame_environment (frame_at t n))) (start_conditions t q) m c starts_known e
+    start_known p m (Some c) (Some d) there first e = all_get (IsDividedCondition (frame_environment (frame_at t n))) (start_conditions t q) m c starts_known e
 
     stage_known : (s : Stage) (ds : List Todo) (m : ℕ) → StageRight t q s ds m →
         IsKnownAction t n (record { stage = s; todo = ds; part = m }) (stage_action t n q b s (record { stage = s; todo = ds; part = m }))

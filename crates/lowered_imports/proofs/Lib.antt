@@ -5,7 +5,9 @@ pub mod ValidParts
 pub mod RightPoints
 pub mod KnownActions
 pub mod PointLaws
+pub mod PlainActions
 pub mod Followed
+pub mod ToldEnsures
 pub mod ImportLists
 pub mod ImportShown
 pub mod ImportStates

@@ -31,7 +31,7 @@ one_of_either (x ∷ xs) qs p (inr i) = elim (one_of_either xs qs p i) [ inl h �
 
 module _ (t : TypedProgram) (valid : IsTrue (is_valid t)) where
   -- the statement that stands first at a point keeps the typing rules
-  point_right : (n : ℕ) (p : Point) → (k : IsPointOf t n p) → PointRight t k.procedure p
+  pub point_right : (n : ℕ) (p : Point) → (k : IsPointOf t n p) → PointRight t k.procedure p
   point_right n p k = by_listed k.among
     where
       by_listed : IsOneOf (points_of_body t n k.procedure k.body) p ⊎ ((n ≡ t.entry) × IsOneOf (start_points t k.procedure) p) → PointRight t k.procedure p

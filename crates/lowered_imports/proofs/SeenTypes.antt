@@ -13,6 +13,7 @@ use Rattle.typed_tree.specs.TypedTree.{TypedExpression, Lit, Truth, Var, Old, No
 use Rattle.typed_tree.specs.Scope.{Scope, unless_hidden, variable_at, is_constant_variable, fixed}
 use Rattle.typed_tree.specs.Typing.{same_type, is_some_of, only, operation_type, type_of, has_type}
 use Rattle.typed_tree.specs.AffineForm.{read_at, is_linear, forms_fit}
+use Rattle.typed_tree.specs.Divided.{is_divided}
 use Rattle.typed_tree.specs.KeptRules.{is_arithmetic, is_right}
 use Rattle.letter_acts.specs.Frames.{Columns, added, globals_from, old_columns, locals_from}
 use Rattle.cond_jumps.specs.Frames.{place_from, column_place_in, if_constant, or_else, is_constant_place, fixed_in, frame_environment}
@@ -21,7 +22,9 @@ use Rattle.cond_jumps.specs.Passing.{Numbered, Passed, standing_type, standing_e
 use Rattle.cond_jumps.proofs.TypeLemmas.{only_is}
 use Rattle.boogie_run.specs.Needs.{locals_at}
 use Rattle.lowered_steps.specs.ProgramFrames.{frame_at}
-use Rattle.lowered_steps.specs.Edges.{found_from, those_in, import_written, typed_column, left_if, results_at, numbers_in, import_environment}
+use Rattle.lowered_steps.specs.Edges.{found_from, those_in, import_written, typed_column, left_if, results_at, numbers_in}
+use Rattle.lowered_steps.proofs.TruthValues.{linear_is_divided}
+use Rattle.lowered_imports.specs.Imports.{ensures_environment}
 use Rattle.lowered_steps.specs.Moves.{AreArguments, AreTargets}
 use Rattle.typing_rules.specs.Rules.{results_of}
 use Rattle.lowered_steps.proofs.Places.{global_place, no_global_place, local_place}
@@ -99,6 +102,10 @@ pub right_linear : (s : Scope) (frame : Columns) (ty : Ty) (e : TypedExpression)
 right_linear s frame ty e same r =
     subst (λ (f : Column → Bool). is_linear f false e ≡ true) same
     (and_parts (is_linear (fixed s) false e) (forms_fit (fixed s) false e) (and_parts (has_type s ty e) (is_arithmetic (fixed s) false e) r).1).0
+
+pub right_divided : (s : Scope) (ty : Ty) (e : TypedExpression) → is_right s ty e ≡ true → is_divided e ≡ true
+right_divided s ty e r =
+    linear_is_divided (fixed s) false e (and_parts (is_linear (fixed s) false e) (forms_fit (fixed s) false e) (and_parts (has_type s ty e) (is_arithmetic (fixed s) false e) r).1).0
 
 -- ---- the place of an old value
 
@@ -315,18 +322,18 @@ locals_typed t n base written (suc p) r (y ∷ ys) (d ∷ ds) cs l x a b h =
 
 pub import_sees : (t : TypedProgram) (n : ℕ) (s : Scope) (q : TypedProcedure) (args : List TypedExpression) (cs : List Column) →
     IsScope t (take (q.params + q.results) q.locals) s → AreArguments (frame_at t n) (take q.params q.locals) args → AreTargets t n (results_of q) cs →
-    Sees s (import_environment (frame_at t n) t.globals q args (numbers_in (frame_at t n) cs))
+    Sees s (ensures_environment (frame_at t n) t.globals q args (numbers_in (frame_at t n) cs))
 import_sees t n s q args cs i a b = record { now = λ c x h. now c x h; entry = λ c x h. entry c x h }
   where
     global_typed : (g : ℕ) (x : VarInfo) → slice_get t.globals g ≡ Some x → (frame_environment (frame_at t n)).type (columns.Global g) ≡ Some x.ty
     global_typed g x e = ap (option_map (λ y. y.1.ty)) (global_place t n g x e)
 
     local_typed : (l : ℕ) (x : VarInfo) → slice_get s.locals l ≡ Some x →
-        (import_environment (frame_at t n) t.globals q args (numbers_in (frame_at t n) cs)).type (columns.Local l) ≡ Some x.ty
+        (ensures_environment (frame_at t n) t.globals q args (numbers_in (frame_at t n) cs)).type (columns.Local l) ≡ Some x.ty
     local_typed l x h =
         locals_typed t n (length (frame_at t n)) (import_written q.modifies (numbers_in (frame_at t n) cs)) q.params q.results q.locals args cs l x a b (i.locals l x h)
 
-    now : (c : Column) (x : VarInfo) → variable_at s c ≡ Some x → (import_environment (frame_at t n) t.globals q args (numbers_in (frame_at t n) cs)).type c ≡ Some x.ty
+    now : (c : Column) (x : VarInfo) → variable_at s c ≡ Some x → (ensures_environment (frame_at t n) t.globals q args (numbers_in (frame_at t n) cs)).type c ≡ Some x.ty
     now (columns.Global g) x h =
         let e : slice_get t.globals g ≡ Some x = global_seen t (take (q.params + q.results) q.locals) s g x i h in
         left_typed (frame_at t n) t.globals (length (frame_at t n)) g (found_from 0 q.modifies g)
@@ -334,7 +341,7 @@ import_sees t n s q args cs i a b = record { now = λ c x h. now c x h; entry = 
     now (columns.Old g) x h = absurd (cc)
     now (columns.Local l) x h = local_typed l x h
 
-    entry : (c : Column) (x : VarInfo) → variable_at s c ≡ Some x → (import_environment (frame_at t n) t.globals q args (numbers_in (frame_at t n) cs)).type (read_at true c) ≡ Some x.ty
+    entry : (c : Column) (x : VarInfo) → variable_at s c ≡ Some x → (ensures_environment (frame_at t n) t.globals q args (numbers_in (frame_at t n) cs)).type (read_at true c) ≡ Some x.ty
     entry (columns.Global g) x h = global_typed g x (global_seen t (take (q.params + q.results) q.locals) s g x i h)
     entry (columns.Old g) x h = absurd (cc)
     entry (columns.Local l) x h = local_typed l x h

@@ -6,19 +6,20 @@ use Rattle.boogie_tree.specs.declared.tree.Ty.TheVariants as types
 use Rattle.boogie_tree.specs.declared.tree.VarInfo.{VarInfo}
 use Rattle.typed_tree.specs.TypedTree.{TypedExpression, TypedInvariant, TypedProcedure, TypedProgram}
 use Rattle.typed_tree.specs.Values.{value}
-use Rattle.typed_tree.specs.AffineForm.{is_linear}
 use Rattle.lin_rows.specs.Points.{point_of}
 use Rattle.letter_acts.specs.Frames.{Columns, IsValue}
 use Rattle.letter_acts.specs.Invariant.{AreDistinct}
-use Rattle.cond_jumps.specs.Environments.{type_in}
-use Rattle.cond_jumps.specs.Frames.{fixed_in}
+use Rattle.cond_jumps.specs.Environments.{Environment}
+use Rattle.cond_jumps.specs.Frames.{frame_environment}
+use Rattle.cond_jumps.specs.Passing.{imported, standing_environment}
+use Rattle.free_products.specs.FrameLaws.{IsDividedCondition}
 use Rattle.boogie_points.specs.Points.{Point, settled, past_first}
 use Rattle.boogie_points.specs.Actions.{plain_conditions, ensured_conditions, called_action, action_at}
 use Rattle.boogie_points.specs.Starts.{targets_at}
 use Rattle.boogie_run.specs.Configurations.{Config}
 use Rattle.boogie_run.specs.Steps.{granted_state, finished, moved_to, is_true}
 use Rattle.lowered_steps.specs.ProgramFrames.{frame_at}
-use Rattle.lowered_steps.specs.Edges.{those_in, found_from, numbers_in, import_environment}
+use Rattle.lowered_steps.specs.Edges.{those_in, found_from, import_written, left_at, results_at, numbers_in}
 use Rattle.lowered_steps.specs.Moves.{HasTypes, AreArguments, AreTargets}
 use Rattle.typing_rules.specs.Rules.{results_of}
 
@@ -30,10 +31,16 @@ pub record IsModified (t : TypedProgram) (g : ℕ) : Type 0 where
   pub is : slice_get t.globals g ≡ Some info
   pub varies : info.constant ≡ false
 
--- An ensures of procedure q, called with these arguments and targets from a frame: typed where what stands for the columns is that of the call.
-pub record IsEnsured (frame : Columns) (globals : List VarInfo) (q : TypedProcedure) (args : List TypedExpression) (targets : List ℕ) (e : TypedExpression) : Type 0 where
-  pub typed : type_in (import_environment frame globals q args targets) false e ≡ Some types.Bool
-  pub linear : is_linear (fixed_in frame) false e ≡ true
+-- What stands for the columns in the ensures of procedure q, called with these arguments and targets from a frame, as typing reads them: the
+-- arguments, the written columns behind the frame, and no products.
+abbrev pub ensures_environment : Columns → List VarInfo → TypedProcedure → List TypedExpression → List ℕ → Environment
+ensures_environment frame globals q args targets =
+    standing_environment (frame_environment frame)
+    (imported (left_at globals (length frame) q.modifies targets) args (results_at (length frame) (import_written q.modifies targets) targets (results_of q)))
+
+-- such an ensures: typed where these stand for the columns, and its divisors are literals other than 0
+abbrev pub IsEnsured : Columns → List VarInfo → TypedProcedure → List TypedExpression → List ℕ → TypedExpression → Type 0
+IsEnsured frame globals q args targets e = IsDividedCondition (ensures_environment frame globals q args targets) e
 
 -- the point with so many further parts done
 abbrev pub later : Point → ℕ → Point

@@ -10,7 +10,7 @@ use Rattle.boogie_run.specs.Steps.{Failed}
 use Rattle.boogie_run.specs.Runs.{run}
 use Rattle.lowered_steps.specs.ProgramFrames.{frame_at}
 use Rattle.lowered_steps.specs.Edges.{numbers_in}
-use Rattle.lowered_steps.specs.Stacks.{Stack, IsStep, inside, call, back}
+use Rattle.lowered_steps.specs.Stacks.{Stack, IsStep, inside, call, back, IsExact}
 use Rattle.lowered_steps.specs.Moves.{IsGood, shown_stack}
 use Rattle.lowered_imports.specs.Imports.{IsKnownImport, IsImport, import_choices, told_globals}
 use Rattle.lowered_imports.specs.KnownPoints.{IsPointOf}
@@ -62,7 +62,7 @@ helpers_of t x y (back p b args c at is opened calls among leads proc spot) = le
 abbrev pub ImportsGo : Type 0
 ImportsGo = (t : TypedProgram) (c d : Config) → IsTrue (is_valid t) → IsGood t (IsPointOf t) c → IsImport t c d → IsStep t (shown_stack t c) (shown_stack t d) × IsGood t (IsPointOf t) d
 
--- And each step from such a configuration is a whole call.
+-- And each exact step from such a configuration is a whole call.
 abbrev pub ImportsBack : Type 0
 ImportsBack = (t : TypedProgram) (c : Config) (f : ℕ) (args : List TypedExpression) (y : Stack) → IsTrue (is_valid t) → IsGood t (IsPointOf t) c → IsKnownImport t c.top.proc c.top.point f args →
-    (s : IsStep t (shown_stack t c) y) → IsToldBy t c y (helpers_of t (shown_stack t c) y s)
+    (s : IsStep t (shown_stack t c) y) → IsExact t (shown_stack t c) y s → IsToldBy t c y (helpers_of t (shown_stack t c) y s)

@@ -5,16 +5,16 @@ use Rattle.std.proofs.lemmas.List.{map-append}
 use Rattle.boogie_tree.specs.declared.span.Span.{Span}
 use Rattle.boogie_tree.specs.declared.tree.Column.{Column}
 use Rattle.typed_tree.specs.TypedTree.{TypedExpression, TypedGuard, Any, Cond, TypedInvariant, TypedBlock, TypedProcedure, TypedProgram}
-use Rattle.letter_acts.specs.Acts.{inside_act, call_act}
+use Rattle.letter_acts.specs.Acts.{inside_act}
 use Rattle.letter_acts.specs.declared.sites.Site.{Site}
-use Rattle.cond_jumps.specs.Conjunctions.{Conjunction}
-use Rattle.cond_jumps.specs.Lists.{path_list, assign_list}
+use Rattle.free_products.specs.Letters.{MarkedConjunction}
+use Rattle.free_products.specs.FrameLetters.{path_letters, assign_letters, passed_letters}
 use Rattle.boogie_points.specs.Points.{Point, at_exit, settled, past_first}
 use Rattle.boogie_points.specs.Actions.{Action, Check, Suppose, Demand, Write, Guess, Test, Pick, Jump, Enter, Keep, Grant, Finish, Leave, guarded, checked, one_of, unseen_action, chosen_columns, ensured_conditions}
 use Rattle.boogie_points.specs.Starts.{point_of_call, targets_at}
-use Rattle.letter_table.specs.Letters.{Arc, inside_arc, call_arc, exact_act}
+use Rattle.letter_table.specs.Letters.{Arc, inside_arc}
 use Rattle.lowered_steps.specs.ProgramFrames.{frame_at, column_number}
-use Rattle.lowered_steps.specs.Edges.{Spot, At, Wrong, Edge, leads, no_rows, skips, inside_edges, import_written, import_list, import_edges, call_list, numbers_in, passed_list}
+use Rattle.lowered_steps.specs.Edges.{Spot, At, Wrong, Edge, leads, no_rows, skips, inside_edges, import_written, import_letters, import_edges, call_letters, numbers_in, local_count}
 use Rattle.lowered_graph.specs.Arcs.{place_number, error_place, spot_number, return_place, inside_arcs, call_arcs, action_arcs}
 use Rattle.lowered_graph.specs.Lowered.{action_sites}
 use Rattle.lowered_graph.specs.Items.{Needed, path_needed, import_needed, call_needed, needed_by}
@@ -30,44 +30,44 @@ map_twice g f (x ∷ xs) = ap (λ l. g (f x) ∷ l) (map_twice g f xs)
 abbrev pub unseen_list : TypedProgram → ℕ → ℕ → TypedProcedure → List TypedExpression → List Column → ℕ → List Arc
 unseen_list t n place q args targets after =
     let ts : List ℕ = numbers_in (frame_at t n) targets in
-    list_arcs n place (import_written q.modifies ts) (import_list (frame_at t n) t.globals q args ts) after
+    list_arcs n place (import_written q.modifies ts) (import_letters (frame_at t n) (local_count t n) t.globals q args ts) after
 
 module _ (t : TypedProgram) (n : ℕ) (here : Point) where
   abbrev place : ℕ
   place = place_number t n here
 
   -- an edge for each member of a list
-  pub inside_list : (written : List ℕ) (cs : List Conjunction) (to : Spot) → inside_arcs t n here (leads written cs to) ≡ list_arcs n place written cs (spot_number t n to)
+  pub inside_list : (written : List ℕ) (cs : List MarkedConjunction) (to : Spot) → inside_arcs t n here (leads written cs to) ≡ list_arcs n place written cs (spot_number t n to)
   inside_list written cs to =
-      map_twice (λ e. inside_arc place (exact_act (inside_act n e.written e.rows.helpers e.rows.rows)) (spot_number t n e.to)) (λ c. record { to = to; written = written; rows = c }) cs
+      map_twice (λ e. inside_arc place (record { act = inside_act n e.written e.rows.helpers e.rows.rows; coarse = e.coarse }) (spot_number t n e.to)) (λ c. record { to = to; written = written; rows = c.plain; coarse = c.coarse }) cs
 
   pub inside_both : (xs ys : List Edge) → inside_arcs t n here (xs ++ ys) ≡ inside_arcs t n here xs ++ inside_arcs t n here ys
-  inside_both xs ys = map-append (λ e. inside_arc place (exact_act (inside_act n e.written e.rows.helpers e.rows.rows)) (spot_number t n e.to)) xs ys
+  inside_both xs ys = map-append (λ e. inside_arc place (record { act = inside_act n e.written e.rows.helpers e.rows.rows; coarse = e.coarse }) (spot_number t n e.to)) xs ys
 
-  two_lists : (cs ds : List Conjunction) (hit miss : Spot) →
+  two_lists : (cs ds : List MarkedConjunction) (hit miss : Spot) →
       inside_arcs t n here (leads [] cs hit ++ leads [] ds miss) ≡ list_arcs n place [] cs (spot_number t n hit) ++ list_arcs n place [] ds (spot_number t n miss)
   two_lists cs ds hit miss =
       inside_both (leads [] cs hit) (leads [] ds miss) ∙ ap (λ (l : List Arc). l ++ inside_arcs t n here (leads [] ds miss)) (inside_list [] cs hit)
       ∙ ap (λ (l : List Arc). list_arcs n place [] cs (spot_number t n hit) ++ l) (inside_list [] ds miss)
 
   pub check_arcs : (id : ℕ) (at : Span) (e : TypedExpression) (next : Point) →
-      action_arcs t n here (Check id at e next) ≡ test_arcs (frame_at t n) n place e (place_number t n next) (error_place t id)
-  check_arcs id at e next = two_lists (path_list (frame_at t n) e true) (path_list (frame_at t n) e false) (At next) (Wrong id)
+      action_arcs t n here (Check id at e next) ≡ test_arcs (frame_at t n) (local_count t n) n place e (place_number t n next) (error_place t id)
+  check_arcs id at e next = two_lists (path_letters (frame_at t n) (local_count t n) e true) (path_letters (frame_at t n) (local_count t n) e false) (At next) (Wrong id)
 
-  pub suppose_arcs : (e : TypedExpression) (next : Point) → action_arcs t n here (Suppose e next) ≡ list_arcs n place [] (path_list (frame_at t n) e true) (place_number t n next)
-  suppose_arcs e next = inside_list [] (path_list (frame_at t n) e true) (At next)
+  pub suppose_arcs : (e : TypedExpression) (next : Point) → action_arcs t n here (Suppose e next) ≡ list_arcs n place [] (path_letters (frame_at t n) (local_count t n) e true) (place_number t n next)
+  suppose_arcs e next = inside_list [] (path_letters (frame_at t n) (local_count t n) e true) (At next)
 
   pub choice_arcs : (e : TypedExpression) (hit miss : Point) →
-      action_arcs t n here (Test e hit miss) ≡ test_arcs (frame_at t n) n place e (place_number t n hit) (place_number t n miss)
-  choice_arcs e hit miss = two_lists (path_list (frame_at t n) e true) (path_list (frame_at t n) e false) (At hit) (At miss)
+      action_arcs t n here (Test e hit miss) ≡ test_arcs (frame_at t n) (local_count t n) n place e (place_number t n hit) (place_number t n miss)
+  choice_arcs e hit miss = two_lists (path_letters (frame_at t n) (local_count t n) e true) (path_letters (frame_at t n) (local_count t n) e false) (At hit) (At miss)
 
   pub demanded_arcs : (id : ℕ) (at : Span) (e : TypedExpression) (args : List TypedExpression) (next : Point) →
-      action_arcs t n here (Demand id at e args next) ≡ demand_arcs (frame_at t n) n place args e (place_number t n next) (error_place t id)
-  demanded_arcs id at e args next = two_lists (passed_list (frame_at t n) args e true) (passed_list (frame_at t n) args e false) (At next) (Wrong id)
+      action_arcs t n here (Demand id at e args next) ≡ demand_arcs (frame_at t n) (local_count t n) n place args e (place_number t n next) (error_place t id)
+  demanded_arcs id at e args next = two_lists (passed_letters (frame_at t n) (local_count t n) args e true) (passed_letters (frame_at t n) (local_count t n) args e false) (At next) (Wrong id)
 
   pub write_arcs : (cs : List Column) (es : List TypedExpression) (next : Point) →
-      action_arcs t n here (Write cs es next) ≡ list_arcs n place (numbers_in (frame_at t n) cs) (assign_list (frame_at t n) (length es) es) (place_number t n next)
-  write_arcs cs es next = inside_list (numbers_in (frame_at t n) cs) (assign_list (frame_at t n) (length es) es) (At next)
+      action_arcs t n here (Write cs es next) ≡ list_arcs n place (numbers_in (frame_at t n) cs) (assign_letters (frame_at t n) (local_count t n) (length es) es) (place_number t n next)
+  write_arcs cs es next = inside_list (numbers_in (frame_at t n) cs) (assign_letters (frame_at t n) (local_count t n) (length es) es) (At next)
 
   pub guess_arcs : (c : Column) (next : Point) → action_arcs t n here (Guess c next) ≡ skip_arcs n place (column_number (frame_at t n) c ∷ []) (place_number t n next)
   guess_arcs c next = inside_list (column_number (frame_at t n) c ∷ []) no_rows (At next)
@@ -93,13 +93,13 @@ module _ (t : TypedProgram) (n : ℕ) (here : Point) where
 
   -- ---- guards, and conditions that may be free
 
-  pub guarded_arcs : (g : TypedGuard) (hit miss : Point) → action_arcs t n here (guarded g hit miss) ≡ guard_arcs (frame_at t n) n place g (place_number t n hit) (place_number t n miss)
+  pub guarded_arcs : (g : TypedGuard) (hit miss : Point) → action_arcs t n here (guarded g hit miss) ≡ guard_arcs (frame_at t n) (local_count t n) n place g (place_number t n hit) (place_number t n miss)
   guarded_arcs Any hit miss =
       skips_arcs (hit ∷ miss ∷ [])
       ∙ ap (λ (l : List Arc). skip_arcs n place [] (place_number t n hit) ++ l) (no_more (skip_arcs n place [] (place_number t n miss)))
   guarded_arcs (Cond e) hit miss = choice_arcs e hit miss
 
-  pub guarded_needed : (g : TypedGuard) (hit miss : Point) → needed_by t n here (guarded g hit miss) ≡ guard_needed (frame_at t n) g
+  pub guarded_needed : (g : TypedGuard) (hit miss : Point) → needed_by t n here (guarded g hit miss) ≡ guard_needed (frame_at t n) (local_count t n) g
   guarded_needed Any hit miss = refl
   guarded_needed (Cond e) hit miss = refl
 
@@ -111,15 +111,15 @@ module _ (t : TypedProgram) (n : ℕ) (here : Point) where
 
   pub call_arcs_are : (f : ℕ) (args : List TypedExpression) → action_arcs t n here (Enter f args)
       ≡ entered_arcs n f place (place_number t f (point_of_call t f (slice_get t.procs f))) (return_place t f) (numbers_in (frame_at t n) (targets_at here.todo))
-      (place_number t n (settled (past_first t.procs here.todo))) (call_list t n f args)
+      (place_number t n (settled (past_first t.procs here.todo))) (call_letters t n f args)
   call_arcs_are f args = refl
 
   imported_arcs : (f : ℕ) (q : TypedProcedure) (args : List TypedExpression) (ts : List ℕ) (next : Point) → slice_get t.procs f ≡ Some q →
-      inside_arcs t n here (import_edges (frame_at t n) t.globals (slice_get t.procs f) args ts next)
-      ≡ list_arcs n place (import_written q.modifies ts) (import_list (frame_at t n) t.globals q args ts) (place_number t n next)
+      inside_arcs t n here (import_edges (frame_at t n) (local_count t n) t.globals (slice_get t.procs f) args ts next)
+      ≡ list_arcs n place (import_written q.modifies ts) (import_letters (frame_at t n) (local_count t n) t.globals q args ts) (place_number t n next)
   imported_arcs f q args ts next e =
-      ap (λ (o : Option TypedProcedure). inside_arcs t n here (import_edges (frame_at t n) t.globals o args ts next)) e
-      ∙ inside_list (import_written q.modifies ts) (import_list (frame_at t n) t.globals q args ts) (At next)
+      ap (λ (o : Option TypedProcedure). inside_arcs t n here (import_edges (frame_at t n) (local_count t n) t.globals o args ts next)) e
+      ∙ inside_list (import_written q.modifies ts) (import_letters (frame_at t n) (local_count t n) t.globals q args ts) (At next)
 
   -- of a procedure without body
   pub unseen_arcs_are : (o : Option Column) (i : Option TypedInvariant) (f : ℕ) (q : TypedProcedure) (targets : List Column) (args : List TypedExpression) (next : Point) →
@@ -136,14 +136,14 @@ module _ (t : TypedProgram) (n : ℕ) (here : Point) where
       ∙ ap (λ (cs : List Column). unseen_list t n place q args cs (place_number t n (settled (past_first t.procs here.todo)))) d
 
   unseen_by : (o : Option TypedProcedure) (f : ℕ) (q : TypedProcedure) (args : List TypedExpression) (cs targets : List Column) → o ≡ Some q → cs ≡ targets →
-      import_needed (frame_at t n) t.globals o args (numbers_in (frame_at t n) cs) ≡ import_needed (frame_at t n) t.globals (Some q) args (numbers_in (frame_at t n) targets)
+      import_needed (frame_at t n) (local_count t n) t.globals o args (numbers_in (frame_at t n) cs) ≡ import_needed (frame_at t n) (local_count t n) t.globals (Some q) args (numbers_in (frame_at t n) targets)
   unseen_by o f q args cs targets e d =
-      ap (λ (p : Option TypedProcedure). import_needed (frame_at t n) t.globals p args (numbers_in (frame_at t n) cs)) e
-      ∙ ap (λ (ds : List Column). import_needed (frame_at t n) t.globals (Some q) args (numbers_in (frame_at t n) ds)) d
+      ap (λ (p : Option TypedProcedure). import_needed (frame_at t n) (local_count t n) t.globals p args (numbers_in (frame_at t n) cs)) e
+      ∙ ap (λ (ds : List Column). import_needed (frame_at t n) (local_count t n) t.globals (Some q) args (numbers_in (frame_at t n) ds)) d
 
   pub unseen_needed : (o : Option Column) (i : Option TypedInvariant) (f : ℕ) (q : TypedProcedure) (targets : List Column) (args : List TypedExpression) (next : Point) →
       slice_get t.procs f ≡ Some q → targets_at here.todo ≡ targets →
-      needed_by t n here (unseen_action o i f targets args here next) ≡ import_needed (frame_at t n) t.globals (Some q) args (numbers_in (frame_at t n) targets)
+      needed_by t n here (unseen_action o i f targets args here next) ≡ import_needed (frame_at t n) (local_count t n) t.globals (Some q) args (numbers_in (frame_at t n) targets)
   unseen_needed (Some c) i f q targets args next e d = unseen_by (slice_get t.procs f) f q args (targets_at here.todo) targets e d
   unseen_needed None (Some i) f q targets args next e d = unseen_by (slice_get t.procs f) f q args (targets_at here.todo) targets e d
   unseen_needed None None f q targets args next e d = unseen_by (slice_get t.procs f) f q args (targets_at here.todo) targets e d

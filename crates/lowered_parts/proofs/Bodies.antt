@@ -5,13 +5,14 @@ use Rattle.boogie_tree.specs.declared.span.Span.{Span}
 use Rattle.typed_tree.specs.TypedTree.{TypedExpression, TypedInvariant, Assert, Assume, Havoc, Assign, Call, If, While, Break, Goto, Return, Label, TypedBlock, Empty, Then, TypedProcedure, TypedProgram}
 use Rattle.typing_rules.specs.Counts.{block_assertions, block_points, plain_invariants}
 use Rattle.letter_acts.specs.declared.sites.Site.{Site}
-use Rattle.cond_jumps.specs.Lists.{path_list}
+use Rattle.free_products.specs.FrameLetters.{path_letters}
 use Rattle.boogie_points.specs.Points.{Todo, Start, Entry, Point, at_exit, settled}
 use Rattle.boogie_points.specs.Actions.{Suppose, Leave, checked, next_part, free_conditions, ensured_conditions, plain_conditions, start_conditions, entry_point, first_point, entry_action, exit_action, start_action, first_assertion, first_place}
 use Rattle.boogie_points.specs.Starts.{point_of_call, point_of_procedure, start_point_of, unless_none}
 use Rattle.boogie_places.specs.Places.{Place, parts_from, points_of, points_with, start_points, starts_if_any, places_from, program_places, located, place_of}
 use Rattle.letter_table.specs.Letters.{with_arc, with_arcs, no_letters}
 use Rattle.lowered_steps.specs.ProgramFrames.{frame_at}
+use Rattle.lowered_steps.specs.Edges.{local_count}
 use Rattle.lowered_graph.specs.Arcs.{place_number, return_point, return_place, start_arc, arcs_of}
 use Rattle.lowered_graph.specs.Lowered.{sites_of}
 use Rattle.lowered_graph.specs.Items.{path_needed, condition_span, start_span, earlier, first_of, items_of}
@@ -125,7 +126,7 @@ module _ (t : TypedProgram) (n : ℕ) (q : TypedProcedure) (body : TypedBlock) (
   entry_next (Some j) inv i e d = (next_part (entry_part i), refl, number_is (next_part (entry_part i)))
 
   pub entry_added : (i : ℕ) (inv : TypedInvariant) (old new : Walked) → old.program ≡ t → slice_get (free_conditions q.specs) i ≡ Some inv →
-      MakesItem inv.span [] (list_arcs n (first_place t n + i) [] (path_list (frame_at t n) inv.cond true) (first_place t n + (i + 1))) (path_needed (frame_at t n) inv.cond true ∷ []) old new →
+      MakesItem inv.span [] (list_arcs n (first_place t n + i) [] (path_letters (frame_at t n) (local_count t n) inv.cond true) (first_place t n + (i + 1))) (path_needed (frame_at t n) (local_count t n) inv.cond true ∷ []) old new →
       Adds (located n (record entry { part = i } ∷ [])) old new
   entry_added i inv old new p e h =
       let here : Point = entry_part i in
@@ -143,7 +144,7 @@ module _ (t : TypedProgram) (n : ℕ) (q : TypedProcedure) (body : TypedBlock) (
 
   pub ensures_added : (i : ℕ) (inv : TypedInvariant) (number : ℕ) (old new : Walked) → old.program ≡ t → slice_get (ensured_conditions q.specs) i ≡ Some inv →
       number ≡ first_assertion t.procs n + (block_assertions t.procs body + plain_invariants (take i (ensured_conditions q.specs))) →
-      MakesItem inv.span (checked_sites t inv.free number inv.span) (checked_arcs t n (exit + i) inv.free number inv.cond (exit + (i + 1))) (checked_needed (frame_at t n) inv.free inv.cond) old new →
+      MakesItem inv.span (checked_sites t inv.free number inv.span) (checked_arcs t n (exit + i) inv.free number inv.cond (exit + (i + 1))) (checked_needed (frame_at t n) (local_count t n) inv.free inv.cond) old new →
       Adds (located n (record at_exit { part = i } ∷ [])) old new
   ensures_added i inv number old new p e is_number h =
       let here : Point = exit_part i in
@@ -207,7 +208,7 @@ module _ (t : TypedProgram) (q : TypedProcedure) (body : TypedBlock) (found : sl
   pub start_added : (i : ℕ) (e : TypedExpression) (sp : Span) (to : ℕ) (old new : Walked) → old.program ≡ t → slice_get (start_conditions t q) i ≡ Some e →
       ((d : TypedExpression) → slice_get (start_conditions t q) (i + 1) ≡ Some d → to ≡ 1 + (i + 1)) → (slice_get (start_conditions t q) (i + 1) ≡ None → to ≡ first_place t t.entry) →
       start_span t.axioms (plain_conditions q.specs) i ≡ sp →
-      MakesItem sp [] (list_arcs t.entry (1 + i) [] (path_list (frame_at t t.entry) e true) to) (path_needed (frame_at t t.entry) e true ∷ []) old new →
+      MakesItem sp [] (list_arcs t.entry (1 + i) [] (path_letters (frame_at t t.entry) (local_count t t.entry) e true) to) (path_needed (frame_at t t.entry) (local_count t t.entry) e true ∷ []) old new →
       Adds (located t.entry (record starting { part = i } ∷ [])) old new
   start_added i e sp to old new p d go end is_span h =
       let here : Point = record starting { part = i } in

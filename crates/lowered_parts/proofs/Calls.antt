@@ -14,7 +14,7 @@ use Rattle.boogie_points.specs.Starts.{point_of_call}
 use Rattle.boogie_places.specs.Places.{Place, at_statement, points_in, located, parts_from}
 use Rattle.letter_table.specs.Letters.{Arc}
 use Rattle.lowered_steps.specs.ProgramFrames.{frame_at}
-use Rattle.lowered_steps.specs.Edges.{call_list, numbers_in}
+use Rattle.lowered_steps.specs.Edges.{call_letters, numbers_in, local_count}
 use Rattle.lowered_graph.specs.Arcs.{place_number, error_place, return_place, arcs_at, arcs_of, action_arcs}
 use Rattle.lowered_graph.specs.Lowered.{action_sites, sites_of}
 use Rattle.lowered_graph.specs.Items.{Needed, ProgramItem, import_needed, call_needed, needed_at, needed_by, all_needed, items_at, items_of, begins_item, place_span, item_places}
@@ -108,12 +108,12 @@ module _ (t : TypedProgram) (n : ℕ) (q : TypedProcedure) (body : TypedBlock) (
           ≡ call_action (slice_get (plain_conditions callee.specs) i) (id + i) f callee sp cs es (i - length (plain_conditions callee.specs)) (part i) next
       does i = numbers.statement_does t n q body found whole s b loop id at under i ∙ ap (λ (o : Option TypedProcedure). call_if_any o id f sp cs es (part i) next) called
 
-      demands_at : (e : TypedExpression) (p r x y m : ℕ) → p ≡ r → x ≡ y → demand_arcs (frame_at t n) n p es e x m ≡ demand_arcs (frame_at t n) n r es e y m
-      demands_at e p r x y m h k = ap (λ (z : ℕ). demand_arcs (frame_at t n) n z es e x m) h ∙ ap (λ (z : ℕ). demand_arcs (frame_at t n) n r es e z m) k
+      demands_at : (e : TypedExpression) (p r x y m : ℕ) → p ≡ r → x ≡ y → demand_arcs (frame_at t n) (local_count t n) n p es e x m ≡ demand_arcs (frame_at t n) (local_count t n) n r es e y m
+      demands_at e p r x y m h k = ap (λ (z : ℕ). demand_arcs (frame_at t n) (local_count t n) n z es e x m) h ∙ ap (λ (z : ℕ). demand_arcs (frame_at t n) (local_count t n) n r es e z m) k
 
       -- a requires of the callee
       pub demand_made : (i : ℕ) (inv : TypedInvariant) (w c : Bool) (old new : Walked) → slice_get (plain_conditions callee.specs) i ≡ Some inv →
-          Makes (site_of t (id + i) sp ∷ []) (demand_arcs (frame_at t n) n (at + i) es inv.cond (at + (i + 1)) (error_place t (id + i))) (demand_needed (frame_at t n) es inv.cond) w c old new →
+          Makes (site_of t (id + i) sp ∷ []) (demand_arcs (frame_at t n) (local_count t n) n (at + i) es inv.cond (at + (i + 1)) (error_place t (id + i))) (demand_needed (frame_at t n) (local_count t n) es inv.cond) w c old new →
           PlacesMade t (record { proc = n; point = part i } ∷ []) w c old new
       demand_made i inv w c old new e h =
           let action : action_at t n (part i) ≡ Demand (id + i) sp inv.cond es (next_part (part i)) =
@@ -135,10 +135,10 @@ module _ (t : TypedProgram) (n : ℕ) (q : TypedProcedure) (body : TypedBlock) (
       -- into a callee with a body, and back
       pub enter_made : (inner : TypedBlock) (entry exit after : ℕ) (w c : Bool) (old new : Walked) → callee.body ≡ Some inner →
           entry ≡ place_number t f (point_of_call t f (slice_get t.procs f)) → exit ≡ return_place t f → after ≡ behind_call →
-          Leads (entered_arcs n f (at + plain) entry exit (numbers_in (frame_at t n) cs) after (call_list t n f es)) (call_needed t n f es ∷ []) w c old new →
+          Leads (entered_arcs n f (at + plain) entry exit (numbers_in (frame_at t n) cs) after (call_letters t n f es)) (call_needed t n f es ∷ []) w c old new →
           PlacesMade t (record { proc = n; point = part plain } ∷ []) w c old new
       enter_made inner entry exit after w c old new k is_entry is_exit is_after l =
-          let list = call_list t n f es in
+          let list = call_letters t n f es in
           let targets : List ℕ = numbers_in (frame_at t n) cs in
           place_made t n (part plain) (Enter f es) [] (entered_arcs n f (at + plain) entry exit targets after list) (call_needed t n f es ∷ []) w c old new (calls (Some inner) k) refl
           (ap (λ (x : ℕ). entered_arcs n f x (place_number t f (point_of_call t f (slice_get t.procs f))) (return_place t f) targets behind_call list) (numbered plain)
@@ -149,7 +149,7 @@ module _ (t : TypedProgram) (n : ℕ) (q : TypedProcedure) (body : TypedBlock) (
 
       -- a callee without body
       pub import_made : (after : ℕ) (w c : Bool) (old new : Walked) → callee.body ≡ None → after ≡ behind_call →
-          Leads (arcs.unseen_list t n (at + plain) callee es cs after) (import_needed (frame_at t n) t.globals (Some callee) es (numbers_in (frame_at t n) cs)) w c old new →
+          Leads (arcs.unseen_list t n (at + plain) callee es cs after) (import_needed (frame_at t n) (local_count t n) t.globals (Some callee) es (numbers_in (frame_at t n) cs)) w c old new →
           PlacesMade t (record { proc = n; point = part plain } ∷ []) w c old new
       import_made after w c old new k is_after l =
           let o : Option Column = slice_get (chosen_columns callee) 0 in

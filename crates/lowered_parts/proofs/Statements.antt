@@ -7,13 +7,13 @@ use Rattle.typed_tree.specs.TypedTree.{TypedExpression, TypedGuard, TypedInvaria
 use Rattle.typing_rules.specs.Counts.{assertions, points, block_assertions, block_points, plain_invariants}
 use Rattle.letter_acts.specs.declared.sites.Site.{Site}
 use Rattle.letter_acts.specs.Frames.{Columns}
-use Rattle.cond_jumps.specs.Lists.{path_list, assign_list}
+use Rattle.free_products.specs.FrameLetters.{path_letters, assign_letters}
 use Rattle.boogie_points.specs.Points.{Todo, Point, at_exit, before, settled, past, broken, found_block}
 use Rattle.boogie_points.specs.Actions.{Action, action_at, statement_action, Check, Suppose, Write, Guess, Jump, checked, guarded, head_action, havoc_action, one_of, ways_to, point_behind, next_part}
 use Rattle.boogie_places.specs.Places.{at_statement, points_in, points_of, located, parts_from}
 use Rattle.letter_table.specs.Letters.{Arc}
 use Rattle.lowered_steps.specs.ProgramFrames.{frame_at, column_number}
-use Rattle.lowered_steps.specs.Edges.{numbers_in}
+use Rattle.lowered_steps.specs.Edges.{numbers_in, local_count}
 use Rattle.lowered_graph.specs.Arcs.{place_number, error_place, action_arcs}
 use Rattle.lowered_graph.specs.Lowered.{action_sites}
 use Rattle.lowered_graph.specs.Items.{Needed, path_needed, needed_by, place_span, span_of, statement_parts, condition_span}
@@ -28,20 +28,20 @@ use Rattle.lowered_parts.proofs.Numbers as numbers
 use Rattle.lowered_parts.proofs.Numbers.{both_added, part_added}
 
 -- a test by the numbers of places
-tests_at : (frame : Columns) (n : ℕ) (e : TypedExpression) (p q a b m : ℕ) → p ≡ q → a ≡ b → test_arcs frame n p e a m ≡ test_arcs frame n q e b m
-tests_at frame n e p q a b m h k = ap (λ (x : ℕ). test_arcs frame n x e a m) h ∙ ap (λ (x : ℕ). test_arcs frame n q e x m) k
+tests_at : (frame : Columns) (count n : ℕ) (e : TypedExpression) (p q a b m : ℕ) → p ≡ q → a ≡ b → test_arcs frame count n p e a m ≡ test_arcs frame count n q e b m
+tests_at frame count n e p q a b m h k = ap (λ (x : ℕ). test_arcs frame count n x e a m) h ∙ ap (λ (x : ℕ). test_arcs frame count n q e x m) k
 
 -- ---- conditions that may be free
 
 module _ (t : TypedProgram) (n : ℕ) (here : Point) (place to : ℕ) (next : Point) (is_place : place_number t n here ≡ place) (is_to : to ≡ place_number t n next) where
   pub checked_edges : (free : Bool) (id : ℕ) (at : Span) (e : TypedExpression) → action_arcs t n here (checked free id at e next) ≡ checked_arcs t n place free id e to
   checked_edges true id at e =
-      arcs.suppose_arcs t n here e next ∙ ap (λ (x : ℕ). list_arcs n x [] (path_list (frame_at t n) e true) (place_number t n next)) is_place
-      ∙ ap (λ (x : ℕ). list_arcs n place [] (path_list (frame_at t n) e true) x) (sym is_to)
+      arcs.suppose_arcs t n here e next ∙ ap (λ (x : ℕ). list_arcs n x [] (path_letters (frame_at t n) (local_count t n) e true) (place_number t n next)) is_place
+      ∙ ap (λ (x : ℕ). list_arcs n place [] (path_letters (frame_at t n) (local_count t n) e true) x) (sym is_to)
   checked_edges false id at e =
-      arcs.check_arcs t n here id at e next ∙ tests_at (frame_at t n) n e (place_number t n here) place (place_number t n next) to (error_place t id) is_place (sym is_to)
+      arcs.check_arcs t n here id at e next ∙ tests_at (frame_at t n) (local_count t n) n e (place_number t n here) place (place_number t n next) to (error_place t id) is_place (sym is_to)
 
-  pub checked_lists : (free : Bool) (id : ℕ) (at : Span) (e : TypedExpression) → needed_by t n here (checked free id at e next) ≡ checked_needed (frame_at t n) free e
+  pub checked_lists : (free : Bool) (id : ℕ) (at : Span) (e : TypedExpression) → needed_by t n here (checked free id at e next) ≡ checked_needed (frame_at t n) (local_count t n) free e
   checked_lists true id at e = refl
   checked_lists false id at e = refl
 
@@ -79,7 +79,7 @@ module _ (t : TypedProgram) (n : ℕ) (q : TypedProcedure) (body : TypedBlock) (
     behind s = place_number t n (settled (past t.procs s b loop id at ∷ under))
 
     pub assert_added : (sp : Span) (e : TypedExpression) (after : ℕ) (old new : Walked) → old.program ≡ t → after ≡ behind (Assert sp e) →
-        MakesItem sp (checked_sites t false id sp) (checked_arcs t n at false id e after) (checked_needed (frame_at t n) false e) old new →
+        MakesItem sp (checked_sites t false id sp) (checked_arcs t n at false id e after) (checked_needed (frame_at t n) (local_count t n) false e) old new →
         Adds (located n (points_in t.procs (Assert sp e) b loop id at under)) old new
     assert_added sp e after old new p is_after h =
         placed t n (at_statement (Assert sp e) b loop id at under) (Check id sp e (settled (past t.procs (Assert sp e) b loop id at ∷ under))) sp _ _ _ old new
@@ -88,7 +88,7 @@ module _ (t : TypedProgram) (n : ℕ) (q : TypedProcedure) (body : TypedBlock) (
         refl h
 
     pub assume_added : (sp : Span) (e : TypedExpression) (after : ℕ) (old new : Walked) → old.program ≡ t → after ≡ behind (Assume sp e) →
-        MakesItem sp [] (list_arcs n at [] (path_list (frame_at t n) e true) after) (path_needed (frame_at t n) e true ∷ []) old new →
+        MakesItem sp [] (list_arcs n at [] (path_letters (frame_at t n) (local_count t n) e true) after) (path_needed (frame_at t n) (local_count t n) e true ∷ []) old new →
         Adds (located n (points_in t.procs (Assume sp e) b loop id at under)) old new
     assume_added sp e after old new p is_after h =
         placed t n (at_statement (Assume sp e) b loop id at under) (Suppose e (settled (past t.procs (Assume sp e) b loop id at ∷ under))) sp _ _ _ old new
@@ -97,7 +97,7 @@ module _ (t : TypedProgram) (n : ℕ) (q : TypedProcedure) (body : TypedBlock) (
         refl h
 
     pub assign_added : (sp : Span) (cs : List Column) (es : List TypedExpression) (after : ℕ) (old new : Walked) → old.program ≡ t → after ≡ behind (Assign sp cs es) →
-        MakesItem sp [] (list_arcs n at (numbers_in (frame_at t n) cs) (assign_list (frame_at t n) (length es) es) after) (write_needed (frame_at t n) es (length cs)) old new →
+        MakesItem sp [] (list_arcs n at (numbers_in (frame_at t n) cs) (assign_letters (frame_at t n) (local_count t n) (length es) es) after) (write_needed (frame_at t n) (local_count t n) es (length cs)) old new →
         Adds (located n (points_in t.procs (Assign sp cs es) b loop id at under)) old new
     assign_added sp cs es after old new p is_after h =
         let here : Point = at_statement (Assign sp cs es) b loop id at under in
@@ -105,8 +105,8 @@ module _ (t : TypedProgram) (n : ℕ) (q : TypedProcedure) (body : TypedBlock) (
         placed t n here (Write cs es next) sp _ _ _ old new
         (does (Assign sp cs es) 0) (span (Assign sp cs es) 0) refl p refl
         (arcs.write_arcs t n here cs es next
-        ∙ ap (λ (x : ℕ). list_arcs n x (numbers_in (frame_at t n) cs) (assign_list (frame_at t n) (length es) es) (place_number t n next)) (numbered_first (Assign sp cs es))
-        ∙ ap (λ (x : ℕ). list_arcs n at (numbers_in (frame_at t n) cs) (assign_list (frame_at t n) (length es) es) x) (sym is_after))
+        ∙ ap (λ (x : ℕ). list_arcs n x (numbers_in (frame_at t n) cs) (assign_letters (frame_at t n) (local_count t n) (length es) es) (place_number t n next)) (numbered_first (Assign sp cs es))
+        ∙ ap (λ (x : ℕ). list_arcs n at (numbers_in (frame_at t n) cs) (assign_letters (frame_at t n) (local_count t n) (length es) es) x) (sym is_after))
         refl h
 
     -- a jump to a point
@@ -182,21 +182,21 @@ module _ (t : TypedProgram) (n : ℕ) (q : TypedProcedure) (body : TypedBlock) (
     -- ---- an if, and the head of a loop
 
     guards_at : (here hit miss : Point) (g : TypedGuard) (place x y : ℕ) → place_number t n here ≡ place → x ≡ place_number t n hit → y ≡ place_number t n miss →
-        action_arcs t n here (guarded g hit miss) ≡ guard_arcs (frame_at t n) n place g x y
+        action_arcs t n here (guarded g hit miss) ≡ guard_arcs (frame_at t n) (local_count t n) n place g x y
     guards_at here hit miss g place x y h k l =
-        arcs.guarded_arcs t n here g hit miss ∙ ap (λ (z : ℕ). guard_arcs (frame_at t n) n z g (place_number t n hit) (place_number t n miss)) h
-        ∙ ap (λ (z : ℕ). guard_arcs (frame_at t n) n place g z (place_number t n miss)) (sym k) ∙ ap (λ (z : ℕ). guard_arcs (frame_at t n) n place g x z) (sym l)
+        arcs.guarded_arcs t n here g hit miss ∙ ap (λ (z : ℕ). guard_arcs (frame_at t n) (local_count t n) n z g (place_number t n hit) (place_number t n miss)) h
+        ∙ ap (λ (z : ℕ). guard_arcs (frame_at t n) (local_count t n) n place g z (place_number t n miss)) (sym k) ∙ ap (λ (z : ℕ). guard_arcs (frame_at t n) (local_count t n) n place g x z) (sym l)
 
     pub if_added : (sp : Span) (g : TypedGuard) (x y : TypedBlock) (hit miss : ℕ) (old new : Walked) → old.program ≡ t →
         hit ≡ place_number t n (settled (record { rest = x; of_loop = false; id = id; at = at + 1 } ∷ (past t.procs (If sp g x y) b loop id at ∷ under))) →
         miss ≡ place_number t n (settled (record { rest = y; of_loop = false; id = id + block_assertions t.procs x; at = at + 1 + block_points t.procs x } ∷ (past t.procs (If sp g x y) b loop id at ∷ under))) →
-        MakesItem sp [] (guard_arcs (frame_at t n) n at g hit miss) (guard_needed (frame_at t n) g) old new → Adds (located n (at_statement (If sp g x y) b loop id at under ∷ [])) old new
+        MakesItem sp [] (guard_arcs (frame_at t n) (local_count t n) n at g hit miss) (guard_needed (frame_at t n) (local_count t n) g) old new → Adds (located n (at_statement (If sp g x y) b loop id at under ∷ [])) old new
     if_added sp g x y hit miss old new p is_hit is_miss h =
         let here : Point = at_statement (If sp g x y) b loop id at under in
         let after : List Todo = past t.procs (If sp g x y) b loop id at ∷ under in
         let then_point : Point = settled (record { rest = x; of_loop = false; id = id; at = at + 1 } ∷ after) in
         let else_point : Point = settled (record { rest = y; of_loop = false; id = id + block_assertions t.procs x; at = at + 1 + block_points t.procs x } ∷ after) in
-        placed t n here (guarded g then_point else_point) sp [] (guard_arcs (frame_at t n) n at g hit miss) (guard_needed (frame_at t n) g) old new
+        placed t n here (guarded g then_point else_point) sp [] (guard_arcs (frame_at t n) (local_count t n) n at g hit miss) (guard_needed (frame_at t n) (local_count t n) g) old new
         (does (If sp g x y) 0) (span (If sp g x y) 0) refl p (ap (map (λ s. s.1)) (arcs.guarded_sites t n here g then_point else_point))
         (guards_at here then_point else_point g at hit miss (numbered_first (If sp g x y)) is_hit is_miss) (arcs.guarded_needed t n here g then_point else_point) h
 
@@ -214,7 +214,7 @@ module _ (t : TypedProgram) (n : ℕ) (q : TypedProcedure) (body : TypedBlock) (
     -- an invariant of a loop
     pub invariant_added : (sp : Span) (g : TypedGuard) (is : List TypedInvariant) (x : TypedBlock) (i : ℕ) (inv : TypedInvariant) (number : ℕ) (old new : Walked) → old.program ≡ t → slice_get is i ≡ Some inv →
         number ≡ id + plain_invariants (take i is) →
-        MakesItem inv.span (checked_sites t inv.free number inv.span) (checked_arcs t n (at + i) inv.free number inv.cond (at + (i + 1))) (checked_needed (frame_at t n) inv.free inv.cond) old new →
+        MakesItem inv.span (checked_sites t inv.free number inv.span) (checked_arcs t n (at + i) inv.free number inv.cond (at + (i + 1))) (checked_needed (frame_at t n) (local_count t n) inv.free inv.cond) old new →
         Adds (located n (point (While sp g is x) i ∷ [])) old new
     invariant_added sp g is x i inv number old new p e is_number h =
         let s : TypedStatement = While sp g is x in
@@ -237,7 +237,7 @@ module _ (t : TypedProgram) (n : ℕ) (q : TypedProcedure) (body : TypedBlock) (
     pub loop_added : (sp : Span) (g : TypedGuard) (is : List TypedInvariant) (x : TypedBlock) (hit miss : ℕ) (old new : Walked) → old.program ≡ t →
         hit ≡ place_number t n (settled (record { rest = x; of_loop = true; id = id + plain_invariants is; at = at + length is + 1 } ∷ (record { rest = Then (While sp g is x) b; of_loop = loop; id = id; at = at } ∷ under))) →
         miss ≡ behind (While sp g is x) →
-        MakesItem sp [] (guard_arcs (frame_at t n) n (at + length is) g hit miss) (guard_needed (frame_at t n) g) old new → Adds (located n (point (While sp g is x) (length is) ∷ [])) old new
+        MakesItem sp [] (guard_arcs (frame_at t n) (local_count t n) n (at + length is) g hit miss) (guard_needed (frame_at t n) (local_count t n) g) old new → Adds (located n (point (While sp g is x) (length is) ∷ [])) old new
     loop_added sp g is x hit miss old new p is_hit is_miss h =
         let s : TypedStatement = While sp g is x in
         let i : ℕ = length is in

@@ -4,9 +4,10 @@ use Rattle.boogie_tree.specs.declared.span.Span.{Span}
 use Rattle.typed_tree.specs.TypedTree.{TypedExpression, TypedStatement, Label, TypedBlock, Empty, Then, TypedProgram}
 use Rattle.letter_acts.specs.Frames.{Columns}
 use Rattle.letter_acts.specs.declared.sites.Site.{Site}
-use Rattle.cond_jumps.specs.Lists.{path_list}
+use Rattle.free_products.specs.FrameLetters.{path_letters}
 use Rattle.letter_table.specs.Letters.{Arc}
 use Rattle.lowered_steps.specs.ProgramFrames.{frame_at}
+use Rattle.lowered_steps.specs.Edges.{local_count}
 use Rattle.boogie_places.specs.Places.{Place}
 use Rattle.lowered_graph.specs.Arcs.{error_place, arcs_of}
 use Rattle.lowered_graph.specs.Lowered.{sites_of}
@@ -25,12 +26,12 @@ checked_sites t true id at = []
 checked_sites t false id at = site_of t id at ∷ []
 
 abbrev pub checked_arcs : TypedProgram → ℕ → ℕ → Bool → ℕ → TypedExpression → ℕ → List Arc
-checked_arcs t n place true id e to = list_arcs n place [] (path_list (frame_at t n) e true) to
-checked_arcs t n place false id e to = test_arcs (frame_at t n) n place e to (error_place t id)
+checked_arcs t n place true id e to = list_arcs n place [] (path_letters (frame_at t n) (local_count t n) e true) to
+checked_arcs t n place false id e to = test_arcs (frame_at t n) (local_count t n) n place e to (error_place t id)
 
-abbrev pub checked_needed : Columns → Bool → TypedExpression → List Needed
-checked_needed frame true e = path_needed frame e true ∷ []
-checked_needed frame false e = test_needed frame e
+abbrev pub checked_needed : Columns → ℕ → Bool → TypedExpression → List Needed
+checked_needed frame m true e = path_needed frame m e true ∷ []
+checked_needed frame m false e = test_needed frame m e
 
 -- an edge to each of some places
 abbrev pub ways_arcs : ℕ → ℕ → List ℕ → List Arc

@@ -6,7 +6,7 @@ use Rattle.boogie_points.specs.Actions.{action_at}
 use Rattle.boogie_run.specs.Configurations.{Config}
 use Rattle.boogie_run.specs.Steps.{Failed}
 use Rattle.boogie_run.specs.Runs.{run}
-use Rattle.lowered_steps.specs.Stacks.{Stack, IsStep}
+use Rattle.lowered_steps.specs.Stacks.{Stack, IsStep, IsExact}
 use Rattle.lowered_steps.specs.Moves.{IsGood, IsNoImport, shown_stack}
 use Rattle.lowered_runs.specs.Choices.{choices_of}
 use Rattle.lowered_imports.specs.Laws.{helpers_of}
@@ -34,11 +34,11 @@ pub record IsRunImport (t : TypedProgram) (Import : Config → Config → Type 0
   pub shorter : length rest < length choices
   pub fails : run t after rest ≡ Failed i
 
--- A whole call is a step of the stacks and some steps of the run, and the other way round.
+-- A whole call is a step of the stacks and some steps of the run, and the other way round, where the step is exact.
 pub record ImportsAreSteps (t : TypedProgram) (Known : ℕ → Point → Type 0) (Import : Config → Config → Type 0) : Type 0 where
   pub goes : (c d : Config) → IsGood t Known c → Import c d → IsStep t (shown_stack t c) (shown_stack t d)
   pub good : (c d : Config) → IsGood t Known c → Import c d → IsGood t Known d
-  pub back : (c : Config) (y : Stack) → IsGood t Known c → IsAtImport t c → IsStep t (shown_stack t c) y → IsShownImport t Import c y
+  pub back : (c : Config) (y : Stack) → IsGood t Known c → IsAtImport t c → (s : IsStep t (shown_stack t c) y) → IsExact t (shown_stack t c) y s → IsShownImport t Import c y
   pub runs : (c d : Config) → IsGood t Known c → Import c d → IsChosenImport t c d
   pub run : (c : Config) (choices : List (Option ℤ)) (i : ℕ) → IsGood t Known c → IsAtImport t c → run t c choices ≡ Failed i → IsRunImport t Import c choices i
 
@@ -49,6 +49,6 @@ pub record IsToldImport (t : TypedProgram) (Import : Config → Config → Type 
   pub shown : y ≡ shown_stack t after
   pub goes : (rest : List (Option ℤ)) → run t c (choices_of t c.top.proc c.top.point (action_at t c.top.proc c.top.point) helpers y ++ rest) ≡ run t after rest
 
--- With the helpers of a step, the choices that are told of it make the whole call.
+-- With the helpers of an exact step, the choices that are told of it make the whole call.
 pub record ImportsAreTold (t : TypedProgram) (Known : ℕ → Point → Type 0) (Import : Config → Config → Type 0) : Type 0 where
-  pub told : (c : Config) (y : Stack) → IsGood t Known c → IsAtImport t c → (s : IsStep t (shown_stack t c) y) → IsToldImport t Import c y (helpers_of t (shown_stack t c) y s)
+  pub told : (c : Config) (y : Stack) → IsGood t Known c → IsAtImport t c → (s : IsStep t (shown_stack t c) y) → IsExact t (shown_stack t c) y s → IsToldImport t Import c y (helpers_of t (shown_stack t c) y s)

@@ -1,4 +1,4 @@
--- A program fails an assertion exactly where its stack machine does, given what is asked of its points and of whole calls without body.
+-- Where a program fails an assertion its stack machine does, and where the machine does by exact steps the program does, given what is asked of its points and of whole calls without body.
 use Rattle.std.proofs.Common.{◌≡◌, ℕ, zero, suc, ℤ, List, [], ◌++◌, map, length, Option, Some, inl, inr, ◌⊎◌, refl, sym, ap, subst, ◌∙◌, arith}
 use Rattle.typed_tree.specs.TypedTree.{TypedProgram}
 use Rattle.letter_acts.specs.Frames.{Columns, IsState, globals_from, old_columns, locals_from}
@@ -10,7 +10,7 @@ use Rattle.boogie_run.specs.Steps.{Failed, start}
 use Rattle.boogie_run.specs.Runs.{run, Fails}
 use Rattle.lowered_steps.specs.ProgramFrames.{frame_at, variable_values}
 use Rattle.lowered_steps.specs.Edges.{At, Wrong}
-use Rattle.lowered_steps.specs.Stacks.{Stack, IsStep, inside, call, back, IsStart, Reaches, MachineFails}
+use Rattle.lowered_steps.specs.Stacks.{Stack, IsStep, inside, call, back, IsStart, Reaches, MachineFails, ExactlyReaches, MachineFailsExactly}
 use Rattle.lowered_steps.specs.Moves.{HasTypes, IsGood, IsNoImport, KnowsPoints, shown_stack, filled}
 use Rattle.lowered_steps.proofs.FrameColumns.{types_length, shown_state}
 use Rattle.lowered_steps.proofs.Places.{olds_length}
@@ -29,9 +29,9 @@ stuck t x y i e (call p f args k at calls among leads proc spot below) = let h :
 stuck t x y i e (back p b args k at is below calls among leads proc spot) = let h : At p ≡ Wrong i = sym at ∙ e in cc
 
 -- so the assertion is the one that is reached
-pub reached : (t : TypedProgram) (k : ℕ) (y : Stack) (i j : ℕ) → y.spot ≡ Wrong j → Reaches t i k y → j ≡ i
+pub reached : (t : TypedProgram) (k : ℕ) (y : Stack) (i j : ℕ) → y.spot ≡ Wrong j → ExactlyReaches t i k y → j ≡ i
 reached t zero y i j e r = let h : Wrong j ≡ Wrong i = sym e ∙ r in cc
-reached t (suc k) y i j e (z, s, r) = absurd (stuck t y z j e s)
+reached t (suc k) y i j e (z, s, x, r) = absurd (stuck t y z j e s)
 
 -- the first configuration, with these constants, globals and locals
 abbrev pub first : TypedProgram → List ℤ → List ℤ → Config
@@ -45,20 +45,20 @@ module _ (t : TypedProgram) (Known : ℕ → Point → Type 0) (know : KnowsPoin
   breaks_reaches (suc k) c g (d, inl m, b) = let f : Follows t Known know c d = forward t Known know c d g m in (shown_stack t d, f.step, breaks_reaches k d f.good b)
   breaks_reaches (suc k) c g (d, inr m, b) = (shown_stack t d, imports.goes c d g m, breaks_reaches k d (imports.good c d g m) b)
 
-  reaches_breaks : (k : ℕ) (c : Config) → IsGood t Known c → Reaches t i k (shown_stack t c) → (j : ℕ) × breaks.Breaks t Import i j c
+  reaches_breaks : (k : ℕ) (c : Config) → IsGood t Known c → ExactlyReaches t i k (shown_stack t c) → (j : ℕ) × breaks.Breaks t Import i j c
   reaches_breaks zero c g r = absurd (cc)
-  reaches_breaks (suc k) c g (y, s, r) = elim (import_or_not (action_at t c.top.proc c.top.point)) [
-    | inl plain ↦ by_move c y plain g (backward t Known know c y g plain s) r (λ d h q. reaches_breaks k d h q)
-    | inr at_call ↦ (let m : IsShownImport t Import c y = imports.back c y g at_call s in
-        let b = reaches_breaks k m.after (imports.good c m.after g m.import) (subst (Reaches t i k) m.shown r) in
+  reaches_breaks (suc k) c g (y, s, exact, r) = elim (import_or_not (action_at t c.top.proc c.top.point)) [
+    | inl plain ↦ by_move c y plain g (backward t Known know c y g plain s exact) r (λ d h q. reaches_breaks k d h q)
+    | inr at_call ↦ (let m : IsShownImport t Import c y = imports.back c y g at_call s exact in
+        let b = reaches_breaks k m.after (imports.good c m.after g m.import) (subst (ExactlyReaches t i k) m.shown r) in
         (suc b.0, (m.after, inr m.import, b.1)))
   ]
     where
-      by_move : (c : Config) (y : Stack) → IsNoImport (action_at t c.top.proc c.top.point) → IsGood t Known c → IsShownMove t Known know c y ⊎ Breaks t Known know c y → Reaches t i k y →
-          ((d : Config) → IsGood t Known d → Reaches t i k (shown_stack t d) → (j : ℕ) × breaks.Breaks t Import i j d) → (j : ℕ) × breaks.Breaks t Import i j c
+      by_move : (c : Config) (y : Stack) → IsNoImport (action_at t c.top.proc c.top.point) → IsGood t Known c → IsShownMove t Known know c y ⊎ Breaks t Known know c y → ExactlyReaches t i k y →
+          ((d : Config) → IsGood t Known d → ExactlyReaches t i k (shown_stack t d) → (j : ℕ) × breaks.Breaks t Import i j d) → (j : ℕ) × breaks.Breaks t Import i j c
       by_move c y plain g (inl m) r later =
           let f : Follows t Known know c m.after = forward t Known know c m.after g m.move in
-          let b = later m.after f.good (subst (Reaches t i k) m.shown r) in
+          let b = later m.after f.good (subst (ExactlyReaches t i k) m.shown r) in
           (suc b.0, (m.after, inl m.move, b.1))
       by_move c y plain g (inr b) r later = (0, b.fails ∙ ap Failed (reached t k y i b.assertion b.wrong r))
 
@@ -131,10 +131,10 @@ module _ (t : TypedProgram) (Known : ℕ → Point → Type 0) (know : KnowsPoin
   pub start_runs : (gs ls : List ℤ) (rest : List (Option ℤ)) → HasTypes t.globals gs → HasTypes (locals_at t t.entry) ls → run t (start t) (map Some gs ++ (map Some ls ++ rest)) ≡ run t (first t gs ls) rest
   start_runs gs ls rest g l = run_begun t [] gs (map Some ls ++ rest) g ∙ run_filled t (begun t gs) ls rest g l
 
-  pub machine_fails : MachineFails t i → Fails t i
+  pub machine_fails : MachineFailsExactly t i → Fails t i
   machine_fails (k, x, s, r) =
       let st : IsStarted x = started x s in
       let c : Config = first t st.globals st.locals in
-      let b = reaches_breaks k c st.good (subst (Reaches t i k) st.shown_is r) in
+      let b = reaches_breaks k c st.good (subst (ExactlyReaches t i k) st.shown_is r) in
       let q = breaks_run t Known know Import imports i b.0 c st.good b.1 in
       (map Some st.globals ++ (map Some st.locals ++ q.0), start_runs st.globals st.locals q.0 st.typed st.locals_typed ∙ q.1)

@@ -46,7 +46,7 @@ arguments_typed : (t : TypedProgram) (n : ℕ) (s : State) (vs : List VarInfo) (
 arguments_typed t n s [] [] k a = tt
 arguments_typed t n s [] (e ∷ es) k a = absurd a
 arguments_typed t n s (v ∷ vs) [] k a = absurd a
-arguments_typed t n s (v ∷ vs) (e ∷ es) k a = (value_of_type t n s e v.ty k a.0.typed a.0.linear, arguments_typed t n s vs es k a.1)
+arguments_typed t n s (v ∷ vs) (e ∷ es) k a = (value_of_type t n s e v.ty k a.0.typed a.0.divided, arguments_typed t n s vs es k a.1)
 
 -- the globals are complete, and the locals begun
 record HasPart (t : TypedProgram) (c : Config) : Type 0 where

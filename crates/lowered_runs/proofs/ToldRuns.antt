@@ -1,4 +1,4 @@
--- The choices that are told of a run of the stack machine fail the assertion that the machine fails.
+-- The choices that are told of a run of the stack machine by exact steps fail the assertion that the machine fails.
 use Rattle.std.proofs.Common.{◌≡◌, ℕ, zero, suc, ◌+◌, Bool, true, false, ℤ, pos, List, [], ◌∷◌, ◌++◌, map, length, take, drop, Option, None, Some, inl, inr, ◌⊎◌, refl, sym, ap, subst, ◌∙◌, arith, append_assoc, if◌then◌else◌}
 use Rattle.std.specs.Prelude.{slice_get, unsigned_abs}
 use Rattle.std.proofs.lemmas.List.{length-append}
@@ -96,8 +96,8 @@ module _ (t : TypedProgram) (Known : ℕ → Point → Type 0) (know : KnowsPoin
   pub told_runs : (ss : List ToldStep) (c : Config) → IsGood t Known c → AreToldSteps t i (shown_stack t c) ss → run t c (told_choices t (shown_stack t c) ss) ≡ Failed i
   told_runs [] c g r = absurd (cc)
   told_runs (s ∷ ss) c g (st, r) = elim (import_or_not (action_at t c.top.proc c.top.point)) [
-    | inl plain ↦ by_move c s.after s.helpers g (backward t Known know c s.after g plain st.step) r (λ d h q. told_runs ss d h q)
-    | inr at_call ↦ (let m : IsToldImport t Import c s.after (helpers_of t (shown_stack t c) s.after st.step) = tells.told c s.after g at_call st.step in
+    | inl plain ↦ by_move c s.after s.helpers g (backward t Known know c s.after g plain st.step st.exact) r (λ d h q. told_runs ss d h q)
+    | inr at_call ↦ (let m : IsToldImport t Import c s.after (helpers_of t (shown_stack t c) s.after st.step) = tells.told c s.after g at_call st.step st.exact in
         let later : run t m.after (told_choices t (shown_stack t m.after) ss) ≡ Failed i =
         told_runs ss m.after (imports.good c m.after g m.import) (subst (λ (x : Stack). AreToldSteps t i x ss) m.shown r) in
         ap (λ (x : Stack). run t c (choices_of t c.top.proc c.top.point (action_at t c.top.proc c.top.point) s.helpers s.after ++ told_choices t x ss)) m.shown

@@ -11,7 +11,7 @@ use Rattle.boogie_points.specs.Starts.{targets_at}
 use Rattle.boogie_places.specs.Places.{number_of}
 use Rattle.lowered_steps.specs.ProgramFrames.{frame_at, column_number}
 use Rattle.lowered_steps.specs.Edges.{Spot, At, Wrong, numbers_in, columns_before_locals}
-use Rattle.lowered_steps.specs.Stacks.{Stack, IsStep}
+use Rattle.lowered_steps.specs.Stacks.{Stack, IsStep, IsExact}
 use Rattle.lowered_imports.specs.Imports.{import_choices, told_globals}
 use Rattle.lowered_imports.specs.Laws.{helpers_of}
 
@@ -55,9 +55,10 @@ pub record ToldStep : Type 0 where
   pub after : Stack
   pub helpers : List ℤ
 
--- the step is one, and its rows hold with these helpers
+-- the step is an exact one, and its rows hold with these helpers
 pub record IsToldStep (t : TypedProgram) (x : Stack) (s : ToldStep) : Type 0 where
   pub step : IsStep t x s.after
+  pub exact : IsExact t x s.after step
   pub helpers : helpers_of t x s.after step ≡ s.helpers
 
 -- steps that lead from a stack to the failing of the assertion of that number

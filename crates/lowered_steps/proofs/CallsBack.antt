@@ -1,5 +1,5 @@
--- The other way round for calls: a call step of the stack is the entering of the procedure with some choices of its locals.
-use Rattle.std.proofs.Common.{◌≡◌, ℕ, ◌+◌, ◌≤◌, ℤ, List, ◌++◌, length, take, drop, refl, sym, ap, subst, ◌∙◌, arith, append_assoc}
+-- The other way round for calls: a call step of the stack by a letter that is not coarse is the entering of the procedure with some choices of its locals.
+use Rattle.std.proofs.Common.{◌≡◌, ℕ, ◌+◌, ◌≤◌, false, ℤ, List, ◌++◌, length, take, drop, refl, sym, ap, subst, ◌∙◌, arith, append_assoc}
 use Rattle.std.proofs.lemmas.List.{length-append, length-map, take-append-drop}
 use Rattle.boogie_tree.specs.declared.tree.VarInfo.{VarInfo}
 use Rattle.typed_tree.specs.TypedTree.{TypedExpression, TypedProgram}
@@ -8,20 +8,21 @@ use Rattle.lin_rows.specs.Points.{point_of}
 use Rattle.letter_acts.specs.Frames.{Columns, IsState, ConstantsFirst, globals_from, old_columns, locals_from}
 use Rattle.letter_acts.specs.Meaning.{CallLeads}
 use Rattle.letter_acts.proofs.PointLemmas.{state_length}
-use Rattle.cond_jumps.specs.Conjunctions.{Conjunction}
+use Rattle.free_products.specs.Letters.{MarkedConjunction}
+use Rattle.free_products.specs.FrameLaws.{Marks}
 use Rattle.cond_jumps.specs.Worth.{Read}
-use Rattle.cond_jumps.specs.Lists.{IsMet, Decide}
+use Rattle.cond_jumps.specs.Lists.{IsMet}
 use Rattle.boogie_run.specs.Needs.{locals_at}
 use Rattle.boogie_run.specs.Steps.{values}
 use Rattle.lowered_steps.specs.ProgramFrames.{frame_at, width_at, shown, variable_values}
-use Rattle.lowered_steps.specs.Edges.{call_list, columns_before_locals}
+use Rattle.lowered_steps.specs.Edges.{call_letters, columns_before_locals}
 use Rattle.lowered_steps.specs.Stacks.{IsAmong}
 use Rattle.lowered_steps.specs.Moves.{HasTypes, FrameKeeps, AreArguments}
 use Rattle.lowered_steps.proofs.FrameColumns.{types_length, shown_state}
 use Rattle.lowered_steps.proofs.Places.{olds_length}
-use Rattle.lowered_steps.proofs.ListSteps.{some_met}
+use Rattle.lowered_steps.proofs.ListSteps.{exactly_met}
 use Rattle.lowered_steps.proofs.WritesBack.{state_parts, locals_typed, globals_length}
-use Rattle.lowered_steps.proofs.Parameters.{call_decides}
+use Rattle.lowered_steps.proofs.Parameters.{call_marks}
 use Rattle.lowered_steps.proofs.Picks.{shown_variables, shown_globals, front_read}
 use Rattle.lowered_steps.proofs.Enters.{called_state, width_is}
 
@@ -31,10 +32,10 @@ pub record IsCalled (t : TypedProgram) (f : ℕ) (s : State) (args : List TypedE
   pub typed : HasTypes (locals_at t f) (values s args ++ more)
   pub shown_is : after ≡ shown t (called_state s (values s args) more)
 
-pub called_back : (t : TypedProgram) (n f : ℕ) (s : State) (args : List TypedExpression) (vs : List VarInfo) (c : Conjunction) (after : List ℤ) → FrameKeeps t n s → ConstantsFirst (locals_at t f) →
-    AreArguments (frame_at t n) vs args → length args ≤ length (locals_at t f) → IsAmong (call_list t n f args) c → CallLeads (frame_at t n) (frame_at t f) c.helpers c.rows (shown t s) after →
+pub called_back : (t : TypedProgram) (n f : ℕ) (s : State) (args : List TypedExpression) (vs : List VarInfo) (c : MarkedConjunction) (after : List ℤ) → FrameKeeps t n s → ConstantsFirst (locals_at t f) →
+    AreArguments (frame_at t n) vs args → length args ≤ length (locals_at t f) → IsAmong (call_letters t n f args) c → c.coarse ≡ false → CallLeads (frame_at t n) (frame_at t f) c.plain.helpers c.plain.rows (shown t s) after →
     IsCalled t f s args after
-called_back t n f s args vs c after k first a room i led =
+called_back t n f s args vs c after k first a room i exact led =
     let zs : List ℤ = values s args in
     let ls : List ℤ = led.locals in
     let u : State = record { globals = s.globals; old = s.globals; locals = ls } in
@@ -48,10 +49,10 @@ called_back t n f s args vs c after k first a room i led =
     let typed : HasTypes (locals_at t f) ls = locals_typed 0 (locals_at t f) ls parts.1 in
     let ku : FrameKeeps t f u = record { globals = k.globals; old = k.globals; locals = typed; constants = λ g v e c. refl } in
     let wide : width_at t f ≡ columns_before_locals t + length (locals_at t f) = width_is t f in
-    let decided : Decide (shown t s ++ shown t u) (call_list t n f args) (Read (point_of (shown t s ++ shown t u)) (width_at t n + columns_before_locals t) zs) =
-    call_decides t n f s u vs args k ku a (omega arith) in
-    let met : IsMet (shown t s ++ shown t u) c = subst (λ (ys : List ℤ). IsMet (shown t s ++ ys) c) is led.rows_hold in
-    let read : Read (point_of (shown t s ++ shown t u)) (width_at t n + columns_before_locals t) zs = decided.exactly.0 (some_met (shown t s ++ shown t u) (call_list t n f args) c i met) in
+    let marks : Marks (shown t s ++ shown t u) (call_letters t n f args) (Read (point_of (shown t s ++ shown t u)) (width_at t n + columns_before_locals t) zs) =
+    call_marks t n f s u vs args k ku a (omega arith) in
+    let met : IsMet (shown t s ++ shown t u) c.plain = subst (λ (ys : List ℤ). IsMet (shown t s ++ ys) c.plain) is led.rows_hold in
+    let read : Read (point_of (shown t s ++ shown t u)) (width_at t n + columns_before_locals t) zs = marks.lead (exactly_met (shown t s ++ shown t u) (call_letters t n f args) c i exact met) in
     let front : List ℤ = shown t s ++ (s.globals ++ variable_values t.globals s.globals) in
     let own : length (shown t s) ≡ width_at t n = state_length (frame_at t n) (shown t s) (shown_state t n s k) in
     let b1 : length front ≡ length (shown t s) + length (s.globals ++ variable_values t.globals s.globals) = length-append (shown t s) (s.globals ++ variable_values t.globals s.globals) in

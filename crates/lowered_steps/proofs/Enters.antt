@@ -9,21 +9,21 @@ use Rattle.letter_acts.specs.Frames.{Columns, ConstantsFirst, globals_from, old_
 use Rattle.letter_acts.specs.Meaning.{CallLeads, entry_values}
 use Rattle.letter_acts.proofs.PointLemmas.{state_length}
 use Rattle.cond_jumps.specs.Worth.{Read}
-use Rattle.cond_jumps.specs.Lists.{Decide}
+use Rattle.free_products.specs.FrameLaws.{Marks}
 use Rattle.boogie_points.specs.Actions as actions
 use Rattle.boogie_points.specs.Actions.{Action, action_at}
 use Rattle.boogie_run.specs.Configurations.{Config, state_of}
 use Rattle.boogie_run.specs.Needs.{locals_at}
 use Rattle.boogie_run.specs.Steps.{values, entered}
 use Rattle.lowered_steps.specs.ProgramFrames.{frame_at, width_at, shown, variable_values}
-use Rattle.lowered_steps.specs.Edges.{call_list, columns_before_locals}
+use Rattle.lowered_steps.specs.Edges.{call_letters, columns_before_locals}
 use Rattle.lowered_steps.specs.Stacks.{IsStep, call}
 use Rattle.lowered_steps.specs.Moves.{HasTypes, FrameKeeps, AreArguments, shown_stack, filled}
 use Rattle.lowered_steps.proofs.FrameColumns.{types_length, shown_state}
 use Rattle.lowered_steps.proofs.Places.{olds_length}
-use Rattle.lowered_steps.proofs.ListSteps.{MetMember, member_met}
+use Rattle.lowered_steps.proofs.ListSteps.{MetLetter, letter_met}
 use Rattle.lowered_steps.proofs.WritesBack.{globals_length}
-use Rattle.lowered_steps.proofs.Parameters.{call_decides}
+use Rattle.lowered_steps.proofs.Parameters.{call_marks}
 use Rattle.lowered_steps.proofs.Picks.{shown_variables, shown_globals, read_front}
 
 -- the state of a called procedure, with these further locals
@@ -77,10 +77,10 @@ enter_goes t c f args vs more is k first a h =
     let as_many : length zs ≡ length args = length-map args (value s) in
     let wide : width_at t f ≡ columns_before_locals t + length (locals_at t f) = width_is t f in
     let room : columns_before_locals t + length args ≤ width_at t f = omega arith in
-    let decided : Decide (shown t s ++ shown t u) (call_list t n f args) (Read (point_of (shown t s ++ shown t u)) (width_at t n + columns_before_locals t) zs) = call_decides t n f s u vs args k ku a room in
-    let m : MetMember (shown t s ++ shown t u) (call_list t n f args) = member_met (shown t s ++ shown t u) (call_list t n f args) (decided.exactly.1 (parameters_read t n f s u zs more k gs gs refl)) in
+    let marks : Marks (shown t s ++ shown t u) (call_letters t n f args) (Read (point_of (shown t s ++ shown t u)) (width_at t n + columns_before_locals t) zs) = call_marks t n f s u vs args k ku a room in
+    let m : MetLetter (shown t s ++ shown t u) (call_letters t n f args) = letter_met (shown t s ++ shown t u) (call_letters t n f args) (marks.follow (parameters_read t n f s u zs more k gs gs refl)) in
     let enters : shown t u ≡ entry_values (frame_at t f) (shown t s) (zs ++ more) =
     λ i. sym (shown_globals t f s first gs) i ++ (sym (shown_variables t f s first gs) i ++ (zs ++ more)) in
-    let led : CallLeads (frame_at t n) (frame_at t f) m.member.helpers m.member.rows (shown t s) (shown t u) =
+    let led : CallLeads (frame_at t n) (frame_at t f) m.letter.plain.helpers m.letter.plain.rows (shown t s) (shown t u) =
     record { before = shown_state t n s k; after = shown_state t f u ku; locals = zs ++ more; entered = enters; rows_hold = m.met } in
-    call c.top.point f args m.member refl is m.among led refl refl refl
+    call c.top.point f args m.letter refl is m.among led refl refl refl

@@ -1,5 +1,7 @@
 pub mod FrameColumns
 pub mod Places
+pub mod TruthValues
+pub mod FrameMarks
 pub mod ListSteps
 pub mod InsideSteps
 pub mod Writes

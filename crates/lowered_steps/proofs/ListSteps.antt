@@ -1,10 +1,12 @@
--- The members of a list of conjunctions as letters: where one is met, an inside step by it leads on, and the other way round.
-use Rattle.std.proofs.Common.{◌≡◌, ℕ, ℤ, List, [], ◌∷◌, ◌++◌, length, inl, inr, ◌⊎◌, refl, sym, ap, subst, ◌∙◌, arith}
+-- The letters of a list: where one is met, an inside step by it leads on, and the other way round.
+use Rattle.std.proofs.Common.{◌≡◌, ℕ, false, ℤ, List, [], ◌∷◌, ◌++◌, length, inl, inr, ◌⊎◌, refl, sym, ap, subst, ◌∙◌, arith}
 use Rattle.letter_acts.specs.Frames.{Columns, IsState}
 use Rattle.letter_acts.specs.Values.{RowsHold, put_all}
 use Rattle.letter_acts.specs.Meaning.{InsideLeads}
 use Rattle.cond_jumps.specs.Conjunctions.{Conjunction}
-use Rattle.cond_jumps.specs.Lists.{IsMet, SomeIsMet}
+use Rattle.cond_jumps.specs.Lists.{IsMet}
+use Rattle.free_products.specs.Letters.{MarkedConjunction}
+use Rattle.free_products.specs.LetterLaws.{SomeLetterIsMet, SomeExactLetterIsMet}
 use Rattle.lowered_steps.specs.Edges.{Spot, Edge, leads}
 use Rattle.lowered_steps.specs.Stacks.{IsAmong}
 
@@ -16,39 +18,48 @@ no_members : (zs : List ℤ) → length zs ≡ 0 → zs ≡ []
 no_members [] e = refl
 no_members (z ∷ zs) e = absurd (omega arith)
 
--- a member that is met
-pub record MetMember (values : List ℤ) (cs : List Conjunction) : Type 0 where
-  pub member : Conjunction
-  pub among : IsAmong cs member
-  pub met : IsMet values member
+-- a letter that is met
+pub record MetLetter (values : List ℤ) (ls : List MarkedConjunction) : Type 0 where
+  pub letter : MarkedConjunction
+  pub among : IsAmong ls letter
+  pub met : IsMet values letter.plain
 
-pub member_met : (values : List ℤ) (cs : List Conjunction) → SomeIsMet values cs → MetMember values cs
-member_met values [] h = absurd h
-member_met values (c ∷ cs) (inl h) = record { member = c; among = inl refl; met = h }
-member_met values (c ∷ cs) (inr h) = let m = member_met values cs h in record { member = m.member; among = inr m.among; met = m.met }
+pub letter_met : (values : List ℤ) (ls : List MarkedConjunction) → SomeLetterIsMet values ls → MetLetter values ls
+letter_met values [] h = absurd h
+letter_met values (l ∷ ls) (inl h) = record { letter = l; among = inl refl; met = h }
+letter_met values (l ∷ ls) (inr h) = let m = letter_met values ls h in record { letter = m.letter; among = inr m.among; met = m.met }
 
-pub some_met : (values : List ℤ) (cs : List Conjunction) (c : Conjunction) → IsAmong cs c → IsMet values c → SomeIsMet values cs
-some_met values [] c i h = absurd i
-some_met values (d ∷ ds) c (inl e) h = inl (subst (IsMet values) (sym e) h)
-some_met values (d ∷ ds) c (inr i) h = inr (some_met values ds c i h)
+-- and the other way round, where it is not coarse
+pub exactly_met : (values : List ℤ) (ls : List MarkedConjunction) (l : MarkedConjunction) → IsAmong ls l → l.coarse ≡ false → IsMet values l.plain → SomeExactLetterIsMet values ls
+exactly_met values [] l i c h = absurd i
+exactly_met values (k ∷ ks) l (inl e) c h = inl (subst (λ (x : MarkedConjunction). (x.coarse ≡ false) × IsMet values x.plain) (sym e) (c, h))
+exactly_met values (k ∷ ks) l (inr i) c h = inr (exactly_met values ks l i c h)
 
 -- ---- edges of a list
 
-pub edge_among : (w : List ℕ) (cs : List Conjunction) (to : Spot) (c : Conjunction) → IsAmong cs c → IsAmong (leads w cs to) (record { to = to; written = w; rows = c })
-edge_among w [] to c i = absurd i
-edge_among w (d ∷ ds) to c (inl e) = inl (ap (λ (x : Conjunction). let y : Edge = record { to = to; written = w; rows = x } in y) e)
-edge_among w (d ∷ ds) to c (inr i) = inr (edge_among w ds to c i)
+-- the edge of a letter
+abbrev pub edge_of : List ℕ → Spot → MarkedConjunction → Edge
+edge_of w to l = record { to = to; written = w; rows = l.plain; coarse = l.coarse }
+
+-- the letter of an edge
+abbrev pub letter_of_edge : Edge → MarkedConjunction
+letter_of_edge e = record { plain = e.rows; coarse = e.coarse }
+
+pub edge_among : (w : List ℕ) (ls : List MarkedConjunction) (to : Spot) (l : MarkedConjunction) → IsAmong ls l → IsAmong (leads w ls to) (edge_of w to l)
+edge_among w [] to l i = absurd i
+edge_among w (k ∷ ks) to l (inl e) = inl (ap (edge_of w to) e)
+edge_among w (k ∷ ks) to l (inr i) = inr (edge_among w ks to l i)
 
 -- an edge of the list is that of a member
-pub record IsLed (w : List ℕ) (cs : List Conjunction) (to : Spot) (e : Edge) : Type 0 where
+pub record IsLed (w : List ℕ) (ls : List MarkedConjunction) (to : Spot) (e : Edge) : Type 0 where
   pub to_is : e.to ≡ to
   pub written_is : e.written ≡ w
-  pub member : IsAmong cs e.rows
+  pub member : IsAmong ls (letter_of_edge e)
 
-pub among_led : (w : List ℕ) (cs : List Conjunction) (to : Spot) (e : Edge) → IsAmong (leads w cs to) e → IsLed w cs to e
+pub among_led : (w : List ℕ) (ls : List MarkedConjunction) (to : Spot) (e : Edge) → IsAmong (leads w ls to) e → IsLed w ls to e
 among_led w [] to e i = absurd i
-among_led w (d ∷ ds) to e (inl is) = record { to_is = sym (ap (λ (x : Edge). x.to) is); written_is = sym (ap (λ (x : Edge). x.written) is); member = inl (ap (λ (x : Edge). x.rows) is) }
-among_led w (d ∷ ds) to e (inr i) = let l = among_led w ds to e i in record { to_is = l.to_is; written_is = l.written_is; member = inr l.member }
+among_led w (k ∷ ks) to e (inl is) = record { to_is = sym (ap (λ (x : Edge). x.to) is); written_is = sym (ap (λ (x : Edge). x.written) is); member = inl (ap letter_of_edge is) }
+among_led w (k ∷ ks) to e (inr i) = let l = among_led w ks to e i in record { to_is = l.to_is; written_is = l.written_is; member = inr l.member }
 
 pub among_front : {X : Type 0} (xs ys : List X) (x : X) → IsAmong xs x → IsAmong (xs ++ ys) x
 among_front [] ys x i = absurd i

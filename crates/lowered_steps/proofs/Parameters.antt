@@ -1,6 +1,7 @@
 -- The rows of a call: the parameters have the values of the arguments.
-use Rattle.std.proofs.Common.{◌≡◌, ℕ, suc, ◌+◌, ◌<◌, ◌≤◌, true, false, ℤ, pos, ◌-ℤ◌, List, [], ◌∷◌, ◌++◌, map, length, Option, None, Some, inl, inr, refl, sym, ap, subst, ◌∙◌, arith}
+use Rattle.std.proofs.Common.{◌≡◌, ℕ, suc, ◌+◌, ◌<◌, ◌≤◌, Bool, true, false, ℤ, pos, ◌-ℤ◌, List, [], ◌∷◌, ◌++◌, map, length, Option, None, Some, inl, inr, refl, sym, ap, subst, ◌∙◌, arith}
 use Rattle.std.specs.Option.{option_map}
+use Rattle.std.specs.List.{AllByRecursion}
 use Rattle.std.specs.Prelude.{option_and_then}
 use Rattle.boogie_tree.specs.declared.tree.Ty.{Ty}
 use Rattle.boogie_tree.specs.declared.tree.Ty.TheVariants as types
@@ -13,8 +14,8 @@ use Rattle.typed_tree.specs.AffineForm.{is_linear}
 use Rattle.typed_tree.specs.Laws.{IsTruth}
 use Rattle.lin_rows.specs.Points.{point_of}
 use Rattle.letter_acts.specs.Frames.{Columns}
-use Rattle.letter_acts.proofs.PointLemmas.{point_of-left, state_length}
-use Rattle.cond_jumps.specs.Conjunctions.{listed_plan}
+use Rattle.letter_acts.proofs.PointLemmas.{point_of-left, point_of-right, state_length}
+use Rattle.cond_jumps.specs.Conjunctions.{Conjunction, listed_plan}
 use Rattle.cond_jumps.specs.Forms.{Linears, column, linear_number, linear_minus}
 use Rattle.cond_jumps.specs.Comparisons.{compared, equal}
 use Rattle.cond_jumps.specs.Environments.{Environment, type_in}
@@ -31,10 +32,17 @@ use Rattle.cond_jumps.proofs.ComparisonLemmas.{always_path, equal_path}
 use Rattle.cond_jumps.proofs.FrameLemmas.{placed, frame_shows}
 use Rattle.cond_jumps.proofs.LinearLemmas.{linear_form}
 use Rattle.cond_jumps.proofs.ListLemmas as lists
+use Rattle.free_products.specs.FreeProducts.{free_products, freed, all_free_products, all_freed}
+use Rattle.free_products.specs.FrameLetters.{widened, all_product_count}
+use Rattle.free_products.specs.FrameLaws.{LocalsBelow, IsDividedValue, Marks}
+use Rattle.free_products.proofs.FreedLemmas.{freed_linear, freed_type, AreNumbers, map_length, length_append}
+use Rattle.free_products.proofs.WidenedLemmas.{same_fixed, same_type_in, are_numbers, grown, same_column_value, locals_grown, shown_widened}
+use Rattle.free_products.proofs.MeanLemmas.{marks_of, decide_as, numbers_part, all_values, all_freed_length}
 use Rattle.lowered_steps.specs.ProgramFrames.{frame_at, width_at, shown}
-use Rattle.lowered_steps.specs.Edges.{argument_sum, parameters_get, call_list, columns_before_locals}
+use Rattle.lowered_steps.specs.Edges.{argument_sum, parameters_get, call_plan, call_letters, columns_before_locals, local_count}
 use Rattle.lowered_steps.specs.Moves.{FrameKeeps, IsSimple, AreArguments}
-use Rattle.lowered_steps.proofs.FrameColumns.{shown_state, shown_is_shown}
+use Rattle.lowered_steps.proofs.FrameColumns.{shown_state}
+use Rattle.lowered_steps.proofs.FrameMarks.{frame_locals, local_count_is, whole_state}
 
 -- ---- the sum of an argument
 
@@ -93,6 +101,59 @@ sum_of_argument frame s values (Bin at op a b) ty h t l k = whole_sum frame s va
 
 -- ---- all parameters
 
+-- an argument as the rows of cond_jumps take it: its operators keep their rules
+record IsLinearArgument (frame : Columns) (v : VarInfo) (e : TypedExpression) : Type 0 where
+  typed : type_in (frame_environment frame) false e ≡ Some v.ty
+  linear : is_linear (fixed_in frame) false e ≡ true
+  simple : v.ty ≡ types.Bool → IsSimple e
+
+abbrev AreLinearArguments : Columns → List VarInfo → List TypedExpression → Type 0
+AreLinearArguments frame [] [] = Unit {0}
+AreLinearArguments frame [] (e ∷ es) = ⊥
+AreLinearArguments frame (v ∷ vs) [] = ⊥
+AreLinearArguments frame (v ∷ vs) (e ∷ es) = IsLinearArgument frame v e × AreLinearArguments frame vs es
+
+freed_simple : (g : Column → Bool) (n : ℕ) (old : Bool) (e : TypedExpression) → IsSimple e → IsSimple (freed g n old e)
+freed_simple g n old (Lit at k) h = tt
+freed_simple g n old (Truth at b) h = tt
+freed_simple g n old (Var at c) h = tt
+freed_simple g n old (Old at e) h = absurd h
+freed_simple g n old (Not at (Lit at2 k)) h = absurd h
+freed_simple g n old (Not at (Truth at2 b)) h = absurd h
+freed_simple g n old (Not at (Var at2 c)) h = tt
+freed_simple g n old (Not at (Old at2 e)) h = absurd h
+freed_simple g n old (Not at (Not at2 e)) h = absurd h
+freed_simple g n old (Not at (Neg at2 e)) h = absurd h
+freed_simple g n old (Not at (Bin at2 op a b)) h = absurd h
+freed_simple g n old (Neg at e) h = absurd h
+freed_simple g n old (Bin at op a b) h = absurd h
+
+-- arguments with locals in the places of their products, over a frame that has these locals, too
+freed_arguments : (frame wide : Columns) → fixed_in wide ≡ fixed_in frame → ((c : Column) (t : Ty) → (frame_environment frame).type c ≡ Some t → (frame_environment wide).type c ≡ Some t) →
+    (n : ℕ) (vs : List VarInfo) (es : List TypedExpression) → AreArguments frame vs es → AreNumbers (frame_environment wide) n (length (all_free_products (fixed_in frame) es)) →
+    AreLinearArguments wide vs (all_freed (fixed_in frame) n es)
+freed_arguments frame wide f s n [] [] a k = tt
+freed_arguments frame wide f s n [] (e ∷ es) a k = absurd a
+freed_arguments frame wide f s n (v ∷ vs) [] a k = absurd a
+freed_arguments frame wide f s n (v ∷ vs) (e ∷ es) a k =
+    let g : Column → Bool = fixed_in frame in
+    let u : Environment = frame_environment wide in
+    let own : ℕ = length (free_products g false e) in
+    let l : length (all_free_products g (e ∷ es)) ≡ own + length (all_free_products g es) = length_append (free_products g false e) (all_free_products g es) in (
+      record {
+        typed = freed_type g (frame_environment frame) u s n false e v.ty a.0.typed (λ i q. k i (omega (arith, l, q)));
+        linear = ap (λ (z : Column → Bool). is_linear z false (freed g n false e)) f ∙ freed_linear g n false e a.0.divided;
+        simple = λ b. freed_simple g n false e (a.0.simple b);
+      },
+      freed_arguments frame wide f s (n + own) vs es a.1 (numbers_part u n (n + own) (length (all_free_products g (e ∷ es))) (length (all_free_products g es)) (omega (arith, l)) (omega arith) k),
+    )
+
+pub arguments_divided : (frame : Columns) (vs : List VarInfo) (es : List TypedExpression) → AreArguments frame vs es → AllByRecursion (IsDividedValue (frame_environment frame)) es
+arguments_divided frame [] [] a = tt
+arguments_divided frame [] (e ∷ es) a = absurd a
+arguments_divided frame (v ∷ vs) [] a = absurd a
+arguments_divided frame (v ∷ vs) (e ∷ es) a = (record { type = v.ty; typed = a.0.typed; divided = a.0.divided }, arguments_divided frame vs es a.1)
+
 sum_later : (w m : ℕ) (p q : ℕ → ℤ) (a : Linears) (v : ℤ) → w ≤ m → Agrees w p q → IsSum w p a v → IsSum m q a v
 sum_later w m p q a v l s h = record {
   narrow = λ n k. h.narrow n (omega arith);
@@ -100,7 +161,7 @@ sum_later w m p q a v l s h = record {
 }
 
 parameters_path : (frame : Columns) (s : State) (values : List ℤ) (m : ℕ) (p : ℕ → ℤ) → IsShown frame s values → length frame ≤ m → Agrees (length frame) (point_of values) p →
-    (vs : List VarInfo) (es : List TypedExpression) → AreArguments frame vs es → (j : ℕ) → j + length es ≤ m →
+    (vs : List VarInfo) (es : List TypedExpression) → AreLinearArguments frame vs es → (j : ℕ) → j + length es ≤ m →
     IsPath m p (listed_plan (parameters_get (frame_environment frame) j es)) (Read p j (map (value s) es))
 parameters_path frame s values m p h l g [] [] a j k = always_path m p
 parameters_path frame s values m p h l g [] (e ∷ es) a j k = absurd a
@@ -119,17 +180,65 @@ parameters_path frame s values m p h l g (v ∷ vs) (e ∷ es) a j k =
 longer_agrees : (xs ys : List ℤ) (n : ℕ) → length xs ≡ n → Agrees n (point_of xs) (point_of (xs ++ ys))
 longer_agrees xs ys n e = record { same = λ c l. point_of-left xs ys c (omega arith) }
 
-pub call_decides : (t : TypedProgram) (n f : ℕ) (s u : State) (vs : List VarInfo) (args : List TypedExpression) → FrameKeeps t n s → FrameKeeps t f u → AreArguments (frame_at t n) vs args →
+-- columns of one point that stand elsewhere in another
+read_moved : (p q : ℕ → ℤ) (j k : ℕ) (zs : List ℤ) → ((i : ℕ) → i < length zs → p (j + i) ≡ q (k + i)) → Read p j zs → Read q k zs
+read_moved p q j k [] h r = tt
+read_moved p q j k (z ∷ zs) h r =
+    let a : j + 0 ≡ j = omega arith in
+    let b : k ≡ k + 0 = omega arith in
+    let own : p (j + 0) ≡ q (k + 0) = h 0 (omega arith) in (
+      ap q b ∙ sym own ∙ ap p a ∙ r.0,
+      read_moved p q (suc j) (suc k) zs (λ i l.
+          let c : suc j + i ≡ j + suc i = omega arith in
+          let d : suc k + i ≡ k + suc i = omega arith in
+          ap p c ∙ h (suc i) (omega arith) ∙ ap q (sym d)) r.1,
+    )
+
+-- what stands behind is the same whatever stands in the middle
+behind_is : (xs ps ys : List ℤ) (n m i : ℕ) → n ≡ length xs + i → m ≡ length (xs ++ ps) + i → point_of ((xs ++ ps) ++ ys) m ≡ point_of (xs ++ ys) n
+behind_is xs ps ys n m i e f = point_of-right (xs ++ ps) ys m i f ∙ sym (point_of-right xs ys n i e)
+
+pub call_marks : (t : TypedProgram) (n f : ℕ) (s u : State) (vs : List VarInfo) (args : List TypedExpression) → FrameKeeps t n s → FrameKeeps t f u → AreArguments (frame_at t n) vs args →
     columns_before_locals t + length args ≤ width_at t f →
-    Decide (shown t s ++ shown t u) (call_list t n f args) (Read (point_of (shown t s ++ shown t u)) (width_at t n + columns_before_locals t) (map (value s) args))
-call_decides t n f s u vs args k i a room =
+    Marks (shown t s ++ shown t u) (call_letters t n f args) (Read (point_of (shown t s ++ shown t u)) (width_at t n + columns_before_locals t) (map (value s) args))
+call_marks t n f s u vs args k i a room =
     let frame : Columns = frame_at t n in
-    let values : List ℤ = shown t s ++ shown t u in
-    let m : ℕ = width_at t n + width_at t f in
-    let j : ℕ = width_at t n + columns_before_locals t in
+    let g : Column → Bool = fixed_in frame in
+    let m : ℕ = local_count t n in
+    let c : ℕ = all_product_count frame args in
     let own : length (shown t s) ≡ width_at t n = state_length frame (shown t s) (shown_state t n s k) in
     let other : length (shown t u) ≡ width_at t f = state_length (frame_at t f) (shown t u) (shown_state t f u i) in
-    let count : length values ≡ m = length-append (shown t s) (shown t u) ∙ omega arith in
-    let path : IsPath m (point_of values) (listed_plan (parameters_get (frame_environment frame) j args)) (Read (point_of values) j (map (value s) args)) =
-    parameters_path frame s (shown t s) m (point_of values) (shown_is_shown t n s k) (omega arith) (longer_agrees (shown t s) (shown t u) (width_at t n) own) vs args a j (omega arith) in
-    lists.decided_at m (point_of values) (listed_plan (parameters_get (frame_environment frame) j args)) (Read (point_of values) j (map (value s) args)) values m count path (omega arith) (agrees_refl m (point_of values))
+    let products : List ℤ = map (value s) (all_free_products g args) in
+    let many : length products ≡ c = map_length (value s) (all_free_products g args) in
+    let front : List ℤ = shown t s ++ products in
+    let long : length front ≡ length (shown t s) + length products = length-append (shown t s) products in
+    let whole : List ℤ = front ++ shown t u in
+    let longer : length whole ≡ length front + length (shown t u) = length-append front (shown t u) in
+    let wide : Columns = widened frame m c in
+    let r : State = grown s products in
+    let counted : length s.locals ≡ m = local_count_is t n s k in
+    let shows : IsShown wide r front = subst (λ (d : ℕ). IsShown (widened frame d c) r front) counted (shown_widened frame s (shown t s) products c many (whole_state t n s k)) in
+    let width : length front ≡ length wide = state_length wide front shows.state in
+    let w : ℕ = width_at t n + c + width_at t f in
+    let j : ℕ = width_at t n + c + columns_before_locals t in
+    let below : LocalsBelow (length s.locals) frame = (whole_state t n s k).locals in
+    let numbers : AreNumbers (frame_environment wide) m c = are_numbers frame m c (frame_locals t n) in
+    let fs : List TypedExpression = all_freed g m args in
+    let lengths : length fs ≡ length args = all_freed_length g m args in
+    let linear : AreLinearArguments wide vs fs = freed_arguments frame wide (same_fixed frame m c) (same_type_in frame m c) m vs args a numbers in
+    let values_are : map (value r) fs ≡ map (value s) args =
+    all_values g (frame_environment frame) s r (same_column_value frame s products below) m args (arguments_divided frame vs args a) (locals_grown s.locals products m (sym counted)) in
+    let cs : List Conjunction = listed_plan (call_plan t n args) w in
+    let path : IsPath w (point_of whole) (listed_plan (parameters_get (frame_environment wide) j fs)) (Read (point_of whole) j (map (value r) fs)) =
+    parameters_path wide r front w (point_of whole) shows (omega arith) (longer_agrees front (shown t u) (length wide) width) vs fs linear j (omega arith) in
+    let decided : Decide whole cs (Read (point_of whole) j (map (value r) fs)) =
+    lists.decided_at w (point_of whole) (listed_plan (parameters_get (frame_environment wide) j fs)) (Read (point_of whole) j (map (value r) fs)) whole w (omega arith) path (omega arith)
+    (agrees_refl w (point_of whole)) in
+    let seen : Decide whole cs (Read (point_of whole) j (map (value s) args)) = subst (λ (zs : List ℤ). Decide whole cs (Read (point_of whole) j zs)) values_are decided in
+    let moved : (d : ℕ) → point_of whole (j + d) ≡ point_of (shown t s ++ shown t u) (width_at t n + columns_before_locals t + d) =
+    (λ d. behind_is (shown t s) products (shown t u) (width_at t n + columns_before_locals t + d) (j + d) (columns_before_locals t + d) (omega arith) (omega arith)) in
+    let marked : Decide whole cs (Read (point_of (shown t s ++ shown t u)) (width_at t n + columns_before_locals t) (map (value s) args)) =
+    decide_as whole cs (Read (point_of whole) j (map (value s) args)) (Read (point_of (shown t s ++ shown t u)) (width_at t n + columns_before_locals t) (map (value s) args))
+    (λ h. read_moved (point_of whole) (point_of (shown t s ++ shown t u)) j (width_at t n + columns_before_locals t) (map (value s) args) (λ d l. moved d) h)
+    (λ h. read_moved (point_of (shown t s ++ shown t u)) (point_of whole) (width_at t n + columns_before_locals t) j (map (value s) args) (λ d l. sym (moved d)) h) seen in
+    marks_of (shown t s) products (shown t u) cs (Read (point_of (shown t s ++ shown t u)) (width_at t n + columns_before_locals t) (map (value s) args)) (width_at t n) c (width_at t f) own many other marked

@@ -13,7 +13,7 @@ use Rattle.letter_acts.specs.Frames.{Columns, ConstantsFirst, added, old_columns
 use Rattle.letter_acts.specs.Values.{picked, put_all}
 use Rattle.letter_acts.specs.Meaning.{BackLeads, returned_values}
 use Rattle.cond_jumps.specs.Worth.{Read}
-use Rattle.cond_jumps.specs.Lists.{Decide}
+use Rattle.free_products.specs.FrameLaws.{Marks}
 use Rattle.boogie_points.specs.Points.{Point, settled, past_first}
 use Rattle.boogie_points.specs.Actions as actions
 use Rattle.boogie_points.specs.Actions.{action_at}
@@ -24,7 +24,7 @@ use Rattle.boogie_run.specs.Steps.{values, all_written, moved_to, results_if_any
 use Rattle.boogie_run.specs.Steps as steps
 use Rattle.typing_rules.specs.Rules.{results_of as results_of_procedure}
 use Rattle.lowered_steps.specs.ProgramFrames.{frame_at, width_at, shown, variable_values, column_number}
-use Rattle.lowered_steps.specs.Edges.{call_list, columns_before_locals, numbers_in}
+use Rattle.lowered_steps.specs.Edges.{call_letters, columns_before_locals, numbers_in}
 use Rattle.lowered_steps.specs.Stacks.{Pending, Stack, IsStep, back}
 use Rattle.lowered_steps.specs.Moves.{HasTypes, FrameKeeps, AreTargets, Awaits, shown_stack, shown_below}
 use Rattle.letter_acts.specs.Frames.{IsFrame}
@@ -32,9 +32,9 @@ use Rattle.letter_acts.proofs.FrameLemmas.{IsConsecutive, olds_consecutive, olds
 use Rattle.letter_acts.specs.Frames.{olds_from}
 use Rattle.lowered_steps.proofs.FrameColumns.{types_length, shown_state}
 use Rattle.lowered_steps.proofs.Places.{all_state_written, all_written_shown, olds_length}
-use Rattle.lowered_steps.proofs.ListSteps.{MetMember, member_met}
+use Rattle.lowered_steps.proofs.ListSteps.{MetLetter, letter_met}
 use Rattle.lowered_steps.proofs.Writes.{AreTaken, keeps_all_written, taken_there, is_long, all_written_is, IsWritten}
-use Rattle.lowered_steps.proofs.Parameters.{call_decides}
+use Rattle.lowered_steps.proofs.Parameters.{call_marks}
 use Rattle.lowered_steps.proofs.Picks.{frame_is, constant_values, shown_variables, shown_constants, shown_globals, shown_rest}
 use Rattle.lowered_steps.proofs.Enters.{parameters_read, width_is}
 use Rattle.lowered_steps.proofs.Leaves.{results_picked}
@@ -213,13 +213,13 @@ leave_goes t c b rest opened is k h w first_callee first_caller =
     let split : length c.top.locals ≡ length zs + length w.later = ap length w.passed ∙ length-append zs w.later in
     let as_many : length zs ≡ length w.args = length-map w.args (value s) in
     let room : columns_before_locals t + length w.args ≤ width_at t f = omega arith in
-    let decided : Decide (shown t s ++ shown t u) (call_list t n f w.args) (Read (point_of (shown t s ++ shown t u)) (width_at t n + columns_before_locals t) zs) =
-    call_decides t n f s u (take w.procedure.params w.procedure.locals) w.args h k w.arguments room in
-    let m : MetMember (shown t s ++ shown t u) (call_list t n f w.args) =
-    member_met (shown t s ++ shown t u) (call_list t n f w.args) (decided.exactly.1 (parameters_read t n f s u zs w.later h own theirs w.passed)) in
+    let marks : Marks (shown t s ++ shown t u) (call_letters t n f w.args) (Read (point_of (shown t s ++ shown t u)) (width_at t n + columns_before_locals t) zs) =
+    call_marks t n f s u (take w.procedure.params w.procedure.locals) w.args h k w.arguments room in
+    let m : MetLetter (shown t s ++ shown t u) (call_letters t n f w.args) =
+    letter_met (shown t s ++ shown t u) (call_letters t n f w.args) (marks.follow (parameters_read t n f s u zs w.later h own theirs w.passed)) in
     let after : State = all_state_written (state_of r) cs rs in
     let kept : FrameKeeps t n after = keeps_all_written t n (state_of r) cs rs (resumed_keeps t c b rest k h) (results_taken t c b k w) in
-    let led : BackLeads (frame_at t n) (frame_at t f) m.member.helpers m.member.rows (numbers_in (frame_at t n) cs) (shown t u) (shown t s) (shown t after) = record {
+    let led : BackLeads (frame_at t n) (frame_at t f) m.letter.plain.helpers m.letter.plain.rows (numbers_in (frame_at t n) cs) (shown t u) (shown t s) (shown t after) = record {
       at_exit = shown_state t f u k;
       at_call = shown_state t n s h;
       at_end = shown_state t n after kept;
@@ -234,5 +234,5 @@ leave_goes t c b rest opened is k h w first_callee first_caller =
     let y : Stack = shown_stack t (moved_to d next) in
     let p : Pending = record { proc = n; point = b.point; values = shown t s } in
     let below : x.below ≡ p ∷ y.below = ap (shown_below t c.top.entry) opened ∙ (λ i. p ∷ shown_below t (wr.entry i) (wr.below i)) in
-    back c.top.point p w.args m.member refl is below w.calls m.among (subst (BackLeads (frame_at t n) (frame_at t f) m.member.helpers m.member.rows (numbers_in (frame_at t n) cs) (shown t u) (shown t s)) (ap (shown t) wr.state) led)
+    back c.top.point p w.args m.letter refl is below w.calls m.among (subst (BackLeads (frame_at t n) (frame_at t f) m.letter.plain.helpers m.letter.plain.rows (numbers_in (frame_at t n) cs) (shown t u) (shown t s)) (ap (shown t) wr.state) led)
     (sym wr.proc) refl

@@ -15,11 +15,12 @@ use Rattle.letter_acts.specs.Frames.{Columns, IsState, IsValue}
 use Rattle.letter_acts.specs.Values.{put_all}
 use Rattle.letter_acts.specs.Meaning.{InsideLeads}
 use Rattle.cond_jumps.specs.Environments.{type_in}
-use Rattle.typed_tree.specs.AffineForm.{is_linear}
+use Rattle.typed_tree.specs.Divided.{is_divided}
 use Rattle.cond_jumps.specs.Conjunctions.{Conjunction}
-use Rattle.cond_jumps.specs.Frames.{fixed_in, frame_environment}
-use Rattle.cond_jumps.specs.Lists.{assign_list, Decide, AreValues}
-use Rattle.cond_jumps.proofs.ListLemmas as lists
+use Rattle.cond_jumps.specs.Frames.{frame_environment}
+use Rattle.free_products.specs.Letters.{MarkedConjunction}
+use Rattle.free_products.specs.FrameLetters.{assign_letters}
+use Rattle.free_products.specs.FrameLaws.{IsDividedValue, Marks}
 use Rattle.boogie_points.specs.Points.{Point}
 use Rattle.boogie_points.specs.Actions as actions
 use Rattle.boogie_points.specs.Actions.{Action, action_at}
@@ -27,12 +28,13 @@ use Rattle.boogie_run.specs.Configurations.{Config, state_of}
 use Rattle.boogie_run.specs.Needs.{locals_at}
 use Rattle.boogie_run.specs.Steps.{put, written, all_written, moved_to, values}
 use Rattle.lowered_steps.specs.ProgramFrames.{frame_at, shown, column_number}
-use Rattle.lowered_steps.specs.Edges.{At, Edge, numbers_in}
+use Rattle.lowered_steps.specs.Edges.{At, Edge, numbers_in, local_count}
 use Rattle.lowered_steps.specs.Stacks.{Stack, IsStep}
 use Rattle.lowered_steps.specs.Moves.{HasTypes, FrameKeeps, IsTarget, AreAssigned, shown_stack, shown_below}
-use Rattle.lowered_steps.proofs.FrameColumns.{types_length, shown_state, shown_is_shown}
+use Rattle.lowered_steps.proofs.FrameColumns.{types_length, shown_state}
+use Rattle.lowered_steps.proofs.FrameMarks.{condition_truth, assignment_marks}
 use Rattle.lowered_steps.proofs.Places.{state_written, all_state_written, IsThere, IsLong, all_written_shown}
-use Rattle.lowered_steps.proofs.ListSteps.{MetMember, member_met, edge_among, assignment_leads, no_rows_met}
+use Rattle.lowered_steps.proofs.ListSteps.{MetLetter, letter_met, edge_of, edge_among, assignment_leads, no_rows_met}
 use Rattle.lowered_steps.proofs.InsideSteps.{by_edge}
 
 -- ---- values of their types
@@ -108,22 +110,21 @@ taken_length t n (c ∷ cs) (z ∷ zs) h = ap suc (taken_length t n cs zs h.1)
 pub is_long : (t : TypedProgram) (n : ℕ) (s : State) → FrameKeeps t n s → IsLong t s
 is_long t n s k = record { globals = types_length t.globals s.globals k.globals; old = types_length t.globals s.old k.old }
 
-pub value_of_type : (t : TypedProgram) (n : ℕ) (s : State) (e : TypedExpression) (ty : Ty) → FrameKeeps t n s → type_in (frame_environment (frame_at t n)) false e ≡ Some ty → is_linear (fixed_in (frame_at t n)) false e ≡ true → IsValue ty (value s e)
-value_of_type t n s e types.Int k typed linear = tt
-value_of_type t n s e types.Bool k typed linear =
-    lists.conditions_are_truths (frame_at t n) s (shown t s) e (shown_is_shown t n s k) (record { typed = typed; linear = linear })
+pub value_of_type : (t : TypedProgram) (n : ℕ) (s : State) (e : TypedExpression) (ty : Ty) → FrameKeeps t n s → type_in (frame_environment (frame_at t n)) false e ≡ Some ty → is_divided e ≡ true → IsValue ty (value s e)
+value_of_type t n s e types.Int k typed divided = tt
+value_of_type t n s e types.Bool k typed divided = condition_truth t n s e k (record { typed = typed; divided = divided })
 
 pub assigned_taken : (t : TypedProgram) (n : ℕ) (s : State) (cs : List Column) (es : List TypedExpression) → FrameKeeps t n s → AreAssigned t n cs es → AreTaken t n cs (values s es)
 assigned_taken t n s [] [] k h = tt
 assigned_taken t n s [] (e ∷ es) k h = absurd h
 assigned_taken t n s (c ∷ cs) [] k h = absurd h
-assigned_taken t n s (c ∷ cs) (e ∷ es) k h = ((h.0.type, h.0.target, value_of_type t n s e h.0.type k h.0.typed h.0.linear), assigned_taken t n s cs es k h.1)
+assigned_taken t n s (c ∷ cs) (e ∷ es) k h = ((h.0.type, h.0.target, value_of_type t n s e h.0.type k h.0.typed h.0.divided), assigned_taken t n s cs es k h.1)
 
-pub assigned_sound : (t : TypedProgram) (n : ℕ) (cs : List Column) (es : List TypedExpression) → AreAssigned t n cs es → AreValues (frame_at t n) es
+pub assigned_sound : (t : TypedProgram) (n : ℕ) (cs : List Column) (es : List TypedExpression) → AreAssigned t n cs es → AllByRecursion (IsDividedValue (frame_environment (frame_at t n))) es
 assigned_sound t n [] [] h = tt
 assigned_sound t n [] (e ∷ es) h = absurd h
 assigned_sound t n (c ∷ cs) [] h = absurd h
-assigned_sound t n (c ∷ cs) (e ∷ es) h = (record { type = h.0.type; typed = h.0.typed; linear = h.0.linear }, assigned_sound t n cs es h.1)
+assigned_sound t n (c ∷ cs) (e ∷ es) h = (record { type = h.0.type; typed = h.0.typed; divided = h.0.divided }, assigned_sound t n cs es h.1)
 
 -- ---- configurations
 
@@ -156,19 +157,18 @@ write_goes t c cs es next is k h =
     let s : State = state_of c in
     let zs : List ℤ = values s es in
     let w : List ℕ = numbers_in frame cs in
-    let list : List Conjunction = assign_list frame (length es) es in
+    let list : List MarkedConjunction = assign_letters frame (local_count t n) (length es) es in
     let taken : AreTaken t n cs zs = assigned_taken t n s cs es k h in
-    let decided : Decide (shown t s ++ zs) list (zs ≡ map (value s) es) =
-    lists.assigns_decide frame s (shown t s) zs es (shown_is_shown t n s k) (assigned_sound t n cs es h) (length-map es (value s)) in
-    let m : MetMember (shown t s ++ zs) list = member_met (shown t s ++ zs) list (decided.exactly.1 refl) in
+    let marks : Marks (shown t s ++ zs) list (zs ≡ map (value s) es) = assignment_marks t n s zs es k (assigned_sound t n cs es h) (length-map es (value s)) in
+    let m : MetLetter (shown t s ++ zs) list = letter_met (shown t s ++ zs) list (marks.follow refl) in
     let after : put_all (shown t s) w zs ≡ shown t (all_state_written s cs zs) = all_written_shown t n s cs zs (is_long t n s k) (taken_there t n cs zs taken) in
     let state_after : IsState frame (shown t (all_state_written s cs zs)) = shown_state t n (all_state_written s cs zs) (keeps_all_written t n s cs zs k taken) in
     let count : length zs ≡ length w = taken_length t n cs zs taken ∙ sym (length-map cs (column_number frame)) in
-    let led = assignment_leads frame w (shown t s) zs m.member (shown_state t n s k) (subst (IsState frame) (sym after) state_after) count m.met in
-    let e : Edge = record { to = At next; written = w; rows = m.member } in
+    let led = assignment_leads frame w (shown t s) zs m.letter.plain (shown_state t n s k) (subst (IsState frame) (sym after) state_after) count m.met in
+    let e : Edge = edge_of w (At next) m.letter in
     subst (IsStep t (shown_stack t c)) (stack_of_written t c (all_written c cs zs) (all_state_written s cs zs) next (all_written_is c cs zs))
-    (by_edge t c (actions.Write cs es next) e (shown t (all_state_written s cs zs)) is (edge_among w list (At next) m.member m.among)
-    (subst (λ (ys : List ℤ). InsideLeads frame w m.member.helpers m.member.rows (shown t s) ys) after led))
+    (by_edge t c (actions.Write cs es next) e (shown t (all_state_written s cs zs)) is (edge_among w list (At next) m.letter m.among)
+    (subst (λ (ys : List ℤ). InsideLeads frame w m.letter.plain.helpers m.letter.plain.rows (shown t s) ys) after led))
 
 -- ---- a havoc
 
@@ -185,6 +185,6 @@ guess_goes t c x ty z next is k h v =
     let after : put_all (shown t s) w (z ∷ []) ≡ shown t (state_written s x z) = all_written_shown t n s (x ∷ []) (z ∷ []) (is_long t n s k) (taken_there t n (x ∷ []) (z ∷ []) taken) in
     let state_after : IsState frame (shown t (state_written s x z)) = shown_state t n (state_written s x z) (keeps_written t n s ty x z k h v) in
     let led = assignment_leads frame w (shown t s) (z ∷ []) none (shown_state t n s k) (subst (IsState frame) (sym after) state_after) refl (no_rows_met (shown t s ++ z ∷ [])) in
-    let e : Edge = record { to = At next; written = w; rows = none } in
+    let e : Edge = record { to = At next; written = w; rows = none; coarse = false } in
     subst (IsStep t (shown_stack t c)) (stack_of_written t c (written c x z) (state_written s x z) next (all_written_is c (x ∷ []) (z ∷ [])))
     (by_edge t c (actions.Guess x next) e (shown t (state_written s x z)) is (inl refl) (subst (λ (ys : List ℤ). InsideLeads frame w 0 [] (shown t s) ys) after led))

@@ -1,5 +1,5 @@
 -- The other way round, for jumps, choices of ways, assignments and havocs.
-use Rattle.std.proofs.Common.{◌≡◌, ℕ, zero, suc, ◌<◌, true, ℤ, pos, List, [], ◌∷◌, ◌++◌, length, Option, None, Some, inl, inr, refl, sym, ap, subst, ◌∙◌, arith}
+use Rattle.std.proofs.Common.{◌≡◌, ℕ, zero, suc, ◌<◌, true, false, ℤ, pos, List, [], ◌∷◌, ◌++◌, length, Option, None, Some, inl, inr, refl, sym, ap, subst, ◌∙◌, arith}
 use Rattle.std.specs.Prelude.{slice_get, nat_lt}
 use Rattle.std.proofs.lemmas.List.{length-map}
 use Rattle.std.proofs.lemmas.Option.{slice_get_within}
@@ -14,9 +14,9 @@ use Rattle.typed_tree.specs.Values.{State, value}
 use Rattle.letter_acts.specs.Frames.{Columns, IsState, IsValue, globals_from, old_columns, locals_from}
 use Rattle.letter_acts.specs.Values.{put_all}
 use Rattle.letter_acts.specs.Meaning.{InsideLeads}
-use Rattle.cond_jumps.specs.Conjunctions.{Conjunction}
-use Rattle.cond_jumps.specs.Lists.{assign_list, Decide}
-use Rattle.cond_jumps.proofs.ListLemmas as lists
+use Rattle.free_products.specs.Letters.{MarkedConjunction}
+use Rattle.free_products.specs.FrameLetters.{assign_letters}
+use Rattle.free_products.specs.FrameLaws.{Marks}
 use Rattle.boogie_points.specs.Points.{Point}
 use Rattle.boogie_points.specs.Actions as actions
 use Rattle.boogie_points.specs.Actions.{Action}
@@ -24,12 +24,13 @@ use Rattle.boogie_run.specs.Configurations.{Config, state_of}
 use Rattle.boogie_run.specs.Needs.{Truth, need_of_type, need_of, need_of_column, is_taken, locals_at}
 use Rattle.boogie_run.specs.Steps.{put, moved_to, written, all_written, values, went_if}
 use Rattle.lowered_steps.specs.ProgramFrames.{frame_at, shown, variable_values, column_number}
-use Rattle.lowered_steps.specs.Edges.{Spot, At, Edge, inside_edges, skips, numbers_in, no_rows}
+use Rattle.lowered_steps.specs.Edges.{Spot, At, Edge, inside_edges, skips, numbers_in, no_rows, local_count}
 use Rattle.lowered_steps.specs.Stacks.{Stack, IsAmong}
 use Rattle.lowered_steps.specs.Moves.{HasTypes, FrameKeeps, IsTarget, AreAssigned, shown_stack, shown_below}
-use Rattle.lowered_steps.proofs.FrameColumns.{shown_is_shown, types_length}
+use Rattle.lowered_steps.proofs.FrameColumns.{types_length}
+use Rattle.lowered_steps.proofs.FrameMarks.{assignment_marks}
 use Rattle.lowered_steps.proofs.Places.{state_written, all_state_written, all_written_shown, put_length, olds_length, IsThere}
-use Rattle.lowered_steps.proofs.ListSteps.{some_met, among_led, condition_led, IsLed}
+use Rattle.lowered_steps.proofs.ListSteps.{exactly_met, letter_of_edge, among_led, condition_led, IsLed}
 use Rattle.lowered_steps.proofs.Writes.{AreTaken, assigned_taken, taken_there, taken_length, is_long, all_written_is, stack_of_written, assigned_sound, IsWritten, target_there}
 use Rattle.lowered_steps.proofs.InsideBack.{GoesTo, stays}
 
@@ -103,22 +104,21 @@ one_way t c d s to after next e f h =
     (λ i. record { proc = c.top.proc; spot = e i; values = f i; below = shown_below t c.top.entry c.below }) ∙ stack_of_written t c d s next h
 
 pub write_back : (t : TypedProgram) (c : Config) (cs : List Column) (es : List TypedExpression) (next : Point) (x : Edge) (after : List ℤ) → FrameKeeps t c.top.proc (state_of c) →
-    AreAssigned t c.top.proc cs es → IsAmong (inside_edges t c.top.proc c.top.point (actions.Write cs es next)) x →
+    AreAssigned t c.top.proc cs es → IsAmong (inside_edges t c.top.proc c.top.point (actions.Write cs es next)) x → x.coarse ≡ false →
     InsideLeads (frame_at t c.top.proc) x.written x.rows.helpers x.rows.rows (shown t (state_of c)) after → GoesTo t c (actions.Write cs es next) x.to after
-write_back t c cs es next x after k typed i h =
+write_back t c cs es next x after k typed i exact h =
     let n : ℕ = c.top.proc in
     let frame : Columns = frame_at t n in
     let s : State = state_of c in
     let zs : List ℤ = values s es in
     let w : List ℕ = numbers_in frame cs in
-    let list : List Conjunction = assign_list frame (length es) es in
+    let list : List MarkedConjunction = assign_letters frame (local_count t n) (length es) es in
     let l : IsLed w list (At next) x = among_led w list (At next) x i in
     let led : InsideLeads frame w x.rows.helpers x.rows.rows (shown t s) after = subst (λ (y : List ℕ). InsideLeads frame y x.rows.helpers x.rows.rows (shown t s) after) l.written_is h in
     let taken : AreTaken t n cs zs = assigned_taken t n s cs es k typed in
     let as_many : length led.news ≡ length es = led.as_many ∙ length-map cs (column_number frame) ∙ sym (taken_length t n cs zs taken) ∙ length-map es (value s) in
-    let decided : Decide (shown t s ++ led.news) list (led.news ≡ zs) =
-    lists.assigns_decide frame s (shown t s) led.news es (shown_is_shown t n s k) (assigned_sound t n cs es typed) as_many in
-    let news : led.news ≡ zs = decided.exactly.0 (some_met (shown t s ++ led.news) list x.rows l.member led.rows_hold) in
+    let marks : Marks (shown t s ++ led.news) list (led.news ≡ zs) = assignment_marks t n s led.news es k (assigned_sound t n cs es typed) as_many in
+    let news : led.news ≡ zs = marks.lead (exactly_met (shown t s ++ led.news) list (letter_of_edge x) l.member exact led.rows_hold) in
     let put : after ≡ shown t (all_state_written s cs zs) =
     led.put ∙ ap (λ (ys : List ℤ). put_all (shown t s) w ys) news ∙ all_written_shown t n s cs zs (is_long t n s k) (taken_there t n cs zs taken) in
     record {

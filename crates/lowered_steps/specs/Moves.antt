@@ -9,13 +9,13 @@ use Rattle.boogie_tree.specs.declared.tree.Column.TheVariants as columns
 use Rattle.boogie_tree.specs.declared.tree.VarInfo.{VarInfo}
 use Rattle.typed_tree.specs.TypedTree.{TypedExpression, Lit, Truth, Var, Old, Not, Neg, Bin, TypedProcedure, TypedProgram}
 use Rattle.typed_tree.specs.Values.{State, member}
-use Rattle.typed_tree.specs.AffineForm.{is_linear}
+use Rattle.typed_tree.specs.Divided.{is_divided}
 use Rattle.letter_acts.specs.Frames.{Columns, IsValue, ConstantsFirst}
 use Rattle.boogie_places.specs.Places.{onward}
 use Rattle.cond_jumps.specs.Environments.{type_in}
-use Rattle.cond_jumps.specs.Frames.{fixed_in, frame_environment}
+use Rattle.cond_jumps.specs.Frames.{frame_environment}
 use Rattle.cond_jumps.specs.Passing.{passed, standing_environment}
-use Rattle.cond_jumps.specs.Lists.{IsCondition}
+use Rattle.free_products.specs.FrameLaws.{IsDividedCondition, IsDividedValue}
 use Rattle.boogie_points.specs.Points.{Point}
 use Rattle.boogie_points.specs.Actions as actions
 use Rattle.boogie_points.specs.Actions.{Action, action_at}
@@ -57,12 +57,12 @@ IsTarget t n ty (columns.Global g) = IsVariable ty (slice_get t.globals g)
 IsTarget t n ty (columns.Old g) = ⊥
 IsTarget t n ty (columns.Local l) = IsVariable ty (slice_get (locals_at t n) l)
 
--- the value is of a type, its operators keep their rules, and its column is of that type
+-- the value is of a type, its divisors are literals other than 0, and its column is of that type
 pub record IsAssigned (t : TypedProgram) (n : ℕ) (c : Column) (e : TypedExpression) : Type 0 where
   pub type : Ty
   pub target : IsTarget t n type c
   pub typed : type_in (frame_environment (frame_at t n)) false e ≡ Some type
-  pub linear : is_linear (fixed_in (frame_at t n)) false e ≡ true
+  pub divided : is_divided e ≡ true
 
 abbrev pub AreAssigned : TypedProgram → ℕ → List Column → List TypedExpression → Type 0
 AreAssigned t n [] [] = Unit {0}
@@ -70,11 +70,10 @@ AreAssigned t n [] (e ∷ es) = ⊥
 AreAssigned t n (c ∷ cs) [] = ⊥
 AreAssigned t n (c ∷ cs) (e ∷ es) = IsAssigned t n c e × AreAssigned t n cs es
 
--- a condition of a called procedure over the arguments
+-- a condition of a called procedure over the arguments, which are typed, too
 pub record IsPassed (frame : Columns) (args : List TypedExpression) (e : TypedExpression) : Type 0 where
-  pub typed : type_in (standing_environment (frame_environment frame) (passed args)) false e ≡ Some types.Bool
-  pub linear : is_linear (fixed_in frame) false e ≡ true
-  pub arguments : AllByRecursion (λ a. is_linear (fixed_in frame) false a ≡ true) args
+  pub condition : IsDividedCondition (standing_environment (frame_environment frame) (passed args)) e
+  pub arguments : AllByRecursion (IsDividedValue (frame_environment frame)) args
 
 -- a literal, a name, or `!` before a name
 abbrev pub IsSimple : TypedExpression → Type 0
@@ -92,10 +91,10 @@ IsSimple (Not at (Bin at2 op a b)) = ⊥
 IsSimple (Neg at e) = ⊥
 IsSimple (Bin at op a b) = ⊥
 
--- an argument of a parameter: of its type, its operators keep their rules, and a boolean one is simple
+-- an argument of a parameter: of its type, its divisors are literals other than 0, and a boolean one is simple
 pub record IsArgument (frame : Columns) (v : VarInfo) (e : TypedExpression) : Type 0 where
   pub typed : type_in (frame_environment frame) false e ≡ Some v.ty
-  pub linear : is_linear (fixed_in frame) false e ≡ true
+  pub divided : is_divided e ≡ true
   pub simple : v.ty ≡ types.Bool → IsSimple e
 
 abbrev pub AreArguments : Columns → List VarInfo → List TypedExpression → Type 0
@@ -106,12 +105,12 @@ AreArguments frame (v ∷ vs) (e ∷ es) = IsArgument frame v e × AreArguments 
 
 -- What an action of procedure n reads and writes is typed. Of calls nothing is said here.
 abbrev pub IsTypedAction : TypedProgram → ℕ → Action → Type 0
-IsTypedAction t n (actions.Check id at e next) = IsCondition (frame_at t n) e
-IsTypedAction t n (actions.Suppose e next) = IsCondition (frame_at t n) e
+IsTypedAction t n (actions.Check id at e next) = IsDividedCondition (frame_environment (frame_at t n)) e
+IsTypedAction t n (actions.Suppose e next) = IsDividedCondition (frame_environment (frame_at t n)) e
 IsTypedAction t n (actions.Demand id at e args next) = IsPassed (frame_at t n) args e
 IsTypedAction t n (actions.Write cs es next) = AreAssigned t n cs es
 IsTypedAction t n (actions.Guess c next) = (ty : Ty) × IsTarget t n ty c
-IsTypedAction t n (actions.Test e hit miss) = IsCondition (frame_at t n) e
+IsTypedAction t n (actions.Test e hit miss) = IsDividedCondition (frame_environment (frame_at t n)) e
 IsTypedAction t n (actions.Pick ways) = Unit {0}
 IsTypedAction t n (actions.Jump next) = Unit {0}
 IsTypedAction t n (actions.Enter f args) = Unit {0}
