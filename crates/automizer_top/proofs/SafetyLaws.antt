@@ -17,7 +17,7 @@ finals_are t g e = subst (λ (h : Graph). h.automaton.finals ≡ site_places h.s
 
 pub faithful_is_safe : (t : TypedProgram) (g : Graph) → g ≡ lowered t → IsFaithful t g → HasNoErrorWord g → IsSafe t
 faithful_is_safe t g value faithful none i fails =
-    let e : ErrorWord g i = (faithful i).0 fails in
+    let e : ErrorWord g i = faithful.follows i fails in
     let last : Member g.automaton.finals e.site.place =
     subst (λ (xs : List ℕ). Member xs e.site.place) (sym (finals_are t g value)) (member_map (λ (s : Site). s.place) g.sites e.site e.is_site) in
     none e.word (goes_accepted g.automaton e.word [] e.open_calls g.automaton.start e.site.place e.goes last) e.feasible

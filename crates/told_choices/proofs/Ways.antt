@@ -6,13 +6,13 @@ use Rattle.typing_rules.specs.ValidProgram.{is_valid}
 use Rattle.nwa_base.specs.declared.letters.Letter.{Letter}
 use Rattle.nwa_base.specs.Edges.{leaving}
 use Rattle.letter_table.specs.Letters.{Arc, inside_arc, call_arc, Lettered, with_arc, with_arcs, no_letters, numbered_letter}
-use Rattle.cond_jumps.specs.Conjunctions.{Conjunction}
+use Rattle.free_products.specs.Letters.{MarkedConjunction}
 use Rattle.boogie_points.specs.Points.{Point}
 use Rattle.boogie_points.specs.Actions as actions
 use Rattle.boogie_points.specs.Actions.{Action, action_at}
 use Rattle.boogie_points.specs.Starts.{start_point_of}
 use Rattle.boogie_places.specs.Places.{Place, count_from, number_of, program_places}
-use Rattle.lowered_steps.specs.Edges.{Edge, inside_edges, call_list, skips}
+use Rattle.lowered_steps.specs.Edges.{Edge, inside_edges, call_letters, skips}
 use Rattle.lowered_runs.specs.Choices.{way_to}
 use Rattle.lowered_graph.specs.Arcs.{place_number, spot_number, inside_arcs, call_arcs, action_arcs, arcs_at, arcs_of, program_arcs}
 use Rattle.lowered_graph.specs.Lowered.{lowered}
@@ -79,12 +79,12 @@ inside_not_here q t n here [] h = refl
 inside_not_here q t n here (e ∷ edges) h =
     ap (λ (b : Bool). if b then spot_number t n e.to ∷ ends_from q (inside_arcs t n here edges) else ends_from q (inside_arcs t n here edges)) h ∙ inside_not_here q t n here edges h
 
-no_calls : (q : ℕ) (t : TypedProgram) (n : ℕ) (here : Point) (f : ℕ) (cs : List Conjunction) → ends_from q (call_arcs t n here f cs) ≡ []
+no_calls : (q : ℕ) (t : TypedProgram) (n : ℕ) (here : Point) (f : ℕ) (cs : List MarkedConjunction) → ends_from q (call_arcs t n here f cs) ≡ []
 no_calls q t n here f [] = refl
 no_calls q t n here f (c ∷ cs) = no_calls q t n here f cs
 
 action_not_here : (q : ℕ) (t : TypedProgram) (n : ℕ) (p : Point) (a : Action) → nat_eq (place_number t n p) q ≡ false → ends_from q (action_arcs t n p a) ≡ []
-action_not_here q t n p (actions.Enter f args) h = no_calls q t n p f (call_list t n f args)
+action_not_here q t n p (actions.Enter f args) h = no_calls q t n p f (call_letters t n f args)
 action_not_here q t n p (actions.Check id at e next) h = inside_not_here q t n p (inside_edges t n p (actions.Check id at e next)) h
 action_not_here q t n p (actions.Suppose e next) h = inside_not_here q t n p (inside_edges t n p (actions.Suppose e next)) h
 action_not_here q t n p (actions.Demand id at e args next) h = inside_not_here q t n p (inside_edges t n p (actions.Demand id at e args next)) h

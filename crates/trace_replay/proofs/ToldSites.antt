@@ -12,6 +12,7 @@ use Rattle.nwa_base.specs.Runs.{EndsFinal, IsAcceptingRun}
 use Rattle.letter_acts.specs.declared.sites.Site.{Site}
 use Rattle.letter_acts.specs.Invariant.{Graph, IsGraph, site_places}
 use Rattle.lowered_graph.specs.Lowered.{lowered}
+use Rattle.lowered_graph.specs.Laws.{WordsAreExact}
 use Rattle.lowered_choices.specs.Choices.{FailsAtLast}
 use Rattle.lowered_choices.specs.Laws.{TracesFail}
 use Rattle.path_rows.specs.Paths.{path_of}
@@ -45,10 +46,10 @@ ends_at_site g w states ok run =
     let s = site_at g.sites last.0 (ok.sites.finals.back last.0 last.1) in
     record { site = s.0; is_site = s.1; ends = subst (λ (e : ℕ). EndsIn e states) (sym s.2) last.2 }
 
-pub told_fails : TracesFail → SolutionsAreTraces → (t : TypedProgram) (w : List Letter) (point : ℕ → ℤ) (states : List ℕ) → IsTrue (is_valid t) → IsGraph (lowered t) → IsAutomaton (lowered t).automaton →
+pub told_fails : WordsAreExact → TracesFail → SolutionsAreTraces → (t : TypedProgram) (w : List Letter) (point : ℕ → ℤ) (states : List ℕ) → IsTrue (is_valid t) → IsGraph (lowered t) → IsAutomaton (lowered t).automaton →
     IsAcceptingRun (lowered t).automaton w states → AllByRecursion (Holds point) (path_of (lowered t) w).rows → (e : EndsAtSite (lowered t) states) → FailsAtLast t (told_run t point w states) e.site.id.number
-told_fails fails traces t w point states v ok automaton run rows e =
-    fails t e.site.id.number w (first_position point (lowered t)) (next_positions point (lowered t) w states) v
+told_fails exact fails traces t w point states v ok automaton run rows e =
+    fails t e.site.id.number w (first_position point (lowered t)) (next_positions point (lowered t) w states) v (exact t w v)
     (traces (lowered t) w point states e.site ok automaton run rows e.is_site e.ends)
 
 -- the fault of a run that an accepting run tells

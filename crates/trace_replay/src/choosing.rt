@@ -22,6 +22,7 @@ use crate::replaying::replay;
 use boogie_run::Choice;
 use letter_acts::Icfg;
 use lowered_choices::laws::choices_of_traces;
+use lowered_graph::laws::letters_are_exact;
 use nwa_base::{Word, run_of};
 use path_traces::laws::solutions_are_traces;
 use std::alloc::{AllocError, Global};
@@ -92,6 +93,7 @@ pub fn choices_of(
     ensures number { IfErr result (IsToldFault (typed_program program.now) (point_of point.now) word.now) }
 {
     choices_of_traces();
+    letters_are_exact();
     solutions_are_traces();
     let _globals = program.globals();
     let _states = icfg.nwa().states();

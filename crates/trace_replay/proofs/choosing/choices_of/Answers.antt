@@ -32,7 +32,7 @@ trail_of-requires-clause-fails c =
     let rows : AllByRecursion (Holds point) (path_of (lowered t) w).rows = subst (λ (g : Graph). AllByRecursion (Holds point) (path_of g w).rows) is c.requires.solves in
     let site : EndsAtSite (lowered t) states = ends_at_site (lowered t) w states graph accepting in
     let fails : FailsAtLast t (told_run t point w states) site.site.id.number =
-    told_fails c.choices_of_traces.ensures.fail c.solutions_are_traces.ensures t w point states c.globals-globals.ensures.valid graph automaton accepting rows site in
+    told_fails c.letters_are_exact.ensures.words c.choices_of_traces.ensures.fail c.solutions_are_traces.ensures t w point states c.globals-globals.ensures.valid graph automaton accepting rows site in
     let taken : c.deref-2.result.now ≡ told_run t point w states =
     c.deref-2.ensures.value ∙ c.in_ok-taken.ensures.value ∙ (λ k. trace_choices t (next_positions point (is k) w (c.deref.ensures.value k))) in
     (site.site.id.number, subst (λ (l : List (Option ℤ)). FailsAtLast t l site.site.id.number) (sym taken) fails)
@@ -51,7 +51,7 @@ returns-clause-told c =
     let rows : AllByRecursion (Holds point) (path_of (lowered t) w).rows = subst (λ (g : Graph). AllByRecursion (Holds point) (path_of g w).rows) is c.requires.solves in
     let site : EndsAtSite (lowered t) states = ends_at_site (lowered t) w states graph accepting in
     let fails : FailsAtLast t (told_run t point w states) site.site.id.number =
-    told_fails c.choices_of_traces.ensures.fail c.solutions_are_traces.ensures t w point states c.globals-globals.ensures.valid graph automaton accepting rows site in
+    told_fails c.letters_are_exact.ensures.words c.choices_of_traces.ensures.fail c.solutions_are_traces.ensures t w point states c.globals-globals.ensures.valid graph automaton accepting rows site in
     let taken : c.deref-2.result.now ≡ told_run t point w states =
     c.deref-2.ensures.value ∙ c.in_ok-taken.ensures.value ∙ (λ k. trace_choices t (next_positions point (is k) w (c.deref.ensures.value k))) in
     let failing : FailsAtLast t c.deref-2.result.now site.site.id.number = subst (λ (l : List (Option ℤ)). FailsAtLast t l site.site.id.number) (sym taken) fails in
