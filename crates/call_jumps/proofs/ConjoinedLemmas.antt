@@ -13,9 +13,10 @@ use Rattle.cond_jumps.specs.Environments.{Environment}
 use Rattle.cond_jumps.specs.Moving.{moved, IsEven, IsEvenPlan, IsEvenEnvironment}
 use Rattle.cond_jumps.specs.Paths.{paths}
 use Rattle.cond_jumps.proofs.EvenLemmas.{listed_even, paths_even}
-use Rattle.call_jumps.specs.Conjoined.{conjoined, HasMembers}
+use Rattle.lowered_steps.specs.Edges.{all_hold}
+use Rattle.call_jumps.specs.Conjoined.{HasMembers}
 
-pub conjoined_even : (w : ℕ) (v : Environment) → IsEvenEnvironment w v → (es : List TypedExpression) → IsEvenPlan w (conjoined v es)
+pub conjoined_even : (w : ℕ) (v : Environment) → IsEvenEnvironment w v → (es : List TypedExpression) → IsEvenPlan w (all_hold v es)
 conjoined_even w v h [] = λ n k l. refl
 conjoined_even w v h (e ∷ es) = (paths_even w v h false e true, conjoined_even w v h es)
 
@@ -37,33 +38,33 @@ each_length n (c ∷ cs) b h =
 
 -- one more condition in front
 members_are : (n : ℕ) (v : Environment) → IsEvenEnvironment n v → (e : TypedExpression) (es : List TypedExpression) (one all : ℕ) → one ≡ length (listed_plan (paths v false e true) n) →
-    all ≡ length (listed_plan (conjoined v es) n) → length (listed_plan (conjoined v (e ∷ es)) n) ≡ one * all
+    all ≡ length (listed_plan (all_hold v es) n) → length (listed_plan (all_hold v (e ∷ es)) n) ≡ one * all
 members_are n v h e es one all i j =
-    each_length n (listed_plan (paths v false e true) n) (listed_plan (conjoined v es)) (listed_even n (conjoined v es) (conjoined_even n v h es)) ∙ (λ k. sym i k * sym j k)
+    each_length n (listed_plan (paths v false e true) n) (listed_plan (all_hold v es)) (listed_even n (all_hold v es) (conjoined_even n v h es)) ∙ (λ k. sym i k * sym j k)
 
 pub more_members : (n : ℕ) (v : Environment) → IsEvenEnvironment n v → (e : TypedExpression) (es : List TypedExpression) (one all both : ℕ) →
-    is_wide (paths v false e true) n ≡ false → one ≡ length (listed_plan (paths v false e true) n) → HasMembers (conjoined v es) n all → (both ≡ one * all) × (both ≤ 4096) →
-    HasMembers (conjoined v (e ∷ es)) n both
+    is_wide (paths v false e true) n ≡ false → one ≡ length (listed_plan (paths v false e true) n) → HasMembers (all_hold v es) n all → (both ≡ one * all) × (both ≤ 4096) →
+    HasMembers (all_hold v (e ∷ es)) n both
 more_members n v h e es one all both w i k b =
     let m = members_are n v h e es one all i k.count in
-    let l : length (listed_plan (conjoined v (e ∷ es)) n) ≤ 4096 = omega (arith, m, b) in
+    let l : length (listed_plan (all_hold v (e ∷ es)) n) ≤ 4096 = omega (arith, m, b) in
     record {
-      narrow = λ j. not_long (listed_plan (conjoined v (e ∷ es)) n) l j || (w j || k.narrow j);
+      narrow = λ j. not_long (listed_plan (all_hold v (e ∷ es)) n) l j || (w j || k.narrow j);
       count = b.0 ∙ sym m;
     }
   where
     not_long : (cs : List Conjunction) → length cs ≤ 4096 → is_long cs ≡ false
     not_long cs l = grind (arith, nat_tests)
 
-pub no_members : (n : ℕ) (v : Environment) → HasMembers (conjoined v []) n 1
+pub no_members : (n : ℕ) (v : Environment) → HasMembers (all_hold v []) n 1
 no_members n v = record { narrow = refl; count = refl }
 
 pub too_many : (n : ℕ) (v : Environment) → IsEvenEnvironment n v → (e : TypedExpression) (es : List TypedExpression) (one all : ℕ) →
-    one ≡ length (listed_plan (paths v false e true) n) → HasMembers (conjoined v es) n all → 4096 < one * all → is_wide (conjoined v (e ∷ es)) n ≡ true
+    one ≡ length (listed_plan (paths v false e true) n) → HasMembers (all_hold v es) n all → 4096 < one * all → is_wide (all_hold v (e ∷ es)) n ≡ true
 too_many n v h e es one all i k l =
     let m = members_are n v h e es one all i k.count in
-    let g : 4096 < length (listed_plan (conjoined v (e ∷ es)) n) = omega (arith, m) in
-    λ j. lt-ltb 4096 (length (listed_plan (conjoined v (e ∷ es)) n)) g j || (is_wide (paths v false e true) n || is_wide (conjoined v es) n)
+    let g : 4096 < length (listed_plan (all_hold v (e ∷ es)) n) = omega (arith, m) in
+    λ j. lt-ltb 4096 (length (listed_plan (all_hold v (e ∷ es)) n)) g j || (is_wide (paths v false e true) n || is_wide (all_hold v es) n)
 
 -- ---- a part of the conditions
 
@@ -76,14 +77,14 @@ first_wide : (x a b : Bool) → a ≡ true → (x || (a || b)) ≡ true
 first_wide true a b h = refl
 first_wide false a b h = λ j. h j || b
 
-pub wide_part : (n : ℕ) (v : Environment) (place : ℕ) (es : List TypedExpression) → is_wide (conjoined v (drop place es)) n ≡ true → is_wide (conjoined v es) n ≡ true
+pub wide_part : (n : ℕ) (v : Environment) (place : ℕ) (es : List TypedExpression) → is_wide (all_hold v (drop place es)) n ≡ true → is_wide (all_hold v es) n ≡ true
 wide_part n v zero es h = h
 wide_part n v (suc place) [] h = h
 wide_part n v (suc place) (e ∷ es) h =
-    second_wide (is_long (listed_plan (conjoined v (e ∷ es)) n)) (is_wide (paths v false e true) n) (is_wide (conjoined v es) n) (wide_part n v place es h)
+    second_wide (is_long (listed_plan (all_hold v (e ∷ es)) n)) (is_wide (paths v false e true) n) (is_wide (all_hold v es) n) (wide_part n v place es h)
 
-pub wide_first : (n : ℕ) (v : Environment) (e : TypedExpression) (es : List TypedExpression) → is_wide (paths v false e true) n ≡ true → is_wide (conjoined v (e ∷ es)) n ≡ true
-wide_first n v e es h = first_wide (is_long (listed_plan (conjoined v (e ∷ es)) n)) (is_wide (paths v false e true) n) (is_wide (conjoined v es) n) h
+pub wide_first : (n : ℕ) (v : Environment) (e : TypedExpression) (es : List TypedExpression) → is_wide (paths v false e true) n ≡ true → is_wide (all_hold v (e ∷ es)) n ≡ true
+wide_first n v e es h = first_wide (is_long (listed_plan (all_hold v (e ∷ es)) n)) (is_wide (paths v false e true) n) (is_wide (all_hold v es) n) h
 
 second_unfit : (x a b : Bool) → b ≡ false → (x && (a && b)) ≡ false
 second_unfit true true b h = h
@@ -94,14 +95,14 @@ first_unfit : (x a b : Bool) → a ≡ false → (x && (a && b)) ≡ false
 first_unfit true a b h = λ j. h j && b
 first_unfit false a b h = refl
 
-pub unfit_part : (n : ℕ) (v : Environment) (place : ℕ) (es : List TypedExpression) → all_fit (conjoined v (drop place es)) n ≡ false → all_fit (conjoined v es) n ≡ false
+pub unfit_part : (n : ℕ) (v : Environment) (place : ℕ) (es : List TypedExpression) → all_fit (all_hold v (drop place es)) n ≡ false → all_fit (all_hold v es) n ≡ false
 unfit_part n v zero es h = h
 unfit_part n v (suc place) [] h = h
 unfit_part n v (suc place) (e ∷ es) h =
-    second_unfit (list_fits (listed_plan (conjoined v (e ∷ es)) n)) (all_fit (paths v false e true) n) (all_fit (conjoined v es) n) (unfit_part n v place es h)
+    second_unfit (list_fits (listed_plan (all_hold v (e ∷ es)) n)) (all_fit (paths v false e true) n) (all_fit (all_hold v es) n) (unfit_part n v place es h)
 
-pub unfit_first : (n : ℕ) (v : Environment) (e : TypedExpression) (es : List TypedExpression) → all_fit (paths v false e true) n ≡ false → all_fit (conjoined v (e ∷ es)) n ≡ false
-unfit_first n v e es h = first_unfit (list_fits (listed_plan (conjoined v (e ∷ es)) n)) (all_fit (paths v false e true) n) (all_fit (conjoined v es) n) h
+pub unfit_first : (n : ℕ) (v : Environment) (e : TypedExpression) (es : List TypedExpression) → all_fit (paths v false e true) n ≡ false → all_fit (all_hold v (e ∷ es)) n ≡ false
+unfit_first n v e es h = first_unfit (list_fits (listed_plan (all_hold v (e ∷ es)) n)) (all_fit (paths v false e true) n) (all_fit (all_hold v es) n) h
 
 -- ---- places of conditions
 

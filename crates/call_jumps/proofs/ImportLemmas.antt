@@ -4,26 +4,23 @@ use Rattle.std.specs.Prelude.{slice_get}
 use Rattle.std.specs.List.{AllByRecursion}
 use Rattle.std.proofs.lemmas.Bool.{eqb-true}
 use Rattle.std.proofs.lemmas.Bool.Decides.{nat_tests}
-use Rattle.std.proofs.lemmas.List.{append-nil}
 use Rattle.boogie_tree.specs.declared.tree.Ty.{Ty}
 use Rattle.boogie_tree.specs.declared.tree.Column.{Column}
 use Rattle.boogie_tree.specs.declared.tree.Column.TheVariants as columns
 use Rattle.boogie_tree.specs.declared.tree.VarInfo.{VarInfo}
-use Rattle.typed_tree.specs.TypedTree.{TypedExpression, TypedInvariant, TypedProcedure}
+use Rattle.typed_tree.specs.TypedTree.{TypedExpression, TypedProcedure}
 use Rattle.letter_acts.specs.Frames.{Columns}
-use Rattle.cond_jumps.specs.Conjunctions.{joined, With, listed_plan}
+use Rattle.cond_jumps.specs.Conjunctions.{With}
 use Rattle.cond_jumps.specs.Environments.{Environment}
 use Rattle.cond_jumps.specs.Frames.{frame_environment}
 use Rattle.cond_jumps.specs.Passing.{Numbered, standing_type, standing_sum, standing_plan, standing_environment, left_in, passed_locals, imported}
-use Rattle.boogie_points.specs.Actions.{ensured_conditions}
-use Rattle.lowered_steps.specs.Edges.{those_in, those_not_in, found_from, import_written, typed_column, left_if, left_at, found_or_0, results_at, all_hold, import_environment, import_list}
+use Rattle.lowered_steps.specs.Edges.{those_in, those_not_in, found_from, import_written, typed_column, left_if, left_at, found_or_0, results_at, all_hold, whole_columns}
 use Rattle.letter_acts.specs.Reading.{is_listed}
 use Rattle.call_jumps.specs.Reading.{Stand, read_by}
 use Rattle.call_jumps.specs.Readings.{IsNumbered, StandsFor, AllStand}
 use Rattle.call_jumps.specs.Stands.{or_nothing, argument_stand, left_stand, ensures_stand, result_stand}
 use Rattle.call_jumps.specs.Numbered.{numbered_columns}
-use Rattle.call_jumps.specs.Conjoined.{conjoined}
-use Rattle.call_jumps.specs.CallLists.{import_plan, import_base}
+use Rattle.call_jumps.specs.CallLists.{ensures_plan, behind_written}
 use Rattle.call_jumps.specs.ImportView.{import_results, import_stands, import_conditions}
 use Rattle.call_jumps.proofs.PlaceLemmas.{found_inside, found_where_in, in_append}
 use Rattle.call_jumps.proofs.ReadingLemmas.{read_reads}
@@ -141,29 +138,37 @@ ensures_stands w u h frame l left k args rs b (columns.Old n) = placed_stands w 
 ensures_stands w u h frame l left k args rs b (columns.Local n) = local_stands w u h frame l args rs b n
 
 -- conditions that hold together
-conjoined_hold : (u v : Environment) (stands : Column → Stand) → AllStand u v stands → (is : List TypedInvariant) →
-    conjoined u (map (read_by stands false) (map (λ i. i.cond) is)) ≡ all_hold v is
-conjoined_hold u v stands h [] = refl
-conjoined_hold u v stands h (i ∷ is) = λ j. With ((read_reads u v stands h false i.cond).plan_is true j) (conjoined_hold u v stands h is j)
+all_read_hold : (u v : Environment) (stands : Column → Stand) → AllStand u v stands → (es : List TypedExpression) → all_hold u (map (read_by stands false) es) ≡ all_hold v es
+all_read_hold u v stands h [] = refl
+all_read_hold u v stands h (e ∷ es) = λ j. With ((read_reads u v stands h false e).plan_is true j) (all_read_hold u v stands h es j)
 
-pub import_plan_is : (frame : Columns) (globals : List VarInfo) (q : TypedProcedure) (args : List TypedExpression) (targets : List ℕ) →
-    conjoined (frame_environment (numbered_columns (import_base frame q targets))) (import_conditions frame globals q args targets) ≡ import_plan frame globals q args targets
-import_plan_is frame globals q args targets =
-    let w : ℕ = import_base frame q targets in
+both_below : (w : ℕ) (xs ys : List (ℕ × Ty)) → AreBelow w xs → AreBelow w ys → AreBelow w (xs ++ ys)
+both_below w [] ys a b = b
+both_below w (x ∷ xs) ys a b = (a.0, both_below w xs ys a.1 b)
+
+higher : (v w : ℕ) → v ≤ w → (xs : List (ℕ × Ty)) → AreBelow v xs → AreBelow w xs
+higher v w l [] b = tt
+higher v w l (x ∷ xs) b = ((let k = b.0 in omega (arith, l, k)), higher v w l xs b.1)
+
+pub whole_below : (w n k : ℕ) → n + k ≤ w → AreBelow w (whole_columns n k)
+whole_below w n zero l = tt
+whole_below w n (suc k) l = (omega (arith, l), whole_below w (suc n) k (omega (arith, l)))
+
+pub ensures_plan_is : (frame : Columns) (base : ℕ) (globals : List VarInfo) (q : TypedProcedure) (args : List TypedExpression) (targets : List ℕ) (more : List (ℕ × Ty)) (es : List TypedExpression) →
+    length frame ≤ base → AreBelow base more →
+    all_hold (frame_environment (numbered_columns (behind_written base q targets))) (import_conditions frame base globals q args targets more es) ≡ ensures_plan frame base globals q args targets more es
+ensures_plan_is frame base globals q args targets more es k b =
+    let w : ℕ = behind_written base q targets in
     let u : Environment = frame_environment (numbered_columns w) in
-    let l : length frame ≤ w = omega arith in
-    let m : length frame + length (import_written q.modifies targets) ≤ w = omega arith in
+    let l : length frame ≤ w = omega (arith, k) in
+    let m : base + length (import_written q.modifies targets) ≤ w = omega arith in
     let n : w ≤ w = omega arith in
-    let b : AreBelow w (import_results frame q targets) =
-    results_below w (length frame) (import_written q.modifies targets) targets (take q.results (drop q.params q.locals)) m (λ t k. target_written q.modifies targets t k) in
-    conjoined_hold u (import_environment frame globals q args targets) (import_stands frame globals q args targets)
-    (ensures_stands w u (numbered_is w) frame l (left_at globals (length frame) q.modifies targets)
-    (λ k x e. left_inside w globals (length frame) q.modifies targets k x n e) args (import_results frame q targets) b)
-    (ensured_conditions q.specs)
-
--- the list behind its helpers
-pub import_list_is : (frame : Columns) (globals : List VarInfo) (q : TypedProcedure) (args : List TypedExpression) (targets : List ℕ) →
-    import_list frame globals q args targets ≡
-    map (joined (record { rows = []; helpers = length (those_in targets q.modifies) })) (listed_plan (import_plan frame globals q args targets) (import_base frame q targets))
-import_list_is frame globals q args targets =
-    append-nil (map (joined (record { rows = []; helpers = length (those_in targets q.modifies) })) (listed_plan (import_plan frame globals q args targets) (import_base frame q targets)))
+    let o : base ≤ w = omega arith in
+    let r : AreBelow w (import_results base q targets ++ more) =
+    both_below w (import_results base q targets) more
+    (results_below w base (import_written q.modifies targets) targets (take q.results (drop q.params q.locals)) m (λ t k. target_written q.modifies targets t k)) (higher base w o more b) in
+    all_read_hold u (standing_environment (frame_environment frame) (imported (left_at globals base q.modifies targets) args (import_results base q targets ++ more)))
+    (import_stands frame base globals q args targets more)
+    (ensures_stands w u (numbered_is w) frame l (left_at globals base q.modifies targets)
+    (λ k x e. left_inside w globals base q.modifies targets k x n e) args (import_results base q targets ++ more) r)
+    es

@@ -8,3 +8,6 @@ pub mod ConjoinedLemmas
 pub mod ResultLemmas
 pub mod EnsuredLemmas
 mod FilterTurns
+pub mod DemandLemmas
+pub mod GivenLemmas
+pub mod LetterLemmas

@@ -6,7 +6,7 @@ ghost use Rattle.cond_jumps.specs.Conjunctions.{is_wide, all_fit, listed_plan};
 ghost use Rattle.cond_jumps.specs.Conjs.{conjunction, conjunctions};
 ghost use Rattle.cond_jumps.specs.ListView.{IsPlanList};
 ghost use Rattle.cond_jumps.specs.Frames.{frame_environment};
-ghost use Rattle.call_jumps.specs.Conjoined.{conjoined};
+ghost use Rattle.lowered_steps.specs.Edges.{all_hold};
 ghost use Rattle.call_jumps.specs.Numbered.{numbered_columns};
 
 use crate::columns::numbered_frame;
@@ -29,8 +29,8 @@ fn both_members(first: u32, second: u32) -> Result<u32, JumpFault>
 
 /// How many members the list of all conditions has.
 fn all_members(frame: &Frame, conds: &[TExpr]) -> Result<u32, JumpFault>
-    ensures narrow { IsOk result → is_wide (conjoined (frame_environment frame.now.columns.items) (map expression conds.now)) (length frame.now.columns.items) ≡ false }
-    ensures too_wide { result ≡ Err JumpFault.TooWide → is_wide (conjoined (frame_environment frame.now.columns.items) (map expression conds.now)) (length frame.now.columns.items) ≡ true }
+    ensures narrow { IsOk result → is_wide (all_hold (frame_environment frame.now.columns.items) (map expression conds.now)) (length frame.now.columns.items) ≡ false }
+    ensures too_wide { result ≡ Err JumpFault.TooWide → is_wide (all_hold (frame_environment frame.now.columns.items) (map expression conds.now)) (length frame.now.columns.items) ≡ true }
     ensures too_big { result ≡ Err JumpFault.TooBig → ⊥ }
 {
     let mut all = 1;
@@ -51,9 +51,9 @@ fn all_lists(
     base: u32,
 ) -> Result<Vec<Conj>, JumpFault>
     requires { base ≡ length frame.now.columns.items }
-    ensures list { IfOk result (λ cs. IsPlanList (conjoined (frame_environment frame.now.columns.items) (map expression conds.now)) base cs) }
-    ensures too_wide { result ≡ Err JumpFault.TooWide → is_wide (conjoined (frame_environment frame.now.columns.items) (map expression conds.now)) base ≡ true }
-    ensures too_big { result ≡ Err JumpFault.TooBig → all_fit (conjoined (frame_environment frame.now.columns.items) (map expression conds.now)) base ≡ false }
+    ensures list { IfOk result (λ cs. IsPlanList (all_hold (frame_environment frame.now.columns.items) (map expression conds.now)) base cs) }
+    ensures too_wide { result ≡ Err JumpFault.TooWide → is_wide (all_hold (frame_environment frame.now.columns.items) (map expression conds.now)) base ≡ true }
+    ensures too_big { result ≡ Err JumpFault.TooBig → all_fit (all_hold (frame_environment frame.now.columns.items) (map expression conds.now)) base ≡ false }
 {
     let mut all = vec![in alloc; no_rows(alloc)]?;
     let mut place = conds.len();
@@ -77,15 +77,15 @@ fn no_rows(alloc: Global) -> Conj
 
 /// The conjunctions of which a state of the frame meets one, and no more, exactly where all of the conditions hold.
 fn all_paths(alloc: Global, frame: &Frame, conds: &[TExpr]) -> Result<Vec<Conj>, JumpFault>
-    ensures list { IfOk result (λ cs. conjunctions cs.items ≡ listed_plan (conjoined (frame_environment frame.now.columns.items) (map expression conds.now)) (length frame.now.columns.items)) }
-    ensures narrow { IsOk result → is_wide (conjoined (frame_environment frame.now.columns.items) (map expression conds.now)) (length frame.now.columns.items) ≡ false }
-    ensures fits { IsOk result → all_fit (conjoined (frame_environment frame.now.columns.items) (map expression conds.now)) (length frame.now.columns.items) ≡ true }
+    ensures list { IfOk result (λ cs. conjunctions cs.items ≡ listed_plan (all_hold (frame_environment frame.now.columns.items) (map expression conds.now)) (length frame.now.columns.items)) }
+    ensures narrow { IsOk result → is_wide (all_hold (frame_environment frame.now.columns.items) (map expression conds.now)) (length frame.now.columns.items) ≡ false }
+    ensures fits { IsOk result → all_fit (all_hold (frame_environment frame.now.columns.items) (map expression conds.now)) (length frame.now.columns.items) ≡ true }
 
     // `TooWide` goes before `TooBig`.
-    ensures too_wide { result ≡ Err JumpFault.TooWide → is_wide (conjoined (frame_environment frame.now.columns.items) (map expression conds.now)) (length frame.now.columns.items) ≡ true }
+    ensures too_wide { result ≡ Err JumpFault.TooWide → is_wide (all_hold (frame_environment frame.now.columns.items) (map expression conds.now)) (length frame.now.columns.items) ≡ true }
     ensures too_big { result ≡ Err JumpFault.TooBig →
-        (is_wide (conjoined (frame_environment frame.now.columns.items) (map expression conds.now)) (length frame.now.columns.items) ≡ false)
-        × (all_fit (conjoined (frame_environment frame.now.columns.items) (map expression conds.now)) (length frame.now.columns.items) ≡ false) }
+        (is_wide (all_hold (frame_environment frame.now.columns.items) (map expression conds.now)) (length frame.now.columns.items) ≡ false)
+        × (all_fit (all_hold (frame_environment frame.now.columns.items) (map expression conds.now)) (length frame.now.columns.items) ≡ false) }
 {
     let Ok(base) = u32::try_from(frame.columns.len()) else {
         return Err(JumpFault::Memory);
@@ -96,13 +96,13 @@ fn all_paths(alloc: Global, frame: &Frame, conds: &[TExpr]) -> Result<Vec<Conj>,
 
 /// The conjunctions of all conditions over so many numbered columns.
 pub fn numbered_paths(alloc: Global, width: u32, conds: &[TExpr]) -> Result<Vec<Conj>, JumpFault>
-    ensures list { IfOk result (λ cs. conjunctions cs.items ≡ listed_plan (conjoined (frame_environment (numbered_columns width)) (map expression conds.now)) width) }
-    ensures narrow { IsOk result → is_wide (conjoined (frame_environment (numbered_columns width)) (map expression conds.now)) width ≡ false }
-    ensures fits { IsOk result → all_fit (conjoined (frame_environment (numbered_columns width)) (map expression conds.now)) width ≡ true }
-    ensures too_wide { result ≡ Err JumpFault.TooWide → is_wide (conjoined (frame_environment (numbered_columns width)) (map expression conds.now)) width ≡ true }
+    ensures list { IfOk result (λ cs. conjunctions cs.items ≡ listed_plan (all_hold (frame_environment (numbered_columns width)) (map expression conds.now)) width) }
+    ensures narrow { IsOk result → is_wide (all_hold (frame_environment (numbered_columns width)) (map expression conds.now)) width ≡ false }
+    ensures fits { IsOk result → all_fit (all_hold (frame_environment (numbered_columns width)) (map expression conds.now)) width ≡ true }
+    ensures too_wide { result ≡ Err JumpFault.TooWide → is_wide (all_hold (frame_environment (numbered_columns width)) (map expression conds.now)) width ≡ true }
     ensures too_big { result ≡ Err JumpFault.TooBig →
-        (is_wide (conjoined (frame_environment (numbered_columns width)) (map expression conds.now)) width ≡ false)
-        × (all_fit (conjoined (frame_environment (numbered_columns width)) (map expression conds.now)) width ≡ false) }
+        (is_wide (all_hold (frame_environment (numbered_columns width)) (map expression conds.now)) width ≡ false)
+        × (all_fit (all_hold (frame_environment (numbered_columns width)) (map expression conds.now)) width ≡ false) }
 {
     let frame = numbered_frame(alloc, width)?;
     all_paths(alloc, &frame, conds)

@@ -1,12 +1,14 @@
-//! The lists of rows of calls: of what a called procedure requires, of its arguments, and of calls without body.
+//! The letters of calls: of what a called procedure requires, of its arguments, and of calls without body.
 #![tactic(auto)]
 
 mod columns;
 mod conjoined;
 mod constants;
 mod demands;
+mod ensured;
 mod imports;
-mod parameters;
+mod layouts;
+mod parameter_rows;
 mod reader;
 mod reading;
 mod rebuilding;
@@ -17,4 +19,4 @@ mod written;
 
 pub use demands::demanded;
 pub use imports::{Import, imported};
-pub use parameters::arguments;
+pub use parameter_rows::parameters;

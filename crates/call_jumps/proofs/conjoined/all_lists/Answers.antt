@@ -9,7 +9,7 @@ use Rattle.cond_jumps.specs.Frames.{frame_environment}
 use Rattle.cond_jumps.specs.ListView.{IsPlanList}
 use Rattle.cond_jumps.specs.Paths.{paths}
 use Rattle.cond_jumps.proofs.EvenLemmas.{frame_even}
-use Rattle.call_jumps.specs.Conjoined.{conjoined}
+use Rattle.lowered_steps.specs.Edges.{all_hold}
 use Rattle.call_jumps.proofs.ConjoinedLemmas.{conjoined_even, wide_part, wide_first, unfit_part, unfit_first, drop_map, from_place, handed}
 use Rattle.call_jumps.proofs.conjoined.all_lists.Goals as goal
 
@@ -19,7 +19,7 @@ returns-in_err-one-clause-too_wide c t =
     let v : Environment = frame_environment c.args.frame.now.columns.items in
     let x : TExpr = c.index-conds-place.result in
     let place : ℕ = c.loop-place.place in
-    let P : List TypedExpression → Type 0 = λ es. is_wide (conjoined v es) n ≡ true in
+    let P : List TypedExpression → Type 0 = λ es. is_wide (all_hold v es) n ≡ true in
     let d : drop (place - 1) (map expression c.args.conds.now) ≡ expression x ∷ map expression (drop place c.args.conds.now) =
     from_place place c.args.conds.now x c.loop-place-test.true c.loop-place.invariant.0 c.index-conds-place.is in
     let w : is_wide (paths v false (expression x) true) n ≡ true =
@@ -33,7 +33,7 @@ returns-in_err-one-clause-too_big c t =
     let v : Environment = frame_environment c.args.frame.now.columns.items in
     let x : TExpr = c.index-conds-place.result in
     let place : ℕ = c.loop-place.place in
-    let P : List TypedExpression → Type 0 = λ es. all_fit (conjoined v es) n ≡ false in
+    let P : List TypedExpression → Type 0 = λ es. all_fit (all_hold v es) n ≡ false in
     let d : drop (place - 1) (map expression c.args.conds.now) ≡ expression x ∷ map expression (drop place c.args.conds.now) =
     from_place place c.args.conds.now x c.loop-place-test.true c.loop-place.invariant.0 c.index-conds-place.is in
     let w : all_fit (paths v false (expression x) true) n ≡ false =
@@ -48,7 +48,7 @@ loop-place-preserved c =
     let x : TExpr = c.index-conds-place.result in
     let place : ℕ = c.loop-place.place in
     let es : List TypedExpression = map expression (drop place c.args.conds.now) in
-    let P : List TypedExpression → Type 0 = λ es. IsPlanList (conjoined v es) n c.in_ok-all-2.all in
+    let P : List TypedExpression → Type 0 = λ es. IsPlanList (all_hold v es) n c.in_ok-all-2.all in
     let d : drop (place - 1) (map expression c.args.conds.now) ≡ expression x ∷ map expression (drop place c.args.conds.now) =
     from_place place c.args.conds.now x c.loop-place-test.true c.loop-place.invariant.0 c.index-conds-place.is in
     let l : place ≤ length c.args.conds.now = c.loop-place.invariant.0 in
@@ -61,5 +61,5 @@ loop-place-preserved c =
     in (
       omega arith,
       subst P (sym d ∙ drop_map (place - 1) c.args.conds.now)
-          (c.in_ok-all-2.ensures (paths v false (expression x) true) (conjoined v es) (conjoined_even n v (frame_even n c.args.frame.now.columns.items m) es) one c.loop-place.invariant.1),
+          (c.in_ok-all-2.ensures (paths v false (expression x) true) (all_hold v es) (conjoined_even n v (frame_even n c.args.frame.now.columns.items m) es) one c.loop-place.invariant.1),
     )

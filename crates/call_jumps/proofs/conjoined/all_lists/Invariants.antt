@@ -2,12 +2,12 @@ use Rattle.std.proofs.Common.{◌≤◌, length, map, drop}
 use Rattle.typed_tree.specs.TypedView.{expression}
 use Rattle.cond_jumps.specs.Frames.{frame_environment}
 use Rattle.cond_jumps.specs.ListView.{IsPlanList}
-use Rattle.call_jumps.specs.Conjoined.{conjoined}
+use Rattle.lowered_steps.specs.Edges.{all_hold}
 use Rattle.call_jumps.proofs.conjoined.all_lists.Given as goal
 
 abbrev pub invariant-loop-place : goal.invariant-loop-place
 invariant-loop-place l =
-    (l.place ≤ length l.conds) × IsPlanList (conjoined (frame_environment l.frame.columns.items) (map expression (drop l.place l.conds))) l.base l.all
+    (l.place ≤ length l.conds) × IsPlanList (all_hold (frame_environment l.frame.columns.items) (map expression (drop l.place l.conds))) l.base l.all
 
 abbrev pub decreases-loop-place : goal.decreases-loop-place
 decreases-loop-place l = l.place

@@ -7,7 +7,8 @@ use Rattle.cond_jumps.specs.Conjunctions.{is_wide}
 use Rattle.cond_jumps.specs.Environments.{Environment}
 use Rattle.cond_jumps.specs.Frames.{frame_environment}
 use Rattle.cond_jumps.proofs.EvenLemmas.{frame_even}
-use Rattle.call_jumps.specs.Conjoined.{conjoined, HasMembers}
+use Rattle.lowered_steps.specs.Edges.{all_hold}
+use Rattle.call_jumps.specs.Conjoined.{HasMembers}
 use Rattle.call_jumps.proofs.ConjoinedLemmas.{more_members, too_many, wide_part, wide_first, drop_map, from_place, handed}
 use Rattle.call_jumps.proofs.conjoined.all_members.Goals as goal
 
@@ -17,7 +18,7 @@ returns-in_err-one-clause-too_wide c t =
     let v : Environment = frame_environment c.args.frame.now.columns.items in
     let x : TExpr = c.index-conds-place.result in
     let place : ℕ = c.loop-place.place in
-    let P : List TypedExpression → Type 0 = λ es. is_wide (conjoined v es) n ≡ true in
+    let P : List TypedExpression → Type 0 = λ es. is_wide (all_hold v es) n ≡ true in
     let d : drop (place - 1) (map expression c.args.conds.now) ≡ expression x ∷ map expression (drop place c.args.conds.now) =
     from_place place c.args.conds.now x c.loop-place-test.true c.loop-place.invariant.0 c.index-conds-place.is in
     wide_part n v (place - 1) (map expression c.args.conds.now)
@@ -30,7 +31,7 @@ returns-in_err-all-clause-too_wide c t =
     let v : Environment = frame_environment c.args.frame.now.columns.items in
     let x : TExpr = c.index-conds-place.result in
     let place : ℕ = c.loop-place.place in
-    let P : List TypedExpression → Type 0 = λ es. is_wide (conjoined v es) n ≡ true in
+    let P : List TypedExpression → Type 0 = λ es. is_wide (all_hold v es) n ≡ true in
     let d : drop (place - 1) (map expression c.args.conds.now) ≡ expression x ∷ map expression (drop place c.args.conds.now) =
     from_place place c.args.conds.now x c.loop-place-test.true c.loop-place.invariant.0 c.index-conds-place.is in
     wide_part n v (place - 1) (map expression c.args.conds.now)
@@ -44,7 +45,7 @@ loop-place-preserved c =
     let v : Environment = frame_environment c.args.frame.now.columns.items in
     let x : TExpr = c.index-conds-place.result in
     let place : ℕ = c.loop-place.place in
-    let P : List TypedExpression → Type 0 = λ es. HasMembers (conjoined v es) n c.in_ok-all.all in
+    let P : List TypedExpression → Type 0 = λ es. HasMembers (all_hold v es) n c.in_ok-all.all in
     let d : drop (place - 1) (map expression c.args.conds.now) ≡ expression x ∷ map expression (drop place c.args.conds.now) =
     from_place place c.args.conds.now x c.loop-place-test.true c.loop-place.invariant.0 c.index-conds-place.is in
     let l : place ≤ length c.args.conds.now = c.loop-place.invariant.0 in (

@@ -6,7 +6,7 @@ use Rattle.letter_acts.specs.Frames.{Columns}
 use Rattle.cond_jumps.specs.Conjunctions.{Conjunction, listed_plan, is_wide, all_fit}
 use Rattle.cond_jumps.specs.Conjs.{conjunctions}
 use Rattle.cond_jumps.specs.Frames.{frame_environment}
-use Rattle.call_jumps.specs.Conjoined.{conjoined}
+use Rattle.lowered_steps.specs.Edges.{all_hold}
 use Rattle.call_jumps.specs.Numbered.{numbered_columns}
 use Rattle.call_jumps.proofs.StandLemmas.{numbered_width}
 use Rattle.call_jumps.proofs.conjoined.numbered_paths.Goals as goal
@@ -17,10 +17,10 @@ returns c =
     let es : List TypedExpression = map expression c.args.conds.now in
     let K : cols ≡ numbered_columns c.args.width = c.in_ok-frame.ensures in
     let W : length cols ≡ c.args.width = ap length K ∙ numbered_width c.args.width in
-    let P : conjoined (frame_environment cols) es ≡ conjoined (frame_environment (numbered_columns c.args.width)) es = (λ j. conjoined (frame_environment (K j)) es) in
-    let wides : is_wide (conjoined (frame_environment cols) es) (length cols) ≡ is_wide (conjoined (frame_environment (numbered_columns c.args.width)) es) c.args.width = (λ j. is_wide (P j) (W j)) in
-    let fits : all_fit (conjoined (frame_environment cols) es) (length cols) ≡ all_fit (conjoined (frame_environment (numbered_columns c.args.width)) es) c.args.width = (λ j. all_fit (P j) (W j)) in
-    let lists : listed_plan (conjoined (frame_environment cols) es) (length cols) ≡ listed_plan (conjoined (frame_environment (numbered_columns c.args.width)) es) c.args.width = (λ j. listed_plan (P j) (W j)) in
+    let P : all_hold (frame_environment cols) es ≡ all_hold (frame_environment (numbered_columns c.args.width)) es = (λ j. all_hold (frame_environment (K j)) es) in
+    let wides : is_wide (all_hold (frame_environment cols) es) (length cols) ≡ is_wide (all_hold (frame_environment (numbered_columns c.args.width)) es) c.args.width = (λ j. is_wide (P j) (W j)) in
+    let fits : all_fit (all_hold (frame_environment cols) es) (length cols) ≡ all_fit (all_hold (frame_environment (numbered_columns c.args.width)) es) c.args.width = (λ j. all_fit (P j) (W j)) in
+    let lists : listed_plan (all_hold (frame_environment cols) es) (length cols) ≡ listed_plan (all_hold (frame_environment (numbered_columns c.args.width)) es) c.args.width = (λ j. listed_plan (P j) (W j)) in
     let Q : List Conjunction → Type 0 = λ l. IfOk c.all_paths.result (λ cs. conjunctions cs.items ≡ l) in
     record {
       list = subst Q lists c.all_paths.ensures.list;

@@ -1,88 +1,86 @@
-use Rattle.std.proofs.Common.{◌≡◌, ℕ, List, [], map, length, refl, sym, ◌∙◌, ap}
+use Rattle.std.proofs.Common.{◌≡◌, ◌+◌, ℕ, true, false, Bool, List, map, length, sym, ◌∙◌, ap, subst, Result, Ok, Err}
+use Rattle.std.specs.Prelude.{IfOk}
+use Rattle.std.specs.List.{AllByRecursion}
+use Rattle.boogie_tree.specs.declared.tree.Column.{Column}
 use Rattle.boogie_tree.specs.declared.tree.VarInfo.{VarInfo}
 use Rattle.typed_tree.specs.TypedTree.{TypedExpression, TypedProcedure}
-use Rattle.typed_tree.specs.TypedView.{expression, procedure}
+use Rattle.typed_tree.specs.TypedView.{expression, procedure, specification}
+use Rattle.typed_tree.specs.declared.types.TSpec.{TSpec}
+use Rattle.typed_tree.specs.AffineForm.{forms_fit}
+use Rattle.typed_tree.specs.Scope.{is_constant_column}
 use Rattle.letter_acts.specs.Frames.{Columns}
-use Rattle.cond_jumps.specs.declared.fault.JumpFault.TheVariants.{TooWide, TooBig}
-use Rattle.cond_jumps.specs.Conjunctions.{joined, listed_plan, is_wide, all_fit}
-use Rattle.cond_jumps.specs.Conjs.{conjunctions}
-use Rattle.cond_jumps.specs.Frames.{frame_environment}
-use Rattle.lowered_steps.specs.Edges.{those_in}
-use Rattle.call_jumps.specs.CallLists.{import_plan, import_base}
-use Rattle.call_jumps.specs.Conjoined.{conjoined}
-use Rattle.call_jumps.specs.ImportView.{import_conditions}
-use Rattle.call_jumps.specs.Numbered.{numbered_columns}
-use Rattle.call_jumps.proofs.ConjoinedLemmas.{handed}
-use Rattle.call_jumps.proofs.ImportLemmas.{import_plan_is, import_list_is}
+use Rattle.cond_jumps.specs.Conjunctions.{is_wide, all_fit}
+use Rattle.free_products.specs.FreeProducts.{all_free_products}
+use Rattle.free_products.specs.FrameLetters.{told_condition}
+use Rattle.free_products.specs.LetterView.{all_marked}
+use Rattle.lowered_steps.specs.Edges.{told_ensures}
+use Rattle.call_jumps.specs.CallLists.{ensured}
+use Rattle.call_jumps.proofs.EnsuredLemmas.{all_told_fit}
+use Rattle.call_jumps.proofs.LetterLemmas.{HasNone, test_none, letters_none, told_all, test_import, letters_import}
 use Rattle.call_jumps.proofs.imports.imported.Goals as goal
 
-pub returns-in_err-conjs-clause-too_wide : goal.returns-in_err-conjs-clause-too_wide
-returns-in_err-conjs-clause-too_wide c t =
-    let F : Columns = c.args.frame.now.columns.items in
-    let G : List VarInfo = c.args.globals.now in
-    let q : TypedProcedure = procedure c.args.callee.now in
-    let args : List TypedExpression = map expression c.args.args.now in
-    let targets : List ℕ = c.args.targets.now in
-    let wd : c.in_ok-layout.layout.width ≡ import_base F q targets = c.in_ok-layout.ensures.width in
-    let cs : map expression c.as_slice.result.now ≡ import_conditions F G q args targets = ap (map expression) c.as_slice.ensures.value ∙ c.in_ok-conds.ensures in
-    let P : conjoined (frame_environment (numbered_columns c.in_ok-layout.layout.width)) (map expression c.as_slice.result.now) ≡ import_plan F G q args targets =
-    (λ j. conjoined (frame_environment (numbered_columns (wd j))) (cs j)) ∙ import_plan_is F G q args targets in
-    sym (λ j. is_wide (P j) (wd j))
-    ∙ c.numbered_paths.ensures.too_wide
-    (handed c.numbered_paths.result c.from_residual-in_err-conjs.result c.in_err-conjs.field-0.0 TooWide c.in_err-conjs.was c.from_residual-in_err-conjs.ensures.1 t)
+if_ok : {X F : Type 0} (r : Result X F) (P Q : X → Type 0) → ((x : X) → P x → Q x) → IfOk r P → IfOk r Q
+if_ok (Ok x) P Q k h = k x h
+if_ok (Err f) P Q k h = h
 
-pub returns-in_err-conjs-clause-too_big : goal.returns-in_err-conjs-clause-too_big
-returns-in_err-conjs-clause-too_big c t =
-    let F : Columns = c.args.frame.now.columns.items in
-    let G : List VarInfo = c.args.globals.now in
-    let q : TypedProcedure = procedure c.args.callee.now in
-    let args : List TypedExpression = map expression c.args.args.now in
-    let targets : List ℕ = c.args.targets.now in
-    let wd : c.in_ok-layout.layout.width ≡ import_base F q targets = c.in_ok-layout.ensures.width in
-    let cs : map expression c.as_slice.result.now ≡ import_conditions F G q args targets = ap (map expression) c.as_slice.ensures.value ∙ c.in_ok-conds.ensures in
-    let P : conjoined (frame_environment (numbered_columns c.in_ok-layout.layout.width)) (map expression c.as_slice.result.now) ≡ import_plan F G q args targets =
-    (λ j. conjoined (frame_environment (numbered_columns (wd j))) (cs j)) ∙ import_plan_is F G q args targets in
-    let k = c.numbered_paths.ensures.too_big
-    (handed c.numbered_paths.result c.from_residual-in_err-conjs.result c.in_err-conjs.field-0.0 TooBig c.in_err-conjs.was c.from_residual-in_err-conjs.ensures.1 t) in
-    (sym (λ j. is_wide (P j) (wd j)) ∙ k.0, sym (λ j. all_fit (P j) (wd j)) ∙ k.1)
+pub ensures_count-requires : goal.ensures_count-requires
+ensures_count-requires c =
+    let g : Column → Bool = is_constant_column c.args.globals.now in
+    subst (λ (ss : List TSpec). AllByRecursion (λ e. forms_fit g false e ≡ true) (ensured (map specification ss))) (sym c.as_slice-specs.ensures.value) c.requires.fit
 
-pub returns-clause-list : goal.returns-clause-list
-returns-clause-list c =
+pub returns-then-count-eq0 : goal.returns-then-count-eq0
+returns-then-count-eq0 c =
     let F : Columns = c.args.frame.now.columns.items in
     let G : List VarInfo = c.args.globals.now in
+    let g : Column → Bool = is_constant_column G in
+    let m : ℕ = c.args.locals in
     let q : TypedProcedure = procedure c.args.callee.now in
-    let args : List TypedExpression = map expression c.args.args.now in
-    let targets : List ℕ = c.args.targets.now in
-    let wd : c.in_ok-layout.layout.width ≡ import_base F q targets = c.in_ok-layout.ensures.width in
-    let cs : map expression c.as_slice.result.now ≡ import_conditions F G q args targets = ap (map expression) c.as_slice.ensures.value ∙ c.in_ok-conds.ensures in
-    let P : conjoined (frame_environment (numbered_columns c.in_ok-layout.layout.width)) (map expression c.as_slice.result.now) ≡ import_plan F G q args targets =
-    (λ j. conjoined (frame_environment (numbered_columns (wd j))) (cs j)) ∙ import_plan_is F G q args targets in
-    let n : c.len.result ≡ length (those_in targets q.modifies) = c.len.ensures ∙ c.in_ok-layout.layout.targeted.ok.0 ∙ ap length c.in_ok-layout.ensures.targeted in
-    let l : conjunctions c.in_ok-conjs.conjs.items ≡ listed_plan (import_plan F G q args targets) (import_base F q targets) = c.in_ok-conjs.ensures.list ∙ (λ j. listed_plan (P j) (wd j)) in
-    c.in_ok-all.ensures ∙ (λ j. map (joined (record { rows = []; helpers = n j })) (l j)) ∙ sym (import_list_is F G q args targets)
+    let A : List TypedExpression = map expression c.args.args.now in
+    let ts : List ℕ = c.args.targets.now in
+    let s : c.in_ok-second.second ≡ length (all_free_products g (ensured q.specs)) = c.in_ok-second.ensures ∙ (λ j. length (all_free_products g (ensured (map specification (c.as_slice-specs.ensures.value j))))) in
+    let h : HasNone F g q A = record { constants = c.requires.constants; none = (λ j. sym c.in_ok-first.ensures j + sym s j) ∙ sym c.in_ok-count.ensures ∙ c.if-count-eq0.true } in
+    let r = c.plain_imported.ensures in
+    record {
+      written = r.written;
+      list = if_ok c.plain_imported.result _ _ (λ i. letters_none F g m G q A ts (all_marked i.conjs.items) h) r.list;
+      narrow = λ k. test_none is_wide F g m G q A ts false h (r.narrow k);
+      fits = λ k. test_none all_fit F g m G q A ts true h (r.fits k);
+      too_wide = λ k. test_none is_wide F g m G q A ts true h (r.too_wide k);
+      too_big = λ k. let t = r.too_big k in (test_none is_wide F g m G q A ts false h t.0, test_none all_fit F g m G q A ts false h t.1);
+    }
 
-pub returns-clause-narrow : goal.returns-clause-narrow
-returns-clause-narrow c t =
-    let F : Columns = c.args.frame.now.columns.items in
-    let G : List VarInfo = c.args.globals.now in
-    let q : TypedProcedure = procedure c.args.callee.now in
-    let args : List TypedExpression = map expression c.args.args.now in
-    let targets : List ℕ = c.args.targets.now in
-    let wd : c.in_ok-layout.layout.width ≡ import_base F q targets = c.in_ok-layout.ensures.width in
-    let cs : map expression c.as_slice.result.now ≡ import_conditions F G q args targets = ap (map expression) c.as_slice.ensures.value ∙ c.in_ok-conds.ensures in
-    let P : conjoined (frame_environment (numbered_columns c.in_ok-layout.layout.width)) (map expression c.as_slice.result.now) ≡ import_plan F G q args targets =
-    (λ j. conjoined (frame_environment (numbered_columns (wd j))) (cs j)) ∙ import_plan_is F G q args targets in
-    sym (λ j. is_wide (P j) (wd j)) ∙ c.in_ok-conjs.ensures.narrow refl
+pub ensures_told-requires : goal.ensures_told-requires
+ensures_told-requires c =
+    let g : Column → Bool = is_constant_column c.args.globals.now in
+    subst (λ (ss : List TSpec). AllByRecursion (λ e. forms_fit g false e ≡ true) (ensured (map specification ss))) (sym c.as_slice-specs.ensures.value) c.requires.fit
 
-pub returns-clause-fits : goal.returns-clause-fits
-returns-clause-fits c t =
+pub told_imported-requires-clause-fit : goal.told_imported-requires-clause-fit
+told_imported-requires-clause-fit c =
+    let g : Column → Bool = is_constant_column c.args.globals.now in
+    let q : TypedProcedure = procedure c.args.callee.now in
+    let A : List TypedExpression = map expression c.args.args.now in
+    let t : map expression c.as_slice.result.now ≡ map (told_condition g A) (ensured q.specs) =
+    ap (map expression) c.as_slice.ensures.value ∙ c.in_ok-told.ensures ∙ (λ j. map (told_condition g A) (ensured (map specification (c.as_slice-specs.ensures.value j)))) in
+    subst (λ (es : List TypedExpression). AllByRecursion (λ e. forms_fit g false e ≡ true) es) (sym t) (all_told_fit g A (ensured q.specs) c.requires.fit)
+
+pub returns : goal.returns
+returns c =
     let F : Columns = c.args.frame.now.columns.items in
     let G : List VarInfo = c.args.globals.now in
+    let g : Column → Bool = is_constant_column G in
+    let m : ℕ = c.args.locals in
     let q : TypedProcedure = procedure c.args.callee.now in
-    let args : List TypedExpression = map expression c.args.args.now in
-    let targets : List ℕ = c.args.targets.now in
-    let wd : c.in_ok-layout.layout.width ≡ import_base F q targets = c.in_ok-layout.ensures.width in
-    let cs : map expression c.as_slice.result.now ≡ import_conditions F G q args targets = ap (map expression) c.as_slice.ensures.value ∙ c.in_ok-conds.ensures in
-    let P : conjoined (frame_environment (numbered_columns c.in_ok-layout.layout.width)) (map expression c.as_slice.result.now) ≡ import_plan F G q args targets =
-    (λ j. conjoined (frame_environment (numbered_columns (wd j))) (cs j)) ∙ import_plan_is F G q args targets in
-    sym (λ j. all_fit (P j) (wd j)) ∙ c.in_ok-conjs.ensures.fits refl
+    let A : List TypedExpression = map expression c.args.args.now in
+    let ts : List ℕ = c.args.targets.now in
+    let E : List TypedExpression = map expression c.as_slice.result.now in
+    let h : E ≡ told_ensures F q A =
+    ap (map expression) c.as_slice.ensures.value ∙ c.in_ok-told.ensures ∙ (λ j. map (told_condition g A) (ensured (map specification (c.as_slice-specs.ensures.value j)))) ∙ told_all F g q A c.requires.constants in
+    let r = c.told_imported.ensures in
+    record {
+      written = r.written;
+      list = if_ok c.told_imported.result _ _ (λ i. letters_import F m G q A ts E (all_marked i.conjs.items) h) r.list;
+      narrow = λ k. test_import is_wide F m G q A ts E false h (r.narrow k);
+      fits = λ k. test_import all_fit F m G q A ts E true h (r.fits k);
+      too_wide = λ k. test_import is_wide F m G q A ts E true h (r.too_wide k);
+      too_big = λ k. let t = r.too_big k in (test_import is_wide F m G q A ts E false h t.0, test_import all_fit F m G q A ts E false h t.1);
+    }
