@@ -8,10 +8,11 @@ use Rattle.boogie_tree.specs.declared.tree.VarInfo.{VarInfo}
 use Rattle.typed_tree.specs.TypedTree.{TypedExpression, TypedProcedure, TypedProgram}
 use Rattle.letter_acts.specs.Frames.{Columns}
 use Rattle.letter_acts.specs.Acts.{call_act, inside_act}
-use Rattle.letter_table.specs.Letters.{Arc, Lettered, call_arc, exact_act, inside_arc, with_arc, with_arcs}
-use Rattle.cond_jumps.specs.declared.conj.Conj.{Conj}
-use Rattle.cond_jumps.specs.Conjs.{conjunction, conjunctions}
-use Rattle.cond_jumps.specs.Conjunctions.{Conjunction, is_wide, all_fit}
+use Rattle.letter_table.specs.Letters.{Arc, Lettered, call_arc, inside_arc, with_arc, with_arcs}
+use Rattle.cond_jumps.specs.Conjunctions.{is_wide, all_fit}
+use Rattle.free_products.specs.declared.letters.MarkedConj.{MarkedConj}
+use Rattle.free_products.specs.Letters.{MarkedConjunction}
+use Rattle.free_products.specs.LetterView.{marked, all_marked}
 use Rattle.lowered_graph.specs.Items.{Needed, import_needed}
 use Rattle.lowered_parts.specs.Parts.{Walked, Leads, IsTrouble, some_is_wide, some_is_big}
 use Rattle.lowered_parts.specs.Lists.{entered_arcs, list_arcs}
@@ -19,22 +20,21 @@ use Rattle.cond_jumps.specs.declared.fault.JumpFault.{JumpFault}
 use Rattle.cond_jumps.specs.declared.fault.JumpFault.TheVariants.{TooWide, TooBig, Memory}
 use Rattle.place_edges.specs.declared.faults.Trouble.{Trouble}
 use Rattle.place_edges.specs.Answered.{IsAnswer, IsImported, IsMade, IsPassed, IsRefused, IsTold, ensures_needed}
-use Rattle.call_jumps.specs.CallLists.{import_base, import_plan}
 use Rattle.call_jumps.specs.declared.imports.Import.{Import}
-use Rattle.lowered_steps.specs.Edges.{import_list, import_written}
+use Rattle.lowered_steps.specs.Edges.{import_letters, import_written}
 use Rattle.program_layout.specs.declared.marks.Marks.{Marks}
 
 pub arcs_joined : (d : Lettered) (xs ys : List Arc) → with_arcs d (xs ++ ys) ≡ with_arcs (with_arcs d xs) ys
 arcs_joined d [] ys = refl
 arcs_joined d (x ∷ xs) ys = arcs_joined (with_arc d x) xs ys
 
--- one member more of a list
-pub member_joined : (d : Lettered) (n place to : ℕ) (written : List ℕ) (cs : List Conj) (c : Conj) →
-    with_arcs d (list_arcs n place written (conjunctions (cs ++ c ∷ [])) to)
-    ≡ with_arc (with_arcs d (list_arcs n place written (conjunctions cs) to)) (inside_arc place (exact_act (inside_act n written (conjunction c).helpers (conjunction c).rows)) to)
-member_joined d n place to written [] c = refl
-member_joined d n place to written (x ∷ xs) c =
-    member_joined (with_arc d (inside_arc place (exact_act (inside_act n written (conjunction x).helpers (conjunction x).rows)) to)) n place to written xs c
+-- one letter more of a list
+pub letter_joined : (d : Lettered) (n place to : ℕ) (written : List ℕ) (ls : List MarkedConj) (l : MarkedConj) →
+    with_arcs d (list_arcs n place written (all_marked (ls ++ l ∷ [])) to)
+    ≡ with_arc (with_arcs d (list_arcs n place written (all_marked ls) to)) (inside_arc place (record { act = inside_act n written (marked l).plain.helpers (marked l).plain.rows; coarse = l.coarse }) to)
+letter_joined d n place to written [] l = refl
+letter_joined d n place to written (x ∷ xs) l =
+    letter_joined (with_arc d (inside_arc place (record { act = inside_act n written (marked x).plain.helpers (marked x).plain.rows; coarse = x.coarse }) to)) n place to written xs l
 
 apart : false ≡ true → ⊥
 apart e = cc
@@ -89,21 +89,25 @@ leads_then xs ys ns ms w v b c x y old mid new e f l m =
 
 -- ---- one list
 
-pub answered : (cs : List Conjunction) (k : Needed) (r : Result (Vec Conj Global) JumpFault) → IfOk r (λ v. conjunctions v.items ≡ cs) →
+pub answered : (ls : List MarkedConjunction) (k : Needed) (r : Result (Vec MarkedConj Global) JumpFault) → IfOk r (λ v. all_marked v.items ≡ ls) →
     (IsOk r → is_wide k.plan k.base ≡ false) → (IsOk r → all_fit k.plan k.base ≡ true) → (r ≡ Err TooWide → is_wide k.plan k.base ≡ true) →
-    (r ≡ Err TooBig → (is_wide k.plan k.base ≡ false) × (all_fit k.plan k.base ≡ false)) → IsAnswer cs k r
-answered cs k (Ok v) l n f w b = (l, (n refl, f refl))
-answered cs k (Err TooWide) l n f w b = w refl
-answered cs k (Err TooBig) l n f w b = b refl
-answered cs k (Err Memory) l n f w b = tt
+    (r ≡ Err TooBig → (is_wide k.plan k.base ≡ false) × (all_fit k.plan k.base ≡ false)) → IsAnswer ls k r
+answered ls k (Ok v) l n f w b = (l, (n refl, f refl))
+answered ls k (Err TooWide) l n f w b = w refl
+answered ls k (Err TooBig) l n f w b = b refl
+answered ls k (Err Memory) l n f w b = tt
 
--- the rows of a call, which are one member
-pub passed : (cs : List Conjunction) (k : Needed) (r : Result Conj JumpFault) → IfOk r (λ c. conjunction c ∷ [] ≡ cs) → (IsOk r → is_wide k.plan k.base ≡ false) →
-    (IsOk r → all_fit k.plan k.base ≡ true) → (r ≡ Err TooWide → ⊥) → (r ≡ Err TooBig → (is_wide k.plan k.base ≡ false) × (all_fit k.plan k.base ≡ false)) → IsPassed cs k r
-passed cs k (Ok c) l n f w b = (l, (n refl, f refl))
-passed cs k (Err TooWide) l n f w b = absurd (w refl)
-passed cs k (Err TooBig) l n f w b = b refl
-passed cs k (Err Memory) l n f w b = tt
+-- the letter of a call, which is one member
+pub passed : (ls : List MarkedConjunction) (k : Needed) (r : Result MarkedConj JumpFault) → IfOk r (λ c. marked c ∷ [] ≡ ls) → (IsOk r → is_wide k.plan k.base ≡ false) →
+    (IsOk r → all_fit k.plan k.base ≡ true) → (r ≡ Err TooWide → ⊥) → (r ≡ Err TooBig → (is_wide k.plan k.base ≡ false) × (all_fit k.plan k.base ≡ false)) → IsPassed ls k r
+passed ls k (Ok c) l n f w b = (l, (n refl, f refl))
+passed ls k (Err TooWide) l n f w b = absurd (w refl)
+passed ls k (Err TooBig) l n f w b = b refl
+passed ls k (Err Memory) l n f w b = tt
+
+-- said of a frame and a number that are these
+pub at_frame : (P : Columns → ℕ → Type 0) (f g : Columns) (m n : ℕ) → f ≡ g → m ≡ n → P f m → P g n
+at_frame P f g m n e d h = subst (λ (k : ℕ). P g k) d (subst (λ (x : Columns). P x m) e h)
 
 -- edges by a list with which nothing is wrong
 pub led : (xs : List Arc) (k : Needed) (old new : Walked) → IsMade k → new ≡ record old { lettered = with_arcs old.lettered xs } → Leads xs (k ∷ []) false false old new
@@ -163,45 +167,45 @@ pub told_refused : {E : Type 0} (xs : List Arc) (k : Needed) (f : JumpFault) (r 
 told_refused xs k f (Ok x) old h t = not_led xs k f x old h t
 told_refused xs k f (Err e) old h t = tt
 
--- a call by its one conjunction
-pub entered : (n f place after : ℕ) (c : Conjunction) (cs : List Conjunction) (m l : Marks) (us ts : List ℕ) (k : Needed) (old new : Walked) →
-    c ∷ [] ≡ cs → m ≡ l → us ≡ ts → IsMade k →
-    new ≡ record old { lettered = with_arc old.lettered (call_arc place (exact_act (call_act n f c.helpers c.rows)) m.entry m.returns us after) } →
-    Leads (entered_arcs n f place l.entry l.returns ts after cs) (k ∷ []) false false old new
-entered n f place after c cs m l us ts k old new e d u made g =
+-- a call by its one letter
+pub entered : (n f place after : ℕ) (c : MarkedConjunction) (ls : List MarkedConjunction) (m l : Marks) (us ts : List ℕ) (k : Needed) (old new : Walked) →
+    c ∷ [] ≡ ls → m ≡ l → us ≡ ts → IsMade k →
+    new ≡ record old { lettered = with_arc old.lettered (call_arc place (record { act = call_act n f c.plain.helpers c.plain.rows; coarse = c.coarse }) m.entry m.returns us after) } →
+    Leads (entered_arcs n f place l.entry l.returns ts after ls) (k ∷ []) false false old new
+entered n f place after c ls m l us ts k old new e d u made g =
     let one : Leads (entered_arcs n f place m.entry m.returns us after (c ∷ [])) (k ∷ []) false false old new =
     led (entered_arcs n f place m.entry m.returns us after (c ∷ [])) k old new made g in
-    let listed : Leads (entered_arcs n f place m.entry m.returns us after cs) (k ∷ []) false false old new =
-    subst (λ (x : List Conjunction). Leads (entered_arcs n f place m.entry m.returns us after x) (k ∷ []) false false old new) e one in
-    let marked : Leads (entered_arcs n f place l.entry l.returns us after cs) (k ∷ []) false false old new =
-    subst (λ (x : Marks). Leads (entered_arcs n f place x.entry x.returns us after cs) (k ∷ []) false false old new) d listed in
-    subst (λ (x : List ℕ). Leads (entered_arcs n f place l.entry l.returns x after cs) (k ∷ []) false false old new) u marked
+    let listed : Leads (entered_arcs n f place m.entry m.returns us after ls) (k ∷ []) false false old new =
+    subst (λ (x : List MarkedConjunction). Leads (entered_arcs n f place m.entry m.returns us after x) (k ∷ []) false false old new) e one in
+    let marked : Leads (entered_arcs n f place l.entry l.returns us after ls) (k ∷ []) false false old new =
+    subst (λ (x : Marks). Leads (entered_arcs n f place x.entry x.returns us after ls) (k ∷ []) false false old new) d listed in
+    subst (λ (x : List ℕ). Leads (entered_arcs n f place l.entry l.returns x after ls) (k ∷ []) false false old new) u marked
 
-pub import_answered : (frame : Columns) (globals : List VarInfo) (q : TypedProcedure) (args : List TypedExpression) (ts : List ℕ) (r : Result Import JumpFault) →
-    IfOk r (λ i. i.written.items ≡ import_written q.modifies ts) → IfOk r (λ i. conjunctions i.conjs.items ≡ import_list frame globals q args ts) →
-    (IsOk r → is_wide (import_plan frame globals q args ts) (import_base frame q ts) ≡ false) →
-    (IsOk r → all_fit (import_plan frame globals q args ts) (import_base frame q ts) ≡ true) →
-    (r ≡ Err TooWide → is_wide (import_plan frame globals q args ts) (import_base frame q ts) ≡ true) →
-    (r ≡ Err TooBig → (is_wide (import_plan frame globals q args ts) (import_base frame q ts) ≡ false)
-    × (all_fit (import_plan frame globals q args ts) (import_base frame q ts) ≡ false)) →
-    IsImported frame globals q args ts r
-import_answered frame globals q args ts (Ok i) s l n f w b = (s, l, (n refl, f refl))
-import_answered frame globals q args ts (Err TooWide) s l n f w b = w refl
-import_answered frame globals q args ts (Err TooBig) s l n f w b = b refl
-import_answered frame globals q args ts (Err Memory) s l n f w b = tt
+pub import_answered : (frame : Columns) (m : ℕ) (globals : List VarInfo) (q : TypedProcedure) (args : List TypedExpression) (ts : List ℕ) (r : Result Import JumpFault) →
+    IfOk r (λ i. i.written.items ≡ import_written q.modifies ts) → IfOk r (λ i. all_marked i.conjs.items ≡ import_letters frame m globals q args ts) →
+    (IsOk r → is_wide (ensures_needed frame m globals q args ts).plan (ensures_needed frame m globals q args ts).base ≡ false) →
+    (IsOk r → all_fit (ensures_needed frame m globals q args ts).plan (ensures_needed frame m globals q args ts).base ≡ true) →
+    (r ≡ Err TooWide → is_wide (ensures_needed frame m globals q args ts).plan (ensures_needed frame m globals q args ts).base ≡ true) →
+    (r ≡ Err TooBig → (is_wide (ensures_needed frame m globals q args ts).plan (ensures_needed frame m globals q args ts).base ≡ false)
+    × (all_fit (ensures_needed frame m globals q args ts).plan (ensures_needed frame m globals q args ts).base ≡ false)) →
+    IsImported frame m globals q args ts r
+import_answered frame m globals q args ts (Ok i) s l n f w b = (s, l, (n refl, f refl))
+import_answered frame m globals q args ts (Err TooWide) s l n f w b = w refl
+import_answered frame m globals q args ts (Err TooBig) s l n f w b = b refl
+import_answered frame m globals q args ts (Err Memory) s l n f w b = tt
 
 -- a call of a procedure without body
-pub import_led : (n place after : ℕ) (frame : Columns) (globals : List VarInfo) (q : TypedProcedure) (args : List TypedExpression) (us ts written : List ℕ) (cs : List Conjunction)
-    (old new : Walked) → us ≡ ts → written ≡ import_written q.modifies us → cs ≡ import_list frame globals q args us → IsMade (ensures_needed frame globals q args us) →
-    new ≡ record old { lettered = with_arcs old.lettered (list_arcs n place written cs after) } →
-    Leads (list_arcs n place (import_written q.modifies ts) (import_list frame globals q args ts) after) (import_needed frame globals (Some q) args ts) false false old new
-import_led n place after frame globals q args us ts written cs old new u s l made g =
-    let given : Leads (list_arcs n place written cs after) (ensures_needed frame globals q args us ∷ []) false false old new =
-    led (list_arcs n place written cs after) (ensures_needed frame globals q args us) old new made g in
-    let listed : Leads (list_arcs n place written (import_list frame globals q args us) after) (ensures_needed frame globals q args us ∷ []) false false old new =
-    subst (λ (x : List Conjunction). Leads (list_arcs n place written x after) (ensures_needed frame globals q args us ∷ []) false false old new) l given in
-    let wrote : Leads (list_arcs n place (import_written q.modifies us) (import_list frame globals q args us) after) (ensures_needed frame globals q args us ∷ []) false false old new =
-    subst (λ (x : List ℕ). Leads (list_arcs n place x (import_list frame globals q args us) after) (ensures_needed frame globals q args us ∷ []) false false old new) s listed in
+pub import_led : (n place after : ℕ) (frame : Columns) (m : ℕ) (globals : List VarInfo) (q : TypedProcedure) (args : List TypedExpression) (us ts written : List ℕ) (ls : List MarkedConjunction)
+    (old new : Walked) → us ≡ ts → written ≡ import_written q.modifies us → ls ≡ import_letters frame m globals q args us → IsMade (ensures_needed frame m globals q args us) →
+    new ≡ record old { lettered = with_arcs old.lettered (list_arcs n place written ls after) } →
+    Leads (list_arcs n place (import_written q.modifies ts) (import_letters frame m globals q args ts) after) (import_needed frame m globals (Some q) args ts) false false old new
+import_led n place after frame m globals q args us ts written ls old new u s l made g =
+    let given : Leads (list_arcs n place written ls after) (ensures_needed frame m globals q args us ∷ []) false false old new =
+    led (list_arcs n place written ls after) (ensures_needed frame m globals q args us) old new made g in
+    let listed : Leads (list_arcs n place written (import_letters frame m globals q args us) after) (ensures_needed frame m globals q args us ∷ []) false false old new =
+    subst (λ (x : List MarkedConjunction). Leads (list_arcs n place written x after) (ensures_needed frame m globals q args us ∷ []) false false old new) l given in
+    let wrote : Leads (list_arcs n place (import_written q.modifies us) (import_letters frame m globals q args us) after) (ensures_needed frame m globals q args us ∷ []) false false old new =
+    subst (λ (x : List ℕ). Leads (list_arcs n place x (import_letters frame m globals q args us) after) (ensures_needed frame m globals q args us ∷ []) false false old new) s listed in
     subst
-    (λ (x : List ℕ). Leads (list_arcs n place (import_written q.modifies x) (import_list frame globals q args x) after) (import_needed frame globals (Some q) args x) false false old new)
+    (λ (x : List ℕ). Leads (list_arcs n place (import_written q.modifies x) (import_letters frame m globals q args x) after) (import_needed frame m globals (Some q) args x) false false old new)
     u wrote

@@ -1,3 +1,4 @@
 pub mod Faults
 pub mod Answered
 pub mod WalkedParts
+pub mod Forms

@@ -6,22 +6,25 @@ ghost use Rattle.typed_tree.specs.TypedTree.{TypedProcedure};
 ghost use Rattle.typed_tree.specs.TypedView.{expression, procedure};
 ghost use Rattle.typing_rules.specs.TypedParts.{typed_program};
 ghost use Rattle.boogie_run.specs.Needs.{locals_at};
+ghost use Rattle.free_products.specs.FrameLetters.{passed_letters};
 ghost use Rattle.lowered_steps.specs.ProgramFrames.{frame_at};
-ghost use Rattle.lowered_steps.specs.Edges.{call_list, import_list, import_written, numbers_in, passed_list};
+ghost use Rattle.lowered_steps.specs.Edges.{call_letters, import_letters, import_written, local_count, numbers_in};
 ghost use Rattle.lowered_graph.specs.Items.{call_needed, import_needed, passed_needed};
 ghost use Rattle.lowered_parts.specs.Parts.{Leads};
 ghost use Rattle.lowered_parts.specs.Lists.{list_arcs, demand_arcs, demand_needed, entered_arcs};
 ghost use Rattle.program_layout.specs.Layouts.{StandsIn, marks_of};
 ghost use Rattle.place_edges.specs.Answered.{IsPassed, IsImported};
+ghost use Rattle.place_edges.specs.Forms.{FormsFit, AllFormsFit, SpecificationsFit};
 ghost use Rattle.place_edges.specs.WalkedParts.{walked};
 
 use crate::conditions::lead_by;
 use crate::faults::{NO_TROUBLE, Trouble, either, told};
 use crate::lowering::{Here, Lowering};
-use crate::widths::{sum, width};
+use crate::widths::width;
 use boogie_tree::{Column, Span};
-use call_jumps::{Import, arguments, demanded, imported};
-use cond_jumps::{Conj, JumpFault};
+use call_jumps::{Import, demanded, imported, parameters};
+use cond_jumps::JumpFault;
+use free_products::MarkedConj;
 use letter_table::{CallEdges, CallStep};
 use std::alloc::AllocError;
 use typed_tree::{TExpr, TProc};
@@ -44,15 +47,19 @@ fn demand_value(
     want: bool,
     to: u32,
 ) -> Result<Trouble, AllocError>
-    requires { IsSome (slice_get (typed_program lowering.old.parts).procs here.proc) }
+    requires procedure { IsSome (slice_get (typed_program lowering.old.parts).procs here.proc) }
+    requires fit_args { AllFormsFit (typed_program lowering.old.parts) (map expression args.now) }
+    requires fit { FormsFit (typed_program lowering.old.parts) (expression cond.now) }
     ensures { IfOk result (λ x. Leads
-        (list_arcs here.proc here.place [] (passed_list (frame_at (typed_program lowering.old.parts) here.proc) (map expression args.now) (expression cond.now) want) to)
-        (passed_needed (frame_at (typed_program lowering.old.parts) here.proc) (map expression args.now) (expression cond.now) want ∷ [])
+        (list_arcs here.proc here.place [] (passed_letters (frame_at (typed_program lowering.old.parts) here.proc) (local_count (typed_program lowering.old.parts) here.proc) (map expression args.now) (expression cond.now) want) to)
+        (passed_needed (frame_at (typed_program lowering.old.parts) here.proc) (local_count (typed_program lowering.old.parts) here.proc) (map expression args.now) (expression cond.now) want ∷ [])
         x.wide x.big (walked lowering.old) (walked lowering.new)) }
 {
     let answer = demanded(
         lowering.alloc(),
+        lowering.globals(),
         lowering.frame(here.proc),
+        lowering.local_count(here.proc),
         args,
         cond,
         want,
@@ -69,10 +76,12 @@ pub fn demand(
     hit: u32,
     miss: u32,
 ) -> Result<Trouble, AllocError>
-    requires { IsSome (slice_get (typed_program lowering.old.parts).procs here.proc) }
+    requires procedure { IsSome (slice_get (typed_program lowering.old.parts).procs here.proc) }
+    requires fit_args { AllFormsFit (typed_program lowering.old.parts) (map expression args.now) }
+    requires fit { FormsFit (typed_program lowering.old.parts) (expression cond.now) }
     ensures { IfOk result (λ x. Leads
-        (demand_arcs (frame_at (typed_program lowering.old.parts) here.proc) here.proc here.place (map expression args.now) (expression cond.now) hit miss)
-        (demand_needed (frame_at (typed_program lowering.old.parts) here.proc) (map expression args.now) (expression cond.now))
+        (demand_arcs (frame_at (typed_program lowering.old.parts) here.proc) (local_count (typed_program lowering.old.parts) here.proc) here.proc here.place (map expression args.now) (expression cond.now) hit miss)
+        (demand_needed (frame_at (typed_program lowering.old.parts) here.proc) (local_count (typed_program lowering.old.parts) here.proc) (map expression args.now) (expression cond.now))
         x.wide x.big (walked lowering.old) (walked lowering.new)) }
 {
     let first = demand_value(lowering, here, args, cond, true, hit)?;
@@ -80,24 +89,31 @@ pub fn demand(
     Ok(either(first, second))
 }
 
-/// The rows with which the parameters of a called procedure have the values of the arguments.
-fn parameters(
+/// The letter with which the parameters of a called procedure have the values of the arguments.
+fn letter_of_call(
     lowering: &Lowering<'_>,
     proc: u32,
     callee: u32,
     args: &[TExpr],
-) -> Result<Conj, JumpFault>
+) -> Result<MarkedConj, JumpFault>
     requires procedure { IsSome (slice_get (typed_program lowering.now.parts).procs proc) }
     requires callee { IsSome (slice_get (typed_program lowering.now.parts).procs callee) }
     requires arguments { length args.now ≤ length (locals_at (typed_program lowering.now.parts) callee) }
-    ensures { IsPassed (call_list (typed_program lowering.now.parts) proc callee (map expression args.now))
+    requires fit { AllFormsFit (typed_program lowering.now.parts) (map expression args.now) }
+    ensures { IsPassed (call_letters (typed_program lowering.now.parts) proc callee (map expression args.now))
         (call_needed (typed_program lowering.now.parts) proc callee (map expression args.now)) result }
 {
-    let frame = lowering.frame(proc);
-    let caller = width(frame)?;
-    let first = sum(caller, lowering.before_locals())?;
-    let base = sum(caller, width(lowering.frame(callee))?)?;
-    arguments(lowering.alloc(), frame, args, first, base)
+    let locals = lowering.local_count(proc);
+    let callee_width = width(lowering.frame(callee))?;
+    parameters(
+        lowering.alloc(),
+        lowering.globals(),
+        lowering.frame(proc),
+        locals,
+        args,
+        lowering.before_locals(),
+        callee_width,
+    )
 }
 
 /// Into a called procedure that has a body, and back from it.
@@ -111,25 +127,26 @@ pub fn enter(
     requires callee { IsSome (slice_get (typed_program lowering.old.parts).procs called.callee) }
     requires targets { AllByRecursion (StandsIn (frame_at (typed_program lowering.old.parts) here.proc)) called.targets.now }
     requires arguments { length called.args.now ≤ length (locals_at (typed_program lowering.old.parts) called.callee) }
+    requires fit { AllFormsFit (typed_program lowering.old.parts) (map expression called.args.now) }
     ensures { (q : TypedProcedure) → slice_get (typed_program lowering.old.parts).procs called.entry.callee ≡ Some q → IfOk result (λ x. Leads
         (entered_arcs here.proc called.entry.callee here.place
         (marks_of (typed_program lowering.old.parts) (called.entry.callee, q)).entry (marks_of (typed_program lowering.old.parts) (called.entry.callee, q)).returns
         (numbers_in (frame_at (typed_program lowering.old.parts) here.proc) called.entry.targets.now) after
-        (call_list (typed_program lowering.old.parts) here.proc called.entry.callee (map expression called.entry.args.now)))
+        (call_letters (typed_program lowering.old.parts) here.proc called.entry.callee (map expression called.entry.args.now)))
         (call_needed (typed_program lowering.old.parts) here.proc called.entry.callee (map expression called.entry.args.now) ∷ [])
         x.wide x.big (walked lowering.old) (walked lowering.new)) }
 {
     let targets = lowering.columns(called.targets)?;
     let marks = lowering.marks(called.callee);
-    match parameters(lowering, here.proc, called.callee, called.args) {
+    match letter_of_call(lowering, here.proc, called.callee, called.args) {
         Ok(passed) => {
-            let Conj { rows, helpers } = passed;
+            let MarkedConj { conj, coarse } = passed;
             let step = CallStep {
                 caller: here.proc,
                 callee: called.callee,
-                helpers,
-                rows,
-                coarse: false,
+                helpers: conj.helpers,
+                rows: conj.rows,
+                coarse,
             };
             let edges = CallEdges {
                 from: here.place,
@@ -152,14 +169,16 @@ fn left(
     targets: &[u32],
     callee: &TProc,
 ) -> Result<Import, JumpFault>
-    requires { IsSome (slice_get (typed_program lowering.now.parts).procs proc) }
-    ensures { IsImported (frame_at (typed_program lowering.now.parts) proc) lowering.now.parts.globals (procedure callee.now) (map expression args.now) targets.now result }
+    requires procedure { IsSome (slice_get (typed_program lowering.now.parts).procs proc) }
+    requires fit_args { AllFormsFit (typed_program lowering.now.parts) (map expression args.now) }
+    requires fit { SpecificationsFit (typed_program lowering.now.parts) (procedure callee.now).specs }
+    ensures { IsImported (frame_at (typed_program lowering.now.parts) proc) (local_count (typed_program lowering.now.parts) proc) lowering.now.parts.globals (procedure callee.now) (map expression args.now) targets.now result }
 {
-    let alloc = lowering.alloc();
     imported(
-        alloc,
+        lowering.alloc(),
         lowering.globals(),
         lowering.frame(proc),
+        lowering.local_count(proc),
         callee,
         args,
         targets,
@@ -176,10 +195,12 @@ pub fn import(
 ) -> Result<Trouble, AllocError>
     requires procedure { IsSome (slice_get (typed_program lowering.old.parts).procs here.proc) }
     requires targets { AllByRecursion (StandsIn (frame_at (typed_program lowering.old.parts) here.proc)) called.targets.now }
+    requires fit_args { AllFormsFit (typed_program lowering.old.parts) (map expression called.args.now) }
+    requires fit { SpecificationsFit (typed_program lowering.old.parts) (procedure callee.now).specs }
     ensures { let t = typed_program lowering.old.parts in let ts = numbers_in (frame_at t here.proc) called.entry.targets.now in IfOk result (λ x. Leads
         (list_arcs here.proc here.place (import_written (procedure callee.now).modifies ts)
-        (import_list (frame_at t here.proc) t.globals (procedure callee.now) (map expression called.entry.args.now) ts) after)
-        (import_needed (frame_at t here.proc) t.globals (Some (procedure callee.now)) (map expression called.entry.args.now) ts)
+        (import_letters (frame_at t here.proc) (local_count t here.proc) t.globals (procedure callee.now) (map expression called.entry.args.now) ts) after)
+        (import_needed (frame_at t here.proc) (local_count t here.proc) t.globals (Some (procedure callee.now)) (map expression called.entry.args.now) ts)
         x.wide x.big (walked lowering.old) (walked lowering.new)) }
 {
     let targets = lowering.columns(called.targets)?;

@@ -5,21 +5,23 @@ ghost use Rattle.std.specs.List.{AllByRecursion};
 ghost use Rattle.typed_tree.specs.TypedView as view;
 ghost use Rattle.typed_tree.specs.TypedView.{expression};
 ghost use Rattle.typing_rules.specs.TypedParts.{typed_program};
-ghost use Rattle.cond_jumps.specs.Conjunctions.{Conjunction};
-ghost use Rattle.cond_jumps.specs.Lists.{path_list, assign_list};
+ghost use Rattle.free_products.specs.FrameLetters.{path_letters, assign_letters};
+ghost use Rattle.free_products.specs.Letters.{MarkedConjunction};
 ghost use Rattle.lowered_steps.specs.ProgramFrames.{frame_at};
-ghost use Rattle.lowered_steps.specs.Edges.{numbers_in};
+ghost use Rattle.lowered_steps.specs.Edges.{local_count, numbers_in};
 ghost use Rattle.lowered_graph.specs.Items.{Needed, path_needed};
 ghost use Rattle.lowered_parts.specs.Parts.{Leads};
 ghost use Rattle.lowered_parts.specs.Lists.{list_arcs, skip_arcs, test_arcs, test_needed, guard_arcs, guard_needed, write_needed};
 ghost use Rattle.program_layout.specs.Layouts.{StandsIn};
 ghost use Rattle.place_edges.specs.Answered.{IsAnswer};
+ghost use Rattle.place_edges.specs.Forms.{FormsFit, AllFormsFit, GuardFits};
 ghost use Rattle.place_edges.specs.WalkedParts.{walked};
 
 use crate::faults::{NO_TROUBLE, Trouble, either, told};
 use crate::lowering::{Here, Lowering};
 use boogie_tree::Column;
-use cond_jumps::{Conj, JumpFault, assign, paths};
+use cond_jumps::JumpFault;
+use free_products::{MarkedConj, free_assign, free_paths};
 use std::alloc::AllocError;
 use typed_tree::{TExpr, TGuard};
 
@@ -28,11 +30,11 @@ pub(crate) fn lead_by(
     lowering: &mut Lowering<'_>,
     here: Here,
     written: &[u32],
-    answer: Result<Vec<Conj>, JumpFault>,
+    answer: Result<Vec<MarkedConj>, JumpFault>,
     to: u32,
 ) -> Result<Trouble, AllocError>
-    ensures { (cs : List Conjunction) (k : Needed) → IsAnswer cs k answer →
-        IfOk result (λ x. Leads (list_arcs here.proc here.place written.now cs to) (k ∷ []) x.wide x.big (walked lowering.old) (walked lowering.new)) }
+    ensures { (ls : List MarkedConjunction) (k : Needed) → IsAnswer ls k answer →
+        IfOk result (λ x. Leads (list_arcs here.proc here.place written.now ls to) (k ∷ []) x.wide x.big (walked lowering.old) (walked lowering.new)) }
 {
     match answer {
         Ok(list) => {
@@ -51,13 +53,21 @@ fn choose(
     want: bool,
     to: u32,
 ) -> Result<Trouble, AllocError>
-    requires { IsSome (slice_get (typed_program lowering.old.parts).procs here.proc) }
+    requires procedure { IsSome (slice_get (typed_program lowering.old.parts).procs here.proc) }
+    requires fit { FormsFit (typed_program lowering.old.parts) (expression cond.now) }
     ensures { IfOk result (λ x. Leads
-        (list_arcs here.proc here.place [] (path_list (frame_at (typed_program lowering.old.parts) here.proc) (expression cond.now) want) to)
-        (path_needed (frame_at (typed_program lowering.old.parts) here.proc) (expression cond.now) want ∷ [])
+        (list_arcs here.proc here.place [] (path_letters (frame_at (typed_program lowering.old.parts) here.proc) (local_count (typed_program lowering.old.parts) here.proc) (expression cond.now) want) to)
+        (path_needed (frame_at (typed_program lowering.old.parts) here.proc) (local_count (typed_program lowering.old.parts) here.proc) (expression cond.now) want ∷ [])
         x.wide x.big (walked lowering.old) (walked lowering.new)) }
 {
-    let answer = paths(lowering.alloc(), lowering.frame(here.proc), cond, want);
+    let answer = free_paths(
+        lowering.alloc(),
+        lowering.globals(),
+        lowering.frame(here.proc),
+        lowering.local_count(here.proc),
+        cond,
+        want,
+    );
     lead_by(lowering, here, &[], answer, to)
 }
 
@@ -68,10 +78,11 @@ pub fn suppose(
     cond: &TExpr,
     to: u32,
 ) -> Result<Trouble, AllocError>
-    requires { IsSome (slice_get (typed_program lowering.old.parts).procs here.proc) }
+    requires procedure { IsSome (slice_get (typed_program lowering.old.parts).procs here.proc) }
+    requires fit { FormsFit (typed_program lowering.old.parts) (expression cond.now) }
     ensures { IfOk result (λ x. Leads
-        (list_arcs here.proc here.place [] (path_list (frame_at (typed_program lowering.old.parts) here.proc) (expression cond.now) true) to)
-        (path_needed (frame_at (typed_program lowering.old.parts) here.proc) (expression cond.now) true ∷ [])
+        (list_arcs here.proc here.place [] (path_letters (frame_at (typed_program lowering.old.parts) here.proc) (local_count (typed_program lowering.old.parts) here.proc) (expression cond.now) true) to)
+        (path_needed (frame_at (typed_program lowering.old.parts) here.proc) (local_count (typed_program lowering.old.parts) here.proc) (expression cond.now) true ∷ [])
         x.wide x.big (walked lowering.old) (walked lowering.new)) }
 {
     choose(lowering, here, cond, true, to)
@@ -85,10 +96,11 @@ pub fn test(
     hit: u32,
     miss: u32,
 ) -> Result<Trouble, AllocError>
-    requires { IsSome (slice_get (typed_program lowering.old.parts).procs here.proc) }
+    requires procedure { IsSome (slice_get (typed_program lowering.old.parts).procs here.proc) }
+    requires fit { FormsFit (typed_program lowering.old.parts) (expression cond.now) }
     ensures { IfOk result (λ x. Leads
-        (test_arcs (frame_at (typed_program lowering.old.parts) here.proc) here.proc here.place (expression cond.now) hit miss)
-        (test_needed (frame_at (typed_program lowering.old.parts) here.proc) (expression cond.now))
+        (test_arcs (frame_at (typed_program lowering.old.parts) here.proc) (local_count (typed_program lowering.old.parts) here.proc) here.proc here.place (expression cond.now) hit miss)
+        (test_needed (frame_at (typed_program lowering.old.parts) here.proc) (local_count (typed_program lowering.old.parts) here.proc) (expression cond.now))
         x.wide x.big (walked lowering.old) (walked lowering.new)) }
 {
     let first = choose(lowering, here, cond, true, hit)?;
@@ -120,10 +132,11 @@ pub fn guard(
     hit: u32,
     miss: u32,
 ) -> Result<Trouble, AllocError>
-    requires { IsSome (slice_get (typed_program lowering.old.parts).procs here.proc) }
+    requires procedure { IsSome (slice_get (typed_program lowering.old.parts).procs here.proc) }
+    requires fit { GuardFits (typed_program lowering.old.parts) (view.guard guard.now) }
     ensures { IfOk result (λ x. Leads
-        (guard_arcs (frame_at (typed_program lowering.old.parts) here.proc) here.proc here.place (view.guard guard.now) hit miss)
-        (guard_needed (frame_at (typed_program lowering.old.parts) here.proc) (view.guard guard.now))
+        (guard_arcs (frame_at (typed_program lowering.old.parts) here.proc) (local_count (typed_program lowering.old.parts) here.proc) here.proc here.place (view.guard guard.now) hit miss)
+        (guard_needed (frame_at (typed_program lowering.old.parts) here.proc) (local_count (typed_program lowering.old.parts) here.proc) (view.guard guard.now))
         x.wide x.big (walked lowering.old) (walked lowering.new)) }
 {
     match guard {
@@ -143,13 +156,21 @@ pub fn write(
     requires procedure { IsSome (slice_get (typed_program lowering.old.parts).procs here.proc) }
     requires targets { AllByRecursion (StandsIn (frame_at (typed_program lowering.old.parts) here.proc)) targets.now }
     requires each { length targets.now ≡ length values.now }
+    requires fit { AllFormsFit (typed_program lowering.old.parts) (map expression values.now) }
     ensures { IfOk result (λ x. Leads
         (list_arcs here.proc here.place (numbers_in (frame_at (typed_program lowering.old.parts) here.proc) targets.now)
-        (assign_list (frame_at (typed_program lowering.old.parts) here.proc) (length values.now) (map expression values.now)) to)
-        (write_needed (frame_at (typed_program lowering.old.parts) here.proc) (map expression values.now) (length targets.now))
+        (assign_letters (frame_at (typed_program lowering.old.parts) here.proc) (local_count (typed_program lowering.old.parts) here.proc) (length values.now) (map expression values.now)) to)
+        (write_needed (frame_at (typed_program lowering.old.parts) here.proc) (local_count (typed_program lowering.old.parts) here.proc) (map expression values.now) (length targets.now))
         x.wide x.big (walked lowering.old) (walked lowering.new)) }
 {
     let written = lowering.columns(targets)?;
-    let answer = assign(lowering.alloc(), lowering.frame(here.proc), targets, values);
+    let answer = free_assign(
+        lowering.alloc(),
+        lowering.globals(),
+        lowering.frame(here.proc),
+        lowering.local_count(here.proc),
+        targets,
+        values,
+    );
     lead_by(lowering, here, &written, answer, to)
 }

@@ -1,15 +1,15 @@
 //! What has been lowered so far.
 
 ghost use Rattle.std.specs.Prelude.{◌≡◌, OnOk};
-ghost use Rattle.cond_jumps.specs.Conjs.{conjunction, conjunctions};
+ghost use Rattle.free_products.specs.LetterView.{marked, all_marked};
 ghost use Rattle.letter_acts.specs.Acts.{call_act, inside_act};
-ghost use Rattle.letter_table.specs.Letters.{MarkedAct, call_arc, exact_act, inside_arc, with_arc, with_arcs};
+ghost use Rattle.letter_table.specs.Letters.{MarkedAct, call_arc, inside_arc, with_arc, with_arcs};
 ghost use Rattle.lowered_parts.specs.Lists.{list_arcs};
 
 use crate::columns::numbers;
 use crate::faults::{ItemFault, Trouble, earlier, fault_of};
 use boogie_tree::{Column, Span, VarInfo};
-use cond_jumps::Conj;
+use free_products::MarkedConj;
 use letter_acts::{AssertId, Frame, Site};
 use letter_table::{CallEdges, CallStep, InsideStep, Table};
 use program_layout::{Layout, Marks};
@@ -55,41 +55,41 @@ impl<'a> Model for Lowering<'a> {
     ghost view = { λ l. record { parts = l.layout.now; lettered = l.table; sites = l.sites.items; fault = plain_faults l.fault } };
 }
 
-/// One more edge for a member of a list, which writes these columns.
-fn add_member(
+/// One more edge for a letter, which writes these columns.
+fn add_letter(
     alloc: Global,
     table: &mut Table,
     here: Here,
     written: &[u32],
-    member: Conj,
+    letter: MarkedConj,
     to: u32,
 ) -> Result<(), AllocError>
-    ensures { OnOk result (table.new ≡ with_arc table.old (inside_arc here.place (exact_act (inside_act here.proc written.now (conjunction member).helpers (conjunction member).rows)) to)) }
+    ensures { OnOk result (table.new ≡ with_arc table.old (inside_arc here.place (record { act = inside_act here.proc written.now (marked letter).plain.helpers (marked letter).plain.rows; coarse = letter.coarse }) to)) }
 {
     let step = InsideStep {
         proc: here.proc,
         written: Vec::from_slice(alloc, written)?,
-        helpers: member.helpers,
-        rows: member.rows,
-        coarse: false,
+        helpers: letter.conj.helpers,
+        rows: letter.conj.rows,
+        coarse: letter.coarse,
     };
     table.add_inside(here.place, step, to)
 }
 
-/// An edge for each member of a list, which writes these columns.
-#[tactic(auto, using(crate::proofs::LeadLemmas::member_joined))]
+/// An edge for each letter of a list, which writes these columns.
+#[tactic(auto, using(crate::proofs::LeadLemmas::letter_joined))]
 fn add_list(
     alloc: Global,
     table: &mut Table,
     here: Here,
     written: &[u32],
-    list: Vec<Conj>,
+    list: Vec<MarkedConj>,
     to: u32,
 ) -> Result<(), AllocError>
-    ensures { OnOk result (table.new ≡ with_arcs table.old (list_arcs here.proc here.place written.now (conjunctions list.items) to)) }
+    ensures { OnOk result (table.new ≡ with_arcs table.old (list_arcs here.proc here.place written.now (all_marked list.items) to)) }
 {
-    for member in list {
-        add_member(alloc, table, here, written, member, to)?;
+    for letter in list {
+        add_letter(alloc, table, here, written, letter, to)?;
     }
     Ok(())
 }
@@ -105,7 +105,7 @@ impl<'a> Lowering<'a> {
     ghost use Rattle.lowered_parts.specs.Parts.{nothing_yet, Leads};
     ghost use Rattle.lowered_parts.specs.Lists.{skip_arcs};
     ghost use Rattle.lowered_steps.specs.ProgramFrames.{frame_at};
-    ghost use Rattle.lowered_steps.specs.Edges.{columns_before_locals, numbers_in};
+    ghost use Rattle.lowered_steps.specs.Edges.{columns_before_locals, local_count, numbers_in};
     ghost use Rattle.program_layout.specs.Layouts.{StandsIn, marks_of};
     ghost use Rattle.place_edges.specs.Faults.{fault_of, plain_faults};
     ghost use Rattle.place_edges.specs.WalkedParts.{walked};
@@ -159,6 +159,14 @@ impl<'a> Lowering<'a> {
         self.layout.before_locals()
     }
 
+    /// How many locals a procedure has.
+    pub(crate) fn local_count(&self, proc: u32) -> u32
+        requires { IsSome (slice_get (typed_program self.now.parts).procs proc) }
+        ensures { result ≡ local_count (typed_program self.now.parts) proc }
+    {
+        self.layout.local_count(proc).unwrap()
+    }
+
     /// The constants and globals.
     pub(crate) fn globals(&self) -> &'a [VarInfo]
         ensures { result.now ≡ self.now.parts.globals }
@@ -206,15 +214,15 @@ impl<'a> Lowering<'a> {
         self.table.add_inside(from, step, to)
     }
 
-    /// An edge for each member of a list, which writes these columns.
+    /// An edge for each letter of a list, which writes these columns.
     pub(crate) fn lead(
         &mut self,
         here: Here,
         written: &[u32],
-        list: Vec<Conj>,
+        list: Vec<MarkedConj>,
         to: u32,
     ) -> Result<(), AllocError>
-        ensures { OnOk result (self.new ≡ record self.old { lettered = with_arcs self.old.lettered (list_arcs here.proc here.place written.now (conjunctions list.items) to) }) }
+        ensures { OnOk result (self.new ≡ record self.old { lettered = with_arcs self.old.lettered (list_arcs here.proc here.place written.now (all_marked list.items) to) }) }
     {
         add_list(self.alloc, &mut self.table, here, written, list, to)
     }

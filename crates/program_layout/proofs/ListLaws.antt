@@ -1,5 +1,5 @@
 -- The numbers and frames of the procedures of a program, read one after the other and each by its number.
-use Rattle.std.proofs.Common.{◌≡◌, ℕ, zero, suc, ◌+◌, ◌-◌, ◌<◌, ◌^◌, List, [], ◌∷◌, map, length, Option, Some, slice_get, refl, sym, ap, ◌∙◌, arith, get_or}
+use Rattle.std.proofs.Common.{◌≡◌, ℕ, zero, suc, ◌+◌, ◌-◌, ◌<◌, ◌^◌, List, [], ◌∷◌, map, length, Option, None, Some, slice_get, refl, sym, ap, ◌∙◌, arith, get_or}
 use Rattle.std.specs.Prelude.{IfSome}
 use Rattle.std.specs.Option.{option_map}
 use Rattle.typed_tree.specs.declared.types.TProc.{TProc}
@@ -117,3 +117,8 @@ laid_count t ps k assertion e m g h =
     let same : assertions_before ps ps k ≡ assertions_before t.procs t.procs (length t.procs) =
     ap (assertions_before ps ps) m ∙ ap (λ (qs : List TypedProcedure). assertions_before qs qs (length qs)) e in
     omega arith
+
+-- the locals of a procedure that is there
+pub locals_counted : (o : Option TypedProcedure) → option_map (λ q. length q.locals) o ≡ option_map (λ q. length (locals_if_any o)) o
+locals_counted None = refl
+locals_counted (Some q) = refl

@@ -84,6 +84,15 @@ pub(crate) fn frame_in(frames: &[Frame], number: u32) -> Option<&Frame>
     frames.get(number as usize)
 }
 
+/// How many locals the procedure of that number has.
+pub(crate) fn locals_in(procs: &[TProc], number: u32) -> Option<u32>
+    requires { (n : ℕ) → IfSome (slice_get (map view.procedure procs.now) n) (λ q. length q.locals < 2 ^ 32) }
+    ensures { result ≡ option_map (λ q. length q.locals) (slice_get (map view.procedure procs.now) number) }
+{
+    let listed = procs.get(number as usize)?;
+    Some(listed.locals.as_slice().len() as u32)
+}
+
 /// How many globals vary.
 pub(crate) fn variables(globals: &[VarInfo]) -> u32
     requires { length globals.now < 2 ^ 32 }

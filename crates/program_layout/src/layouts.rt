@@ -7,7 +7,7 @@ ghost use Rattle.boogie_points.specs.Actions.{first_assertion, first_place};
 ghost use Rattle.lowered_graph.specs.Arcs.{first_error};
 ghost use Rattle.lowered_graph.specs.Lowered.{program_sites};
 
-use crate::frames::{frame_in, frames_of, variables};
+use crate::frames::{frame_in, frames_of, locals_in, variables};
 use crate::marks::{Marked, Marks, all_marks, marks_in};
 use boogie_points::counts::at_call;
 use boogie_tree::Column;
@@ -99,7 +99,7 @@ impl<'a> Layout<'a> {
     ghost use Rattle.typing_rules.specs.TypedParts.{typed_program};
     ghost use Rattle.typing_rules.specs.ValidProgram.{is_valid};
     ghost use Rattle.lowered_steps.specs.ProgramFrames.{frame_at, column_number};
-    ghost use Rattle.lowered_steps.specs.Edges.{columns_before_locals};
+    ghost use Rattle.lowered_steps.specs.Edges.{columns_before_locals, local_count};
     ghost use Rattle.lowered_graph.specs.Arcs.{first_error, error_place};
     ghost use Rattle.lowered_graph.specs.Lowered.{counted_procs, program_sites};
     ghost use Rattle.program_layout.specs.Layouts.{marks_of, StandsIn};
@@ -131,6 +131,13 @@ impl<'a> Layout<'a> {
         ensures { result ≡ columns_before_locals (typed_program self.now) }
     {
         self.before_locals
+    }
+
+    /// How many locals a procedure has.
+    pub fn local_count(&self, proc: u32) -> Option<u32>
+        ensures { result ≡ option_map (λ q. local_count (typed_program self.now) proc) (slice_get (typed_program self.now).procs proc) }
+    {
+        locals_in(self.program.procs(), proc)
     }
 
     /// How many conditions are assumed at the start.

@@ -11,7 +11,7 @@ use Rattle.boogie_points.specs.Actions.{plain_conditions, first_assertion, first
 use Rattle.boogie_points.proofs.ConditionLaws.{plain_requires_counted, plain_step}
 use Rattle.boogie_places.specs.Places.{at_statement, located, parts_from}
 use Rattle.lowered_steps.specs.ProgramFrames.{frame_at}
-use Rattle.lowered_steps.specs.Edges.{call_list, numbers_in}
+use Rattle.lowered_steps.specs.Edges.{call_letters, local_count, numbers_in}
 use Rattle.lowered_graph.specs.Arcs.{error_place}
 use Rattle.lowered_graph.specs.Items.{import_needed, call_needed}
 use Rattle.lowered_parts.specs.Parts.{Walked, Leads}
@@ -81,24 +81,24 @@ room_left t u all found rest first at k e l h =
 
 pub demand_led : (at : Span) (number proc place to wrong : ℕ) (args : List TypedExpression) (e : TypedExpression) (w b : Bool) (lay : TypedParts) (old more new : WalkedParts) →
     more ≡ record old { sites = (asserted (walked old) (site_of (typed_program old.parts) number at)).sites } → lay ≡ more.parts → wrong ≡ error_place (typed_program lay) number →
-    Leads (demand_arcs (frame_at (typed_program more.parts) proc) proc place args e to wrong) (demand_needed (frame_at (typed_program more.parts) proc) args e) w b (walked more) (walked new) →
-    Makes (site_of (typed_program old.parts) number at ∷ []) (demand_arcs (frame_at (typed_program old.parts) proc) proc place args e to (error_place (typed_program old.parts) number))
-    (demand_needed (frame_at (typed_program old.parts) proc) args e) w b (walked old) (walked new)
+    Leads (demand_arcs (frame_at (typed_program more.parts) proc) (local_count (typed_program more.parts) proc) proc place args e to wrong) (demand_needed (frame_at (typed_program more.parts) proc) (local_count (typed_program more.parts) proc) args e) w b (walked more) (walked new) →
+    Makes (site_of (typed_program old.parts) number at ∷ []) (demand_arcs (frame_at (typed_program old.parts) proc) (local_count (typed_program old.parts) proc) proc place args e to (error_place (typed_program old.parts) number))
+    (demand_needed (frame_at (typed_program old.parts) proc) (local_count (typed_program old.parts) proc) args e) w b (walked old) (walked new)
 demand_led at number proc place to wrong args e w b lay old more new d l k h =
     let same : more.parts ≡ old.parts = ap (λ (x : WalkedParts). x.parts) d in
     let wrong_is : wrong ≡ error_place (typed_program old.parts) number = k ∙ ap (λ (x : TypedParts). error_place (typed_program x) number) (l ∙ same) in
-    let P : TypedParts → Type 0 = λ x. Leads (demand_arcs (frame_at (typed_program x) proc) proc place args e to wrong) (demand_needed (frame_at (typed_program x) proc) args e) w b (walked more) (walked new) in
-    let Q : ℕ → Type 0 = λ x. Leads (demand_arcs (frame_at (typed_program old.parts) proc) proc place args e to x) (demand_needed (frame_at (typed_program old.parts) proc) args e) w b (walked more) (walked new) in
+    let P : TypedParts → Type 0 = λ x. Leads (demand_arcs (frame_at (typed_program x) proc) (local_count (typed_program x) proc) proc place args e to wrong) (demand_needed (frame_at (typed_program x) proc) (local_count (typed_program x) proc) args e) w b (walked more) (walked new) in
+    let Q : ℕ → Type 0 = λ x. Leads (demand_arcs (frame_at (typed_program old.parts) proc) (local_count (typed_program old.parts) proc) proc place args e to x) (demand_needed (frame_at (typed_program old.parts) proc) (local_count (typed_program old.parts) proc) args e) w b (walked more) (walked new) in
     asserted_then (site_of (typed_program old.parts) number at) _ _ w b (walked old) (walked more) (walked new) (ap walked d) (subst Q wrong_is (subst P same h))
 
 pub part_demanded : (t : TypedProgram) (n : ℕ) (sp : Span) (cs : List Column) (f : ℕ) (es : List TypedExpression) (all : List TypedInvariant) (id at i : ℕ) (inv : TypedInvariant) (w b v c x y : Bool)
     (old mid new : Walked) → slice_get all i ≡ Some inv → x ≡ (w || v) → y ≡ (b || c) →
-    Makes (site_of t (id + i) sp ∷ []) (demand_arcs (frame_at t n) n (at + i) es inv.cond (at + i + 1) (error_place t (id + i))) (demand_needed (frame_at t n) es inv.cond) v c mid new →
+    Makes (site_of t (id + i) sp ∷ []) (demand_arcs (frame_at t n) (local_count t n) n (at + i) es inv.cond (at + i + 1) (error_place t (id + i))) (demand_needed (frame_at t n) (local_count t n) es inv.cond) v c mid new →
     PartsMade t n sp cs f es all id at i w b old mid → PartsMade t n sp cs f es all id at (i + 1) x y old new
 part_demanded t n sp cs f es all id at i inv w b v c x y old mid new e wide big m done = λ q whole rest loop under callee found body called listed.
     let s : at + i + 1 ≡ at + (i + 1) = omega arith in
-    let made : Makes (site_of t (id + i) sp ∷ []) (demand_arcs (frame_at t n) n (at + i) es inv.cond (at + (i + 1)) (error_place t (id + i))) (demand_needed (frame_at t n) es inv.cond) v c mid new =
-    subst (λ (k : ℕ). Makes (site_of t (id + i) sp ∷ []) (demand_arcs (frame_at t n) n (at + i) es inv.cond k (error_place t (id + i))) (demand_needed (frame_at t n) es inv.cond) v c mid new) s m in
+    let made : Makes (site_of t (id + i) sp ∷ []) (demand_arcs (frame_at t n) (local_count t n) n (at + i) es inv.cond (at + (i + 1)) (error_place t (id + i))) (demand_needed (frame_at t n) (local_count t n) es inv.cond) v c mid new =
+    subst (λ (k : ℕ). Makes (site_of t (id + i) sp ∷ []) (demand_arcs (frame_at t n) (local_count t n) n (at + i) es inv.cond k (error_place t (id + i))) (demand_needed (frame_at t n) (local_count t n) es inv.cond) v c mid new) s m in
     let get : slice_get (plain_conditions callee.specs) i ≡ Some inv = ap (λ (l : List TypedInvariant). slice_get l i) listed ∙ e in
     let both : PlacesMade t (located n (parts_from (at_statement (Call sp cs f es) rest loop id at under) 0 (i + 1))) (w || v) (b || c) old new =
     calls.part_made t n q whole found body rest loop id at under sp cs f es i w b v c old mid new (done q whole rest loop under callee found body called listed)
@@ -120,20 +120,20 @@ returns_is t f callee o e = ap (λ (x : Option TypedBlock). (marks_with t.procs 
 
 pub entered : (t : TypedProgram) (n : ℕ) (sp : Span) (cs : List Column) (f : ℕ) (es : List TypedExpression) (callee : TypedProcedure) (inner : TypedBlock) (place after : ℕ) (w b : Bool) (old new : Walked) →
     callee.body ≡ Some inner →
-    Leads (entered_arcs n f place (marks_of t (f, callee)).entry (marks_of t (f, callee)).returns (numbers_in (frame_at t n) cs) after (call_list t n f es)) (call_needed t n f es ∷ []) w b old new →
+    Leads (entered_arcs n f place (marks_of t (f, callee)).entry (marks_of t (f, callee)).returns (numbers_in (frame_at t n) cs) after (call_letters t n f es)) (call_needed t n f es ∷ []) w b old new →
     CallMade t n sp cs f es callee place after w b old new
 entered t n sp cs f es callee inner place after w b old new k l = λ q whole rest loop id at under found body called is_place is_after.
     let entry = entry_is t f callee (Some inner) k ∙ sym (bodies.called_is t f callee inner called k) in
     let returns = returns_is t f callee (Some inner) k ∙ sym (bodies.return_is t f callee inner called k) in
     calls.enter_made t n q whole found body rest loop id at under sp cs f es callee called inner (marks_of t (f, callee)).entry (marks_of t (f, callee)).returns after w b old new k entry returns is_after
-    (subst (λ (p : ℕ). Leads (entered_arcs n f p (marks_of t (f, callee)).entry (marks_of t (f, callee)).returns (numbers_in (frame_at t n) cs) after (call_list t n f es)) (call_needed t n f es ∷ []) w b old new) is_place l)
+    (subst (λ (p : ℕ). Leads (entered_arcs n f p (marks_of t (f, callee)).entry (marks_of t (f, callee)).returns (numbers_in (frame_at t n) cs) after (call_letters t n f es)) (call_needed t n f es ∷ []) w b old new) is_place l)
 
 pub unseen : (t : TypedProgram) (n : ℕ) (sp : Span) (cs : List Column) (f : ℕ) (es : List TypedExpression) (callee : TypedProcedure) (place after : ℕ) (w b : Bool) (old new : Walked) → callee.body ≡ None →
-    Leads (unseen_list t n place callee es cs after) (import_needed (frame_at t n) t.globals (Some callee) es (numbers_in (frame_at t n) cs)) w b old new →
+    Leads (unseen_list t n place callee es cs after) (import_needed (frame_at t n) (local_count t n) t.globals (Some callee) es (numbers_in (frame_at t n) cs)) w b old new →
     CallMade t n sp cs f es callee place after w b old new
 unseen t n sp cs f es callee place after w b old new k l = λ q whole rest loop id at under found body called is_place is_after.
     calls.import_made t n q whole found body rest loop id at under sp cs f es callee called after w b old new k is_after
-    (subst (λ (p : ℕ). Leads (unseen_list t n p callee es cs after) (import_needed (frame_at t n) t.globals (Some callee) es (numbers_in (frame_at t n) cs)) w b old new) is_place l)
+    (subst (λ (p : ℕ). Leads (unseen_list t n p callee es cs after) (import_needed (frame_at t n) (local_count t n) t.globals (Some callee) es (numbers_in (frame_at t n) cs)) w b old new) is_place l)
 
 -- ---- all of it
 

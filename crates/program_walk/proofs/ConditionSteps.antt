@@ -4,12 +4,13 @@ use Rattle.std.specs.Prelude.{slice_get}
 use Rattle.std.proofs.lemmas.List.{drop_more, drop_all, length-append}
 use Rattle.typed_tree.specs.TypedTree.{TypedInvariant, TypedSpecification, TypedBlock, TypedProcedure, TypedProgram}
 use Rattle.typing_rules.specs.Counts.{one_if_plain, plain_invariants, block_assertions, block_points}
-use Rattle.cond_jumps.specs.Lists.{path_list}
+use Rattle.free_products.specs.FrameLetters.{path_letters}
 use Rattle.boogie_points.specs.Points.{Point, at_exit}
 use Rattle.boogie_points.specs.Actions.{first_assertion, first_place, free_conditions, ensured_conditions}
 use Rattle.boogie_points.proofs.ConditionLaws.{free_step, ensured_step}
 use Rattle.boogie_places.specs.Places.{parts_from, located}
 use Rattle.lowered_steps.specs.ProgramFrames.{frame_at}
+use Rattle.lowered_steps.specs.Edges.{local_count}
 use Rattle.lowered_graph.specs.Items.{path_needed}
 use Rattle.lowered_graph.specs.Lowered.{program_sites}
 use Rattle.lowered_parts.specs.Parts.{Walked, Adds}
@@ -91,8 +92,8 @@ module _ (t : TypedProgram) (n : ℕ) (q : TypedProcedure) (body : TypedBlock) (
       subst (λ (m : ℕ). Adds (located n (parts_from entry 0 m)) old new) e (subst (λ (w : Walked). Adds (located n (parts_from entry 0 done)) old w) (sym k) h)
   assumed_adds (i ∷ is) done old mid new p d h k =
       let next : (first_place t n + done) + 1 ≡ first_place t n + (done + 1) = omega arith in
-      let item : MakesItem i.span [] (list_arcs n (first_place t n + done) [] (path_list (frame_at t n) i.cond true) (first_place t n + (done + 1))) (path_needed (frame_at t n) i.cond true ∷ []) mid k.0 =
-      subst (λ (m : ℕ). MakesItem i.span [] (list_arcs n (first_place t n + done) [] (path_list (frame_at t n) i.cond true) m) (path_needed (frame_at t n) i.cond true ∷ []) mid k.0) next k.1.0 in
+      let item : MakesItem i.span [] (list_arcs n (first_place t n + done) [] (path_letters (frame_at t n) (local_count t n) i.cond true) (first_place t n + (done + 1))) (path_needed (frame_at t n) (local_count t n) i.cond true ∷ []) mid k.0 =
+      subst (λ (m : ℕ). MakesItem i.span [] (list_arcs n (first_place t n + done) [] (path_letters (frame_at t n) (local_count t n) i.cond true) m) (path_needed (frame_at t n) (local_count t n) i.cond true ∷ []) mid k.0) next k.1.0 in
       let one : Adds (located n (record entry { part = done } ∷ [])) mid k.0 =
       entry_added t n q body found whole done i mid k.0 p (left_first (free_conditions q.specs) done i is d) item in
       let more : Adds (located n (parts_from entry 0 (done + 1))) old k.0 = part_added n entry done old mid k.0 h one in
@@ -115,8 +116,8 @@ module _ (t : TypedProgram) (n : ℕ) (q : TypedProcedure) (body : TypedBlock) (
   checked_adds (i ∷ is) done old mid new p d h k =
       let at : slice_get (ensured_conditions q.specs) done ≡ Some i = left_first (ensured_conditions q.specs) done i is d in
       let next : (exit + done) + 1 ≡ exit + (done + 1) = omega arith in
-      let item : MakesItem i.span (checked_sites t i.free (behind done) i.span) (checked_arcs t n (exit + done) i.free (behind done) i.cond (exit + (done + 1))) (checked_needed (frame_at t n) i.free i.cond) mid k.0 =
-      subst (λ (m : ℕ). MakesItem i.span (checked_sites t i.free (behind done) i.span) (checked_arcs t n (exit + done) i.free (behind done) i.cond m) (checked_needed (frame_at t n) i.free i.cond) mid k.0) next k.1.0 in
+      let item : MakesItem i.span (checked_sites t i.free (behind done) i.span) (checked_arcs t n (exit + done) i.free (behind done) i.cond (exit + (done + 1))) (checked_needed (frame_at t n) (local_count t n) i.free i.cond) mid k.0 =
+      subst (λ (m : ℕ). MakesItem i.span (checked_sites t i.free (behind done) i.span) (checked_arcs t n (exit + done) i.free (behind done) i.cond m) (checked_needed (frame_at t n) (local_count t n) i.free i.cond) mid k.0) next k.1.0 in
       let one : Adds (located n (record at_exit { part = done } ∷ [])) mid k.0 = ensures_added t n q body found whole done i (behind done) mid k.0 p at refl item in
       let more : Adds (located n (parts_from at_exit 0 (done + 1))) old k.0 = part_added n at_exit done old mid k.0 h one in
       let count : (done + 1) + length is ≡ done + suc (length is) = omega arith in

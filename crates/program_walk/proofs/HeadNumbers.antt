@@ -24,7 +24,7 @@ inner_fits t frame at g is b id place len number h e n =
     let last : id + (plain_invariants is + block_assertions t.procs b) ≤ 1 + length (program_sites t) = h.0.last in
     let fits : id + (plain_invariants is + block_assertions t.procs b) < 2 ^ 32 = h.0.fits in
     let places : place + (length is + (1 + block_points t.procs b)) < 2 ^ 32 = h.0.places in
-    (record { first = omega arith; last = omega arith; fits = omega arith; places = omega arith }, h.1)
+    (record { first = omega arith; last = omega arith; fits = omega arith; places = omega arith }, h.1, h.2.2)
 
 -- the places up to that of the block
 pub before_inner : (t : TypedProgram) (frame : Columns) (at : Span) (g : TypedGuard) (is : List TypedInvariant) (b : TypedBlock) (id place len : ℕ) →

@@ -7,6 +7,7 @@ use Rattle.typing_rules.specs.TypedParts.{TypedParts, typed_program}
 use Rattle.letter_acts.specs.declared.sites.Site.{Site}
 use Rattle.letter_table.specs.Letters.{Arc}
 use Rattle.lowered_steps.specs.ProgramFrames.{frame_at}
+use Rattle.lowered_steps.specs.Edges.{local_count}
 use Rattle.lowered_graph.specs.Arcs.{error_place}
 use Rattle.lowered_graph.specs.Items.{Needed, earlier}
 use Rattle.lowered_parts.specs.Lists.{test_arcs, test_needed}
@@ -32,13 +33,13 @@ still_there t u n e h = subst (λ (x : TypedProgram). IsSome (slice_get x.procs 
 -- an assertion whose error place was read from the layout
 pub assert_led : (at : Span) (number proc place to wrong : ℕ) (e : TypedExpression) (w b : Bool) (lay : TypedParts) (old more mid new : WalkedParts) →
     more ≡ record old { sites = (asserted (walked old) (site_of (typed_program old.parts) number at)).sites } → lay ≡ more.parts → wrong ≡ error_place (typed_program lay) number →
-    Leads (test_arcs (frame_at (typed_program more.parts) proc) proc place e to wrong) (test_needed (frame_at (typed_program more.parts) proc) e) w b (walked more) (walked mid) →
+    Leads (test_arcs (frame_at (typed_program more.parts) proc) (local_count (typed_program more.parts) proc) proc place e to wrong) (test_needed (frame_at (typed_program more.parts) proc) (local_count (typed_program more.parts) proc) e) w b (walked more) (walked mid) →
     new ≡ record mid { fault = earlier mid.fault (fault_of at w b) } →
-    MakesItem at (site_of (typed_program old.parts) number at ∷ []) (test_arcs (frame_at (typed_program old.parts) proc) proc place e to (error_place (typed_program old.parts) number))
-    (test_needed (frame_at (typed_program old.parts) proc) e) (walked old) (walked new)
+    MakesItem at (site_of (typed_program old.parts) number at ∷ []) (test_arcs (frame_at (typed_program old.parts) proc) (local_count (typed_program old.parts) proc) proc place e to (error_place (typed_program old.parts) number))
+    (test_needed (frame_at (typed_program old.parts) proc) (local_count (typed_program old.parts) proc) e) (walked old) (walked new)
 assert_led at number proc place to wrong e w b lay old more mid new d l k h f =
     let same : more.parts ≡ old.parts = ap (λ (x : WalkedParts). x.parts) d in
     let wrong_is : wrong ≡ error_place (typed_program old.parts) number = k ∙ ap (λ (x : TypedParts). error_place (typed_program x) number) (l ∙ same) in
-    let P : TypedParts → Type 0 = λ x. Leads (test_arcs (frame_at (typed_program x) proc) proc place e to wrong) (test_needed (frame_at (typed_program x) proc) e) w b (walked more) (walked mid) in
-    let Q : ℕ → Type 0 = λ x. Leads (test_arcs (frame_at (typed_program old.parts) proc) proc place e to x) (test_needed (frame_at (typed_program old.parts) proc) e) w b (walked more) (walked mid) in
+    let P : TypedParts → Type 0 = λ x. Leads (test_arcs (frame_at (typed_program x) proc) (local_count (typed_program x) proc) proc place e to wrong) (test_needed (frame_at (typed_program x) proc) (local_count (typed_program x) proc) e) w b (walked more) (walked mid) in
+    let Q : ℕ → Type 0 = λ x. Leads (test_arcs (frame_at (typed_program old.parts) proc) (local_count (typed_program old.parts) proc) proc place e to x) (test_needed (frame_at (typed_program old.parts) proc) (local_count (typed_program old.parts) proc) e) w b (walked more) (walked mid) in
     assertion_led at (site_of (typed_program old.parts) number at) _ _ w b old more mid new d (subst Q wrong_is (subst P same h)) f

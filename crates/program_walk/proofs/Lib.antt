@@ -6,5 +6,6 @@ pub mod WalkSteps
 pub mod ConditionSteps
 pub mod StartSteps
 pub mod Targets
+pub mod ReadForms
 pub mod WholeSteps
 mod HeadNumbers

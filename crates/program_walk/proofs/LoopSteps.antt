@@ -15,6 +15,7 @@ use Rattle.boogie_points.specs.Actions.{point_behind, first_assertion, first_pla
 use Rattle.boogie_points.proofs.ConditionLaws.{taken_less}
 use Rattle.boogie_places.specs.Places.{at_statement, parts_from, located}
 use Rattle.lowered_steps.specs.ProgramFrames.{frame_at, column_number}
+use Rattle.lowered_steps.specs.Edges.{local_count}
 use Rattle.lowered_graph.specs.Arcs.{place_number}
 use Rattle.lowered_parts.specs.Parts.{Walked, Leads, Adds}
 use Rattle.lowered_parts.specs.Lists.{skip_arcs}
@@ -35,6 +36,10 @@ all_at : {X : Type 0} (P : X → Type 0) (xs : List X) (i : ℕ) (x : X) → All
 all_at P [] i x h e = cc
 all_at P (y ∷ ys) zero x h e = let k : y ≡ x = cc in subst P k h.0
 all_at P (y ∷ ys) (suc i) x h e = all_at P ys i x h.1 e
+
+-- of a list that all fits in a program, what is read of it in the same program
+pub member_fits : {X : Type 0} (P : TypedProgram → X → Type 0) (t u : TypedProgram) (xs : List X) (i : ℕ) (x : X) → u ≡ t → AllByRecursion (P t) xs → slice_get xs i ≡ Some x → P u x
+member_fits P t u xs i x e h r = subst (λ (z : TypedProgram). P z x) (sym e) (all_at (P t) xs i x h r)
 
 pub stands_at : (t u : TypedProgram) (n : ℕ) (cs : List Column) (i : ℕ) (c : Column) → u ≡ t → AllByRecursion (StandsIn (frame_at t n)) cs → slice_get cs i ≡ Some c → StandsIn (frame_at u n) c
 stands_at t u n cs i c e h r = subst (λ (x : TypedProgram). StandsIn (frame_at x n) c) (sym e) (all_at (StandsIn (frame_at t n)) cs i c h r)
@@ -121,11 +126,11 @@ next_number is first i number next inv e h k = by inv.free refl k
 
 pub invariant_step : (t u : TypedProgram) (n : ℕ) (is : List TypedInvariant) (id at i number : ℕ) (inv : TypedInvariant) (old mid new : Walked) → u ≡ t → mid.program ≡ t → slice_get is i ≡ Some inv →
     number ≡ id + plain_invariants (take i is) → InvariantsDone t n is id at i old mid →
-    MakesItem inv.span (checked_sites u inv.free number inv.span) (checked_arcs u n (at + i) inv.free number inv.cond (at + i + 1)) (checked_needed (frame_at u n) inv.free inv.cond) mid new →
+    MakesItem inv.span (checked_sites u inv.free number inv.span) (checked_arcs u n (at + i) inv.free number inv.cond (at + i + 1)) (checked_needed (frame_at u n) (local_count u n) inv.free inv.cond) mid new →
     InvariantsDone t n is id at (i + 1) old new
 invariant_step t u n is id at i number inv old mid new e p d k done h = λ span g x b loop under q whole f l.
     let s : at + i + 1 ≡ at + (i + 1) = omega arith in
-    let P : TypedProgram → ℕ → Type 0 = λ y m. MakesItem inv.span (checked_sites y inv.free number inv.span) (checked_arcs y n (at + i) inv.free number inv.cond m) (checked_needed (frame_at y n) inv.free inv.cond) mid new in
+    let P : TypedProgram → ℕ → Type 0 = λ y m. MakesItem inv.span (checked_sites y inv.free number inv.span) (checked_arcs y n (at + i) inv.free number inv.cond m) (checked_needed (frame_at y n) (local_count y n) inv.free inv.cond) mid new in
     part_added n (at_statement (While span g is x) b loop id at under) i old mid new (done span g x b loop under q whole f l)
     (invariant_added t n q whole f l b loop id at under span g is x i inv number mid new p d k
     (subst (λ (m : ℕ). P t m) s (subst (λ (y : TypedProgram). P y (at + i + 1)) e h)))

@@ -17,7 +17,7 @@ use Rattle.typing_rules.specs.Counts.{checked_at_call}
 use Rattle.typing_rules.specs.TypedParts.{TypedParts, typed_program}
 use Rattle.letter_acts.specs.Acts.{PlainAct}
 use Rattle.letter_acts.specs.Frames.{Columns}
-use Rattle.cond_jumps.specs.Lists.{path_list}
+use Rattle.free_products.specs.FrameLetters.{path_letters}
 use Rattle.boogie_points.specs.Points.{Point}
 use Rattle.boogie_points.specs.Actions.{plain_conditions, start_conditions}
 use Rattle.boogie_points.specs.Starts.{start_point_of}
@@ -25,6 +25,7 @@ use Rattle.boogie_points.proofs.ConditionLaws.{plain_step, plain_requires_counte
 use Rattle.boogie_places.specs.Places.{parts_from, located}
 use Rattle.letter_table.specs.Letters.{exact_act, inside_arc, with_arc}
 use Rattle.lowered_steps.specs.ProgramFrames.{frame_at}
+use Rattle.lowered_steps.specs.Edges.{local_count}
 use Rattle.lowered_graph.specs.Arcs.{place_number, entering}
 use Rattle.lowered_graph.specs.Items.{path_needed, condition_span, start_span}
 use Rattle.boogie_tree.specs.Apart.{nowhere}
@@ -96,11 +97,11 @@ to_entry i m to entry e h = grind (arith, nat_tests)
 
 pub one_starts : (t : TypedProgram) (n count entry number to : ℕ) (e : TypedExpression) (at : Span) (old new : Walked) → old.program ≡ t → IsStart t n count entry →
     to ≡ (if nat_lt (number + 1) count then 1 + (number + 1) else entry) →
-    MakesItem at [] (list_arcs n (1 + number) [] (path_list (frame_at t n) e true) to) (path_needed (frame_at t n) e true ∷ []) old new → OneStarts t number e at old new
+    MakesItem at [] (list_arcs n (1 + number) [] (path_letters (frame_at t n) (local_count t n) e true) to) (path_needed (frame_at t n) (local_count t n) e true ∷ []) old new → OneStarts t number e at old new
 one_starts t n count entry number to e at old new p s leads h = λ q whole found body is is_at.
     let total : length (start_conditions t q) ≡ count = all_conditions t q ∙ sym (counted_conditions t n count entry q s found) in
-    let item : MakesItem at [] (list_arcs t.entry (1 + number) [] (path_list (frame_at t t.entry) e true) to) (path_needed (frame_at t t.entry) e true ∷ []) old new =
-    subst (λ (m : ℕ). MakesItem at [] (list_arcs m (1 + number) [] (path_list (frame_at t m) e true) to) (path_needed (frame_at t m) e true ∷ []) old new) s.proc h in
+    let item : MakesItem at [] (list_arcs t.entry (1 + number) [] (path_letters (frame_at t t.entry) (local_count t t.entry) e true) to) (path_needed (frame_at t t.entry) (local_count t t.entry) e true ∷ []) old new =
+    subst (λ (m : ℕ). MakesItem at [] (list_arcs m (1 + number) [] (path_letters (frame_at t m) (local_count t m) e true) to) (path_needed (frame_at t m) (local_count t m) e true ∷ []) old new) s.proc h in
     start_added t q whole found body number e at to old new p is
     (λ d more. to_next number count to entry leads (let l : number + 1 < length (start_conditions t q) = slice_get_within (start_conditions t q) (number + 1) d more in omega arith))
     (λ none. to_entry number count to entry leads (let l : length (start_conditions t q) ≤ number + 1 = none_within (start_conditions t q) (number + 1) none in omega arith) ∙ s.place)

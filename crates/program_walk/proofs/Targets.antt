@@ -25,7 +25,7 @@ use Rattle.lowered_steps.specs.ProgramFrames.{frame_at}
 use Rattle.program_layout.specs.Layouts.{StandsIn}
 use Rattle.program_walk.specs.Bounds.{TargetsStand, AllTargetsStand}
 
-contained : {X : Type 0} (xs : List X) (n : ℕ) (x : X) → slice_get xs n ≡ Some x → Contains xs x
+pub contained : {X : Type 0} (xs : List X) (n : ℕ) (x : X) → slice_get xs n ≡ Some x → Contains xs x
 contained xs n x e = (n, slice_get_within xs n x e, get_or_from_slice_get xs n x x e)
 
 -- ---- where columns are found
@@ -78,11 +78,11 @@ local_stands t n l v e =
 
 -- ---- the targets of one statement
 
-left_true : (a b : Bool) → (a && b) ≡ true → a ≡ true
+pub left_true : (a b : Bool) → (a && b) ≡ true → a ≡ true
 left_true true b e = refl
 left_true false b e = e
 
-right_true : (a b : Bool) → (a && b) ≡ true → b ≡ true
+pub right_true : (a b : Bool) → (a && b) ≡ true → b ≡ true
 right_true true b e = e
 right_true false b e = cc
 

@@ -14,9 +14,9 @@ use Rattle.letter_acts.specs.Frames.{Columns}
 use Rattle.boogie_points.specs.Points.{Todo, settled, past}
 use Rattle.boogie_points.specs.Stacks.{is_label}
 use Rattle.boogie_places.specs.Places.{at_statement, parts_from, located, points_in, points_of}
-use Rattle.cond_jumps.specs.Lists.{path_list, assign_list}
+use Rattle.free_products.specs.FrameLetters.{path_letters, assign_letters}
 use Rattle.lowered_steps.specs.ProgramFrames.{frame_at}
-use Rattle.lowered_steps.specs.Edges.{numbers_in}
+use Rattle.lowered_steps.specs.Edges.{local_count, numbers_in}
 use Rattle.lowered_graph.specs.Arcs.{place_number}
 use Rattle.lowered_graph.specs.Items.{path_needed}
 use Rattle.lowered_parts.specs.Parts.{Walked, Adds}
@@ -125,25 +125,25 @@ rest_fits t frame s b id at ni nj d e h =
     let l = h.0.last in
     let f : id + (assertions t.procs s + block_assertions t.procs b) < 2 ^ 32 = h.0.fits in
     let p : at + (points t.procs s + block_points t.procs b) < 2 ^ 32 = h.0.places in
-    (record { first = omega arith; last = omega arith; fits = omega arith; places = omega arith }, h.1.1)
+    (record { first = omega arith; last = omega arith; fits = omega arith; places = omega arith }, h.1.1, h.2.1)
 
 -- ---- statements without others in them
 
 pub assert_adds : (t : TypedProgram) (n exit : ℕ) (labels loops : List ℕ) (after : ℕ) (sp : Span) (e : TypedExpression) (id at : ℕ) (old new : Walked) → old.program ≡ t →
-    MakesItem sp (checked_sites t false id sp) (checked_arcs t n at false id e after) (checked_needed (frame_at t n) false e) old new → StatementAdds t n exit labels loops after (Assert sp e) id at old new
+    MakesItem sp (checked_sites t false id sp) (checked_arcs t n at false id e after) (checked_needed (frame_at t n) (local_count t n) false e) old new → StatementAdds t n exit labels loops after (Assert sp e) id at old new
 assert_adds t n exit labels loops after sp e id at old new p h = λ q whole b loop under body behind looped.
     assert_added t n q whole body.procedure body.statements b loop id at under sp e after old new p behind h
 
 pub assume_adds : (t : TypedProgram) (n exit : ℕ) (labels loops : List ℕ) (after : ℕ) (sp : Span) (e : TypedExpression) (id at : ℕ) (old new : Walked) → old.program ≡ t →
-    MakesItem sp [] (list_arcs n at [] (path_list (frame_at t n) e true) after) (path_needed (frame_at t n) e true ∷ []) old new → StatementAdds t n exit labels loops after (Assume sp e) id at old new
+    MakesItem sp [] (list_arcs n at [] (path_letters (frame_at t n) (local_count t n) e true) after) (path_needed (frame_at t n) (local_count t n) e true ∷ []) old new → StatementAdds t n exit labels loops after (Assume sp e) id at old new
 assume_adds t n exit labels loops after sp e id at old new p h = λ q whole b loop under body behind looped.
     assume_added t n q whole body.procedure body.statements b loop id at under sp e after old new p behind h
 
 pub assign_adds : (t : TypedProgram) (n exit : ℕ) (labels loops : List ℕ) (after : ℕ) (sp : Span) (cs : List Column) (es : List TypedExpression) (id at k : ℕ) (old new : Walked) → old.program ≡ t → k ≡ length es →
-    MakesItem sp [] (list_arcs n at (numbers_in (frame_at t n) cs) (assign_list (frame_at t n) k es) after) (write_needed (frame_at t n) es (length cs)) old new → StatementAdds t n exit labels loops after (Assign sp cs es) id at old new
+    MakesItem sp [] (list_arcs n at (numbers_in (frame_at t n) cs) (assign_letters (frame_at t n) (local_count t n) k es) after) (write_needed (frame_at t n) (local_count t n) es (length cs)) old new → StatementAdds t n exit labels loops after (Assign sp cs es) id at old new
 assign_adds t n exit labels loops after sp cs es id at k old new p e h = λ q whole b loop under body behind looped.
     assign_added t n q whole body.procedure body.statements b loop id at under sp cs es after old new p behind
-    (subst (λ (m : ℕ). MakesItem sp [] (list_arcs n at (numbers_in (frame_at t n) cs) (assign_list (frame_at t n) m es) after) (write_needed (frame_at t n) es (length cs)) old new) e h)
+    (subst (λ (m : ℕ). MakesItem sp [] (list_arcs n at (numbers_in (frame_at t n) cs) (assign_letters (frame_at t n) (local_count t n) m es) after) (write_needed (frame_at t n) (local_count t n) es (length cs)) old new) e h)
 
 pub plainly : (t : TypedProgram) (n exit : ℕ) (labels loops : List ℕ) (after : ℕ) (s : TypedStatement) (id at : ℕ) (old new : Walked) → PlainlyAdds t n after s id at old new → StatementAdds t n exit labels loops after s id at old new
 plainly t n exit labels loops after s id at old new h = λ q whole b loop under body behind looped. h q whole b loop under body.procedure body.statements behind
@@ -172,7 +172,7 @@ around_body t n loops exit after sp g is x b loop id at under h behind r i j (su
 pub forks : (t : TypedProgram) (n after : ℕ) (sp : Span) (g : TypedGuard) (x y : TypedBlock) (id at hit miss sid sat : ℕ) (old new : Walked) →
     old.program ≡ t → sid ≡ id + block_assertions t.procs x → sat ≡ at + 1 + block_points t.procs x →
     hit ≡ (if only_labels x then after else at + 1) → miss ≡ (if only_labels y then after else sat) →
-    MakesItem sp [] (guard_arcs (frame_at t n) n at g hit miss) (guard_needed (frame_at t n) g) old new → ForkAdds t n after sp g x y id at old new
+    MakesItem sp [] (guard_arcs (frame_at t n) (local_count t n) n at g hit miss) (guard_needed (frame_at t n) (local_count t n) g) old new → ForkAdds t n after sp g x y id at old new
 forks t n after sp g x y id at hit miss sid sat old new p is_sid is_sat is_hit is_miss made = λ q whole b loop under found body behind.
     let stack : List Todo = past t.procs (If sp g x y) b loop id at ∷ under in
     let hit_at = place_of_left t n q whole found body x false id (at + 1) stack hit after is_hit behind in
@@ -201,7 +201,7 @@ if_walked t u v n exit labels loops then_loops after sp g x y id at tid tat sid 
 
 pub heads : (t u : TypedProgram) (n after : ℕ) (sp : Span) (g : TypedGuard) (is : List TypedInvariant) (x : TypedBlock) (id at m hit fid fat : ℕ) (old invs new : Walked) →
     invs.program ≡ t → u ≡ t → m ≡ length is → fid ≡ id + plain_invariants is → fat ≡ at + m + 1 → hit ≡ (if only_labels x then at else fat) →
-    InvariantsAdd t n is id at old invs → MakesItem sp [] (guard_arcs (frame_at u n) n (at + m) g hit after) (guard_needed (frame_at u n) g) invs new → HeadAdds t n after sp g is x id at old new
+    InvariantsAdd t n is id at old invs → MakesItem sp [] (guard_arcs (frame_at u n) (local_count u n) n (at + m) g hit after) (guard_needed (frame_at u n) (local_count u n) g) invs new → HeadAdds t n after sp g is x id at old new
 heads t u n after sp g is x id at m hit fid fat old invs new p ut is_m is_fid is_fat is_hit invariants made = λ q whole b loop under found body behind.
     let here : Todo = record { rest = Then (While sp g is x) b; of_loop = loop; id = id; at = at } in
     let again : at ≡ place_number t n (settled (here ∷ under)) = sym (number_here t n q whole found body (While sp g is x) b loop id at under) in
@@ -209,7 +209,7 @@ heads t u n after sp g is x id at m hit fid fat old invs new p ut is_m is_fid is
     let hit_at = place_of_left t n q whole found body x true fid fat (here ∷ under) hit at is_hit again in
     let H : ℕ → ℕ → Type 0 = λ i j. hit ≡ place_number t n (settled (record { rest = x; of_loop = true; id = i; at = j } ∷ (here ∷ under))) in
     let hit_there : H (id + plain_invariants is) (at + length is + 1) = subst (λ (i : ℕ). H i (at + length is + 1)) is_fid (subst (λ (j : ℕ). H fid j) fat_is hit_at) in
-    let G : TypedProgram → ℕ → Type 0 = λ z k. MakesItem sp [] (guard_arcs (frame_at z n) n (at + k) g hit after) (guard_needed (frame_at z n) g) invs new in
+    let G : TypedProgram → ℕ → Type 0 = λ z k. MakesItem sp [] (guard_arcs (frame_at z n) (local_count z n) n (at + k) g hit after) (guard_needed (frame_at z n) (local_count z n) g) invs new in
     let made_there : G t (length is) = subst (λ (k : ℕ). G t k) is_m (subst (λ (z : TypedProgram). G z m) ut made) in
     part_added n (at_statement (While sp g is x) b loop id at under) (length is) old invs new (invariants sp g x b loop under q whole found body)
     (loop_added t n q whole found body b loop id at under sp g is x hit after invs new p hit_there behind made_there)
@@ -236,5 +236,5 @@ else_fits t u n sp g x y id at sid sat e d f h =
     let l = h.0.last in
     let k : id + (block_assertions t.procs x + block_assertions t.procs y) < 2 ^ 32 = h.0.fits in
     let p : at + (1 + (block_points t.procs x + block_points t.procs y)) < 2 ^ 32 = h.0.places in
-    let there : BlockFits t (frame_at t n) y sid sat = (record { first = omega arith; last = omega arith; fits = omega arith; places = omega arith }, h.1.1) in
+    let there : BlockFits t (frame_at t n) y sid sat = (record { first = omega arith; last = omega arith; fits = omega arith; places = omega arith }, h.1.1, h.2.2) in
     subst (λ (z : TypedProgram). BlockFits z (frame_at z n) y sid sat) (sym e) there

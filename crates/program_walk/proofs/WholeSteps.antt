@@ -25,6 +25,7 @@ use Rattle.label_places.proofs.LabelNumbers.{label_told}
 use Rattle.program_walk.specs.Bounds.{HasNumbers, BlockFits, BodyFits}
 use Rattle.program_walk.specs.Walks.{IsBody, AreLoops, BlockAdds}
 use Rattle.program_walk.specs.Conditions.{EntryAdds, ExitAdds, Begins, AllStart}
+use Rattle.program_walk.proofs.ReadForms.{body_reads, specifications_fit}
 use Rattle.program_walk.proofs.Targets.{body_stands}
 
 -- ---- the numbers of a procedure are among those of the program
@@ -58,8 +59,9 @@ body_fits t n q whole v e k =
     let errors : first_error t ≡ first_place t (length t.procs) = errors_behind t v in
     let all_fit : first_error t + length (program_sites t) < 2 ^ 32 = errors_fit t v in
     record {
+      specs = specifications_fit t n q v e;
       entry = omega arith;
-      statements = (record { first = omega arith; last = omega arith; fits = omega arith; places = omega arith }, body_stands t n q v e whole k);
+      statements = (record { first = omega arith; last = omega arith; fits = omega arith; places = omega arith }, body_stands t n q v e whole k, body_reads t n q v e whole k);
       exit = record { first = omega arith; last = omega arith; fits = omega arith; places = omega arith };
     }
 

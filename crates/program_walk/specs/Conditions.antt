@@ -3,12 +3,13 @@ use Rattle.std.specs.Prelude.{◌≡◌, ℕ, ◌+◌, true, false, List, [], �
 use Rattle.boogie_tree.specs.declared.span.Span.{Span}
 use Rattle.typed_tree.specs.TypedTree.{TypedExpression, TypedInvariant, TypedSpecification, TypedBlock, TypedProcedure, TypedProgram}
 use Rattle.typing_rules.specs.Counts.{block_assertions, block_points, one_if_plain, checked_at_call}
-use Rattle.cond_jumps.specs.Lists.{path_list}
+use Rattle.free_products.specs.FrameLetters.{path_letters}
 use Rattle.boogie_points.specs.Points.{Start, Entry, Point, at_exit}
 use Rattle.boogie_points.specs.Actions.{first_assertion, first_place, plain_conditions, free_conditions, ensured_conditions, start_conditions}
 use Rattle.boogie_places.specs.Places.{parts_from, located, start_points}
 use Rattle.letter_table.specs.Letters.{with_arc}
 use Rattle.lowered_steps.specs.ProgramFrames.{frame_at}
+use Rattle.lowered_steps.specs.Edges.{local_count}
 use Rattle.lowered_graph.specs.Arcs.{start_arc}
 use Rattle.lowered_graph.specs.Items.{path_needed, start_span}
 use Rattle.lowered_parts.specs.Parts.{Walked, Adds}
@@ -20,14 +21,14 @@ use Rattle.lowered_parts.specs.Items.{checked_sites, checked_arcs, checked_neede
 abbrev pub Assumed : TypedProgram → ℕ → ℕ → List TypedInvariant → Walked → Walked → Type 0
 Assumed t n at [] old new = new ≡ old
 Assumed t n at (i ∷ is) old new = (mid : Walked)
-    × (MakesItem i.span [] (list_arcs n at [] (path_list (frame_at t n) i.cond true) (at + 1)) (path_needed (frame_at t n) i.cond true ∷ []) old mid
+    × (MakesItem i.span [] (list_arcs n at [] (path_letters (frame_at t n) (local_count t n) i.cond true) (at + 1)) (path_needed (frame_at t n) (local_count t n) i.cond true ∷ []) old mid
     × Assumed t n (at + 1) is mid new)
 
 -- These conditions are asserted or, where they are free, assumed, one after another, from this assertion and place on.
 abbrev pub Checked : TypedProgram → ℕ → ℕ → ℕ → List TypedInvariant → Walked → Walked → Type 0
 Checked t n id at [] old new = new ≡ old
 Checked t n id at (i ∷ is) old new = (mid : Walked)
-    × (MakesItem i.span (checked_sites t i.free id i.span) (checked_arcs t n at i.free id i.cond (at + 1)) (checked_needed (frame_at t n) i.free i.cond) old mid
+    × (MakesItem i.span (checked_sites t i.free id i.span) (checked_arcs t n at i.free id i.cond (at + 1)) (checked_needed (frame_at t n) (local_count t n) i.free i.cond) old mid
     × Checked t n (id + one_if_plain i) (at + 1) is mid new)
 
 -- the point before a body's free requires

@@ -6,6 +6,7 @@ ghost use Rattle.typed_tree.specs.TypedView as view;
 ghost use Rattle.typing_rules.specs.Counts.{plain_invariants};
 ghost use Rattle.typing_rules.specs.TypedParts.{typed_program};
 ghost use Rattle.boogie_points.specs.Actions as spec;
+ghost use Rattle.place_edges.specs.Forms.{SpecificationFits, SpecificationsFit};
 ghost use Rattle.place_edges.specs.WalkedParts.{walked};
 ghost use Rattle.program_walk.specs.Bounds.{HasNumbers};
 ghost use Rattle.program_walk.specs.Conditions.{Assumed, Checked, EntryAdds, ExitAdds};
@@ -46,6 +47,7 @@ fn ensured(said: &TSpec) -> Option<&TInv>
 fn assume_said(lowering: &mut Lowering<'_>, here: Here, said: &TSpec) -> Result<u32, AllocError>
     requires procedure { IsSome (slice_get (typed_program lowering.old.parts).procs here.proc) }
     requires place { here.place + length (spec.free_conditions (view.specification said.now ∷ [])) < 2 ^ 32 }
+    requires fit { SpecificationFits (typed_program lowering.old.parts) (view.specification said.now) }
     ensures program { OnOk result (typed_program lowering.new.parts ≡ typed_program lowering.old.parts) }
     ensures place { IfOk result (λ next. next ≡ here.place + length (spec.free_conditions (view.specification said.now ∷ []))) }
     ensures assumed { OnOk result (Assumed (typed_program lowering.old.parts) here.proc here.place (spec.free_conditions (view.specification said.now ∷ [])) (walked lowering.old) (walked lowering.new)) }
@@ -66,6 +68,7 @@ pub(crate) fn entry_conditions(
 ) -> Result<(), AllocError>
     requires procedure { IsSome (slice_get (typed_program lowering.old.parts).procs here.proc) }
     requires places { here.place + length (spec.free_conditions (map view.specification specs.now)) < 2 ^ 32 }
+    requires fit { SpecificationsFit (typed_program lowering.old.parts) (map view.specification specs.now) }
     ensures program { OnOk result (typed_program lowering.new.parts ≡ typed_program lowering.old.parts) }
     ensures added { OnOk result (EntryAdds (typed_program lowering.old.parts) here.proc (map view.specification specs.now) here.place (walked lowering.old) (walked lowering.new)) }
 {
@@ -90,6 +93,7 @@ fn check_said(
     requires procedure { IsSome (slice_get (typed_program lowering.old.parts).procs proc) }
     requires numbers { HasNumbers (typed_program lowering.old.parts) first.assertion first.place (plain_invariants (spec.ensured_conditions (view.specification said.now ∷ [])))
         (length (spec.ensured_conditions (view.specification said.now ∷ []))) }
+    requires fit { SpecificationFits (typed_program lowering.old.parts) (view.specification said.now) }
     ensures program { OnOk result (typed_program lowering.new.parts ≡ typed_program lowering.old.parts) }
     ensures place { IfOk result (λ next. next.place ≡ first.place + length (spec.ensured_conditions (view.specification said.now ∷ []))) }
     ensures assertion { IfOk result (λ next. next.assertion ≡ first.assertion + plain_invariants (spec.ensured_conditions (view.specification said.now ∷ []))) }
@@ -118,6 +122,7 @@ pub(crate) fn exit_conditions(
     requires procedure { IsSome (slice_get (typed_program lowering.old.parts).procs proc) }
     requires numbers { HasNumbers (typed_program lowering.old.parts) first.assertion first.place (plain_invariants (spec.ensured_conditions (map view.specification specs.now)))
         (length (spec.ensured_conditions (map view.specification specs.now))) }
+    requires fit { SpecificationsFit (typed_program lowering.old.parts) (map view.specification specs.now) }
     ensures program { OnOk result (typed_program lowering.new.parts ≡ typed_program lowering.old.parts) }
     ensures added { OnOk result (ExitAdds (typed_program lowering.old.parts) proc (map view.specification specs.now) first.assertion first.place (walked lowering.old) (walked lowering.new)) }
 {

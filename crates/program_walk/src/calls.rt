@@ -1,21 +1,24 @@
 //! Calls.
 
-ghost use Rattle.std.specs.Prelude.{◌≡◌, ◌+◌, ◌<◌, ◌≤◌, ◌^◌, ℕ, List, Some, false, [], ◌∷◌, ◌++◌, map, length, IsSome, IfOk, OnOk, slice_get};
+ghost use Rattle.std.specs.Prelude.{◌≡◌, ◌+◌, ◌<◌, ◌≤◌, ◌^◌, ℕ, List, Some, false, [], ◌∷◌, ◌++◌, map, length, IsTrue, IsSome, IfOk, OnOk, slice_get};
 ghost use Rattle.std.specs.List.{AllByRecursion};
 ghost use Rattle.std.specs.Option.{option_map, option_to_list};
 ghost use Rattle.typed_tree.specs.TypedTree as tree;
 ghost use Rattle.typed_tree.specs.TypedView as view;
 ghost use Rattle.typing_rules.specs.Counts.{checked_at_call};
 ghost use Rattle.typing_rules.specs.TypedParts.{typed_program};
+ghost use Rattle.typing_rules.specs.ValidProgram.{is_valid};
 ghost use Rattle.boogie_points.specs.Actions.{plain_conditions};
 ghost use Rattle.boogie_run.specs.Needs.{locals_at};
 ghost use Rattle.lowered_steps.specs.ProgramFrames.{frame_at};
+ghost use Rattle.lowered_steps.specs.Edges.{local_count};
 ghost use Rattle.lowered_graph.specs.Arcs.{error_place};
 ghost use Rattle.lowered_parts.specs.Lists.{demand_arcs, demand_needed};
 ghost use Rattle.lowered_parts.specs.Parts.{Walked};
 ghost use Rattle.lowered_parts.specs.Making.{Makes};
 ghost use Rattle.lowered_parts.specs.Items.{site_of};
 ghost use Rattle.program_layout.specs.Layouts.{StandsIn};
+ghost use Rattle.place_edges.specs.Forms.{FormsFit, AllFormsFit, SpecificationFits, SpecificationsFit};
 ghost use Rattle.place_edges.specs.WalkedParts.{walked};
 ghost use Rattle.program_walk.specs.Bounds.{IsAssertion, HasNumbers};
 ghost use Rattle.program_walk.specs.Calls.{AreLeft, PartsMade, CallMade};
@@ -29,7 +32,8 @@ use typed_tree::{TExpr, TInv, TProc, TSpec};
 /// The procedure of that number.
 pub(crate) fn procedure_at<'a>(layout: &Layout<'a>, number: u32) -> &'a TProc
     requires { IsSome (slice_get (typed_program layout.now).procs number) }
-    ensures { slice_get (typed_program layout.now).procs number ≡ Some (view.procedure result.now) }
+    ensures valid { IsTrue (is_valid (typed_program layout.now)) }
+    ensures listed { slice_get (typed_program layout.now).procs number ≡ Some (view.procedure result.now) }
 {
     layout.program().procs().get(number as usize).unwrap()
 }
@@ -61,11 +65,13 @@ fn demand_one(
     requires procedure { IsSome (slice_get (typed_program lowering.old.parts).procs here.proc) }
     requires number { IsAssertion (typed_program lowering.old.parts) false number }
     requires place { here.place + 1 < 2 ^ 32 }
+    requires fit_args { AllFormsFit (typed_program lowering.old.parts) (map view.expression called.args.now) }
+    requires fit { FormsFit (typed_program lowering.old.parts) (view.expression cond.now) }
     ensures program { OnOk result (typed_program lowering.new.parts ≡ typed_program lowering.old.parts) }
     ensures made { IfOk result (λ x. Makes (site_of (typed_program lowering.old.parts) number called.entry.span ∷ [])
-        (demand_arcs (frame_at (typed_program lowering.old.parts) here.proc) here.proc here.place (map view.expression called.entry.args.now) (view.expression cond.now)
+        (demand_arcs (frame_at (typed_program lowering.old.parts) here.proc) (local_count (typed_program lowering.old.parts) here.proc) here.proc here.place (map view.expression called.entry.args.now) (view.expression cond.now)
         (here.place + 1) (error_place (typed_program lowering.old.parts) number))
-        (demand_needed (frame_at (typed_program lowering.old.parts) here.proc) (map view.expression called.entry.args.now) (view.expression cond.now))
+        (demand_needed (frame_at (typed_program lowering.old.parts) here.proc) (local_count (typed_program lowering.old.parts) here.proc) (map view.expression called.entry.args.now) (view.expression cond.now))
         x.wide x.big (walked lowering.old) (walked lowering.new)) }
 {
     lowering.assertion(number, called.span)?;
@@ -91,6 +97,8 @@ fn demand_said(
 ) -> Result<Demanded, AllocError>
     requires procedure { IsSome (slice_get (typed_program lowering.old.parts).procs here.proc) }
     requires numbers { HasNumbers (typed_program lowering.old.parts) (first + done.count) (here.place + done.count) (length (plain_conditions (view.specification said.now ∷ []))) 1 }
+    requires fit_args { AllFormsFit (typed_program lowering.old.parts) (map view.expression called.args.now) }
+    requires fit { SpecificationFits (typed_program lowering.old.parts) (view.specification said.now) }
     ensures program { OnOk result (typed_program lowering.new.parts ≡ typed_program lowering.old.parts) }
     ensures left { IfOk result (λ d. (all rest : List tree.TypedInvariant) → AreLeft all done.count (plain_conditions (view.specification said.now ∷ []) ++ rest) → AreLeft all d.count rest) }
     ensures made { IfOk result (λ d. (all rest : List tree.TypedInvariant) (w : Walked) → AreLeft all done.count (plain_conditions (view.specification said.now ∷ []) ++ rest) →
@@ -123,6 +131,8 @@ fn demands(
 ) -> Result<Demanded, AllocError>
     requires procedure { IsSome (slice_get (typed_program lowering.old.parts).procs here.proc) }
     requires numbers { HasNumbers (typed_program lowering.old.parts) first here.place (length (plain_conditions (map view.specification specs.now))) (length (plain_conditions (map view.specification specs.now)) + 1) }
+    requires fit_args { AllFormsFit (typed_program lowering.old.parts) (map view.expression called.args.now) }
+    requires fit { SpecificationsFit (typed_program lowering.old.parts) (map view.specification specs.now) }
     ensures program { OnOk result (typed_program lowering.new.parts ≡ typed_program lowering.old.parts) }
     ensures count { IfOk result (λ d. d.count ≡ length (plain_conditions (map view.specification specs.now))) }
     ensures made { IfOk result (λ d.
@@ -151,6 +161,8 @@ fn perform(
     requires callee { slice_get (typed_program lowering.old.parts).procs called.callee ≡ Some (view.procedure callee.now) }
     requires targets { AllByRecursion (StandsIn (frame_at (typed_program lowering.old.parts) here.proc)) called.targets.now }
     requires arguments { length called.args.now ≤ length (locals_at (typed_program lowering.old.parts) called.callee) }
+    requires fit_args { AllFormsFit (typed_program lowering.old.parts) (map view.expression called.args.now) }
+    requires fit { SpecificationsFit (typed_program lowering.old.parts) (view.procedure callee.now).specs }
     ensures program { OnOk result (typed_program lowering.new.parts ≡ typed_program lowering.old.parts) }
     ensures made { IfOk result (λ x. CallMade (typed_program lowering.old.parts) here.proc called.entry.span called.entry.targets.now called.entry.callee (map view.expression called.entry.args.now)
         (view.procedure callee.now) here.place after x.wide x.big (walked lowering.old) (walked lowering.new)) }
@@ -173,6 +185,7 @@ pub(crate) fn call(
     requires callee { IsSome (slice_get (typed_program lowering.old.parts).procs called.callee) }
     requires targets { AllByRecursion (StandsIn (frame_at (typed_program lowering.old.parts) here.proc)) called.targets.now }
     requires arguments { length called.args.now ≤ length (locals_at (typed_program lowering.old.parts) called.callee) }
+    requires fit { AllFormsFit (typed_program lowering.old.parts) (map view.expression called.args.now) }
     requires numbers { HasNumbers (typed_program lowering.old.parts) first here.place (checked_at_call (slice_get (typed_program lowering.old.parts).procs called.callee))
         (checked_at_call (slice_get (typed_program lowering.old.parts).procs called.callee) + 1) }
     ensures program { OnOk result (typed_program lowering.new.parts ≡ typed_program lowering.old.parts) }

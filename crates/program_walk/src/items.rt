@@ -4,14 +4,15 @@ ghost use Rattle.std.specs.Prelude.{◌≡◌, ◌<◌, ◌≤◌, [], ◌∷◌
 ghost use Rattle.std.specs.List.{AllByRecursion};
 ghost use Rattle.typed_tree.specs.TypedView as view;
 ghost use Rattle.typing_rules.specs.TypedParts.{typed_program};
-ghost use Rattle.cond_jumps.specs.Lists.{path_list, assign_list};
+ghost use Rattle.free_products.specs.FrameLetters.{path_letters, assign_letters};
 ghost use Rattle.lowered_steps.specs.ProgramFrames.{frame_at};
-ghost use Rattle.lowered_steps.specs.Edges.{numbers_in};
+ghost use Rattle.lowered_steps.specs.Edges.{local_count, numbers_in};
 ghost use Rattle.lowered_graph.specs.Items.{path_needed};
 ghost use Rattle.lowered_parts.specs.Lists.{list_arcs, guard_arcs, guard_needed, write_needed};
 ghost use Rattle.lowered_parts.specs.Making.{MakesItem};
 ghost use Rattle.lowered_parts.specs.Items.{checked_sites, checked_arcs, checked_needed};
 ghost use Rattle.program_layout.specs.Layouts.{StandsIn};
+ghost use Rattle.place_edges.specs.Forms.{FormsFit, AllFormsFit, GuardFits};
 ghost use Rattle.place_edges.specs.WalkedParts.{walked};
 ghost use Rattle.program_walk.specs.Bounds.{IsAssertion};
 
@@ -28,10 +29,11 @@ pub(crate) fn assume(
     cond: &TExpr,
     to: u32,
 ) -> Result<(), AllocError>
-    requires { IsSome (slice_get (typed_program lowering.old.parts).procs here.proc) }
+    requires procedure { IsSome (slice_get (typed_program lowering.old.parts).procs here.proc) }
+    requires fit { FormsFit (typed_program lowering.old.parts) (view.expression cond.now) }
     ensures program { OnOk result (typed_program lowering.new.parts ≡ typed_program lowering.old.parts) }
-    ensures item { OnOk result (MakesItem span [] (list_arcs here.proc here.place [] (path_list (frame_at (typed_program lowering.old.parts) here.proc) (view.expression cond.now) true) to)
-        (path_needed (frame_at (typed_program lowering.old.parts) here.proc) (view.expression cond.now) true ∷ []) (walked lowering.old) (walked lowering.new)) }
+    ensures item { OnOk result (MakesItem span [] (list_arcs here.proc here.place [] (path_letters (frame_at (typed_program lowering.old.parts) here.proc) (local_count (typed_program lowering.old.parts) here.proc) (view.expression cond.now) true) to)
+        (path_needed (frame_at (typed_program lowering.old.parts) here.proc) (local_count (typed_program lowering.old.parts) here.proc) (view.expression cond.now) true ∷ []) (walked lowering.old) (walked lowering.new)) }
 {
     let trouble = suppose(lowering, here, cond, to)?;
     lowering.note(span, trouble);
@@ -49,10 +51,11 @@ pub(crate) fn assert(
 ) -> Result<(), AllocError>
     requires procedure { IsSome (slice_get (typed_program lowering.old.parts).procs here.proc) }
     requires number { IsAssertion (typed_program lowering.old.parts) false number }
+    requires fit { FormsFit (typed_program lowering.old.parts) (view.expression cond.now) }
     ensures program { OnOk result (typed_program lowering.new.parts ≡ typed_program lowering.old.parts) }
     ensures item { OnOk result (MakesItem span (checked_sites (typed_program lowering.old.parts) false number span)
         (checked_arcs (typed_program lowering.old.parts) here.proc here.place false number (view.expression cond.now) to)
-        (checked_needed (frame_at (typed_program lowering.old.parts) here.proc) false (view.expression cond.now)) (walked lowering.old) (walked lowering.new)) }
+        (checked_needed (frame_at (typed_program lowering.old.parts) here.proc) (local_count (typed_program lowering.old.parts) here.proc) false (view.expression cond.now)) (walked lowering.old) (walked lowering.new)) }
 {
     lowering.assertion(number, span)?;
     let wrong = lowering.layout().error_place(number);
@@ -71,10 +74,11 @@ pub(crate) fn check(
 ) -> Result<(), AllocError>
     requires procedure { IsSome (slice_get (typed_program lowering.old.parts).procs here.proc) }
     requires number { IsAssertion (typed_program lowering.old.parts) condition.now.free number }
+    requires fit { FormsFit (typed_program lowering.old.parts) (view.expression condition.now.cond) }
     ensures program { OnOk result (typed_program lowering.new.parts ≡ typed_program lowering.old.parts) }
     ensures item { OnOk result (MakesItem condition.now.span (checked_sites (typed_program lowering.old.parts) condition.now.free number condition.now.span)
         (checked_arcs (typed_program lowering.old.parts) here.proc here.place condition.now.free number (view.expression condition.now.cond) to)
-        (checked_needed (frame_at (typed_program lowering.old.parts) here.proc) condition.now.free (view.expression condition.now.cond)) (walked lowering.old) (walked lowering.new)) }
+        (checked_needed (frame_at (typed_program lowering.old.parts) here.proc) (local_count (typed_program lowering.old.parts) here.proc) condition.now.free (view.expression condition.now.cond)) (walked lowering.old) (walked lowering.new)) }
 {
     if condition.free {
         assume(lowering, here, condition.span, &condition.cond, to)
@@ -92,10 +96,11 @@ pub(crate) fn choose(
     hit: u32,
     miss: u32,
 ) -> Result<(), AllocError>
-    requires { IsSome (slice_get (typed_program lowering.old.parts).procs here.proc) }
+    requires procedure { IsSome (slice_get (typed_program lowering.old.parts).procs here.proc) }
+    requires fit { GuardFits (typed_program lowering.old.parts) (view.guard chosen.now) }
     ensures program { OnOk result (typed_program lowering.new.parts ≡ typed_program lowering.old.parts) }
-    ensures item { OnOk result (MakesItem span [] (guard_arcs (frame_at (typed_program lowering.old.parts) here.proc) here.proc here.place (view.guard chosen.now) hit miss)
-        (guard_needed (frame_at (typed_program lowering.old.parts) here.proc) (view.guard chosen.now)) (walked lowering.old) (walked lowering.new)) }
+    ensures item { OnOk result (MakesItem span [] (guard_arcs (frame_at (typed_program lowering.old.parts) here.proc) (local_count (typed_program lowering.old.parts) here.proc) here.proc here.place (view.guard chosen.now) hit miss)
+        (guard_needed (frame_at (typed_program lowering.old.parts) here.proc) (local_count (typed_program lowering.old.parts) here.proc) (view.guard chosen.now)) (walked lowering.old) (walked lowering.new)) }
 {
     let trouble = guard(lowering, here, chosen, hit, miss)?;
     lowering.note(span, trouble);
@@ -114,10 +119,11 @@ pub(crate) fn assign(
     requires procedure { IsSome (slice_get (typed_program lowering.old.parts).procs here.proc) }
     requires targets { AllByRecursion (StandsIn (frame_at (typed_program lowering.old.parts) here.proc)) targets.now }
     requires each { length targets.now ≡ length values.now }
+    requires fit { AllFormsFit (typed_program lowering.old.parts) (map view.expression values.now) }
     ensures program { OnOk result (typed_program lowering.new.parts ≡ typed_program lowering.old.parts) }
     ensures item { OnOk result (MakesItem span [] (list_arcs here.proc here.place (numbers_in (frame_at (typed_program lowering.old.parts) here.proc) targets.now)
-        (assign_list (frame_at (typed_program lowering.old.parts) here.proc) (length values.now) (map view.expression values.now)) to)
-        (write_needed (frame_at (typed_program lowering.old.parts) here.proc) (map view.expression values.now) (length targets.now)) (walked lowering.old) (walked lowering.new)) }
+        (assign_letters (frame_at (typed_program lowering.old.parts) here.proc) (local_count (typed_program lowering.old.parts) here.proc) (length values.now) (map view.expression values.now)) to)
+        (write_needed (frame_at (typed_program lowering.old.parts) here.proc) (local_count (typed_program lowering.old.parts) here.proc) (map view.expression values.now) (length targets.now)) (walked lowering.old) (walked lowering.new)) }
 {
     let trouble = write(lowering, here, targets, values, to)?;
     lowering.note(span, trouble);

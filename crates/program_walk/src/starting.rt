@@ -14,6 +14,7 @@ ghost use Rattle.letter_table.specs.Letters.{inside_arc, with_arc};
 ghost use Rattle.boogie_points.specs.Actions.{plain_conditions};
 ghost use Rattle.lowered_steps.specs.ProgramFrames.{frame_at};
 ghost use Rattle.lowered_graph.specs.Arcs.{entering, entering_rows};
+ghost use Rattle.place_edges.specs.Forms.{FormsFit, SpecificationFits};
 ghost use Rattle.place_edges.specs.WalkedParts.{walked};
 ghost use Rattle.program_walk.specs.Conditions.{IsStart, StartAdds, OneStarts, SaidStarts, AllStart, Begins};
 
@@ -171,6 +172,7 @@ fn start_condition(
     requires procedure { IsSome (slice_get (typed_program lowering.old.parts).procs start.proc) }
     requires start { IsStart (typed_program lowering.old.parts) start.proc start.conditions start.entry }
     requires number { number < start.conditions }
+    requires fit { FormsFit (typed_program lowering.old.parts) (view.expression cond.now) }
     ensures program { OnOk result (typed_program lowering.new.parts ≡ typed_program lowering.old.parts) }
     ensures starts { OnOk result (OneStarts (typed_program lowering.old.parts) number (view.expression cond.now) span (walked lowering.old) (walked lowering.new)) }
 {
@@ -208,6 +210,7 @@ fn start_said(
     requires procedure { IsSome (slice_get (typed_program lowering.old.parts).procs start.proc) }
     requires start { IsStart (typed_program lowering.old.parts) start.proc start.conditions start.entry }
     requires number { number + length (plain_conditions (view.specification said.now ∷ [])) ≤ start.conditions }
+    requires fit { SpecificationFits (typed_program lowering.old.parts) (view.specification said.now) }
     ensures program { OnOk result (typed_program lowering.new.parts ≡ typed_program lowering.old.parts) }
     ensures number { IfOk result (λ next. next ≡ number + length (plain_conditions (view.specification said.now ∷ []))) }
     ensures starts { OnOk result ((rest : List tree.TypedInvariant) → SaidStarts (typed_program lowering.old.parts) number (plain_conditions (view.specification said.now ∷ [])) rest (walked lowering.old) (walked lowering.new)) }

@@ -12,6 +12,7 @@ ghost use Rattle.lowered_parts.specs.Lists.{skip_arcs};
 ghost use Rattle.lowered_parts.specs.Items.{only_labels, ways_arcs};
 ghost use Rattle.lowered_parts.specs.Parts.{Leads};
 ghost use Rattle.program_layout.specs.Layouts.{StandsIn};
+ghost use Rattle.place_edges.specs.Forms.{InvariantsFit};
 ghost use Rattle.place_edges.specs.WalkedParts.{walked};
 ghost use Rattle.program_walk.specs.Bounds.{HasNumbers};
 ghost use Rattle.program_walk.specs.Walks.{behind_loop, label_or_exit, InvariantsAdd, PlainlyAdds, StatementAdds};
@@ -129,6 +130,7 @@ pub(crate) fn invariants(
 ) -> Result<u32, AllocError>
     requires procedure { IsSome (slice_get (typed_program lowering.old.parts).procs here.proc) }
     requires numbers { HasNumbers (typed_program lowering.old.parts) first here.place (plain_invariants (map view.invariant conditions.now)) (length conditions.now) }
+    requires fit { InvariantsFit (typed_program lowering.old.parts) (map view.invariant conditions.now) }
     ensures program { OnOk result (typed_program lowering.new.parts ≡ typed_program lowering.old.parts) }
     ensures number { IfOk result (λ n. n ≡ first + plain_invariants (map view.invariant conditions.now)) }
     ensures added { OnOk result (InvariantsAdd (typed_program lowering.old.parts) here.proc (map view.invariant conditions.now) first here.place (walked lowering.old) (walked lowering.new)) }

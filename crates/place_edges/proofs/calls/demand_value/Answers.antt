@@ -1,20 +1,44 @@
-use Rattle.std.proofs.Common.{map, subst}
+use Rattle.std.proofs.Common.{◌≡◌, ℕ, ◌+◌, List, map, length, sym, subst}
 use Rattle.letter_acts.specs.Frames.{Columns}
+use Rattle.typed_tree.specs.TypedTree.{TypedExpression, TypedProgram}
 use Rattle.typed_tree.specs.TypedView.{expression}
-use Rattle.lowered_steps.specs.Edges.{passed_list}
-use Rattle.lowered_graph.specs.Items.{passed_needed}
+use Rattle.typing_rules.specs.TypedParts.{typed_program}
+use Rattle.cond_jumps.specs.Frames.{fixed_in}
+use Rattle.free_products.specs.FrameLetters.{passed_count, passed_letters, told_condition}
+use Rattle.lowered_steps.specs.Edges.{local_count}
+use Rattle.lowered_steps.specs.ProgramFrames.{frame_at}
+use Rattle.lowered_graph.specs.Items.{Needed, passed_needed}
+use Rattle.lowered_graph.proofs.EdgeActs.{wide_length}
+use Rattle.call_jumps.specs.CallLists.{demand_base, demand_plan}
 use Rattle.place_edges.specs.Answered.{IsAnswer}
-use Rattle.place_edges.proofs.LeadLemmas.{answered}
+use Rattle.place_edges.proofs.FrameConstants.{all_forms_by, forms_by, frame_constants}
+use Rattle.place_edges.proofs.LeadLemmas.{answered, at_frame}
 use Rattle.place_edges.proofs.calls.demand_value.Goals as goal
+
+pub demanded-answer-requires-clause-constants : goal.demanded-answer-requires-clause-constants
+demanded-answer-requires-clause-constants c =
+    frame_constants (typed_program c.args.lowering.now.parts) c.args.here.proc c.frame.result.now.columns.items c.globals.result.now c.frame.ensures c.globals.ensures
+
+pub demanded-answer-requires-clause-fit_args : goal.demanded-answer-requires-clause-fit_args
+demanded-answer-requires-clause-fit_args c =
+    all_forms_by (typed_program c.args.lowering.now.parts) c.globals.result.now (map expression c.args.args.now) c.globals.ensures c.requires.fit_args
+
+pub demanded-answer-requires-clause-fit : goal.demanded-answer-requires-clause-fit
+demanded-answer-requires-clause-fit c =
+    forms_by (typed_program c.args.lowering.now.parts) c.globals.result.now (expression c.args.cond.now) c.globals.ensures c.requires.fit
 
 pub returns : goal.returns
 returns c =
     let e = c.demanded-answer.ensures in
+    let t : TypedProgram = typed_program c.args.lowering.now.parts in
     let f : Columns = c.frame.result.now.columns.items in
-    c.lead_by.ensures _ _
-    (subst
-    (λ (f : Columns). IsAnswer (passed_list f (map expression c.args.args.now) (expression c.args.cond.now) c.args.want)
-    (passed_needed f (map expression c.args.args.now) (expression c.args.cond.now) c.args.want) c.demanded-answer.result)
-    c.frame.ensures
-    (answered (passed_list f (map expression c.args.args.now) (expression c.args.cond.now) c.args.want)
-    (passed_needed f (map expression c.args.args.now) (expression c.args.cond.now) c.args.want) c.demanded-answer.result e.list e.narrow e.fits e.too_wide e.too_big))
+    let m : ℕ = c.local_count.result in
+    let args : List TypedExpression = map expression c.args.args.now in
+    let cond : TypedExpression = expression c.args.cond.now in
+    let needed : ℕ → Needed = λ n. record { plan = demand_plan f m args cond c.args.want; base = n } in
+    let P : Columns → ℕ → Type 0 = λ g k. IsAnswer (passed_letters g k args cond c.args.want) (passed_needed g k args cond c.args.want) c.demanded-answer.result in
+    let found : P f m =
+    subst (λ (n : ℕ). IsAnswer (passed_letters f m args cond c.args.want) (needed n) c.demanded-answer.result)
+    (sym (wide_length f m (passed_count f args (told_condition (fixed_in f) args cond))))
+    (answered (passed_letters f m args cond c.args.want) (needed (demand_base f args cond)) c.demanded-answer.result e.list e.narrow e.fits e.too_wide e.too_big) in
+    c.lead_by.ensures _ _ (at_frame P f (frame_at t c.args.here.proc) m (local_count t c.args.here.proc) c.frame.ensures c.local_count.ensures found)

@@ -4,9 +4,9 @@ use Rattle.letter_acts.specs.Frames.{Columns}
 use Rattle.typed_tree.specs.TypedTree.{TypedExpression, TypedProcedure}
 use Rattle.typed_tree.specs.TypedView.{expression, procedure}
 use Rattle.typing_rules.specs.TypedParts.{typed_program}
-use Rattle.cond_jumps.specs.Conjs.{conjunctions}
+use Rattle.free_products.specs.LetterView.{all_marked}
 use Rattle.lowered_steps.specs.ProgramFrames.{frame_at}
-use Rattle.lowered_steps.specs.Edges.{import_list, import_written, numbers_in}
+use Rattle.lowered_steps.specs.Edges.{import_letters, import_written, local_count, numbers_in}
 use Rattle.lowered_parts.specs.Lists.{list_arcs}
 use Rattle.place_edges.specs.Answered.{IsRefused, ensures_needed}
 use Rattle.place_edges.specs.WalkedParts.{walked}
@@ -16,8 +16,8 @@ use Rattle.place_edges.proofs.calls.import.Goals as goal
 pub returns-in-Ok : goal.returns-in-Ok
 returns-in-Ok c =
     let frame : Columns = frame_at (typed_program c.args.lowering.now.parts) c.args.here.proc in
-    import_led c.args.here.proc c.args.here.place c.args.after frame c.args.lowering.now.parts.globals (procedure c.args.callee.now) (map expression c.args.called.args.now)
-    c.deref.result.now (numbers_in frame c.args.called.targets.now) c.deref-in-Ok.result.now (conjunctions c.in-Ok.made.conjs.items)
+    import_led c.args.here.proc c.args.here.place c.args.after frame (local_count (typed_program c.args.lowering.now.parts) c.args.here.proc) c.args.lowering.now.parts.globals (procedure c.args.callee.now) (map expression c.args.called.args.now)
+    c.deref.result.now (numbers_in frame c.args.called.targets.now) c.deref-in-Ok.result.now (all_marked c.in-Ok.made.conjs.items)
     (walked c.args.lowering.now) (walked c.lead.new.self)
     (c.deref.ensures.value ∙ c.in_ok-targets.ensures c.args.here.proc c.requires.targets) (c.deref-in-Ok.ensures.value ∙ c.in-Ok.ensures.0) c.in-Ok.ensures.1 c.in-Ok.ensures.2
     (ap walked c.in_ok-lead-in-Ok.ensures)
@@ -25,12 +25,13 @@ returns-in-Ok c =
 pub returns : goal.returns
 returns c =
     let frame : Columns = frame_at (typed_program c.args.lowering.now.parts) c.args.here.proc in
+    let m : ℕ = local_count (typed_program c.args.lowering.now.parts) c.args.here.proc in
     let globals : List VarInfo = c.args.lowering.now.parts.globals in
     let q : TypedProcedure = procedure c.args.callee.now in
     let args : List TypedExpression = map expression c.args.called.args.now in
     let ts : List ℕ = numbers_in frame c.args.called.targets.now in
-    told_refused (list_arcs c.args.here.proc c.args.here.place (import_written q.modifies ts) (import_list frame globals q args ts) c.args.after)
-    (ensures_needed frame globals q args ts) c.in-Err.fault c.told.result (walked c.args.lowering.now)
-    (subst (λ (us : List ℕ). IsRefused (ensures_needed frame globals q args us) c.in-Err.fault)
+    told_refused (list_arcs c.args.here.proc c.args.here.place (import_written q.modifies ts) (import_letters frame m globals q args ts) c.args.after)
+    (ensures_needed frame m globals q args ts) c.in-Err.fault c.told.result (walked c.args.lowering.now)
+    (subst (λ (us : List ℕ). IsRefused (ensures_needed frame m globals q args us) c.in-Err.fault)
     (c.deref.ensures.value ∙ c.in_ok-targets.ensures c.args.here.proc c.requires.targets) c.in-Err.ensures)
     c.told.ensures

@@ -1,19 +1,37 @@
-use Rattle.std.proofs.Common.{List, map, subst}
+use Rattle.std.proofs.Common.{ℕ, List, map, subst}
 use Rattle.boogie_tree.specs.declared.tree.VarInfo.{VarInfo}
 use Rattle.letter_acts.specs.Frames.{Columns}
+use Rattle.typed_tree.specs.TypedTree.{TypedExpression, TypedProcedure, TypedProgram}
 use Rattle.typed_tree.specs.TypedView.{expression, procedure}
 use Rattle.typing_rules.specs.TypedParts.{typed_program}
+use Rattle.lowered_steps.specs.Edges.{local_count}
 use Rattle.lowered_steps.specs.ProgramFrames.{frame_at}
 use Rattle.place_edges.specs.Answered.{IsImported}
-use Rattle.place_edges.proofs.LeadLemmas.{import_answered}
+use Rattle.place_edges.proofs.FrameConstants.{all_forms_by, ensured_by, frame_constants}
+use Rattle.place_edges.proofs.LeadLemmas.{at_frame, import_answered}
 use Rattle.place_edges.proofs.calls.left.Goals as goal
+
+pub imported-requires-clause-constants : goal.imported-requires-clause-constants
+imported-requires-clause-constants c =
+    frame_constants (typed_program c.args.lowering.now.parts) c.args.proc c.frame.result.now.columns.items c.globals.result.now c.frame.ensures c.globals.ensures
+
+pub imported-requires-clause-fit_args : goal.imported-requires-clause-fit_args
+imported-requires-clause-fit_args c =
+    all_forms_by (typed_program c.args.lowering.now.parts) c.globals.result.now (map expression c.args.args.now) c.globals.ensures c.requires.fit_args
+
+pub imported-requires-clause-fit : goal.imported-requires-clause-fit
+imported-requires-clause-fit c =
+    ensured_by (typed_program c.args.lowering.now.parts) c.globals.result.now (procedure c.args.callee.now).specs c.globals.ensures c.requires.fit
 
 pub returns : goal.returns
 returns c =
     let e = c.imported.ensures in
-    let F : Columns = frame_at (typed_program c.args.lowering.now.parts) c.args.proc in
+    let t : TypedProgram = typed_program c.args.lowering.now.parts in
     let f : Columns = c.frame.result.now.columns.items in
-    subst (λ (g : List VarInfo). IsImported F g (procedure c.args.callee.now) (map expression c.args.args.now) c.args.targets.now c.imported.result) c.globals.ensures
-    (subst (λ (f : Columns). IsImported f c.globals.result.now (procedure c.args.callee.now) (map expression c.args.args.now) c.args.targets.now c.imported.result) c.frame.ensures
-    (import_answered f c.globals.result.now (procedure c.args.callee.now) (map expression c.args.args.now) c.args.targets.now c.imported.result
-    e.written e.list e.narrow e.fits e.too_wide e.too_big))
+    let m : ℕ = c.local_count.result in
+    let q : TypedProcedure = procedure c.args.callee.now in
+    let args : List TypedExpression = map expression c.args.args.now in
+    let P : List VarInfo → Columns → ℕ → Type 0 = λ g f m. IsImported f m g q args c.args.targets.now c.imported.result in
+    subst (λ (g : List VarInfo). P g (frame_at t c.args.proc) (local_count t c.args.proc)) c.globals.ensures
+    (at_frame (P c.globals.result.now) f (frame_at t c.args.proc) m (local_count t c.args.proc) c.frame.ensures c.local_count.ensures
+    (import_answered f m c.globals.result.now q args c.args.targets.now c.imported.result e.written e.list e.narrow e.fits e.too_wide e.too_big))

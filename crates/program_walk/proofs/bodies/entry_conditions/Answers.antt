@@ -4,7 +4,14 @@ use Rattle.typing_rules.specs.TypedParts.{typed_program}
 use Rattle.place_edges.specs.WalkedParts.{walked}
 use Rattle.program_walk.proofs.ItemSteps.{still_there}
 use Rattle.program_walk.proofs.ConditionSteps.{left_at_index, free_room, free_counted, assumed_more, assumed_none, entry_ends}
+use Rattle.program_walk.proofs.LoopSteps.{member_fits, seen_at}
+use Rattle.place_edges.specs.Forms.{SpecificationFits}
 use Rattle.program_walk.proofs.bodies.entry_conditions.Goals as goal
+
+pub assume_said-requires-clause-fit : goal.assume_said-requires-clause-fit
+assume_said-requires-clause-fit c =
+    member_fits SpecificationFits (typed_program c.args.lowering.now.parts) (typed_program c.loop-said.lowering.parts) (map view.specification c.args.specs.now) c.loop-said.said-index (view.specification c.said-item.result)
+    c.loop-said.invariant.program c.requires.fit (seen_at view.specification c.args.specs.now c.loop-said.said-index c.said-item.result c.loop-said-test.true c.said-item.is)
 
 pub assume_said-requires-clause-procedure : goal.assume_said-requires-clause-procedure
 assume_said-requires-clause-procedure c =

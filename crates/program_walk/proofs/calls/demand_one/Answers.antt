@@ -1,7 +1,13 @@
-use Rattle.std.proofs.Common.{◌+◌, map}
+use Rattle.std.proofs.Common.{◌+◌, map, sym, subst}
 use Rattle.typed_tree.specs.TypedView as view
+use Rattle.typing_rules.specs.TypedParts.{typed_program}
+use Rattle.place_edges.specs.Forms.{FormsFit}
+use Rattle.place_edges.specs.WalkedParts.{WalkedParts}
 use Rattle.program_walk.proofs.CallSteps.{if_ok, demand_led}
 use Rattle.program_walk.proofs.calls.demand_one.Goals as goal
+
+pub demand-requires-clause-fit : goal.demand-requires-clause-fit
+demand-requires-clause-fit c = subst (λ (x : WalkedParts). FormsFit (typed_program x.parts) (view.expression c.args.cond.now)) (sym c.in_ok-assertion.ensures) c.requires.fit
 
 pub returns-clause-made : goal.returns-clause-made
 returns-clause-made c =

@@ -3,7 +3,11 @@ use Rattle.typed_tree.specs.TypedView as view
 use Rattle.typing_rules.specs.TypedParts.{typed_program}
 use Rattle.place_edges.specs.WalkedParts.{walked}
 use Rattle.program_walk.proofs.CallSteps.{one_less, first_left, part_demanded}
+use Rattle.program_walk.proofs.ReadForms.{plain_fits}
 use Rattle.program_walk.proofs.calls.demand_said.Goals as goal
+
+pub demand_one-requires-clause-fit : goal.demand_one-requires-clause-fit
+demand_one-requires-clause-fit c = plain_fits (typed_program c.args.lowering.now.parts) (view.specification c.args.said.now) (view.invariant c.in-Some.condition.now) c.requires.fit c.in-Some.ensures
 
 pub returns-clause-left : goal.returns-clause-left
 returns-clause-left c = λ all rest h. one_less all _ rest c.args.done.count (view.invariant c.in-Some.condition.now) c.in-Some.ensures h

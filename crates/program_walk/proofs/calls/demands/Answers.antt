@@ -7,7 +7,17 @@ use Rattle.place_edges.specs.WalkedParts.{walked}
 use Rattle.program_walk.specs.Calls.{AreLeft, PartsMade}
 use Rattle.program_walk.proofs.CallSteps.{all_left, no_parts_made, room_left, left_at, none_at_end}
 use Rattle.program_walk.proofs.ItemSteps.{still_there}
+use Rattle.program_walk.proofs.LoopSteps.{member_fits, seen_at}
+use Rattle.place_edges.specs.Forms.{AllFormsFit, SpecificationFits}
 use Rattle.program_walk.proofs.calls.demands.Goals as goal
+
+pub demand_said-requires-clause-fit_args : goal.demand_said-requires-clause-fit_args
+demand_said-requires-clause-fit_args c = subst (λ (t : TypedProgram). AllFormsFit t (map view.expression c.args.called.args.now)) (sym c.loop-said.invariant.program) c.requires.fit_args
+
+pub demand_said-requires-clause-fit : goal.demand_said-requires-clause-fit
+demand_said-requires-clause-fit c =
+    member_fits SpecificationFits (typed_program c.args.lowering.now.parts) (typed_program c.loop-said.lowering.parts) (map view.specification c.args.specs.now) c.loop-said.said-index (view.specification c.said-item.result)
+    c.loop-said.invariant.program c.requires.fit (seen_at view.specification c.args.specs.now c.loop-said.said-index c.said-item.result c.loop-said-test.true c.said-item.is)
 
 pub loop-said-init : goal.loop-said-init
 loop-said-init c = record {

@@ -1,6 +1,13 @@
+use Rattle.std.proofs.Common.{sym, subst}
 use Rattle.typed_tree.specs.TypedView as view
+use Rattle.typing_rules.specs.TypedParts.{typed_program}
+use Rattle.place_edges.specs.Forms.{FormsFit}
+use Rattle.place_edges.specs.WalkedParts.{WalkedParts}
 use Rattle.program_walk.proofs.ItemSteps.{assert_led}
 use Rattle.program_walk.proofs.items.assert.Goals as goal
+
+pub test-requires-clause-fit : goal.test-requires-clause-fit
+test-requires-clause-fit c = subst (λ (x : WalkedParts). FormsFit (typed_program x.parts) (view.expression c.args.cond.now)) (sym c.in_ok-assertion.ensures) c.requires.fit
 
 pub returns-clause-item : goal.returns-clause-item
 returns-clause-item c =

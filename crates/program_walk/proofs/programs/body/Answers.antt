@@ -1,4 +1,4 @@
-use Rattle.std.proofs.Common.{◌≡◌, ◌∙◌, List, Some, ap, subst, map, IsTrue}
+use Rattle.std.proofs.Common.{◌≡◌, ◌∙◌, List, Some, ap, subst, sym, map, IsTrue}
 use Rattle.std.specs.Prelude.{slice_get}
 use Rattle.typed_tree.specs.TypedView as view
 use Rattle.typed_tree.specs.TypedTree.{TypedSpecification, TypedBlock, TypedProcedure, TypedProgram}
@@ -10,7 +10,29 @@ use Rattle.place_edges.specs.WalkedParts.{walked}
 use Rattle.program_walk.specs.Bounds.{BodyFits}
 use Rattle.program_walk.specs.Conditions.{EntryAdds, ExitAdds}
 use Rattle.program_walk.proofs.WholeSteps.{entry_room, block_room, exit_room, on_both, whole_body}
+use Rattle.place_edges.specs.Forms.{SpecificationsFit}
 use Rattle.program_walk.proofs.programs.body.Goals as goal
+
+pub entry_conditions-requires-clause-fit : goal.entry_conditions-requires-clause-fit
+entry_conditions-requires-clause-fit c =
+    let t : TypedProgram = (typed_program c.args.lowering.now.parts) in
+    let q : TypedProcedure = view.procedure c.args.listed.now in
+    let whole : TypedBlock = view.statements c.args.statements.now in
+    let fits : BodyFits t c.args.proc q whole =
+    (subst (λ (x : TypedParts). (p : TypedProcedure) (b : TypedBlock) → slice_get (typed_program x).procs c.args.proc ≡ Some p → p.body ≡ Some b → BodyFits (typed_program x) c.args.proc p b) c.layout-layout.ensures
+    c.marks_at-marks.ensures.fits) q whole c.requires.procedure c.requires.statements in
+    subst (λ (ss : List TypedSpecification). SpecificationsFit t ss) (ap (map view.specification) (sym c.deref.ensures.value)) fits.specs
+
+pub exit_conditions-requires-clause-fit : goal.exit_conditions-requires-clause-fit
+exit_conditions-requires-clause-fit c =
+    let t : TypedProgram = (typed_program c.args.lowering.now.parts) in
+    let q : TypedProcedure = view.procedure c.args.listed.now in
+    let whole : TypedBlock = view.statements c.args.statements.now in
+    let fits : BodyFits t c.args.proc q whole =
+    (subst (λ (x : TypedParts). (p : TypedProcedure) (b : TypedBlock) → slice_get (typed_program x).procs c.args.proc ≡ Some p → p.body ≡ Some b → BodyFits (typed_program x) c.args.proc p b) c.layout-layout.ensures
+    c.marks_at-marks.ensures.fits) q whole c.requires.procedure c.requires.statements in
+    subst (λ (x : TypedProgram). SpecificationsFit x (map view.specification c.deref-2.result.now)) (sym (c.in_ok-block.ensures.program ∙ c.in_ok-entry_conditions.ensures.program))
+    (subst (λ (ss : List TypedSpecification). SpecificationsFit t ss) (ap (map view.specification) (sym c.deref-2.ensures.value)) fits.specs)
 
 pub entry_conditions-requires-clause-places : goal.entry_conditions-requires-clause-places
 entry_conditions-requires-clause-places c =

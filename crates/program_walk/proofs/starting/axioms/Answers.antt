@@ -1,4 +1,4 @@
-use Rattle.std.proofs.Common.{◌≡◌, ◌∙◌, ◌+◌, List, sym, ap, map}
+use Rattle.std.proofs.Common.{◌≡◌, ◌∙◌, ◌+◌, List, sym, ap, map, IsTrue, subst}
 use Rattle.std.specs.Prelude.{slice_get}
 use Rattle.typed_tree.specs.declared.types.TExpr.{TExpr}
 use Rattle.typed_tree.specs.TypedView as view
@@ -6,7 +6,20 @@ use Rattle.typing_rules.specs.TypedParts.{TypedParts, typed_program}
 use Rattle.place_edges.specs.WalkedParts.{walked}
 use Rattle.program_walk.proofs.LoopSteps.{seen_at}
 use Rattle.program_walk.proofs.StartSteps.{axiom_starts, axioms_end}
+use Rattle.program_walk.proofs.ReadForms.{axiom_fits}
+use Rattle.place_edges.specs.Forms.{FormsFit}
+use Rattle.typing_rules.specs.ValidProgram.{is_valid}
+use Rattle.typed_tree.specs.TypedTree.{TypedProgram}
 use Rattle.program_walk.proofs.starting.axioms.Goals as goal
+
+pub start_condition-requires-clause-fit : goal.start_condition-requires-clause-fit
+start_condition-requires-clause-fit c =
+    let listed : c.axioms-axioms.result.now ≡ c.args.lowering.now.parts.axioms = c.axioms-axioms.ensures ∙ ap (λ (x : TypedParts). x.axioms) (c.program.ensures.value ∙ c.layout.ensures) in
+    let valid : IsTrue (is_valid (typed_program c.args.lowering.now.parts)) = subst (λ (x : TypedParts). IsTrue (is_valid (typed_program x))) c.layout.ensures c.program.ensures.valid in
+    subst (λ (t : TypedProgram). FormsFit t (view.expression c.axiom-item.result)) (sym c.loop-axiom.invariant.program)
+    (axiom_fits (typed_program c.args.lowering.now.parts) c.loop-axiom.axiom-index (view.expression c.axiom-item.result) valid
+    (ap (λ (l : List TExpr). slice_get (map view.expression l) c.loop-axiom.axiom-index) (sym listed)
+    ∙ seen_at view.expression c.axioms-axioms.result.now c.loop-axiom.axiom-index c.axiom-item.result c.loop-axiom-test.true c.axiom-item.is))
 
 pub loop-axiom-preserved : goal.loop-axiom-preserved
 loop-axiom-preserved c =

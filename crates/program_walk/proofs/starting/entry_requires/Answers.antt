@@ -1,18 +1,33 @@
-use Rattle.std.proofs.Common.{◌≡◌, ◌∙◌, ◌≤◌, Some, sym, ap, map, length, arith}
+use Rattle.std.proofs.Common.{◌≡◌, ◌∙◌, ◌≤◌, Some, sym, ap, map, length, arith, IsTrue, List, subst}
 use Rattle.std.specs.Prelude.{slice_get}
 use Rattle.std.proofs.lemmas.List.{length-map}
 use Rattle.typed_tree.specs.TypedView as view
-use Rattle.typing_rules.specs.TypedParts.{typed_program}
+use Rattle.typing_rules.specs.TypedParts.{typed_program, TypedParts}
 use Rattle.place_edges.specs.WalkedParts.{walked}
-use Rattle.program_walk.proofs.LoopSteps.{seen_at}
+use Rattle.program_walk.proofs.LoopSteps.{seen_at, member_fits}
 use Rattle.program_walk.proofs.StartSteps.{entry_found, plain_room, plain_counted, said_starts, requires_end}
+use Rattle.program_walk.proofs.ReadForms.{specifications_fit}
+use Rattle.place_edges.specs.Forms.{SpecificationFits, SpecificationsFit}
+use Rattle.typing_rules.specs.ValidProgram.{is_valid}
+use Rattle.typed_tree.specs.TypedTree.{TypedProcedure, TypedProgram, TypedSpecification}
 use Rattle.program_walk.proofs.starting.entry_requires.Goals as goal
+
+pub start_said-requires-clause-fit : goal.start_said-requires-clause-fit
+start_said-requires-clause-fit c =
+    let entered : TypedProcedure = view.procedure c.procedure_at-entered.result.now in
+    let all : SpecificationsFit (typed_program c.layout.result.now) entered.specs =
+    specifications_fit (typed_program c.layout.result.now) c.args.start.proc entered c.procedure_at-entered.ensures.valid c.procedure_at-entered.ensures.listed in
+    let here : SpecificationsFit (typed_program c.args.lowering.now.parts) (map view.specification c.deref-said-items.result.now) =
+    subst (λ (ss : List TypedSpecification). SpecificationsFit (typed_program c.args.lowering.now.parts) ss) (ap (map view.specification) (sym c.deref-said-items.ensures.value))
+    (subst (λ (x : TypedParts). SpecificationsFit (typed_program x) entered.specs) c.layout.ensures all) in
+    member_fits SpecificationFits (typed_program c.args.lowering.now.parts) (typed_program c.loop-said.lowering.parts) (map view.specification c.deref-said-items.result.now) c.loop-said.said-index (view.specification c.said-item.result)
+    c.loop-said.invariant.program here (seen_at view.specification c.deref-said-items.result.now c.loop-said.said-index c.said-item.result c.loop-said-test.true c.said-item.is)
 
 pub start_said-requires-clause-number : goal.start_said-requires-clause-number
 start_said-requires-clause-number c =
     plain_room (typed_program c.args.lowering.now.parts) c.args.start.proc c.args.start.conditions c.args.start.entry (view.procedure c.procedure_at-entered.result.now)
     (map view.specification c.deref-said-items.result.now) c.loop-said.said-index (view.specification c.said-item.result) c.args.first c.loop-said.number c.requires.start
-    (entry_found c.layout.result.now c.args.lowering.now.parts c.args.start.proc (view.procedure c.procedure_at-entered.result.now) c.layout.ensures c.requires.start.proc c.procedure_at-entered.ensures)
+    (entry_found c.layout.result.now c.args.lowering.now.parts c.args.start.proc (view.procedure c.procedure_at-entered.result.now) c.layout.ensures c.requires.start.proc c.procedure_at-entered.ensures.listed)
     (ap (map view.specification) (sym c.deref-said-items.ensures.value)) c.requires.first
     (seen_at view.specification c.deref-said-items.result.now c.loop-said.said-index c.said-item.result c.loop-said-test.true c.said-item.is) c.loop-said.invariant.number
 
@@ -29,7 +44,7 @@ loop-said-preserved c =
           said_starts (typed_program c.args.lowering.now.parts) (typed_program c.loop-said.lowering.parts) (view.procedure c.procedure_at-entered.result.now)
           (map view.specification c.deref-said-items.result.now) c.loop-said.said-index (view.specification c.said-item.result) c.args.first c.loop-said.number
           (walked c.args.lowering.now) (walked c.loop-said.lowering) (walked c.start_said.new.lowering) c.loop-said.invariant.program
-          (entry_found c.layout.result.now c.args.lowering.now.parts c.args.start.proc (view.procedure c.procedure_at-entered.result.now) c.layout.ensures c.requires.start.proc c.procedure_at-entered.ensures)
+          (entry_found c.layout.result.now c.args.lowering.now.parts c.args.start.proc (view.procedure c.procedure_at-entered.result.now) c.layout.ensures c.requires.start.proc c.procedure_at-entered.ensures.listed)
           (ap (map view.specification) (sym c.deref-said-items.ensures.value)) c.requires.first here c.loop-said.invariant.number c.loop-said.invariant.starts c.in_ok-number.ensures.starts;
     }
 
@@ -38,5 +53,5 @@ returns-clause-starts c =
     let long : length (map view.specification c.deref-said-items.result.now) ≤ c.loop-said.said-index = omega (arith, c.loop-said-test.false, length-map c.deref-said-items.result.now view.specification) in
     requires_end (typed_program c.args.lowering.now.parts) c.args.start.proc (view.procedure c.procedure_at-entered.result.now) (map view.specification c.deref-said-items.result.now) c.loop-said.said-index c.args.first
     (walked c.args.lowering.now) (walked c.loop-said.lowering) c.requires.start.proc
-    (entry_found c.layout.result.now c.args.lowering.now.parts c.args.start.proc (view.procedure c.procedure_at-entered.result.now) c.layout.ensures c.requires.start.proc c.procedure_at-entered.ensures)
+    (entry_found c.layout.result.now c.args.lowering.now.parts c.args.start.proc (view.procedure c.procedure_at-entered.result.now) c.layout.ensures c.requires.start.proc c.procedure_at-entered.ensures.listed)
     (ap (map view.specification) (sym c.deref-said-items.ensures.value)) long c.loop-said.invariant.starts

@@ -2,7 +2,11 @@ use Rattle.typed_tree.specs.TypedView as view
 use Rattle.typing_rules.specs.TypedParts.{typed_program}
 use Rattle.place_edges.specs.WalkedParts.{walked}
 use Rattle.program_walk.proofs.StartSteps.{said_one}
+use Rattle.program_walk.proofs.ReadForms.{plain_fits}
 use Rattle.program_walk.proofs.starting.start_said.Goals as goal
+
+pub start_condition-requires-clause-fit : goal.start_condition-requires-clause-fit
+start_condition-requires-clause-fit c = plain_fits (typed_program c.args.lowering.now.parts) (view.specification c.args.said.now) (view.invariant c.in-Some.condition.now) c.requires.fit c.in-Some.ensures
 
 pub returns-clause-starts : goal.returns-clause-starts
 returns-clause-starts c = λ rest.

@@ -3,8 +3,14 @@ use Rattle.std.proofs.lemmas.List.{length-map}
 use Rattle.typed_tree.specs.TypedView as view
 use Rattle.typing_rules.specs.TypedParts.{typed_program}
 use Rattle.place_edges.specs.WalkedParts.{walked}
-use Rattle.program_walk.proofs.LoopSteps.{seen_at, number_within, room_behind, next_number, invariant_step, invariants_end}
+use Rattle.program_walk.proofs.LoopSteps.{seen_at, number_within, room_behind, next_number, invariant_step, invariants_end, member_fits}
+use Rattle.place_edges.specs.Forms.{FormsFit}
 use Rattle.program_walk.proofs.statements.invariants.Goals as goal
+
+pub check-requires-clause-fit : goal.check-requires-clause-fit
+check-requires-clause-fit c =
+    member_fits (λ t i. FormsFit t i.cond) (typed_program c.args.lowering.now.parts) (typed_program c.loop-done.lowering.parts) (map view.invariant c.args.conditions.now) c.loop-done.done (view.invariant c.index-conditions-done.result)
+    c.loop-done.invariant.program c.requires.fit (seen_at view.invariant c.args.conditions.now c.loop-done.done c.index-conditions-done.result c.loop-done-test.true c.index-conditions-done.is)
 
 pub check-requires-clause-number : goal.check-requires-clause-number
 check-requires-clause-number c =
