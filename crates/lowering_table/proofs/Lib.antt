@@ -1,1 +1,2 @@
 mod ParsedNames
+mod CallerLemmas

@@ -1,11 +1,13 @@
 //! The lists of rows of calls: of what they demand, of their arguments, and of those without body.
 
-use crate::lists::{show_conjunction, show_fault, show_list, show_made, show_nothing};
-use crate::printing::{end_line, show_numbers, show_text};
+use crate::callers::{Caller, all_fit, ensures_fit, fits};
+use crate::lists::{show_conjunction, show_fault, show_nothing};
+use crate::printing::{end_line, show_line, show_numbers, show_text};
 use crate::stand_ins::enlarged;
 use boogie_tree::Column;
-use call_jumps::{Import, arguments, demanded, imported};
-use cond_jumps::place;
+use call_jumps::{Import, demanded, imported, parameters};
+use cond_jumps::{JumpFault, place};
+use free_products::MarkedConj;
 use letter_acts::Frame;
 use program_layout::Layout;
 use std::alloc::{AllocError, Global};
@@ -18,16 +20,59 @@ fn condition(specification: &TSpec) -> &TExpr {
     }
 }
 
-fn show_demand(rt: &HostRuntime, frame: &Frame, values: &[TExpr], condition: &TExpr, want: bool) {
-    let made = demanded(rt.alloc(), frame, values, condition, want);
-    show_made(rt, if want { "true" } else { "false" }, &made)
+/// A letter, and whether it is coarse.
+fn show_letter(rt: &HostRuntime, name: &str, letter: &MarkedConj) {
+    if letter.coarse {
+        show_text(rt, "coarse ");
+    }
+    show_conjunction(rt, name, &letter.conj)
+}
+
+/// Each letter on a line.
+fn show_letters(rt: &HostRuntime, name: &str, letters: &[MarkedConj]) {
+    if letters.is_empty() {
+        show_text(rt, name);
+        return show_line(rt, ": nothing");
+    }
+    for letter in letters {
+        show_letter(rt, name, letter);
+    }
+}
+
+/// The letters, or why there are none.
+fn show_answer(rt: &HostRuntime, name: &str, answer: &Result<Vec<MarkedConj>, JumpFault>) {
+    match answer {
+        Ok(letters) => show_letters(rt, name, letters),
+        Err(fault) => show_fault(rt, name, fault),
+    }
+}
+
+/// What is asked only of values and a condition whose forms fit.
+fn show_demand(
+    rt: &HostRuntime,
+    caller: Caller<'_>,
+    values: &[TExpr],
+    condition: &TExpr,
+    want: bool,
+) {
+    let alloc = rt.alloc();
+    let Caller {
+        globals,
+        frame,
+        locals,
+    } = caller;
+    if !all_fit(alloc, globals, values) || !fits(alloc, globals, condition) {
+        return show_nothing(rt);
+    }
+    let answer = demanded(alloc, globals, frame, locals, values, condition, want);
+    show_answer(rt, if want { "true" } else { "false" }, &answer)
 }
 
 /// What each specification of the called procedure demands of the values.
 pub(crate) fn show_demands(
     rt: &HostRuntime,
     program: &Typed,
-    frame: &Frame,
+    caller: Caller<'_>,
     callee: u32,
     values: &[TExpr],
 ) {
@@ -35,8 +80,8 @@ pub(crate) fn show_demands(
         return show_nothing(rt);
     };
     for specification in &called.specs {
-        show_demand(rt, frame, values, condition(specification), true);
-        show_demand(rt, frame, values, condition(specification), false);
+        show_demand(rt, caller, values, condition(specification), true);
+        show_demand(rt, caller, values, condition(specification), false);
     }
 }
 
@@ -45,35 +90,37 @@ fn size(frame: &Frame) -> u32 {
     u32::try_from(frame.columns.len()).unwrap_or(u32::MAX)
 }
 
-/// The column of the first parameter, and the first column behind the callee's frame.
-fn columns_of(layout: &Layout<'_>, frame: &Frame, callee: u32) -> Option<(u32, u32)> {
+/// How many columns of the callee's frame stand before its parameters, and how many there are.
+fn columns_of(layout: &Layout<'_>, callee: u32) -> Option<(u32, u32)> {
     let called = layout.frame(callee)?;
-    let width = size(frame);
-    Some((
-        width.saturating_add(layout.before_locals()),
-        width.saturating_add(size(called)),
-    ))
+    Some((layout.before_locals(), size(called)))
 }
 
-/// The rows by which the parameters of the called procedure have the values.
+/// The letter by which the parameters of the called procedure have the values. It is asked only of values whose forms fit.
 pub(crate) fn show_arguments(
     rt: &HostRuntime,
     layout: &Layout<'_>,
-    frame: &Frame,
+    caller: Caller<'_>,
     callee: u32,
     values: &[TExpr],
 ) {
-    let Some((first, base)) = columns_of(layout, frame, callee) else {
+    let alloc = rt.alloc();
+    let Some((before, width)) = columns_of(layout, callee) else {
         return show_nothing(rt);
     };
-    if frame.columns.len() > base as usize
-        || first > base
-        || values.len() > (base - first) as usize
+    let Caller {
+        globals,
+        frame,
+        locals,
+    } = caller;
+    if before > width
+        || values.len() > (width - before) as usize
+        || !all_fit(alloc, globals, values)
     {
         return show_nothing(rt);
     }
-    match &arguments(rt.alloc(), frame, values, first, base) {
-        Ok(rows) => show_conjunction(rt, "gives", rows),
+    match &parameters(alloc, globals, frame, locals, values, before, width) {
+        Ok(letter) => show_letter(rt, "gives", letter),
         Err(fault) => show_fault(rt, "gives", fault),
     }
 }
@@ -103,25 +150,27 @@ fn show_imported(rt: &HostRuntime, import: &Import) {
     show_text(rt, "writes");
     show_numbers(rt, &import.written);
     end_line(rt);
-    show_list(rt, "gives", &import.conjs)
+    show_letters(rt, "gives", &import.conjs)
 }
 
+/// What a call of this procedure may do. It is asked only of values and ensures whose forms fit.
 fn show_import_to(
     rt: &HostRuntime,
-    program: &Typed,
-    frame: &Frame,
+    caller: Caller<'_>,
     called: &TProc,
     values: &[TExpr],
     targets: &[u32],
 ) {
-    match &imported(
-        rt.alloc(),
-        program.globals(),
+    let alloc = rt.alloc();
+    let Caller {
+        globals,
         frame,
-        called,
-        values,
-        targets,
-    ) {
+        locals,
+    } = caller;
+    if !all_fit(alloc, globals, values) || !ensures_fit(alloc, globals, &called.specs) {
+        return show_nothing(rt);
+    }
+    match &imported(alloc, globals, frame, locals, called, values, targets) {
         Ok(import) => show_imported(rt, import),
         Err(fault) => show_fault(rt, "gives", fault),
     }
@@ -131,13 +180,13 @@ fn show_import_to(
 pub(crate) fn show_import(
     rt: &HostRuntime,
     program: &Typed,
-    frame: &Frame,
+    caller: Caller<'_>,
     callee: u32,
     targets: &[Column],
     values: &[TExpr],
 ) {
-    match numbers_of(rt.alloc(), frame, targets) {
-        Ok(targets) => show_import_at(rt, program, frame, callee, &targets, values),
+    match numbers_of(rt.alloc(), caller.frame, targets) {
+        Ok(targets) => show_import_at(rt, program, caller, callee, &targets, values),
         Err(_) => show_nothing(rt),
     }
 }
@@ -145,13 +194,13 @@ pub(crate) fn show_import(
 fn show_import_at(
     rt: &HostRuntime,
     program: &Typed,
-    frame: &Frame,
+    caller: Caller<'_>,
     callee: u32,
     targets: &[u32],
     values: &[TExpr],
 ) {
     match &enlarged(program, callee) {
-        Ok(Some(called)) => show_import_to(rt, program, frame, called, values, targets),
+        Ok(Some(called)) => show_import_to(rt, caller, called, values, targets),
         _ => show_nothing(rt),
     }
 }

@@ -1,5 +1,6 @@
 //! The lists of rows of conditions, assignments and calls: of the first statement of the procedure at which a program begins.
 
+use crate::callers::{Caller, caller_of};
 use crate::calls::{show_arguments, show_demands, show_import};
 use crate::graphs::show_rows;
 use crate::printing::{end_line, show_count, show_line, show_number, show_text};
@@ -108,14 +109,14 @@ const CALLED: u32 = 1;
 fn show_assigned(
     rt: &HostRuntime,
     layout: &Layout<'_>,
-    frame: &Frame,
+    caller: Caller<'_>,
     targets: &[Column],
     values: &[TExpr],
     asked: Asked,
 ) {
     match asked {
-        Asked::Assignment => show_assignment(rt, frame, targets, values),
-        Asked::Arguments => show_arguments(rt, layout, frame, CALLED, values),
+        Asked::Assignment => show_assignment(rt, caller.frame, targets, values),
+        Asked::Arguments => show_arguments(rt, layout, caller, CALLED, values),
         _ => show_nothing(rt),
     }
 }
@@ -127,16 +128,22 @@ struct Call<'a> {
     values: &'a [TExpr],
 }
 
-fn show_call(rt: &HostRuntime, layout: &Layout<'_>, frame: &Frame, call: Call<'_>, asked: Asked) {
+fn show_call(
+    rt: &HostRuntime,
+    layout: &Layout<'_>,
+    caller: Caller<'_>,
+    call: Call<'_>,
+    asked: Asked,
+) {
     let Call {
         targets,
         callee,
         values,
     } = call;
     match asked {
-        Asked::Arguments => show_arguments(rt, layout, frame, callee, values),
-        Asked::Demands => show_demands(rt, layout.program(), frame, callee, values),
-        Asked::Import => show_import(rt, layout.program(), frame, callee, targets, values),
+        Asked::Arguments => show_arguments(rt, layout, caller, callee, values),
+        Asked::Demands => show_demands(rt, layout.program(), caller, callee, values),
+        Asked::Import => show_import(rt, layout.program(), caller, callee, targets, values),
         _ => show_nothing(rt),
     }
 }
@@ -145,15 +152,15 @@ fn show_call(rt: &HostRuntime, layout: &Layout<'_>, frame: &Frame, call: Call<'_
 fn show_statement(
     rt: &HostRuntime,
     layout: &Layout<'_>,
-    frame: &Frame,
+    caller: Caller<'_>,
     statement: Option<&TStmt>,
     asked: Asked,
 ) {
     match statement {
-        None => show_assigned(rt, layout, frame, &[], &[], asked),
-        Some(TStmt::Assume(_, condition)) => show_assumed(rt, frame, condition, asked),
+        None => show_assigned(rt, layout, caller, &[], &[], asked),
+        Some(TStmt::Assume(_, condition)) => show_assumed(rt, caller.frame, condition, asked),
         Some(TStmt::Assign(_, targets, values)) => {
-            show_assigned(rt, layout, frame, targets, values, asked)
+            show_assigned(rt, layout, caller, targets, values, asked)
         }
         Some(TStmt::Call(_, targets, callee, values)) => {
             let call = Call {
@@ -161,7 +168,7 @@ fn show_statement(
                 callee: *callee,
                 values,
             };
-            show_call(rt, layout, frame, call, asked)
+            show_call(rt, layout, caller, call, asked)
         }
         Some(_) => show_nothing(rt),
     }
@@ -177,11 +184,11 @@ fn first(procedure: &TProc) -> Option<&TStmt> {
 
 fn show_entry(rt: &HostRuntime, layout: &Layout<'_>, asked: Asked) {
     let entry = layout.program().entry();
-    let Some(frame) = layout.frame(entry) else {
+    let Some(caller) = caller_of(layout, entry) else {
         return show_nothing(rt);
     };
     match &enlarged(layout.program(), entry) {
-        Ok(Some(procedure)) => show_statement(rt, layout, frame, first(procedure), asked),
+        Ok(Some(procedure)) => show_statement(rt, layout, caller, first(procedure), asked),
         _ => show_nothing(rt),
     }
 }

@@ -5,6 +5,7 @@
 #![tactic(auto)]
 
 mod acts;
+mod callers;
 mod calls;
 mod graphs;
 mod layouts;
