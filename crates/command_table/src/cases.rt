@@ -4,7 +4,6 @@ use crate::answers::Answer;
 use crate::gates::Schedule;
 use crate::texts::{Name, Texts};
 use std::alloc::{AllocError, Global};
-use table_reading::{first_word, push_line};
 
 /// What a run is repeated with.
 #[derive(Clone, Copy)]
@@ -74,6 +73,11 @@ pub(crate) struct Case {
     pub(crate) answer: Answer,
 }
 
+/// The word before the first blank, and what is behind it.
+pub(crate) fn parted(text: &str) -> (&str, &str) {
+    text.split_once(' ').unwrap_or((text, ""))
+}
+
 impl Case {
     pub(crate) fn new(alloc: Global) -> Case {
         Case {
@@ -125,7 +129,7 @@ impl Case {
 
     /// Takes a line that lengthens the text that it names.
     fn take_text(&mut self, alloc: Global, command: &str, rest: &str) -> Result<bool, AllocError> {
-        let (name, rest) = first_word(rest);
+        let (name, rest) = parted(rest);
         let Some(name) = Name::of(name) else {
             return Ok(false);
         };
@@ -139,11 +143,11 @@ impl Case {
 
     /// Takes a count and the numbers of bytes.
     fn take_bytes(&mut self, alloc: Global, name: Name, rest: &str) -> Result<bool, AllocError> {
-        let (count, numbers) = first_word(rest);
+        let (count, numbers) = parted(rest);
         let Ok(count) = count.parse::<u32>() else {
             return Ok(false);
         };
-        let bytes: Vec<u8> = numbers.split_whitespace().map(byte).collect(alloc)?;
+        let bytes = bytes_of(alloc, numbers)?;
         self.texts.push_times(name, count, &bytes)?;
         Ok(true)
     }
@@ -161,7 +165,7 @@ impl Case {
 
     /// Takes a number that holds for the next run.
     fn set(&mut self, command: &str, rest: &str) -> Result<bool, AllocError> {
-        let (number, rest) = first_word(rest);
+        let (number, rest) = parted(rest);
         let Ok(number) = number.parse::<usize>() else {
             return Ok(false);
         };
@@ -200,7 +204,17 @@ impl Case {
     }
 }
 
-/// The byte of a number.
+/// Puts a line behind a text.
+fn push_line(text: &mut String, line: &str) -> Result<(), AllocError> {
+    text.push_str(line)?;
+    text.push('\n')
+}
+
 fn byte(number: &str) -> u8 {
     number.parse::<u8>().unwrap_or(0)
+}
+
+/// The bytes of these numbers.
+fn bytes_of(alloc: Global, numbers: &str) -> Result<Vec<u8>, AllocError> {
+    numbers.split_whitespace().map(byte).collect(alloc)
 }
