@@ -82,7 +82,7 @@ told_of_import t valid c y g at_call s exact =
       goes = λ rest. ap (λ (xs : List (Option ℤ)). run t c (xs ++ rest)) told ∙ imports_run t (IsPointOf t) c b.behind g b.whole rest;
     }
 
-imports_are_steps : (t : TypedProgram) → IsTrue (is_valid t) → ImportsAreSteps t (IsPointOf t) (IsImport t)
+pub imports_are_steps : (t : TypedProgram) → IsTrue (is_valid t) → ImportsAreSteps t (IsPointOf t) (IsImport t)
 imports_are_steps t valid = record {
   goes = λ c d g m. (imports_go t c d valid g m).0;
   good = λ c d g m. (imports_go t c d valid g m).1;
