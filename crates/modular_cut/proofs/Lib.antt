@@ -1,0 +1,16 @@
+pub mod Called
+pub mod TypedStatements
+pub mod TypedParts
+pub mod Whole
+mod SamePoints
+mod SameActions
+mod SeenValues
+mod ChosenGlobals
+mod Fine
+mod PartMoves
+mod Frames
+mod Enters
+mod PartCalls
+mod Imported
+mod Returns
+mod Worked
