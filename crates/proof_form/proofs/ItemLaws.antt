@@ -67,12 +67,12 @@ ended_plain text [] = refl
 ended_plain text (x ∷ xs) = ap (λ t. ended (text x) ++ t) (ended_plain text xs)
 
 -- the header, the items and the end, written one after another
-pub whole_written : (a b c d e number items : List ℕ) → a ≡ codes "safe\nrounds " → b ≡ a ++ number → c ≡ b ++ codes "\nannotation 1\n" → d ≡ c ++ items → e ≡ d ++ codes "end\n"
-    → e ≡ ended (codes "safe") ++ (ended (codes "rounds " ++ number) ++ (ended (codes "annotation 1") ++ (items ++ ended (codes "end"))))
-whole_written a b c d e number items f g h k l =
-    let third = codes "\nannotation 1\n" in
+pub whole_written : (a b c d e f number form items : List ℕ) → a ≡ codes "safe\nrounds " → b ≡ a ++ number → c ≡ b ++ 10 ∷ [] → d ≡ c ++ form → e ≡ d ++ items → f ≡ e ++ codes "end\n"
+    → f ≡ ended (codes "safe") ++ (ended (codes "rounds " ++ number) ++ (form ++ (items ++ ended (codes "end"))))
+whole_written a b c d e f number form items g h i j k l =
+    let first = codes "safe\nrounds " in
     let last = codes "end\n" in
-    let all : e ≡ codes "safe\nrounds " ++ (number ++ (third ++ (items ++ last))) =
-    l ∙ ap (λ t. t ++ last) (k ∙ ap (λ t. t ++ items) (h ∙ ap (λ t. t ++ third) (g ∙ ap (λ t. t ++ number) f)))
-    ∙ append_assoc (((codes "safe\nrounds " ++ number) ++ third)) items last ∙ append_assoc (codes "safe\nrounds " ++ number) third (items ++ last) ∙ append_assoc (codes "safe\nrounds ") number (third ++ (items ++ last)) in
-    all ∙ ap (λ t. codes "safe\nrounds " ++ t) (sym (append_assoc number (10 ∷ []) (codes "annotation 1\n" ++ (items ++ last))))
+    let all : f ≡ ((((first ++ number) ++ 10 ∷ []) ++ form) ++ items) ++ last =
+    l ∙ ap (λ t. t ++ last) (k ∙ ap (λ t. t ++ items) (j ∙ ap (λ t. t ++ form) (i ∙ ap (λ t. t ++ 10 ∷ []) (h ∙ ap (λ t. t ++ number) g)))) in
+    all ∙ append_assoc (((first ++ number) ++ 10 ∷ []) ++ form) items last ∙ append_assoc ((first ++ number) ++ 10 ∷ []) form (items ++ last)
+    ∙ ap (λ t. t ++ (form ++ (items ++ last))) (append_assoc first number (10 ∷ [])) ∙ append_assoc first (number ++ 10 ∷ []) (form ++ (items ++ last))

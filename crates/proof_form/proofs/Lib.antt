@@ -2,9 +2,11 @@ pub mod AfterLaws
 pub mod AscentLaws
 pub mod BeginningLaws
 pub mod BuiltLaws
+pub mod CoarseLaws
 pub mod CountLaws
 mod DraftLaws
 pub mod ForestLaws
+pub mod FormLaws
 pub mod HeaderLaws
 pub mod HeightLaws
 pub mod ItemLaws

@@ -12,8 +12,9 @@ use Rattle.proof_form.specs.Refutations.{RefutationNode, is_refutation, refutati
 use Rattle.proof_form.specs.RefutationReading.{refutation_of}
 use Rattle.proof_form.specs.Lines.{Pred, Triple, Node, pred_text, triple_text, node_text, step_text, is_pred, is_triple, is_node, is_step}
 use Rattle.proof_form.specs.LineReading.{pred_of, triple_of, node_of, step_of}
-use Rattle.proof_form.specs.Annotations.{Content, is_annotation, safe_text}
+use Rattle.proof_form.specs.Annotations.{Content, is_annotation, AreShort, safe_text}
 use Rattle.proof_form.specs.Standing.{Completes, no_content}
+use Rattle.proof_form.proofs.CoarseLaws.{completes_lacks}
 use Rattle.proof_form.proofs.LineLaws.{pred_reads, triple_reads, node_reads, step_reads}
 use Rattle.proof_form.proofs.PredicateLaws.{predicate_reads}
 use Rattle.proof_form.proofs.RefutationLaws.{refutation_reads}
@@ -43,10 +44,13 @@ one_node n a b h k e = same_Some a b (sym (node_reads n a h) ∙ ap (node_of n) 
 pub one_step : (a b : StepLine) → is_step a ≡ true → is_step b ≡ true → step_text a ≡ step_text b → a ≡ b
 one_step a b h k e = same_Some a b (sym (step_reads a h) ∙ ap step_of e ∙ step_reads b k)
 
-pub one_annotation : (m n : ℕ) (a b : Content) → m < 2 ^ 64 → n < 2 ^ 64 → is_annotation a ≡ true → is_annotation b ≡ true → length (safe_text m a) < 2 ^ 64 → safe_text m a ≡ safe_text n b → (m ≡ n) × (a ≡ b)
-one_annotation m n a b small low h k fits e =
-    let other : HasHeader (safe_text m a) n (body_text b) = subst (λ t. HasHeader t n (body_text b)) (sym e) (spelled_header n b low) in
-    let same = one_header (safe_text m a) (body_text a) (body_text b) m n small low (spelled_header m a small) other in
-    let first = spelled_completes a h (body_fits (safe_text m a) m a (length (safe_text m a)) refl refl fits) in
-    let second = spelled_completes b k (body_fits (safe_text m a) n b (length (safe_text m a)) e refl fits) in
-    (same.0, completes_once (lines_of (body_text a)) no_content a b first (subst (λ ls. Completes no_content ls b) (sym same.1) second))
+pub one_annotation : (m n : ℕ) (c d : List ℕ) (a b : Content) → m < 2 ^ 64 → n < 2 ^ 64 → AreShort c → AreShort d → is_annotation a ≡ true → is_annotation b ≡ true → length (safe_text m c a) < 2 ^ 64
+    → safe_text m c a ≡ safe_text n d b → (m ≡ n) × (c ≡ d) × (a ≡ b)
+one_annotation m n c d a b small low short few h k fits e =
+    let other : HasHeader (safe_text m c a) n d (body_text b) = subst (λ t. HasHeader t n d (body_text b)) (sym e) (spelled_header n d b low few) in
+    let first = spelled_completes a h (body_fits (safe_text m c a) m c a (length (safe_text m c a)) refl refl fits) in
+    let second = spelled_completes b k (body_fits (safe_text m c a) n d b (length (safe_text m c a)) e refl fits) in
+    let last = completes_lacks (lines_of (body_text a)) no_content a first in
+    let end = completes_lacks (lines_of (body_text b)) no_content b second in
+    let same = one_header (safe_text m c a) (body_text a) (body_text b) m n c d small low short few last end (spelled_header m c a small short) other in
+    (same.0, same.1, completes_once (lines_of (body_text a)) no_content a b first (subst (λ ls. Completes no_content ls b) (sym same.2) second))

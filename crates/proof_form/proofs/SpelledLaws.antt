@@ -7,13 +7,16 @@ use Rattle.std.proofs.lemmas.List.{append-nil, map-append, append_cancel_left, a
 use Rattle.outer_io.specs.Lines.{lines_of}
 use Rattle.proof_form.specs.declared.lines.StepLine.{StepLine}
 use Rattle.proof_form.specs.Lines.{Pred, Triple, Node, pred_text, triple_text, node_text, step_text, is_pred, is_triple, is_node, is_step}
-use Rattle.proof_form.specs.Annotations.{Content, is_annotation, numbered, item_lines, ended, rounds_line, safe_text}
-use Rattle.proof_form.specs.Standing.{pred_item, triple_item, node_item, step_item, end_line, Completes, no_content, WrongBehindRounds, WrongBehindSafe, FirstWrongOfText}
+use Rattle.proof_form.specs.Annotations.{Content, is_annotation, numbered, item_lines, ended, rounds_line, form_lines, AreShort, safe_text}
+use Rattle.proof_form.specs.Beginnings.{with_header}
+use Rattle.proof_form.specs.Standing.{pred_item, triple_item, node_item, step_item, end_line, Completes, no_content, WrongBehindSafe, FirstWrongOfText}
+use Rattle.proof_form.specs.TextOutcomes.{LacksCoarse}
+use Rattle.proof_form.proofs.CoarseLaws.{form_not_wrong, plain_form, same_form}
 use Rattle.proof_form.proofs.ListLaws.{no_more_texts}
 use Rattle.proof_form.proofs.PlainLaws.{Plain, plain_append, plain_decimal, plain_pred, plain_triple, plain_node, plain_step}
 use Rattle.proof_form.proofs.RunLaws.{both_hold}
 use Rattle.proof_form.proofs.StandingLaws.{lines_joined, lines_of_plain}
-use Rattle.proof_form.proofs.WholeLaws.{completes_not_wrong, completes_spells}
+use Rattle.proof_form.proofs.WholeLaws.{completes_spells}
 
 abbrev contents : List Pred → List Triple → List Node → List StepLine → Content
 contents ps ts ns ss = record { preds = ps; triples = ts; nodes = ns; steps = ss }
@@ -138,17 +141,17 @@ few_items w rest size h =
 abbrev pub body_text : Content → List ℕ
 body_text w = flat_map ended (item_lines w) ++ end_line
 
--- a text begins with these three lines
-pub record HasHeader (text : List ℕ) (rounds : ℕ) (rest : List ℕ) : Type 0 where
-  pub lines : lines_of text ≡ ended (codes "safe") ∷ (ended (rounds_line rounds) ∷ (ended (codes "annotation 1") ∷ lines_of rest))
+-- a text begins with the header for so many rounds and these coarse letters
+pub record HasHeader (text : List ℕ) (rounds : ℕ) (coarse rest : List ℕ) : Type 0 where
+  pub lines : lines_of text ≡ with_header rounds coarse (lines_of rest)
 
-pub spelled_header : (rounds : ℕ) (w : Content) → rounds < 2 ^ 64 → HasHeader (safe_text rounds w) rounds (body_text w)
-spelled_header rounds w small =
-    let third = ended (codes "annotation 1") ++ body_text w in
+pub spelled_header : (rounds : ℕ) (coarse : List ℕ) (w : Content) → rounds < 2 ^ 64 → AreShort coarse → HasHeader (safe_text rounds coarse w) rounds coarse (body_text w)
+spelled_header rounds coarse w small short =
+    let third = flat_map ended (form_lines coarse) ++ body_text w in
     let second = ended (rounds_line rounds) ++ third in
     record {
       lines = lines_of_plain (codes "safe") second refl ∙ ap (λ ls. ended (codes "safe") ∷ ls) (lines_of_plain (rounds_line rounds) third (plain_append (codes "rounds ") (decimal rounds) refl (plain_decimal rounds small))
-          ∙ ap (λ ls. ended (rounds_line rounds) ∷ ls) (lines_of_plain (codes "annotation 1") (body_text w) refl));
+          ∙ ap (λ ls. ended (rounds_line rounds) ∷ ls) (lines_of_all (form_lines coarse) (body_text w) (plain_form coarse short)));
     }
 
 pub spelled_completes : (w : Content) → is_annotation w ≡ true → length (body_text w) + 2 ≤ 2 ^ 64 → Completes no_content (lines_of (body_text w)) w
@@ -157,14 +160,20 @@ spelled_completes w v l =
     let lines : lines_of (body_text w) ≡ all_ended (item_lines w) ++ end_line ∷ [] = lines_of_all (item_lines w) end_line (plain_items w v few.0 few.1) in
     subst (λ ls. Completes no_content ls w) (sym lines) (content_completes w v)
 
+concat_ended : (ls ms : List (List ℕ)) → concat (all_ended ls ++ ms) ≡ flat_map ended ls ++ concat ms
+concat_ended [] ms = refl
+concat_ended (l ∷ ls) ms = ap (λ r. ended l ++ r) (concat_ended ls ms) ∙ sym (append_assoc (ended l) (flat_map ended ls) (concat ms))
+
 -- a text with that header and these lines behind it is the text of the annotation
-pub header_spells : (text rest : List ℕ) (rounds : ℕ) (w : Content) → HasHeader text rounds rest → Completes no_content (lines_of rest) w → (text ≡ safe_text rounds w) × (is_annotation w ≡ true)
-header_spells text rest rounds w h k =
+pub header_spells : (text rest : List ℕ) (rounds : ℕ) (coarse : List ℕ) (w : Content) → HasHeader text rounds coarse rest → Completes no_content (lines_of rest) w → (text ≡ safe_text rounds coarse w) × (is_annotation w ≡ true)
+header_spells text rest rounds coarse w h k =
     let s = completes_spells (lines_of rest) no_content w k in
     let body : rest ≡ body_text w = sym (lines_joined rest) ∙ s.text in
-    let all : text ≡ ended (codes "safe") ++ (ended (rounds_line rounds) ++ (ended (codes "annotation 1") ++ rest)) =
-    sym (lines_joined text) ∙ ap concat h.lines ∙ ap (λ r. ended (codes "safe") ++ (ended (rounds_line rounds) ++ (ended (codes "annotation 1") ++ r))) (lines_joined rest) in
-    (all ∙ ap (λ r. ended (codes "safe") ++ (ended (rounds_line rounds) ++ (ended (codes "annotation 1") ++ r))) body, s.valid refl)
+    let form = flat_map ended (form_lines coarse) in
+    let third : concat (all_ended (form_lines coarse) ++ lines_of rest) ≡ form ++ rest = concat_ended (form_lines coarse) (lines_of rest) ∙ ap (λ r. form ++ r) (lines_joined rest) in
+    let all : text ≡ ended (codes "safe") ++ (ended (rounds_line rounds) ++ (form ++ rest)) =
+    sym (lines_joined text) ∙ ap concat h.lines ∙ ap (λ r. ended (codes "safe") ++ (ended (rounds_line rounds) ++ r)) third in
+    (all ∙ ap (λ r. ended (codes "safe") ++ (ended (rounds_line rounds) ++ (form ++ r))) body, s.valid refl)
 
 -- Two headers of one text
 
@@ -173,36 +182,34 @@ second_of [] = []
 second_of (a ∷ []) = []
 second_of (a ∷ (b ∷ ls)) = b
 
-abbrev behind_three : List (List ℕ) → List (List ℕ)
-behind_three [] = []
-behind_three (a ∷ []) = []
-behind_three (a ∷ (b ∷ [])) = []
-behind_three (a ∷ (b ∷ (c ∷ ls))) = ls
+abbrev behind_two : List (List ℕ) → List (List ℕ)
+behind_two [] = []
+behind_two (a ∷ []) = []
+behind_two (a ∷ (b ∷ ls)) = ls
 
-pub one_header : (text rest more : List ℕ) (m n : ℕ) → m < 2 ^ 64 → n < 2 ^ 64 → HasHeader text m rest → HasHeader text n more → (m ≡ n) × (lines_of rest ≡ lines_of more)
-one_header text rest more m n small low h k =
+pub one_header : (text rest more : List ℕ) (m n : ℕ) (c d : List ℕ) → m < 2 ^ 64 → n < 2 ^ 64 → AreShort c → AreShort d → LacksCoarse (lines_of rest) → LacksCoarse (lines_of more)
+    → HasHeader text m c rest → HasHeader text n d more → (m ≡ n) × (c ≡ d) × (lines_of rest ≡ lines_of more)
+one_header text rest more m n c d small low short few last end h k =
     let same = sym h.lines ∙ k.lines in
     let second : ended (rounds_line m) ≡ ended (rounds_line n) = ap second_of same in
     let number : decimal m ≡ decimal n = append_cancel_left (codes "rounds ") (decimal m) (decimal n) (append_cancel_right (rounds_line m) (rounds_line n) (10 ∷ []) second) in
-    (decimal_injective m n small low number, ap behind_three same)
+    let forms = same_form c d (lines_of rest) (lines_of more) short few last end (ap behind_two same) in
+    (decimal_injective m n small low number, forms.0, forms.1)
 
 -- no line of the text of an annotation is wrong
-pub header_not_wrong : (body : List (List ℕ)) (rounds line : ℕ) (w : Content) → rounds < 2 ^ 64 → Completes no_content body w
-    → FirstWrongOfText (ended (codes "safe") ∷ (ended (rounds_line rounds) ∷ (ended (codes "annotation 1") ∷ body))) line → ⊥
-header_not_wrong body rounds line w small k wrong = first wrong
+pub header_not_wrong : (body : List (List ℕ)) (rounds : ℕ) (coarse : List ℕ) (line : ℕ) (w : Content) → rounds < 2 ^ 64 → AreShort coarse → Completes no_content body w
+    → FirstWrongOfText (with_header rounds coarse body) line → ⊥
+header_not_wrong body rounds coarse line w small short k wrong = first wrong
   where
-    third : WrongBehindRounds (ended (codes "annotation 1") ∷ body) line → ⊥
-    third (inl e) = e.0 refl
-    third (inr e) = completes_not_wrong body 4 line no_content w k e.1
-
-    second : WrongBehindSafe (ended (rounds_line rounds) ∷ (ended (codes "annotation 1") ∷ body)) line → ⊥
+    second : WrongBehindSafe (ended (rounds_line rounds) ∷ (all_ended (form_lines coarse) ++ body)) line → ⊥
     second (inl e) = e.0 rounds small refl
-    second (inr e) = third e.3
+    second (inr e) = form_not_wrong coarse body line w short k e.3
 
-    first : FirstWrongOfText (ended (codes "safe") ∷ (ended (rounds_line rounds) ∷ (ended (codes "annotation 1") ∷ body))) line → ⊥
+    first : FirstWrongOfText (with_header rounds coarse body) line → ⊥
     first (inl e) = e.0 refl
     first (inr e) = second e.1
 
-pub spelled_not_wrong : (text rest : List ℕ) (rounds line : ℕ) (w : Content) → rounds < 2 ^ 64 → HasHeader text rounds rest → Completes no_content (lines_of rest) w → FirstWrongOfText (lines_of text) line → ⊥
-spelled_not_wrong text rest rounds line w small h k wrong =
-    header_not_wrong (lines_of rest) rounds line w small k (subst (λ ls. FirstWrongOfText ls line) h.lines wrong)
+pub spelled_not_wrong : (text rest : List ℕ) (rounds : ℕ) (coarse : List ℕ) (line : ℕ) (w : Content) → rounds < 2 ^ 64 → AreShort coarse → HasHeader text rounds coarse rest → Completes no_content (lines_of rest) w
+    → FirstWrongOfText (lines_of text) line → ⊥
+spelled_not_wrong text rest rounds coarse line w small short h k wrong =
+    header_not_wrong (lines_of rest) rounds coarse line w small short k (subst (λ ls. FirstWrongOfText ls line) h.lines wrong)

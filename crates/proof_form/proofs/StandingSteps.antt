@@ -172,16 +172,16 @@ lines_end n a bs h = here (unended bs h)
     here (inr e) = subst (λ ls. FirstWrong n a ls n) (sym e)
         (inr (inl (λ same. no_end bs (codes "end") h same, λ b adds. no_end bs (item_text a adds.item) h adds.spelled, refl)))
 
--- What the lines from here on are read as, all lines are read as.
-pub record Leads (n : ℕ) (a : Content) (rest all : List ℕ) : Type 0 where
-  pub leads : (r : Result Draft ProofFault) → ReadsFrom n a (lines_of rest) r → ReadsFrom 4 no_content (lines_of all) r
-  pub within : n + length rest ≤ length all + 4
+-- What the lines from here on are read as, all lines are read as, of which the first has that number.
+pub record Leads (n first : ℕ) (a : Content) (rest all : List ℕ) : Type 0 where
+  pub leads : (r : Result Draft ProofFault) → ReadsFrom n a (lines_of rest) r → ReadsFrom first no_content (lines_of all) r
+  pub within : n + length rest ≤ first + length all
 
-pub leads_begin : (a : Content) (all : List ℕ) → a ≡ no_content → Leads 4 a all all
-leads_begin a all e = record { leads = λ r h. subst (λ (b : Content). ReadsFrom 4 b (lines_of all) r) e h; within = omega arith }
+pub leads_begin : (first : ℕ) (a : Content) (all : List ℕ) → a ≡ no_content → Leads first first a all all
+leads_begin first a all e = record { leads = λ r h. subst (λ (b : Content). ReadsFrom first b (lines_of all) r) e h; within = omega arith }
 
-pub leads_on : (n : ℕ) (a b : Content) (bs l rest all : List ℕ) → first_line bs ≡ Some (l, rest) → with_line a l ≡ Some b → Leads n a bs all → Leads (n + 1) b rest all
-leads_on n a b bs l rest all e h k =
+pub leads_on : (n first : ℕ) (a b : Content) (bs l rest all : List ℕ) → first_line bs ≡ Some (l, rest) → with_line a l ≡ Some b → Leads n first a bs all → Leads (n + 1) first b rest all
+leads_on n first a b bs l rest all e h k =
     let s = line_shortens bs l rest e in
     let w = k.within in
     record { leads = λ r more. k.leads r (reads_on n a b bs l rest r e h more); within = omega arith }

@@ -1,6 +1,6 @@
 -- Annotations and their text.
-use Rattle.std.specs.Prelude.{ℕ, suc, Bool, ◌&&◌, List, [], ◌∷◌, ◌++◌, map, codes}
-use Rattle.std.specs.List.{list_all, flat_map}
+use Rattle.std.specs.Prelude.{ℕ, suc, ◌<◌, ◌^◌, Bool, ◌&&◌, List, [], ◌∷◌, ◌++◌, map, codes}
+use Rattle.std.specs.List.{AllByRecursion, list_all, flat_map}
 use Rattle.std.specs.Fmt.{decimal}
 use Rattle.proof_form.specs.declared.lines.PredLine.{PredLine}
 use Rattle.proof_form.specs.declared.lines.TripleLine.{TripleLine}
@@ -39,7 +39,20 @@ ended line = line ++ 10 ∷ []
 abbrev pub rounds_line : ℕ → List ℕ
 rounds_line n = codes "rounds " ++ decimal n
 
--- the one text of an annotation
-abbrev pub safe_text : ℕ → Content → List ℕ
-safe_text rounds a =
-    ended (codes "safe") ++ (ended (rounds_line rounds) ++ (ended (codes "annotation 1") ++ (flat_map ended (item_lines a) ++ ended (codes "end"))))
+-- the line of a coarse letter
+abbrev pub coarse_line : ℕ → List ℕ
+coarse_line letter = codes "coarse " ++ decimal letter
+
+-- `annotation 1`, or where there are coarse letters `annotation 2` and the line of each
+abbrev pub form_lines : List ℕ → List (List ℕ)
+form_lines [] = codes "annotation 1" ∷ []
+form_lines (c ∷ cs) = codes "annotation 2" ∷ map coarse_line (c ∷ cs)
+
+-- each number has the 32 bits of a letter's
+abbrev pub AreShort : List ℕ → Type 0
+AreShort letters = AllByRecursion (λ n. n < 2 ^ 32) letters
+
+-- the one text of an annotation, with these coarse letters
+abbrev pub safe_text : ℕ → List ℕ → Content → List ℕ
+safe_text rounds coarse a =
+    ended (codes "safe") ++ (ended (rounds_line rounds) ++ (flat_map ended (form_lines coarse) ++ (flat_map ended (item_lines a) ++ ended (codes "end"))))

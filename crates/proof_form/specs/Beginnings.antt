@@ -1,19 +1,21 @@
 -- With which lines the text of an annotation can begin, and how many of a list can stand.
 use Rattle.std.specs.Prelude.{◌≡◌, ℕ, ◌+◌, ◌<◌, ◌≤◌, ◌^◌, true, List, [], ◌∷◌, ◌++◌, length, map, take, codes}
-use Rattle.proof_form.specs.Annotations.{Content, is_annotation, item_lines, ended, rounds_line}
+use Rattle.proof_form.specs.Annotations.{Content, is_annotation, item_lines, ended, rounds_line, form_lines, AreShort}
 use Rattle.proof_form.specs.Standing.{end_line}
 
 -- the header, with these lines behind it
-abbrev pub with_header : ℕ → List (List ℕ) → List (List ℕ)
-with_header rounds ls = ended (codes "safe") ∷ (ended (rounds_line rounds) ∷ (ended (codes "annotation 1") ∷ ls))
+abbrev pub with_header : ℕ → List ℕ → List (List ℕ) → List (List ℕ)
+with_header rounds coarse ls = ended (codes "safe") ∷ (ended (rounds_line rounds) ∷ (map ended (form_lines coarse) ++ ls))
 
 -- the lines are those of the text of an annotation
 pub record AreText (ls : List (List ℕ)) : Type 0 where
   pub rounds : ℕ
+  pub coarse : List ℕ
   pub annotation : Content
   pub small : rounds < 2 ^ 64
+  pub short : AreShort coarse
   pub valid : is_annotation annotation ≡ true
-  pub spelled : ls ≡ with_header rounds (map ended (item_lines annotation) ++ end_line ∷ [])
+  pub spelled : ls ≡ with_header rounds coarse (map ended (item_lines annotation) ++ end_line ∷ [])
 
 -- the text of some annotation begins with these lines
 pub record CanBegin (ls : List (List ℕ)) : Type 0 where

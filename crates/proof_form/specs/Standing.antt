@@ -2,7 +2,7 @@
 use Rattle.std.specs.Prelude.{◌≡◌, ◌≢◌, ℕ, ◌+◌, ◌^◌, ◌<◌, Bool, true, false, ◌&&◌, List, [], ◌∷◌, ◌++◌, length, codes, Option, None, Some, if◌then◌else◌, ◌⊎◌}
 use Rattle.proof_form.specs.declared.lines.StepLine.{StepLine}
 use Rattle.proof_form.specs.Lines.{Pred, Triple, Node, pred_text, triple_text, node_text, step_text, is_pred, is_triple, is_node, is_step}
-use Rattle.proof_form.specs.Annotations.{Content, ended, rounds_line}
+use Rattle.proof_form.specs.Annotations.{Content, ended, rounds_line, coarse_line}
 
 -- a line of an annotation
 pub data Item : Type 0 where
@@ -62,10 +62,30 @@ FirstWrong n a (l ∷ ls) line =
 abbrev pub no_content : Content
 no_content = record { preds = []; triples = []; nodes = []; steps = [] }
 
--- the same behind the first line, behind the second, and of a whole text
+-- the line is that of this coarse letter, whose number has 32 bits
+abbrev pub IsCoarseLine : List ℕ → ℕ → Type 0
+IsCoarseLine l n = (n < 2 ^ 32) × (l ≡ ended (coarse_line n))
+
+abbrev pub NoCoarseLine : List ℕ → Type 0
+NoCoarseLine l = (n : ℕ) → IsCoarseLine l n → ⊥
+
+-- The same behind lines of coarse letters, of which there is one at least: one more follows, or the items.
+abbrev pub WrongBehindCoarse : ℕ → List (List ℕ) → ℕ → Type 0
+WrongBehindCoarse n [] line = line ≡ n
+WrongBehindCoarse n (l ∷ ls) line =
+    (NoCoarseLine l × FirstWrong n no_content (l ∷ ls) line) ⊎ ((c : ℕ) × IsCoarseLine l c × WrongBehindCoarse (n + 1) ls line)
+
+-- the same behind `annotation 2`, where the line of a coarse letter follows
+abbrev pub WrongBehindForm : List (List ℕ) → ℕ → Type 0
+WrongBehindForm [] line = line ≡ 4
+WrongBehindForm (l ∷ ls) line = (NoCoarseLine l × (line ≡ 4)) ⊎ ((c : ℕ) × IsCoarseLine l c × WrongBehindCoarse 5 ls line)
+
+-- the same behind the second line, behind the first, and of a whole text
 abbrev pub WrongBehindRounds : List (List ℕ) → ℕ → Type 0
 WrongBehindRounds [] line = line ≡ 3
-WrongBehindRounds (l ∷ ls) line = ((l ≢ ended (codes "annotation 1")) × (line ≡ 3)) ⊎ ((l ≡ ended (codes "annotation 1")) × FirstWrong 4 no_content ls line)
+WrongBehindRounds (l ∷ ls) line =
+    ((l ≢ ended (codes "annotation 1")) × (l ≢ ended (codes "annotation 2")) × (line ≡ 3))
+    ⊎ (((l ≡ ended (codes "annotation 1")) × FirstWrong 4 no_content ls line) ⊎ ((l ≡ ended (codes "annotation 2")) × WrongBehindForm ls line))
 
 abbrev pub WrongBehindSafe : List (List ℕ) → ℕ → Type 0
 WrongBehindSafe [] line = line ≡ 2

@@ -11,7 +11,7 @@ ghost use Rattle.proof_form.specs.Trees.{is_tree, tree_text};
 ghost use Rattle.proof_form.specs.Predicates.{PredicateNode, is_predicate, predicate_text};
 ghost use Rattle.proof_form.specs.Refutations.{RefutationNode, is_refutation, refutation_text};
 ghost use Rattle.proof_form.specs.Lines.{Pred, Triple, Node, is_pred, is_triple, is_node, is_step, pred_text, triple_text, node_text, step_text};
-ghost use Rattle.proof_form.specs.Annotations.{Content, is_annotation, safe_text};
+ghost use Rattle.proof_form.specs.Annotations.{Content, is_annotation, AreShort, safe_text};
 ghost use Rattle.proof_form.specs.Standing.{FirstWrongOfText};
 ghost use Rattle.proof_form.specs.Beginnings.{StandOnly};
 
@@ -32,8 +32,8 @@ pub fn lines_have_one_value()
 
 /// A text that fits in memory is the text of one annotation at most.
 pub fn texts_have_one_annotation()
-    ensures { (m n : ℕ) (a b : Content) → m < 2 ^ 64 → n < 2 ^ 64 → IsTrue (is_annotation a) → IsTrue (is_annotation b) →
-        length (safe_text m a) < 2 ^ 64 → safe_text m a ≡ safe_text n b → (m ≡ n) × (a ≡ b) }
+    ensures { (m n : ℕ) (c d : List ℕ) (a b : Content) → m < 2 ^ 64 → n < 2 ^ 64 → AreShort c → AreShort d → IsTrue (is_annotation a) → IsTrue (is_annotation b) →
+        length (safe_text m c a) < 2 ^ 64 → safe_text m c a ≡ safe_text n d b → (m ≡ n) × (c ≡ d) × (a ≡ b) }
 {}
 
 /// The prefix list of a tree is one whole tree with the tree's text, whatever nodes say and however many parts they have; and

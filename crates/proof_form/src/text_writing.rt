@@ -3,7 +3,7 @@
 ghost use Rattle.std.specs.Prelude.{◌≡◌, ◌++◌, map, OnOk, IfOk, IsTrue};
 ghost use Rattle.std.specs.List.{list_all, flat_map};
 ghost use Rattle.proof_form.specs.Lines as lines;
-ghost use Rattle.proof_form.specs.Annotations.{numbered, item_lines, ended, safe_text};
+ghost use Rattle.proof_form.specs.Annotations.{numbered, item_lines, ended, coarse_line, form_lines, safe_text};
 
 use crate::annotations::Annotation;
 use crate::line_writing::{push_node, push_pred, push_step, push_triple};
@@ -66,13 +66,51 @@ fn push_items(out: &mut Vec<u8>, proof: &Annotation) -> Result<(), AllocError>
     push_steps(out, proof.steps())
 }
 
-/// Writes an annotation and how many rounds found it.
-pub fn write_safe(alloc: Global, rounds: u64, proof: &Annotation) -> Result<Vec<u8>, AllocError>
-    ensures { IfOk result (λ v. v.items ≡ safe_text rounds proof.now) }
+/// Writes the line of a coarse letter.
+fn push_coarse(out: &mut Vec<u8>, letter: u32) -> Result<(), AllocError>
+    ensures { OnOk result (out.new.items ≡ out.old.items ++ ended (coarse_line letter)) }
+{
+    out.extend_from_slice(b"coarse ")?;
+    push_decimal(out, u64::from(letter))?;
+    out.push(b'\n')?;
+    Ok(())
+}
+
+/// Writes the lines of coarse letters.
+fn push_letters(out: &mut Vec<u8>, coarse: &[u32]) -> Result<(), AllocError>
+    ensures { OnOk result (out.new.items ≡ out.old.items ++ flat_map ended (map coarse_line coarse.now)) }
+{
+    for letter in coarse {
+        push_coarse(out, *letter)?;
+    }
+    Ok(())
+}
+
+/// Writes the lines between that of the rounds and those of the items.
+fn push_form(out: &mut Vec<u8>, coarse: &[u32]) -> Result<(), AllocError>
+    ensures { OnOk result (out.new.items ≡ out.old.items ++ flat_map ended (form_lines coarse.now)) }
+{
+    if coarse.is_empty() {
+        out.extend_from_slice(b"annotation 1\n")?;
+        return Ok(());
+    }
+    out.extend_from_slice(b"annotation 2\n")?;
+    push_letters(out, coarse)
+}
+
+/// Writes an annotation, how many rounds found it, and the letters that are told to be coarse.
+pub fn write_safe(
+    alloc: Global,
+    rounds: u64,
+    coarse: &[u32],
+    proof: &Annotation,
+) -> Result<Vec<u8>, AllocError>
+    ensures { IfOk result (λ v. v.items ≡ safe_text rounds coarse.now proof.now) }
 {
     let mut out = Vec::from_slice(alloc, b"safe\nrounds ")?;
     push_decimal(&mut out, rounds)?;
-    out.extend_from_slice(b"\nannotation 1\n")?;
+    out.push(b'\n')?;
+    push_form(&mut out, coarse)?;
     push_items(&mut out, proof)?;
     out.extend_from_slice(b"end\n")?;
     Ok(out)

@@ -1,8 +1,8 @@
 //! The text of an annotation: the header, and then the lines that are counted.
 
-ghost use Rattle.std.specs.Prelude.{◌≡◌, ◌<◌, ◌^◌, ℕ, IfOk, IfErr, IsTrue};
-ghost use Rattle.proof_form.specs.Annotations.{Content, is_annotation, safe_text};
-ghost use Rattle.proof_form.specs.TextOutcomes.{TakesLine, TakesRounds, ReadsText, IsAnswer, IsSyntaxAt};
+ghost use Rattle.std.specs.Prelude.{◌≡◌, ◌<◌, ◌^◌, ℕ, List, IfOk, IfErr, IsTrue};
+ghost use Rattle.proof_form.specs.Annotations.{Content, is_annotation, AreShort, safe_text};
+ghost use Rattle.proof_form.specs.TextOutcomes.{TakesLine, TakesRounds, ReadsLetter, TakesCoarse, TakesFront, ReadsCoarse, ReadsForm, ReadsText, IsAnswer, IsSyntaxAt};
 
 use crate::annotations::Annotation;
 use crate::drafts::Draft;
@@ -11,7 +11,7 @@ use crate::reading::text_at;
 use crate::refusal::Refusal;
 use crate::text_lines::{first_line, number_of};
 use crate::text_reading::items_of;
-use std::alloc::Global;
+use std::alloc::{AllocError, Global};
 
 /// What stands behind the first line, if that is this one.
 fn behind_line<'a>(text: &'a [u8], line: &[u8]) -> Option<&'a [u8]>
@@ -36,8 +36,75 @@ fn behind_rounds(alloc: Global, text: &[u8]) -> Result<(u64, &[u8]), Refusal>
     Ok((number_of(alloc, digits)?, behind))
 }
 
+/// The number of 32 bits that the bytes write in its one way.
+fn letter_of(alloc: Global, bytes: &[u8]) -> Result<Option<u32>, AllocError>
+    ensures { IfOk result (ReadsLetter bytes.now) }
+{
+    match number_of(alloc, bytes) {
+        Ok(number) => Ok(u32::try_from(number).ok()),
+        Err(Refusal::Form) => Ok(None),
+        Err(Refusal::Memory) => Err(AllocError),
+    }
+}
+
+/// The coarse letter that the first line tells, and what stands behind it.
+fn behind_coarse(alloc: Global, text: &[u8]) -> Result<Option<(u32, &[u8])>, AllocError>
+    ensures { IfOk result (TakesCoarse text.now) }
+{
+    let Some((bytes, behind)) = first_line(text) else {
+        return Ok(None);
+    };
+    let Some(digits) = text_at(bytes, b"coarse ") else {
+        return Ok(None);
+    };
+    match letter_of(alloc, digits)? {
+        Some(letter) => Ok(Some((letter, behind))),
+        None => Ok(None),
+    }
+}
+
+/// The coarse letters that the first lines tell, and what stands behind all of these lines.
+fn coarse_front(alloc: Global, text: &[u8]) -> Result<(Vec<u32>, &[u8]), AllocError>
+    ensures { IfOk result (λ x. TakesFront text.now x.0.items x.1.now) }
+{
+    let mut letters = Vec::new(alloc);
+    let mut rest = text;
+    while let Some((letter, behind)) = behind_coarse(alloc, rest)? {
+        letters.push(letter)?;
+        rest = behind;
+    }
+    Ok((letters, rest))
+}
+
+/// Reads what stands behind `annotation 2`.
+fn behind_form(alloc: Global, text: &[u8]) -> Result<(Vec<u32>, Draft), ProofFault>
+    ensures { ReadsCoarse text.now result }
+{
+    let (coarse, rest) = coarse_front(alloc, text)?;
+    if coarse.is_empty() {
+        return Err(ProofFault::Syntax { line: 4 });
+    }
+    let first = coarse.len() as u64 + 4;
+    let draft = items_of(alloc, rest, first)?;
+    Ok((coarse, draft))
+}
+
+/// Reads what stands behind the line of the rounds.
+fn form_of(alloc: Global, text: &[u8]) -> Result<(Vec<u32>, Draft), ProofFault>
+    ensures { ReadsForm text.now result }
+{
+    if let Some(rest) = behind_line(text, b"annotation 1") {
+        let draft = items_of(alloc, rest, 4)?;
+        return Ok((Vec::new(alloc), draft));
+    }
+    let Some(rest) = behind_line(text, b"annotation 2") else {
+        return Err(ProofFault::Syntax { line: 3 });
+    };
+    behind_form(alloc, rest)
+}
+
 /// Reads the whole text.
-fn read(alloc: Global, text: &[u8]) -> Result<(u64, Draft), ProofFault>
+fn read(alloc: Global, text: &[u8]) -> Result<(u64, Vec<u32>, Draft), ProofFault>
     ensures { ReadsText text.now result }
 {
     let Some(rest) = behind_line(text, b"safe") else {
@@ -48,22 +115,22 @@ fn read(alloc: Global, text: &[u8]) -> Result<(u64, Draft), ProofFault>
         Err(Refusal::Form) => return Err(ProofFault::Syntax { line: 2 }),
         Err(Refusal::Memory) => return Err(ProofFault::Memory),
     };
-    let Some(rest) = behind_line(rest, b"annotation 1") else {
-        return Err(ProofFault::Syntax { line: 3 });
-    };
-    Ok((rounds, items_of(alloc, rest)?))
+    let (coarse, draft) = form_of(alloc, rest)?;
+    Ok((rounds, coarse, draft))
 }
 
-/// Reads the text of an annotation: the rounds that it says, and the annotation.
-pub fn read_safe(alloc: Global, text: &[u8]) -> Result<(u64, Annotation), ProofFault>
+/// Reads the text of an annotation: the rounds and the coarse letters that it tells, and the annotation.
+pub fn read_safe(alloc: Global, text: &[u8]) -> Result<(u64, Vec<u32>, Annotation), ProofFault>
     // What is read is spelled so.
-    ensures found { IfOk result (λ x. text.now ≡ safe_text x.0 x.1) }
-    ensures valid { IfOk result (λ x. IsTrue (is_annotation x.1)) }
+    ensures found { IfOk result (λ x. text.now ≡ safe_text x.0 x.1.items x.2) }
+    ensures valid { IfOk result (λ x. IsTrue (is_annotation x.2)) }
+    ensures short { IfOk result (λ x. AreShort x.1.items) }
     // What is spelled so is read, unless memory runs out.
-    ensures only { (rounds : ℕ) (a : Content) → rounds < 2 ^ 64 → IsTrue (is_annotation a) → text.now ≡ safe_text rounds a → IsAnswer rounds a result }
+    ensures only { (rounds : ℕ) (coarse : List ℕ) (a : Content) → rounds < 2 ^ 64 → AreShort coarse → IsTrue (is_annotation a) →
+        text.now ≡ safe_text rounds coarse a → IsAnswer rounds coarse a result }
     // The first line that cannot stand where it does.
     ensures syntax { IfErr result (IsSyntaxAt text.now) }
 {
-    let (rounds, draft) = read(alloc, text)?;
-    Ok((rounds, Annotation::of_draft(draft)))
+    let (rounds, coarse, draft) = read(alloc, text)?;
+    Ok((rounds, coarse, Annotation::of_draft(draft)))
 }

@@ -8,7 +8,7 @@ use Rattle.proof_form.proofs.StandingSteps.{stops_here, ends_here, ends_too_earl
 use Rattle.proof_form.proofs.text_reading.items_of.Goals as goal
 
 pub loop-bytes-init : goal.loop-bytes-init
-loop-bytes-init c = leads_begin _ _ c.new-draft.ensures
+loop-bytes-init c = leads_begin _ _ _ c.new-draft.ensures
 
 pub returns-then-more_follow : goal.returns-then-more_follow
 returns-then-more_follow c =
@@ -30,7 +30,7 @@ pub loop-bytes-smaller : goal.loop-bytes-smaller
 loop-bytes-smaller c = let s = line_shortens c.loop-bytes.rest.now c.in-Some.bytes.now c.in-Some.behind.now (sym c.in-Some.ensures) in omega arith
 
 pub loop-bytes-preserved : goal.loop-bytes-preserved
-loop-bytes-preserved c = leads_on c.loop-bytes.line (content_of c.loop-bytes.draft) (content_of c.add.new.self) c.loop-bytes.rest.now c.in-Some.bytes.now c.in-Some.behind.now c.args.text.now (sym c.in-Some.ensures) c.in-Ok.ensures c.loop-bytes.invariant
+loop-bytes-preserved c = leads_on c.loop-bytes.line c.args.first (content_of c.loop-bytes.draft) (content_of c.add.new.self) c.loop-bytes.rest.now c.in-Some.bytes.now c.in-Some.behind.now c.args.text.now (sym c.in-Some.ensures) c.in-Ok.ensures c.loop-bytes.invariant
 
 pub returns : goal.returns
 returns c = c.loop-bytes.invariant.leads (Err (faults.Syntax c.loop-bytes.line)) (lines_end c.loop-bytes.line (content_of c.loop-bytes.draft) c.loop-bytes.rest.now (sym c.in_default.ensures))

@@ -4,7 +4,7 @@ use Rattle.proof_form.proofs.StandingSteps.{Leads}
 use Rattle.proof_form.proofs.text_reading.items_of.Given as goal
 
 abbrev pub invariant-loop-bytes : goal.invariant-loop-bytes
-invariant-loop-bytes l = Leads l.line (content_of l.draft) l.rest l.text
+invariant-loop-bytes l = Leads l.line l.first (content_of l.draft) l.rest l.text
 
 abbrev pub decreases-loop-bytes : goal.decreases-loop-bytes
 decreases-loop-bytes l = length l.rest
