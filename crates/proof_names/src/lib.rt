@@ -15,4 +15,5 @@ mod triples;
 
 pub use fault::NameFault;
 pub use naming::outline;
+pub use numbers::short_in;
 pub use outlines::{Listed, NamedNode, NamedStep, NamedTriple, Outline};

@@ -52,7 +52,7 @@ pub(crate) fn index_in(numeral: &Numeral) -> Option<usize>
 }
 
 /// The number of a letter, a place or a row.
-pub(crate) fn short_in(numeral: &Numeral) -> Option<u32>
+pub fn short_in(numeral: &Numeral) -> Option<u32>
     ensures { result ≡ spec.short_in numeral.now }
 {
     if numeral.negative {
