@@ -1,0 +1,4 @@
+pub mod MarkLaws
+pub mod OrderLaws
+mod Rows
+pub mod ToldLaws
