@@ -26,12 +26,12 @@ unknown_text cause rounds w = codes "unknown " ++ (cause_name cause ++ (codes "\
     (flat_map letter_piece w ++ 10 ∷ [])))))
 
 abbrev pub verdict_text : ℕ → Verdict → List ℕ
-verdict_text rounds (Safe a) = safe_text rounds a
+verdict_text rounds (Safe coarse a) = safe_text rounds coarse.items a
 verdict_text rounds (Unsafe f) = failure_text (plain f)
 verdict_text rounds (Unknown cause w) = unknown_text cause rounds w
 
 -- the values of a failure fit
 abbrev pub ChoicesFit : Verdict → Type 0
-ChoicesFit (Safe a) = Unit {0}
+ChoicesFit (Safe coarse a) = Unit {0}
 ChoicesFit (Unsafe f) = AllByRecursion Fits (numbers f.trail.choices.items)
 ChoicesFit (Unknown cause w) = Unit {0}

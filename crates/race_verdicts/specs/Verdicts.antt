@@ -6,6 +6,7 @@ use Rattle.nwa_base.specs.declared.letters.Letter.{Letter}
 use Rattle.typed_tree.specs.TypedTree.{TypedProgram}
 use Rattle.lowered_graph.specs.Lowered.{lowered}
 use Rattle.proof_form.specs.Annotations.{is_annotation}
+use Rattle.coarse_lines.specs.CoarseLetters.{coarse_letters}
 use Rattle.proof_check.specs.Proves.{Proves}
 use Rattle.trace_replay.specs.declared.failure.Failure.{Failure}
 use Rattle.trace_replay.specs.FailureText.{IsInBounds, numbers, plain}
@@ -32,9 +33,10 @@ pub record IsFailureOf (t : TypedProgram) (r : Race Certificate) (f : Failure) :
   pub end : r.end ≡ Some (ends.Unsafe word f.trail.steps choices)
   pub failure : IsFailureBy t (length r.history) f.trail.steps choices.items f
 
--- The race ended so: no word is left, and the annotation, each line of which is in the grammar, proves the program; a run fails; or nothing is
--- known of a word.
+-- The race ended so: no word is left, the annotation, each line of which is in the grammar, proves the program, and the letters are the coarse
+-- ones that its triples name; a run fails; or nothing is known of a word.
 abbrev pub IsVerdict : TypedProgram → Race Certificate → Verdict → Type 0
-IsVerdict t r (Safe a) = (r.end ≡ Some ends.Safe) × Proves (lowered t) a × IsTrue (is_annotation a)
+IsVerdict t r (Safe coarse a) =
+    (r.end ≡ Some ends.Safe) × Proves (lowered t) a × IsTrue (is_annotation a) × (coarse.items ≡ coarse_letters (lowered t) a)
 IsVerdict t r (Unsafe f) = IsFailureOf t r f
 IsVerdict t r (Unknown cause w) = r.end ≡ Some (ends.Unknown cause w)

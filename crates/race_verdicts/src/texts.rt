@@ -64,7 +64,7 @@ pub fn verdict_text(alloc: Global, rounds: u64, verdict: &Verdict) -> Result<Vec
     ensures { IfOk result (λ v. v.items ≡ verdict_text rounds verdict.now) }
 {
     match verdict {
-        Verdict::Safe(annotation) => write_safe(alloc, rounds, annotation),
+        Verdict::Safe { coarse, annotation } => write_safe(alloc, rounds, coarse, annotation),
         Verdict::Unsafe(failure) => write_failure(alloc, failure),
         Verdict::Unknown { cause, word } => unknown_text(alloc, *cause, rounds, word),
     }

@@ -9,6 +9,7 @@ ghost use Rattle.race_verdicts.specs.Verdicts.{IsVerdict};
 
 use crate::failures::failure_of;
 use crate::proving::annotation_of;
+use coarse_lines::coarse_letters;
 use itp_automaton::Certified;
 use letter_acts::Icfg;
 use nwa_base::Word;
@@ -21,8 +22,13 @@ use typing_rules::Typed;
 /// What is said of a program.
 #[derive(Drop)]
 pub enum Verdict {
-    /// No run of it fails an assertion; the annotation proves it.
-    Safe(Annotation),
+    /// No run of it fails an assertion.
+    Safe {
+        /// The coarse letters that the triples of the annotation name.
+        coarse: Vec<u32>,
+        /// It proves the program.
+        annotation: Annotation,
+    },
     /// A run of it fails an assertion.
     Unsafe(Failure),
     /// Nothing is known, for this cause, of the word.
@@ -48,7 +54,11 @@ pub fn verdict_of(
 {
     let rounds = race.version();
     match race.end() {
-        Some(End::Safe) => Ok(Verdict::Safe(annotation_of(alloc, program, icfg, race)?)),
+        Some(End::Safe) => {
+            let annotation = annotation_of(alloc, program, icfg, race)?;
+            let coarse = coarse_letters(alloc, icfg, &annotation)?;
+            Ok(Verdict::Safe { coarse, annotation })
+        }
         Some(End::Unsafe { steps, choices, .. }) => {
             let failure = failure_of(alloc, program, rounds, *steps, choices)?;
             Ok(Verdict::Unsafe(failure))
