@@ -18,6 +18,7 @@ use Rattle.lowered_graph.specs.Lowered.{lowered}
 use Rattle.lowered_graph.specs.Laws.{LoweringIsFaithful}
 use Rattle.trace_replay.specs.Replays.{Replays}
 use Rattle.proof_form.specs.Annotations.{Content, safe_text}
+use Rattle.coarse_lines.specs.CoarseLetters.{coarse_letters}
 use Rattle.race_core.specs.declared.ends.End.{End}
 use Rattle.race_core.specs.declared.ends.End.TheVariants as ends
 use Rattle.race_core.specs.declared.events.Entry.{Entry}
@@ -67,13 +68,13 @@ error_word t limits h w steps choices (no_word e n) = absurd (cc)
 error_word t limits h w steps choices (one_word v k s) = (v, record { accepted = k.error; feasible = s.1 })
 
 ends_safe : (t : TypedProgram) (r : Race Certificate) (v : Verdict) (a : Answer) → IsVerdict t r v → a ≡ verdict_answer r v → a.status ≡ 0 → r.end ≡ Some ends.Safe
-ends_safe t r (Safe w) a h is z = h.0
+ends_safe t r (Safe coarse w) a h is z = h.0
 ends_safe t r (Unsafe f) a h is z = absurd (let e : 1 ≡ 0 = sym (ap (λ (b : Answer). b.status) is) ∙ z in omega arith)
 ends_safe t r (Unknown cause w) a h is z = absurd (let e : 2 ≡ 0 = sym (ap (λ (b : Answer). b.status) is) ∙ z in omega arith)
 
 fails_at : (t : TypedProgram) (limits : Limits) (r : Race Certificate) (v : Verdict) (a : Answer) → IsRaceOf t limits r → IsVerdict t r v → a ≡ verdict_answer r v → a.status ≡ 1 →
     (w : List Letter) × IsErrorWord t w
-fails_at t limits r (Safe w) a race h is z = absurd (let e : 0 ≡ 1 = sym (ap (λ (b : Answer). b.status) is) ∙ z in omega arith)
+fails_at t limits r (Safe coarse w) a race h is z = absurd (let e : 0 ≡ 1 = sym (ap (λ (b : Answer). b.status) is) ∙ z in omega arith)
 fails_at t limits r (Unsafe f) a race h is z = error_word t limits r.history h.word f.trail.steps h.choices (met t limits r (ends.Unsafe h.word f.trail.steps h.choices) race h.end)
 fails_at t limits r (Unknown cause w) a race h is z = absurd (let e : 2 ≡ 1 = sym (ap (λ (b : Answer). b.status) is) ∙ z in omega arith)
 
@@ -116,14 +117,15 @@ only_safe t limits h e none (no_word is n) = is
 only_safe t limits h e none (one_word w k s) = absurd (none w k.error)
 
 safe_at_once : (t : TypedProgram) (limits : Limits) (r : Race Certificate) (v : Verdict) (a : Answer) → HasNoWord t → IsRaceOf t limits r → r.history ≡ [] → IsVerdict t r v →
-    a ≡ verdict_answer r v → (w : Content) × (a.bytes ≡ safe_text 0 w) × (a.status ≡ 0)
-safe_at_once t limits r (Safe w) a none race empty h is =
-    (w, ap (λ (b : Answer). b.bytes) is ∙ ap (λ (x : List (Entry Certificate)). safe_text (length x) w) empty, ap (λ (b : Answer). b.status) is)
+    a ≡ verdict_answer r v → (w : Content) × (a.bytes ≡ safe_text 0 (coarse_letters (lowered t) w) w) × (a.status ≡ 0)
+safe_at_once t limits r (Safe coarse w) a none race empty h is =
+    (w, ap (λ (b : Answer). b.bytes) is ∙ ap (λ (x : List (Entry Certificate)). safe_text (length x) coarse.items w) empty ∙ ap (λ (ns : List ℕ). safe_text 0 ns w) h.3, ap (λ (b : Answer). b.status) is)
 safe_at_once t limits r (Unsafe f) a none race empty h is =
     absurd (let e = only_safe t limits r.history (ends.Unsafe h.word f.trail.steps h.choices) none (met t limits r (ends.Unsafe h.word f.trail.steps h.choices) race h.end) in let no : ⊥ = cc in no)
 safe_at_once t limits r (Unknown cause w) a none race empty h is =
     absurd (let e = only_safe t limits r.history (ends.Unknown cause w) none (met t limits r (ends.Unknown cause w) race h) in let no : ⊥ = cc in no)
 
-pub without_error_words : (limits : Limits) (t : TypedProgram) (a : Answer) → ReportsVerdict limits t a → HasNoWord t → (w : Content) × (a.bytes ≡ safe_text 0 w) × (a.status ≡ 0)
+pub without_error_words : (limits : Limits) (t : TypedProgram) (a : Answer) → ReportsVerdict limits t a → HasNoWord t →
+    (w : Content) × (a.bytes ≡ safe_text 0 (coarse_letters (lowered t) w) w) × (a.status ≡ 0)
 without_error_words limits t a v none =
     safe_at_once t limits v.race v.verdict a none v.closed.race (no_entry t v.race.program v.race.history v.closed.race.program none v.closed.legal) v.of_end v.is

@@ -53,7 +53,7 @@ summary_reported limits count t r v text left typed lowers race of_end legal kep
 
 -- a verdict's annotation proves the graph of the program
 pub verdict_is_proved : (t : TypedProgram) (g : Graph) (r : Race Certificate) (v : Verdict) → IsGraphOf t g → IsVerdict t r v → VerdictProves g v
-verdict_is_proved t g r (Safe a) h of_end = subst (λ (x : Graph). Proves x a) (sym h.value) of_end.1
+verdict_is_proved t g r (Safe coarse a) h of_end = subst (λ (x : Graph). Proves x a) (sym h.value) of_end.1
 verdict_is_proved t g r (Unsafe f) h of_end = tt
 verdict_is_proved t g r (Unknown cause w) h of_end = tt
 

@@ -15,10 +15,10 @@ below_five (TooBig at) = omega arith
 below_five (Printed text) = omega arith
 below_five (Syntax line) = omega arith
 below_five Accepted = omega arith
-below_five (Rejected item cause) = omega arith
+below_five (Rejected line cause) = omega arith
 below_five (Replayed id) = omega arith
 below_five (Stopped step cause) = omega arith
-below_five (Decided text (verdicts.Safe annotation) race) = omega arith
+below_five (Decided text (verdicts.Safe coarse annotation) race) = omega arith
 below_five (Decided text (verdicts.Unsafe failure) race) = omega arith
 below_five (Decided text (verdicts.Unknown cause word) race) = omega arith
 

@@ -59,8 +59,8 @@ abbrev SaysCause : Cause → Verdict → Type 0
 SaysCause cause v = (w : List Letter) × (v ≡ Unknown cause w)
 
 of_text : (cause : Cause) (m n : ℕ) (w : List Letter) (v : Verdict) → verdict_text m v ≡ unknown_text cause n w → SaysCause cause v
-of_text cause m n w (Safe a) e =
-    absurd (let f : get_or (verdict_text m (Safe a)) 2 0 ≡ 107 = ap (λ (xs : List ℕ). get_or xs 2 0) e ∙ third_letter cause n w in let no : ⊥ = omega arith in no)
+of_text cause m n w (Safe coarse a) e =
+    absurd (let f : get_or (verdict_text m (Safe coarse a)) 2 0 ≡ 107 = ap (λ (xs : List ℕ). get_or xs 2 0) e ∙ third_letter cause n w in let no : ⊥ = omega arith in no)
 of_text cause m n w (Unsafe f) e =
     absurd (let g : get_or (verdict_text m (Unsafe f)) 2 0 ≡ 107 = ap (λ (xs : List ℕ). get_or xs 2 0) e ∙ third_letter cause n w in let no : ⊥ = omega arith in no)
 of_text cause m n w (Unknown other u) e =

@@ -7,6 +7,8 @@ use Rattle.typed_tree.specs.TypedTree.{TypedProgram}
 use Rattle.lowered_graph.specs.Items.{first_fault}
 use Rattle.lowered_graph.specs.Lowered.{lowered}
 use Rattle.proof_form.specs.Annotations.{Content, is_annotation, safe_text}
+use Rattle.coarse_lines.specs.CoarseLetters.{coarse_letters}
+use Rattle.coarse_lines.proofs.ToldLaws.{letters_are_short}
 use Rattle.proof_check.specs.Proves.{Proves}
 use Rattle.trace_replay.specs.declared.failure.Failure.{Failure}
 use Rattle.trace_replay.specs.FailureText.{PlainFailure, plain}
@@ -18,7 +20,7 @@ use Rattle.race_verdicts.specs.declared.verdicts.Verdict.TheVariants.{Safe, Unsa
 use Rattle.race_verdicts.specs.Verdicts.{IsVerdict, IsFailureOf}
 use Rattle.automizer_top.specs.Verdicts.{verdict_status}
 use Rattle.automizer_top.specs.ReportTexts.{Answer, answer, accepted_answer, replayed_answer, verdict_answer}
-use Rattle.automizer_top.specs.Report.{second_limit, Ask, IsTypedText, refused, of_typed, unlowered, of_lowered, of_second, IsSafeText, ReportsProof, accepted, IsFailureText, replayed, ReportsVerdict, ReportsVerify, Reports, usage, printing, checking, replaying, verifying, generating}
+use Rattle.automizer_top.specs.Report.{second_limit, Ask, IsTypedText, refused, of_typed, unlowered, of_lowered, of_second, IsSafeText, ReportsProof, of_annotation, accepted, IsFailureText, replayed, ReportsVerdict, ReportsVerify, Reports, usage, printing, checking, replaying, verifying, generating}
 use Rattle.automizer_top.specs.ReportClaims.{IsVerdictOn, IsHandedOver}
 use Rattle.automizer_top.specs.TypeRefusals.{type_refusal}
 use Rattle.automizer_top.proofs.ReportLaws.{typed_is_three, lowering_is_three}
@@ -75,15 +77,20 @@ verdict_told words texts s program a ask given l =
 
 -- ---- `safe`
 
--- the bytes are the `safe` text of an annotation that proves the program
+-- the bytes are the `safe` text of an annotation that proves the program, with the coarse letters that its triples name
 record IsSafeOf (t : TypedProgram) (r : Race Certificate) (a : Answer) : Type 0 where
   pub annotation : Content
-  pub spelled : a.bytes ≡ safe_text (length r.history) annotation
+  pub spelled : a.bytes ≡ safe_text (length r.history) (coarse_letters (lowered t) annotation) annotation
   pub lines : IsTrue (is_annotation annotation)
   pub proves : Proves (lowered t) annotation
 
 safe_of : (t : TypedProgram) (r : Race Certificate) (v : Verdict) (a : Answer) → IsVerdict t r v → a ≡ verdict_answer r v → a.status ≡ 0 → IsSafeOf t r a
-safe_of t r (Safe w) a h is z = record { annotation = w; spelled = ap (λ (b : Answer). b.bytes) is; lines = h.2; proves = h.1 }
+safe_of t r (Safe coarse w) a h is z = record {
+  annotation = w;
+  spelled = ap (λ (b : Answer). b.bytes) is ∙ ap (λ (ns : List ℕ). safe_text (length r.history) ns w) h.3;
+  lines = h.2;
+  proves = h.1;
+}
 safe_of t r (Unsafe f) a h is z = absurd (let e : 1 ≡ 0 = sym (ap (λ (b : Answer). b.status) is) ∙ z in omega arith)
 safe_of t r (Unknown cause w) a h is z = absurd (let e : 2 ≡ 0 = sym (ap (λ (b : Answer). b.status) is) ∙ z in omega arith)
 
@@ -91,10 +98,12 @@ proof_of : (s : Settings) (t : TypedProgram) (a : Answer) → s.limits.rounds �
     ReportsProof (lowered t) a.bytes accepted_answer
 proof_of s t a few v z =
     let f = safe_of t v.race v.verdict a v.of_end v.is z in
+    let letters = coarse_letters (lowered t) f.annotation in
     let within : length v.race.history ≤ s.limits.rounds = v.closed.within in
     let small : length v.race.history < 2 ^ 64 = omega (arith, within, few) in
-    let text : IsSafeText a.bytes f.annotation = record { rounds = length v.race.history; small = small; lines = f.lines; spelled = f.spelled } in
-    accepted f.annotation text f.proves refl
+    let text : IsSafeText a.bytes letters f.annotation =
+    record { rounds = length v.race.history; small = small; short = letters_are_short (lowered t) f.annotation; lines = f.lines; spelled = f.spelled } in
+    of_annotation letters f.annotation text (accepted refl f.proves refl)
 
 check_answer : (again : List (List ℕ)) (r s : Settings) (program second : List ℕ) (before after : Texts) (a : Answer) → Ask again s (Check program second) → r.limits.rounds ≤ 100000 →
     IsVerdictOf r program before a → a.status ≡ 0 → IsHandedOver program second r s before after a → Reports again after accepted_answer
@@ -138,7 +147,7 @@ failing t r f a h is = record {
 }
 
 pub unsafe_of : (t : TypedProgram) (r : Race Certificate) (v : Verdict) (a : Answer) → IsVerdict t r v → a ≡ verdict_answer r v → a.status ≡ 1 → IsUnsafeOf t a
-unsafe_of t r (Safe w) a h is z = absurd (let e : 0 ≡ 1 = sym (ap (λ (b : Answer). b.status) is) ∙ z in omega arith)
+unsafe_of t r (Safe coarse w) a h is z = absurd (let e : 0 ≡ 1 = sym (ap (λ (b : Answer). b.status) is) ∙ z in omega arith)
 unsafe_of t r (Unsafe f) a h is z = failing t r f a h is
 unsafe_of t r (Unknown cause w) a h is z = absurd (let e : 2 ≡ 1 = sym (ap (λ (b : Answer). b.status) is) ∙ z in omega arith)
 

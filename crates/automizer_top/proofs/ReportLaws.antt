@@ -15,6 +15,7 @@ use Rattle.typed_tree.specs.TypedTree.{TypedProgram}
 use Rattle.typed_tree.specs.declared.fault.TypeFault.{TypeFault}
 use Rattle.typed_tree.specs.declared.fault.TypeFault.TheVariants as type_faults
 use Rattle.letter_acts.specs.Invariant.{Graph}
+use Rattle.proof_form.specs.Annotations.{Content}
 use Rattle.lowered_graph.specs.Items.{ItemFault, TooWide, TooBig}
 use Rattle.lowered_graph.specs.Lowered.{lowered}
 use Rattle.race_rounds.specs.declared.limits.Limits.{Limits}
@@ -30,7 +31,7 @@ use Rattle.automizer_top.specs.TypeRefusals.{type_refusal}
 use Rattle.automizer_top.specs.LoweringRefusals.{lowering_refusal}
 use Rattle.automizer_top.specs.Answers.{answered, Asks, IsGraphOf, HasNoErrorWord, TextIsSafe, CheckedIsSafe, VerifiedIsSafe, BuiltIsSafe}
 use Rattle.automizer_top.specs.ReportTexts.{Answer, answer, too_long_answer, accepted_answer}
-use Rattle.automizer_top.specs.Report.{program_limit, second_limit, Ask, RefusesProgram, too_long, no_program, ReportsPrint, refused_print, printed, RefusesTyped, refused_text, ill_typed, IsTypedText, refused, of_typed, RefusesLowering, unlowered, of_lowered, ReportsSecond, second_too_long, of_second, ReportsProof, no_annotation, accepted, rejected, ReportsCheck, ReportsFailure, no_failure, replayed, stopped, ReportsReplay, ReportsVerify, Reports, usage, printing, checking, replaying, verifying, generating}
+use Rattle.automizer_top.specs.Report.{program_limit, second_limit, Ask, RefusesProgram, too_long, no_program, ReportsPrint, refused_print, printed, RefusesTyped, refused_text, ill_typed, IsTypedText, refused, of_typed, RefusesLowering, unlowered, of_lowered, ReportsSecond, second_too_long, of_second, ReportsAnnotation, wrong_line, missing_line, accepted, rejected, ReportsProof, no_annotation, of_annotation, ReportsCheck, ReportsFailure, no_failure, replayed, stopped, ReportsReplay, ReportsVerify, Reports, usage, printing, checking, replaying, verifying, generating}
 use Rattle.automizer_top.specs.ReportClaims.{GeneratedIsSafe, PrintsProgram, AsksForCheck, AsksForVerdict, ProgramIsSafe, ProgramFails, WhereTold}
 use Rattle.automizer_top.proofs.PrintedTexts.{begins_otherwise}
 use Rattle.automizer_top.proofs.VerdictTexts.{verdict_begins}
@@ -242,10 +243,15 @@ pub record IsAccepted (entry text : List ℕ) (a : Answer) : Type 0 where
   pub typed : IsTypedText entry text meant
   pub is : a ≡ accepted_answer
 
+annotation_zero : (g : Graph) (coarse : List ℕ) (w : Content) (a : Answer) → ReportsAnnotation g coarse w a → a.status ≡ 0 → a ≡ accepted_answer
+annotation_zero g coarse w a (wrong_line place e is) z = absurd (let d : 1 ≡ 0 = sym (ap (λ (b : Answer). b.status) is) ∙ z in omega arith)
+annotation_zero g coarse w a (missing_line place e f is) z = absurd (let d : 1 ≡ 0 = sym (ap (λ (b : Answer). b.status) is) ∙ z in omega arith)
+annotation_zero g coarse w a (accepted e p is) z = is
+annotation_zero g coarse w a (rejected item cause e first is) z = absurd (let d : 1 ≡ 0 = sym (ap (λ (b : Answer). b.status) is) ∙ z in omega arith)
+
 proof_zero : (g : Graph) (text : List ℕ) (a : Answer) → ReportsProof g text a → a.status ≡ 0 → a ≡ accepted_answer
 proof_zero g text a (no_annotation line wrong is) z = absurd (let d : 1 ≡ 0 = sym (ap (λ (b : Answer). b.status) is) ∙ z in omega arith)
-proof_zero g text a (accepted w s p is) z = is
-proof_zero g text a (rejected w item cause s first is) z = absurd (let d : 1 ≡ 0 = sym (ap (λ (b : Answer). b.status) is) ∙ z in omega arith)
+proof_zero g text a (of_annotation coarse w s r) z = annotation_zero g coarse w a r z
 
 too_long_is_not_zero : (a : Answer) → a ≡ too_long_answer → a.status ≡ 0 → ⊥
 too_long_is_not_zero a is z = three_is_not_zero a.status (ap (λ (b : Answer). b.status) is) z
@@ -350,10 +356,15 @@ lowering_begins t a h begin = by_fault h.fault (sym (ap second_of h.is) ∙ begi
 too_long_begins : (a : Answer) → a ≡ too_long_answer → second_of a ≡ 99 → ⊥
 too_long_begins a is begin = e_is_not_c (second_of a) (ap second_of is) begin
 
+annotation_begins : (g : Graph) (coarse : List ℕ) (w : Content) (a : Answer) → ReportsAnnotation g coarse w a → second_of a ≡ 99 → a ≡ accepted_answer
+annotation_begins g coarse w a (wrong_line place e is) begin = absurd (let same : 101 ≡ 99 = sym (ap second_of is) ∙ begin in omega arith)
+annotation_begins g coarse w a (missing_line place e f is) begin = absurd (let same : 101 ≡ 99 = sym (ap second_of is) ∙ begin in omega arith)
+annotation_begins g coarse w a (accepted e p is) begin = is
+annotation_begins g coarse w a (rejected item cause e first is) begin = absurd (let same : 101 ≡ 99 = sym (ap second_of is) ∙ begin in omega arith)
+
 proof_begins : (g : Graph) (text : List ℕ) (a : Answer) → ReportsProof g text a → second_of a ≡ 99 → a ≡ accepted_answer
 proof_begins g text a (no_annotation line wrong is) begin = absurd (let same : 101 ≡ 99 = sym (ap second_of is) ∙ begin in omega arith)
-proof_begins g text a (accepted w s p is) begin = is
-proof_begins g text a (rejected w item cause s first is) begin = absurd (let same : 101 ≡ 99 = sym (ap second_of is) ∙ begin in omega arith)
+proof_begins g text a (of_annotation coarse w s r) begin = annotation_begins g coarse w a r begin
 
 check_begins : (entry : List ℕ) (text : List ℕ) (second : Option (List ℕ)) (a : Answer) → ReportsCheck entry text second a → second_of a ≡ 99 → IsAccepted entry text a
 check_begins entry text second a (refused r) begin = absurd (typed_begins entry text a r begin)

@@ -18,7 +18,7 @@ use Rattle.automizer_top.specs.Asked.{asked, task, settings}
 use Rattle.automizer_top.specs.Answers.{answered, Asks}
 use Rattle.automizer_top.specs.Verdicts.{verdict_status}
 use Rattle.automizer_top.specs.ReportTexts.{Answer}
-use Rattle.automizer_top.specs.Report.{Ask, RefusesProgram, too_long, no_program, ReportsPrint, refused_print, printed, RefusesTyped, refused, of_typed, RefusesLowering, unlowered, of_lowered, ReportsProof, no_annotation, accepted, rejected, ReportsFailure, no_failure, replayed, stopped, ReportsVerify, ReportsBig}
+use Rattle.automizer_top.specs.Report.{Ask, RefusesProgram, too_long, no_program, ReportsPrint, refused_print, printed, RefusesTyped, refused, of_typed, RefusesLowering, unlowered, of_lowered, ReportsAnnotation, wrong_line, missing_line, accepted, rejected, ReportsProof, no_annotation, of_annotation, ReportsFailure, no_failure, replayed, stopped, ReportsVerify, ReportsBig}
 use Rattle.automizer_top.proofs.ReportLaws.{typed_is_three, lowering_is_three}
 
 -- an answer of another status does not have the status 4
@@ -48,10 +48,15 @@ typed_not_four entry text a r = not_three a.status (typed_is_three entry text a 
 pub lowering_not_four : (t : TypedProgram) (a : Answer) → RefusesLowering t a → a.status ≢ 4
 lowering_not_four t a r = not_three a.status (lowering_is_three t a r)
 
+annotation_not_four : (g : Graph) (coarse : List ℕ) (w : Content) (a : Answer) → ReportsAnnotation g coarse w a → a.status ≢ 4
+annotation_not_four g coarse w a (wrong_line place e is) = not_one a.status (ap status_of is)
+annotation_not_four g coarse w a (missing_line place e f is) = not_one a.status (ap status_of is)
+annotation_not_four g coarse w a (accepted e p is) = not_zero a.status (ap status_of is)
+annotation_not_four g coarse w a (rejected item cause e first is) = not_one a.status (ap status_of is)
+
 pub proof_not_four : (g : Graph) (text : List ℕ) (a : Answer) → ReportsProof g text a → a.status ≢ 4
 proof_not_four g text a (no_annotation line wrong is) = not_one a.status (ap status_of is)
-proof_not_four g text a (accepted w s p is) = not_zero a.status (ap status_of is)
-proof_not_four g text a (rejected w item cause s first is) = not_one a.status (ap status_of is)
+proof_not_four g text a (of_annotation coarse w s r) = annotation_not_four g coarse w a r
 
 pub failure_not_four : (t : TypedProgram) (text : List ℕ) (a : Answer) → ReportsFailure t text a → a.status ≢ 4
 failure_not_four t text a (no_failure line fault is) = not_one a.status (ap status_of is)
@@ -59,7 +64,7 @@ failure_not_four t text a (replayed f id h r is) = not_zero a.status (ap status_
 failure_not_four t text a (stopped f step cause h s is) = not_one a.status (ap status_of is)
 
 verdict_not_four : (v : Verdict) → verdict_status v ≢ 4
-verdict_not_four (Safe a) = λ e. omega (arith, e)
+verdict_not_four (Safe coarse a) = λ e. omega (arith, e)
 verdict_not_four (Unsafe f) = λ e. omega (arith, e)
 verdict_not_four (Unknown cause w) = λ e. omega (arith, e)
 

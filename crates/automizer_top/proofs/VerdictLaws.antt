@@ -35,7 +35,7 @@ kept_graph g k = k
 
 -- the values of a verdict's failure fit
 pub fits : (t : TypedProgram) (r : Race Certificate) (v : Verdict) → IsVerdict t r v → ChoicesFit v
-fits t r (Safe a) h = tt
+fits t r (Safe coarse a) h = tt
 fits t r (Unsafe f) h = h.failure.bounds.choices
 fits t r (Unknown cause w) h = tt
 
@@ -52,7 +52,7 @@ reports limits t r v text left rounds race of_end legal kept room n same_text = 
 
 -- the graph of a program that is said to be safe has no feasible error word
 pub safe_is_infeasible : (t : TypedProgram) (g : Graph) (r : Race Certificate) (v : Verdict) → IsGraphOf t g → Keeps g → IsVerdict t r v → verdict_status v ≡ 0 → HasNoErrorWord g
-safe_is_infeasible t g r (Safe a) h k s z = proved_infeasible g a (kept_graph g k) s.2 (subst (λ (x : Graph). Proves x a) (sym h.value) s.1)
+safe_is_infeasible t g r (Safe coarse a) h k s z = proved_infeasible g a (kept_graph g k) s.2 (subst (λ (x : Graph). Proves x a) (sym h.value) s.1)
 safe_is_infeasible t g r (Unsafe f) h k s z = absurd (omega arith)
 safe_is_infeasible t g r (Unknown cause w) h k s z = absurd (omega arith)
 

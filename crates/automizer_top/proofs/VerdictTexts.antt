@@ -5,6 +5,6 @@ use Rattle.race_verdicts.specs.declared.verdicts.Verdict.TheVariants.{Safe, Unsa
 use Rattle.race_verdicts.specs.Texts.{verdict_text}
 
 pub verdict_begins : (rounds : ℕ) (v : Verdict) → get_or (verdict_text rounds v) 1 0 ≡ 99 → ⊥
-verdict_begins rounds (Safe a) b = omega arith
+verdict_begins rounds (Safe coarse a) b = omega arith
 verdict_begins rounds (Unsafe f) b = omega arith
 verdict_begins rounds (Unknown cause w) b = omega arith

@@ -39,7 +39,7 @@ answered (TooBig at) = written.answer (lowering_refusal (items.TooBig at)) 3
 answered (Printed text) = written.answer text.items 0
 answered (Syntax line) = written.syntax_answer line
 answered Accepted = written.accepted_answer
-answered (Rejected item cause) = written.rejected_answer item cause
+answered (Rejected line cause) = written.failed_answer line cause
 answered (Replayed id) = written.replayed_answer id
 answered (Stopped step cause) = written.stopped_answer step cause
 answered (Decided text verdict race) = record { bytes = text.items; status = verdict_status verdict; races = race ∷ [] }
@@ -60,7 +60,7 @@ HasNoErrorWord g = (w : List Letter) → Accepts g.automaton w → IsFeasible (a
 
 -- the annotation of a verdict proves the graph, if the verdict has one
 abbrev pub VerdictProves : Graph → Verdict → Type 0
-VerdictProves g (Safe annotation) = Proves g annotation
+VerdictProves g (Safe coarse annotation) = Proves g annotation
 VerdictProves g (Unsafe failure) = Unit {0}
 VerdictProves g (Unknown cause word) = Unit {0}
 

@@ -1,6 +1,6 @@
 -- What the program answers to its words and the texts that they name, in the order of the work: a program text is read and typed, the program is
 -- lowered, the second text is read, and then the annotation is checked, the failure replayed, or a race decides.
-use Rattle.std.specs.Prelude.{◌≡◌, ℕ, ◌-◌, ◌^◌, ◌<◌, ◌≤◌, IsTrue, List, length, Option, None, Some, Err, codes}
+use Rattle.std.specs.Prelude.{◌≡◌, ℕ, ◌+◌, ◌-◌, ◌^◌, ◌<◌, ◌≤◌, IsTrue, List, length, Option, None, Some, Err, codes}
 use Rattle.outer_io.specs.Texts.{text_named}
 use Rattle.outer_io.specs.Lines.{lines_of}
 use Rattle.boogie_tree.specs.Tree.{Declaration}
@@ -17,9 +17,12 @@ use Rattle.boogie_run.specs.declared.types.AssertId.{AssertId}
 use Rattle.letter_acts.specs.Invariant.{Graph}
 use Rattle.lowered_graph.specs.Items.{ItemFault, first_fault}
 use Rattle.lowered_graph.specs.Lowered.{lowered}
-use Rattle.proof_form.specs.Annotations.{Content, is_annotation, safe_text}
+use Rattle.proof_form.specs.Annotations.{Content, is_annotation, AreShort, safe_text}
 use Rattle.proof_form.specs.Standing.{FirstWrongOfText}
+use Rattle.coarse_lines.specs.CoarseLetters.{coarse_letters, first_wrong, first_missing}
+use Rattle.proof_names.specs.Items.{first_triple}
 use Rattle.proof_check.specs.declared.rejects.RejectCause.{RejectCause}
+use Rattle.proof_check.specs.declared.rejects.RejectCause.TheVariants as rejects
 use Rattle.proof_check.specs.Proves.{Proves}
 use Rattle.proof_check.specs.Checks.{IsFirst}
 use Rattle.trace_replay.specs.FailureText.{PlainFailure, IsInBounds, failure_text}
@@ -38,7 +41,7 @@ use Rattle.automizer_top.specs.Verdicts.{IsClosedRace}
 use Rattle.automizer_top.specs.Refusals.{refusal}
 use Rattle.automizer_top.specs.TypeRefusals.{type_refusal}
 use Rattle.automizer_top.specs.LoweringRefusals.{lowering_refusal}
-use Rattle.automizer_top.specs.ReportTexts.{Answer, answer, usage_line, too_long_answer, syntax_answer, accepted_answer, rejected_answer, replayed_answer, stopped_answer, verdict_answer, summary_answer}
+use Rattle.automizer_top.specs.ReportTexts.{Answer, answer, usage_line, too_long_answer, syntax_answer, accepted_answer, failed_answer, rejected_answer, replayed_answer, stopped_answer, verdict_answer, summary_answer}
 
 -- the most bytes of a program text, and of a second text
 abbrev pub program_limit : ℕ
@@ -112,19 +115,29 @@ pub data ReportsSecond (second : Option (List ℕ)) (to_text : List ℕ → Answ
 
 -- ---- an annotation is checked
 
--- The text is the `safe` text of this annotation.
-pub record IsSafeText (text : List ℕ) (w : Content) : Type 0 where
+-- The text is the `safe` text of this annotation, with these coarse letters.
+pub record IsSafeText (text coarse : List ℕ) (w : Content) : Type 0 where
   pub rounds : ℕ
   pub small : rounds < 2 ^ 64
+  pub short : AreShort coarse
   pub lines : IsTrue (is_annotation w)
-  pub spelled : text ≡ safe_text rounds w
+  pub spelled : text ≡ safe_text rounds coarse w
+
+-- What is answered to the graph of a program and to an annotation with lines of these coarse letters: one of these lines is wrong, a triple lacks
+-- its line, or the letters are the coarse ones that triples name, and the six checks decide. Line 0 of them stands on line 4. The cases exclude
+-- each other.
+pub data ReportsAnnotation (g : Graph) (coarse : List ℕ) (w : Content) (a : Answer) : Type 0 where
+  wrong_line : (place : ℕ) → first_wrong g coarse w ≡ Some place → a ≡ failed_answer (place + 4) rejects.BadName → ReportsAnnotation g coarse w a
+  missing_line : (place : ℕ) → first_wrong g coarse w ≡ None → first_missing g coarse w ≡ Some place →
+      a ≡ rejected_answer (length coarse) (first_triple w + place) rejects.BadName → ReportsAnnotation g coarse w a
+  accepted : coarse ≡ coarse_letters g w → Proves g w → a ≡ accepted_answer → ReportsAnnotation g coarse w a
+  rejected : (item : ℕ) (cause : RejectCause) → coarse ≡ coarse_letters g w → IsFirst g w item cause → a ≡ rejected_answer (length coarse) item cause →
+      ReportsAnnotation g coarse w a
 
 -- What is answered to the graph of a program and to the text of an annotation. The cases exclude each other.
 pub data ReportsProof (g : Graph) (text : List ℕ) (a : Answer) : Type 0 where
   no_annotation : (line : ℕ) → FirstWrongOfText (lines_of text) line → a ≡ syntax_answer line → ReportsProof g text a
-  accepted : (w : Content) → IsSafeText text w → Proves g w → a ≡ accepted_answer → ReportsProof g text a
-  rejected : (w : Content) (item : ℕ) (cause : RejectCause) → IsSafeText text w → IsFirst g w item cause → a ≡ rejected_answer item cause →
-      ReportsProof g text a
+  of_annotation : (coarse : List ℕ) (w : Content) → IsSafeText text coarse w → ReportsAnnotation g coarse w a → ReportsProof g text a
 
 -- What is answered to a program text and to what the second name stands for, where it is to be checked. A program that is refused, also one that
 -- cannot be lowered, is so whatever the second name stands for.

@@ -52,9 +52,14 @@ reject_name rejects.MissingStep = codes "MissingStep"
 reject_name rejects.BadStep = codes "BadStep"
 reject_name rejects.BadName = codes "BadName"
 
--- A check of the annotation fails at this item. Item 0 stands on line 4, and the number of all items stands for the line `end`.
-abbrev pub rejected_answer : ℕ → RejectCause → Answer
-rejected_answer item cause = answer (rejected_line (item + 4) (reject_name cause)) 1
+-- a check of the annotation fails at this line
+abbrev pub failed_answer : ℕ → RejectCause → Answer
+failed_answer line cause = answer (rejected_line line (reject_name cause)) 1
+
+-- A check of the annotation fails at this item, before which stand so many lines of coarse letters. Without them item 0 stands on line 4. The
+-- number of all items stands for the line `end`.
+abbrev pub rejected_answer : ℕ → ℕ → RejectCause → Answer
+rejected_answer count item cause = failed_answer (item + (count + 4)) cause
 
 abbrev pub stop_name : ReplayCause → List ℕ
 stop_name causes.Blocked = codes "Blocked"

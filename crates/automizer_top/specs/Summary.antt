@@ -7,7 +7,7 @@ use Rattle.race_verdicts.specs.Texts.{cause_name}
 
 -- the word of a verdict, with the cause where nothing is known
 abbrev pub verdict_word : Verdict → List ℕ
-verdict_word (Safe annotation) = codes "safe"
+verdict_word (Safe coarse annotation) = codes "safe"
 verdict_word (Unsafe failure) = codes "unsafe"
 verdict_word (Unknown cause word) = codes "unknown " ++ cause_name cause
 

@@ -18,6 +18,6 @@ pub record IsClosedRace (t : TypedProgram) (l : Limits) (r : Race Certificate) :
   pub within : length r.history ≤ l.rounds
 
 abbrev pub verdict_status : Verdict → ℕ
-verdict_status (Safe annotation) = 0
+verdict_status (Safe coarse annotation) = 0
 verdict_status (Unsafe failure) = 1
 verdict_status (Unknown cause word) = 2

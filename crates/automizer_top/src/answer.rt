@@ -4,7 +4,7 @@ ghost use Rattle.std.specs.String.{string_bytes};
 ghost use Rattle.automizer_top.specs.Answers.{answered};
 ghost use Rattle.automizer_top.specs.Verdicts.{verdict_status};
 ghost use Rattle.automizer_top.specs.Refusals.{what_name, which_name, refusal};
-ghost use Rattle.automizer_top.specs.ReportTexts.{stop_name, reject_name, rejected_answer, replayed_answer};
+ghost use Rattle.automizer_top.specs.ReportTexts.{stop_name, reject_name, failed_answer, replayed_answer};
 ghost use Rattle.automizer_top.specs.TypeRefusals.{rule_line, type_refusal};
 
 use boogie_parse::{Fault, What, Which};
@@ -15,9 +15,6 @@ use race_core::Shared;
 use race_verdicts::Verdict;
 use std::alloc::{AllocError, Global};
 use trace_replay::{AssertId, ReplayCause};
-
-/// The line of an annotation on which its first item stands.
-const FIRST_ITEM_LINE: u128 = 4;
 
 /// What the program answers, before it is written.
 #[derive(Drop)]
@@ -42,9 +39,9 @@ pub(crate) enum Answer {
     },
     /// The annotation proves the program.
     Accepted,
-    /// A check of the annotation fails at this item, or at its end.
+    /// A check of the annotation fails at this line, whose number may have more than 64 bits.
     Rejected {
-        item: u64,
+        line: u128,
         cause: RejectCause,
     },
     /// This assertion fails as the values say.
@@ -81,7 +78,7 @@ impl Answer {
             Answer::Printed(text) => return Ok((text, None)),
             Answer::Syntax { line } => format!(in alloc; "rejected {line} Syntax\n")?,
             Answer::Accepted => String::from_str(alloc, "accepted\n")?,
-            Answer::Rejected { item, cause } => rejected_text(alloc, item, cause)?,
+            Answer::Rejected { line, cause } => rejected_text(alloc, line, cause)?,
             Answer::Replayed(id) => replayed_text(alloc, id)?,
             Answer::Stopped { step, cause } => {
                 let name = stop_name(cause);
@@ -109,7 +106,7 @@ impl Answer {
             | Answer::TooBig(_) => 3,
             Answer::Printed(_) | Answer::Accepted | Answer::Replayed(_) => 0,
             Answer::Syntax { line: _ }
-            | Answer::Rejected { item: _, cause: _ }
+            | Answer::Rejected { line: _, cause: _ }
             | Answer::Stopped { step: _, cause: _ } => 1,
             Answer::Decided { verdict, .. } => verdict_status(verdict),
         }
@@ -121,7 +118,7 @@ fn verdict_status(verdict: &Verdict) -> u8
     ensures { result ≡ verdict_status verdict.now }
 {
     match verdict {
-        Verdict::Safe(_) => 0,
+        Verdict::Safe { .. } => 0,
         Verdict::Unsafe(_) => 1,
         Verdict::Unknown { .. } => 2,
     }
@@ -213,12 +210,10 @@ fn reject_name(cause: RejectCause) -> &'static str
     }
 }
 
-/// The line of an annotation that a check refuses at this item. The number of a line may have more than 64 bits where that of an
-/// item has 64.
-fn rejected_text(alloc: Global, item: u64, cause: RejectCause) -> Result<String, AllocError>
-    ensures { IfOk result (λ text. string_bytes text ≡ (rejected_answer item cause).bytes) }
+/// What is said of an annotation that a check refuses at this line.
+fn rejected_text(alloc: Global, line: u128, cause: RejectCause) -> Result<String, AllocError>
+    ensures { IfOk result (λ text. string_bytes text ≡ (failed_answer line cause).bytes) }
 {
-    let line = u128::from(item) + FIRST_ITEM_LINE;
     let name = reject_name(cause);
     format!(in alloc; "rejected {line} {name}\n")
 }

@@ -84,7 +84,7 @@ fn confirm(alloc: Global, icfg: &Icfg, verdict: &Verdict) -> Result<(), AllocErr
     ensures { IfOk result (λ _. verdict_status verdict.now ≡ 0 → HasNoErrorWord icfg.now) }
 {
     match verdict {
-        Verdict::Safe(annotation) => accept(alloc, icfg, annotation),
+        Verdict::Safe { annotation, .. } => accept(alloc, icfg, annotation),
         Verdict::Unsafe(_) => Ok(()),
         Verdict::Unknown { .. } => Ok(()),
     }

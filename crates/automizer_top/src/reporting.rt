@@ -1,18 +1,21 @@
-ghost use Rattle.std.specs.Prelude.{◌≡◌, ◌≢◌, ◌≤◌, ◌<◌, ℕ, List, Option, length, map, Some, None, Err, IfOk, IfSome, IsSome, MatchOption, MatchResult, vec_len};
+ghost use Rattle.std.specs.Prelude.{◌≡◌, ◌≢◌, ◌≤◌, ◌<◌, ◌+◌, ℕ, List, Option, length, map, Some, None, Err, IfOk, IfSome, IsSome, MatchOption, MatchResult, vec_len};
 ghost use Rattle.std.specs.String.{string_bytes};
 ghost use Rattle.outer_io.specs.Faults.{Rose};
 ghost use Rattle.outer_io.specs.Texts.{text_named};
 ghost use Rattle.typed_tree.specs.TypedTree.{TypedProgram};
 ghost use Rattle.typed_tree.specs.declared.fault.TypeFault.TheVariants as TypeFault;
 ghost use Rattle.typing_rules.specs.TypedParts.{typed_program};
+ghost use Rattle.coarse_lines.specs.CoarseLetters.{coarse_letters};
+ghost use Rattle.proof_names.specs.Items.{first_triple};
 ghost use Rattle.automizer_top.specs.declared.reporting.Halt.TheVariants.{Fault, Memory};
 ghost use Rattle.automizer_top.specs.Answers.{answered, Asks, IsGraphOf, HasNoErrorWord, TextIsSafe, CheckedIsSafe, VerifiedIsSafe, BuiltIsSafe};
 ghost use Rattle.race_rounds.specs.Limits.{AreInRange};
 ghost use Rattle.automizer_top.specs.CommandLine.{requested};
 ghost use Rattle.automizer_top.specs.Refusals.{refusal};
 ghost use Rattle.automizer_top.specs.TypeRefusals.{type_refusal};
-ghost use Rattle.automizer_top.specs.ReportTexts.{answer, accepted_answer};
-ghost use Rattle.automizer_top.specs.Report.{IsTypedText, RefusesTyped, RefusesLowering, Reports, ReportsPrint, ReportsSecond, ReportsProof, ReportsCheck, ReportsReplay, ReportsFailure, ReportsVerdict, ReportsVerify};
+ghost use Rattle.proof_check.specs.declared.rejects.RejectCause.TheVariants as RejectCause;
+ghost use Rattle.automizer_top.specs.ReportTexts.{answer, accepted_answer, failed_answer, rejected_answer};
+ghost use Rattle.automizer_top.specs.Report.{IsTypedText, RefusesTyped, RefusesLowering, Reports, ReportsPrint, ReportsSecond, ReportsAnnotation, ReportsProof, ReportsCheck, ReportsReplay, ReportsFailure, ReportsVerdict, ReportsVerify};
 
 use crate::answer::Answer;
 use crate::generated::summed;
@@ -20,11 +23,12 @@ use crate::words::{Mode, Options, Task, read_words};
 use boogie_parse::{Fault, parse};
 use boogie_tree::print;
 use boogie_types::{TypeFault, Typed, resolve};
+use coarse_lines::{CoarseFault, compared};
 use icfg_lower::{LowerFault, lower};
 use letter_acts::Icfg;
 use outer_io::{ReadFault, Shelf, read_all};
-use proof_check::{Reject, check};
-use proof_form::{ProofFault, read_safe};
+use proof_check::{Reject, RejectCause, check};
+use proof_form::{Annotation, ProofFault, read_safe};
 use race_rounds::Limits;
 use race_verdicts::{verdict_of, verdict_text};
 use race_workers::{Gate, race};
@@ -38,6 +42,9 @@ const PROGRAM_LIMIT: u64 = 1_048_576;
 
 /// The most bytes of a second text: the greatest length of a list of bytes.
 const SECOND_LIMIT: u64 = 9_223_372_036_854_775_807;
+
+/// The line of an annotation on which the first of its coarse lines and of its items stands.
+const FIRST_LINE: u128 = 4;
 
 /// Why there is no answer.
 #[derive(Clone, Copy, Debug, PartialEq, Eq)]
@@ -144,21 +151,83 @@ pub(crate) fn graph(alloc: Global, program: &Typed) -> Result<Result<Icfg, Answe
     }
 }
 
+/// What is answered where the coarse line at this place of an annotation is wrong.
+fn wrong(place: usize) -> Answer
+    ensures { answered result ≡ failed_answer (place + 4) RejectCause.BadName }
+{
+    Answer::Rejected {
+        line: place as u128 + FIRST_LINE,
+        cause: RejectCause::BadName,
+    }
+}
+
+/// What is answered where the triple at this place of an annotation with so many coarse lines lacks its own.
+fn missing(count: usize, proof: &Annotation, place: usize) -> Answer
+    ensures { answered result ≡ rejected_answer count (first_triple proof.now + place) RejectCause.BadName }
+{
+    let item = proof.preds().len() as u128 + place as u128;
+    Answer::Rejected {
+        line: item + (count as u128 + FIRST_LINE),
+        cause: RejectCause::BadName,
+    }
+}
+
+/// What is answered where a check fails at this item of an annotation with so many coarse lines.
+fn rejected(count: usize, item: u64, cause: RejectCause) -> Answer
+    ensures { answered result ≡ rejected_answer count item cause }
+{
+    Answer::Rejected {
+        line: u128::from(item) + (count as u128 + FIRST_LINE),
+        cause,
+    }
+}
+
+/// What is answered to a graph and to an annotation with lines of the coarse letters that its triples name.
+fn proved(
+    alloc: Global,
+    icfg: &Icfg,
+    coarse: &[u32],
+    proof: &Annotation,
+) -> Result<Answer, AllocError>
+    requires { coarse.now ≡ coarse_letters icfg.now proof.now }
+    ensures reported { IfOk result (λ a. ReportsAnnotation icfg.now coarse.now proof.now (answered a)) }
+    ensures accepted { IfOk result (λ a. answered a ≡ accepted_answer → HasNoErrorWord icfg.now) }
+{
+    match check(alloc, icfg, proof) {
+        Ok(()) => Ok(Answer::Accepted),
+        Err(Reject::At { item, cause }) => Ok(rejected(coarse.len(), item, cause)),
+        Err(Reject::Memory) => Err(AllocError),
+    }
+}
+
+/// What is answered to a graph and to an annotation with lines of these coarse letters.
+fn confirmed(
+    alloc: Global,
+    icfg: &Icfg,
+    coarse: &[u32],
+    proof: &Annotation,
+) -> Result<Answer, AllocError>
+    ensures reported { IfOk result (λ a. ReportsAnnotation icfg.now coarse.now proof.now (answered a)) }
+    ensures accepted { IfOk result (λ a. answered a ≡ accepted_answer → HasNoErrorWord icfg.now) }
+{
+    match compared(alloc, icfg, coarse, proof) {
+        Ok(()) => proved(alloc, icfg, coarse, proof),
+        Err(CoarseFault::Line(place)) => Ok(wrong(place)),
+        Err(CoarseFault::Triple(place)) => Ok(missing(coarse.len(), proof, place)),
+        Err(CoarseFault::Memory) => Err(AllocError),
+    }
+}
+
 /// What is answered to a graph and to the text of an annotation.
 fn judged(alloc: Global, icfg: &Icfg, text: &[u8]) -> Result<Answer, AllocError>
     requires { length text.now ≤ SECOND_LIMIT }
     ensures reported { IfOk result (λ a. ReportsProof icfg.now text.now (answered a)) }
     ensures accepted { IfOk result (λ a. answered a ≡ accepted_answer → HasNoErrorWord icfg.now) }
 {
-    let proof = match read_safe(alloc, text) {
-        Ok((_rounds, proof)) => proof,
-        Err(ProofFault::Syntax { line }) => return Ok(Answer::Syntax { line }),
-        Err(ProofFault::Memory) => return Err(AllocError),
-    };
-    match check(alloc, icfg, &proof) {
-        Ok(()) => Ok(Answer::Accepted),
-        Err(Reject::At { item, cause }) => Ok(Answer::Rejected { item, cause }),
-        Err(Reject::Memory) => Err(AllocError),
+    match read_safe(alloc, text) {
+        Ok((_rounds, coarse, proof)) => confirmed(alloc, icfg, &coarse, &proof),
+        Err(ProofFault::Syntax { line }) => Ok(Answer::Syntax { line }),
+        Err(ProofFault::Memory) => Err(AllocError),
     }
 }
 

@@ -10,6 +10,7 @@ ghost use Rattle.nwa_base.specs.declared.letters.Letter.{Letter};
 ghost use Rattle.nwa_base.specs.Acceptance.{Accepts};
 ghost use Rattle.lowered_graph.specs.Lowered.{lowered};
 ghost use Rattle.proof_form.specs.Annotations.{Content, safe_text};
+ghost use Rattle.coarse_lines.specs.CoarseLetters.{coarse_letters};
 ghost use Rattle.race_core.specs.declared.ends.Cause.{Cause};
 ghost use Rattle.race_core.specs.Races.{Race};
 ghost use Rattle.itp_automaton.specs.Certified.{Certificate};
@@ -165,7 +166,7 @@ pub fn verdicts_are_true()
 pub fn verdicts_agree()
     ensures one { (l m : Limits) (t : TypedProgram) (a b : Answer) → ReportsVerdict l t a → ReportsVerdict m t b → a.status ≡ 0 → b.status ≡ 1 → ⊥ }
     ensures at_once { (l : Limits) (t : TypedProgram) (a : Answer) → ReportsVerdict l t a → ((w : List Letter) → Accepts (lowered t).automaton w → ⊥) →
-        (w : Content) × (a.bytes ≡ safe_text 0 w) × (a.status ≡ 0) }
+        (w : Content) × (a.bytes ≡ safe_text 0 (coarse_letters (lowered t) w) w) × (a.status ≡ 0) }
 {
     certified_words_are_infeasible();
 }

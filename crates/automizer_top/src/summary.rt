@@ -25,7 +25,7 @@ fn verdict_word(verdict: &Verdict) -> &'static str
     ensures { result.now ≡ verdict_word verdict.now }
 {
     match verdict {
-        Verdict::Safe(_) => "safe",
+        Verdict::Safe { .. } => "safe",
         Verdict::Unsafe(_) => "unsafe",
         Verdict::Unknown { cause, word: _ } => unknown_word(*cause),
     }
