@@ -7,8 +7,14 @@ use std::alloc::{AllocError, Global};
 use table_reading::{number, parted};
 
 /// Prints whether the annotation is written so.
-fn show_written(rt: &HostRuntime, rounds: u64, annotation: &Annotation, text: &[u8]) {
-    match write_safe(rt.alloc(), rounds, annotation) {
+fn show_written(
+    rt: &HostRuntime,
+    rounds: u64,
+    coarse: &[u32],
+    annotation: &Annotation,
+    text: &[u8],
+) {
+    match write_safe(rt.alloc(), rounds, coarse, annotation) {
         Ok(written) => show_same(rt, &written, text),
         Err(_) => put_nothing(rt),
     }
@@ -16,7 +22,7 @@ fn show_written(rt: &HostRuntime, rounds: u64, annotation: &Annotation, text: &[
 
 fn show_text(rt: &HostRuntime, text: &[u8]) {
     match &read_safe(rt.alloc(), text) {
-        Ok((rounds, annotation)) => show_written(rt, *rounds, annotation, text),
+        Ok((rounds, coarse, annotation)) => show_written(rt, *rounds, coarse, annotation, text),
         Err(fault) => {
             let _ = println!(rt; "{fault}");
         }

@@ -5,6 +5,7 @@ ghost use Rattle.path_rows.specs.Paths.{IsPathOf};
 use crate::annotations::{show_annotation, show_cuts, show_line};
 use crate::automata::{show_accepted, show_certified, show_edge};
 use crate::building::show_built;
+use crate::coarse::show_coarse;
 use crate::failures::show_failure;
 use crate::finding::show_finding;
 use crate::given::Given;
@@ -87,6 +88,7 @@ fn answer_of<R: Threads + Sync>(
     said: &str,
 ) {
     match asked {
+        "coarse" => show_coarse(rt, graph, parts),
         "edge" => show_edge(threads, rt, graph, parts, said),
         "accepts" => show_accepted(threads, rt, graph, parts, said),
         "rows" | "finding" | "interpolants" | "built" | "steps" => {

@@ -176,7 +176,7 @@ fn made(lists: Lists) -> Result<Option<Annotation>, AllocError> {
 }
 
 fn show_written(rt: &HostRuntime, made: &Annotation) {
-    match write_safe(rt.alloc(), 3, made) {
+    match write_safe(rt.alloc(), 3, &[], made) {
         Ok(written) => put(rt, str::from_utf8(&written).unwrap_or("?")),
         Err(_) => put_nothing(rt),
     }

@@ -9,6 +9,7 @@ mod annotations;
 mod asking;
 mod automata;
 mod building;
+mod coarse;
 mod failures;
 mod finding;
 mod given;

@@ -6,6 +6,7 @@
 //! inside 0 1 4 3: 1*6 = 0           the procedure of an inside letter, its helpers, the columns that it writes, and its rows
 //! call 0 1 1: 1*6 = 0               the caller of a call letter, its callee, its helpers, and its rows
 //! back 1 3                          the call letter of a return letter, and the columns that take its results
+//! coarse inside 0 1 4 3: 1*6 = 0    an inside or call letter that is coarse
 //! edge 1 | 0 2                      a letter, and the places that its edge leads between, of a return behind the exit that before the call
 //! fails 1 2                         the number and line of an assertion, and the place of its failures, which is final
 //! ```
@@ -167,6 +168,29 @@ fn push_act(alloc: Global, acts: &mut Vec<Act>, kind: &str, said: &str) -> Resul
     push_made(acts, act(alloc, kind, &head, rows))
 }
 
+/// Marks a letter as coarse.
+fn mark(act: &mut Act) {
+    match act {
+        Act::Inside { coarse, .. } | Act::Call { coarse, .. } => *coarse = true,
+        _ => {}
+    }
+}
+
+/// Marks the last letter as coarse.
+fn mark_last(acts: &mut Vec<Act>) {
+    if let Some(act) = acts.last_mut() {
+        mark(act);
+    }
+}
+
+/// Adds a coarse letter.
+fn push_coarse(alloc: Global, acts: &mut Vec<Act>, said: &str) -> Result<(), RowFault> {
+    let (kind, said) = parted(said, " ");
+    push_act(alloc, acts, kind, said)?;
+    mark_last(acts);
+    Ok(())
+}
+
 fn push_made(acts: &mut Vec<Act>, made: Result<Act, RowFault>) -> Result<(), RowFault> {
     acts.push(made?)?;
     Ok(())
@@ -213,6 +237,7 @@ fn push_part(alloc: Global, parts: &mut Parts, line: &str) -> Result<(), RowFaul
         "proc" => push_proc(alloc, parts, said),
         "edge" => push_edge(alloc, &mut parts.nwa, &parts.acts, said),
         "fails" => push_site(parts, said),
+        "coarse" => push_coarse(alloc, &mut parts.acts, said),
         _ => push_act(alloc, &mut parts.acts, word, said),
     }
 }
