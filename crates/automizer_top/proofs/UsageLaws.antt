@@ -4,6 +4,7 @@ use Rattle.std.specs.Prelude.{◌≢◌, Result, IfOk, option_map}
 use Rattle.std.proofs.lemmas.Option.{none-some}
 use Rattle.typed_tree.specs.TypedTree.{TypedProgram}
 use Rattle.letter_acts.specs.Invariant.{Graph}
+use Rattle.proof_form.specs.Annotations.{Content}
 use Rattle.race_rounds.specs.declared.limits.Limits.{Limits}
 use Rattle.race_verdicts.specs.declared.verdicts.Verdict.{Verdict}
 use Rattle.race_verdicts.specs.declared.verdicts.Verdict.TheVariants.{Safe, Unsafe, Unknown}
