@@ -13,6 +13,8 @@ pub enum Cause {
     Whole,
     /// A number does not fit.
     Number,
+    /// The word has a letter in which a product of two expressions is free, and no run was found that fails.
+    Product,
 }
 
 /// The end of a race.
