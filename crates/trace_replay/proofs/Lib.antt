@@ -16,5 +16,10 @@ pub mod ReplaySteps
 pub mod ReplayCode
 pub mod ReplayFound
 pub mod ReplayFailures
+pub mod TriedLaws
+pub mod FitTests
+pub mod TriedEnds
+pub mod TriedHere
+pub mod Examples
 pub mod ToldEnds
 pub mod ToldSites

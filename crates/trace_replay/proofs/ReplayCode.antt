@@ -14,7 +14,7 @@ use Rattle.boogie_run.specs.Fitting.{NextFits}
 use Rattle.boogie_run.specs.StepView.{IsMoved}
 use Rattle.trace_replay.specs.FailureText.{numbers}
 use Rattle.trace_replay.specs.NextChoices.{next_choice}
-use Rattle.trace_replay.specs.ReplayCauses.{StepEnds, NeedsChoice, HasBadChoice, ReadsPast, FailsEarly, IsBlocked, HasEnded}
+use Rattle.trace_replay.specs.ReplayCauses.{StepEnds, NeedsChoice, HasBadChoice, ReadsPast, IsBlocked, HasEnded}
 use Rattle.trace_replay.proofs.ReplaySteps.{next_first, none_left, some_needed}
 
 -- the choice of the next step, and those behind it
@@ -82,10 +82,10 @@ step_failed t c d left choice rest line id next fit h none =
     let failed = moved_failed line c d id (step t c choice) h in
     (subst (λ zs. StepEnds t c left (Failed id.number) zs) (no_numbers rest none) (ends t c left choice (numbers rest) (Failed id.number) next fit failed.0), failed.1)
 
-pub step_failed_early : (t : TypedProgram) (c d : Config) (left : List ℤ) (choice : Option ℤ) (rest : List Choice) (line : ℕ) (id : AssertId) → IsNext (need t c) left choice (numbers rest) → NextFits t c → IsMoved line c (step t c choice) (moves.Failed id) d → false ≡ nat_eq (length rest) 0 → FailsEarly t c left
+pub step_failed_early : (t : TypedProgram) (c d : Config) (left : List ℤ) (choice : Option ℤ) (rest : List Choice) (line : ℕ) (id : AssertId) → IsNext (need t c) left choice (numbers rest) → NextFits t c → IsMoved line c (step t c choice) (moves.Failed id) d → false ≡ nat_eq (length rest) 0 → (i : ℕ) × (numbers rest ≢ []) × StepEnds t c left (Failed i) (numbers rest)
 step_failed_early t c d left choice rest line id next fit h some =
     let failed = moved_failed line c d id (step t c choice) h in
-    record { assertion = id.number; rest = numbers rest; some = some_numbers rest some; fails = ends t c left choice (numbers rest) (Failed id.number) next fit failed.0 }
+    (id.number, some_numbers rest some, ends t c left choice (numbers rest) (Failed id.number) next fit failed.0)
 
 -- Why none was made
 

@@ -1,16 +1,17 @@
 -- What the code finds is what is due.
-use Rattle.std.proofs.Common.{◌≡◌, ℕ, ◌+◌, ◌<◌, ℤ, ◌⊎◌, inl, inr, List, [], Result, Err, refl, subst}
+use Rattle.std.proofs.Common.{◌≡◌, ◌≢◌, ℕ, ◌+◌, ◌<◌, ℤ, ◌⊎◌, inl, inr, List, [], Result, Err, refl, subst}
 use Rattle.typed_tree.specs.TypedTree.{TypedProgram}
 use Rattle.boogie_run.specs.declared.types.AssertId.{AssertId}
 use Rattle.boogie_run.specs.Configurations.{Config}
 use Rattle.boogie_run.specs.Steps.{Failed}
 use Rattle.boogie_run.specs.StepView.{line_at}
 use Rattle.trace_replay.specs.declared.causes.ReplayCause.{ReplayCause}
-use Rattle.trace_replay.specs.declared.causes.ReplayCause.TheVariants.{Short}
+use Rattle.trace_replay.specs.declared.causes.ReplayCause.TheVariants.{Blocked, Ended, Short, Number, BadChoice, Product}
 use Rattle.trace_replay.specs.declared.causes.ReplayFault.{ReplayFault}
 use Rattle.trace_replay.specs.declared.causes.ReplayFault.TheVariants.{At, Memory}
 use Rattle.trace_replay.specs.Replays.{Replays, IsReplayed}
 use Rattle.trace_replay.specs.ReplayCauses.{HasMade, StepEnds, Stops, StopsAt}
+use Rattle.trace_replay.specs.ReplayAnswers.{Halts}
 use Rattle.trace_replay.proofs.ReplayLaws.{FailsAt, fails_at_replays, one_assertion_replays, replays_and_stops, one_cause}
 
 -- the step that is made now fails the assertion
@@ -30,9 +31,26 @@ module _ (t : TypedProgram) (n : ℕ) (choices : List ℤ) (made : ℕ) (here : 
   found_does_not_stop k cause stops = absurd (replays_and_stops t n choices id.number k cause found_here.replays stops)
 
 -- the replay stops at the step that is made now
-pub stops_here : (t : TypedProgram) (n : ℕ) (choices : List ℤ) (made : ℕ) (here : Config) (left : List ℤ) (cause : ReplayCause) → made < n → HasMade t choices made here left → Stops t here left cause → StopsAt t n choices (made + 1) cause
+stops_here : (t : TypedProgram) (n : ℕ) (choices : List ℤ) (made : ℕ) (here : Config) (left : List ℤ) (cause : ReplayCause) → made < n → HasMade t choices made here left → Stops t here left cause → StopsAt t n choices (made + 1) cause
 stops_here t n choices made here left cause in_time comes stops =
     inl (record { made = made; number = refl; in_time = in_time; here = here; left = left; comes = comes; stops = stops })
+
+halts_stops : (t : TypedProgram) (c : Config) (left : List ℤ) (cause : ReplayCause) → Halts t c left cause → Stops t c left cause
+halts_stops t c left Blocked h = h
+halts_stops t c left Ended h = h
+halts_stops t c left Short h = h
+halts_stops t c left Number h = h
+halts_stops t c left BadChoice h = inl h
+halts_stops t c left Product h = h
+
+pub halts_here : (t : TypedProgram) (n : ℕ) (choices : List ℤ) (made : ℕ) (here : Config) (left : List ℤ) (cause : ReplayCause) → made < n → HasMade t choices made here left → Halts t here left cause → StopsAt t n choices (made + 1) cause
+halts_here t n choices made here left cause in_time comes halts = stops_here t n choices made here left cause in_time comes (halts_stops t here left cause halts)
+
+-- where an assertion fails while choices are left
+pub early_here : (t : TypedProgram) (n : ℕ) (choices : List ℤ) (made : ℕ) (here : Config) (left rest : List ℤ) → made < n → HasMade t choices made here left →
+    (i : ℕ) × (rest ≢ []) × StepEnds t here left (Failed i) rest → StopsAt t n choices (made + 1) BadChoice
+early_here t n choices made here left rest in_time comes h =
+    stops_here t n choices made here left BadChoice in_time comes (inr (record { assertion = h.0; rest = rest; some = h.1; fails = h.2 }))
 
 -- all steps are made
 pub runs_out : (t : TypedProgram) (n : ℕ) (choices : List ℤ) (made : ℕ) (here : Config) (left : List ℤ) → made ≡ n → HasMade t choices made here left → StopsAt t n choices n Short

@@ -95,10 +95,10 @@ fails_at_replays t n choices i h =
 
 -- One answer
 
-cause_ends : (cause : ReplayCause) → IsEnd (StopsBy cause)
+pub cause_ends : (cause : ReplayCause) → IsEnd (StopsBy cause)
 cause_ends cause e = let no : ⊥ = cc in no
 
-replay_ends : (i : ℕ) → IsEnd (Replayed i)
+pub replay_ends : (i : ℕ) → IsEnd (Replayed i)
 replay_ends i e = let no : ⊥ = cc in no
 
 pub one_assertion_replays : (t : TypedProgram) (n : ℕ) (choices : List ℤ) (i j : ℕ) → Replays t n choices i → Replays t n choices j → i ≡ j

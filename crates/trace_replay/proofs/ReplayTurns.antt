@@ -9,7 +9,7 @@ use Rattle.boogie_run.specs.Steps.{Outcome, Went, Failed, Refused, start, step}
 use Rattle.boogie_run.specs.Steps as outcomes
 use Rattle.boogie_run.specs.Fitting.{NextFits}
 use Rattle.trace_replay.specs.declared.causes.ReplayCause.{ReplayCause}
-use Rattle.trace_replay.specs.declared.causes.ReplayCause.TheVariants.{Blocked, Ended, Short, Number, BadChoice}
+use Rattle.trace_replay.specs.declared.causes.ReplayCause.TheVariants.{Blocked, Ended, Short, Number, BadChoice, Product}
 use Rattle.trace_replay.specs.Replays.{choices_among}
 use Rattle.trace_replay.specs.ReplayCauses.{HasMade, StepEnds, NeedsChoice, HasBadChoice, Stops}
 use Rattle.trace_replay.proofs.ReplayRuns.{same_choice, step_takes, refused_no_went, run_first, made_by, GoesBy, choices_among-cons}
@@ -41,11 +41,11 @@ abbrev pub IsTurn : TypedProgram → Config → List ℤ → Turn → Type 0
 IsTurn t c left turn = (NeedsChoice t c × (left ≡ []) × (turn ≡ StopsBy Short)) ⊎ ((HasBadChoice t c left × (turn ≡ StopsBy BadChoice)) ⊎ IsMade t c left turn)
 
 -- no step is made where a choice is needed and none is left, or a bad one
-nothing_left : (t : TypedProgram) (c : Config) (choice : Option ℤ) (rest : List ℤ) → NeedsChoice t c → is_taken (need t c) choice ≡ true → option_to_list choice ++ rest ≡ [] → ⊥
+pub nothing_left : (t : TypedProgram) (c : Config) (choice : Option ℤ) (rest : List ℤ) → NeedsChoice t c → is_taken (need t c) choice ≡ true → option_to_list choice ++ rest ≡ [] → ⊥
 nothing_left t c None rest needed taken e = both_ways (is_taken (need t c) None) needed taken
 nothing_left t c (Some z) rest needed taken e = let no : ⊥ = cc in no
 
-not_bad : (t : TypedProgram) (c : Config) (choice : Option ℤ) (left rest : List ℤ) → HasBadChoice t c left → is_taken (need t c) choice ≡ true → left ≡ option_to_list choice ++ rest → ⊥
+pub not_bad : (t : TypedProgram) (c : Config) (choice : Option ℤ) (left rest : List ℤ) → HasBadChoice t c left → is_taken (need t c) choice ≡ true → left ≡ option_to_list choice ++ rest → ⊥
 not_bad t c None left rest h taken e = both_ways (is_taken (need t c) None) h.needed taken
 not_bad t c (Some z) left rest h taken e =
     let all : h.choice ∷ h.rest ≡ z ∷ rest = sym h.first ∙ e in
@@ -108,6 +108,7 @@ stops_turn t c left Blocked h = ends t c left h.rest outcomes.Blocked (StopsBy B
 stops_turn t c left Ended h = ends t c left h.rest outcomes.Ended (StopsBy Ended) h.ends (λ e. let no : ⊥ = cc in no) refl
 stops_turn t c left Short h = inl (h.0, h.1, refl)
 stops_turn t c left Number h = inr (inr (record { choice = h.choice; rest = h.rest; first = h.first; taken = h.taken; ends = inl (h.past, refl) }))
+stops_turn t c left Product h = absurd h
 stops_turn t c left BadChoice h = elim h [
   | inl x ↦ inr (inl (x, refl))
   | inr x ↦ ends t c left x.rest (Failed x.assertion) (StopsBy BadChoice) x.fails (λ e. let no : ⊥ = cc in no) (early x.assertion x.rest x.some)

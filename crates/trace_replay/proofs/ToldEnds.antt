@@ -1,4 +1,4 @@
--- A run that fails, and the replay of its choices: it replays, or stops where a value does not fit.
+-- A run that fails, and another that takes its choices: it fails so, too, or stops where a value does not fit.
 use Rattle.std.proofs.Common.{◌≡◌, ◌≢◌, ℕ, ◌+◌, ℤ, false, true, ◌⊎◌, inl, inr, List, [], ◌∷◌, ◌++◌, length, Option, None, Some, refl, sym, ap, ◌∙◌, subst, arith, append-nil, length-append}
 use Rattle.std.specs.Option.{option_to_list}
 use Rattle.std.proofs.lemmas.Bool.{both_ways}
@@ -11,16 +11,14 @@ use Rattle.boogie_run.specs.Fitting.{NextFits}
 use Rattle.boogie_run.specs.Runs.{run}
 use Rattle.lowered_choices.specs.Choices.{FailsAtLast}
 use Rattle.trace_replay.specs.declared.causes.ReplayCause.{ReplayCause}
-use Rattle.trace_replay.specs.declared.causes.ReplayCause.TheVariants.{Blocked, Ended, Short, Number, BadChoice}
-use Rattle.boogie_run.specs.declared.types.AssertId.{AssertId}
-use Rattle.trace_replay.specs.declared.causes.ReplayFault.{ReplayFault}
-use Rattle.trace_replay.specs.declared.causes.ReplayFault.TheVariants.{At, Memory}
-use Rattle.trace_replay.specs.Replays.{choices_among, StepsFit, Replays, IsReplayed}
+use Rattle.trace_replay.specs.declared.causes.ReplayCause.TheVariants.{Blocked, Ended, Short, Number, BadChoice, Product}
+use Rattle.trace_replay.specs.Replays.{choices_among, StepsFit, Replays}
 use Rattle.trace_replay.specs.ReplayCauses.{StepEnds, NeedsChoice, HasBadChoice, Stops, StopsAt}
-use Rattle.trace_replay.specs.ReplayAnswers.{IsStopOf}
-use Rattle.trace_replay.specs.ToldRuns.{PassesAt, IsTrailOf, IsFaultIn}
+use Rattle.trace_replay.specs.Tried.{TriedFails, TriedPasses, TriedStops}
+use Rattle.trace_replay.specs.ToldRuns.{PassesAt, IsTrailOf}
 use Rattle.trace_replay.proofs.ReplayRuns.{same_choice, step_takes, refused_no_went, run_first, choices_among-cons}
 use Rattle.trace_replay.proofs.ReplayLaws.{choices_among-append, choices_among-one}
+use Rattle.trace_replay.proofs.TriedLaws.{tried_fails_replays, otherwise_stops}
 
 -- ---- on the way of the run that fails
 
@@ -117,6 +115,7 @@ only_number t i all xs d left Ended w s =
     absurd (blocked_not i outcomes.Ended (λ e. cc) (λ d e. cc) s.rest (next_ends t i all xs d left s.rest outcomes.Ended w s.ends (λ e. cc)))
 only_number t i all xs d left Short w s = absurd (none_needed t d w.next w.rest s.0 (next_taken t i all xs d left w) (sym s.1 ∙ w.left_is))
 only_number t i all xs d left Number w s = (refl, s.past)
+only_number t i all xs d left Product w s = absurd s
 only_number t i all xs d left BadChoice w s = absurd (elim s [
   | inl h ↦ no_bad t d w.next w.rest left h (next_taken t i all xs d left w) w.left_is
   | inr h ↦ elim (next_ends t i all xs d left h.rest (Failed h.assertion) w h.fails (refused_no_failed h.assertion)) [
@@ -173,17 +172,41 @@ told_replay t i j n all f r =
       | inr g ↦ absurd (went_no_failed g.0 j (Failed j) (so ∙ g.1) refl)
     ]
 
--- The fault of a replay is then one of the run.
-pub fault_in : (t : TypedProgram) (i : ℕ) (all : List (Option ℤ)) (choices : List ℤ) (fault : ReplayFault) → choices ≡ choices_among all → FailsAtLast t all i → IsStopOf t (length all) choices fault → IsFaultIn t all fault
-fault_in t i all choices Memory used f s = tt
-fault_in t i all choices (At step Number) used f s = (told_stop t i all step Number f (subst (λ (zs : List ℤ). StopsAt t (length all) zs step Number) used s)).1
-fault_in t i all choices (At step Blocked) used f s = let e = (told_stop t i all step Blocked f (subst (λ (zs : List ℤ). StopsAt t (length all) zs step Blocked) used s)).0 in let no : ⊥ = cc in no
-fault_in t i all choices (At step Ended) used f s = let e = (told_stop t i all step Ended f (subst (λ (zs : List ℤ). StopsAt t (length all) zs step Ended) used s)).0 in let no : ⊥ = cc in no
-fault_in t i all choices (At step Short) used f s = let e = (told_stop t i all step Short f (subst (λ (zs : List ℤ). StopsAt t (length all) zs step Short) used s)).0 in let no : ⊥ = cc in no
-fault_in t i all choices (At step BadChoice) used f s = let e = (told_stop t i all step BadChoice f (subst (λ (zs : List ℤ). StopsAt t (length all) zs step BadChoice) used s)).0 in let no : ⊥ = cc in no
+-- ---- how Tried ends with these choices
 
--- and where it is found to fail an assertion, the choices are the trail of the run
-pub trail_in : (t : TypedProgram) (i : ℕ) (all : List (Option ℤ)) (choices : List ℤ) (id : AssertId) → choices ≡ choices_among all → FailsAtLast t all i → IsReplayed t (length all) choices id → IsTrailOf t all (length all) choices i
-trail_in t i all choices id used f r =
-    let same = told_replay t i id.number (length all) all f (subst (λ (zs : List ℤ). Replays t (length all) zs id.number) used r.replays) in
-    record { many = refl; used = used; fails = f; fit = same.1; replays = subst (Replays t (length all) choices) same.0 r.replays }
+-- Where it fails an assertion, it is the run: it has made all steps of it and used all choices.
+pub told_trail : (t : TypedProgram) (i j steps : ℕ) (all : List (Option ℤ)) (used : List ℤ) → FailsAtLast t all i → TriedFails t (length all) (choices_among all) steps used j → IsTrailOf t all steps used i
+told_trail t i j steps all used f s =
+    let w : IsOnWay t i (f.before ++ f.last ∷ []) s.comes.taken s.here s.left =
+    on_way t i (start t) s.here f.here s.comes.taken f.before f.last s.left s.comes.leads f.leads f.fails (s.comes.used ∙ ap choices_among f.are) in
+    let same = next_same t i (f.before ++ f.last ∷ []) s.comes.taken s.here s.left s.rest s.fails.choice w
+    (step_takes t s.here s.fails.choice (Failed j) s.fails.ends (refused_no_failed j)) s.fails.first in
+    let so : Failed j ≡ step t s.here w.next = sym s.fails.ends ∙ ap (step t s.here) same.0 in
+    elim w.goes [
+      | inl g ↦
+          let none : s.rest ≡ [] = same.1 ∙ ap choices_among g.0 in
+          let all_used : used ≡ choices_among all = sym (append-nil used) ∙ ap (λ (zs : List ℤ). used ++ zs) (sym none) ∙ sym s.used_is in
+          let many : length all ≡ length s.comes.taken + length (w.next ∷ w.rest) = ap length (f.are ∙ w.are) ∙ length-append s.comes.taken (w.next ∷ w.rest) in
+          let last : length w.rest ≡ 0 = ap length g.0 in
+          let replays : Replays t steps used j = tried_fails_replays t (length all) (choices_among all) steps used j s in
+          let told = told_replay t i j steps all f (subst (λ (zs : List ℤ). Replays t steps zs j) all_used replays) in
+          record {
+            many = omega (arith, many, last, s.comes.many, s.number);
+            used = all_used;
+            fails = f;
+            fit = told.1;
+            replays = subst (Replays t steps used) told.0 replays;
+          }
+      | inr g ↦ absurd (went_no_failed g.0 j (Failed j) (so ∙ g.1) refl)
+    ]
+
+-- Where it meets a value that does not fit, the run does, in that step.
+pub told_passes : (t : TypedProgram) (i k : ℕ) (all : List (Option ℤ)) → FailsAtLast t all i → TriedPasses t (length all) (choices_among all) k → PassesAt t all k
+told_passes t i k all f s = (told_stop t i all k Number f (inl s)).1
+
+-- It does not end otherwise.
+pub told_stops : (t : TypedProgram) (i k : ℕ) (all : List (Option ℤ)) → FailsAtLast t all i → TriedStops t (length all) (choices_among all) k → ⊥
+told_stops t i k all f (inl s) =
+    let o = otherwise_stops t s.here s.left s.ends in
+    o.1 (told_stop t i all k o.0 f (inl (record { made = s.made; number = s.number; in_time = s.in_time; here = s.here; left = s.left; comes = s.comes; stops = o.2 }))).0
+told_stops t i k all f (inr s) = let e = (told_stop t i all k Short f (inr (refl, s.0, s.1))).0 in let no : ⊥ = cc in no

@@ -3,6 +3,7 @@ pub mod FailureFaults
 pub mod Pieces
 pub mod Replays
 pub mod ReplayCauses
+pub mod Tried
 pub mod NextChoices
 pub mod ReplayAnswers
 pub mod ToldRuns

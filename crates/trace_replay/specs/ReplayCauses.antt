@@ -9,7 +9,7 @@ use Rattle.boogie_run.specs.Steps as outcomes
 use Rattle.boogie_run.specs.Fitting.{NextFits}
 use Rattle.boogie_run.specs.Runs.{run}
 use Rattle.trace_replay.specs.declared.causes.ReplayCause.{ReplayCause}
-use Rattle.trace_replay.specs.declared.causes.ReplayCause.TheVariants.{Blocked, Ended, Short, Number, BadChoice}
+use Rattle.trace_replay.specs.declared.causes.ReplayCause.TheVariants.{Blocked, Ended, Short, Number, BadChoice, Product}
 use Rattle.trace_replay.specs.Replays.{choices_among, StepsFit}
 
 -- The run that takes the choices in order has made so many steps without an end: it has come to this configuration, these choices are
@@ -71,6 +71,7 @@ Stops t c left Ended = HasEnded t c left
 Stops t c left Short = NeedsChoice t c × (left ≡ [])
 Stops t c left Number = ReadsPast t c left
 Stops t c left BadChoice = HasBadChoice t c left ⊎ FailsEarly t c left
+Stops t c left Product = ⊥
 
 -- The replay stops at this step, counted from 1, of the first n.
 pub record StopsWithin (t : TypedProgram) (n : ℕ) (choices : List ℤ) (step : ℕ) (cause : ReplayCause) : Type 0 where

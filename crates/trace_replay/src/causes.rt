@@ -16,6 +16,8 @@ pub enum ReplayCause {
     Number,
     /// A choice is none that the step takes, or choices are left where an assertion fails.
     BadChoice,
+    /// The choices that are told of a word end a run in another way than by a failure: the word has a coarse letter. A replay never ends so.
+    Product,
 }
 
 /// Why no failure was found.

@@ -1,6 +1,6 @@
 //! From a whole solution of a word's rows to a run of the program.
 
-ghost use Rattle.std.specs.Prelude.{◌≡◌, ℕ, IfOk, IfErr};
+ghost use Rattle.std.specs.Prelude.{◌≡◌, ℕ, IfOk, IfErr, length};
 ghost use Rattle.std.specs.List.{AllByRecursion};
 ghost use Rattle.math_facts.specs.Fits.{Fits};
 ghost use Rattle.lin_rows.specs.Rows.{Holds};
@@ -9,20 +9,20 @@ ghost use Rattle.typing_rules.specs.TypedParts.{typed_program};
 ghost use Rattle.nwa_base.specs.Acceptance.{Accepts};
 ghost use Rattle.nwa_base.specs.Runs.{IsAcceptingRun};
 ghost use Rattle.lowered_graph.specs.Lowered.{lowered};
-ghost use Rattle.lowered_choices.specs.Choices.{FailsAtLast};
 ghost use Rattle.path_rows.specs.Paths.{path_of};
 ghost use Rattle.told_choices.specs.Telling.{ChoicesFit};
 ghost use Rattle.trace_replay.specs.FailureText.{numbers};
 ghost use Rattle.trace_replay.specs.Replays.{choices_among};
-ghost use Rattle.trace_replay.specs.ToldRuns.{IsTrailOf, IsFaultIn, ToldFails, IsToldFault};
+ghost use Rattle.trace_replay.specs.ReplayAnswers.{IsTriedFault};
+ghost use Rattle.trace_replay.specs.ToldRuns.{ToldFails, IsToldFault};
+ghost use Rattle.trace_replay.specs.Tried.{TriedFails};
 
 use crate::causes::ReplayFault;
 use crate::failure::Trail;
-use crate::replaying::replay;
+use crate::trying::tried;
 use boogie_run::Choice;
 use letter_acts::Icfg;
 use lowered_choices::laws::choices_of_traces;
-use lowered_graph::laws::letters_are_exact;
 use nwa_base::{Word, run_of};
 use path_traces::laws::solutions_are_traces;
 use std::alloc::{AllocError, Global};
@@ -54,25 +54,25 @@ fn chosen(alloc: Global, taken: &[Option<i128>]) -> Result<Vec<Choice>, AllocErr
     Ok(choices)
 }
 
-/// The trail of the run whose steps take these and which fails with its last one, where all values of the run fit.
+/// The trail of the run that takes the choices among these, up to an assertion that fails, in as many steps.
 fn trail_of(alloc: Global, program: &Typed, taken: &[Option<i128>]) -> Result<Trail, ReplayFault>
-    requires fails { (i : ℕ) × FailsAtLast (typed_program program.now) taken.now i }
-    requires fit { ChoicesFit taken.now }
-    ensures trail { IfOk result (λ trail. (i : ℕ) → FailsAtLast (typed_program program.now) taken.now i → IsTrailOf (typed_program program.now) taken.now trail.steps (numbers trail.choices.items) i) }
+    requires { ChoicesFit taken.now }
+    ensures trail { IfOk result (λ trail. (i : ℕ) × TriedFails (typed_program program.now) (length taken.now) (choices_among taken.now) trail.steps (numbers trail.choices.items) i) }
     ensures fit { IfOk result (λ trail. AllByRecursion Fits (numbers trail.choices.items)) }
-    ensures fault { IfErr result (IsFaultIn (typed_program program.now) taken.now) }
+    ensures fault { IfErr result (IsTriedFault (typed_program program.now) (length taken.now) (choices_among taken.now)) }
 {
-    let steps = taken.len() as u64;
-    let choices = chosen(alloc, taken)?;
-    let trail = Trail { steps, choices };
-    match replay(alloc, program, &trail) {
-        Ok(_) => Ok(trail),
-        Err(fault) => Err(fault),
-    }
+    let mut choices = chosen(alloc, taken)?;
+    let failing = tried(alloc, program, taken.len() as u64, &choices)?;
+    choices.truncate(failing.used);
+    Ok(Trail {
+        steps: failing.steps,
+        choices,
+    })
 }
 
 /// The choices of a run of the program that fails, from a whole point that meets the rows of a word which the automaton of the program accepts. It takes
-/// one accepting run of the automaton over the word. The one fault besides want of memory is that a value of the run that these tell does not fit.
+/// one accepting run of the automaton over the word, and runs the program on the choices that the two tell. The fault is `Number` where that run meets a value
+/// that does not fit, and `Product` where it ends otherwise than by a failure, which it does on words with coarse letters alone.
 pub fn choices_of(
     alloc: Global,
     program: &Typed,
@@ -85,15 +85,14 @@ pub fn choices_of(
     requires solves { AllByRecursion (Holds (point_of point.now)) (path_of icfg.now word.now).rows }
     requires fits { AllByRecursion Fits point.now }
 
-    // the trail is that of a told run, which replays and fails after exactly its steps, and its choices fit
+    // the trail is the front of a told run up to an assertion that fails, all of it where no letter is coarse; it replays, and its choices fit
     ensures told { IfOk result (λ trail. ToldFails (typed_program program.now) (point_of point.now) word.now trail.steps (numbers trail.choices.items)) }
     ensures fit { IfOk result (λ trail. AllByRecursion Fits (numbers trail.choices.items)) }
 
-    // the one fault is Number, at the step at which a value of a told run does not fit
-    ensures number { IfErr result (IsToldFault (typed_program program.now) (point_of point.now) word.now) }
+    // the fault is how a told run ends otherwise, and in which step
+    ensures fault { IfErr result (IsToldFault (typed_program program.now) (point_of point.now) word.now) }
 {
     choices_of_traces();
-    letters_are_exact();
     solutions_are_traces();
     let _globals = program.globals();
     let _states = icfg.nwa().states();

@@ -8,6 +8,7 @@ ghost use Rattle.boogie_run.specs.Runs.{run, Fails};
 ghost use Rattle.trace_replay.specs.declared.causes.ReplayCause.{ReplayCause};
 ghost use Rattle.trace_replay.specs.Replays.{StepsFit, Replays};
 ghost use Rattle.trace_replay.specs.ReplayCauses.{StopsAt};
+ghost use Rattle.trace_replay.specs.Tried.{TriedFails, TriedEnd, IsTriedEnd};
 
 /// Failures with one text are one.
 pub fn failure_texts_are_one_to_one()
@@ -47,4 +48,19 @@ pub fn what_replays_fails()
 /// A run that fails replays by its choices, where each value on the way fits.
 pub fn failing_runs_replay()
     ensures { (t : TypedProgram) (steps : List (Option ℤ)) (i : ℕ) → run t (start t) steps ≡ Failed i → StepsFit t (start t) steps → (choices : List ℤ) × Replays t (length steps) choices i }
+{}
+
+/// The run that takes given choices, in at most so many steps, fails an assertion, or meets a value that does not fit, or ends otherwise.
+pub fn tried_ends()
+    ensures { (t : TypedProgram) (n : ℕ) (choices : List ℤ) → (e : TriedEnd) × IsTriedEnd t n choices e }
+{}
+
+/// It has one of these three ends alone, and in one step.
+pub fn one_tried_end()
+    ensures { (t : TypedProgram) (n : ℕ) (choices : List ℤ) (e f : TriedEnd) → IsTriedEnd t n choices e → IsTriedEnd t n choices f → e ≡ f }
+{}
+
+/// Where it fails, the choices that it used replay.
+pub fn what_fails_when_tried_replays()
+    ensures { (t : TypedProgram) (n : ℕ) (choices : List ℤ) (steps : ℕ) (used : List ℤ) (i : ℕ) → TriedFails t n choices steps used i → Replays t steps used i }
 {}

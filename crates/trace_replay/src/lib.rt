@@ -9,6 +9,7 @@ mod numerals;
 mod pieces;
 mod reading;
 mod replaying;
+mod trying;
 mod writing;
 
 pub use boogie_run::{AssertId, Choice};

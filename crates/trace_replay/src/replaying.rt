@@ -32,6 +32,12 @@ pub fn replay(alloc: Global, program: &Typed, trail: &Trail) -> Result<AssertId,
         match one_step(program, &mut config, left)? {
             Turn::GoesOn(rest) => left = rest,
             Turn::Fails(id) => return Ok(id),
+            Turn::FailsEarly(_) => {
+                return Err(ReplayFault::At {
+                    step: made + 1,
+                    cause: ReplayCause::BadChoice,
+                });
+            }
             Turn::Stops(cause) => {
                 return Err(ReplayFault::At {
                     step: made + 1,
@@ -46,18 +52,21 @@ pub fn replay(alloc: Global, program: &Typed, trail: &Trail) -> Result<AssertId,
     })
 }
 
-/// What one step makes of a replay.
+/// What one step makes of a run that takes given choices.
 #[derive(Clone, Copy)]
-enum Turn<'a> {
+pub(crate) enum Turn<'a> {
     /// It goes on; these choices are left.
     GoesOn(&'a [Choice]),
     /// An assertion fails, and no choice is left.
     Fails(AssertId),
+    /// An assertion fails, and these choices are left.
+    FailsEarly(&'a [Choice]),
+    /// It ends otherwise.
     Stops(ReplayCause),
 }
 
 /// Makes one step, with the next of the choices that are left, where it takes one.
-fn one_step<'a>(
+pub(crate) fn one_step<'a>(
     program: &Typed,
     config: &mut Config<'_>,
     left: &'a [Choice],
@@ -70,7 +79,7 @@ fn one_step<'a>(
     Ok(match step(program, config, choice) {
         Ok(Moved::Went) => Turn::GoesOn(rest),
         Ok(Moved::Failed(id)) if rest.is_empty() => Turn::Fails(id),
-        Ok(Moved::Failed(_)) => Turn::Stops(ReplayCause::BadChoice),
+        Ok(Moved::Failed(_)) => Turn::FailsEarly(rest),
         Ok(Moved::Blocked) => Turn::Stops(ReplayCause::Blocked),
         Ok(Moved::Ended) => Turn::Stops(ReplayCause::Ended),
         Err(RunFault::NeedsChoice) => Turn::Stops(ReplayCause::Short),

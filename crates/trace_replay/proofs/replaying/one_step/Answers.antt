@@ -1,4 +1,4 @@
-use Rattle.std.proofs.Common.{Err, inl, inr, refl, ap, sym, ◌∙◌}
+use Rattle.std.proofs.Common.{Err, refl, ap, sym, ◌∙◌}
 use Rattle.typing_rules.specs.TypedParts.{typed_program}
 use Rattle.boogie_run.specs.Needs.{need}
 use Rattle.boogie_run.specs.RunView.{config_of}
@@ -21,10 +21,10 @@ returns-clause-turns c =
     elim c.match-step.branch [
       | in-Ok-Went w ↦ rw w.result-is (step_went t before after left choice (numbers rest) line next (w.in-Ok-Went.ensures.fit refl) (rw w.in-Ok-Went.field-0-is at w.in-Ok-Went.ensures.moved))
       | in-Ok-Failed w ↦ rw w.result-is (step_failed t before after left choice rest line w.in-Ok-Failed.id next (w.in-Ok-Failed.ensures.fit refl) (rw w.in-Ok-Failed.field-0-is at w.in-Ok-Failed.ensures.moved) (sym w.if-is_empty.true ∙ w.is_empty.ensures))
-      | in-Ok-Failed-2 w ↦ rw w.result-is (inr (step_failed_early t before after left choice rest line w.in-Ok-Failed.id next (w.in-Ok-Failed.ensures.fit refl) (rw w.in-Ok-Failed.field-0-is at w.in-Ok-Failed.ensures.moved) (sym w.if-is_empty.false ∙ w.is_empty.ensures)))
+      | in-Ok-Failed-2 w ↦ rw w.result-is (step_failed_early t before after left choice rest line w.in-Ok-Failed.id next (w.in-Ok-Failed.ensures.fit refl) (rw w.in-Ok-Failed.field-0-is at w.in-Ok-Failed.ensures.moved) (sym w.if-is_empty.false ∙ w.is_empty.ensures))
       | in-Ok-Blocked w ↦ rw w.result-is (step_blocked t before after left choice (numbers rest) line next (w.in-Ok-Blocked.ensures.fit refl) (rw w.in-Ok-Blocked.field-0-is at w.in-Ok-Blocked.ensures.moved))
       | in-Ok-Ended w ↦ rw w.result-is (step_ended t before after left choice (numbers rest) line next (w.in-Ok-Ended.ensures.fit refl) (rw w.in-Ok-Ended.field-0-is at w.in-Ok-Ended.ensures.moved))
       | in-Err-NeedsChoice w ↦ rw w.result-is (choice_missing t before left choice (numbers rest) next (w.in-Err-NeedsChoice.ensures.needs_choice.0 (ap Err w.in-Err-NeedsChoice.field-0-is)))
-      | in-Err-BadChoice w ↦ rw w.result-is (inl (choice_refused t before left choice (numbers rest) next (w.in-Err-BadChoice.ensures.bad_choice.0 (ap Err w.in-Err-BadChoice.field-0-is))))
+      | in-Err-BadChoice w ↦ rw w.result-is (choice_refused t before left choice (numbers rest) next (w.in-Err-BadChoice.ensures.bad_choice.0 (ap Err w.in-Err-BadChoice.field-0-is)))
       | in-Err-Number w ↦ rw w.result-is (value_past t before left choice (numbers rest) next (w.in-Err-Number.ensures.number_taken (ap Err w.in-Err-Number.field-0-is)) (w.in-Err-Number.ensures.number (ap Err w.in-Err-Number.field-0-is)))
     ]

@@ -1,10 +1,10 @@
 use Rattle.std.proofs.Common.{◌+◌, arith}
 use Rattle.typing_rules.specs.TypedParts.{typed_program}
 use Rattle.boogie_run.specs.RunView.{config_of}
-use Rattle.trace_replay.specs.declared.causes.ReplayCause.TheVariants.{Short}
+use Rattle.trace_replay.specs.declared.causes.ReplayCause.TheVariants.{Short, BadChoice}
 use Rattle.trace_replay.specs.FailureText.{numbers}
 use Rattle.trace_replay.proofs.ReplaySteps.{one_more_made}
-use Rattle.trace_replay.proofs.ReplayFound.{found_here, found_is, found_does_not_stop, stops_here, runs_out, stop_does_not_replay, stop_is}
+use Rattle.trace_replay.proofs.ReplayFound.{found_here, found_is, found_does_not_stop, halts_here, early_here, runs_out, stop_does_not_replay, stop_is}
 use Rattle.trace_replay.proofs.replaying.replay.Goals as goal
 
 pub returns-in-Fails-clause-found : goal.returns-in-Fails-clause-found
@@ -25,23 +25,43 @@ returns-in-Fails-clause-stops c = λ k cause.
     c.loop-made.made (config_of c.loop-made.config) (numbers c.loop-made.left.now) c.in-Fails.id
     c.loop-made-test.true c.loop-made.invariant.made (rw c.in-Fails.is at c.in_ok-rest.ensures.turns) k cause
 
+pub returns-in-FailsEarly-clause-stopped : goal.returns-in-FailsEarly-clause-stopped
+returns-in-FailsEarly-clause-stopped c =
+    early_here (typed_program c.args.program.now) c.args.trail.now.steps (numbers c.args.trail.now.choices.items)
+    c.loop-made.made (config_of c.loop-made.config) (numbers c.loop-made.left.now) (numbers c.in-FailsEarly.field-0.now)
+    c.loop-made-test.true c.loop-made.invariant.made (rw c.in-FailsEarly.is at c.in_ok-rest.ensures.turns)
+
+pub returns-in-FailsEarly-clause-replays : goal.returns-in-FailsEarly-clause-replays
+returns-in-FailsEarly-clause-replays c =
+    stop_does_not_replay (typed_program c.args.program.now) c.args.trail.now.steps (numbers c.args.trail.now.choices.items) (c.loop-made.made + 1) BadChoice
+    (early_here (typed_program c.args.program.now) c.args.trail.now.steps (numbers c.args.trail.now.choices.items)
+    c.loop-made.made (config_of c.loop-made.config) (numbers c.loop-made.left.now) (numbers c.in-FailsEarly.field-0.now)
+    c.loop-made-test.true c.loop-made.invariant.made (rw c.in-FailsEarly.is at c.in_ok-rest.ensures.turns))
+
+pub returns-in-FailsEarly-clause-stops : goal.returns-in-FailsEarly-clause-stops
+returns-in-FailsEarly-clause-stops c =
+    stop_is (typed_program c.args.program.now) c.args.trail.now.steps (numbers c.args.trail.now.choices.items) (c.loop-made.made + 1) BadChoice
+    (early_here (typed_program c.args.program.now) c.args.trail.now.steps (numbers c.args.trail.now.choices.items)
+    c.loop-made.made (config_of c.loop-made.config) (numbers c.loop-made.left.now) (numbers c.in-FailsEarly.field-0.now)
+    c.loop-made-test.true c.loop-made.invariant.made (rw c.in-FailsEarly.is at c.in_ok-rest.ensures.turns))
+
 pub returns-in-Stops-clause-stopped : goal.returns-in-Stops-clause-stopped
 returns-in-Stops-clause-stopped c =
-    stops_here (typed_program c.args.program.now) c.args.trail.now.steps (numbers c.args.trail.now.choices.items)
+    halts_here (typed_program c.args.program.now) c.args.trail.now.steps (numbers c.args.trail.now.choices.items)
     c.loop-made.made (config_of c.loop-made.config) (numbers c.loop-made.left.now) c.in-Stops.cause
     c.loop-made-test.true c.loop-made.invariant.made (rw c.in-Stops.is at c.in_ok-rest.ensures.turns)
 
 pub returns-in-Stops-clause-replays : goal.returns-in-Stops-clause-replays
 returns-in-Stops-clause-replays c =
     stop_does_not_replay (typed_program c.args.program.now) c.args.trail.now.steps (numbers c.args.trail.now.choices.items) (c.loop-made.made + 1) c.in-Stops.cause
-    (stops_here (typed_program c.args.program.now) c.args.trail.now.steps (numbers c.args.trail.now.choices.items)
+    (halts_here (typed_program c.args.program.now) c.args.trail.now.steps (numbers c.args.trail.now.choices.items)
     c.loop-made.made (config_of c.loop-made.config) (numbers c.loop-made.left.now) c.in-Stops.cause
     c.loop-made-test.true c.loop-made.invariant.made (rw c.in-Stops.is at c.in_ok-rest.ensures.turns))
 
 pub returns-in-Stops-clause-stops : goal.returns-in-Stops-clause-stops
 returns-in-Stops-clause-stops c =
     stop_is (typed_program c.args.program.now) c.args.trail.now.steps (numbers c.args.trail.now.choices.items) (c.loop-made.made + 1) c.in-Stops.cause
-    (stops_here (typed_program c.args.program.now) c.args.trail.now.steps (numbers c.args.trail.now.choices.items)
+    (halts_here (typed_program c.args.program.now) c.args.trail.now.steps (numbers c.args.trail.now.choices.items)
     c.loop-made.made (config_of c.loop-made.config) (numbers c.loop-made.left.now) c.in-Stops.cause
     c.loop-made-test.true c.loop-made.invariant.made (rw c.in-Stops.is at c.in_ok-rest.ensures.turns))
 
