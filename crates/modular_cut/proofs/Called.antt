@@ -30,7 +30,7 @@ get_next : {X : Type 0} (xs : List X) (x : X) → slice_get (xs ++ x ∷ []) (le
 get_next [] x = refl
 get_next (y ∷ xs) x = get_next xs x
 
-get_map : {X Y : Type 0} (h : X → Y) (xs : List X) (n : ℕ) (x : X) → slice_get xs n ≡ Some x → slice_get (map h xs) n ≡ Some (h x)
+pub get_map : {X Y : Type 0} (h : X → Y) (xs : List X) (n : ℕ) (x : X) → slice_get xs n ≡ Some x → slice_get (map h xs) n ≡ Some (h x)
 get_map h [] n x e = absurd (cc)
 get_map h (y ∷ xs) zero x e = let same : y ≡ x = cc in ap (λ z. Some (h z)) same
 get_map h (y ∷ xs) (suc n) x e = get_map h xs n x e

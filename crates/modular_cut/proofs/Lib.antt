@@ -2,6 +2,13 @@ pub mod Called
 pub mod TypedStatements
 pub mod TypedParts
 pub mod Whole
+mod Copied
+mod Recalled
+pub mod First
+mod Earliest
+mod CutParts
+mod SafeParts
+mod MadeParts
 mod SamePoints
 mod SameActions
 mod SeenValues

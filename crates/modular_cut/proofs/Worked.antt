@@ -1,11 +1,12 @@
--- A recursive procedure in its own part, and in that of another, by computation.
-use Rattle.std.proofs.Common.{◌≡◌, ℕ, List, [], ◌∷◌, map, Option, None, Some, refl}
+-- A recursive procedure in its own part, and which of its conditions are free, by computation.
+use Rattle.std.proofs.Common.{◌≡◌, ℕ, true, false, List, [], ◌∷◌, ◌++◌, map, Option, None, Some, refl, ap, if◌then◌else◌}
 use Rattle.std.specs.Prelude.{codes}
 use Rattle.boogie_tree.specs.declared.span.Span.{Span}
 use Rattle.boogie_tree.specs.declared.tree.Column.TheVariants as columns
 use Rattle.boogie_tree.specs.declared.tree.VarInfo.{VarInfo}
 use Rattle.typed_tree.specs.TypedTree.{TypedExpression, Cond, TypedInvariant, Assert, Assign, Call, If, TypedBlock, Empty, Then, Ensures, TypedProcedure, TypedProgram}
 use Rattle.modular_cut.specs.Parts.{without_body, part_of, parts_of}
+use Rattle.modular_cut.specs.FreeConditions.{free_spans}
 
 module _ (at : Span) (five enough positive zero less more : TypedExpression) (main_locals sum_locals : List VarInfo) (ensured : TypedInvariant) where
   -- if (n <= 0) { s := 0; } else { call s := sum(n - 1); s := s + n; }, where calls of sum have that number
@@ -43,3 +44,10 @@ module _ (at : Span) (five enough positive zero less more : TypedExpression) (ma
   -- main calls it by its number
   other_part : (part_of recursion 0).procs ≡ main ∷ sum_as (codes "sum") None ∷ record main { name = codes "m:main"; body = None } ∷ []
   other_part = refl
+
+  -- an ensures that is free stands at its place
+  free_there : ensured.free ≡ true → free_spans recursion ≡ ensured.span ∷ []
+  free_there e = ap (λ b. (((if b then ensured.span ∷ [] else []) ++ []) ++ []) ++ []) e
+
+  none_free : ensured.free ≡ false → free_spans recursion ≡ []
+  none_free e = ap (λ b. (((if b then ensured.span ∷ [] else []) ++ []) ++ []) ++ []) e

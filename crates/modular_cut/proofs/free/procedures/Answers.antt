@@ -1,0 +1,14 @@
+use Rattle.std.proofs.Common.{map, refl}
+use Rattle.std.specs.Prelude.{flat_map}
+use Rattle.typed_tree.specs.TypedView as view
+use Rattle.modular_cut.specs.FreeConditions.{free_procedure}
+use Rattle.modular_cut.proofs.First.{found_more, found_end}
+use Rattle.modular_cut.proofs.free.procedures.Goals as goal
+
+pub loop-said-preserved : goal.loop-said-preserved
+loop-said-preserved c =
+    found_more (λ x. free_procedure (view.procedure x)) (λ xs. flat_map free_procedure (map view.procedure xs)) (λ x xs. refl) c.args.all.now c.loop-said.said-index c.said-item.result c.loop-said.first c.procedure-first.result _
+    c.loop-said-test.true c.said-item.is c.procedure-first.ensures c.loop-said.invariant
+
+pub returns : goal.returns
+returns c = found_end (λ xs. flat_map free_procedure (map view.procedure xs)) refl c.args.all.now c.loop-said.said-index c.loop-said.first _ c.loop-said-test.false c.loop-said.invariant
