@@ -1,0 +1,4 @@
+pub mod Building
+pub mod Members
+pub mod Views
+pub mod Laws
