@@ -1,0 +1,5 @@
+pub mod CaseLaws
+pub mod Gathering
+pub mod LoopLaws
+pub mod Sides
+pub mod SumLaws
