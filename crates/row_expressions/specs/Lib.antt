@@ -4,3 +4,4 @@ pub mod Sums
 pub mod Cases
 pub mod Rows
 pub mod Views
+pub mod Worth

@@ -2,6 +2,7 @@
 #![tactic(auto)]
 
 mod cases;
+pub mod laws;
 mod rows;
 mod scopes;
 mod sums;
