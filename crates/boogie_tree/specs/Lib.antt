@@ -5,3 +5,4 @@ pub mod Printing
 pub mod Apart
 pub mod Names
 pub mod Places
+pub mod Spans

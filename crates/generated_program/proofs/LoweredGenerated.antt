@@ -10,7 +10,8 @@ use Rattle.boogie_tree.specs.Places.{beginning}
 use Rattle.typed_tree.specs.TypedTree as typed
 use Rattle.typed_tree.specs.TypedTree.{TypedBlock, TypedProcedure, TypedProgram}
 use Rattle.boogie_places.specs.Places.{Place, located, points_of_body, places_from}
-use Rattle.lowered_graph.specs.Items.{ProgramItem, ItemFault, fault_span, stands_before, item_fault, earlier, items_at, items_of, first_of, first_fault}
+use Rattle.boogie_tree.specs.Spans.{stands_before}
+use Rattle.lowered_graph.specs.Items.{ProgramItem, ItemFault, fault_span, item_fault, earlier, items_at, items_of, first_of, first_fault}
 use Rattle.std.proofs.lemmas.Option.{same_Some}
 use Rattle.generated_program.specs.Generated.{is_positive}
 use Rattle.generated_program.specs.Laws.{IsLowered}

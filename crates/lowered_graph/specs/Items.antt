@@ -1,5 +1,5 @@
 -- The items of a program and their faults: what cannot be lowered because a list is too long or a number too big.
-use Rattle.std.specs.Prelude.{ℕ, zero, suc, ◌+◌, Bool, true, false, not, ◌&&◌, ◌||◌, nat_lt, nat_eq, List, [], ◌∷◌, ◌++◌, map, length, Option, None, Some, slice_get, if◌then◌else◌}
+use Rattle.std.specs.Prelude.{ℕ, zero, suc, ◌+◌, Bool, true, false, not, ◌&&◌, ◌||◌, nat_eq, List, [], ◌∷◌, ◌++◌, map, length, Option, None, Some, slice_get, if◌then◌else◌}
 use Rattle.std.specs.List.{list_any}
 use Rattle.boogie_tree.specs.declared.span.Span.{Span}
 use Rattle.boogie_tree.specs.declared.tree.VarInfo.{VarInfo}
@@ -19,6 +19,7 @@ use Rattle.boogie_places.specs.Places.{Place, parts_from, program_places}
 use Rattle.lowered_steps.specs.ProgramFrames.{frame_at, width_at}
 use Rattle.lowered_steps.specs.Edges.{import_written, import_products, import_plan, those_in, call_plan, local_count, numbers_in}
 use Rattle.boogie_tree.specs.Apart.{nowhere}
+use Rattle.boogie_tree.specs.Spans.{stands_before}
 
 -- ---- the lists that the edges of a place need
 
@@ -191,9 +192,6 @@ is_too_wide i = list_any (λ n. is_wide n.plan n.base) i.needed
 
 abbrev pub is_too_big : ProgramItem → Bool
 is_too_big i = list_any (λ n. not (all_fit n.plan n.base)) i.needed
-
-abbrev pub stands_before : Span → Span → Bool
-stands_before a b = nat_lt a.line b.line || (nat_eq a.line b.line && nat_lt a.col b.col)
 
 abbrev pub fault_span : ItemFault → Span
 fault_span (TooWide at) = at

@@ -6,6 +6,7 @@ use Rattle.std.proofs.lemmas.List.{map-append}
 use Rattle.std.proofs.lemmas.List.Folds.{list_any-append}
 use Rattle.std.proofs.lemmas.Bool.Decides.{nat_tests}
 use Rattle.boogie_tree.specs.declared.span.Span.{Span}
+use Rattle.boogie_tree.specs.Spans.{stands_before}
 use Rattle.typed_tree.specs.TypedTree.{TypedProgram}
 use Rattle.letter_acts.specs.declared.sites.Site.{Site}
 use Rattle.cond_jumps.specs.Conjunctions.{is_wide, all_fit}
@@ -14,7 +15,7 @@ use Rattle.boogie_places.specs.Places.{Place}
 use Rattle.letter_table.specs.Letters.{Arc, Lettered, with_arc, with_arcs}
 use Rattle.lowered_graph.specs.Arcs.{arcs_at, arcs_of}
 use Rattle.lowered_graph.specs.Lowered.{action_sites, sites_of}
-use Rattle.lowered_graph.specs.Items.{Needed, ProgramItem, ItemFault, fault_span, stands_before, earlier, item_fault, first_of, items_at, items_of}
+use Rattle.lowered_graph.specs.Items.{Needed, ProgramItem, ItemFault, fault_span, earlier, item_fault, first_of, items_at, items_of}
 use Rattle.lowered_parts.specs.Parts.{Walked, some_is_wide, some_is_big, IsTrouble, Leads, Adds}
 use Rattle.lowered_parts.specs.Making.{Makes}
 

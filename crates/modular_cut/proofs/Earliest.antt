@@ -3,7 +3,8 @@ use Rattle.std.proofs.Common.{◌≡◌, ◌⊎◌, inl, inr, zero, suc, ◌<◌
 use Rattle.std.proofs.lemmas.Bool.Decides.{nat_tests}
 use Rattle.boogie_tree.specs.declared.span.Span.{Span}
 use Rattle.typed_tree.specs.TypedTree.{TypedProgram}
-use Rattle.modular_cut.specs.Earliest.{is_before, earlier, earliest}
+use Rattle.boogie_tree.specs.Spans.{stands_before}
+use Rattle.modular_cut.specs.Earliest.{earlier, earliest}
 use Rattle.modular_cut.specs.FreeConditions.{free_spans, IsNotAfter, IsFirstFree}
 
 not_after_self : (a : Span) → IsNotAfter a a
@@ -15,7 +16,7 @@ not_after_trans a b c (inl h) (inr (e, k)) = inl (omega arith)
 not_after_trans a b c (inr (e, h)) (inl k) = inl (omega arith)
 not_after_trans a b c (inr (e, h)) (inr (f, k)) = inr (e ∙ f, omega arith)
 
-before_is : (a b : Span) → is_before a b ≡ true → IsNotAfter a b
+before_is : (a b : Span) → stands_before a b ≡ true → IsNotAfter a b
 before_is a b h = by_line (nat_lt a.line b.line) refl h
   where
     by_col : (x y : Bool) → nat_eq a.line b.line ≡ x → nat_lt a.col b.col ≡ y → (x && y) ≡ true → IsNotAfter a b
@@ -29,7 +30,7 @@ before_is a b h = by_line (nat_lt a.line b.line) refl h
     by_line true e h = let less : a.line < b.line = grind (arith, nat_tests) in inl less
     by_line false e h = by_col (nat_eq a.line b.line) (nat_lt a.col b.col) refl refl h
 
-not_before_is : (a b : Span) → is_before a b ≡ false → IsNotAfter b a
+not_before_is : (a b : Span) → stands_before a b ≡ false → IsNotAfter b a
 not_before_is a b h = by_line (nat_lt a.line b.line) refl h
   where
     by_col : (x y : Bool) → nat_lt a.line b.line ≡ false → nat_eq a.line b.line ≡ x → nat_lt a.col b.col ≡ y → (x && y) ≡ false → IsNotAfter b a
@@ -54,9 +55,9 @@ contains_next x y xs (k, l, e) = (suc k, omega arith, e)
 
 earlier_one : (o : Option Span) (s a : Span) → earlier o s ≡ Some a → ((o ≡ Some a) ⊎ (s ≡ a)) × IsNotAfter a s × ((b : Span) → o ≡ Some b → IsNotAfter a b)
 earlier_one None s a e = let same : s ≡ a = cc in (inr same, subst (λ (x : Span). IsNotAfter x s) same (not_after_self s), λ b f. absurd (cc))
-earlier_one (Some b) s a e = by_test (is_before s b) refl e
+earlier_one (Some b) s a e = by_test (stands_before s b) refl e
   where
-    by_test : (x : Bool) → is_before s b ≡ x → (if x then Some s else Some b) ≡ Some a → ((Some b ≡ Some a) ⊎ (s ≡ a)) × IsNotAfter a s × ((c : Span) → Some b ≡ Some c → IsNotAfter a c)
+    by_test : (x : Bool) → stands_before s b ≡ x → (if x then Some s else Some b) ≡ Some a → ((Some b ≡ Some a) ⊎ (s ≡ a)) × IsNotAfter a s × ((c : Span) → Some b ≡ Some c → IsNotAfter a c)
     by_test true t f =
         let same : s ≡ a = cc in
         (inr same, subst (λ (x : Span). IsNotAfter x s) same (not_after_self s), λ c g. let told : b ≡ c = cc in subst (λ (x : Span). IsNotAfter a x) told (subst (λ (x : Span). IsNotAfter x b) same (before_is s b t)))
@@ -66,7 +67,7 @@ earlier_one (Some b) s a e = by_test (is_before s b) refl e
 
 some_earlier : (o : Option Span) (s : Span) → (a : Span) × (earlier o s ≡ Some a)
 some_earlier None s = (s, refl)
-some_earlier (Some b) s = by_test (is_before s b)
+some_earlier (Some b) s = by_test (stands_before s b)
   where
     by_test : (x : Bool) → (a : Span) × ((if x then Some s else Some b) ≡ Some a)
     by_test true = (s, refl)

@@ -10,19 +10,12 @@ use boogie_tree::Span;
 use typed_tree::{TInv, TProc, TSpec, TStmt};
 use typing_rules::Typed;
 
-/// Whether the first stands before the second in the text.
-fn is_before(first: Span, second: Span) -> bool
-    ensures { result ≡ spec.is_before first second }
-{
-    first.line < second.line || (first.line == second.line && first.col < second.col)
-}
-
 /// The one that was found so far, unless the other stands before it.
 fn earlier(found: Option<Span>, other: Span) -> Option<Span>
     ensures { result ≡ spec.earlier found other }
 {
     match found {
-        Some(so_far) if !is_before(other, so_far) => Some(so_far),
+        Some(so_far) if !other.stands_before(so_far) => Some(so_far),
         Some(_) | None => Some(other),
     }
 }

@@ -5,22 +5,11 @@ ghost use Rattle.std.specs.Option.{option_map};
 ghost use Rattle.typed_tree.specs.TypedView as view;
 ghost use Rattle.modular_cut.specs.Parts as spec;
 
-use crate::recalling::{Calls, plain, statements};
+use crate::recalling::{Calls, statements};
 use boogie_tree::Text;
 use std::alloc::{AllocError, Global};
-use typed_tree::copying::variables;
-use typed_tree::{TProc, TSpec, TStmt};
-
-/// Equal specifications, in order.
-fn specifications(parts: &Vec<TSpec>) -> Result<Vec<TSpec>, AllocError>
-    ensures { IfOk result (λ copied. map view.specification copied.items ≡ map view.specification parts.now.items) }
-{
-    let mut copied = Vec::with_capacity(*parts.allocator(), parts.len())?;
-    for part in parts {
-        copied.push(part.copy()?)?;
-    }
-    Ok(copied)
-}
+use typed_tree::copying::{plain, specifications, variables};
+use typed_tree::{TProc, TStmt};
 
 /// A procedure that says the same, under that name and with that body.
 fn like(said: &TProc, name: Text, body: Option<Vec<TStmt>>) -> Result<TProc, AllocError>

@@ -1,13 +1,12 @@
 //! Statements copied with the procedures that they call renumbered.
 
-ghost use Rattle.std.specs.Prelude.{◌≡◌, IfOk, map};
-ghost use Rattle.typed_tree.specs.TypedTree as tree;
+ghost use Rattle.std.specs.Prelude.{◌≡◌, IfOk};
 ghost use Rattle.typed_tree.specs.TypedView as view;
 ghost use Rattle.modular_cut.specs.Parts.{called_in, recalled, recalled_block};
 
 use std::alloc::AllocError;
-use typed_tree::copying::expressions;
-use typed_tree::{Column, Span, TExpr, TGuard, TInv, TStmt};
+use typed_tree::copying::{call, conditional, looped};
+use typed_tree::TStmt;
 
 /// How calls are renumbered in a part: those of its own procedure go to the copy.
 #[derive(Clone, Copy)]
@@ -27,64 +26,6 @@ impl Calls {
             callee
         }
     }
-}
-
-/// The same columns or numbers, in order.
-pub(crate) fn plain<T: Copy>(parts: &Vec<T>) -> Result<Vec<T>, AllocError>
-    ensures { IfOk result (λ copied. copied.items ≡ parts.now.items) }
-{
-    let mut copied = Vec::with_capacity(*parts.allocator(), parts.len())?;
-    copied.extend_from_slice(parts)?;
-    Ok(copied)
-}
-
-/// Equal invariants, in order.
-fn invariants(parts: &Vec<TInv>) -> Result<Vec<TInv>, AllocError>
-    ensures { IfOk result (λ copied. map view.invariant copied.items ≡ map view.invariant parts.now.items) }
-{
-    let mut copied = Vec::with_capacity(*parts.allocator(), parts.len())?;
-    for part in parts {
-        copied.push(part.copy()?)?;
-    }
-    Ok(copied)
-}
-
-/// A call of that procedure with equal arguments and the same targets.
-fn call(
-    span: Span,
-    targets: &Vec<Column>,
-    callee: u32,
-    arguments: &Vec<TExpr>,
-) -> Result<TStmt, AllocError>
-    ensures { IfOk result (λ copied. view.statement copied ≡ tree.Call span targets.now.items callee (map view.expression arguments.now.items)) }
-{
-    let arguments = expressions(arguments)?;
-    Ok(TStmt::Call(span, plain(targets)?, callee, arguments))
-}
-
-/// A branch with an equal guard and these statements.
-fn conditional(
-    span: Span,
-    guard: &TGuard,
-    then: Vec<TStmt>,
-    otherwise: Vec<TStmt>,
-) -> Result<TStmt, AllocError>
-    ensures { IfOk result (λ copied. view.statement copied ≡ tree.If span (view.guard guard.now) (view.statements then.items) (view.statements otherwise.items)) }
-{
-    Ok(TStmt::If(span, guard.copy()?, then, otherwise))
-}
-
-/// A loop with an equal guard, equal invariants and these statements.
-fn looped(
-    span: Span,
-    guard: &TGuard,
-    claims: &Vec<TInv>,
-    body: Vec<TStmt>,
-) -> Result<TStmt, AllocError>
-    ensures { IfOk result (λ copied. view.statement copied ≡ tree.While span (view.guard guard.now) (map view.invariant claims.now.items) (view.statements body.items)) }
-{
-    let claims = invariants(claims)?;
-    Ok(TStmt::While(span, guard.copy()?, claims, body))
 }
 
 /// The statement with its calls renumbered. It recurses as deep as statements are nested, as dropping one does.

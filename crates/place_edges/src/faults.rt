@@ -71,12 +71,6 @@ pub(crate) fn fault_of(span: Span, trouble: Trouble) -> Option<ItemFault>
     }
 }
 
-fn stands_before(a: Span, b: Span) -> bool
-    ensures { result ≡ items.stands_before a b }
-{
-    a.line < b.line || (a.line == b.line && a.col < b.col)
-}
-
 fn span_of(fault: ItemFault) -> Span
     ensures { result ≡ items.fault_span (plain_fault fault) }
 {
@@ -93,7 +87,7 @@ pub(crate) fn earlier(first: Option<ItemFault>, second: Option<ItemFault>) -> Op
         (None, fault) => fault,
         (Some(fault), None) => Some(fault),
         (Some(a), Some(b)) => {
-            if stands_before(span_of(b), span_of(a)) {
+            if span_of(b).stands_before(span_of(a)) {
                 Some(b)
             } else {
                 Some(a)

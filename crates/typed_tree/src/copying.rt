@@ -92,7 +92,7 @@ impl Affine {
 }
 
 /// The same columns or numbers, in order.
-fn plain<T: Copy>(parts: &Vec<T>) -> Result<Vec<T>, AllocError>
+pub fn plain<T: Copy>(parts: &Vec<T>) -> Result<Vec<T>, AllocError>
     ensures { IfOk result (λ copied. copied.items ≡ parts.now.items) }
 {
     let mut copied = Vec::with_capacity(*parts.allocator(), parts.len())?;
@@ -112,7 +112,7 @@ pub fn expressions(parts: &Vec<TExpr>) -> Result<Vec<TExpr>, AllocError>
 }
 
 /// Equal conditions, in order.
-fn invariants(parts: &Vec<TInv>) -> Result<Vec<TInv>, AllocError>
+pub fn invariants(parts: &Vec<TInv>) -> Result<Vec<TInv>, AllocError>
     ensures { IfOk result (λ copied. map view.invariant copied.items ≡ map view.invariant parts.now.items) }
 {
     let mut copied = Vec::with_capacity(*parts.allocator(), parts.len())?;
@@ -123,7 +123,7 @@ fn invariants(parts: &Vec<TInv>) -> Result<Vec<TInv>, AllocError>
 }
 
 /// Equal specifications, in order.
-fn specifications(parts: &Vec<TSpec>) -> Result<Vec<TSpec>, AllocError>
+pub fn specifications(parts: &Vec<TSpec>) -> Result<Vec<TSpec>, AllocError>
     ensures { IfOk result (λ copied. map view.specification copied.items ≡ map view.specification parts.now.items) }
 {
     let mut copied = Vec::with_capacity(*parts.allocator(), parts.len())?;
@@ -153,7 +153,7 @@ fn assignment(span: Span, targets: &Vec<Column>, values: &Vec<TExpr>) -> Result<
 }
 
 /// A call with equal arguments and the same targets.
-fn call(
+pub fn call(
     span: Span,
     targets: &Vec<Column>,
     callee: u32,
@@ -166,7 +166,7 @@ fn call(
 }
 
 /// A branch with an equal guard and these statements.
-fn conditional(
+pub fn conditional(
     span: Span,
     guard: &TGuard,
     then: Vec<TStmt>,
@@ -178,7 +178,7 @@ fn conditional(
 }
 
 /// A loop with an equal guard, equal invariants and these statements.
-fn looped(
+pub fn looped(
     span: Span,
     guard: &TGuard,
     claims: &Vec<TInv>,
