@@ -1,24 +1,23 @@
 -- The edges, lists and assertions of an action, by the numbers of places.
-use Rattle.std.proofs.Common.{◌≡◌, ℕ, ◌+◌, Bool, true, false, List, [], ◌∷◌, ◌++◌, map, length, Option, None, Some, refl, sym, ap, ◌∙◌, subst, arith}
-use Rattle.std.specs.Prelude.{slice_get, if◌then◌else◌}
+use Rattle.std.proofs.Common.{◌≡◌, ℕ, true, false, List, [], ◌∷◌, ◌++◌, map, length, Option, None, Some, refl, ap, ◌∙◌}
+use Rattle.std.specs.Prelude.{slice_get}
 use Rattle.std.proofs.lemmas.List.{map-append}
 use Rattle.boogie_tree.specs.declared.span.Span.{Span}
 use Rattle.boogie_tree.specs.declared.tree.Column.{Column}
-use Rattle.typed_tree.specs.TypedTree.{TypedExpression, TypedGuard, Any, Cond, TypedInvariant, TypedBlock, TypedProcedure, TypedProgram}
+use Rattle.typed_tree.specs.TypedTree.{TypedExpression, TypedGuard, Any, Cond, TypedInvariant, TypedProcedure, TypedProgram}
 use Rattle.letter_acts.specs.Acts.{inside_act}
-use Rattle.letter_acts.specs.declared.sites.Site.{Site}
 use Rattle.free_products.specs.Letters.{MarkedConjunction}
 use Rattle.free_products.specs.FrameLetters.{path_letters, assign_letters, passed_letters}
-use Rattle.boogie_points.specs.Points.{Point, at_exit, settled, past_first}
-use Rattle.boogie_points.specs.Actions.{Action, Check, Suppose, Demand, Write, Guess, Test, Pick, Jump, Enter, Keep, Grant, Finish, Leave, guarded, checked, one_of, unseen_action, chosen_columns, ensured_conditions}
+use Rattle.boogie_points.specs.Points.{Point, settled, past_first}
+use Rattle.boogie_points.specs.Actions.{Check, Suppose, Demand, Write, Guess, Test, Jump, Enter, guarded, one_of, unseen_action}
 use Rattle.boogie_points.specs.Starts.{point_of_call, targets_at}
 use Rattle.letter_table.specs.Letters.{Arc, inside_arc}
 use Rattle.lowered_steps.specs.ProgramFrames.{frame_at, column_number}
-use Rattle.lowered_steps.specs.Edges.{Spot, At, Wrong, Edge, leads, no_rows, skips, inside_edges, import_written, import_letters, import_edges, call_letters, numbers_in, local_count}
-use Rattle.lowered_graph.specs.Arcs.{place_number, error_place, spot_number, return_place, inside_arcs, call_arcs, action_arcs}
+use Rattle.lowered_steps.specs.Edges.{Spot, At, Wrong, Edge, leads, no_rows, skips, import_written, import_letters, import_edges, call_letters, numbers_in, local_count}
+use Rattle.lowered_graph.specs.Arcs.{place_number, error_place, spot_number, return_place, inside_arcs, action_arcs}
 use Rattle.lowered_graph.specs.Lowered.{action_sites}
-use Rattle.lowered_graph.specs.Items.{Needed, path_needed, import_needed, call_needed, needed_by}
-use Rattle.lowered_parts.specs.Lists.{list_arcs, skip_arcs, test_arcs, test_needed, guard_arcs, guard_needed, write_needed, demand_arcs, demand_needed, entered_arcs}
+use Rattle.lowered_graph.specs.Items.{import_needed, needed_by}
+use Rattle.lowered_parts.specs.Lists.{list_arcs, skip_arcs, test_arcs, guard_arcs, guard_needed, demand_arcs, entered_arcs}
 use Rattle.lowered_parts.specs.Items.{ways_arcs}
 use Rattle.lowered_parts.proofs.Joining.{no_more}
 

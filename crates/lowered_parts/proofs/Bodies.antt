@@ -1,5 +1,5 @@
 -- What a body and the start add: the conditions around the statements, and the return.
-use Rattle.std.proofs.Common.{◌≡◌, ℕ, zero, suc, ◌+◌, ◌<◌, ◌≤◌, Bool, true, false, List, [], ◌∷◌, ◌++◌, map, length, take, Option, None, Some, refl, sym, ap, ◌∙◌, subst, append_assoc, arith}
+use Rattle.std.proofs.Common.{◌≡◌, ℕ, zero, suc, ◌+◌, ◌<◌, Bool, true, false, List, [], ◌∷◌, ◌++◌, map, length, take, Option, None, Some, refl, sym, ap, ◌∙◌, subst, append_assoc, arith}
 use Rattle.std.specs.Prelude.{slice_get}
 use Rattle.boogie_tree.specs.declared.span.Span.{Span}
 use Rattle.typed_tree.specs.TypedTree.{TypedExpression, TypedInvariant, Assert, Assume, Havoc, Assign, Call, If, While, Break, Goto, Return, Label, TypedBlock, Empty, Then, TypedProcedure, TypedProgram}
@@ -23,7 +23,6 @@ use Rattle.lowered_parts.specs.Making.{MakesItem}
 use Rattle.lowered_parts.specs.Items.{checked_sites, checked_arcs, checked_needed, only_labels}
 use Rattle.lowered_parts.proofs.Joining.{joined, nothing, no_more}
 use Rattle.lowered_parts.proofs.OneItem.{placed, plain_item, nothing_led}
-use Rattle.lowered_parts.proofs.ActionArcs as arcs
 use Rattle.lowered_parts.proofs.Numbers as numbers
 use Rattle.lowered_parts.proofs.Numbers.{both_added, part_added}
 use Rattle.lowered_parts.proofs.Statements.{checked_edges, checked_lists, checked_at}

@@ -1,5 +1,5 @@
 -- A call is one item: the requires that it asserts, and then the call itself.
-use Rattle.std.proofs.Common.{◌≡◌, ℕ, zero, suc, ◌+◌, ◌-◌, ◌<◌, ◌≤◌, Bool, true, false, ◌||◌, List, [], ◌∷◌, ◌++◌, map, length, Option, None, Some, refl, sym, ap, ◌∙◌, subst, append_assoc, arith}
+use Rattle.std.proofs.Common.{◌≡◌, ℕ, zero, suc, ◌+◌, ◌-◌, ◌≤◌, Bool, false, ◌||◌, List, [], ◌∷◌, ◌++◌, map, length, Option, None, Some, refl, sym, ap, ◌∙◌, subst, append_assoc, arith}
 use Rattle.std.specs.Prelude.{nat_eq, slice_get, if◌then◌else◌}
 use Rattle.std.proofs.lemmas.List.{map-append}
 use Rattle.std.proofs.lemmas.Bool.Decides.{nat_tests}
@@ -15,7 +15,7 @@ use Rattle.boogie_places.specs.Places.{Place, at_statement, points_in, located, 
 use Rattle.letter_table.specs.Letters.{Arc}
 use Rattle.lowered_steps.specs.ProgramFrames.{frame_at}
 use Rattle.lowered_steps.specs.Edges.{call_letters, numbers_in, local_count}
-use Rattle.lowered_graph.specs.Arcs.{place_number, error_place, return_place, arcs_at, arcs_of, action_arcs}
+use Rattle.lowered_graph.specs.Arcs.{place_number, error_place, return_place, arcs_of, action_arcs}
 use Rattle.lowered_graph.specs.Lowered.{action_sites, sites_of}
 use Rattle.lowered_graph.specs.Items.{Needed, ProgramItem, import_needed, call_needed, needed_at, needed_by, all_needed, items_at, items_of, begins_item, place_span, item_places}
 use Rattle.lowered_parts.specs.Parts.{Walked, Leads, Adds}

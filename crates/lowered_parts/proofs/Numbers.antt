@@ -1,11 +1,9 @@
 -- The numbers of the points of a body, and what its statements do.
-use Rattle.std.proofs.Common.{◌≡◌, ◌≢◌, ℕ, zero, suc, ◌+◌, ◌<◌, ◌≤◌, Bool, true, false, ◌&&◌, List, [], ◌∷◌, ◌++◌, map, length, Option, None, Some, refl, sym, ap, ◌∙◌, subst, arith}
+use Rattle.std.proofs.Common.{◌≡◌, ℕ, zero, suc, ◌+◌, Bool, true, false, List, [], ◌∷◌, ◌++◌, length, Option, Some, refl, sym, ap, ◌∙◌, subst, arith}
 use Rattle.std.specs.Prelude.{slice_get}
 use Rattle.std.proofs.lemmas.List.{map-append}
-use Rattle.boogie_tree.specs.declared.span.Span.{Span}
 use Rattle.typed_tree.specs.TypedTree.{TypedStatement, Assert, Assume, Havoc, Assign, Call, If, While, Break, Goto, Return, Label, TypedBlock, Empty, Then, TypedProcedure, TypedProgram}
-use Rattle.typing_rules.specs.Counts.{assertions, points}
-use Rattle.boogie_points.specs.Points.{Todo, Stage, Start, Entry, Body, Exit, Point, at_exit, before, unless_ended, settled, past}
+use Rattle.boogie_points.specs.Points.{Todo, Point, at_exit, settled}
 use Rattle.boogie_points.specs.Actions.{Action, action_at, stage_action, body_or_leave, procedure_action, statement_action, first_assertion, first_place, free_conditions}
 use Rattle.boogie_places.specs.Places.{Place, at_statement, parts_from, located, number_if_any, number_with, place_of}
 use Rattle.lowered_graph.specs.Arcs.{place_number}

@@ -1,5 +1,5 @@
 -- The places of one item, whose fault is noted behind its edges.
-use Rattle.std.proofs.Common.{◌≡◌, ℕ, ◌+◌, Bool, true, false, ◌||◌, List, [], ◌∷◌, ◌++◌, map, Option, None, Some, refl, sym, ap, ◌∙◌, subst, arith}
+use Rattle.std.proofs.Common.{◌≡◌, ℕ, Bool, true, false, ◌||◌, List, [], ◌∷◌, ◌++◌, map, Option, None, Some, refl, sym, ap, ◌∙◌}
 use Rattle.std.specs.Prelude.{nat_eq, if◌then◌else◌}
 use Rattle.boogie_tree.specs.declared.span.Span.{Span}
 use Rattle.typed_tree.specs.TypedTree.{TypedProgram}
@@ -10,10 +10,10 @@ use Rattle.boogie_places.specs.Places.{Place, located, parts_from}
 use Rattle.letter_table.specs.Letters.{Arc, with_arcs}
 use Rattle.lowered_graph.specs.Arcs.{action_arcs, arcs_of}
 use Rattle.lowered_graph.specs.Lowered.{action_sites, sites_of}
-use Rattle.lowered_graph.specs.Items.{Needed, ProgramItem, ItemFault, TooWide, TooBig, earlier, item_fault, first_of, items_of, needed_by, place_span, stage_parts, begins_item, item_places, all_needed}
+use Rattle.lowered_graph.specs.Items.{Needed, ProgramItem, ItemFault, earlier, item_fault, first_of, items_of, needed_by, place_span, stage_parts, begins_item, item_places, all_needed}
 use Rattle.lowered_parts.specs.Parts.{Walked, some_is_wide, some_is_big, IsTrouble, Leads, Adds}
 use Rattle.lowered_parts.specs.Making.{Makes, trouble_at, noted, asserted, MakesItem}
-use Rattle.lowered_parts.proofs.Joining.{earlier_none, no_more, both_made, made, none_first}
+use Rattle.lowered_parts.proofs.Joining.{earlier_none, no_more, both_made, made}
 
 -- ---- the fault of an item
 

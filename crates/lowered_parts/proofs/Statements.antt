@@ -1,14 +1,13 @@
 -- What each statement adds, from the edges of its places.
-use Rattle.std.proofs.Common.{◌≡◌, ℕ, zero, suc, ◌+◌, ◌<◌, ◌≤◌, Bool, true, false, List, [], ◌∷◌, ◌++◌, map, length, take, Option, None, Some, refl, sym, ap, ◌∙◌, subst, arith}
-use Rattle.std.specs.Prelude.{slice_get, if◌then◌else◌}
+use Rattle.std.proofs.Common.{◌≡◌, ℕ, ◌+◌, Bool, true, false, List, [], ◌∷◌, ◌++◌, map, length, take, Option, None, Some, refl, sym, ap, ◌∙◌}
+use Rattle.std.specs.Prelude.{slice_get}
 use Rattle.boogie_tree.specs.declared.span.Span.{Span}
 use Rattle.boogie_tree.specs.declared.tree.Column.{Column}
-use Rattle.typed_tree.specs.TypedTree.{TypedExpression, TypedGuard, TypedInvariant, TypedStatement, Assert, Assume, Havoc, Assign, Call, If, While, Break, Goto, Return, Label, TypedBlock, Empty, Then, TypedProcedure, TypedProgram}
-use Rattle.typing_rules.specs.Counts.{assertions, points, block_assertions, block_points, plain_invariants}
-use Rattle.letter_acts.specs.declared.sites.Site.{Site}
+use Rattle.typed_tree.specs.TypedTree.{TypedExpression, TypedGuard, TypedInvariant, TypedStatement, Assert, Assume, Havoc, Assign, If, While, Break, Goto, Return, Label, TypedBlock, Then, TypedProcedure, TypedProgram}
+use Rattle.typing_rules.specs.Counts.{block_assertions, block_points, plain_invariants}
 use Rattle.letter_acts.specs.Frames.{Columns}
 use Rattle.free_products.specs.FrameLetters.{path_letters, assign_letters}
-use Rattle.boogie_points.specs.Points.{Todo, Point, at_exit, before, settled, past, broken, found_block}
+use Rattle.boogie_points.specs.Points.{Todo, Point, at_exit, settled, past, broken, found_block}
 use Rattle.boogie_points.specs.Actions.{Action, action_at, statement_action, Check, Suppose, Write, Guess, Jump, checked, guarded, head_action, havoc_action, one_of, ways_to, point_behind, next_part}
 use Rattle.boogie_places.specs.Places.{at_statement, points_in, points_of, located, parts_from}
 use Rattle.letter_table.specs.Letters.{Arc}
@@ -16,12 +15,12 @@ use Rattle.lowered_steps.specs.ProgramFrames.{frame_at, column_number}
 use Rattle.lowered_steps.specs.Edges.{numbers_in, local_count}
 use Rattle.lowered_graph.specs.Arcs.{place_number, error_place, action_arcs}
 use Rattle.lowered_graph.specs.Lowered.{action_sites}
-use Rattle.lowered_graph.specs.Items.{Needed, path_needed, needed_by, place_span, span_of, statement_parts, condition_span}
+use Rattle.lowered_graph.specs.Items.{path_needed, needed_by, place_span, span_of, statement_parts, condition_span}
 use Rattle.lowered_parts.specs.Parts.{Walked, Leads, Adds}
-use Rattle.lowered_parts.specs.Lists.{list_arcs, skip_arcs, test_arcs, test_needed, guard_arcs, guard_needed, write_needed}
+use Rattle.lowered_parts.specs.Lists.{list_arcs, skip_arcs, test_arcs, guard_arcs, guard_needed, write_needed}
 use Rattle.lowered_parts.specs.Making.{MakesItem}
-use Rattle.lowered_parts.specs.Items.{site_of, checked_sites, checked_arcs, checked_needed, ways_arcs}
-use Rattle.lowered_parts.proofs.Joining.{no_more, joined, nothing}
+use Rattle.lowered_parts.specs.Items.{checked_sites, checked_arcs, checked_needed, ways_arcs}
+use Rattle.lowered_parts.proofs.Joining.{nothing}
 use Rattle.lowered_parts.proofs.OneItem.{placed, plain_item}
 use Rattle.lowered_parts.proofs.ActionArcs as arcs
 use Rattle.lowered_parts.proofs.Numbers as numbers

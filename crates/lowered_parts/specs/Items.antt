@@ -1,7 +1,7 @@
 -- The assertions, edges and lists of items: conditions that may be free, and jumps to several places.
 use Rattle.std.specs.Prelude.{ℕ, Bool, true, false, List, [], ◌∷◌, ◌++◌, map}
 use Rattle.boogie_tree.specs.declared.span.Span.{Span}
-use Rattle.typed_tree.specs.TypedTree.{TypedExpression, TypedStatement, Label, TypedBlock, Empty, Then, TypedProgram}
+use Rattle.typed_tree.specs.TypedTree.{TypedExpression, Label, TypedBlock, Empty, Then, TypedProgram}
 use Rattle.letter_acts.specs.Frames.{Columns}
 use Rattle.letter_acts.specs.declared.sites.Site.{Site}
 use Rattle.free_products.specs.FrameLetters.{path_letters}

@@ -1,5 +1,5 @@
 -- The edges of one place by the numbers of places and columns, and the lists that they need.
-use Rattle.std.specs.Prelude.{ℕ, ◌+◌, Bool, true, false, List, [], ◌∷◌, ◌++◌, map, length}
+use Rattle.std.specs.Prelude.{ℕ, true, false, List, [], ◌∷◌, ◌++◌, map}
 use Rattle.typed_tree.specs.TypedTree.{TypedExpression, TypedGuard, Any, Cond}
 use Rattle.letter_acts.specs.Acts.{inside_act, call_act}
 use Rattle.letter_acts.specs.Frames.{Columns}

@@ -1,5 +1,5 @@
 -- What has been lowered of a program so far, and what one more part of it adds.
-use Rattle.std.specs.Prelude.{◌≡◌, ℕ, Bool, true, false, not, List, [], ◌++◌, map, Option, None, Some}
+use Rattle.std.specs.Prelude.{◌≡◌, Bool, false, not, List, [], ◌++◌, map, Option, None}
 use Rattle.std.specs.List.{list_any}
 use Rattle.typed_tree.specs.TypedTree.{TypedProgram}
 use Rattle.letter_acts.specs.declared.sites.Site.{Site}
