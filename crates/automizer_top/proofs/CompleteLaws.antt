@@ -6,7 +6,7 @@ use Rattle.nwa_base.specs.Automata.{Automaton}
 use Rattle.typed_tree.specs.TypedTree.{TypedProgram}
 use Rattle.lowered_graph.specs.Lowered.{lowered}
 use Rattle.race_core.specs.declared.ends.Cause.{Cause}
-use Rattle.race_core.specs.declared.ends.Cause.TheVariants.{Rounds, Whole, Number}
+use Rattle.race_core.specs.declared.ends.Cause.TheVariants.{Rounds, Whole, Number, Product}
 use Rattle.race_core.specs.declared.ends.End.{End}
 use Rattle.race_core.specs.declared.ends.End.TheVariants as ends
 use Rattle.race_core.specs.Histories.{IsLegal}
@@ -32,27 +32,37 @@ abbrev letter_of : Cause → ℕ
 letter_of Rounds = 114
 letter_of Whole = 119
 letter_of Number = 110
+letter_of Product = 112
 
 unknown_letter : (cause : Cause) (n : ℕ) (w : List Letter) → get_or (unknown_text cause n w) 8 0 ≡ letter_of cause
 unknown_letter Rounds n w = omega arith
 unknown_letter Whole n w = omega arith
 unknown_letter Number n w = omega arith
+unknown_letter Product n w = omega arith
 
 same_letter : (a b : Cause) → letter_of a ≡ letter_of b → a ≡ b
 same_letter Rounds Rounds e = refl
 same_letter Rounds Whole e = absurd (omega arith)
 same_letter Rounds Number e = absurd (omega arith)
+same_letter Rounds Product e = absurd (omega arith)
 same_letter Whole Rounds e = absurd (omega arith)
 same_letter Whole Whole e = refl
 same_letter Whole Number e = absurd (omega arith)
+same_letter Whole Product e = absurd (omega arith)
 same_letter Number Rounds e = absurd (omega arith)
 same_letter Number Whole e = absurd (omega arith)
 same_letter Number Number e = refl
+same_letter Number Product e = absurd (omega arith)
+same_letter Product Rounds e = absurd (omega arith)
+same_letter Product Whole e = absurd (omega arith)
+same_letter Product Number e = absurd (omega arith)
+same_letter Product Product e = refl
 
 third_letter : (cause : Cause) (n : ℕ) (w : List Letter) → get_or (unknown_text cause n w) 2 0 ≡ 107
 third_letter Rounds n w = omega arith
 third_letter Whole n w = omega arith
 third_letter Number n w = omega arith
+third_letter Product n w = omega arith
 
 -- the verdict says that nothing is known, for this cause
 abbrev SaysCause : Cause → Verdict → Type 0

@@ -67,6 +67,7 @@ stop_name causes.Ended = codes "Ended"
 stop_name causes.Short = codes "Short"
 stop_name causes.Number = codes "Number"
 stop_name causes.BadChoice = codes "BadChoice"
+stop_name causes.Product = codes "Product"
 
 -- an assertion fails as the values say
 abbrev pub replayed_answer : AssertId → Answer

@@ -228,6 +228,7 @@ fn stop_name(cause: ReplayCause) -> &'static str
         ReplayCause::Short => "Short",
         ReplayCause::Number => "Number",
         ReplayCause::BadChoice => "BadChoice",
+        ReplayCause::Product => "Product",
     }
 }
 

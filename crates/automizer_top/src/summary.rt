@@ -17,6 +17,7 @@ fn unknown_word(cause: Cause) -> &'static str
         Cause::Rounds => "unknown rounds",
         Cause::Whole => "unknown whole",
         Cause::Number => "unknown number",
+        Cause::Product => "unknown product",
     }
 }
 

@@ -31,7 +31,7 @@ fails t limits r w steps choices race e =
 
 pub replays : (t : TypedProgram) (limits : Limits) (r : Race Certificate) (w : List Letter) (steps : ℕ) (choices : Vec ℤ Global) → IsRaceOf t limits r →
     r.end ≡ Some (Unsafe w steps choices) → (i : ℕ) × Replays t steps choices.items i
-replays t limits r w steps choices race e = let f = fails t limits r w steps choices race e in (f.1.told.site.id.number, f.1.told.trail.replays)
+replays t limits r w steps choices race e = let f = fails t limits r w steps choices race e in (f.1.told.assertion, f.1.told.replays)
 
 pub values_fit : (t : TypedProgram) (limits : Limits) (r : Race Certificate) (w : List Letter) (steps : ℕ) (choices : Vec ℤ Global) → IsRaceOf t limits r →
     r.end ≡ Some (Unsafe w steps choices) → AllByRecursion Fits choices.items

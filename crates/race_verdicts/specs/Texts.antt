@@ -15,6 +15,7 @@ abbrev pub cause_name : Cause → List ℕ
 cause_name causes.Rounds = codes "rounds"
 cause_name causes.Whole = codes "whole"
 cause_name causes.Number = codes "number"
+cause_name causes.Product = codes "product"
 
 -- the number of a letter behind a space
 abbrev pub letter_piece : Letter → List ℕ

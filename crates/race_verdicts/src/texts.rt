@@ -20,6 +20,7 @@ fn cause_name(cause: Cause) -> &'static str
         Cause::Rounds => "rounds",
         Cause::Whole => "whole",
         Cause::Number => "number",
+        Cause::Product => "product",
     }
 }
 
