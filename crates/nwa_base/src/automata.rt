@@ -205,6 +205,13 @@ impl Nwa {
         self.inside_ends(q, a).contains(&to)
     }
 
+    /// Whether an edge leads from `q` by the call letter `a` to `to`.
+    pub fn has_call(&self, q: u32, a: Letter, to: u32) -> bool
+        ensures { IsTrue result ↔ Member self.now.calls (q, a, to) }
+    {
+        self.call_ends(q, a).contains(&to)
+    }
+
     /// Whether an edge leads from `q` by the return `a` to `to`, where `p` was the state before the matching call.
     pub fn has_back(&self, q: u32, p: u32, a: Letter, to: u32) -> bool
         ensures { IsTrue result ↔ Member self.now.backs (q, p, a, to) }

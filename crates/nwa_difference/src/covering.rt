@@ -184,17 +184,10 @@ fn call_goes_on(
     let Some(end) = end_by(sides, edge.1) else {
         return false;
     };
-    if !has_call(second, cover, edge.1, end) {
+    if !second.has_call(cover, edge.1, end) {
         return false;
     }
     has_cover(first, second, covers, edge.2, end)
-}
-
-/// Whether an edge leads from a state by a call letter to another.
-fn has_call(nwa: &Nwa, state: u32, letter: Letter, end: u32) -> bool
-    ensures { IsTrue result → Member nwa.now.calls (state, letter, end) }
-{
-    nwa.call_ends(state, letter).contains(&end)
 }
 
 /// Whether the covers go on by returns.

@@ -22,13 +22,6 @@ fn preds_at(nodes: &[Spot], number: u32) -> &[u32]
     }
 }
 
-/// Whether a call edge leads from the source to the target.
-fn has_call(union: &Nwa, source: u32, letter: Letter, target: u32) -> bool
-    ensures { IsTrue result ↔ Member union.now.calls (source, letter, target) }
-{
-    union.call_ends(source, letter).contains(&target)
-}
-
 /// True, or the first of the predicates before an inside letter, from which an edge leads to the target.
 fn inside_source(union: &Nwa, before: &[u32], letter: Letter, target: u32) -> Option<u32>
     ensures { MatchOption result (Leads union.now.insides before.now letter target → ⊥) (λ q. Member union.now.insides (q, letter, target) × IsAmong before.now q) }
@@ -48,11 +41,11 @@ fn inside_source(union: &Nwa, before: &[u32], letter: Letter, target: u32) -> Op
 fn call_source(union: &Nwa, before: &[u32], letter: Letter, target: u32) -> Option<u32>
     ensures { MatchOption result (Leads union.now.calls before.now letter target → ⊥) (λ q. Member union.now.calls (q, letter, target) × IsAmong before.now q) }
 {
-    if has_call(union, 0, letter, target) {
+    if union.has_call(0, letter, target) {
         return Some(0);
     }
     for &source in before {
-        if has_call(union, source, letter, target) {
+        if union.has_call(source, letter, target) {
             return Some(source);
         }
     }

@@ -114,13 +114,6 @@ fn inside_is_sound(icfg: &Icfg, plan: &Plan<'_>, from: usize, id: u32, to: usize
     inside_is_shown(plan, id, from, &end.preds)
 }
 
-/// Whether a call edge leads from the place by the letter to the other.
-fn has_call(icfg: &Icfg, from: u32, letter: Letter, to: u32) -> bool
-    ensures { IsTrue result ↔ Member icfg.now.automaton.calls (from, letter, to) }
-{
-    icfg.nwa().call_ends(from, letter).contains(&to)
-}
-
 /// Whether a step by a call letter is sound.
 fn call_is_sound(icfg: &Icfg, plan: &Plan<'_>, from: usize, id: u32, to: usize) -> bool
     requires before { from < length plan.now.nodes }
@@ -133,7 +126,7 @@ fn call_is_sound(icfg: &Icfg, plan: &Plan<'_>, from: usize, id: u32, to: usize) 
         kind: Kind::Call,
         call: 0,
     };
-    if !has_call(icfg, before.place, letter, end.place) {
+    if !icfg.nwa().has_call(before.place, letter, end.place) {
         return false;
     }
     if end.entry != to {
