@@ -29,3 +29,4 @@ pub use conditions::paths;
 pub use conj::Conj;
 pub use equations::equal_to;
 pub use fault::JumpFault;
+pub use sums::later;

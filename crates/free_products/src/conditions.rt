@@ -14,9 +14,9 @@ ghost use Rattle.free_products.specs.Letters.{marked_letter};
 ghost use Rattle.free_products.specs.LetterView.{all_marked, exact_letter};
 
 use crate::freeing::{all_count, all_freed, freed, product_count};
-use crate::letters::{MarkedConj, later, letters};
+use crate::letters::{MarkedConj, letters};
 use boogie_tree::{Column, Text, Ty, VarInfo};
-use cond_jumps::{Conj, JumpFault, assign, paths};
+use cond_jumps::{Conj, JumpFault, assign, later, paths};
 use letter_acts::Frame;
 use std::alloc::{AllocError, Global};
 use typed_tree::TExpr;

@@ -9,8 +9,8 @@ ghost use Rattle.typed_tree.specs.Scope.{is_constant_column};
 ghost use Rattle.free_products.specs.FreeProducts.{is_free, free_products, stand_in, all_free_products};
 ghost use Rattle.free_products.specs.FreedView.{IsFreed, AreFreed};
 
-use crate::letters::later;
 use boogie_tree::{Column, Op, Span, VarInfo};
+use cond_jumps::later;
 use std::alloc::{AllocError, Global};
 use typed_tree::{AffineFault, TExpr, TExprKind, has_constant_form};
 

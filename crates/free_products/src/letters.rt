@@ -8,7 +8,7 @@ ghost use Rattle.free_products.specs.Letters.{product_of, plain_rows, is_exact, 
 ghost use Rattle.free_products.specs.LetterView.{IsSpanOf, seen, marked, all_marked, tabulated, numbered, placed, placed_terms, placed_row};
 
 use crate::ties::{ProductSpan, is_exact, left_out, names_product, products_of};
-use cond_jumps::Conj;
+use cond_jumps::{Conj, later};
 use lin_rows::{Row, RowFault, row};
 use std::alloc::{AllocError, Global};
 
@@ -17,16 +17,6 @@ use std::alloc::{AllocError, Global};
 pub struct MarkedConj {
     pub conj: Conj,
     pub coarse: bool,
-}
-
-/// `a + b` as the number of a column, or of columns; more of them than have numbers are more than memory holds.
-pub fn later(a: u32, b: u32) -> Result<u32, AllocError>
-    ensures { IfOk result (λ n. n ≡ a + b) }
-{
-    let Some(sum) = a.checked_add(b) else {
-        return Err(AllocError);
-    };
-    Ok(sum)
 }
 
 /// The numbers of the columns among those that stay, and behind them the number of the next.
