@@ -1,26 +1,25 @@
 -- The parts of expressions, and where a rule is broken.
-use Rattle.std.proofs.Common.{◌≡◌, ◌⊎◌, inl, inr, Bool, true, false, ◌&&◌, ◌||◌, ℤ, negsuc, Option, None, Some, Result, Ok, Err, Box, refl, ap, sym, ◌∙◌, subst}
+use Rattle.std.proofs.Common.{◌≡◌, inl, inr, Bool, true, false, ◌&&◌, ℤ, negsuc, Option, None, Some, Result, Ok, Err, Box, refl, ap, sym, ◌∙◌, subst}
 use Rattle.std.specs.List.{list_all}
 use Rattle.std.specs.Option.{option_map}
 use Rattle.std.specs.declared.alloc.Global.{Global}
 use Rattle.std.proofs.lemmas.Bool.{and_from, not-false, true≢false}
 use Rattle.boogie_tree.specs.declared.span.Span.{Span}
-use Rattle.boogie_tree.specs.declared.tree.Column.{Column}
-use Rattle.boogie_tree.specs.declared.tree.Ty.{Ty}
 use Rattle.boogie_tree.specs.declared.tree.Ty.TheVariants as types
 use Rattle.boogie_tree.specs.declared.tree.Op.{Op}
 use Rattle.boogie_tree.specs.declared.tree.Op.TheVariants.{Iff, Implies, And, Or, Eq, Ne, Lt, Le, Gt, Ge, Add, Sub, Mul, Div, Mod}
 use Rattle.typed_tree.specs.declared.fault.TypeFault.{TypeFault}
 use Rattle.typed_tree.specs.declared.fault.TypeFault.TheVariants as fault
 use Rattle.typed_tree.specs.declared.typing.Part.{Part}
-use Rattle.typed_tree.specs.TypedTree.{TypedExpression, Lit, Truth, Var, Old, Not, Neg, Bin}
-use Rattle.typed_tree.specs.Scope.{Scope, variable_at, fixed}
-use Rattle.typed_tree.specs.Typing.{type_of, operation_type, only}
-use Rattle.typed_tree.specs.AffineForm.{Form, form, is_linear, is_linear_operation, forms_fit, form_fits, fits, is_constant, form_is_zero, divisor_of, is_divisor, form_times, operation}
-use Rattle.typed_tree.specs.BrokenRules.{IsBroken, in_old, in_not, in_neg, in_left, in_right, unseen, misplaced, no_truth, no_number, ill_typed, zero_divisor, no_literal, no_factor, big_literal, big_opposite, big_operation, IsFault, is_division}
+use Rattle.typed_tree.specs.TypedTree.{TypedExpression, Old, Not, Neg, Bin}
+use Rattle.typed_tree.specs.Scope.{Scope, fixed}
+use Rattle.typed_tree.specs.Typing.{operation_type}
+use Rattle.typed_tree.specs.AffineForm.{Form, form, forms_fit, form_fits, fits, form_is_zero, divisor_of, is_divisor, form_times, operation}
+use Rattle.typed_tree.specs.Divided.{is_divided, is_divided_operation}
+use Rattle.typed_tree.specs.BrokenRules.{IsBroken, in_old, in_not, in_neg, in_left, in_right, no_truth, no_number, ill_typed, zero_divisor, no_literal, big_opposite, big_operation, IsFault, is_division}
 use Rattle.typed_tree.specs.FormOrder.{terms_fit}
 use Rattle.typed_tree.specs.FormView.{form_of, IsPart, IsPartFault, IsAnswer}
-use Rattle.typed_tree.specs.BrokenOperation.{keeps_operator, operator_fault, divisor_fault, zero_literal}
+use Rattle.typed_tree.specs.BrokenOperation.{divisor_fault, zero_literal}
 
 -- ---- faults of operands
 
@@ -47,32 +46,10 @@ right_fault s old at op a b f (inr h) = inr (in_right old at op a b f h)
 -- ---- `old`
 
 pub old_answer : (s : Scope) (old : Bool) (at : Span) (e : TypedExpression) (r : Result (Box Part Global) TypeFault) → s.old ≡ true → IsAnswer s true e r → IsAnswer s old (Old at e) r
-old_answer s old at e (Ok p) h a = record { typed = rw h a.typed; linear = a.linear; fit = a.fit; seen = a.seen }
+old_answer s old at e (Ok p) h a = record { typed = rw h a.typed; divided = a.divided; fit = a.fit; seen = a.seen }
 old_answer s old at e (Err f) h a = old_fault s old at e f a
 
 -- ---- operations
-
-same_rule : (s : Scope) (old : Bool) (op : Op) (a b : TypedExpression) → is_linear_operation (fixed s) old op a b ≡ keeps_operator op (form (fixed s) old a) (form (fixed s) old b) b
-same_rule s old Iff a b = refl
-same_rule s old Implies a b = refl
-same_rule s old And a b = refl
-same_rule s old Or a b = refl
-same_rule s old Eq a b = refl
-same_rule s old Ne a b = refl
-same_rule s old Lt a b = refl
-same_rule s old Le a b = refl
-same_rule s old Gt a b = refl
-same_rule s old Ge a b = refl
-same_rule s old Add a b = refl
-same_rule s old Sub a b = refl
-same_rule s old Mul a b = refl
-same_rule s old Div a b = refl
-same_rule s old Mod a b = refl
-
--- the forms of the operands in place of what the code has
-rule_of_parts : (s : Scope) (old : Bool) (op : Op) (a b : TypedExpression) (p q : Part) (z : Bool) → IsPart s old a p → IsPart s old b q →
-    keeps_operator op (form_of p.form) (form_of q.form) b ≡ z → keeps_operator op (form (fixed s) old a) (form (fixed s) old b) b ≡ z
-rule_of_parts s old op a b p q z h k e = rw (← h.seen, ← k.seen) e
 
 form_of_parts : (s : Scope) (old : Bool) (op : Op) (a b : TypedExpression) (p q : Part) → IsPart s old a p → IsPart s old b q →
     operation op (form_of p.form) (form_of q.form) ≡ operation op (form (fixed s) old a) (form (fixed s) old b)
@@ -82,14 +59,13 @@ part_fits : (p : Part) → form_fits (form_of p.form) ≡ true
 part_fits p = and_from (terms_fit p.form.terms.items) (list_all fits p.form.quotients.items && fits p.form.constant) p.form.terms_fit (and_from (list_all fits p.form.quotients.items) (fits p.form.constant) p.form.quotients_fit p.form.constant_fits)
 
 pub operation_part : (s : Scope) (old : Bool) (at : Span) (op : Op) (a b : TypedExpression) (p q r : Part) → IsPart s old a p → IsPart s old b q →
-    operation_type op p.ty q.ty ≡ Some r.ty → keeps_operator op (form_of p.form) (form_of q.form) b ≡ true → form_of r.form ≡ operation op (form_of p.form) (form_of q.form) →
+    operation_type op p.ty q.ty ≡ Some r.ty → is_divided_operation op b ≡ true → form_of r.form ≡ operation op (form_of p.form) (form_of q.form) →
     IsPart s old (Bin at op a b) r
 operation_part s old at op a b p q r h k t l e =
     let g : form_of r.form ≡ operation op (form (fixed s) old a) (form (fixed s) old b) = e ∙ form_of_parts s old op a b p q h k in
     record {
       typed = rw (h.typed, k.typed) t;
-      linear = and_from (is_linear (fixed s) old a) (is_linear (fixed s) old b && is_linear_operation (fixed s) old op a b) h.linear
-          (and_from (is_linear (fixed s) old b) (is_linear_operation (fixed s) old op a b) k.linear (same_rule s old op a b ∙ rule_of_parts s old op a b p q true h k l));
+      divided = and_from (is_divided a) (is_divided b && is_divided_operation op b) h.divided (and_from (is_divided b) (is_divided_operation op b) k.divided l);
       fit = and_from (forms_fit (fixed s) old a) (forms_fit (fixed s) old b && form_fits (operation op (form (fixed s) old a) (form (fixed s) old b))) h.fit
           (and_from (forms_fit (fixed s) old b) (form_fits (operation op (form (fixed s) old a) (form (fixed s) old b))) k.fit (ap form_fits (sym g) ∙ part_fits r));
       seen = g;
@@ -103,18 +79,13 @@ pub operation_big : (s : Scope) (old : Bool) (at : Span) (op : Op) (a b : TypedE
     form_fits (operation op (form_of p.form) (form_of q.form)) ≡ false → IsPartFault s old (Bin at op a b) (fault.TooBig at)
 operation_big s old at op a b p q h k e = inr (big_operation old at op a b (ap form_fits (sym (form_of_parts s old op a b p q h k)) ∙ e))
 
-or_parts : (x y : Bool) → (x || y) ≡ false → (x ≡ false) × (y ≡ false)
-or_parts true y e = absurd (cc)
-or_parts false y e = (refl, e)
-
 division_broken : (s : Scope) (old : Bool) (at : Span) (op : Op) (a b : TypedExpression) (o : Option ℤ) → is_division op ≡ true → divisor_of b ≡ o → is_divisor o ≡ false →
     IsBroken s old (Bin at op a b) (divisor_fault (option_map form_is_zero o) b)
 division_broken s old at op a b None d e h = no_literal old at op a b d e
 division_broken s old at op a b (Some k) d e h = zero_divisor old at op a b k d e (not-false (form_is_zero k) h)
 
-operator_broken : (s : Scope) (old : Bool) (at : Span) (op : Op) (a b : TypedExpression) → keeps_operator op (form (fixed s) old a) (form (fixed s) old b) b ≡ false →
-    IsBroken s old (Bin at op a b) (operator_fault op at b)
-operator_broken s old at Mul a b h = let p = or_parts (is_constant (form (fixed s) old a)) (is_constant (form (fixed s) old b)) h in no_factor old at a b p.0 p.1
+operator_broken : (s : Scope) (old : Bool) (at : Span) (op : Op) (a b : TypedExpression) → is_divided_operation op b ≡ false →
+    IsBroken s old (Bin at op a b) (divisor_fault (zero_literal b) b)
 operator_broken s old at Div a b h = division_broken s old at Div a b (divisor_of b) refl refl h
 operator_broken s old at Mod a b h = division_broken s old at Mod a b (divisor_of b) refl refl h
 operator_broken s old at Iff a b h = absurd (true≢false h)
@@ -129,11 +100,11 @@ operator_broken s old at Gt a b h = absurd (true≢false h)
 operator_broken s old at Ge a b h = absurd (true≢false h)
 operator_broken s old at Add a b h = absurd (true≢false h)
 operator_broken s old at Sub a b h = absurd (true≢false h)
+operator_broken s old at Mul a b h = absurd (true≢false h)
 
-pub rule_broken : (s : Scope) (old : Bool) (at : Span) (op : Op) (a b : TypedExpression) (p q : Part) (f : TypeFault) → IsPart s old a p → IsPart s old b q →
-    keeps_operator op (form_of p.form) (form_of q.form) b ≡ false → f ≡ operator_fault op at b → IsPartFault s old (Bin at op a b) f
-rule_broken s old at op a b p q f h k e g =
-    inr (subst (IsBroken s old (Bin at op a b)) (sym g) (operator_broken s old at op a b (rule_of_parts s old op a b p q false h k e)))
+pub rule_broken : (s : Scope) (old : Bool) (at : Span) (op : Op) (a b : TypedExpression) (f : TypeFault) →
+    is_divided_operation op b ≡ false → f ≡ divisor_fault (zero_literal b) b → IsPartFault s old (Bin at op a b) f
+rule_broken s old at op a b f e g = inr (subst (IsBroken s old (Bin at op a b)) (sym g) (operator_broken s old at op a b e))
 
 -- ---- `!` and `-`
 
@@ -145,7 +116,7 @@ no_number_part s old at e p h t = inr (no_number old at e (h.typed ∙ ap Some t
 
 pub negation_part : (s : Scope) (old : Bool) (at : Span) (e : TypedExpression) (p r : Part) → IsPart s old e p → p.ty ≡ types.Bool → r.ty ≡ types.Bool →
     form_of r.form ≡ form (fixed s) old (Not at e) → IsPart s old (Not at e) r
-negation_part s old at e p r h t u f = record { typed = rw (h.typed, t, u) refl; linear = h.linear; fit = h.fit; seen = f }
+negation_part s old at e p r h t u f = record { typed = rw (h.typed, t, u) refl; divided = h.divided; fit = h.fit; seen = f }
 
 pub opposite_part : (s : Scope) (old : Bool) (at : Span) (e : TypedExpression) (p r : Part) → IsPart s old e p → p.ty ≡ types.Int → r.ty ≡ types.Int →
     form_of r.form ≡ form_times (negsuc 0) (form_of p.form) → IsPart s old (Neg at e) r
@@ -153,7 +124,7 @@ opposite_part s old at e p r h t u f =
     let g : form_of r.form ≡ form_times (negsuc 0) (form (fixed s) old e) = f ∙ ap (form_times (negsuc 0)) h.seen in
     record {
       typed = rw (h.typed, t, u) refl;
-      linear = h.linear;
+      divided = h.divided;
       fit = and_from (forms_fit (fixed s) old e) (form_fits (form_times (negsuc 0) (form (fixed s) old e))) h.fit (ap form_fits (sym g) ∙ part_fits r);
       seen = g;
     }

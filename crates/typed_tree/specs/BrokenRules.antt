@@ -1,9 +1,8 @@
 -- Which typing rule an expression breaks, and where.
-use Rattle.std.specs.Prelude.{◌≡◌, ℤ, Bool, true, false, Option, None, Some}
-use Rattle.std.specs.Option.{is_none}
+use Rattle.std.specs.Prelude.{◌≡◌, ℤ, Bool, true, false, None, Some}
 use Rattle.boogie_tree.specs.declared.span.Span.{Span}
 use Rattle.boogie_tree.specs.declared.tree.Op.{Op}
-use Rattle.boogie_tree.specs.declared.tree.Op.TheVariants.{Mul, Div, Mod}
+use Rattle.boogie_tree.specs.declared.tree.Op.TheVariants.{Div, Mod}
 use Rattle.boogie_tree.specs.declared.tree.Ty.{Ty}
 use Rattle.boogie_tree.specs.declared.tree.Ty.TheVariants as types
 use Rattle.boogie_tree.specs.declared.tree.Column.{Column}
@@ -11,8 +10,8 @@ use Rattle.typed_tree.specs.declared.fault.TypeFault.{TypeFault}
 use Rattle.typed_tree.specs.declared.fault.TypeFault.TheVariants as fault
 use Rattle.typed_tree.specs.TypedTree.{TypedExpression, Lit, Truth, Var, Old, Not, Neg, Bin}
 use Rattle.typed_tree.specs.Scope.{Scope, variable_at, fixed}
-use Rattle.typed_tree.specs.Typing.{type_of, same_type, operation_type}
-use Rattle.typed_tree.specs.AffineForm.{form, form_fits, is_constant, divisor_of, form_is_zero, fits}
+use Rattle.typed_tree.specs.Typing.{type_of, operation_type}
+use Rattle.typed_tree.specs.AffineForm.{form, form_fits, divisor_of, form_is_zero, fits}
 
 -- where an expression stands
 abbrev pub expression_span : TypedExpression → Span
@@ -48,8 +47,6 @@ pub data IsBroken (s : Scope) : Bool → TypedExpression → TypeFault → Type 
   -- divisors that are 0, or no literal
   zero_divisor : (old : Bool) (at : Span) (op : Op) (a b : TypedExpression) (k : ℤ) → is_division op ≡ true → divisor_of b ≡ Some k → form_is_zero k ≡ true → IsBroken s old (Bin at op a b) (fault.ZeroDivisor (expression_span b))
   no_literal : (old : Bool) (at : Span) (op : Op) (a b : TypedExpression) → is_division op ≡ true → divisor_of b ≡ None → IsBroken s old (Bin at op a b) (fault.NonLinear (expression_span b))
-  -- a product without a constant factor
-  no_factor : (old : Bool) (at : Span) (a b : TypedExpression) → is_constant (form (fixed s) old a) ≡ false → is_constant (form (fixed s) old b) ≡ false → IsBroken s old (Bin at Mul a b) (fault.NonLinear at)
   -- a form with a number that does not fit
   big_literal : (old : Bool) (at : Span) (n : ℤ) → fits n ≡ false → IsBroken s old (Lit at n) (fault.TooBig at)
   big_opposite : (old : Bool) (at : Span) (e : TypedExpression) → form_fits (form (fixed s) old (Neg at e)) ≡ false → IsBroken s old (Neg at e) (fault.TooBig at)

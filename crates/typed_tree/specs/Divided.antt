@@ -2,7 +2,7 @@
 use Rattle.std.specs.Prelude.{Bool, true, ◌&&◌}
 use Rattle.boogie_tree.specs.declared.tree.Op.{Op}
 use Rattle.boogie_tree.specs.declared.tree.Op.TheVariants.{Div, Mod}
-use Rattle.typed_tree.specs.TypedTree.{TypedExpression, Lit, Truth, Var, Old, Not, Neg, Bin}
+use Rattle.typed_tree.specs.TypedTree.{TypedExpression, Old, Not, Neg, Bin}
 use Rattle.typed_tree.specs.AffineForm.{divisor_of, is_divisor}
 
 -- a divisor is a literal other than 0

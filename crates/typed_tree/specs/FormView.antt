@@ -14,7 +14,8 @@ use Rattle.boogie_tree.specs.declared.tree.Op.{Op}
 use Rattle.typed_tree.specs.TypedTree.{TypedExpression, Not, Neg, Bin}
 use Rattle.typed_tree.specs.Scope.{Scope, fixed}
 use Rattle.typed_tree.specs.Typing.{type_of}
-use Rattle.typed_tree.specs.AffineForm.{Form, form, is_linear, forms_fit}
+use Rattle.typed_tree.specs.AffineForm.{Form, form, forms_fit}
+use Rattle.typed_tree.specs.Divided.{is_divided}
 use Rattle.typed_tree.specs.BrokenRules.{IsBroken}
 
 abbrev pub form_of : code.Form → Form
@@ -23,7 +24,7 @@ form_of a = record { terms = a.terms.items; quotients = a.quotients.items; const
 -- the type and the form of an expression that keeps the rules
 pub record IsPart (s : Scope) (old : Bool) (e : TypedExpression) (p : Part) : Type 0 where
   pub typed : type_of s e ≡ Some p.ty
-  pub linear : is_linear (fixed s) old e ≡ true
+  pub divided : is_divided e ≡ true
   pub fit : forms_fit (fixed s) old e ≡ true
   pub seen : form_of p.form ≡ form (fixed s) old e
 

@@ -6,11 +6,12 @@ use Rattle.boogie_tree.specs.declared.tree.Column.{Column}
 use Rattle.typed_tree.specs.TypedTree.{TypedExpression}
 use Rattle.typed_tree.specs.Scope.{Scope, fixed}
 use Rattle.typed_tree.specs.Typing.{type_of, has_type}
-use Rattle.typed_tree.specs.AffineForm.{is_linear, forms_fit}
+use Rattle.typed_tree.specs.AffineForm.{forms_fit}
+use Rattle.typed_tree.specs.Divided.{is_divided}
 
--- its operators keep their rule, and the form of each part fits
+-- its divisors are literals other than 0, and the form of each part fits
 abbrev pub is_arithmetic : (Column → Bool) → Bool → TypedExpression → Bool
-is_arithmetic fixed old e = is_linear fixed old e && forms_fit fixed old e
+is_arithmetic fixed old e = is_divided e && forms_fit fixed old e
 
 -- the expression has a type, read at the procedure's entry or now, and keeps the rules of arithmetic
 abbrev pub keeps_rules : Scope → Bool → TypedExpression → Bool

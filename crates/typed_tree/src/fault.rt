@@ -28,7 +28,7 @@ pub enum TypeFault {
     /// A divisor that is 0.
     #[error("the divisor is 0")]
     ZeroDivisor(Span),
-    /// A divisor that is no literal, or a product of two factors that are both not constant.
+    /// A divisor that is no literal.
     #[error("not linear")]
     NonLinear(Span),
     /// A goto or break to a place that it cannot reach.

@@ -10,7 +10,8 @@ ghost use Rattle.typed_tree.specs.KeptRules.{is_arithmetic, keeps_rules};
 ghost use Rattle.typed_tree.specs.BrokenRules.{IsFault};
 ghost use Rattle.typed_tree.specs.FormView.{form_of, IsAnswer, IsNotAnswer, IsNegAnswer, IsOperationAnswer};
 ghost use Rattle.typed_tree.specs.AffineForm.{divisor_of, is_divisor};
-ghost use Rattle.typed_tree.specs.BrokenOperation.{zero_literal, keeps_operator, divisor_fault, operator_fault};
+ghost use Rattle.typed_tree.specs.Divided.{is_divided_operation};
+ghost use Rattle.typed_tree.specs.BrokenOperation.{zero_literal, divisor_fault};
 
 use crate::columns::form_column;
 use crate::fault::{AffineFault, TypeFault};
@@ -28,8 +29,8 @@ struct Part {
     form: Form,
 }
 
-/// The type of an expression that keeps the rules: operands first, then the types of the operation, its divisor or
-/// factors, and the numbers of its form.
+/// The type of an expression that keeps the rules: operands first, then the types of the operation, its divisor,
+/// and the numbers of its form.
 pub fn expression_type(alloc: Global, scope: &Scope<'_>, expr: &TExpr) -> Result<Ty, TypeFault>
     ensures found { IfOk result (λ t. type_of (seen scope.now) (expression expr.now) ≡ Some t) }
     ensures kept { IsOk result → is_arithmetic (fixed (seen scope.now)) false (expression expr.now) ≡ true }
@@ -197,7 +198,7 @@ fn operated(
     let Some(ty) = operation_type(op, first.ty, second.ty) else {
         return Err(TypeFault::Mismatch(at));
     };
-    check_operator(op, at, &first.form, &second.form, right)?;
+    check_operator(op, right)?;
     match operation(alloc, op, &first.form, &second.form) {
         Ok(form) => Ok(boxed_part(alloc, ty, form)?),
         Err(AffineFault::TooBig) => Err(TypeFault::TooBig(at)),
@@ -256,22 +257,14 @@ fn result_type(op: Op) -> Ty
     }
 }
 
-/// The rule of an operator at that place: a divisor is a literal other than 0, and one factor of a product is constant.
-fn check_operator(
-    op: Op,
-    at: Span,
-    first: &Form,
-    second: &Form,
-    divisor: &TExpr,
-) -> Result<(), TypeFault>
-    ensures kept { IsOk result → keeps_operator op (form_of first.now) (form_of second.now) (expression divisor.now) ≡ true }
-    ensures broken { IsErr result → keeps_operator op (form_of first.now) (form_of second.now) (expression divisor.now) ≡ false }
-    ensures fault { IfErr result (λ f. f ≡ operator_fault op at (expression divisor.now)) }
+/// The rule of an operator with that second operand: a divisor is a literal other than 0.
+fn check_operator(op: Op, right: &TExpr) -> Result<(), TypeFault>
+    ensures kept { IsOk result → is_divided_operation op (expression right.now) ≡ true }
+    ensures broken { IsErr result → is_divided_operation op (expression right.now) ≡ false }
+    ensures fault { IfErr result (λ f. f ≡ divisor_fault (zero_literal (expression right.now)) (expression right.now)) }
 {
     match op {
-        Op::Mul if first.is_constant() || second.is_constant() => Ok(()),
-        Op::Mul => Err(TypeFault::NonLinear(at)),
-        Op::Div | Op::Mod => check_divisor(divisor),
+        Op::Div | Op::Mod => check_divisor(right),
         _ => Ok(()),
     }
 }

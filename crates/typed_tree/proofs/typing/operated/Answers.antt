@@ -12,7 +12,7 @@ pub returns-in_err-check_operator : goal.returns-in_err-check_operator
 returns-in_err-check_operator c = λ s old a h k.
     let p = err_from_is_err_and c.from_residual.result c.from_residual.ensures.1 in
     rw (p.1, p.2)
-    (rule_broken s old c.args.at c.args.op a (expression c.args.right.now) c.args.first.now c.args.second.now c.in_err-check_operator.field-0.0 h k
+    (rule_broken s old c.args.at c.args.op a (expression c.args.right.now) c.in_err-check_operator.field-0.0
     (c.in_err-check_operator.ensures.broken refl) c.in_err-check_operator.ensures.fault)
 
 pub returns-in-Err-TooBig : goal.returns-in-Err-TooBig
