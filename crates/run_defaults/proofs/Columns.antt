@@ -11,7 +11,8 @@ use Rattle.boogie_tree.specs.declared.tree.Op.TheVariants.{Div, Mod}
 use Rattle.boogie_tree.specs.declared.tree.Column.{Column}
 use Rattle.boogie_tree.specs.declared.tree.Column.TheVariants as columns
 use Rattle.boogie_tree.specs.declared.tree.VarInfo.{VarInfo}
-use Rattle.typed_tree.specs.AffineForm.{divisor_of, is_divisor, is_linear_operation, is_linear, forms_fit}
+use Rattle.typed_tree.specs.AffineForm.{divisor_of, is_divisor, forms_fit}
+use Rattle.typed_tree.specs.Divided.{is_divided, is_divided_operation}
 use Rattle.typed_tree.specs.KeptRules.{is_arithmetic, is_right}
 use Rattle.typed_tree.specs.Scope.{Scope, unless_hidden, variable_at, fixed}
 use Rattle.typed_tree.specs.TypedTree.{TypedExpression, Lit, Truth, Var, Old, Not, Neg, Bin}
@@ -121,25 +122,25 @@ seen_column s (columns.Global n) v h =
 seen_column s (columns.Old n) v h = none-some v h
 seen_column s (columns.Local n) v h = slice_get_within s.locals n v h
 
-divides_by : (fix : Column → Bool) (old : Bool) (op : Op) (a b : TypedExpression) → is_linear_operation fix old op a b ≡ true → DividesBy op b
-divides_by fix old Div a b h = h
-divides_by fix old Mod a b h = h
-divides_by fix old op a b h = tt
+divides_by : (op : Op) (b : TypedExpression) → is_divided_operation op b ≡ true → DividesBy op b
+divides_by Div b h = h
+divides_by Mod b h = h
+divides_by op b h = tt
 
-typed_reads : (s : Scope) (fix : Column → Bool) (old : Bool) (ty : Ty) (e : TypedExpression) → type_of s e ≡ Some ty → is_linear fix old e ≡ true → ReadsIn (length s.globals) (length s.locals) e
-typed_reads s fix old ty (Lit at n) h k = tt
-typed_reads s fix old ty (Truth at b) h k = tt
-typed_reads s fix old ty (Var at c) h k =
+typed_reads : (s : Scope) (ty : Ty) (e : TypedExpression) → type_of s e ≡ Some ty → is_divided e ≡ true → ReadsIn (length s.globals) (length s.locals) e
+typed_reads s ty (Lit at n) h k = tt
+typed_reads s ty (Truth at b) h k = tt
+typed_reads s ty (Var at c) h k =
     let v = mapped_some (λ (w : VarInfo). w.ty) (variable_at s c) ty h in seen_column s c v.0 v.1
-typed_reads s fix old ty (Old at e) h k = typed_reads s fix true ty e (if_some s.old (type_of s e) ty h) k
-typed_reads s fix old ty (Not at e) h k = let u = then_some (only types.Bool) (type_of s e) ty h in typed_reads s fix old u.0 e u.1 k
-typed_reads s fix old ty (Neg at e) h k = let u = then_some (only types.Int) (type_of s e) ty h in typed_reads s fix old u.0 e u.1 k
-typed_reads s fix old ty (Bin at op a b) h k =
+typed_reads s ty (Old at e) h k = typed_reads s ty e (if_some s.old (type_of s e) ty h) k
+typed_reads s ty (Not at e) h k = let u = then_some (only types.Bool) (type_of s e) ty h in typed_reads s u.0 e u.1 k
+typed_reads s ty (Neg at e) h k = let u = then_some (only types.Int) (type_of s e) ty h in typed_reads s u.0 e u.1 k
+typed_reads s ty (Bin at op a b) h k =
     let u = then_some (λ (r : Ty). option_and_then (operation_type op r) (type_of s b)) (type_of s a) ty h in
     let w = then_some (operation_type op u.0) (type_of s b) ty u.2 in
-    let first = and_parts (is_linear fix old a) (is_linear fix old b && is_linear_operation fix old op a b) k in
-    let second = and_parts (is_linear fix old b) (is_linear_operation fix old op a b) first.1 in
-    (typed_reads s fix old u.0 a u.1 first.0, typed_reads s fix old w.0 b w.1 second.0, divides_by fix old op a b second.1)
+    let first = and_parts (is_divided a) (is_divided b && is_divided_operation op b) k in
+    let second = and_parts (is_divided b) (is_divided_operation op b) first.1 in
+    (typed_reads s u.0 a u.1 first.0, typed_reads s w.0 b w.1 second.0, divides_by op b second.1)
 
 some_type : (wanted : Ty) (o : Option Ty) → is_some_of wanted o ≡ true → (ty : Ty) × (o ≡ Some ty)
 some_type wanted None h = absurd (false≢true h)
@@ -150,7 +151,7 @@ pub right_reads : (s : Scope) (ty : Ty) (e : TypedExpression) → is_right s ty 
 right_reads s ty e h =
     let parts = and_parts (has_type s ty e) (is_arithmetic (fixed s) false e) h in
     let found = some_type ty (type_of s e) parts.0 in
-    typed_reads s (fixed s) false found.0 e found.1 (and_parts (is_linear (fixed s) false e) (forms_fit (fixed s) false e) parts.1).0
+    typed_reads s found.0 e found.1 (and_parts (is_divided e) (forms_fit (fixed s) false e) parts.1).0
 
 -- what may be written
 pub writable_column : (k : Context) (c : Column) → is_writable k c ≡ true → ColumnIn (length k.scope.globals) (length k.scope.locals) c
