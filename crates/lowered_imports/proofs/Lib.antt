@@ -5,7 +5,6 @@ pub mod ValidParts
 pub mod RightPoints
 pub mod KnownActions
 pub mod PointLaws
-pub mod PlainActions
 pub mod Followed
 pub mod ToldEnsures
 pub mod ImportLists

@@ -10,24 +10,23 @@ use Rattle.boogie_tree.specs.declared.tree.Column.{Column}
 use Rattle.boogie_tree.specs.declared.tree.Column.TheVariants as columns
 use Rattle.boogie_tree.specs.declared.tree.VarInfo.{VarInfo}
 use Rattle.typed_tree.specs.TypedTree.{TypedExpression, Lit, Truth, Var, Old, Not, Neg, Bin, TypedProcedure, TypedProgram}
-use Rattle.typed_tree.specs.Scope.{Scope, unless_hidden, variable_at, is_constant_variable, fixed}
+use Rattle.typed_tree.specs.Scope.{Scope, unless_hidden, variable_at, fixed}
 use Rattle.typed_tree.specs.Typing.{same_type, is_some_of, only, operation_type, type_of, has_type}
-use Rattle.typed_tree.specs.AffineForm.{read_at, is_linear, forms_fit}
+use Rattle.typed_tree.specs.AffineForm.{read_at, forms_fit}
 use Rattle.typed_tree.specs.Divided.{is_divided}
 use Rattle.typed_tree.specs.KeptRules.{is_arithmetic, is_right}
 use Rattle.letter_acts.specs.Frames.{Columns, added, globals_from, old_columns, locals_from}
-use Rattle.cond_jumps.specs.Frames.{place_from, column_place_in, if_constant, or_else, is_constant_place, fixed_in, frame_environment}
+use Rattle.cond_jumps.specs.Frames.{place_from, column_place_in, if_constant, or_else, frame_environment}
 use Rattle.cond_jumps.specs.Environments.{Environment, type_in}
 use Rattle.cond_jumps.specs.Passing.{Numbered, Passed, standing_type, standing_environment, passed, left_in, passed_locals}
 use Rattle.cond_jumps.proofs.TypeLemmas.{only_is}
 use Rattle.boogie_run.specs.Needs.{locals_at}
 use Rattle.lowered_steps.specs.ProgramFrames.{frame_at}
 use Rattle.lowered_steps.specs.Edges.{found_from, those_in, import_written, typed_column, left_if, results_at, numbers_in}
-use Rattle.lowered_steps.proofs.TruthValues.{linear_is_divided}
 use Rattle.lowered_imports.specs.Imports.{ensures_environment}
 use Rattle.lowered_steps.specs.Moves.{AreArguments, AreTargets}
 use Rattle.typing_rules.specs.Rules.{results_of}
-use Rattle.lowered_steps.proofs.Places.{global_place, no_global_place, local_place}
+use Rattle.lowered_steps.proofs.Places.{global_place, local_place}
 
 -- what stands for the columns has the types of the variables that are seen, now and at the entry
 pub record Sees (s : Scope) (v : Environment) : Type 0 where
@@ -94,18 +93,12 @@ some_type : (wanted : Ty) (o : Option Ty) → is_some_of wanted o ≡ true → o
 some_type wanted None h = absurd (false≢true h)
 some_type wanted (Some found) h = ap Some (sym (same_types wanted found h))
 
--- an expression that is right is typed there, and its operators keep their rules
+-- an expression that is right is typed there, and its divisors keep their rule
 pub right_typed : (s : Scope) (v : Environment) (ty : Ty) (e : TypedExpression) → Sees s v → is_right s ty e ≡ true → type_in v false e ≡ Some ty
 right_typed s v ty e h r = typed_in s v h false e ty (some_type ty (type_of s e) (and_parts (has_type s ty e) (is_arithmetic (fixed s) false e) r).0)
 
-pub right_linear : (s : Scope) (frame : Columns) (ty : Ty) (e : TypedExpression) → fixed s ≡ fixed_in frame → is_right s ty e ≡ true → is_linear (fixed_in frame) false e ≡ true
-right_linear s frame ty e same r =
-    subst (λ (f : Column → Bool). is_linear f false e ≡ true) same
-    (and_parts (is_linear (fixed s) false e) (forms_fit (fixed s) false e) (and_parts (has_type s ty e) (is_arithmetic (fixed s) false e) r).1).0
-
 pub right_divided : (s : Scope) (ty : Ty) (e : TypedExpression) → is_right s ty e ≡ true → is_divided e ≡ true
-right_divided s ty e r =
-    linear_is_divided (fixed s) false e (and_parts (is_linear (fixed s) false e) (forms_fit (fixed s) false e) (and_parts (has_type s ty e) (is_arithmetic (fixed s) false e) r).1).0
+right_divided s ty e r = (and_parts (is_divided e) (forms_fit (fixed s) false e) (and_parts (has_type s ty e) (is_arithmetic (fixed s) false e) r).1).0
 
 -- ---- the place of an old value
 
@@ -224,19 +217,6 @@ pub record IsScope (t : TypedProgram) (ls : List VarInfo) (s : Scope) : Type 0 w
 
 global_seen : (t : TypedProgram) (ls : List VarInfo) (s : Scope) (g : ℕ) (x : VarInfo) → IsScope t ls s → variable_at s (columns.Global g) ≡ Some x → slice_get t.globals g ≡ Some x
 global_seen t ls s g x i h = ap (λ (vs : List VarInfo). slice_get vs g) (sym i.globals) ∙ unhidden s.variables (slice_get s.globals g) x h
-
--- the constants are those of the frames
-pub same_constants : (t : TypedProgram) (n : ℕ) (ls : List VarInfo) (s : Scope) → IsScope t ls s → fixed s ≡ fixed_in (frame_at t n)
-same_constants t n ls s i = λ d c. of_column c d
-  where
-    of_variable : (g : ℕ) (o : Option VarInfo) → slice_get t.globals g ≡ o → is_constant_variable o ≡ is_constant_place (place_from 0 (frame_at t n) (columns.Global g))
-    of_variable g None e = sym (ap is_constant_place (no_global_place t n g e))
-    of_variable g (Some v) e = sym (ap is_constant_place (global_place t n g v e))
-
-    of_column : (c : Column) → fixed s c ≡ fixed_in (frame_at t n) c
-    of_column (columns.Global g) = ap (λ (vs : List VarInfo). is_constant_variable (slice_get vs g)) i.globals ∙ of_variable g (slice_get t.globals g) refl
-    of_column (columns.Old g) = refl
-    of_column (columns.Local l) = refl
 
 pub frame_sees : (t : TypedProgram) (n : ℕ) (s : Scope) → IsScope t (locals_at t n) s → Sees s (frame_environment (frame_at t n))
 frame_sees t n s i = record { now = λ c x h. now c x h; entry = λ c x h. entry c x h }

@@ -1,8 +1,7 @@
--- Boolean expressions are 0 or 1 wherever what stands for the columns is; and where an expression's operators keep their rules, its divisors do.
+-- Boolean expressions are 0 or 1 wherever what stands for the columns is.
 use Rattle.std.proofs.Common.{◌≡◌, inl, inr, ℕ, zero, suc, Bool, true, false, not, ◌&&◌, ℤ, pos, List, [], ◌∷◌, map, None, Some, int_lt, int_le, if◌then◌else◌, refl, ap, sym, ◌∙◌, subst}
 use Rattle.std.specs.Prelude.{slice_get}
 use Rattle.std.specs.Option.{option_map}
-use Rattle.std.proofs.lemmas.Bool.{and_parts, and_from}
 use Rattle.boogie_tree.specs.declared.tree.Op.{Op}
 use Rattle.boogie_tree.specs.declared.tree.Op.TheVariants.{Iff, Implies, And, Or, Eq, Ne, Lt, Le, Gt, Ge, Add, Sub, Mul, Div, Mod}
 use Rattle.boogie_tree.specs.declared.tree.Ty.{Ty}
@@ -12,8 +11,7 @@ use Rattle.boogie_tree.specs.declared.tree.Column.TheVariants as columns
 use Rattle.typed_tree.specs.TypedTree.{TypedExpression, Lit, Truth, Var, Old, Not, Neg, Bin}
 use Rattle.typed_tree.specs.Typing.{same_type, operation_type, result_type}
 use Rattle.typed_tree.specs.Values.{State, column_value, member, value, truth, value_is_zero, same, operation_value}
-use Rattle.typed_tree.specs.AffineForm.{read_at, is_linear, is_linear_operation}
-use Rattle.typed_tree.specs.Divided.{is_divided, is_divided_operation}
+use Rattle.typed_tree.specs.AffineForm.{read_at}
 use Rattle.typed_tree.specs.Laws.{IsTruth, state_of}
 use Rattle.letter_acts.specs.Frames.{Columns}
 use Rattle.cond_jumps.specs.Environments.{Environment, type_in}
@@ -89,23 +87,3 @@ pub passed_truths : (v : Environment) (s : State) (args : List TypedExpression) 
 passed_truths v s args h (columns.Global n) t = h (columns.Global n) t
 passed_truths v s args h (columns.Old n) t = h (columns.Old n) t
 passed_truths v s args h (columns.Local n) t = argument_truth v s args n h t
-
--- ---- the rule of divisors is a part of that of operators
-
-divided_operation : (g : Column → Bool) (old : Bool) (op : Op) (a b : TypedExpression) → is_linear_operation g old op a b ≡ true → is_divided_operation op b ≡ true
-divided_operation g old Div a b h = h
-divided_operation g old Mod a b h = h
-divided_operation g old op a b h = refl
-
-pub linear_is_divided : (g : Column → Bool) (old : Bool) (e : TypedExpression) → is_linear g old e ≡ true → is_divided e ≡ true
-linear_is_divided g old (Lit at n) h = refl
-linear_is_divided g old (Truth at b) h = refl
-linear_is_divided g old (Var at c) h = refl
-linear_is_divided g old (Old at e) h = linear_is_divided g true e h
-linear_is_divided g old (Not at e) h = linear_is_divided g old e h
-linear_is_divided g old (Neg at e) h = linear_is_divided g old e h
-linear_is_divided g old (Bin at op a b) h =
-    let p = and_parts (is_linear g old a) (is_linear g old b && is_linear_operation g old op a b) h in
-    let q = and_parts (is_linear g old b) (is_linear_operation g old op a b) p.1 in
-    and_from (is_divided a) (is_divided b && is_divided_operation op b) (linear_is_divided g old a p.0)
-    (and_from (is_divided b) (is_divided_operation op b) (linear_is_divided g old b q.0) (divided_operation g old op a b q.1))
