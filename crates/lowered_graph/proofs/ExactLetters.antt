@@ -1,4 +1,4 @@
--- Typed programs have no free products, so no letter of their graphs is coarse.
+-- Where no point reads a free product, no letter of the graph is coarse.
 use Rattle.std.proofs.Common.{◌≡◌, ◌∙◌, ℕ, zero, suc, ◌+◌, Bool, true, false, not, ◌&&◌, List, [], ◌∷◌, ◌++◌, map, length, Option, None, Some, inl, inr, refl, sym, ap, subst, arith, IsTrue, if◌then◌else◌}
 use Rattle.std.specs.Prelude.{slice_get, unwrap_or}
 use Rattle.std.specs.List.{AllByRecursion}
@@ -24,11 +24,10 @@ use Rattle.lowered_steps.specs.ProgramFrames.{frame_at, width_at, column_number}
 use Rattle.lowered_steps.specs.Edges.{Spot, At, Wrong, Edge, leads, no_rows, import_written, those_in, told_ensures, import_products, import_plan, behind_helpers, import_letters, import_edges, skips, numbers_in, local_count, inside_edges, call_plan, call_letters}
 use Rattle.lowered_steps.specs.Stacks.{IsAmong}
 use Rattle.lowered_steps.proofs.ListSteps.{IsLed, among_led, among_either, letter_of_edge}
-use Rattle.lowered_imports.specs.KnownPoints.{IsPointOf}
-use Rattle.lowered_imports.proofs.PlainActions.{HasNone, EnsuresHaveNone, IsPlainAction}
 use Rattle.letter_table.specs.Letters.{MarkedAct, exact_act, inside_arc, no_letters, lettered}
 use Rattle.lowered_graph.specs.Arcs.{place_number, spot_number, return_place, entering, program_arcs}
 use Rattle.lowered_graph.specs.Lowered.{lowered}
+use Rattle.lowered_graph.specs.PlainPoints.{HasNone, EnsuresHaveNone, IsPlainAction, PointsArePlain}
 use Rattle.lowered_graph.specs.Laws.{IsExactWord}
 use Rattle.lowered_graph.proofs.EdgeArcs.{edge_act, called_act}
 use Rattle.lowered_graph.proofs.Joined.{from_start_or_place}
@@ -143,10 +142,6 @@ call_exact t n f args h =
     plain_marks (width_at t n) free (width_at t f) (listed_plan (call_plan t n args) (width_at t n + free + width_at t f)) (ap length (all_none (frame_at t n) args h))
 
 -- ---- acts
-
--- every point reads no free products
-abbrev pub PointsArePlain : TypedProgram → Type 0
-PointsArePlain t = (n : ℕ) (p : Point) → IsPointOf t n p → IsPlainAction t n (action_at t n p)
 
 called_exact : (t : TypedProgram) → PointsArePlain t → (a : MarkedAct) (q to from : ℕ) (targets : List ℕ) (behind : ℕ) → CallFrom t a q to from targets behind → a.coarse ≡ false
 called_exact t plain a q to from targets behind w =

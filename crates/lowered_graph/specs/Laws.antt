@@ -13,6 +13,7 @@ use Rattle.letter_acts.specs.Invariant.{Graph, IsGraph, alphabet_of, mark_at}
 use Rattle.boogie_run.specs.Runs.{Fails}
 use Rattle.lowered_steps.specs.Stacks.{MachineFails, MachineFailsExactly}
 use Rattle.lowered_graph.specs.Lowered.{lowered}
+use Rattle.lowered_graph.specs.PlainPoints.{PointsArePlain}
 use Rattle.letter_acts.specs.Widths.{ActsFit}
 
 -- Some feasible word has a run of the automaton that ends where assertion i fails.
@@ -55,9 +56,9 @@ LoweredIsGraph = (t : TypedProgram) → IsTrue (is_valid t) → ActsFit (alphabe
 abbrev pub LoweredIsAutomaton : Type 0
 LoweredIsAutomaton = (t : TypedProgram) → IsTrue (is_valid t) → IsAutomaton (lowered t).automaton
 
--- Typed programs have no free products: no letter of their graphs is coarse.
+-- Where no point reads a free product, no letter is coarse, and so no word has a coarse letter.
 abbrev pub LettersAreExact : Type 0
-LettersAreExact = (t : TypedProgram) → IsTrue (is_valid t) → (n : ℕ) → mark_at (lowered t) n ≡ false
+LettersAreExact = (t : TypedProgram) → IsTrue (is_valid t) → PointsArePlain t → (n : ℕ) → mark_at (lowered t) n ≡ false
 
 abbrev pub WordsAreExact : Type 0
-WordsAreExact = (t : TypedProgram) (w : List Letter) → IsTrue (is_valid t) → IsExactWord (lowered t) w
+WordsAreExact = (t : TypedProgram) (w : List Letter) → IsTrue (is_valid t) → PointsArePlain t → IsExactWord (lowered t) w

@@ -51,7 +51,7 @@ pub fn lowered_programs_have_automata()
     points_of_typed_programs();
 }
 
-/// No letter of the graph of a typed program is coarse, since typing lets no product of two expressions in; so no word has a coarse letter.
+/// Where no point of a typed program reads a product of two expressions, no letter of its graph is coarse, and so no word has a coarse letter.
 pub fn letters_are_exact()
     ensures letters { law.LettersAreExact }
     ensures words { law.WordsAreExact }
