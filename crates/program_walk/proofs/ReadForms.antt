@@ -6,7 +6,8 @@ use Rattle.boogie_tree.specs.declared.tree.Ty.TheVariants as types
 use Rattle.boogie_tree.specs.declared.tree.Column.{Column}
 use Rattle.boogie_tree.specs.declared.tree.VarInfo.{VarInfo}
 use Rattle.typed_tree.specs.TypedTree.{TypedExpression, TypedGuard, Any, Cond, TypedInvariant, TypedStatement, Assert, Assume, Havoc, Assign, Call, If, While, Break, Goto, Return, Label, TypedBlock, Empty, Then, TypedSpecification, Requires, Ensures, TypedProcedure, TypedProgram}
-use Rattle.typed_tree.specs.AffineForm.{forms_fit, is_empty, is_linear}
+use Rattle.typed_tree.specs.AffineForm.{forms_fit, is_empty}
+use Rattle.typed_tree.specs.Divided.{is_divided}
 use Rattle.typed_tree.specs.KeptRules.{is_arithmetic, is_right}
 use Rattle.typed_tree.specs.Scope.{Scope, axiom_scope, body_scope, fixed, is_constant_column, requires_scope, variable_at}
 use Rattle.typed_tree.specs.Typing.{has_type}
@@ -31,7 +32,7 @@ module _ (t : TypedProgram) (s : Scope) (same : s.globals ≡ t.globals) where
   right_fits : (ty : Ty) (e : TypedExpression) → is_right s ty e ≡ true → FormsFit t e
   right_fits ty e h =
       subst (λ (vs : List VarInfo). forms_fit (is_constant_column vs) false e ≡ true) same
-      (right_true (is_linear (fixed s) false e) (forms_fit (fixed s) false e) (right_true (has_type s ty e) (is_arithmetic (fixed s) false e) h))
+      (right_true (is_divided e) (forms_fit (fixed s) false e) (right_true (has_type s ty e) (is_arithmetic (fixed s) false e) h))
 
   guard_fits : (g : TypedGuard) → is_guard s g ≡ true → GuardFits t g
   guard_fits Any h = tt
