@@ -93,7 +93,6 @@ broken_other s _ _ _ (rules_of.no_number old at e h) = refl
 broken_other s _ _ _ (rules_of.ill_typed old at op a b t u h i j) = refl
 broken_other s _ _ _ (rules_of.zero_divisor old at op a b k h i j) = refl
 broken_other s _ _ _ (rules_of.no_literal old at op a b h i) = refl
-broken_other s _ _ _ (rules_of.no_factor old at a b h i) = refl
 broken_other s _ _ _ (rules_of.big_literal old at n h) = refl
 broken_other s _ _ _ (rules_of.big_opposite old at e h) = refl
 broken_other s _ _ _ (rules_of.big_operation old at op a b h) = refl
