@@ -1,5 +1,5 @@
 -- What is found of a word by way of its graph, said of the program.
-use Rattle.std.proofs.Common.{◌≡◌, ◌≤◌, ℕ, ℤ, List, refl, subst}
+use Rattle.std.proofs.Common.{◌≡◌, ◌≤◌, ℕ, ℤ, List, refl, sym, subst}
 use Rattle.lin_rows.specs.Points.{point_of}
 use Rattle.farkas_check.specs.Nodes.{PlainNode}
 use Rattle.int_decide.specs.Decisions.{refuted, whole}
@@ -8,15 +8,16 @@ use Rattle.letter_acts.specs.Invariant.{Graph}
 use Rattle.typed_tree.specs.TypedTree.{TypedProgram}
 use Rattle.lowered_graph.specs.Lowered.{lowered}
 use Rattle.path_decide.specs.Decided.{RefutesPath, path_decision}
-use Rattle.trace_replay.specs.ToldRuns.{ToldPasses, IsToldFault}
+use Rattle.trace_replay.specs.ToldRuns.{IsToldFault}
 use Rattle.trace_replay.specs.declared.causes.ReplayCause.{ReplayCause}
 use Rattle.trace_replay.specs.declared.causes.ReplayCause.TheVariants as causes
 use Rattle.trace_replay.specs.declared.causes.ReplayFault.TheVariants.{At}
-use Rattle.race_core.specs.declared.ends.Cause.TheVariants.{Rounds}
+use Rattle.race_core.specs.declared.ends.Cause.{Cause}
+use Rattle.race_core.specs.declared.ends.Cause.TheVariants.{Rounds, Number, Product}
 use Rattle.race_core.specs.declared.ends.End.TheVariants.{Unknown}
 use Rattle.nested_refutations.specs.Numbers.{NumbersFit}
 use Rattle.race_rounds.specs.declared.limits.Limits.{Limits}
-use Rattle.race_rounds.specs.Ends.{PredicatesFit, NumberPasses, of_predicates, of_run, SaysOfWord}
+use Rattle.race_rounds.specs.Ends.{PredicatesFit, NumberPasses, of_predicates, of_run, CauseMeets, SaysOfWord}
 use Rattle.race_rounds.proofs.DecideCuts.{decided_cuts}
 
 pub predicates_pass : (t : TypedProgram) (g : Graph) (depth : ℕ) (w : List Letter) (nodes : List PlainNode) → g ≡ lowered t →
@@ -30,16 +31,19 @@ predicates_pass t g depth w nodes e p n =
       steps = f.steps;
     }))
 
-pub told_passes : (t : TypedProgram) (point : ℕ → ℤ) (w : List Letter) (step : ℕ) (cause : ReplayCause) → IsToldFault t point w (At step cause) → ToldPasses t point w step
-told_passes t point w step causes.Blocked h = absurd h
-told_passes t point w step causes.Ended h = absurd h
-told_passes t point w step causes.Short h = absurd h
-told_passes t point w step causes.Number h = h
-told_passes t point w step causes.BadChoice h = absurd h
-
-pub run_passes : (t : TypedProgram) (g : Graph) (depth : ℕ) (w : List Letter) (values : List ℤ) (step : ℕ) → g ≡ lowered t →
-    path_decision g depth w ≡ whole values → ToldPasses t (point_of values) w step → NumberPasses t depth w
-run_passes t g depth w values step e p h = of_run values step (subst (λ (x : Graph). path_decision x depth w ≡ whole values) e p) h
+-- what the fault of choices_of says of the word, by the cause that is made of it
+pub fault_says : (t : TypedProgram) (g : Graph) (l : Limits) (n : ℕ) (w : List Letter) (values : List ℤ) (step : ℕ) (fault : ReplayCause) (cause : Cause) → g ≡ lowered t →
+    path_decision g l.depth w ≡ whole values → (fault ≡ causes.Number → cause ≡ Number) → (fault ≡ causes.Product → cause ≡ Product) →
+    IsToldFault t (point_of values) w (At step fault) → CauseMeets t l n cause w
+fault_says t g l n w values step causes.Blocked cause e p one two h = absurd h
+fault_says t g l n w values step causes.Ended cause e p one two h = absurd h
+fault_says t g l n w values step causes.Short cause e p one two h = absurd h
+fault_says t g l n w values step causes.Number cause e p one two h =
+    subst (λ (c : Cause). CauseMeets t l n c w) (sym (one refl)) (of_run values step (subst (λ (x : Graph). path_decision x l.depth w ≡ whole values) e p) h)
+fault_says t g l n w values step causes.BadChoice cause e p one two h = absurd h
+fault_says t g l n w values step causes.Product cause e p one two h =
+    subst (λ (c : Cause). CauseMeets t l n c w) (sym (two refl))
+    (h.0, record { values = values; step = step; decided = subst (λ (x : Graph). path_decision x l.depth w ≡ whole values) e p; stops = h.1 })
 
 pub rounds_say : (t : TypedProgram) (g : Graph) (l : Limits) (n : ℕ) (v w : List Letter) (nodes : List PlainNode) → g ≡ lowered t → v ≡ w → l.rounds ≤ n →
     RefutesPath g v nodes → SaysOfWord t l n w (Unknown Rounds w)

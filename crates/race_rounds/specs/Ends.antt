@@ -14,6 +14,7 @@ use Rattle.letter_acts.specs.Feasible.{IsFeasible}
 use Rattle.letter_acts.specs.Invariant.{Graph, alphabet_of}
 use Rattle.typed_tree.specs.TypedTree.{TypedProgram}
 use Rattle.lowered_graph.specs.Lowered.{lowered}
+use Rattle.lowered_graph.specs.Laws.{IsExactWord}
 use Rattle.nested_predicates.specs.Stamps.{stamps_of}
 use Rattle.nested_predicates.specs.Positions.{positions_of}
 use Rattle.nested_predicates.specs.Sums.{root_of}
@@ -21,9 +22,9 @@ use Rattle.nested_predicates.specs.Fitting.{SumsFit}
 use Rattle.nested_refutations.specs.Numbers.{steps_of, StepNumbersFit}
 use Rattle.path_decide.specs.Decided.{RefutesPath, path_decision, PathFits, IsGap}
 use Rattle.path_rows.specs.Paths.{path_of}
-use Rattle.trace_replay.specs.ToldRuns.{ToldFails, ToldPasses}
+use Rattle.trace_replay.specs.ToldRuns.{ToldFails, ToldPasses, ToldStops}
 use Rattle.race_core.specs.declared.ends.Cause.{Cause}
-use Rattle.race_core.specs.declared.ends.Cause.TheVariants.{Rounds, Whole, Number}
+use Rattle.race_core.specs.declared.ends.Cause.TheVariants.{Rounds, Whole, Number, Product}
 use Rattle.race_core.specs.declared.ends.End.{End}
 use Rattle.race_core.specs.declared.ends.End.TheVariants.{Safe, Unsafe, Unknown}
 use Rattle.race_core.specs.declared.events.Entry.{Entry}
@@ -32,8 +33,8 @@ use Rattle.race_rounds.specs.declared.limits.Limits.{Limits}
 
 -- ---- what is known of a word
 
--- A whole point of the rows of the word and an accepting run over it tell a run that takes these choices: it fails, with the last of its steps and not
--- before, the assertion at whose failing the accepting run ends, and the choices replay and fit.
+-- A whole point of the rows of the word and an accepting run over it tell choices, these of which a run takes that fails an assertion after so many steps:
+-- they replay and fit. Where the word has no coarse letter, it is the assertion at whose failing the accepting run ends.
 pub record FailsAfter (t : TypedProgram) (w : List Letter) (steps : ℕ) (choices : List ℤ) : Type 0 where
   pub point : List ℤ
   pub meets : AllByRecursion (Holds (point_of point)) (path_of (lowered t) w).rows
@@ -54,11 +55,19 @@ pub data NumberPasses (t : TypedProgram) (depth : ℕ) (w : List Letter) : Type 
   of_run : (values : List ℤ) (step : ℕ) → path_decision (lowered t) depth w ≡ whole values → ToldPasses t (point_of values) w step →
       NumberPasses t depth w
 
+-- The run that Decide's point and an accepting run tell neither fails an assertion nor has a value that does not fit.
+pub record PointStops (t : TypedProgram) (depth : ℕ) (w : List Letter) : Type 0 where
+  pub values : List ℤ
+  pub step : ℕ
+  pub decided : path_decision (lowered t) depth w ≡ whole values
+  pub stops : ToldStops t (point_of values) w step
+
 -- why nothing is known of a word, where the history has n entries
 abbrev pub CauseMeets : TypedProgram → Limits → ℕ → Cause → List Letter → Type 0
 CauseMeets t l n Rounds w = (l.rounds ≤ n) × ((nodes : List PlainNode) × RefutesPath (lowered t) w nodes)
 CauseMeets t l n Whole w = IsGap (lowered t) l.depth w
 CauseMeets t l n Number w = NumberPasses t l.depth w
+CauseMeets t l n Product w = (IsExactWord (lowered t) w → ⊥) × PointStops t l.depth w
 
 -- what an end says of its word: it is feasible, and a run fails; or why nothing is known of it
 abbrev pub SaysOfWord : TypedProgram → Limits → ℕ → List Letter → End → Type 0

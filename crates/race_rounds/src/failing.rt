@@ -17,7 +17,7 @@ use letter_acts::Icfg;
 use nwa_base::Word;
 use race_core::{Cause, End};
 use std::alloc::{AllocError, Global};
-use trace_replay::{ReplayFault, choices_of};
+use trace_replay::{ReplayCause, ReplayFault, choices_of};
 use typing_rules::Typed;
 
 /// The numbers of choices.
@@ -31,7 +31,20 @@ fn numbers_of(alloc: Global, choices: &[Choice]) -> Result<Vec<i128>, AllocError
     Ok(values)
 }
 
-/// The end that a whole point of the rows of a word makes: a run that fails, or that a value of the run does not fit.
+/// Why nothing is known of a word, by why the choices that are told of it fail no assertion: but for a value that does not fit, for the
+/// word's products.
+fn cause_of(fault: ReplayCause) -> Cause
+    ensures number { fault ≡ ReplayCause.Number → result ≡ Cause.Number }
+    ensures product { fault ≡ ReplayCause.Product → result ≡ Cause.Product }
+{
+    match fault {
+        ReplayCause::Number => Cause::Number,
+        _ => Cause::Product,
+    }
+}
+
+/// The end that a whole point of the rows of a word makes: a run that fails, or that the run with its choices meets a value that does not fit, or
+/// that it ends otherwise, which it does on words with coarse letters alone.
 pub(crate) fn failing(
     alloc: Global,
     program: &Typed,
@@ -54,8 +67,8 @@ pub(crate) fn failing(
             steps: trail.steps,
             choices: numbers_of(alloc, &trail.choices)?,
         }),
-        Err(ReplayFault::At { .. }) => Ok(End::Unknown {
-            cause: Cause::Number,
+        Err(ReplayFault::At { cause, .. }) => Ok(End::Unknown {
+            cause: cause_of(cause),
             word,
         }),
         Err(ReplayFault::Memory) => Err(AllocError),
