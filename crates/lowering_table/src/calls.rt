@@ -1,6 +1,7 @@
 //! The lists of rows of calls: of what they demand, of their arguments, and of those without body.
 
 use crate::callers::{Caller, all_fit, ensures_fit, fits};
+use crate::graphs::show_mark;
 use crate::lists::{show_conjunction, show_fault, show_nothing};
 use crate::printing::{end_line, show_line, show_numbers, show_text};
 use crate::stand_ins::enlarged;
@@ -22,9 +23,7 @@ fn condition(specification: &TSpec) -> &TExpr {
 
 /// A letter, and whether it is coarse.
 fn show_letter(rt: &HostRuntime, name: &str, letter: &MarkedConj) {
-    if letter.coarse {
-        show_text(rt, "coarse ");
-    }
+    show_mark(rt, letter.coarse);
     show_conjunction(rt, name, &letter.conj)
 }
 

@@ -30,6 +30,13 @@ pub(crate) fn show_rows(rt: &HostRuntime, rows: &[Row]) {
     end_line(rt)
 }
 
+/// Whether a letter is coarse, before what it does.
+pub(crate) fn show_mark(rt: &HostRuntime, coarse: bool) {
+    if coarse {
+        show_text(rt, "coarse ");
+    }
+}
+
 /// What a letter does, as a line.
 pub(crate) fn show_act(rt: &HostRuntime, act: &Act) {
     match act {
@@ -38,8 +45,9 @@ pub(crate) fn show_act(rt: &HostRuntime, act: &Act) {
             written,
             helpers,
             rows,
-            ..
+            coarse,
         } => {
+            show_mark(rt, *coarse);
             show_number(rt, "in ", *proc);
             show_number(rt, " +", *helpers);
             show_text(rt, " writes");
@@ -51,8 +59,9 @@ pub(crate) fn show_act(rt: &HostRuntime, act: &Act) {
             callee,
             helpers,
             rows,
-            ..
+            coarse,
         } => {
+            show_mark(rt, *coarse);
             show_number(rt, "call ", *caller);
             show_number(rt, " ", *callee);
             show_number(rt, " +", *helpers);

@@ -1,6 +1,6 @@
 //! What a line asks of the text that stands before it.
 
-use crate::graphs::show_whole;
+use crate::graphs::{show_acts, show_whole};
 use crate::layouts::{show_frames, show_labels, show_layout};
 use crate::lists::{Asked, show_asked};
 use crate::parts::show_parts;
@@ -24,6 +24,8 @@ enum Question {
     Frames,
     /// The automaton of a program.
     Lowered,
+    /// What the letters of that automaton do.
+    Letters,
     /// Whether parts are those of a graph.
     Graph,
     /// The graph of parts.
@@ -46,6 +48,7 @@ fn asked_by(word: &str) -> Option<Question> {
         "layout" => Some(Question::Layout),
         "frames" => Some(Question::Frames),
         "lowered" => Some(Question::Lowered),
+        "letters" => Some(Question::Letters),
         "graph" => Some(Question::Graph),
         "copied" => Some(Question::Copied),
         "letter" => Some(Question::Letter),
@@ -79,12 +82,20 @@ fn show_lowered(rt: &HostRuntime, program: &Typed) {
     }
 }
 
+fn show_letters(rt: &HostRuntime, program: &Typed) {
+    match lower(rt.alloc(), program) {
+        Ok(graph) => show_acts(rt, graph.acts()),
+        Err(_) => show_line(rt, "not lowered"),
+    }
+}
+
 fn show_of_program(rt: &HostRuntime, program: &Typed, question: Question) {
     match question {
         Question::Lists(asked) => show_asked(rt, program, asked),
         Question::Labels => show_labels(rt, program),
         Question::Layout => show_layout(rt, program),
         Question::Frames => show_frames(rt, program),
+        Question::Letters => show_letters(rt, program),
         _ => show_lowered(rt, program),
     }
 }
