@@ -35,7 +35,7 @@ back_by : (edges : List (ℕ × ℕ × Letter × ℕ)) (name : ℕ → Option �
     (q : ℕ) × (p : ℕ) × (e : ℕ) × Member edges (q, p, a, e) × (name q ≡ Some x) × (name p ≡ Some z) × (name e ≡ Some y)
 back_by edges name x z a y h = let r = h.2 in (h.0.0, h.0.1, h.0.3, subst (Member edges) (λ i. (h.0.0, h.0.1, r.2 i, h.0.3)) h.1, r.0, r.1, r.3)
 
-step_there : (m n : Automaton) (name : ℕ → Option ℕ) → IsImage m name n → (kind : Kind) (a : Letter) (before stack : List ℕ) (q e x y : ℕ)
+pub step_there : (m n : Automaton) (name : ℕ → Option ℕ) → IsImage m name n → (kind : Kind) (a : Letter) (before stack : List ℕ) (q e x y : ℕ)
     (rest rest' : List ℕ → Type 0) → AreNamed name before stack → name q ≡ Some x → name e ≡ Some y →
     ((s s' : List ℕ) → AreNamed name s s' → rest s → rest' s') → Follows m kind a before q e rest → Follows n kind a stack x y rest'
 step_there m n name i Inside a before stack q e x y rest rest' b f g go h = ((i.insides (x, a, y)).1 ((q, a, e), h.0, (f, refl, g)), go before stack b h.1)

@@ -17,3 +17,8 @@ pub mod VectorLemmas
 pub mod MergeLemmas
 pub mod ReduceLemmas
 mod PlaceLemmas
+pub mod FoldLemmas
+pub mod EachLemmas
+pub mod JoinLemmas
+pub mod CopyLemmas
+pub mod NumberingLemmas

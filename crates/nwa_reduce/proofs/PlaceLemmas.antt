@@ -2,7 +2,6 @@
 use Rattle.std.proofs.Common.{◌≡◌, ◌∙◌, ◌<◌, ◌≤◌, ◌+◌, ℕ, zero, suc, List, [], ◌∷◌, ◌++◌, Option, None, Some, length, take, get_or, set, slice_get, refl, sym, ap, subst, inl, inr, arith}
 use Rattle.std.proofs.lemmas.Bool.{cases_eq}
 use Rattle.std.proofs.lemmas.List.{take_more, take_all, length-take-le}
-use Rattle.nwa_base.specs.Members.{Member}
 use Rattle.nwa_base.proofs.MemberLemmas.{member_split}
 use Rattle.nwa_reduce.specs.Naming.{name_at, named, IsIndex}
 use Rattle.nwa_reduce.proofs.ListLemmas.{get_front, get_last, only_member, same_some}

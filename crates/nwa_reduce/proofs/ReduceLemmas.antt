@@ -6,8 +6,10 @@ use Rattle.nwa_reduce.specs.Ways.{Leads, IsWay, IsUseful}
 use Rattle.nwa_reduce.specs.Lean.{IsTrim, IsReduced}
 use Rattle.nwa_reduce.specs.Images.{IsImage}
 use Rattle.nwa_reduce.specs.Naming.{named, IsNaming, IsMerging}
+use Rattle.nwa_reduce.specs.Folding.{IsTotal, IsFolding}
 use Rattle.nwa_reduce.proofs.ListLemmas.{same_some}
 use Rattle.nwa_reduce.proofs.ImageLemmas.{image_accepts}
+use Rattle.nwa_reduce.proofs.FoldLemmas.{folding_accepts}
 use Rattle.nwa_reduce.proofs.TrimLemmas.{all_member, leads_within}
 
 pub image_reduces : (m n : Automaton) (names : List (Option ℕ)) (count : ℕ) → IsNaming m names count → IsImage m (named names) n → n.states ≡ count → IsReduced m n
@@ -30,8 +32,12 @@ reduced_on m n k g h = record {
 pub reduced_none : (m : Automaton) → IsReduced m m
 reduced_none m = record { words = λ w. (λ a. a, λ a. a); states = omega arith }
 
+-- names of merged states are total
+pub merging_total : (m : Automaton) (names : List (Option ℕ)) (count : ℕ) → IsMerging m names count → IsTotal m names count
+merging_total m names count v = record { few = v.naming.few; within = v.naming.within; total = v.total; onto = v.onto }
+
 -- an edge leads between the names of its states
-leads_image : (m n : Automaton) (names : List (Option ℕ)) (count : ℕ) → IsAutomaton m → IsMerging m names count → IsImage m (named names) n →
+leads_image : (m n : Automaton) (names : List (Option ℕ)) (count : ℕ) → IsAutomaton m → IsTotal m names count → IsImage m (named names) n →
     (q e x y : ℕ) → Leads m q e → named names q ≡ Some x → named names e ≡ Some y → Leads n x y
 leads_image m n names count a v i q e x y (inl h) f g = inl (h.0, (i.insides (x, h.0, y)).1 ((q, h.0, e), h.1, (f, refl, g)))
 leads_image m n names count a v i q e x y (inr (inl h)) f g = inr (inl (h.0, (i.calls (x, h.0, y)).1 ((q, h.0, e), h.1, (f, refl, g))))
@@ -39,7 +45,7 @@ leads_image m n names count a v i q e x y (inr (inr h)) f g =
     let p = v.total h.0 (all_member _ m.backs (q, h.0, h.1, e) a.backs h.2).before in
     inr (inr (p.0, h.1, (i.backs (x, p.0, h.1, y)).1 ((q, h.0, h.1, e), h.2, (f, p.1, refl, g))))
 
-way_image : (m n : Automaton) (names : List (Option ℕ)) (count : ℕ) → IsAutomaton m → IsMerging m names count → IsImage m (named names) n →
+way_image : (m n : Automaton) (names : List (Option ℕ)) (count : ℕ) → IsAutomaton m → IsTotal m names count → IsImage m (named names) n →
     (q : ℕ) (way : List ℕ) (e x : ℕ) → IsWay (Leads m) q way e → named names q ≡ Some x →
     (y : ℕ) × (way' : List ℕ) × (named names e ≡ Some y) × IsWay (Leads n) x way' y
 way_image m n names count a v i q [] e x h f = (x, [], subst (λ (z : ℕ). named names z ≡ Some x) h f, refl)
@@ -51,7 +57,7 @@ way_image m n names count a v i q (r ∷ way) e x h f =
 one_name : (names : List (Option ℕ)) (q x y : ℕ) → named names q ≡ Some x → named names q ≡ Some y → x ≡ y
 one_name names q x y f g = same_some x y (sym f ∙ g)
 
-useful_image : (m n : Automaton) (names : List (Option ℕ)) (count : ℕ) → IsAutomaton m → IsMerging m names count → IsImage m (named names) n →
+useful_image : (m n : Automaton) (names : List (Option ℕ)) (count : ℕ) → IsAutomaton m → IsTotal m names count → IsImage m (named names) n →
     (q x : ℕ) → IsUseful m q → named names q ≡ Some x → IsUseful n x
 useful_image m n names count a v i q x u f =
     let r = way_image m n names count a v i m.start u.reached.states q n.start u.reached.way i.start in
@@ -62,7 +68,7 @@ useful_image m n names count a v i q x u f =
     }
 
 -- states that become one stay useful
-pub image_trim : (m n : Automaton) (names : List (Option ℕ)) (count : ℕ) → IsAutomaton m → IsMerging m names count → IsImage m (named names) n →
+pub image_trim : (m n : Automaton) (names : List (Option ℕ)) (count : ℕ) → IsAutomaton m → IsTotal m names count → IsImage m (named names) n →
     n.states ≡ count → IsTrim m → IsTrim n
 image_trim m n names count a v i e t x l ne =
     let q = v.onto x (omega arith) in
@@ -71,3 +77,11 @@ image_trim m n names count a v i e t x l ne =
 
 pub fewer : (m n : Automaton) (names : List (Option ℕ)) (count : ℕ) → IsNaming m names count → n.states ≡ count → count ≢ m.states → n.states < m.states
 fewer m n names count v e d = let f = v.few in omega arith
+
+-- a folding accepts the same words, and has no more states
+pub folding_reduces : (m n : Automaton) (names : List (Option ℕ)) (count : ℕ) → IsAutomaton m → IsTotal m names count → IsImage m (named names) n →
+    n.states ≡ count → IsFolding m (named names) n → IsReduced m n
+folding_reduces m n names count a v i e f = record {
+  words = λ w. let r = folding_accepts m n (named names) a i v.total f w in (r.1, r.0);
+  states = let g = v.few in omega arith;
+}

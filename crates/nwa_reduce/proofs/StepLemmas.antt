@@ -61,13 +61,13 @@ pub steps_all : {X : Type 0} (key value : X → ℕ) (xs : List X) (i : ℕ) (ol
     AddsSteps key value (take i xs) old new → AddsSteps key value xs old new
 steps_all {X} key value xs i old new l h = subst (λ (front : List X). AddsSteps key value front old new) (take_all i xs l) h
 
-edge_from : (edges : List (ℕ × Letter × ℕ)) (q e : ℕ) → From (λ x. x.0) (λ x. x.2) edges q e ↔ ((a : Letter) × Member edges (q, a, e))
+pub edge_from : (edges : List (ℕ × Letter × ℕ)) (q e : ℕ) → From (λ x. x.0) (λ x. x.2) edges q e ↔ ((a : Letter) × Member edges (q, a, e))
 edge_from edges q e = (
   λ f. (f.0.1, subst (Member edges) (λ i. (f.2 i, f.0.1, f.3 i)) f.1),
   λ h. ((q, h.0, e), h.1, refl, refl),
 )
 
-back_from : (edges : List (ℕ × ℕ × Letter × ℕ)) (q e : ℕ) → From (λ x. x.0) (λ x. x.3) edges q e ↔ ((p : ℕ) × (a : Letter) × Member edges (q, p, a, e))
+pub back_from : (edges : List (ℕ × ℕ × Letter × ℕ)) (q e : ℕ) → From (λ x. x.0) (λ x. x.3) edges q e ↔ ((p : ℕ) × (a : Letter) × Member edges (q, p, a, e))
 back_from edges q e = (
   λ f. (f.0.1, f.0.2, subst (Member edges) (λ i. (f.2 i, f.0.1, f.0.2, f.3 i)) f.1),
   λ h. ((q, h.0, h.1, e), h.2, refl, refl),

@@ -8,3 +8,5 @@ pub mod Marks
 pub mod Signatures
 pub mod Classes
 pub mod Seen
+pub mod Levels
+pub mod Folding

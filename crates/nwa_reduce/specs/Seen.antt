@@ -1,5 +1,4 @@
 -- What contracts see of classes.
-use Rattle.std.specs.Prelude.{nat_eq}
 use Rattle.nwa_reduce.specs.Rows.{row_of}
 use Rattle.nwa_reduce.specs.declared.classing.Classes.{Classes}
 use Rattle.nwa_reduce.specs.Classes.{Classed, lists_of}

@@ -6,7 +6,7 @@ ghost use Rattle.nwa_base.specs.declared.letters.Kind.TheVariants.{Inside, Call}
 ghost use Rattle.nwa_base.specs.declared.letters.Letter.{Letter};
 ghost use Rattle.nwa_base.specs.Automata.{IsAutomaton, IsEdge, IsBackEdge};
 ghost use Rattle.nwa_base.specs.Members.{Member};
-ghost use Rattle.nwa_reduce.specs.Naming.{named, IsNaming};
+ghost use Rattle.nwa_reduce.specs.Naming.{named};
 ghost use Rattle.nwa_reduce.specs.Images.{Among, IsNamedEdge, IsNamedBack, IsImage};
 
 use crate::naming::Names;
@@ -16,7 +16,8 @@ use std::alloc::{AllocError, Global};
 
 /// The automaton under the names. Each of its edges stands there once.
 pub fn image(alloc: Global, nwa: &Nwa, names: &Names) -> Result<Nwa, AllocError>
-    requires { IsNaming nwa.now names.now.of.items names.now.count }
+    requires within { (q x : ℕ) → named names.now.of.items q ≡ Some x → x < names.now.count }
+    requires start { (x : ℕ) × (named names.now.of.items nwa.now.start ≡ Some x) }
     ensures { IfOk result (λ n. IsImage nwa.now (named names.now.of.items) n × (n.states ≡ names.now.count)) }
 {
     let Some(start) = names.name(nwa.start()) else {

@@ -3,12 +3,17 @@
 #![tactic(auto)]
 
 mod classing;
+mod folding;
+mod guessing;
 mod imaging;
+mod joining;
 pub mod laws;
 mod marking;
 mod merging;
 mod naming;
+mod numbering;
 mod reducing;
+mod returning;
 mod rows;
 mod searching;
 mod signing;

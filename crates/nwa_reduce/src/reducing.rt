@@ -5,8 +5,12 @@ ghost use Rattle.nwa_base.specs.declared.letters.Letter.{Letter};
 ghost use Rattle.nwa_base.specs.Acceptance.{Accepts};
 ghost use Rattle.nwa_reduce.specs.Lean.{IsTrim, IsLean, IsReduced};
 
+use crate::folding::is_folding;
+use crate::guessing::guessed_classes;
 use crate::imaging::image;
+use crate::joining::joins;
 use crate::merging::class_names;
+use crate::numbering::class_numbers;
 use crate::trimming::useful_names;
 use nwa_base::{Letter, Nwa};
 use std::alloc::{AllocError, Global};
@@ -18,7 +22,7 @@ pub fn reduce(alloc: Global, nwa: &Nwa) -> Result<Nwa, AllocError>
     ensures lean { IfOk result (λ n. IsLean n) }
     ensures states { IfOk result (λ n. n.states ≤ nwa.now.states) }
 {
-    let kept = merged(alloc, trimmed(alloc, nwa)?)?;
+    let kept = merged(alloc, folded(alloc, trimmed(alloc, nwa)?)?)?;
     Ok(kept)
 }
 
@@ -59,6 +63,35 @@ fn useful_part(alloc: Global, nwa: &Nwa) -> Result<Option<Nwa>, AllocError>
         return Ok(None);
     }
     Ok(Some(image(alloc, nwa, &names)?))
+}
+
+/// States that are left alike become one, also in different calls, where that is found to be right.
+fn folded(alloc: Global, nwa: Nwa) -> Result<Nwa, AllocError>
+    requires { IsTrim nwa }
+    ensures { IfOk result (λ n. IsReduced nwa n × IsTrim n) }
+{
+    match folding_of(alloc, &nwa)? {
+        Some(folding) => Ok(folding),
+        None => Ok(nwa),
+    }
+}
+
+/// The automaton in which states of one guessed class are one, if it accepts the same words.
+fn folding_of(alloc: Global, nwa: &Nwa) -> Result<Option<Nwa>, AllocError>
+    requires { IsTrim nwa.now }
+    ensures { IfOk result (λ part. MatchOption part (Unit {0}) (λ n. IsReduced nwa.now n × IsTrim n)) }
+{
+    let joins = joins(alloc, nwa)?;
+    let classes = guessed_classes(alloc, nwa, joins.as_slice())?;
+    let names = class_numbers(alloc, nwa, classes.as_slice())?;
+    if names.count == nwa.states() {
+        return Ok(None);
+    }
+    let folding = image(alloc, nwa, &names)?;
+    if !is_folding(nwa, &names, &folding, joins.as_slice()) {
+        return Ok(None);
+    }
+    Ok(Some(folding))
 }
 
 /// Twins become one state, until there are none. Where states become one, others may become twins.

@@ -1,4 +1,4 @@
-use Rattle.std.proofs.Common.{◌≡◌, ◌++◌, ℕ, drop, eqb}
+use Rattle.std.proofs.Common.{◌≡◌, ◌++◌, ℕ, drop}
 use Rattle.nwa_reduce.specs.Rows.{row_of}
 use Rattle.nwa_reduce.specs.Marks.{backs_before}
 use Rattle.nwa_reduce.proofs.marking.returns_to.Given as goal

@@ -1,4 +1,4 @@
-use Rattle.std.proofs.Common.{ℕ, eqb, arith}
+use Rattle.std.proofs.Common.{ℕ, arith}
 use Rattle.nwa_base.specs.declared.letters.Letter.{Letter}
 use Rattle.nwa_reduce.specs.Rows.{row_of}
 use Rattle.nwa_reduce.proofs.StepLemmas.{steps_none, steps_more, steps_all}

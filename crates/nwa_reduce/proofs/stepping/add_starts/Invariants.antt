@@ -1,4 +1,4 @@
-use Rattle.std.proofs.Common.{ℕ, eqb, take}
+use Rattle.std.proofs.Common.{ℕ, take}
 use Rattle.nwa_base.specs.declared.letters.Letter.{Letter}
 use Rattle.nwa_reduce.specs.Rows.{row_of}
 use Rattle.nwa_reduce.specs.Searching.{AddsSteps}

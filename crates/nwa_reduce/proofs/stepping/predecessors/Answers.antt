@@ -1,4 +1,4 @@
-use Rattle.std.proofs.Common.{ℕ, List, eqb}
+use Rattle.std.proofs.Common.{ℕ, List}
 use Rattle.nwa_base.specs.declared.letters.Letter.{Letter}
 use Rattle.nwa_reduce.specs.Rows.{row_of}
 use Rattle.nwa_reduce.proofs.StepLemmas.{steps_led, steps_of}

@@ -1,4 +1,3 @@
-use Rattle.std.proofs.Common.{eqb}
 use Rattle.nwa_reduce.specs.Rows.{row_of}
 use Rattle.nwa_reduce.proofs.TrimLemmas.{ends_by}
 use Rattle.nwa_reduce.proofs.trimming.ending.Goals as goal

@@ -1,0 +1,8 @@
+use Rattle.std.proofs.Common.{take}
+use Rattle.nwa_reduce.specs.Naming.{named}
+use Rattle.nwa_reduce.specs.Folding.{LeadsToName}
+use Rattle.nwa_reduce.proofs.EachLemmas.{Each}
+use Rattle.nwa_reduce.proofs.folding.has_insides.Given as goal
+
+abbrev pub invariant-loop-letter : goal.invariant-loop-letter
+invariant-loop-letter l = Each (take l.letter-index l.edges) (λ e. LeadsToName l.nwa.insides (named l.names.of.items) l.state e.1 e.2)
