@@ -1,3 +1,4 @@
+pub mod ExactWords
 pub mod TreeCuts
 pub mod NoPoints
 pub mod Says

@@ -1,3 +1,4 @@
 pub mod Limits
 pub mod Ends
 pub mod Rounds
+pub mod Exact

@@ -1,5 +1,5 @@
 -- What a round makes of a kept word, and what a race keeps.
-use Rattle.std.specs.Prelude.{◌≡◌, ◌<◌, ◌≤◌, ℕ, List, length, IfSome}
+use Rattle.std.specs.Prelude.{◌≡◌, ◌<◌, ◌≤◌, ℕ, Bool, true, false, List, length, IfSome}
 use Rattle.std.specs.List.{AllByRecursion}
 use Rattle.nwa_base.specs.declared.letters.Letter.{Letter}
 use Rattle.nwa_base.specs.Automata.{Automaton}
@@ -7,6 +7,11 @@ use Rattle.nwa_base.specs.Acceptance.{Accepts}
 use Rattle.letter_acts.specs.Invariant.{Graph, alphabet_of}
 use Rattle.typed_tree.specs.TypedTree.{TypedProgram}
 use Rattle.lowered_graph.specs.Lowered.{lowered}
+use Rattle.lowered_graph.specs.Laws.{IsExactWord}
+use Rattle.race_core.specs.declared.ends.Cause.{Cause}
+use Rattle.race_core.specs.declared.ends.Cause.TheVariants as causes
+use Rattle.race_core.specs.declared.ends.End.{End}
+use Rattle.race_core.specs.declared.ends.End.TheVariants as ends
 use Rattle.race_core.specs.declared.events.Entry.{Entry}
 use Rattle.race_core.specs.Races.{Race}
 use Rattle.itp_automaton.specs.Certified.{Certificate, IsCertified}
@@ -36,6 +41,30 @@ IsRefined t l n w (refined.Unknown cause) = CauseMeets t l n cause w
 abbrev pub SettlesWord : TypedProgram → Limits → ℕ → List Letter → Settled → Type 0
 SettlesWord t l n w (settled.Removed entry) = (n < l.rounds) × (entry.word ≡ w) × IsEvidence (lowered t) w entry.evidence
 SettlesWord t l n w (settled.Ended end) = SaysOfWord t l n w end
+
+-- what is made of one of the words that are kept
+abbrev pub SettlesKept : TypedProgram → Limits → ℕ → Automaton → Settled → Type 0
+SettlesKept t l n kept s = (w : List Letter) × Accepts kept w × SettlesWord t l n w s
+
+-- whether nothing is known of a word for its products
+abbrev pub is_by_products : Cause → Bool
+is_by_products causes.Rounds = false
+is_by_products causes.Whole = false
+is_by_products causes.Number = false
+is_by_products causes.Product = true
+
+abbrev pub ends_by_products : End → Bool
+ends_by_products ends.Safe = false
+ends_by_products (ends.Unsafe w steps choices) = false
+ends_by_products (ends.Unknown cause w) = is_by_products cause
+
+abbrev pub settled_by_products : Settled → Bool
+settled_by_products (settled.Removed entry) = false
+settled_by_products (settled.Ended end) = ends_by_products end
+
+-- each of the words that are kept has a coarse letter
+abbrev pub AllAreCoarse : Graph → Automaton → Type 0
+AllAreCoarse g kept = (w : List Letter) → Accepts kept w → IsExactWord g w → ⊥
 
 -- the entry's automaton is one of the program, certified, saturated, and accepts its word
 abbrev pub IsOwn : TypedProgram → Entry Certificate → Type 0

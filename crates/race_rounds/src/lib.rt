@@ -1,12 +1,14 @@
-//! Rounds of a race: [`kept_word`] takes a kept word, and [`settle`] decides its rows and makes what comes of it: an automaton that
+//! Rounds of a race: [`kept_word`] takes a kept word, and [`settle_kept`] decides its rows and makes what comes of it: an automaton that
 //! removes the word, or an end.
 #![tactic(auto)]
 
 mod choosing;
 mod deviating;
+mod exact;
 mod failing;
 mod limits;
 mod plans;
+mod products;
 mod recursion;
 mod refining;
 mod seeking;
@@ -15,4 +17,4 @@ mod sizes;
 
 pub use limits::{Limits, Round};
 pub use seeking::{Seeker, kept_word};
-pub use settling::{Settled, settle};
+pub use settling::{Settled, settle_kept};

@@ -1,7 +1,8 @@
 //! What comes of a kept word.
 
-ghost use Rattle.std.specs.Prelude.{◌≡◌, ◌≤◌, ℕ, ℤ, IfOk};
+ghost use Rattle.std.specs.Prelude.{◌≡◌, ◌≤◌, ℕ, ℤ, List, true, IfOk};
 ghost use Rattle.std.specs.List.{AllByRecursion};
+ghost use Rattle.nwa_base.specs.declared.letters.Letter.{Letter};
 ghost use Rattle.nwa_base.specs.Acceptance.{Accepts};
 ghost use Rattle.lin_rows.specs.Rows.{Holds};
 ghost use Rattle.letter_acts.specs.Feasible.{IsFeasible};
@@ -11,17 +12,20 @@ ghost use Rattle.typing_rules.specs.TypedParts.{typed_program};
 ghost use Rattle.lowered_graph.specs.Lowered.{lowered};
 ghost use Rattle.path_rows.specs.Paths.{IsPathOf};
 ghost use Rattle.path_decide.specs.Decided.{IsRefutation};
-ghost use Rattle.race_rounds.specs.Rounds.{SettlesWord};
+ghost use Rattle.race_rounds.specs.Rounds.{SettlesWord, SettlesKept, settled_by_products, AllAreCoarse};
 
+use crate::exact::exact_word;
 use crate::failing::failing;
 use crate::limits::{Limits, Round};
 use crate::plans::{Plan, plan_of};
+use crate::products::is_by_products;
 use crate::refining::{Refined, refine};
 use farkas_check::Refutation;
 use int_decide::{Answer, DecideFault};
 use itp_automaton::Certified;
 use letter_acts::Icfg;
-use nwa_base::Word;
+use nwa_base::{Nwa, Word};
+use nwa_emptiness::Found;
 use path_decide::decide_path;
 use path_rows::{PathSystem, rows_of};
 use race_core::{Cause, End, Entry};
@@ -38,8 +42,47 @@ pub enum Settled {
     Ended(End),
 }
 
+/// Whether nothing is known of a word for its products.
+fn settled_by_products(settled: &Settled) -> bool
+    ensures { result ≡ settled_by_products settled.now }
+{
+    match settled {
+        Settled::Ended(End::Unknown { cause, .. }) => is_by_products(*cause),
+        Settled::Ended(End::Safe | End::Unsafe { .. }) | Settled::Removed(_) => false,
+    }
+}
+
+/// What is made of one of the words that are kept: of the given one, or, where nothing is known of it for its products, of one without coarse
+/// letters, where there is one. Workers with different numbers make different automata.
+pub fn settle_kept<R: Threads + Sync>(
+    rt: &R,
+    alloc: Global,
+    program: &Typed,
+    icfg: &Icfg,
+    limits: Limits,
+    round: Round,
+    kept: &Nwa,
+    word: Word,
+) -> Result<Settled, AllocError>
+    requires lowered { icfg.now ≡ lowered (typed_program program.now) }
+    requires words { (w : List Letter) → Accepts kept.now w → Accepts icfg.now.automaton w }
+    requires kept { Accepts kept.now word }
+    requires depth { limits.depth ≤ 64 }
+    ensures settles { IfOk result (SettlesKept (typed_program program.now) limits round.version kept.now) }
+    ensures products { IfOk result (λ s. settled_by_products s ≡ true → AllAreCoarse icfg.now kept.now) }
+{
+    let settled = settle(rt, alloc, program, icfg, limits, round, word)?;
+    if !settled_by_products(&settled) {
+        return Ok(settled);
+    }
+    match exact_word(alloc, icfg, kept, round.worker)? {
+        Found::Word(exact) => settle(rt, alloc, program, icfg, limits, round, exact),
+        Found::Empty => Ok(settled),
+    }
+}
+
 /// What is made of a kept word: an entry with it, or an end. Workers with different numbers make different automata.
-pub fn settle<R: Threads + Sync>(
+fn settle<R: Threads + Sync>(
     rt: &R,
     alloc: Global,
     program: &Typed,

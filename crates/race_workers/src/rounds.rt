@@ -15,7 +15,7 @@ use itp_automaton::Certified;
 use nwa_base::{Nwa, accepts};
 use nwa_emptiness::Found;
 use race_core::{End, Entry};
-use race_rounds::{Round, Seeker, Settled, kept_word, settle};
+use race_rounds::{Round, Seeker, Settled, kept_word, settle_kept};
 use std::alloc::{AllocError, Global};
 use std::sync::Wait;
 use std::thread::Threads;
@@ -48,7 +48,7 @@ fn still_kept(
     }
 }
 
-/// Takes a kept word, and makes an entry that removes it, to be offered after another read, since others may have published by then, or
+/// Takes a kept word, and makes an entry that removes it or another one, to be offered after another read, since others may have published by then, or
 /// ends the race.
 fn seek<G: Gate + Sync, R: Threads + Wait + Sync>(
     rt: &R,
@@ -67,21 +67,23 @@ fn seek<G: Gate + Sync, R: Threads + Wait + Sync>(
     ensures turn { IfOk result (Seeks (typed_program job.now.program.now) pass.old pass.new) }
 {
     let version = snapshot.version;
+    let kept: &Nwa = &snapshot.kept;
     let this_round = Round {
         version,
         worker: number,
     };
-    let word = match kept_word(alloc, job.icfg, &snapshot.kept, this_round, seeker)? {
+    let word = match kept_word(alloc, job.icfg, kept, this_round, seeker)? {
         Found::Word(word) => word,
         Found::Empty => return Ok(finish(rt, job, number, pass, version, End::Safe)),
     };
-    match settle(
+    match settle_kept(
         rt,
         alloc,
         job.program,
         job.icfg,
         job.limits,
         this_round,
+        kept,
         word,
     )? {
         Settled::Ended(end) => Ok(finish(rt, job, number, pass, version, end)),

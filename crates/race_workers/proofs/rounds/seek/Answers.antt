@@ -6,7 +6,7 @@ use Rattle.nwa_emptiness.specs.declared.finding.Found.{Found}
 use Rattle.nwa_emptiness.specs.Found.{IsFound}
 use Rattle.typing_rules.specs.TypedParts.{typed_program}
 use Rattle.race_rounds.specs.declared.settling.Settled.{Settled}
-use Rattle.race_rounds.specs.Rounds.{SettlesWord}
+use Rattle.race_rounds.specs.Rounds.{SettlesKept}
 use Rattle.version_cell.proofs.Beginnings.{begins_same}
 use Rattle.race_workers.proofs.Parts.{safe, says, error_word, kept, settled_own}
 use Rattle.race_workers.proofs.Turns.{made}
@@ -26,9 +26,9 @@ finish-requires-clause-version g c κs within = c.requires.seen.0
 
 pub finish-requires-clause-end : goal.finish-requires-clause-end
 finish-requires-clause-end g c κs within =
-    let f = subst (λ (x : Found). IsFound c.deref.result.now x) c.in-Empty.is c.in_ok-word.ensures in
+    let f = subst (λ (x : Found). IsFound c.deref-kept.result.now x) c.in-Empty.is c.in_ok-word.ensures in
     safe (typed_program c.args.job.now.program.now) c.args.job.now.icfg.now c.args.job.now.limits c.args.job.now.cell.now c.args.pass.now c.args.snapshot.now.version (arc_value c.args.snapshot.now.kept)
-    c.requires.job c.requires.pass.of_cell c.requires.seen (λ w a. f w (subst (λ (m : Automaton). Accepts m w) (sym c.deref.ensures) a))
+    c.requires.job c.requires.pass.of_cell c.requires.seen (λ w a. f w (subst (λ (m : Automaton). Accepts m w) (sym c.deref-kept.ensures) a))
 
 pub returns-in-Empty-clause-pass : goal.returns-in-Empty-clause-pass
 returns-in-Empty-clause-pass g c = c.finish.ensures.pass
@@ -36,17 +36,19 @@ returns-in-Empty-clause-pass g c = c.finish.ensures.pass
 pub returns-in-Empty-clause-turn : goal.returns-in-Empty-clause-turn
 returns-in-Empty-clause-turn g c = c.finish.ensures.turn
 
-pub settle-requires-clause-lowered : goal.settle-requires-clause-lowered
-settle-requires-clause-lowered g c κs within = c.requires.job.lowered
+pub settle_kept-requires-clause-lowered : goal.settle_kept-requires-clause-lowered
+settle_kept-requires-clause-lowered g c κs within = c.requires.job.lowered
 
-pub settle-requires-clause-accepted : goal.settle-requires-clause-accepted
-settle-requires-clause-accepted g c κs within =
-    error_word (typed_program c.args.job.now.program.now) c.args.job.now.icfg.now c.args.job.now.limits c.args.job.now.cell.now c.args.pass.now c.args.snapshot.now.version (arc_value c.args.snapshot.now.kept) c.in-Word.word
-    c.requires.job c.requires.pass.of_cell c.requires.seen (subst (λ (m : Automaton). Accepts m c.in-Word.word) c.deref.ensures
-    (subst (λ (x : Found). IsFound c.deref.result.now x) c.in-Word.is c.in_ok-word.ensures))
+pub settle_kept-requires-clause-words : goal.settle_kept-requires-clause-words
+settle_kept-requires-clause-words g c κs within = λ w a.
+    error_word (typed_program c.args.job.now.program.now) c.args.job.now.icfg.now c.args.job.now.limits c.args.job.now.cell.now c.args.pass.now c.args.snapshot.now.version (arc_value c.args.snapshot.now.kept) w
+    c.requires.job c.requires.pass.of_cell c.requires.seen (subst (λ (m : Automaton). Accepts m w) c.deref-kept.ensures a)
 
-pub settle-requires-clause-depth : goal.settle-requires-clause-depth
-settle-requires-clause-depth g c κs within = c.requires.job.depth
+pub settle_kept-requires-clause-kept : goal.settle_kept-requires-clause-kept
+settle_kept-requires-clause-kept g c κs within = subst (λ (x : Found). IsFound c.deref-kept.result.now x) c.in-Word.is c.in_ok-word.ensures
+
+pub settle_kept-requires-clause-depth : goal.settle_kept-requires-clause-depth
+settle_kept-requires-clause-depth g c κs within = c.requires.job.depth
 
 pub returns-in_err-end-clause-pass : goal.returns-in_err-end-clause-pass
 returns-in_err-end-clause-pass g c = c.requires.pass
@@ -63,10 +65,9 @@ finish-requires-in-Ended-clause-version g c κs within = c.requires.seen.0
 pub finish-requires-in-Ended-clause-end : goal.finish-requires-in-Ended-clause-end
 finish-requires-in-Ended-clause-end g c κs within =
     let t = typed_program c.args.job.now.program.now in
-    let s = subst (λ (s : Settled). SettlesWord t c.args.job.now.limits c.args.snapshot.now.version c.in-Word.word s) c.in-Ended.is c.in_ok-end.ensures in
-    says (typed_program c.args.job.now.program.now) c.args.job.now.icfg.now c.args.job.now.limits c.args.job.now.cell.now c.args.pass.now c.args.snapshot.now.version (arc_value c.args.snapshot.now.kept) c.in-Word.word c.in-Ended.end
-    c.requires.job c.requires.pass.of_cell c.requires.seen (subst (λ (m : Automaton). Accepts m c.in-Word.word) c.deref.ensures
-    (subst (λ (x : Found). IsFound c.deref.result.now x) c.in-Word.is c.in_ok-word.ensures)) s
+    let s = subst (λ (s : Settled). SettlesKept t c.args.job.now.limits c.args.snapshot.now.version c.deref-kept.result.now s) c.in-Ended.is c.in_ok-end.ensures.settles in
+    says t c.args.job.now.icfg.now c.args.job.now.limits c.args.job.now.cell.now c.args.pass.now c.args.snapshot.now.version (arc_value c.args.snapshot.now.kept) s.0 c.in-Ended.end
+    c.requires.job c.requires.pass.of_cell c.requires.seen (subst (λ (m : Automaton). Accepts m s.0) c.deref-kept.ensures s.1) s.2
 
 pub returns-in-Ended-clause-pass : goal.returns-in-Ended-clause-pass
 returns-in-Ended-clause-pass g c = c.finish-in-Ended.ensures.pass
@@ -89,8 +90,7 @@ returns-in-Removed-clause-grows g c = begins_same c.args.pass.now.seen c.args.pa
 pub returns-in-Removed-clause-turn : goal.returns-in-Removed-clause-turn
 returns-in-Removed-clause-turn g c =
     let t = typed_program c.args.job.now.program.now in
-    let s = subst (λ (s : Settled). SettlesWord t c.args.job.now.limits c.args.snapshot.now.version c.in-Word.word s) c.in-Removed.is c.in_ok-end.ensures in
-    let k = kept t c.args.job.now.icfg.now c.args.job.now.limits c.args.job.now.cell.now c.args.pass.now c.args.snapshot.now.version (arc_value c.args.snapshot.now.kept) c.in-Word.word
-    c.requires.job c.requires.pass.of_cell c.requires.seen (subst (λ (m : Automaton). Accepts m c.in-Word.word) c.deref.ensures
-    (subst (λ (x : Found). IsFound c.deref.result.now x) c.in-Word.is c.in_ok-word.ensures)) in
-    made t c.args.pass.now c.in-Word.word c.in-Removed.entry k (settled_own t c.args.job.now.limits c.args.snapshot.now.version c.in-Word.word c.in-Removed.entry s) s.1
+    let s = subst (λ (s : Settled). SettlesKept t c.args.job.now.limits c.args.snapshot.now.version c.deref-kept.result.now s) c.in-Removed.is c.in_ok-end.ensures.settles in
+    let k = kept t c.args.job.now.icfg.now c.args.job.now.limits c.args.job.now.cell.now c.args.pass.now c.args.snapshot.now.version (arc_value c.args.snapshot.now.kept) s.0
+    c.requires.job c.requires.pass.of_cell c.requires.seen (subst (λ (m : Automaton). Accepts m s.0) c.deref-kept.ensures s.1) in
+    made t c.args.pass.now s.0 c.in-Removed.entry k (settled_own t c.args.job.now.limits c.args.snapshot.now.version s.0 c.in-Removed.entry s.2) s.2.1
