@@ -15,6 +15,10 @@ use crate::trimming::useful_names;
 use nwa_base::{Letter, Nwa};
 use std::alloc::{AllocError, Global};
 
+/// From how many states on those of different calls become one. A search of an automaton finds a word through a call that it has gone
+/// through before early, however long that is, so where there are few states each call keeps its own.
+const MANY: u32 = 1000;
+
 /// An automaton of the same language with at most as many states. Each of its states but the start lies on a way from the start
 /// to a final state, and no two are twins: both final or neither, and with the same edges.
 pub fn reduce(alloc: Global, nwa: &Nwa) -> Result<Nwa, AllocError>
@@ -76,11 +80,14 @@ fn folded(alloc: Global, nwa: Nwa) -> Result<Nwa, AllocError>
     }
 }
 
-/// The automaton in which states of one guessed class are one, if it accepts the same words.
+/// The automaton in which states of one guessed class are one, if there are many and it accepts the same words.
 fn folding_of(alloc: Global, nwa: &Nwa) -> Result<Option<Nwa>, AllocError>
     requires { IsTrim nwa.now }
     ensures { IfOk result (λ part. MatchOption part (Unit {0}) (λ n. IsReduced nwa.now n × IsTrim n)) }
 {
+    if nwa.states() < MANY {
+        return Ok(None);
+    }
     let joins = joins(alloc, nwa)?;
     let classes = guessed_classes(alloc, nwa, joins.as_slice())?;
     let names = class_numbers(alloc, nwa, classes.as_slice())?;
