@@ -14,33 +14,53 @@ use Rattle.trace_replay.specs.Replays.{choices_among, Replays}
 use Rattle.trace_replay.specs.ReplayCauses.{HasMade, StepEnds, ReadsPast, Stops, RunsOut}
 use Rattle.trace_replay.specs.Tried.{TriedFails, TriedPasses, EndsOtherwise, blocks, returns, needs, refuses, EndsWithin, TriedStops, TriedEnd, IsTriedEnd}
 use Rattle.trace_replay.specs.Tried as tried
+use Rattle.trace_replay.specs.Guesses.{FailsWith}
 use Rattle.trace_replay.proofs.ReplayRuns.{same_choice, step_takes, GoesBy, made_by}
 use Rattle.trace_replay.proofs.ReplayTurns.{Turn, Replayed, StopsBy, IsTurn, IsEnd, nothing_left, not_bad, stops_turn, fails_turn, no_further}
-use Rattle.trace_replay.proofs.ReplayLaws.{FailsAt, fails_at_replays, cause_ends, replay_ends}
+use Rattle.trace_replay.proofs.ReplayLaws.{fails_at_replays, cause_ends, replay_ends}
 
--- where it fails, the choices that are used replay
-pub tried_fails_replays : (t : TypedProgram) (n : ℕ) (choices : List ℤ) (steps : ℕ) (used : List ℤ) (i : ℕ) → TriedFails t n choices steps used i → Replays t steps used i
-tried_fails_replays t n choices steps used i s =
-    let taken : List (Option ℤ) = s.comes.taken in
-    let next : List ℤ = option_to_list s.fails.choice in
-    let all : (choices_among taken ++ next) ++ s.rest ≡ used ++ s.rest =
-    append_assoc (choices_among taken) next s.rest ∙ ap (λ (zs : List ℤ). choices_among taken ++ zs) (sym s.fails.first) ∙ s.comes.used ∙ s.used_is in
-    let fails : FailsAt t steps used i =
-    record {
-      made = s.made;
-      in_time = omega (arith, s.number);
-      here = s.here;
-      left = next;
-      comes = record {
-        taken = taken;
-        many = s.comes.many;
-        used = append_cancel_right (choices_among taken ++ next) used s.rest all;
-        leads = s.comes.leads;
-        fit = s.comes.fit;
-      };
-      fails = record { choice = s.fails.choice; first = sym (append-nil next); fit = s.fails.fit; ends = s.fails.ends };
-    } in
-    fails_at_replays t steps used i fails
+-- the choices that are used, alone, come to the step that fails
+module _ (t : TypedProgram) (n : ℕ) (choices : List ℤ) (steps : ℕ) (used : List ℤ) (i : ℕ) (s : TriedFails t n choices steps used i) where
+  taken : List (Option ℤ)
+  taken = s.comes.taken
+
+  next : List ℤ
+  next = option_to_list s.fails.choice
+
+  front_used : choices_among taken ++ next ≡ used
+  unfolding taken next
+  front_used =
+      append_cancel_right (choices_among taken ++ next) used s.rest
+      (append_assoc (choices_among taken) next s.rest ∙ ap (λ (zs : List ℤ). choices_among taken ++ zs) (sym s.fails.first) ∙ s.comes.used ∙ s.used_is)
+
+  front_made : HasMade t used s.made s.here next
+  unfolding taken next
+  front_made = record { taken = taken; many = s.comes.many; used = front_used; leads = s.comes.leads; fit = s.comes.fit }
+
+  front_fails : StepEnds t s.here next (Failed i) []
+  unfolding next
+  front_fails = record { choice = s.fails.choice; first = sym (append-nil next); fit = s.fails.fit; ends = s.fails.ends }
+
+  -- they make a run of their own fail with the same step
+  pub front_fails_alone : FailsWith t steps used i
+  front_fails_alone =
+      record {
+        made = s.made;
+        number = s.number;
+        in_time = omega (arith, s.number);
+        here = s.here;
+        left = next;
+        rest = [];
+        comes = front_made;
+        fails = front_fails;
+        used_is = sym (append-nil used);
+      }
+
+  -- they replay
+  pub tried_fails_replays : Replays t steps used i
+  tried_fails_replays =
+      fails_at_replays t steps used i
+      (record { made = s.made; in_time = omega (arith, s.number); here = s.here; left = next; comes = front_made; fails = front_fails })
 
 -- ---- at one configuration
 

@@ -4,6 +4,7 @@ pub mod Pieces
 pub mod Replays
 pub mod ReplayCauses
 pub mod Tried
+pub mod Guesses
 pub mod NextChoices
 pub mod ReplayAnswers
 pub mod ToldRuns

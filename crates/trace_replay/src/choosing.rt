@@ -1,6 +1,6 @@
 //! From a whole solution of a word's rows to a run of the program.
 
-ghost use Rattle.std.specs.Prelude.{◌≡◌, ℕ, IfOk, IfErr, length};
+ghost use Rattle.std.specs.Prelude.{◌≡◌, ℕ, IfOk, IfErr, IfSome, length};
 ghost use Rattle.std.specs.List.{AllByRecursion};
 ghost use Rattle.math_facts.specs.Fits.{Fits};
 ghost use Rattle.lin_rows.specs.Rows.{Holds};
@@ -16,9 +16,11 @@ ghost use Rattle.trace_replay.specs.Replays.{choices_among};
 ghost use Rattle.trace_replay.specs.ReplayAnswers.{IsTriedFault};
 ghost use Rattle.trace_replay.specs.ToldRuns.{ToldFails, IsToldFault};
 ghost use Rattle.trace_replay.specs.Tried.{TriedFails};
+ghost use Rattle.trace_replay.specs.Guesses.{IsGuessed};
 
 use crate::causes::ReplayFault;
 use crate::failure::Trail;
+use crate::searching::guessed;
 use crate::trying::tried;
 use boogie_run::Choice;
 use letter_acts::Icfg;
@@ -99,4 +101,28 @@ pub fn choices_of(
     let run = accepting_run(alloc, icfg, word)?;
     let taken = told_choices(alloc, program, icfg, word, &run, point)?;
     trail_of(alloc, program, &taken)
+}
+
+/// The choices of a run of the program that fails, other ones than those that a whole point of a word's rows tells, where a search finds some: it tries these
+/// numbers and others in their place, some thousand steps in all. `None` says nothing of the program.
+pub fn other_choices_of(
+    alloc: Global,
+    program: &Typed,
+    icfg: &Icfg,
+    word: &Word,
+    point: &[i128],
+    candidates: &[i128],
+) -> Result<Option<Trail>, AllocError>
+    requires lowered { icfg.now ≡ lowered (typed_program program.now) }
+    requires accepted { Accepts icfg.now.automaton word.now }
+    requires fits { AllByRecursion Fits point.now }
+
+    // the run that takes these choices fails with its last step, and its choices fit
+    ensures guessed { IfOk result (λ found. IfSome found (λ trail. IsGuessed (typed_program program.now) trail.steps (numbers trail.choices.items))) }
+    ensures fit { IfOk result (λ found. IfSome found (λ trail. AllByRecursion Fits (numbers trail.choices.items))) }
+{
+    let run = accepting_run(alloc, icfg, word)?;
+    let taken = told_choices(alloc, program, icfg, word, &run, point)?;
+    let told = chosen(alloc, &taken)?;
+    guessed(alloc, program, &told, taken.len() as u64, candidates, point)
 }

@@ -9,6 +9,7 @@ ghost use Rattle.trace_replay.specs.declared.causes.ReplayCause.{ReplayCause};
 ghost use Rattle.trace_replay.specs.Replays.{StepsFit, Replays};
 ghost use Rattle.trace_replay.specs.ReplayCauses.{StopsAt};
 ghost use Rattle.trace_replay.specs.Tried.{TriedFails, TriedEnd, IsTriedEnd};
+ghost use Rattle.trace_replay.specs.Guesses.{FailsWith};
 
 /// Failures with one text are one.
 pub fn failure_texts_are_one_to_one()
@@ -63,4 +64,9 @@ pub fn one_tried_end()
 /// Where it fails, the choices that it used replay.
 pub fn what_fails_when_tried_replays()
     ensures { (t : TypedProgram) (n : ℕ) (choices : List ℤ) (steps : ℕ) (used : List ℤ) (i : ℕ) → TriedFails t n choices steps used i → Replays t steps used i }
+{}
+
+/// Where it fails, the choices that it used make a run of their own fail the same assertion with the same step.
+pub fn fronts_fail_alone()
+    ensures { (t : TypedProgram) (n : ℕ) (choices : List ℤ) (steps : ℕ) (used : List ℤ) (i : ℕ) → TriedFails t n choices steps used i → FailsWith t steps used i }
 {}

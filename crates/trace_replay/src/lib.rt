@@ -4,17 +4,21 @@
 mod causes;
 mod choosing;
 mod failure;
+mod guessing;
 pub mod laws;
 mod numerals;
 mod pieces;
+mod random;
 mod reading;
 mod replaying;
+mod searching;
+mod suggesting;
 mod trying;
 mod writing;
 
 pub use boogie_run::{AssertId, Choice};
 pub use causes::{ReplayCause, ReplayFault};
-pub use choosing::choices_of;
+pub use choosing::{choices_of, other_choices_of};
 pub use failure::{Failure, FailureFault, Trail};
 pub use reading::read_failure;
 pub use replaying::replay;

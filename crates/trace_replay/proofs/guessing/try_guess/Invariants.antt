@@ -1,0 +1,15 @@
+use Rattle.std.proofs.Common.{[]}
+use Rattle.std.specs.List.{AllByRecursion}
+use Rattle.math_facts.specs.Fits.{Fits}
+use Rattle.typing_rules.specs.TypedParts.{typed_program}
+use Rattle.boogie_run.specs.RunView.{config_of, FitsProgram}
+use Rattle.trace_replay.specs.FailureText.{numbers}
+use Rattle.trace_replay.specs.ReplayCauses.{HasMade}
+use Rattle.trace_replay.proofs.guessing.try_guess.Given as goal
+
+abbrev pub invariant-loop-made : goal.invariant-loop-made
+invariant-loop-made l = record {
+  made : HasMade (typed_program l.program) (numbers l.choices.items) l.made (config_of l.config) [];
+  fits : FitsProgram l.program l.config;
+  fit : AllByRecursion Fits (numbers l.choices.items);
+}
