@@ -22,6 +22,7 @@ use Rattle.nested_predicates.specs.Fitting.{SumsFit}
 use Rattle.nested_refutations.specs.Numbers.{steps_of, StepNumbersFit}
 use Rattle.path_decide.specs.Decided.{RefutesPath, path_decision, PathFits, IsGap}
 use Rattle.path_rows.specs.Paths.{path_of}
+use Rattle.trace_replay.specs.Guesses.{FailsWith}
 use Rattle.trace_replay.specs.ToldRuns.{ToldFails, ToldPasses, ToldStops}
 use Rattle.race_core.specs.declared.ends.Cause.{Cause}
 use Rattle.race_core.specs.declared.ends.Cause.TheVariants.{Rounds, Whole, Number, Product}
@@ -33,12 +34,15 @@ use Rattle.race_rounds.specs.declared.limits.Limits.{Limits}
 
 -- ---- what is known of a word
 
--- A whole point of the rows of the word and an accepting run over it tell choices, these of which a run takes that fails an assertion after so many steps:
--- they replay and fit. Where the word has no coarse letter, it is the assertion at whose failing the accepting run ends.
+-- The rows of the word have a whole point, and a run that takes these choices fails an assertion, after exactly so many steps and when all choices are used, which
+-- fit. Where the word has no coarse letter, such a point and an accepting run over the word tell this run, and it fails the assertion at whose failing the accepting
+-- run ends.
 pub record FailsAfter (t : TypedProgram) (w : List Letter) (steps : ℕ) (choices : List ℤ) : Type 0 where
   pub point : List ℤ
   pub meets : AllByRecursion (Holds (point_of point)) (path_of (lowered t) w).rows
-  pub told : ToldFails t (point_of point) w steps choices
+  pub assertion : ℕ
+  pub fails : FailsWith t steps choices assertion
+  pub exact : IsExactWord (lowered t) w → ToldFails t (point_of point) w steps choices
   pub fit : AllByRecursion Fits choices
 
 -- Under each tree with these nodes, all numbers of the prefix predicates of the word, of the systems of their triples and of the refutations of

@@ -9,15 +9,19 @@ ghost use Rattle.typing_rules.specs.TypedParts.{typed_program};
 ghost use Rattle.lowered_graph.specs.Lowered.{lowered};
 ghost use Rattle.path_decide.specs.Decided.{IsWholePoint};
 ghost use Rattle.trace_replay.specs.FailureText.{numbers};
-ghost use Rattle.race_rounds.specs.Ends.{SaysOfWord};
+ghost use Rattle.race_rounds.specs.Ends.{CauseMeets, SaysOfWord};
 
+use crate::candidates::candidates;
 use crate::limits::Limits;
+use crate::products::is_by_products;
 use boogie_run::Choice;
 use letter_acts::Icfg;
+use lin_rows::Row;
 use nwa_base::Word;
 use race_core::{Cause, End};
 use std::alloc::{AllocError, Global};
-use trace_replay::{ReplayCause, ReplayFault, choices_of};
+use trace_replay::laws::fronts_fail_alone;
+use trace_replay::{ReplayCause, ReplayFault, choices_of, other_choices_of};
 use typing_rules::Typed;
 
 /// The numbers of choices.
@@ -43,8 +47,43 @@ fn cause_of(fault: ReplayCause) -> Cause
     }
 }
 
-/// The end that a whole point of the rows of a word makes: a run that fails, or that the run with its choices meets a value that does not fit, or
-/// that it ends otherwise, which it does on words with coarse letters alone.
+/// The end of a word where the choices that a whole point tells fail no assertion: a run that fails with others, where the word's products leave that open and
+/// some are found, or why nothing is known.
+fn unless_others_fail(
+    alloc: Global,
+    program: &Typed,
+    icfg: &Icfg,
+    limits: Limits,
+    word: Word,
+    point: &[i128],
+    rows: &[Row],
+    cause: Cause,
+) -> Result<End, AllocError>
+    requires lowered { icfg.now ≡ lowered (typed_program program.now) }
+    requires accepted { Accepts icfg.now.automaton word }
+    requires feasible { IsFeasible (alphabet_of icfg.now) word }
+    requires whole { IsWholePoint icfg.now limits.depth word point.now }
+    requires cause { (n : ℕ) → CauseMeets (typed_program program.now) limits n cause word }
+    ensures { (n : ℕ) → IfOk result (SaysOfWord (typed_program program.now) limits n word) }
+{
+    // Contracts alone speak of them.
+    let _limits = limits;
+    if !is_by_products(cause) {
+        return Ok(End::Unknown { cause, word });
+    }
+    let numbers = candidates(alloc, rows)?;
+    match other_choices_of(alloc, program, icfg, &word, point, &numbers)? {
+        Some(other) => Ok(End::Unsafe {
+            word,
+            steps: other.steps,
+            choices: numbers_of(alloc, &other.choices)?,
+        }),
+        None => Ok(End::Unknown { cause, word }),
+    }
+}
+
+/// The end that a whole point of the rows of a word makes: a run that fails with the choices that it tells, or with others where the word has coarse letters; or
+/// that the run with its choices meets a value that does not fit, or that it ends otherwise.
 pub(crate) fn failing(
     alloc: Global,
     program: &Typed,
@@ -52,6 +91,7 @@ pub(crate) fn failing(
     limits: Limits,
     word: Word,
     point: &[i128],
+    rows: &[Row],
 ) -> Result<End, AllocError>
     requires lowered { icfg.now ≡ lowered (typed_program program.now) }
     requires accepted { Accepts icfg.now.automaton word }
@@ -59,18 +99,23 @@ pub(crate) fn failing(
     requires whole { IsWholePoint icfg.now limits.depth word point.now }
     ensures { (n : ℕ) → IfOk result (SaysOfWord (typed_program program.now) limits n word) }
 {
-    // Contracts alone speak of them.
-    let _limits = limits;
+    fronts_fail_alone();
     match choices_of(alloc, program, icfg, &word, point) {
         Ok(trail) => Ok(End::Unsafe {
             word,
             steps: trail.steps,
             choices: numbers_of(alloc, &trail.choices)?,
         }),
-        Err(ReplayFault::At { cause, .. }) => Ok(End::Unknown {
-            cause: cause_of(cause),
+        Err(ReplayFault::At { cause, .. }) => unless_others_fail(
+            alloc,
+            program,
+            icfg,
+            limits,
             word,
-        }),
+            point,
+            rows,
+            cause_of(cause),
+        ),
         Err(ReplayFault::Memory) => Err(AllocError),
     }
 }

@@ -2,6 +2,7 @@
 //! removes the word, or an end.
 #![tactic(auto)]
 
+mod candidates;
 mod choosing;
 mod deviating;
 mod exact;

@@ -124,7 +124,15 @@ fn settle_rows<R: Threads + Sync>(
             refuted(rt, alloc, icfg, limits, round, word, path, &refutation)
         }
         Ok(Answer::Whole(point)) => {
-            let end = failing(alloc, program, icfg, limits, word, &point)?;
+            let end = failing(
+                alloc,
+                program,
+                icfg,
+                limits,
+                word,
+                &point,
+                &path.system().rows,
+            )?;
             Ok(Settled::Ended(end))
         }
         Err(DecideFault::Gap) => Ok(unknown(Cause::Whole, word)),

@@ -9,6 +9,7 @@ use Rattle.nwa_base.specs.declared.letters.Letter.{Letter}
 use Rattle.typed_tree.specs.TypedTree.{TypedProgram}
 use Rattle.trace_replay.specs.declared.failure.Failure.{Failure}
 use Rattle.trace_replay.specs.Replays.{Replays, IsReplayed}
+use Rattle.trace_replay.specs.Tried.{TriedFails}
 use Rattle.race_core.specs.declared.ends.End.{End}
 use Rattle.race_core.specs.declared.ends.End.TheVariants.{Safe, Unsafe}
 use Rattle.race_core.specs.declared.events.Entry.{Entry}
@@ -29,9 +30,11 @@ fails : (t : TypedProgram) (limits : Limits) (r : Race Certificate) (w : List Le
 fails t limits r w steps choices race e =
     said t limits r.history w steps choices (subst (λ (x : Option End). IfSome x (EndMeets automaton_in t limits r.history)) e race.end)
 
-pub replays : (t : TypedProgram) (limits : Limits) (r : Race Certificate) (w : List Letter) (steps : ℕ) (choices : Vec ℤ Global) → IsRaceOf t limits r →
+pub replays : (t : TypedProgram) (limits : Limits) (r : Race Certificate) (w : List Letter) (steps : ℕ) (choices : Vec ℤ Global) →
+    ((s : TypedProgram) (n : ℕ) (cs : List ℤ) (made : ℕ) (used : List ℤ) (i : ℕ) → TriedFails s n cs made used i → Replays s made used i) → IsRaceOf t limits r →
     r.end ≡ Some (Unsafe w steps choices) → (i : ℕ) × Replays t steps choices.items i
-replays t limits r w steps choices race e = let f = fails t limits r w steps choices race e in (f.1.told.assertion, f.1.told.replays)
+replays t limits r w steps choices replay race e =
+    let f = fails t limits r w steps choices race e in (f.1.assertion, replay t steps choices.items steps choices.items f.1.assertion f.1.fails)
 
 pub values_fit : (t : TypedProgram) (limits : Limits) (r : Race Certificate) (w : List Letter) (steps : ℕ) (choices : Vec ℤ Global) → IsRaceOf t limits r →
     r.end ≡ Some (Unsafe w steps choices) → AllByRecursion Fits choices.items

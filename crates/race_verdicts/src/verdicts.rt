@@ -17,6 +17,7 @@ use proof_form::Annotation;
 use race_core::{Cause, End, Shared};
 use std::alloc::{AllocError, Global};
 use trace_replay::Failure;
+use trace_replay::laws::what_fails_when_tried_replays;
 use typing_rules::Typed;
 
 /// What is said of a program.
@@ -52,6 +53,7 @@ pub fn verdict_of(
     requires ended { IsSome race.now.end }
     ensures { IfOk result (IsVerdict (typed_program program.now) race.now) }
 {
+    what_fails_when_tried_replays();
     let rounds = race.version();
     match race.end() {
         Some(End::Safe) => {

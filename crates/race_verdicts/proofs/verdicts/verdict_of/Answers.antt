@@ -12,7 +12,7 @@ pub failure_of-requires-clause-replays : goal.failure_of-requires-clause-replays
 failure_of-requires-clause-replays c =
     subst (λ (xs : List ℤ). (i : ℕ) × Replays (typed_program c.args.program.now) c.in-Some-Unsafe.steps xs i) (sym c.deref.ensures.value)
     (replays (typed_program c.args.program.now) c.requires.race.0 c.args.race.now c.in-Some-Unsafe.field-0-0 c.in-Some-Unsafe.steps c.in-Some-Unsafe.choices
-    c.requires.race.1 (sym c.in-Some-Unsafe.ensures ∙ ap (λ (e : End). Some e) c.in-Some-Unsafe.field-0-is))
+    c.what_fails_when_tried_replays.ensures c.requires.race.1 (sym c.in-Some-Unsafe.ensures ∙ ap (λ (e : End). Some e) c.in-Some-Unsafe.field-0-is))
 
 pub failure_of-requires-clause-fit : goal.failure_of-requires-clause-fit
 failure_of-requires-clause-fit c =
