@@ -1,9 +1,9 @@
 //! Values for columns that are free.
 
-use crate::random::Random;
 use boogie_tree::Ty;
 use letter_acts::{Act, Icfg};
 use lin_rows::Row;
+use random_numbers::Random;
 use std::alloc::{AllocError, Global};
 
 /// What a walk chooses by: a generator, and the numbers of the program's rows.

@@ -9,7 +9,6 @@ mod leading;
 mod letters;
 mod numbers;
 mod programs;
-mod random;
 mod walkers;
 mod walks;
 

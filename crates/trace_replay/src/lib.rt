@@ -8,7 +8,6 @@ mod guessing;
 pub mod laws;
 mod numerals;
 mod pieces;
-mod random;
 mod reading;
 mod replaying;
 mod searching;

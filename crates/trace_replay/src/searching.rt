@@ -9,9 +9,9 @@ ghost use Rattle.trace_replay.specs.Guesses.{IsGuessed};
 
 use crate::failure::Trail;
 use crate::guessing::{Attempt, Guess, Other, current_at, try_guess};
-use crate::random::Random;
 use crate::suggesting::suggested;
 use boogie_run::Choice;
+use random_numbers::Random;
 use std::alloc::{AllocError, Global};
 use typing_rules::Typed;
 
@@ -143,7 +143,7 @@ fn walked(
     ensures guessed { IfOk result (λ found. IfSome found (λ trail. IsGuessed (typed_program program.now) trail.steps (numbers trail.choices.items))) }
     ensures fit { IfOk result (λ found. IfSome found (λ trail. AllByRecursion Fits (numbers trail.choices.items))) }
 {
-    let mut random = Random::new();
+    let mut random = Random::new(0);
     let mut current = Vec::new(alloc);
     for _ in 0..RUNS {
         if budget.all == 0 {

@@ -1,18 +1,19 @@
-//! Numbers that look random, the same in each run (Marsaglia, 2003).
+//! Numbers that look random, the same from the same seed (Marsaglia, 2003).
+#![tactic(auto)]
 
 ghost use Rattle.std.specs.Prelude.{◌<◌};
 
 /// A generator of numbers that look random.
 #[derive(Drop)]
-pub(crate) struct Random {
+pub struct Random {
     state: u64,
 }
 
 impl Random {
-    /// The generator that each search begins with.
-    pub fn new() -> Self {
+    /// The generator of this seed.
+    pub fn new(seed: u64) -> Self {
         Random {
-            state: 0x2545_f491_4f6c_dd1d,
+            state: seed.wrapping_mul(0x9e37_79b9_7f4a_7c15) ^ 0x2545_f491_4f6c_dd1d,
         }
     }
 
