@@ -5,8 +5,8 @@ ghost use Rattle.typed_tree.specs.TypedView as view;
 ghost use Rattle.modular_cut.specs.Parts.{called_in, recalled, recalled_block};
 
 use std::alloc::AllocError;
-use typed_tree::copying::{call, conditional, looped};
 use typed_tree::TStmt;
+use typed_tree::copying::{call, conditional, looped};
 
 /// How calls are renumbered in a part: those of its own procedure go to the copy.
 #[derive(Clone, Copy)]
