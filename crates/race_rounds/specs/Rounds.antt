@@ -62,6 +62,10 @@ abbrev pub settled_by_products : Settled → Bool
 settled_by_products (settled.Removed entry) = false
 settled_by_products (settled.Ended end) = ends_by_products end
 
+-- in so many rounds another word is taken where nothing is known of one for its products
+abbrev pub rounds_with_others : ℕ
+rounds_with_others = 32
+
 -- each of the words that are kept has a coarse letter
 abbrev pub AllAreCoarse : Graph → Automaton → Type 0
 AllAreCoarse g kept = (w : List Letter) → Accepts kept w → IsExactWord g w → ⊥

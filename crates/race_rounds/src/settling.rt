@@ -1,6 +1,6 @@
 //! What comes of a kept word.
 
-ghost use Rattle.std.specs.Prelude.{◌≡◌, ◌≤◌, ℕ, ℤ, List, true, IfOk};
+ghost use Rattle.std.specs.Prelude.{◌≡◌, ◌<◌, ◌≤◌, ℕ, ℤ, List, true, IfOk};
 ghost use Rattle.std.specs.List.{AllByRecursion};
 ghost use Rattle.nwa_base.specs.declared.letters.Letter.{Letter};
 ghost use Rattle.nwa_base.specs.Acceptance.{Accepts};
@@ -12,7 +12,7 @@ ghost use Rattle.typing_rules.specs.TypedParts.{typed_program};
 ghost use Rattle.lowered_graph.specs.Lowered.{lowered};
 ghost use Rattle.path_rows.specs.Paths.{IsPathOf};
 ghost use Rattle.path_decide.specs.Decided.{IsRefutation};
-ghost use Rattle.race_rounds.specs.Rounds.{SettlesWord, SettlesKept, settled_by_products, AllAreCoarse};
+ghost use Rattle.race_rounds.specs.Rounds.{SettlesWord, SettlesKept, settled_by_products, AllAreCoarse, rounds_with_others};
 
 use crate::exact::exact_word;
 use crate::failing::failing;
@@ -52,8 +52,12 @@ fn settled_by_products(settled: &Settled) -> bool
     }
 }
 
-/// What is made of one of the words that are kept: of the given one, or, where nothing is known of it for its products, of one without coarse
-/// letters, where there is one. Workers with different numbers make different automata.
+/// In so many rounds a word without coarse letters is taken where nothing is known of another for its products. Later ones end the race, so that
+/// what makes the search go on and on does not keep from the user that products do.
+const ROUNDS_WITH_OTHERS: u64 = 32;
+
+/// What is made of one of the words that are kept: of the given one, or, in the first rounds, where nothing is known of it for its products, of one
+/// without coarse letters, where there is one. Workers with different numbers make different automata.
 pub fn settle_kept<R: Threads + Sync>(
     rt: &R,
     alloc: Global,
@@ -69,9 +73,12 @@ pub fn settle_kept<R: Threads + Sync>(
     requires kept { Accepts kept.now word }
     requires depth { limits.depth ≤ 64 }
     ensures settles { IfOk result (SettlesKept (typed_program program.now) limits round.version kept.now) }
-    ensures products { IfOk result (λ s. settled_by_products s ≡ true → AllAreCoarse icfg.now kept.now) }
+    ensures products { IfOk result (λ s. settled_by_products s ≡ true → round.version < rounds_with_others → AllAreCoarse icfg.now kept.now) }
 {
     let settled = settle(rt, alloc, program, icfg, limits, round, word)?;
+    if round.version >= ROUNDS_WITH_OTHERS {
+        return Ok(settled);
+    }
     if !settled_by_products(&settled) {
         return Ok(settled);
     }
