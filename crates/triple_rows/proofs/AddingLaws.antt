@@ -29,10 +29,10 @@ none_both : (a : PlainSystem) → both_systems a (only_rows []) ≡ a
 none_both (plain_system rows groups) =
     ap (λ (rs : List LinearRow). plain_system rs (groups_joined groups no_group)) (append-nil rows) ∙ ap (plain_system rows) (groups_none groups)
 
-both_none : (a : PlainSystem) → both_systems (only_rows []) a ≡ a
+pub both_none : (a : PlainSystem) → both_systems (only_rows []) a ≡ a
 both_none (plain_system rows groups) = refl
 
-both_assoc : (a b c : PlainSystem) → both_systems (both_systems a b) c ≡ both_systems a (both_systems b c)
+pub both_assoc : (a b c : PlainSystem) → both_systems (both_systems a b) c ≡ both_systems a (both_systems b c)
 both_assoc (plain_system r g) (plain_system s h) (plain_system t i) =
     ap (λ (rs : List LinearRow). plain_system rs (groups_joined (groups_joined g h) i)) (append_assoc r s t) ∙ ap (plain_system (r ++ (s ++ t))) (groups_assoc g h i)
 

@@ -13,7 +13,7 @@ use Rattle.triple_rows.specs.Systems.{PlainSystem, Groups, Members, plain_system
 use Rattle.triple_rows.specs.Drafts.{Adds, AddsAll}
 use Rattle.triple_rows.proofs.ListLaws.{all_joined}
 
-groups_joined_are : (a b : Groups) (gs hs : List (List System)) → AreGroups a gs → AreGroups b hs → AreGroups (groups_joined a b) (gs ++ hs)
+pub groups_joined_are : (a b : Groups) (gs hs : List (List System)) → AreGroups a gs → AreGroups b hs → AreGroups (groups_joined a b) (gs ++ hs)
 groups_joined_are no_group b [] hs h k = k
 groups_joined_are no_group b (g ∷ gs) hs h k = absurd h
 groups_joined_are (one_group ms a) b [] hs h k = absurd h

@@ -21,3 +21,4 @@ pub mod KnownLaws
 pub mod LetterLaws
 pub mod AgreeingLaws
 pub mod ValidLaws
+pub mod HalfLaws

@@ -7,3 +7,4 @@ pub mod Known
 pub mod Triples
 pub mod Proofs
 pub mod Cuts
+pub mod Halves

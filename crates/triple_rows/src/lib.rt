@@ -7,6 +7,7 @@ mod agreeing;
 mod building;
 mod drafts;
 mod frames;
+mod halves;
 mod holding;
 pub mod laws;
 mod making;
@@ -22,6 +23,7 @@ mod ties;
 mod triples;
 
 pub use agreeing::{agrees, is_over};
+pub use halves::{source_system, target_system};
 pub use holding::pred_holds;
 pub use making::pred;
 pub use predicates::{Pred, PredNode};

@@ -35,7 +35,7 @@ pub fn systems_of(alloc: Global, icfg: &Icfg, triple: &Triple) -> Result<System,
 }
 
 /// The system of an inside triple.
-fn inside_system(
+pub(crate) fn inside_system(
     alloc: Global,
     icfg: &Icfg,
     letter: u32,
@@ -67,7 +67,7 @@ fn inside_system(
 }
 
 /// The system of a call triple.
-fn call_system(
+pub(crate) fn call_system(
     alloc: Global,
     icfg: &Icfg,
     letter: u32,
@@ -99,7 +99,7 @@ fn call_system(
 }
 
 /// The system of a return triple.
-fn back_system(
+pub(crate) fn back_system(
     alloc: Global,
     icfg: &Icfg,
     letter: u32,
