@@ -5,3 +5,4 @@ mod MeetingLaws
 mod UnrefutedLaws
 mod PieceLaws
 mod FalseRowLaws
+mod JointLaws

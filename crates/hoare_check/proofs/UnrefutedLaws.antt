@@ -19,7 +19,7 @@ use Rattle.triple_rows.specs.Cuts.{columns_of}
 -- ---- the rows of a system whose numbers fit are rows
 
 mutual
-  rows_fit : (p : PlainSystem) (s : System) → PlainFits p → IsSystem p s → AllRows IsRow s
+  pub rows_fit : (p : PlainSystem) (s : System) → PlainFits p → IsSystem p s → AllRows IsRow s
   rows_fit (plain_system rows groups) s f h =
       AllRows_close IsRow s (subst (AllByRecursion IsRow) (sym h.0) f.0, groups_fit groups (groups_of s) f.1 h.1)
 

@@ -12,7 +12,7 @@ use letter_acts::{Act, Icfg, count_local_targets, count_variables};
 use triple_rows::Triple;
 
 /// The sum, where it has 32 bits.
-fn plus(count: u32, more: usize) -> Option<u32>
+pub(crate) fn plus(count: u32, more: usize) -> Option<u32>
     ensures { IsCount (count + more) result }
 {
     count.checked_add(u32::try_from(more).ok()?)

@@ -25,7 +25,7 @@ pub(crate) fn leaf_of_false_row(
 }
 
 /// The tree that is the leaf of this row, taken once.
-fn leaf_of(alloc: Global, place: u32) -> Result<Refutation, AllocError>
+pub(crate) fn leaf_of(alloc: Global, place: u32) -> Result<Refutation, AllocError>
     ensures { IfOk result (λ nodes. nodes ≡ leaf ((place, pos 1) ∷ []) ∷ []) }
 {
     let mut nodes = Vec::new(alloc);
@@ -37,7 +37,7 @@ fn leaf_of(alloc: Global, place: u32) -> Result<Refutation, AllocError>
 }
 
 /// The number of the first row `0 <= -1`.
-fn false_row(rows: &[Row]) -> Option<u32>
+pub(crate) fn false_row(rows: &[Row]) -> Option<u32>
     ensures { IfSome result (λ k. (k < length rows.now) × (row_at rows.now k ≡ never)) }
 {
     for place in 0..rows.len() {

@@ -21,7 +21,7 @@ pub(crate) fn is_met_by_one(system: &System, points: &[Vec<i128>]) -> bool
 /// Whether the point with these values is seen to meet the system. It recurses as deep as groups are nested, as dropping a
 /// system does.
 #[cycle(meeting)]
-fn is_met(system: &System, point: &[i128]) -> bool
+pub(crate) fn is_met(system: &System, point: &[i128]) -> bool
     ensures { IsTrue result → Meets (point_of point.now) system.now }
 {
     if !all_hold(&system.rows, point) {
