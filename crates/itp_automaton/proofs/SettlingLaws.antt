@@ -1,194 +1,77 @@
--- Triples that are tried one after another until all are settled.
-use Rattle.std.proofs.Common.{◌≡◌, ◌∙◌, ℕ, ◌+◌, List, [], ◌∷◌, ◌++◌, length, Option, None, Some, append_assoc, refl, sym, ap, subst, inl, inr}
-use Rattle.std.proofs.lemmas.List.{append-nil}
-use Rattle.std.specs.List.{AllByRecursion, AllZip, filter_map}
+-- Triples over the states, tried letter by letter until all are settled.
+use Rattle.std.proofs.Common.{◌≡◌, ◌∙◌, ℕ, ◌+◌, ◌<◌, List, [], ◌∷◌, ◌++◌, length, take, get_or, Option, None, Some, Result, Ok, Err, true, false, suc, refl, sym, ap, subst, inl, inr, arith}
+use Rattle.std.specs.Prelude.{◌==◌, IfOk, map, slice_get}
+use Rattle.std.proofs.lemmas.Bool.{eqb-true}
+use Rattle.std.proofs.lemmas.List.{take_more, map-append}
+use Rattle.std.specs.declared.vec.Vec.{Vec}
+use Rattle.std.specs.declared.alloc.Global.{Global}
+use Rattle.std.specs.List.{AllByRecursion, AllZip, flat_map}
 use Rattle.nwa_base.specs.Members.{Member}
 use Rattle.nwa_base.proofs.MemberLemmas.{member_front, member_rest, member_split}
-use Rattle.letter_acts.specs.Acts.{Alphabet}
+use Rattle.letter_acts.specs.Acts.{PlainAct, inside_act, call_act, back_act, Alphabet}
 use Rattle.triple_rows.specs.declared.triples.Scoped.{Scoped}
 use Rattle.triple_rows.specs.declared.triples.Triple.{Triple}
-use Rattle.triple_rows.specs.Triples.{IsScoped, Agrees}
+use Rattle.triple_rows.specs.Triples.{IsScoped, InsideAgrees, CallAgrees, BackAgrees, Agrees}
 use Rattle.triple_rows.specs.Proofs.{PlainProof}
-use Rattle.hoare_check.specs.Decided.{MayProve}
-use Rattle.itp_automaton.specs.declared.settling.Work.{Work}
+use Rattle.hoare_check.specs.declared.halves.Half.{Half}
+use Rattle.hoare_check.specs.Decided.{RefutesUncut}
+use Rattle.hoare_check.specs.Halves.{IsSourceHalf, IsTargetHalf}
+use Rattle.itp_automaton.specs.declared.settling.Target.{Target}
 use Rattle.itp_automaton.specs.declared.sources.Source.{Source}
 use Rattle.itp_automaton.specs.declared.sources.Source.TheVariants.{Inside, Call, Back}
-use Rattle.itp_automaton.specs.Settling.{IsListed, AddsWaiting, SettlesTriple, NamesStates, IsGrounded, letter_in, IsWithin, triple_from, AgreesTo, AreSources, AreTriplesFrom, Adds, SettledBelow, IsDue, MayWait, GoesOn, DueFrom, DueBy, DueBelow}
-use Rattle.itp_automaton.proofs.StateLaws.{below_or_last}
+use Rattle.itp_automaton.specs.Settling.{IsListed, SettlesTriple, NamesStates, IsGrounded, letter_in, IsWithin, state_at, triple_from, AgreesTo, AreSources, Adds, SettledBelow, SettledBy, IsTarget, AreTargets, SettlesTargets, AreAllBelow, IsFoundBy}
+use Rattle.itp_automaton.proofs.StateLaws.{below_or_last, got_at, member_at}
 use Rattle.itp_automaton.proofs.BuiltLaws.{all_member, all_push}
-use Rattle.itp_automaton.proofs.SourceLaws.{state_listed}
+use Rattle.itp_automaton.proofs.SourceLaws.{state_listed, in_scope}
 
--- ---- the answers that are proofs
-
-abbrev pub proofs_in : List (Option PlainProof) → List PlainProof
-proofs_in answers = filter_map (λ o. o) answers
-
-proofs_append : (xs ys : List (Option PlainProof)) → proofs_in (xs ++ ys) ≡ proofs_in xs ++ proofs_in ys
-proofs_append [] ys = refl
-proofs_append (None ∷ xs) ys = proofs_append xs ys
-proofs_append (Some p ∷ xs) ys = ap (λ l. p ∷ l) (proofs_append xs ys)
-
--- one more answer
-pub kept_some : (xs : List (Option PlainProof)) (o : Option PlainProof) (p : PlainProof) (old now new : List PlainProof) → o ≡ Some p → now ≡ old ++ proofs_in xs → new ≡ now ++ p ∷ [] →
-    new ≡ old ++ proofs_in (xs ++ o ∷ [])
-kept_some xs o p old now new e h k =
-    k ∙ ap (λ l. l ++ p ∷ []) h ∙ append_assoc old (proofs_in xs) (p ∷ []) ∙ ap (λ l. old ++ l) (sym (proofs_append xs (o ∷ []) ∙ ap (λ (x : Option PlainProof). proofs_in xs ++ proofs_in (x ∷ [])) e))
-
-pub kept_none : (xs : List (Option PlainProof)) (o : Option PlainProof) (old now : List PlainProof) → ((p : PlainProof) → o ≡ Some p → ⊥) → now ≡ old ++ proofs_in xs →
-    now ≡ old ++ proofs_in (xs ++ o ∷ [])
-kept_none xs None old now n h = h ∙ ap (λ l. old ++ l) (sym (proofs_append xs (None ∷ []) ∙ append-nil (proofs_in xs)))
-kept_none xs (Some p) old now n h = absurd (n p refl)
-
--- ---- triples that were tried
-
-pub settled_later : (al : Alphabet) (old new : List PlainProof) (t : Triple) → ((p : PlainProof) → Member old p → Member new p) → SettlesTriple al old t → SettlesTriple al new t
-settled_later al old new t more s a r = let h = s a r in (h.0, more h.0 h.1, h.2)
+-- ---- lists
 
 pub all_later : {X : Type 0} (P Q : X → Type 0) (xs : List X) → ((x : X) → P x → Q x) → AllByRecursion P xs → AllByRecursion Q xs
 all_later P Q [] f h = tt
 all_later P Q (x ∷ xs) f h = (f x h.0, all_later P Q xs f h.1)
 
-tried_settled : (al : Alphabet) (ts : List Triple) (os : List (Option PlainProof)) → AllZip (MayProve al) ts os → AllByRecursion (SettlesTriple al (proofs_in os)) ts
-tried_settled al [] [] h = tt
-tried_settled al [] (o ∷ os) h = absurd h
-tried_settled al (t ∷ ts) [] h = absurd h
-tried_settled al (t ∷ ts) (None ∷ os) h = (λ a r. absurd (h.0 r), tried_settled al ts os h.1)
-tried_settled al (t ∷ ts) (Some p ∷ os) h = (
-  λ a r. (p, inl refl, h.0.0),
-  all_later (SettlesTriple al (proofs_in os)) (SettlesTriple al (p ∷ proofs_in os)) ts (λ s k. settled_later al (proofs_in os) (p ∷ proofs_in os) s (λ q m. inr m) k) (tried_settled al ts os h.1),
-)
-
-kept_settled : (al : Alphabet) (ts : List Triple) (os : List (Option PlainProof)) (old new : List PlainProof) → AllZip (MayProve al) ts os → new ≡ old ++ proofs_in os →
-    AllByRecursion (SettlesTriple al new) ts
-kept_settled al ts os old new h e = subst (λ (l : List PlainProof). AllByRecursion (SettlesTriple al l) ts) (sym e)
-    (all_later (SettlesTriple al (proofs_in os)) (SettlesTriple al (old ++ proofs_in os)) ts (λ s k. settled_later al (proofs_in os) (old ++ proofs_in os) s (λ q m. member_rest old (proofs_in os) q m) k) (tried_settled al ts os h))
-
-tried_grounded : (al : Alphabet) (states : List Scoped) (ts : List Triple) (os : List (Option PlainProof)) → AllZip (MayProve al) ts os → AllByRecursion (Agrees al) ts → AllByRecursion (NamesStates states) ts →
-    AllByRecursion (IsGrounded al states) (proofs_in os)
-tried_grounded al states [] [] h a n = tt
-tried_grounded al states [] (o ∷ os) h a n = absurd h
-tried_grounded al states (t ∷ ts) [] h a n = absurd h
-tried_grounded al states (t ∷ ts) (None ∷ os) h a n = tried_grounded al states ts os h.1 a.1 n.1
-tried_grounded al states (t ∷ ts) (Some p ∷ os) h a n = (
-  record {
-    proof = h.0.1;
-    named = subst (NamesStates states) (sym h.0.0) n.0;
-  },
-  tried_grounded al states ts os h.1 a.1 n.1,
-)
-
-all_append : {X : Type 0} (P : X → Type 0) (xs ys : List X) → AllByRecursion P xs → AllByRecursion P ys → AllByRecursion P (xs ++ ys)
+pub all_append : {X : Type 0} (P : X → Type 0) (xs ys : List X) → AllByRecursion P xs → AllByRecursion P ys → AllByRecursion P (xs ++ ys)
 all_append P [] ys h k = k
 all_append P (x ∷ xs) ys h k = (h.0, all_append P xs ys h.1 k)
 
-kept_adds : (al : Alphabet) (ts : List Triple) (os : List (Option PlainProof)) (old new : List PlainProof) → AllZip (MayProve al) ts os → AllByRecursion (Agrees al) ts → new ≡ old ++ proofs_in os →
-    (states : List Scoped) → AllByRecursion (NamesStates states) ts → Adds al states old new
-kept_adds al ts os old new h a e states n = record {
-  kept = λ p m. subst (λ (l : List PlainProof). Member l p) (sym e) (member_front old (proofs_in os) p m);
-  grounded = λ g. subst (λ (l : List PlainProof). AllByRecursion (IsGrounded al states) l) (sym e)
-      (all_append (IsGrounded al states) old (proofs_in os) g (tried_grounded al states ts os h a n));
-}
+-- a list that is seen to be empty
+pub none_left : {X : Type 0} (xs : List X) → (length xs == 0) ≡ true → xs ≡ []
+none_left [] e = refl
+none_left (x ∷ xs) e = absurd (let z : suc (length xs) ≡ 0 = eqb-true (suc (length xs)) 0 e in omega (arith, z))
 
-adds_none : (al : Alphabet) (states : List Scoped) (proofs : List PlainProof) → Adds al states proofs proofs
+-- one that is seen not to be
+pub some_left : {X : Type 0} (xs : List X) → (length xs == 0) ≡ false → 0 < length xs
+some_left [] e = absurd (let z : true ≡ false = e in cc)
+some_left (x ∷ xs) e = omega arith
+
+-- what holds of the value of an `Ok`, where it is one
+pub at_ok : {T E : Type 0} (r : Result T E) (P : T → Type 0) (v : T) (Q : Type 0) → IfOk r P → r ≡ Ok v → ((x : T) → x ≡ v → P x → Q) → Q
+at_ok (Ok w) P v Q h e f = let same : w ≡ v = cc in f w same h
+at_ok (Err x) P v Q h e f = absurd cc
+
+-- ---- proofs that are added
+
+pub settled_later : (al : Alphabet) (old new : List PlainProof) (t : Triple) → ((p : PlainProof) → Member old p → Member new p) → SettlesTriple al old t → SettlesTriple al new t
+settled_later al old new t more s a r = let h = s a r in (h.0, more h.0 h.1, h.2)
+
+pub adds_none : (al : Alphabet) (states : List Scoped) (proofs : List PlainProof) → Adds al states proofs proofs
 adds_none al states proofs = record { kept = λ p m. m; grounded = λ g. g }
 
-adds_more : (al : Alphabet) (states : List Scoped) (old now new : List PlainProof) → Adds al states old now → Adds al states now new → Adds al states old new
+pub adds_more : (al : Alphabet) (states : List Scoped) (old now new : List PlainProof) → Adds al states old now → Adds al states now new → Adds al states old new
 adds_more al states old now new a b = record { kept = λ p m. b.kept p (a.kept p m); grounded = λ g. b.grounded (a.grounded g) }
 
-adds_same : (al : Alphabet) (states : List Scoped) (old new : List PlainProof) → new ≡ old → Adds al states old new
-adds_same al states old new e = record {
-  kept = λ p m. subst (λ (l : List PlainProof). Member l p) (sym e) m;
-  grounded = λ g. subst (λ (l : List PlainProof). AllByRecursion (IsGrounded al states) l) (sym e) g;
+pub adds_found : (al : Alphabet) (states : List Scoped) (old more new : List PlainProof) → AllByRecursion (IsGrounded al states) more → new ≡ old ++ more → Adds al states old new
+adds_found al states old more new h e = record {
+  kept = λ p m. subst (λ (l : List PlainProof). Member l p) (sym e) (member_front old more p m);
+  grounded = λ g. subst (λ (l : List PlainProof). AllByRecursion (IsGrounded al states) l) (sym e) (all_append (IsGrounded al states) old more g h);
 }
 
--- ---- work that goes on
-
-may_agree : (al : Alphabet) (states : List Scoped) (ts : List Triple) → AllByRecursion (MayWait al states) ts → AllByRecursion (Agrees al) ts
-may_agree al states ts h = all_later (MayWait al states) (Agrees al) ts (λ t k. k.agrees) h
-
-pub waiting_agree : (al : Alphabet) (states : List Scoped) (w : Work) → AllByRecursion (MayWait al states) w.waiting.items → AllByRecursion (Agrees al) w.waiting.items
-waiting_agree al states w h = may_agree al states w.waiting.items h
-
--- the triples that wait are tried
-pub tried_goes : (al : Alphabet) (old new : Work) (os : List (Option PlainProof)) → AllZip (MayProve al) old.waiting.items os →
-    new.proofs.items ≡ old.proofs.items ++ proofs_in os → new.waiting.items ≡ [] →
-    (states : List Scoped) → AllByRecursion (MayWait al states) old.waiting.items → GoesOn al states old new
-tried_goes al old new os h e none states may =
-    let ts = old.waiting.items in
-    let named = all_later (MayWait al states) (NamesStates states) ts (λ t k. k.named) may in
-    let adds = kept_adds al ts os old.proofs.items new.proofs.items h (may_agree al states ts may) e states named in
-    let settled = kept_settled al ts os old.proofs.items new.proofs.items h e in
-    record {
-      adds = adds;
-      waiting = subst (λ (l : List Triple). AllByRecursion (MayWait al states) l) (sym none) tt;
-      due = λ t d. elim d [
-        | inl s ↦ inl (settled_later al old.proofs.items new.proofs.items t adds.kept s)
-        | inr m ↦ inl (all_member (SettlesTriple al new.proofs.items) ts t settled m)
-      ];
-    }
-
-pub goes_same : (al : Alphabet) (states : List Scoped) (w : Work) → AllByRecursion (MayWait al states) w.waiting.items → GoesOn al states w w
-goes_same al states w h = record { adds = adds_none al states w.proofs.items; waiting = h; due = λ t d. d }
-
-pub goes_more : (al : Alphabet) (states : List Scoped) (old now new : Work) → GoesOn al states old now → GoesOn al states now new → GoesOn al states old new
-goes_more al states old now new a b = record {
-  adds = adds_more al states old.proofs.items now.proofs.items new.proofs.items a.adds b.adds;
-  waiting = b.waiting;
-  due = λ t d. b.due t (a.due t d);
-}
-
--- ---- triples that wait
-
-module _ (proofs : List PlainProof) (old ts now new : List Triple) (t : Triple) (h : AddsWaiting proofs old ts now) where
-  -- one more that is listed
-  pub waits_listed : IsListed proofs t → AddsWaiting proofs old (ts ++ t ∷ []) now
-  waits_listed l = record {
-    kept = h.kept;
-    added = λ s m. elim (member_split ts (t ∷ []) s m) [
-      | inl k ↦ h.added s k
-      | inr k ↦ elim k [ inl e ↦ inl (subst (IsListed proofs) e l) | inr none ↦ absurd none ]
-    ];
-    only = λ s m. elim (h.only s m) [ inl k ↦ inl k | inr k ↦ inr (member_front ts (t ∷ []) s k) ];
-  }
-
-  -- one more that waits
-  pub waits_more : new ≡ now ++ t ∷ [] → AddsWaiting proofs old (ts ++ t ∷ []) new
-  waits_more e = subst (AddsWaiting proofs old (ts ++ t ∷ [])) (sym e) (record {
-    kept = λ s m. member_front now (t ∷ []) s (h.kept s m);
-    added = λ s m. elim (member_split ts (t ∷ []) s m) [
-      | inl k ↦ elim (h.added s k) [ inl l ↦ inl l | inr w ↦ inr (member_front now (t ∷ []) s w) ]
-      | inr k ↦ inr (member_rest now (t ∷ []) s k)
-    ];
-    only = λ s m. elim (member_split now (t ∷ []) s m) [
-      | inl k ↦ elim (h.only s k) [ inl o ↦ inl o | inr w ↦ inr (member_front ts (t ∷ []) s w) ]
-      | inr k ↦ inr (member_rest ts (t ∷ []) s k)
-    ];
-  })
-
--- what holds of each member holds of all
-pub all_if : {X : Type 0} (P : X → Type 0) (xs : List X) → ((x : X) → Member xs x → P x) → AllByRecursion P xs
-all_if P [] h = tt
-all_if P (x ∷ xs) h = (h x (inl refl), all_if P xs (λ y m. h y (inr m)))
-
--- more triples wait
-pub more_wait : (al : Alphabet) (states : List Scoped) (old new : Work) (ts : List Triple) → AddsWaiting old.proofs.items old.waiting.items ts new.waiting.items →
-    new.proofs.items ≡ old.proofs.items → AllByRecursion (MayWait al states) old.waiting.items → AllByRecursion (MayWait al states) ts → GoesOn al states old new
-more_wait al states old new ts w same h k = record {
-  adds = adds_same al states old.proofs.items new.proofs.items same;
-  waiting = all_if (MayWait al states) new.waiting.items (λ t m. elim (w.only t m) [
-    | inl o ↦ all_member (MayWait al states) old.waiting.items t h o
-    | inr n ↦ all_member (MayWait al states) ts t k n
-  ]);
-  due = λ t d. elim d [
-    | inl s ↦ inl (subst (λ (l : List PlainProof). SettlesTriple al l t) (sym same) s)
-    | inr m ↦ inr (w.kept t m)
-  ];
-}
-
--- with none that waits all is settled
-pub none_waits : (al : Alphabet) (w : Work) (t : Triple) → w.waiting.items ≡ [] → IsDue al w t → SettlesTriple al w.proofs.items t
-none_waits al w t e (inl s) = s
-none_waits al w t e (inr m) = absurd (subst (λ (l : List Triple). Member l t) e m)
+-- more proofs behind those that are known
+pub behind_known : (known old new : List PlainProof) → ((p : PlainProof) → Member old p → Member new p) → (p : PlainProof) → Member (known ++ old) p → Member (known ++ new) p
+behind_known known old new more p m = elim (member_split known old p m) [
+  | inl k ↦ member_front known new p k
+  | inr k ↦ member_rest known new p (more p k)
+]
 
 -- ---- triples from a source
 
@@ -197,74 +80,211 @@ names_from states (Inside q) letter after h m = (state_listed states q h, (m, tt
 names_from states (Call q) letter after h m = (state_listed states q h, (m, tt))
 names_from states (Back q p) letter after h m = (state_listed states q h.0, (state_listed states p h.1, (m, tt)))
 
-module _ (al : Alphabet) (states : List Scoped) (letter proc : ℕ) (source : Source) (done : List Scoped) (s : Scoped) (found new : List Triple) (f : AreTriplesFrom al states letter proc source done found) where
-  pub triple_found : IsWithin (length states) source → AgreesTo al states letter proc source → Member states s → IsScoped al proc s → new ≡ found ++ triple_from states source letter s ∷ [] →
-      AreTriplesFrom al states letter proc source (done ++ s ∷ []) new
-  triple_found w a m h e = subst (λ (l : List Triple). AreTriplesFrom al states letter proc source (done ++ s ∷ []) l) (sym e) (record {
-    agree = all_push (Agrees al) found (triple_from states source letter s) f.agree (a s h);
-    named = all_push (NamesStates states) found (triple_from states source letter s) f.named (names_from states source letter s w m);
-    all = λ after k i. elim (member_split done (s ∷ []) after k) [
-      | inl j ↦ member_front found (triple_from states source letter s ∷ []) (triple_from states source letter after) (f.all after j i)
-      | inr j ↦ elim j [
-        | inl same ↦ member_rest found (triple_from states source letter s ∷ []) (triple_from states source letter after) (inl (ap (λ (x : Scoped). triple_from states source letter x) same))
-        | inr none ↦ absurd none
-      ]
-    ];
-  })
+-- the half of a source is that to each target
+pub source_half_of : (al : Alphabet) (states : List Scoped) (source : Source) (letter : ℕ) (a b : Scoped) (half : Option Half) →
+    IsSourceHalf al (triple_from states source letter a) half → IsSourceHalf al (triple_from states source letter b) half
+source_half_of al states (Inside q) letter a b None h = h
+source_half_of al states (Inside q) letter a b (Some half) h = h
+source_half_of al states (Call q) letter a b None h = h
+source_half_of al states (Call q) letter a b (Some half) h = h
+source_half_of al states (Back q p) letter a b None h = h
+source_half_of al states (Back q p) letter a b (Some half) h = h
 
-  pub triple_left : (IsScoped al proc s → ⊥) → new ≡ found → AreTriplesFrom al states letter proc source (done ++ s ∷ []) new
-  triple_left n e = subst (λ (l : List Triple). AreTriplesFrom al states letter proc source (done ++ s ∷ []) l) (sym e) (record {
-    agree = f.agree;
-    named = f.named;
-    all = λ after k i. elim (member_split done (s ∷ []) after k) [
-      | inl j ↦ f.all after j i
-      | inr j ↦ elim j [ inl same ↦ absurd (n (subst (λ (x : Scoped). IsScoped al proc x) (sym same) i)) | inr none ↦ absurd none ]
-    ];
-  })
+-- ---- the kind of a letter is that of all its triples
 
--- ---- from all sources, by all letters
+inside_or_call : (al : Alphabet) (o : Option PlainAct) (a b c d : Scoped) → InsideAgrees al o a b → CallAgrees al o c d → ⊥
+inside_or_call al None a b c d h k = h
+inside_or_call al (Some (inside_act p written helpers rows)) a b c d h k = k
+inside_or_call al (Some (call_act caller callee helpers rows)) a b c d h k = h
+inside_or_call al (Some (back_act n targets)) a b c d h k = h
 
-found_may : (al : Alphabet) (states : List Scoped) (ts : List Triple) → AllByRecursion (Agrees al) ts → AllByRecursion (NamesStates states) ts → AllByRecursion (MayWait al states) ts
-found_may al states [] a n = tt
-found_may al states (t ∷ ts) a n = (record { agrees = a.0; named = n.0 }, found_may al states ts a.1 n.1)
+inside_or_back : (al : Alphabet) (o : Option PlainAct) (a b c d e : Scoped) → InsideAgrees al o a b → BackAgrees al o c d e → ⊥
+inside_or_back al None a b c d e h k = h
+inside_or_back al (Some (inside_act p written helpers rows)) a b c d e h k = k
+inside_or_back al (Some (call_act caller callee helpers rows)) a b c d e h k = h
+inside_or_back al (Some (back_act n targets)) a b c d e h k = h
 
-pub from_later : (al : Alphabet) (states : List Scoped) (letter proc : ℕ) (old new : Work) (sources : List Source) → ((t : Triple) → IsDue al old t → IsDue al new t) →
-    AllByRecursion (DueFrom al states letter proc old) sources → AllByRecursion (DueFrom al states letter proc new) sources
-from_later al states letter proc old new sources more h = all_later (DueFrom al states letter proc old) (DueFrom al states letter proc new) sources
-    (λ s k after m i. more (triple_from states s letter after) (k after m i)) h
+call_or_back : (al : Alphabet) (o : Option PlainAct) (a b c d e : Scoped) → CallAgrees al o a b → BackAgrees al o c d e → ⊥
+call_or_back al None a b c d e h k = h
+call_or_back al (Some (inside_act p written helpers rows)) a b c d e h k = h
+call_or_back al (Some (call_act caller callee helpers rows)) a b c d e h k = k
+call_or_back al (Some (back_act n targets)) a b c d e h k = h
 
--- the triples from one source more wait, and then many are tried
-module _ (al : Alphabet) (states : List Scoped) (letter proc : ℕ) (source : Source) (found : List Triple) (old more new : Work) (f : AreTriplesFrom al states letter proc source states found)
-    (e : AddsWaiting old.proofs.items old.waiting.items found more.waiting.items) (same : more.proofs.items ≡ old.proofs.items) where
-  pub source_waits : AllByRecursion (MayWait al states) old.waiting.items → GoesOn al states old more
-  source_waits h = more_wait al states old more found e same h (found_may al states found f.agree f.named)
+-- the half of a target is that from each source
+target_half_of : (al : Alphabet) (states : List Scoped) (s u : Source) (letter : ℕ) (a : Scoped) (half : Option Half) → Agrees al (triple_from states s letter a) →
+    Agrees al (triple_from states u letter a) → IsTargetHalf al (triple_from states s letter a) half → IsTargetHalf al (triple_from states u letter a) half
+target_half_of al states (Inside q) (Inside r) letter a None g i h = h
+target_half_of al states (Inside q) (Inside r) letter a (Some half) g i h = h
+target_half_of al states (Inside q) (Call r) letter a half g i h = absurd (inside_or_call al (slice_get al.acts letter) (state_at states q) a (state_at states r) a g i)
+target_half_of al states (Inside q) (Back r p) letter a half g i h =
+    absurd (inside_or_back al (slice_get al.acts letter) (state_at states q) a (state_at states r) (state_at states p) a g i)
+target_half_of al states (Call q) (Inside r) letter a half g i h = absurd (inside_or_call al (slice_get al.acts letter) (state_at states r) a (state_at states q) a i g)
+target_half_of al states (Call q) (Call r) letter a None g i h = h
+target_half_of al states (Call q) (Call r) letter a (Some half) g i h = h
+target_half_of al states (Call q) (Back r p) letter a half g i h =
+    absurd (call_or_back al (slice_get al.acts letter) (state_at states q) a (state_at states r) (state_at states p) a g i)
+target_half_of al states (Back q p) (Inside r) letter a half g i h =
+    absurd (inside_or_back al (slice_get al.acts letter) (state_at states r) a (state_at states q) (state_at states p) a i g)
+target_half_of al states (Back q p) (Call r) letter a half g i h =
+    absurd (call_or_back al (slice_get al.acts letter) (state_at states r) a (state_at states q) (state_at states p) a i g)
+target_half_of al states (Back q p) (Back r o) letter a None g i h = h
+target_half_of al states (Back q p) (Back r o) letter a (Some half) g i h = h
 
-  pub source_due : GoesOn al states more new → DueFrom al states letter proc new source
-  source_due g after m i =
-      let t = triple_from states source letter after in
-      g.due t (elim (e.added t (f.all after m i)) [
-        | inl l ↦ inl (λ a r. subst (λ (ps : List PlainProof). IsListed ps t) (sym same) l)
-        | inr w ↦ inr w
-      ])
+target_from : (al : Alphabet) (states : List Scoped) (letter proc : ℕ) (s u : Source) (t : Target) → AgreesTo al states letter proc s → AgreesTo al states letter proc u →
+    IsTarget al states letter proc s t → IsTarget al states letter proc u t
+target_from al states letter proc s u t a b h = record {
+  state = h.state;
+  half = target_half_of al states s u letter (state_at states t.state) t.half (a (state_at states t.state) h.state.scoped) (b (state_at states t.state) h.state.scoped) h.half;
+}
 
-due_along : (al : Alphabet) (w : Work) (s t : Triple) → s ≡ t → IsDue al w s → IsDue al w t
-due_along al w s t e d = subst (IsDue al w) e d
+-- the targets are targets from each source
+pub targets_from : (al : Alphabet) (states : List Scoped) (letter proc : ℕ) (s : Source) (sources : List Source) (targets : List Target) → AgreesTo al states letter proc s →
+    AllByRecursion (AgreesTo al states letter proc) sources → AllByRecursion (IsTarget al states letter proc s) targets →
+    AllByRecursion (λ u. AllByRecursion (IsTarget al states letter proc u) targets) sources
+targets_from al states letter proc s sources targets a all h =
+    all_later (AgreesTo al states letter proc) (λ u. AllByRecursion (IsTarget al states letter proc u) targets) sources
+    (λ u b. all_later (IsTarget al states letter proc s) (IsTarget al states letter proc u) targets (λ t k. target_from al states letter proc s u t a b k) h) all
 
-pub by_sources : (al : Alphabet) (states : List Scoped) (letter proc : ℕ) (sources : List Source) (w : Work) → AreSources al states letter proc sources →
-    AllByRecursion (DueFrom al states letter proc w) sources → DueBy al states w letter
-by_sources al states letter proc sources w f h t is n a =
-    let k = f.all t a is n in
-    due_along al w (triple_from states k.source letter k.after) t (sym k.is)
-    (all_member (DueFrom al states letter proc w) sources k.source h k.listed k.after k.state k.scoped)
+-- ---- the targets of a letter
 
-pub due_more : (al : Alphabet) (states : List Scoped) (old new : Work) (n : ℕ) → GoesOn al states old new → DueBelow al states old n → DueBy al states new n →
-    DueBelow al states new (n + 1)
-due_more al states old new n g h k t lt m a = elim (below_or_last (letter_in t) n lt) [
-  | inl j ↦ g.due t (h t j m a)
-  | inr j ↦ k t j m a
-]
+-- the target that is a state
+target_is : (targets : List Target) (q : ℕ) → Member (map (λ t. t.state) targets) q → (t : Target) × Member targets t × (t.state ≡ q)
+target_is [] q m = absurd m
+target_is (t ∷ targets) q (inl e) = (t, inl refl, e)
+target_is (t ∷ targets) q (inr m) = let r = target_is targets q m in (r.0, inr r.1, r.2)
 
--- all that is due is settled
-pub all_settled : (al : Alphabet) (states : List Scoped) (old new : Work) (n : ℕ) → GoesOn al states old new → DueBelow al states old n → new.waiting.items ≡ [] →
-    SettledBelow al states new.proofs.items n
-all_settled al states old new n g h e t lt m a r = none_waits al new t e (g.due t (h t lt m a)) a r
+-- one more target
+pub states_more : (targets new : List Target) (t : Target) (found : List ℕ) (i : ℕ) → i < length found → t.state ≡ get_or found i 0 → map (λ x. x.state) targets ≡ take i found →
+    new ≡ targets ++ t ∷ [] → map (λ x. x.state) new ≡ take (i + 1) found
+states_more targets new t found i l e h is =
+    ap (λ (ts : List Target). map (λ x. x.state) ts) is ∙ map-append (λ (x : Target). x.state) targets (t ∷ []) ∙ ap (λ (qs : List ℕ). qs ++ t.state ∷ []) h ∙
+    ap (λ (q : ℕ). take i found ++ q ∷ []) e ∙ sym (take_more found i 0 l)
+
+-- a predicate in the scope is one of the targets
+targeted : (al : Alphabet) (states : List Scoped) (letter proc : ℕ) (source : Source) (targets : List Target) (after : Scoped) → AreTargets al states letter proc source targets →
+    IsScoped al proc after → Member states after → (t : Target) × Member targets t × (state_at states t.state ≡ after)
+targeted al states letter proc source targets after h i m =
+    let f = in_scope al states proc (map (λ t. t.state) targets) after h.found i m in
+    let t = target_is targets f.0 f.1 in
+    (t.0, t.1, ap (state_at states) t.2 ∙ f.2)
+
+-- ---- one pair
+
+module _ (al : Alphabet) (states : List Scoped) (source : Source) (letter : ℕ) (after : Scoped) (known old new : List PlainProof) where
+  -- the triple is known
+  pub pair_known : IsListed known (triple_from states source letter after) → SettlesTriple al (known ++ old) (triple_from states source letter after)
+  pair_known l a r = (l.0, member_front known old l.0 l.1, l.2)
+
+  -- its proof is found
+  pub pair_found : (p : PlainProof) → p.triple ≡ triple_from states source letter after → new ≡ old ++ p ∷ [] → SettlesTriple al (known ++ new) (triple_from states source letter after)
+  pair_found p is e a r = (p, member_rest known new p (subst (λ (l : List PlainProof). Member l p) (sym e) (member_rest old (p ∷ []) p (inl refl))), is)
+
+  -- none is found
+  pub pair_refused : (RefutesUncut al (triple_from states source letter after) → ⊥) → SettlesTriple al (known ++ old) (triple_from states source letter after)
+  pair_refused n a r = absurd (n r)
+
+-- ---- all pairs of a letter
+
+-- what is settled stays so where more proofs are found
+pub targets_later : (al : Alphabet) (states : List Scoped) (letter : ℕ) (known old new : List PlainProof) (targets : List Target) (source : Source) →
+    ((p : PlainProof) → Member old p → Member new p) → SettlesTargets al states letter (known ++ old) targets source → SettlesTargets al states letter (known ++ new) targets source
+targets_later al states letter known old new targets source more h =
+    all_later (λ t. SettlesTriple al (known ++ old) (triple_from states source letter (state_at states t.state)))
+    (λ t. SettlesTriple al (known ++ new) (triple_from states source letter (state_at states t.state))) targets
+    (λ t s. settled_later al (known ++ old) (known ++ new) (triple_from states source letter (state_at states t.state)) (behind_known known old new more) s) h
+
+pub sources_later : (al : Alphabet) (states : List Scoped) (letter : ℕ) (known old new : List PlainProof) (targets : List Target) (sources : List Source) →
+    ((p : PlainProof) → Member old p → Member new p) → AllByRecursion (SettlesTargets al states letter (known ++ old) targets) sources →
+    AllByRecursion (SettlesTargets al states letter (known ++ new) targets) sources
+sources_later al states letter known old new targets sources more h =
+    all_later (SettlesTargets al states letter (known ++ old) targets) (SettlesTargets al states letter (known ++ new) targets) sources
+    (λ s k. targets_later al states letter known old new targets s more k) h
+
+-- without a source there is no triple
+pub none_from : (al : Alphabet) (states : List Scoped) (letter proc : ℕ) (sources : List Source) (known found : List PlainProof) → AreSources al states letter proc sources → sources ≡ [] →
+    SettledBy al states (known ++ found) letter
+none_from al states letter proc sources known found s e t is n a r =
+    let f = s.all t a is n in
+    absurd (subst (λ (l : List Source). Member l f.source) e f.listed)
+
+-- nor without a target
+pub none_to : (al : Alphabet) (states : List Scoped) (letter : ℕ) (proofs : List PlainProof) (targets : List Target) (sources : List Source) → targets ≡ [] →
+    AllByRecursion (SettlesTargets al states letter proofs targets) sources
+none_to al states letter proofs targets [] e = tt
+none_to al states letter proofs targets (s ∷ sources) e =
+    (subst (λ (ts : List Target). SettlesTargets al states letter proofs ts s) (sym e) tt, none_to al states letter proofs targets sources e)
+
+-- each triple is from one of the sources to one of the targets
+pub pairs_settle : (al : Alphabet) (states : List Scoped) (letter proc : ℕ) (sources : List Source) (source : Source) (targets : List Target) (known found : List PlainProof) →
+    AreSources al states letter proc sources → AreTargets al states letter proc source targets →
+    AllByRecursion (SettlesTargets al states letter (known ++ found) targets) sources → SettledBy al states (known ++ found) letter
+pairs_settle al states letter proc sources source targets known found s h settled t is n a r =
+    let f = s.all t a is n in
+    let k = targeted al states letter proc source targets f.after h f.scoped f.state in
+    let from : SettlesTargets al states letter (known ++ found) targets f.source = all_member (SettlesTargets al states letter (known ++ found) targets) sources f.source settled f.listed in
+    let one : SettlesTriple al (known ++ found) (triple_from states f.source letter (state_at states k.0.state)) =
+    all_member (λ x. SettlesTriple al (known ++ found) (triple_from states f.source letter (state_at states x.state))) targets k.0 from k.1 in
+    let same : triple_from states f.source letter (state_at states k.0.state) ≡ t = ap (λ (x : Scoped). triple_from states f.source letter x) k.2 ∙ sym f.is in
+    subst (SettlesTriple al (known ++ found)) same one a r
+
+-- ---- all letters
+
+pub number_more : (n : ℕ) (old new : List ℕ) → AreAllBelow n old → new ≡ old ++ n ∷ [] → AreAllBelow (n + 1) new
+number_more n old new h e = subst (AreAllBelow (n + 1)) (sym e) (record {
+  each = all_push (λ k. k < n + 1) old n (all_later (λ k. k < n) (λ k. k < n + 1) old (λ k l. omega (arith, l)) h.each) (omega arith);
+  all = λ k l. elim (below_or_last k n l) [
+    | inl b ↦ member_front old (n ∷ []) k (h.all k b)
+    | inr s ↦ member_rest old (n ∷ []) k (inl (sym s))
+  ];
+})
+
+abbrev pub found_in : List (Vec PlainProof Global) → List PlainProof
+found_in found = flat_map (λ more. more.items) found
+
+pub found_grounded : (al : Alphabet) (states : List Scoped) (known : List PlainProof) (letters : List ℕ) (found : List (Vec PlainProof Global)) →
+    AllZip (λ l more. IsFoundBy al states known l more.items) letters found → AllByRecursion (IsGrounded al states) (found_in found)
+found_grounded al states known [] [] h = tt
+found_grounded al states known [] (m ∷ found) h = absurd h
+found_grounded al states known (l ∷ letters) [] h = absurd h
+found_grounded al states known (l ∷ letters) (m ∷ found) h = all_append (IsGrounded al states) m.items (found_in found) h.0.grounded (found_grounded al states known letters found h.1)
+
+found_settles : (al : Alphabet) (states : List Scoped) (known : List PlainProof) (letters : List ℕ) (found : List (Vec PlainProof Global)) (letter : ℕ) →
+    AllZip (λ l more. IsFoundBy al states known l more.items) letters found → Member letters letter → SettledBy al states (known ++ found_in found) letter
+found_settles al states known [] found letter h m = absurd m
+found_settles al states known (l ∷ letters) [] letter h m = absurd h
+found_settles al states known (l ∷ letters) (f ∷ found) letter h (inl e) = λ t is n.
+    settled_later al (known ++ f.items) (known ++ (f.items ++ found_in found)) t (behind_known known f.items (f.items ++ found_in found) (λ p k. member_front f.items (found_in found) p k))
+    (h.0.settled t (is ∙ sym e) n)
+found_settles al states known (l ∷ letters) (f ∷ found) letter h (inr m) = λ t is n.
+    settled_later al (known ++ found_in found) (known ++ (f.items ++ found_in found)) t
+    (behind_known known (found_in found) (f.items ++ found_in found) (λ p k. member_rest f.items (found_in found) p k)) (found_settles al states known letters found letter h.1 m t is n)
+
+pub all_settled : (al : Alphabet) (states : List Scoped) (known all : List PlainProof) (n : ℕ) (letters : List ℕ) (found : List (Vec PlainProof Global)) → AreAllBelow n letters →
+    AllZip (λ l more. IsFoundBy al states known l more.items) letters found → all ≡ known ++ found_in found → SettledBelow al states all n
+all_settled al states known all n letters found b h e t l names =
+    subst (λ (ps : List PlainProof). SettlesTriple al ps t) (sym e) (found_settles al states known letters found (letter_in t) h (b.all (letter_in t) l) t refl names)
+
+-- what holds of all members holds of one that was read
+pub all_at : {X : Type 0} (P : X → Type 0) (xs : List X) (i : ℕ) (x : X) → i < length xs → x ≡ get_or xs i x → AllByRecursion P xs → P x
+all_at P xs i x l e h = all_member P xs x h (member_at xs i x (got_at xs i x l e))
+
+-- ---- threads
+
+abbrev pub letters_in : Option (Vec ℕ Global) → List ℕ
+letters_in None = []
+letters_in (Some v) = v.items
+
+-- what each letter finds, where all are values
+module _ (P Q : ℕ → Vec PlainProof Global → Type 0) (more : (l : ℕ) (v : Vec PlainProof Global) → P l v → Q l v) where
+  found_values : (E : Type 0) (letters : List ℕ) (found : List (Vec PlainProof Global)) → AllZip (λ l (r : Result (Vec PlainProof Global) E). IfOk r (P l)) letters (map Ok found) → AllZip Q letters found
+  found_values E [] [] h = tt
+  found_values E [] (f ∷ found) h = absurd h
+  found_values E (l ∷ letters) [] h = absurd h
+  found_values E (l ∷ letters) (f ∷ found) h = (more l f h.0, found_values E letters found h.1)
+
+  pub all_found : {E : Type 0} (before now : Option (Vec ℕ Global)) (letters listed : List ℕ) (tried answers : List (Result (Vec PlainProof Global) E)) (found : List (Vec PlainProof Global)) → before ≡ now →
+      letters_in now ≡ letters → listed ≡ letters_in before → AllZip (λ l r. IfOk r (P l)) listed tried → answers ≡ tried → map Ok found ≡ answers → AllZip Q letters found
+  all_found {E} before now letters listed tried answers found moved here from h said ends =
+      let places : listed ≡ letters = from ∙ ap letters_in moved ∙ here in
+      let each : AllZip (λ l r. IfOk r (P l)) letters tried = subst (λ (ls : List ℕ). AllZip (λ l r. IfOk r (P l)) ls tried) places h in
+      found_values E letters found (subst (λ (rs : List (Result (Vec PlainProof Global) E)). AllZip (λ l r. IfOk r (P l)) letters rs) (sym (ends ∙ said)) each)

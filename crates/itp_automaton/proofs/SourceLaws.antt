@@ -54,7 +54,7 @@ state_listed (p ∷ preds) zero lt = inl refl
 state_listed (p ∷ preds) (suc q) lt = inr (state_listed preds q (omega arith))
 
 -- a predicate that is a state in a scope, at its place
-in_scope : (al : Alphabet) (preds : List Scoped) (proc : ℕ) (found : List ℕ) (s : Scoped) → AreStatesIn al preds proc found → IsScoped al proc s → Member preds s →
+pub in_scope : (al : Alphabet) (preds : List Scoped) (proc : ℕ) (found : List ℕ) (s : Scoped) → AreStatesIn al preds proc found → IsScoped al proc s → Member preds s →
     (q : ℕ) × Member found q × (state_at preds q ≡ s)
 in_scope al preds proc found s f h m =
     let place = place_of preds s m in

@@ -1,5 +1,5 @@
 -- Triples that are tried one after another until all are settled.
-use Rattle.std.specs.Prelude.{◌≡◌, ◌⊎◌, ℕ, ◌<◌, true, List, [], length, map, Option, None, Some, slice_get, slice_index_or}
+use Rattle.std.specs.Prelude.{◌≡◌, ℕ, ◌<◌, true, List, [], ◌++◌, length, map, Option, None, Some, slice_get, slice_index_or}
 use Rattle.std.specs.List.{AllByRecursion, flat_map}
 use Rattle.nwa_base.specs.Members.{Member}
 use Rattle.letter_acts.specs.Acts.{PlainAct, inside_act, call_act, back_act, Alphabet}
@@ -9,7 +9,8 @@ use Rattle.triple_rows.specs.declared.triples.Triple.TheVariants as triples
 use Rattle.triple_rows.specs.Triples.{Agrees, IsScoped, truth_of}
 use Rattle.triple_rows.specs.Proofs.{PlainProof}
 use Rattle.hoare_check.specs.Decided.{RefutesUncut, IsProofFor}
-use Rattle.itp_automaton.specs.declared.settling.Work.{Work}
+use Rattle.hoare_check.specs.Halves.{IsTargetHalf}
+use Rattle.itp_automaton.specs.declared.settling.Target.{Target}
 use Rattle.itp_automaton.specs.declared.sources.Source.{Source}
 use Rattle.itp_automaton.specs.declared.sources.Source.TheVariants.{Inside, Call, Back}
 use Rattle.itp_automaton.specs.Making.{named_in}
@@ -109,44 +110,37 @@ pub record Adds (al : Alphabet) (states : List Scoped) (old new : List PlainProo
 abbrev pub SettledBelow : Alphabet → List Scoped → List PlainProof → ℕ → Type 0
 SettledBelow al states proofs n = (t : Triple) → letter_in t < n → NamesStates states t → SettlesTriple al proofs t
 
--- the triples from a source by a letter to those of the targets that are in the scope of the procedure
-pub record AreTriplesFrom (al : Alphabet) (states : List Scoped) (letter proc : ℕ) (source : Source) (targets : List Scoped) (found : List Triple) : Type 0 where
-  pub agree : AllByRecursion (Agrees al) found
-  pub named : AllByRecursion (NamesStates states) found
-  pub all : (after : Scoped) → Member targets after → IsScoped al proc after → Member found (triple_from states source letter after)
+-- all triples over the states by this letter are settled
+abbrev pub SettledBy : Alphabet → List Scoped → List PlainProof → ℕ → Type 0
+SettledBy al states proofs letter = (t : Triple) → letter_in t ≡ letter → NamesStates states t → SettlesTriple al proofs t
 
--- ---- work that goes on
+-- ---- the targets of a letter
 
--- settled, or waiting to be tried
-abbrev pub IsDue : Alphabet → Work → Triple → Type 0
-IsDue al w t = SettlesTriple al w.proofs.items t ⊎ Member w.waiting.items t
+-- a state in the scope of the procedure, with what the triple from a source by a letter to it says but for its source
+pub record IsTarget (al : Alphabet) (states : List Scoped) (letter proc : ℕ) (source : Source) (t : Target) : Type 0 where
+  pub state : IsStateIn al states proc t.state
+  pub half : IsTargetHalf al (triple_from states source letter (state_at states t.state)) t.half
 
--- the triple agrees with its letter and is over the states
-pub record MayWait (al : Alphabet) (states : List Scoped) (t : Triple) : Type 0 where
-  pub agrees : Agrees al t
-  pub named : NamesStates states t
+-- the targets of the triples from a source by a letter: the states in the scope of the procedure
+pub record AreTargets (al : Alphabet) (states : List Scoped) (letter proc : ℕ) (source : Source) (targets : List Target) : Type 0 where
+  pub each : AllByRecursion (IsTarget al states letter proc source) targets
+  pub found : AreStatesIn al states proc (map (λ t. t.state) targets)
 
--- of the triples those wait as well that are not listed
-pub record AddsWaiting (proofs : List PlainProof) (old triples new : List Triple) : Type 0 where
-  pub kept : (t : Triple) → Member old t → Member new t
-  pub added : (t : Triple) → Member triples t → IsListed proofs t ⊎ Member new t
-  pub only : (t : Triple) → Member new t → Member old t ⊎ Member triples t
+-- the triples from a source by a letter to the targets are settled
+abbrev pub SettlesTargets : Alphabet → List Scoped → ℕ → List PlainProof → List Target → Source → Type 0
+SettlesTargets al states letter proofs targets source = AllByRecursion (λ t. SettlesTriple al proofs (triple_from states source letter (state_at states t.state))) targets
 
--- proofs are added alone, triples over the states alone wait, and what was settled or waiting is so still
-pub record GoesOn (al : Alphabet) (states : List Scoped) (old new : Work) : Type 0 where
-  pub adds : Adds al states old.proofs.items new.proofs.items
-  pub waiting : AllByRecursion (MayWait al states) new.waiting.items
-  pub due : (t : Triple) → IsDue al old t → IsDue al new t
+-- what is found from the sources: proofs over the states, with which the triples to the targets are settled
+pub record SettlesSources (al : Alphabet) (states : List Scoped) (letter : ℕ) (known : List PlainProof) (targets : List Target) (sources : List Source) (found : List PlainProof) : Type 0 where
+  pub grounded : AllByRecursion (IsGrounded al states) found
+  pub settled : AllByRecursion (SettlesTargets al states letter (known ++ found) targets) sources
 
--- the triples from a source by a letter to all states in the scope of the procedure are settled or waiting
-abbrev pub DueFrom : Alphabet → List Scoped → ℕ → ℕ → Work → Source → Type 0
-DueFrom al states letter proc w source =
-    (after : Scoped) → Member states after → IsScoped al proc after → IsDue al w (triple_from states source letter after)
+-- each number below n is listed, and none beyond
+pub record AreAllBelow (n : ℕ) (numbers : List ℕ) : Type 0 where
+  pub each : AllByRecursion (λ k. k < n) numbers
+  pub all : (k : ℕ) → k < n → Member numbers k
 
--- the triples over the states by this letter are settled or waiting
-abbrev pub DueBy : Alphabet → List Scoped → Work → ℕ → Type 0
-DueBy al states w letter = (t : Triple) → letter_in t ≡ letter → NamesStates states t → Agrees al t → IsDue al w t
-
--- those by letters below n
-abbrev pub DueBelow : Alphabet → List Scoped → Work → ℕ → Type 0
-DueBelow al states w n = (t : Triple) → letter_in t < n → NamesStates states t → Agrees al t → IsDue al w t
+-- what is found by a letter: proofs over the states, with which all triples by the letter are settled
+pub record IsFoundBy (al : Alphabet) (states : List Scoped) (known : List PlainProof) (letter : ℕ) (found : List PlainProof) : Type 0 where
+  pub grounded : AllByRecursion (IsGrounded al states) found
+  pub settled : SettledBy al states (known ++ found) letter

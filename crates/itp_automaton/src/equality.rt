@@ -1,4 +1,4 @@
-//! Whether predicates are equal, and triples.
+//! Whether predicates are equal, and triples of given ones.
 
 ghost use Rattle.std.specs.Prelude.{◌≡◌, ◌↔◌, IsTrue};
 ghost use Rattle.triple_rows.specs.Predicates.{SpellsPredicate};
@@ -81,24 +81,8 @@ fn same_number(a: i128, b: i128) -> bool
     a == b
 }
 
-/// Whether the triples are equal.
-pub(crate) fn is_same_triple(a: &Triple, b: &Triple) -> bool
-    ensures { IsTrue result → a.now ≡ b.now }
-{
-    match a {
-        Triple::Inside { from, letter, to } => is_inside(b, from, *letter, to),
-        Triple::Call { from, letter, to } => is_call(b, from, *letter, to),
-        Triple::Back {
-            exit,
-            before,
-            letter,
-            to,
-        } => is_back(b, exit, before, *letter, to),
-    }
-}
-
 /// Whether this is the inside triple.
-fn is_inside(triple: &Triple, before: &Scoped, number: u32, after: &Scoped) -> bool
+pub(crate) fn is_inside(triple: &Triple, before: &Scoped, number: u32, after: &Scoped) -> bool
     ensures { IsTrue result → triples.Inside before.now number after.now ≡ triple.now }
 {
     match triple {
@@ -110,7 +94,7 @@ fn is_inside(triple: &Triple, before: &Scoped, number: u32, after: &Scoped) -> b
 }
 
 /// Whether this is the call triple.
-fn is_call(triple: &Triple, source: &Scoped, id: u32, target: &Scoped) -> bool
+pub(crate) fn is_call(triple: &Triple, source: &Scoped, id: u32, target: &Scoped) -> bool
     ensures { IsTrue result → triples.Call source.now id target.now ≡ triple.now }
 {
     match triple {
@@ -122,7 +106,13 @@ fn is_call(triple: &Triple, source: &Scoped, id: u32, target: &Scoped) -> bool
 }
 
 /// Whether this is the return triple.
-fn is_back(triple: &Triple, left: &Scoped, caller: &Scoped, number: u32, after: &Scoped) -> bool
+pub(crate) fn is_back(
+    triple: &Triple,
+    left: &Scoped,
+    caller: &Scoped,
+    number: u32,
+    after: &Scoped,
+) -> bool
     ensures { IsTrue result → triples.Back left.now caller.now number after.now ≡ triple.now }
 {
     match triple {

@@ -4,6 +4,7 @@
 mod assembling;
 mod automata;
 mod building;
+mod counting;
 mod edges;
 mod equality;
 mod faults;

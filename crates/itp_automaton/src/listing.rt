@@ -1,11 +1,12 @@
 //! Which triples have proofs already.
 
-ghost use Rattle.std.specs.Prelude.{◌≡◌, IsTrue};
-ghost use Rattle.itp_automaton.specs.Settling.{IsListed, letter_in};
+ghost use Rattle.std.specs.Prelude.{◌≡◌, IsTrue, length};
+ghost use Rattle.itp_automaton.specs.Settling.{IsListed, IsWithin, letter_in, triple_from};
 
-use crate::equality::is_same_triple;
+use crate::equality::{is_back, is_call, is_inside};
+use crate::sources::Source;
 use std::alloc::{AllocError, Global};
-use triple_rows::{Proof, Triple};
+use triple_rows::{Proof, Scoped, Triple};
 
 /// The number of a triple's letter.
 fn letter_in(triple: &Triple) -> u32
@@ -35,23 +36,57 @@ pub(crate) fn by_letter(
     Ok(places)
 }
 
+/// Whether the triple is that from a source by a letter to a target.
+fn is_triple_from(
+    triple: &Triple,
+    states: &[Scoped],
+    source: Source,
+    letter: u32,
+    after: &Scoped,
+) -> bool
+    requires { IsWithin (length states.now) source }
+    ensures { IsTrue result → triple_from states.now source letter after.now ≡ triple.now }
+{
+    match source {
+        Source::Inside(q) => is_inside(triple, &states[q], letter, after),
+        Source::Call(q) => is_call(triple, &states[q], letter, after),
+        Source::Back(q, p) => is_back(triple, &states[q], &states[p], letter, after),
+    }
+}
+
 /// Whether the proof at this place is of the triple.
-fn is_proof_of(proofs: &[Proof], place: usize, triple: &Triple) -> bool
-    ensures { IsTrue result → IsListed proofs.now triple.now }
+fn is_proof_of(
+    proofs: &[Proof],
+    place: usize,
+    states: &[Scoped],
+    source: Source,
+    letter: u32,
+    after: &Scoped,
+) -> bool
+    requires { IsWithin (length states.now) source }
+    ensures { IsTrue result → IsListed proofs.now (triple_from states.now source letter after.now) }
 {
     if place >= proofs.len() {
         return false;
     }
     let proof = &proofs[place];
-    is_same_triple(proof.triple(), triple)
+    is_triple_from(proof.triple(), states, source, letter, after)
 }
 
-/// Whether one of the proofs at these places is of the triple.
-pub(crate) fn is_listed(proofs: &[Proof], places: &[usize], triple: &Triple) -> bool
-    ensures { IsTrue result → IsListed proofs.now triple.now }
+/// Whether one of the proofs at these places is of the triple from a source by a letter to a target.
+pub(crate) fn is_listed(
+    proofs: &[Proof],
+    places: &[usize],
+    states: &[Scoped],
+    source: Source,
+    letter: u32,
+    after: &Scoped,
+) -> bool
+    requires { IsWithin (length states.now) source }
+    ensures { IsTrue result → IsListed proofs.now (triple_from states.now source letter after.now) }
 {
     for place in places {
-        if is_proof_of(proofs, *place, triple) {
+        if is_proof_of(proofs, *place, states, source, letter, after) {
             return true;
         }
     }

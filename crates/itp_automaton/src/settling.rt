@@ -1,31 +1,32 @@
 //! Triples over the states, tried until all are settled: proved, or not refuted without cuts.
 
-ghost use Rattle.std.specs.Prelude.{◌≡◌, ◌<◌, ◌++◌, [], IfOk, OnOk, List, length};
-ghost use Rattle.std.specs.List.{AllByRecursion, filter_map};
+ghost use Rattle.std.specs.Prelude.{◌≡◌, ◌<◌, ◌++◌, Ok, IfOk, OnOk, length, map};
+ghost use Rattle.std.specs.List.{AllByRecursion, AllZip, flat_map};
 ghost use Rattle.letter_acts.specs.Invariant.{alphabet_of};
 ghost use Rattle.triple_rows.specs.declared.triples.Scoped.{Scoped};
-ghost use Rattle.triple_rows.specs.declared.triples.Triple.{Triple};
-ghost use Rattle.triple_rows.specs.Triples.{Agrees};
-ghost use Rattle.itp_automaton.specs.Settling.{IsWithin, triple_from, AgreesTo, AreTriplesFrom, Adds, SettledBelow, AddsWaiting, MayWait, GoesOn, DueFrom, DueBy};
+ghost use Rattle.hoare_check.specs.Halves.{IsSourceHalf};
+ghost use Rattle.itp_automaton.specs.Settling.{IsWithin, triple_from, state_at, AgreesTo, AreSources, IsStateIn, Adds, IsTarget, AreTargets, SettlesTriple, SettlesTargets, SettlesSources, SettledBelow, AreAllBelow, IsFoundBy};
 
+use crate::counting::count_triples;
 use crate::listing::{by_letter, is_listed, places_of};
-use crate::sources::{Source, Sources, is_scoped, sources_of};
-use hoare_check::prove_all;
+use crate::sources::{Source, sources_of, states_in};
+use hoare_check::{Half, refuted_at_once, source_half, target_half};
 use letter_acts::Icfg;
+use rayon::prelude::*;
 use std::alloc::{AllocError, Global};
 use std::thread::Threads;
 use triple_rows::{Proof, Scoped, Triple};
 
-/// How many triples are tried together, at least, but for the last ones: each time threads are started.
-const MANY: usize = 4096;
+/// How many triples a thread tries, about, at least: fewer are tried in one.
+const LEAST: usize = 512;
 
-/// Triples that wait to be tried, and the proofs so far.
+/// A target of the triples by a letter.
 #[derive(Drop)]
-struct Work {
-    /// The triples.
-    waiting: Vec<Triple>,
-    /// The proofs.
-    proofs: Vec<Proof>,
+pub(crate) struct Target {
+    /// The number of the state.
+    pub(crate) state: usize,
+    /// What the letter, the denied target and the bounds say.
+    pub(crate) half: Option<Half>,
 }
 
 /// The triple from a source by a letter to a target.
@@ -61,142 +62,246 @@ fn triple_from(
     }
 }
 
-/// The triples from a source by a letter to all states in the scope of a procedure.
-fn triples_from(
+/// The state as a target of the triples by a letter from a source.
+fn target_at(
     alloc: Global,
     icfg: &Icfg,
     states: &[Scoped],
     letter: u32,
     proc: u32,
     source: Source,
-) -> Result<Vec<Triple>, AllocError>
+    q: usize,
+) -> Result<Target, AllocError>
     requires within { IsWithin (length states.now) source }
     requires agrees { AgreesTo (alphabet_of icfg.now) states.now letter proc source }
-    ensures { IfOk result (λ found. AreTriplesFrom (alphabet_of icfg.now) states.now letter proc source states.now found.items) }
+    requires state { IsStateIn (alphabet_of icfg.now) states.now proc q }
+    ensures state { IfOk result (λ t. t.state ≡ q) }
+    ensures target { IfOk result (IsTarget (alphabet_of icfg.now) states.now letter proc source) }
 {
-    let mut found = Vec::new(alloc);
-    for after in states {
-        if is_scoped(icfg, proc, after) {
-            let triple = triple_from(states, source, letter, after)?;
-            found.push(triple)?;
-        }
-    }
-    Ok(found)
+    // Contracts alone speak of it.
+    let _proc = proc;
+    let triple = triple_from(states, source, letter, &states[q])?;
+    let half = target_half(alloc, icfg, &triple)?;
+    Ok(Target { state: q, half })
 }
 
-/// Adds the proofs that were found.
-fn keep(tried: Vec<Option<Proof>>, proofs: &mut Vec<Proof>) -> Result<(), AllocError>
-    ensures { OnOk result (proofs.new.items ≡ proofs.old.items ++ filter_map (λ o. o) tried.items) }
+/// The targets of the triples by a letter from a source: the states in the scope of a procedure.
+fn targets_of(
+    alloc: Global,
+    icfg: &Icfg,
+    states: &[Scoped],
+    letter: u32,
+    proc: u32,
+    source: Source,
+) -> Result<Vec<Target>, AllocError>
+    requires within { IsWithin (length states.now) source }
+    requires agrees { AgreesTo (alphabet_of icfg.now) states.now letter proc source }
+    ensures { IfOk result (λ targets. AreTargets (alphabet_of icfg.now) states.now letter proc source targets.items) }
 {
-    for answer in tried {
-        if let Some(proof) = answer {
-            proofs.push(proof)?;
+    let found = states_in(alloc, icfg, states, proc)?;
+    let mut targets = Vec::with_capacity(alloc, found.len())?;
+    for q in &found {
+        let target = target_at(alloc, icfg, states, letter, proc, source, *q)?;
+        targets.push(target)?;
+    }
+    Ok(targets)
+}
+
+/// What the source of triples by a letter says, whatever their target: it is made of the triple to a state among the targets.
+fn source_at(
+    alloc: Global,
+    icfg: &Icfg,
+    states: &[Scoped],
+    letter: u32,
+    proc: u32,
+    source: Source,
+    sample: usize,
+) -> Result<Option<Half>, AllocError>
+    requires within { IsWithin (length states.now) source }
+    requires agrees { AgreesTo (alphabet_of icfg.now) states.now letter proc source }
+    requires state { IsStateIn (alphabet_of icfg.now) states.now proc sample }
+    ensures { IfOk result (λ half. (after : Scoped) → IsSourceHalf (alphabet_of icfg.now) (triple_from states.now source letter after) half) }
+{
+    // Contracts alone speak of it.
+    let _proc = proc;
+    let triple = triple_from(states, source, letter, &states[sample])?;
+    source_half(alloc, icfg, &triple)
+}
+
+/// Settles the triple from a source, whose half this is, by a letter to a target: adds its proof, unless it is known, where Decide
+/// refutes it without cuts.
+fn settle_pair(
+    alloc: Global,
+    icfg: &Icfg,
+    states: &[Scoped],
+    letter: u32,
+    proc: u32,
+    source: Source,
+    half: &Option<Half>,
+    target: &Target,
+    known: &[Proof],
+    places: &[usize],
+    points: &mut Vec<Vec<i128>>,
+    found: &mut Vec<Proof>,
+) -> Result<(), AllocError>
+    requires within { IsWithin (length states.now) source }
+    requires agrees { AgreesTo (alphabet_of icfg.now) states.now letter proc source }
+    requires half { (after : Scoped) → IsSourceHalf (alphabet_of icfg.now) (triple_from states.now source letter after) half.now }
+    requires target { IsTarget (alphabet_of icfg.now) states.now letter proc source target.now }
+    ensures adds { OnOk result (Adds (alphabet_of icfg.now) states.now found.old.items found.new.items) }
+    ensures settled { OnOk result (SettlesTriple (alphabet_of icfg.now) (known.now ++ found.new.items) (triple_from states.now source letter (state_at states.now target.now.state))) }
+{
+    // Contracts alone speak of these.
+    let (_icfg, _proc) = (icfg, proc);
+    let after = &states[target.state];
+    if is_listed(known, places, states, source, letter, after) {
+        return Ok(());
+    }
+    match refuted_at_once(alloc, half, &target.half, points)? {
+        Some(refutation) => {
+            let triple = triple_from(states, source, letter, after)?;
+            found.push(Proof::new(triple, refutation))?;
+            Ok(())
         }
+        None => Ok(()),
+    }
+}
+
+/// Settles the triples from a source by a letter to the targets.
+fn settle_source(
+    alloc: Global,
+    icfg: &Icfg,
+    states: &[Scoped],
+    letter: u32,
+    proc: u32,
+    source: Source,
+    half: &Option<Half>,
+    targets: &[Target],
+    known: &[Proof],
+    places: &[usize],
+    points: &mut Vec<Vec<i128>>,
+    found: &mut Vec<Proof>,
+) -> Result<(), AllocError>
+    requires within { IsWithin (length states.now) source }
+    requires agrees { AgreesTo (alphabet_of icfg.now) states.now letter proc source }
+    requires half { (after : Scoped) → IsSourceHalf (alphabet_of icfg.now) (triple_from states.now source letter after) half.now }
+    requires targets { AllByRecursion (IsTarget (alphabet_of icfg.now) states.now letter proc source) targets.now }
+    ensures adds { OnOk result (Adds (alphabet_of icfg.now) states.now found.old.items found.new.items) }
+    ensures settled { OnOk result (SettlesTargets (alphabet_of icfg.now) states.now letter (known.now ++ found.new.items) targets.now source) }
+{
+    for target in targets {
+        settle_pair(
+            alloc, icfg, states, letter, proc, source, half, target, known, places, points, found,
+        )?;
     }
     Ok(())
 }
 
-/// Tries the triples that wait, and adds the proofs of those that are proved.
-fn settle<R: Threads + Sync>(
-    rt: &R,
-    alloc: Global,
-    icfg: &Icfg,
-    work: Work,
-) -> Result<Work, AllocError>
-    requires { AllByRecursion (Agrees (alphabet_of icfg.now)) work.waiting.items }
-    ensures goes { IfOk result (λ new. (states : List Scoped) → AllByRecursion (MayWait (alphabet_of icfg.now) states) work.waiting.items → GoesOn (alphabet_of icfg.now) states work new) }
-    ensures none { IfOk result (λ new. new.waiting.items ≡ []) }
-{
-    let Work {
-        waiting,
-        mut proofs,
-    } = work;
-    let tried = prove_all(rt, alloc, icfg, waiting)?;
-    keep(tried, &mut proofs)?;
-    Ok(Work {
-        waiting: Vec::new(alloc),
-        proofs,
-    })
-}
-
-/// Tries the triples that wait, where they are many.
-fn settle_many<R: Threads + Sync>(
-    rt: &R,
-    alloc: Global,
-    icfg: &Icfg,
-    work: Work,
-) -> Result<Work, AllocError>
-    requires { AllByRecursion (Agrees (alphabet_of icfg.now)) work.waiting.items }
-    ensures { IfOk result (λ new. (states : List Scoped) → AllByRecursion (MayWait (alphabet_of icfg.now) states) work.waiting.items → GoesOn (alphabet_of icfg.now) states work new) }
-{
-    if work.waiting.len() < MANY {
-        return Ok(work);
-    }
-    settle(rt, alloc, icfg, work)
-}
-
-/// The triples that are not listed yet wait, too.
-fn with_triples(work: Work, triples: Vec<Triple>, listed: &[usize]) -> Result<Work, AllocError>
-    ensures waiting { IfOk result (λ new. AddsWaiting work.proofs.items work.waiting.items triples.items new.waiting.items) }
-    ensures proofs { IfOk result (λ new. new.proofs.items ≡ work.proofs.items) }
-{
-    let Work {
-        mut waiting,
-        proofs,
-    } = work;
-    for triple in triples {
-        if !is_listed(&proofs, listed, &triple) {
-            waiting.push(triple)?;
-        }
-    }
-    Ok(Work { waiting, proofs })
-}
-
-/// Settles the triples from the sources by a letter to all states in the scope of a procedure, or lets them wait.
-fn settle_sources<R: Threads + Sync>(
-    rt: &R,
+/// Settles the triples from the sources by a letter to the targets.
+fn settle_sources(
     alloc: Global,
     icfg: &Icfg,
     states: &[Scoped],
     letter: u32,
-    sources: &Sources,
-    listed: &[usize],
-    mut work: Work,
-) -> Result<Work, AllocError>
-    requires within { AllByRecursion (IsWithin (length states.now)) sources.now.list.items }
-    requires agree { AllByRecursion (AgreesTo (alphabet_of icfg.now) states.now letter sources.now.proc) sources.now.list.items }
-    requires waiting { AllByRecursion (MayWait (alphabet_of icfg.now) states.now) work.waiting.items }
-    ensures goes { IfOk result (GoesOn (alphabet_of icfg.now) states.now work) }
-    ensures due { IfOk result (λ new. AllByRecursion (DueFrom (alphabet_of icfg.now) states.now letter sources.now.proc new) sources.now.list.items) }
+    proc: u32,
+    sources: &[Source],
+    targets: &[Target],
+    known: &[Proof],
+    places: &[usize],
+) -> Result<Vec<Proof>, AllocError>
+    requires within { AllByRecursion (IsWithin (length states.now)) sources.now }
+    requires agree { AllByRecursion (AgreesTo (alphabet_of icfg.now) states.now letter proc) sources.now }
+    requires targets { AllByRecursion (λ s. AllByRecursion (IsTarget (alphabet_of icfg.now) states.now letter proc s) targets.now) sources.now }
+    ensures { IfOk result (λ found. SettlesSources (alphabet_of icfg.now) states.now letter known.now targets.now sources.now found.items) }
 {
-    for source in &sources.list {
-        let triples = triples_from(alloc, icfg, states, letter, sources.proc, *source)?;
-        let more = with_triples(work, triples, listed)?;
-        work = settle_many(rt, alloc, icfg, more)?;
+    if targets.is_empty() {
+        return Ok(Vec::new(alloc));
     }
-    Ok(work)
+    let mut found = Vec::new(alloc);
+    let mut points = Vec::new(alloc);
+    let sample = targets[0].state;
+    for source in sources {
+        let half = source_at(alloc, icfg, states, letter, proc, *source, sample)?;
+        settle_source(
+            alloc,
+            icfg,
+            states,
+            letter,
+            proc,
+            *source,
+            &half,
+            targets,
+            known,
+            places,
+            &mut points,
+            &mut found,
+        )?;
+    }
+    Ok(found)
 }
 
-/// Settles the triples over the states by a letter, or lets them wait.
-fn settle_letter<R: Threads + Sync>(
-    rt: &R,
+/// The proofs that are found of the triples over the states by a letter with these sources, beside those that are known.
+fn settle_triples(
     alloc: Global,
     icfg: &Icfg,
     states: &[Scoped],
     letter: u32,
-    listed: &[usize],
-    work: Work,
-) -> Result<Work, AllocError>
-    requires letter { letter < length icfg.now.acts }
-    requires waiting { AllByRecursion (MayWait (alphabet_of icfg.now) states.now) work.waiting.items }
-    ensures goes { IfOk result (GoesOn (alphabet_of icfg.now) states.now work) }
-    ensures due { IfOk result (λ new. DueBy (alphabet_of icfg.now) states.now new letter) }
+    proc: u32,
+    sources: &[Source],
+    known: &[Proof],
+    places: &[usize],
+) -> Result<Vec<Proof>, AllocError>
+    requires { AreSources (alphabet_of icfg.now) states.now letter proc sources.now }
+    ensures { IfOk result (λ found. IsFoundBy (alphabet_of icfg.now) states.now known.now letter found.items) }
+{
+    if sources.is_empty() {
+        return Ok(Vec::new(alloc));
+    }
+    // They are targets from each source.
+    let targets = targets_of(alloc, icfg, states, letter, proc, sources[0])?;
+    settle_sources(
+        alloc, icfg, states, letter, proc, sources, &targets, known, places,
+    )
+}
+
+/// The proofs that are found of the triples over the states by a letter, beside those that are known.
+fn settle_letter(
+    alloc: Global,
+    icfg: &Icfg,
+    states: &[Scoped],
+    letter: u32,
+    known: &[Proof],
+    places: &[usize],
+) -> Result<Vec<Proof>, AllocError>
+    requires { letter < length icfg.now.acts }
+    ensures { IfOk result (λ found. IsFoundBy (alphabet_of icfg.now) states.now known.now letter found.items) }
 {
     let sources = sources_of(alloc, icfg, states, letter)?;
-    settle_sources(rt, alloc, icfg, states, letter, &sources, listed, work)
+    settle_triples(
+        alloc,
+        icfg,
+        states,
+        letter,
+        sources.proc,
+        &sources.list,
+        known,
+        places,
+    )
 }
 
-/// Settles the triples over the states by all letters: these proofs and those that are found.
+/// The numbers below a count.
+fn letters_below(alloc: Global, count: u32) -> Result<Vec<u32>, AllocError>
+    ensures { IfOk result (λ letters. AreAllBelow count letters.items) }
+{
+    let mut letters = Vec::with_capacity(alloc, count as usize)?;
+    for letter in 0..count {
+        letters.push(letter)?;
+    }
+    Ok(letters)
+}
+
+/// Settles the triples over the states by all letters: these proofs and those that are found. Letters are settled in several
+/// threads, where there are many triples.
 pub(crate) fn settle_all<R: Threads + Sync>(
     rt: &R,
     alloc: Global,
@@ -210,22 +315,73 @@ pub(crate) fn settle_all<R: Threads + Sync>(
     let Ok(count) = u32::try_from(icfg.acts().len()) else {
         return Err(AllocError);
     };
-    let listed = by_letter(alloc, count, &proofs)?;
-    let mut work = Work {
-        waiting: Vec::new(alloc),
-        proofs,
-    };
-    for letter in 0..count {
-        work = settle_letter(
-            rt,
-            alloc,
-            icfg,
-            states,
-            letter,
-            places_of(&listed, letter),
-            work,
-        )?;
+    let letters = letters_below(alloc, count)?;
+    let places = by_letter(alloc, count, &proofs)?;
+    let found = settle_letters(rt, alloc, icfg, states, letters, &proofs, &places)?;
+    with_found(proofs, found)
+}
+
+/// How many of so many letters a thread settles, at least, where there are so many triples.
+fn least_letters(letters: usize, triples: usize) -> usize {
+    (letters.saturating_mul(LEAST) / triples.max(1)).saturating_add(1)
+}
+
+/// The proofs that are found by each of the letters, which are settled in several threads.
+fn settle_letters<R: Threads + Sync>(
+    rt: &R,
+    alloc: Global,
+    icfg: &Icfg,
+    states: &[Scoped],
+    letters: Vec<u32>,
+    known: &[Proof],
+    places: &Vec<Vec<usize>>,
+) -> Result<Vec<Vec<Proof>>, AllocError>
+    requires { AllByRecursion (λ l. l < length icfg.now.acts) letters.items }
+    ensures { IfOk result (λ found. AllZip (λ l more. IsFoundBy (alphabet_of icfg.now) states.now known.now l more.items) letters.items found.items) }
+{
+    let least = least_letters(letters.len(), count_triples(alloc, icfg, states)?);
+    let tried = letters
+        .into_par_iter()
+        .with_min_len(least)
+        .map(
+            |letter: u32| -> Result<Vec<Proof>, AllocError>
+                requires { letter < length icfg.now.acts }
+                ensures { IfOk result (λ found. IsFoundBy (alphabet_of icfg.entry.now) states.entry.now known.entry.now letter found.items) }
+            {
+                settle_letter(
+                    alloc,
+                    icfg,
+                    states,
+                    letter,
+                    known,
+                    places_of(places, letter),
+                )
+            },
+        )
+        .collect::<Vec<_>>(rt, alloc)?;
+    gathered(alloc, tried)
+}
+
+/// All that was found, or want of memory where one of the answers is that.
+fn gathered(
+    alloc: Global,
+    tried: Vec<Result<Vec<Proof>, AllocError>>,
+) -> Result<Vec<Vec<Proof>>, AllocError>
+    ensures { IfOk result (λ found. map Ok found.items ≡ tried.items) }
+{
+    let mut found = Vec::with_capacity(alloc, tried.len())?;
+    for answer in tried {
+        found.push(answer?)?;
     }
-    let done = settle(rt, alloc, icfg, work)?;
-    Ok(done.proofs)
+    Ok(found)
+}
+
+/// The proofs with those that were found behind them.
+fn with_found(mut proofs: Vec<Proof>, found: Vec<Vec<Proof>>) -> Result<Vec<Proof>, AllocError>
+    ensures { IfOk result (λ all. all.items ≡ proofs.items ++ flat_map (λ more. more.items) found.items) }
+{
+    for mut more in found {
+        proofs.append(&mut more)?;
+    }
+    Ok(proofs)
 }

@@ -32,7 +32,7 @@ pub(crate) struct Sources {
 }
 
 /// Whether the predicate is of this procedure, which exists, and names columns of its frame alone.
-pub(crate) fn is_scoped(icfg: &Icfg, proc: u32, scoped: &Scoped) -> bool
+fn is_scoped(icfg: &Icfg, proc: u32, scoped: &Scoped) -> bool
     ensures { IsTrue result ↔ IsScoped (alphabet_of icfg.now) proc scoped.now }
 {
     match icfg.frames().get(proc as usize) {
@@ -42,7 +42,7 @@ pub(crate) fn is_scoped(icfg: &Icfg, proc: u32, scoped: &Scoped) -> bool
 }
 
 /// The states in the scope of a procedure.
-fn states_in(
+pub(crate) fn states_in(
     alloc: Global,
     icfg: &Icfg,
     states: &[Scoped],

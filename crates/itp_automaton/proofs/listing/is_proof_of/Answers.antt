@@ -8,5 +8,5 @@ returns c = λ yes.
     let lt : c.args.place < length c.args.proofs.now = omega arith in (
       c.index-proofs-place.result,
       member_at proofs c.args.place c.index-proofs-place.result (got_at proofs c.args.place c.index-proofs-place.result lt c.index-proofs-place.is),
-      sym c.triple.ensures.value ∙ c.is_same_triple.ensures yes,
+      sym c.triple.ensures.value ∙ sym (c.is_triple_from.ensures yes),
     )
