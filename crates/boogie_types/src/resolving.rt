@@ -1,8 +1,9 @@
 //! Programs with their names resolved, for which the typing rules hold.
 
 ghost use Rattle.std.specs.Prelude.{◌≡◌, ◌⊎◌, true, Some, None, Err, map, IfOk, IfErr, IsErr};
-ghost use Rattle.std.specs.List.{position_from};
+ghost use Rattle.std.specs.List.{list_all, position_from};
 ghost use Rattle.std.specs.Str.{bytes_eq};
+ghost use Rattle.boogie_tree.specs.Names.{is_name};
 ghost use Rattle.boogie_tree.specs.View as view;
 ghost use Rattle.typed_tree.specs.declared.fault.TypeFault.TheVariants as faults;
 ghost use Rattle.typing_rules.specs.Rules.{keeps_typing};
@@ -69,6 +70,7 @@ fn with_entry(alloc: Global, replaced: Replaced, entry: u32) -> Result<Typed, Ty
 fn resolved(alloc: Global, decls: &[Decl], entry: &[u8]) -> Result<Typed, TypeFault>
     requires named { are_named (map view.declaration decls.now) ≡ true }
     ensures ok { IfOk result (λ t. resolved_program (map view.declaration decls.now) entry.now ≡ Some (typed_program t)) }
+    ensures names { IfOk result (λ t. list_all (λ p. is_name p.name) (typed_program t).procs ≡ true) }
     ensures fault { IfErr result (λ f. IsTypeFault (map view.declaration decls.now) entry.now f) }
 {
     let procs = procedures(alloc, decls)?;
@@ -86,6 +88,7 @@ fn resolved(alloc: Global, decls: &[Decl], entry: &[u8]) -> Result<Typed, TypeFa
 pub fn resolve(alloc: Global, program: Program, entry: &str) -> Result<Typed, TypeFault>
     requires named { are_named (view.program program) ≡ true }
     ensures ok { IfOk result (λ t. resolved_program (view.program program) entry.now ≡ Some (typed_program t)) }
+    ensures names { IfOk result (λ t. list_all (λ p. is_name p.name) (typed_program t).procs ≡ true) }
     ensures fault { IfErr result (λ f. IsTypeFault (view.program program) entry.now f) }
     ensures only { IsErr result → (result ≡ Err faults.Memory) ⊎ (resolved_program (view.program program) entry.now ≡ None) }
 {
