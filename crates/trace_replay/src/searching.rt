@@ -19,7 +19,7 @@ use typing_rules::Typed;
 const ALL_STEPS: u64 = 16_384;
 
 /// How many runs a search makes at most, behind the first ones.
-const RUNS: u32 = 4_096;
+const RUNS: u32 = 2_048;
 
 /// By so many steps a run may be longer than the told one, since a loop may have more rounds.
 const MORE_STEPS: u64 = 64;
@@ -27,7 +27,7 @@ const MORE_STEPS: u64 = 64;
 /// How many of the numbers are tried for all whole numbers at once.
 const FILLS: usize = 8;
 
-/// One in so many runs starts again from the told choices, or from ones.
+/// One in so many runs starts again from the told choices, as they are or without zeros.
 const STARTS: usize = 32;
 
 /// How many steps one run may make, and all runs that are left.
@@ -63,6 +63,16 @@ fn all_of(alloc: Global, number: i128, count: usize) -> Result<Vec<Choice>, Allo
     Ok(choices)
 }
 
+/// The choices with 1 in place of 0, since whatever is multiplied by 0 is 0.
+fn without_zeros(alloc: Global, choices: &[Choice]) -> Result<Vec<Choice>, AllocError> {
+    let mut others = Vec::with_capacity(alloc, choices.len())?;
+    for choice in choices {
+        let number = if choice.0 == 0 { 1 } else { choice.0 };
+        others.push(Choice(number))?;
+    }
+    Ok(others)
+}
+
 /// A number beside this one.
 fn beside(number: i128, random: &mut Random) -> i128 {
     let distance = 1 + random.below(4) as i128;
@@ -78,11 +88,11 @@ fn beside(number: i128, random: &mut Random) -> i128 {
 /// known but that it is such a product.
 fn other(suggestions: &[i128], current: i128, random: &mut Random) -> Other {
     match random.below(12) {
-        0..=6 => {
+        0..=4 => {
             let number = suggestions.get(random.below(suggestions.len()));
             Other::Number(number.copied().unwrap_or(0))
         }
-        7..=9 => Other::Number(beside(current, random)),
+        5..=9 => Other::Number(beside(current, random)),
         _ => Other::Product(random.below(4), random.below(4)),
     }
 }
@@ -151,7 +161,7 @@ fn walked(
         }
         match random.below(2 * STARTS) {
             0 => current = Vec::new(alloc),
-            1 => current = all_of(alloc, 1, told.len())?,
+            1 => current = without_zeros(alloc, told)?,
             _ => {}
         }
         let changed = changes(alloc, told, &current, suggestions, &mut random)?;
