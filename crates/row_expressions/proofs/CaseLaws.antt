@@ -1,4 +1,5 @@
 -- Cases along their columns, what is left of a bound, and conditions that are excluded.
+use mathlib.Core.Bool.{beq}
 use Rattle.std.proofs.Common.{◌≡◌, ◌∙◌, ◌⊎◌, inl, inr, ℕ, zero, suc, ◌+◌, ◌<◌, ◌≤◌, ◌^◌, min, ℤ, pos, ◌-ℤ◌, Bool, true, false, cond, List, [], ◌∷◌, ◌++◌, length, take, drop, get_or, Option, None, Some, refl, sym, ap, subst, append_assoc, arith}
 use Rattle.std.specs.Prelude.{◌&&◌, unsigned_abs, nat_lt, if◌then◌else◌}
 use Rattle.std.specs.List.{AllByRecursion}
@@ -11,7 +12,7 @@ use Rattle.lin_rows.specs.Rows.{IsCoefficient}
 use Rattle.boogie_tree.specs.Tree.{Expression}
 use Rattle.row_expressions.specs.Scopes.{ClauseScope, is_truth}
 use Rattle.row_expressions.specs.Cases.{fit, rest, conditions, implied, opposite_of, excluded_from, excluded}
-use Rattle.row_expressions.specs.Rows.{is_same, terms_of}
+use Rattle.row_expressions.specs.Rows.{terms_of}
 
 -- ---- what is left of a bound
 
@@ -102,11 +103,11 @@ and_false true b h = h
 and_false false b h = refl
 
 pub terms_next : (s : ClauseScope) (truths : Bool) (ts : List (ℕ × ℤ)) (i : ℕ) (here : Bool) (now new : List (ℕ × ℤ)) → i < length ts → now ≡ terms_of s truths (take i ts) →
-    here ≡ is_same truths (is_truth s (get_or ts i (0, pos 0)).0) → new ≡ now ++ cond here (get_or ts i (0, pos 0) ∷ []) [] → new ≡ terms_of s truths (take (i + 1) ts)
+    here ≡ beq truths (is_truth s (get_or ts i (0, pos 0)).0) → new ≡ now ++ cond here (get_or ts i (0, pos 0) ∷ []) [] → new ≡ terms_of s truths (take (i + 1) ts)
 terms_next s truths ts i here now new l h e f =
     let t : ℕ × ℤ = get_or ts i (0, pos 0) in
     f ∙ ap (λ us. us ++ cond here (t ∷ []) []) h ∙ ap (λ b. terms_of s truths (take i ts) ++ cond b (t ∷ []) []) e ∙
-    sym (filter_more (λ (u : ℕ × ℤ). is_same truths (is_truth s u.0)) ts i (0, pos 0) l)
+    sym (filter_more (λ (u : ℕ × ℤ). beq truths (is_truth s u.0)) ts i (0, pos 0) l)
 
 all_pushed : (us : List (ℕ × ℤ)) (t : ℕ × ℤ) → AllByRecursion IsCoefficient us → IsCoefficient t → AllByRecursion IsCoefficient (us ++ t ∷ [])
 all_pushed [] t h k = (k, tt)

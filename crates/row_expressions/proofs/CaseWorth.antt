@@ -1,5 +1,6 @@
 -- Cases of boolean columns at a point: which one is so, what its conditions are worth, and what is left of a bound.
-use Rattle.std.proofs.Common.{◌≡◌, ◌∙◌, ℕ, zero, suc, ◌^◌, ℤ, pos, ◌+ℤ◌, ◌-ℤ◌, ◌*ℤ◌, Bool, true, false, not, List, [], ◌∷◌, ◌++◌, map, length, Option, None, Some, refl, sym, ap, arith}
+use mathlib.Core.Bool.{beq}
+use Rattle.std.proofs.Common.{◌≡◌, ◌∙◌, ◌⊎◌, inl, inr, ℕ, zero, suc, ◌^◌, ℤ, pos, ◌+ℤ◌, ◌-ℤ◌, ◌*ℤ◌, Bool, true, false, not, List, [], ◌∷◌, ◌++◌, map, length, Option, None, Some, refl, sym, ap, arith}
 use Rattle.std.specs.Prelude.{◌&&◌, ◌||◌, unsigned_abs, nat_lt, if◌then◌else◌}
 use Rattle.std.specs.List.{list_all}
 use Rattle.std.specs.Option.{option_map, option_and_then}
@@ -16,8 +17,7 @@ use Rattle.built_expressions.specs.Members.{or_truth}
 use Rattle.built_expressions.proofs.TruthLaws.{joined_holds}
 use Rattle.row_expressions.specs.Scopes.{ClauseScope, is_truth, said}
 use Rattle.row_expressions.specs.Cases.{cases, fit, rest, as_is, condition_said, conditions, under, implied, opposite_of, excluded_from}
-use Rattle.row_expressions.specs.Rows.{is_same}
-use Rattle.row_expressions.specs.Worth.{IsReading, HasColumns, number_of}
+use Rattle.row_expressions.specs.Worth.{IsReading, HasColumns}
 use Rattle.row_expressions.proofs.SumWorth.{fronted, there}
 
 -- ---- truth values
@@ -40,9 +40,18 @@ regroup_bool true true r = refl
 regroup_bool true false r = refl
 regroup_bool false x r = refl
 
-one_number : (b : Bool) → int_eq (number_of b) (pos 1) ≡ b
-one_number true = refl
-one_number false = refl
+beq_true : (b : Bool) → beq true b ≡ b
+beq_true true = refl
+beq_true false = refl
+
+beq_false : (b : Bool) → beq false b ≡ not b
+beq_false true = refl
+beq_false false = refl
+
+-- 1 where it is 1, and else 0
+bit_by : (z : ℤ) → (z ≡ pos 0) ⊎ (z ≡ pos 1) → z ≡ (if int_eq z (pos 1) then pos 1 else pos 0)
+bit_by z (inl e) = e ∙ sym (ap (λ y. if int_eq y (pos 1) then pos 1 else pos 0) e)
+bit_by z (inr e) = e ∙ sym (ap (λ y. if int_eq y (pos 1) then pos 1 else pos 0) e)
 
 -- ---- the case at a point
 
@@ -53,12 +62,13 @@ abbrev pub same_case : List Bool → List Bool → Bool
 same_case [] [] = true
 same_case [] (d ∷ ds) = false
 same_case (b ∷ c) [] = false
-same_case (b ∷ c) (d ∷ ds) = is_same b d && same_case c ds
+same_case (b ∷ c) (d ∷ ds) = beq b d && same_case c ds
 
-is_same_true : (b d : Bool) → is_same b d ≡ true → b ≡ d
-is_same_true true d h = sym h
-is_same_true false true h = let no : ⊥ = cc in absurd no
-is_same_true false false h = refl
+pub beq_same : (b d : Bool) → beq b d ≡ true → b ≡ d
+beq_same true true h = refl
+beq_same true false h = let no : ⊥ = cc in absurd no
+beq_same false true h = let no : ⊥ = cc in absurd no
+beq_same false false h = refl
 
 and_left : (a b : Bool) → (a && b) ≡ true → a ≡ true
 and_left true b h = refl
@@ -73,7 +83,7 @@ same_case_true [] [] h = refl
 same_case_true [] (d ∷ ds) h = let no : ⊥ = cc in absurd no
 same_case_true (b ∷ c) [] h = let no : ⊥ = cc in absurd no
 same_case_true (b ∷ c) (d ∷ ds) h =
-    ap (λ x. x ∷ c) (is_same_true b d (and_left (is_same b d) (same_case c ds) h)) ∙ ap (λ x. d ∷ x) (same_case_true c ds (and_right (is_same b d) (same_case c ds) h))
+    ap (λ x. x ∷ c) (beq_same b d (and_left (beq b d) (same_case c ds) h)) ∙ ap (λ x. d ∷ x) (same_case_true c ds (and_right (beq b d) (same_case c ds) h))
 
 all_true : (cs : List (List Bool)) → list_all (λ c. true) cs ≡ true
 all_true [] = refl
@@ -136,7 +146,7 @@ module _ (worth : Expression → ℤ) (holds : Expression → Bool) (reading : I
   rest_step None b a v D p ts c f k e h = let no : ⊥ = cc in absurd no
   rest_step (Some r) b a v D p ts c f k e h = taken b a r v D p (k r h) (fit_same (b -ℤ a) r f) e
 
-  rest_by : (d : Bool) (b : ℤ) (t : ℕ × ℤ) (ts : List (ℕ × ℤ)) (v : ℤ) → point t.0 ≡ number_of d → ((r : ℤ) → rest r ts (case_at point ts) ≡ Some v → r ≡ v +ℤ dot point ts) →
+  rest_by : (d : Bool) (b : ℤ) (t : ℕ × ℤ) (ts : List (ℕ × ℤ)) (v : ℤ) → point t.0 ≡ (if d then pos 1 else pos 0) → ((r : ℤ) → rest r ts (case_at point ts) ≡ Some v → r ≡ v +ℤ dot point ts) →
       rest b (t ∷ ts) (d ∷ case_at point ts) ≡ Some v → b ≡ v +ℤ ((t.1 *ℤ point t.0) +ℤ dot point ts)
   rest_by true b t ts v e k h =
       rest_step (fit (b -ℤ t.1)) b t.1 v (dot point ts) (t.1 *ℤ point t.0) ts (case_at point ts) refl k (ap (λ y. t.1 *ℤ y) e ∙ product_one_right t.1) h
@@ -146,24 +156,21 @@ module _ (worth : Expression → ℤ) (holds : Expression → Bool) (reading : I
   pub rest_at_point : (ts : List (ℕ × ℤ)) → AreTruths s ts → (b v : ℤ) → rest b ts (case_at point ts) ≡ Some v → b ≡ v +ℤ dot point ts
   rest_at_point [] a b v h = ends_at b v (there b v h)
   rest_at_point (t ∷ ts) a b v h =
-      rest_by (int_eq (point t.0) (pos 1)) b t ts v (state.bounded t.0 (and_left (is_truth s t.0) (list_all (λ u. is_truth s u.0) ts) a))
+      rest_by (int_eq (point t.0) (pos 1)) b t ts v (bit_by (point t.0) (state.bounded t.0 (and_left (is_truth s t.0) (list_all (λ u. is_truth s u.0) ts) a)))
       (λ r. rest_at_point ts (and_right (is_truth s t.0) (list_all (λ u. is_truth s u.0) ts) a) r v) h
 
   -- ---- conditions
 
-  as_is_holds : (b : Bool) (e : Expression) → holds (as_is b e) ≡ is_same b (holds e)
-  as_is_holds true e = refl
-  as_is_holds false e = reading.opposites nowhere e
+  as_is_holds : (b : Bool) (e : Expression) → holds (as_is b e) ≡ beq b (holds e)
+  as_is_holds true e = sym (beq_true (holds e))
+  as_is_holds false e = reading.opposites nowhere e ∙ sym (beq_false (holds e))
 
-  condition_by : (b d : Bool) (o : Option Expression) (x : Expression) → ((e : Expression) → o ≡ Some e → holds e ≡ d) → option_map (as_is b) o ≡ Some x → holds x ≡ is_same b d
+  condition_by : (b d : Bool) (o : Option Expression) (x : Expression) → ((e : Expression) → o ≡ Some e → holds e ≡ d) → option_map (as_is b) o ≡ Some x → holds x ≡ beq b d
   condition_by b d None x k h = let no : ⊥ = cc in absurd no
-  condition_by b d (Some e) x k h = ap holds (sym (there (as_is b e) x h)) ∙ as_is_holds b e ∙ ap (is_same b) (k e refl)
+  condition_by b d (Some e) x k h = ap holds (sym (there (as_is b e) x h)) ∙ as_is_holds b e ∙ ap (beq b) (k e refl)
 
-  truth_at : (n : ℕ) (e : Expression) → is_truth s n ≡ true → said s n ≡ Some e → holds e ≡ int_eq (point n) (pos 1)
-  truth_at n e t h = sym (ap (λ z. int_eq z (pos 1)) (state.truths n e t h) ∙ one_number (holds e))
-
-  condition_holds : (n : ℕ) (b : Bool) (x : Expression) → is_truth s n ≡ true → condition_said s n b ≡ Some x → holds x ≡ is_same b (int_eq (point n) (pos 1))
-  condition_holds n b x t h = condition_by b (int_eq (point n) (pos 1)) (said s n) x (λ e k. truth_at n e t k) h
+  condition_holds : (n : ℕ) (b : Bool) (x : Expression) → is_truth s n ≡ true → condition_said s n b ≡ Some x → holds x ≡ beq b (int_eq (point n) (pos 1))
+  condition_holds n b x t h = condition_by b (int_eq (point n) (pos 1)) (said s n) x (λ e k. state.truths n e t k) h
 
   -- the conditions of a case hold exactly where it is the one at the point
   pub conditions_hold : (ts : List (ℕ × ℤ)) (c : List Bool) (ps : List Expression) → AreTruths s ts → length c ≡ length ts → conditions s ts c ≡ Some ps →
@@ -175,7 +182,7 @@ module _ (worth : Expression → ℤ) (holds : Expression → Bool) (reading : I
       let f = fronted (condition_said s t.0 b) (conditions s ts c) ps h in
       let here = condition_holds t.0 b f.first (and_left (is_truth s t.0) (list_all (λ u. is_truth s u.0) ts) a) f.has_first in
       let behind = conditions_hold ts c f.rest (and_right (is_truth s t.0) (list_all (λ u. is_truth s u.0) ts) a) (omega (arith, e)) f.has_rest in
-      ap (list_all holds) f.whole ∙ ap (λ x. x && list_all holds f.rest) here ∙ ap (λ x. is_same b (int_eq (point t.0) (pos 1)) && x) behind
+      ap (list_all holds) f.whole ∙ ap (λ x. x && list_all holds f.rest) here ∙ ap (λ x. beq b (int_eq (point t.0) (pos 1)) && x) behind
 
   under_by : (o : Option Expression) (q : Bool) (e : Expression) → holds (or_truth true o) ≡ q → holds (under o e) ≡ (not q || holds e)
   under_by None q e h = ap (λ b. not b || holds e) (sym (reading.truths.truths true) ∙ h)

@@ -1,4 +1,5 @@
 -- What rows say holds as conclusions where they do, and as premises nowhere else.
+use mathlib.Core.Bool.{beq}
 use Rattle.std.proofs.Common.{◌≡◌, ◌∙◌, ◌⊎◌, inl, inr, ℕ, zero, suc, ℤ, pos, ◌+ℤ◌, ◌*ℤ◌, Bool, true, false, not, cond, List, [], ◌∷◌, ◌++◌, map, length, Option, None, Some, refl, sym, ap, arith}
 use Rattle.std.specs.Prelude.{◌&&◌, ◌||◌, nat_le, nat_eq, if◌then◌else◌}
 use Rattle.std.specs.List.{list_all, AllByRecursion}
@@ -17,10 +18,10 @@ use Rattle.built_expressions.specs.Members.{Conjuncts, always, denied}
 use Rattle.row_expressions.specs.Scopes.{ClauseScope, is_truth}
 use Rattle.row_expressions.specs.Sums.{sum_said}
 use Rattle.row_expressions.specs.Cases.{cases, rest, conditions, implied, excluded}
-use Rattle.row_expressions.specs.Rows.{ByTruths, is_same, terms_of, apart, stands, is_equal_to, is_constant, alone, concluded, said_under, case_said, both_said, cases_said, or_missing, can_say_all, if_sayable, split_said, row_said}
+use Rattle.row_expressions.specs.Rows.{ByTruths, terms_of, apart, stands, is_equal_to, is_constant, alone, concluded, said_under, case_said, both_said, cases_said, or_missing, can_say_all, if_sayable, split_said, row_said}
 use Rattle.row_expressions.specs.Worth.{IsReading, HasColumns, meets, row_holds, ConclusionsFollow, PremisesImply}
 use Rattle.row_expressions.proofs.SumWorth.{there, meets_shifts, sum_holds}
-use Rattle.row_expressions.proofs.CaseWorth.{and_true, case_at, same_case, same_case_true, worth_of_case, only_case, at_case, AreTruths, rest_at_point, conditions_hold, implied_holds, excluded_holds}
+use Rattle.row_expressions.proofs.CaseWorth.{and_true, beq_same, case_at, same_case, same_case_true, worth_of_case, only_case, at_case, AreTruths, rest_at_point, conditions_hold, implied_holds, excluded_holds}
 
 -- ---- terms apart
 
@@ -31,7 +32,7 @@ split_other : (a D N T : ℤ) → D ≡ N +ℤ T → a +ℤ D ≡ (a +ℤ N) +�
 split_other a D N T h = omega (arith, ints)
 
 apart_by : (point : ℕ → ℤ) (b : Bool) (t : ℕ × ℤ) (D : ℤ) (ns us : List (ℕ × ℤ)) → D ≡ dot point ns +ℤ dot point us →
-    (t.1 *ℤ point t.0) +ℤ D ≡ dot point (cond (not b) (t ∷ ns) ns) +ℤ dot point (cond b (t ∷ us) us)
+    (t.1 *ℤ point t.0) +ℤ D ≡ dot point (cond (beq false b) (t ∷ ns) ns) +ℤ dot point (cond (beq true b) (t ∷ us) us)
 apart_by point true t D ns us h = split_one (t.1 *ℤ point t.0) D (dot point ns) (dot point us) h
 apart_by point false t D ns us h = split_other (t.1 *ℤ point t.0) D (dot point ns) (dot point us) h
 
@@ -42,7 +43,7 @@ terms_apart s point (t ∷ ts) = apart_by point (is_truth s t.0) t (dot point ts
 no_truths : (D : ℤ) → D ≡ D +ℤ pos 0
 no_truths D = omega (arith, ints)
 
-truths_by : (s : ClauseScope) (b : Bool) (t : ℕ × ℤ) (us : List (ℕ × ℤ)) → is_truth s t.0 ≡ b → AreTruths s us → AreTruths s (cond b (t ∷ us) us)
+truths_by : (s : ClauseScope) (b : Bool) (t : ℕ × ℤ) (us : List (ℕ × ℤ)) → is_truth s t.0 ≡ b → AreTruths s us → AreTruths s (cond (beq true b) (t ∷ us) us)
 truths_by s true t us e h = ap (λ x. x && list_all (λ u. is_truth s u.0) us) e ∙ h
 truths_by s false t us e h = h
 
@@ -199,12 +200,7 @@ module _ (worth : Expression → ℤ) (holds : Expression → Bool) (reading : I
         row_holds point r equal ≡ b
     constant_by b None e z h = let no : ⊥ = cc in absurd no
     constant_by b (Some v) e z h =
-        sym (left_at_point v e) ∙ ap (λ x. meets equal x v) z ∙ sym (stands_meets equal v) ∙ same_as b (stands equal v) h
-      where
-        same_as : (b d : Bool) → is_same b d ≡ true → d ≡ b
-        same_as true d k = k
-        same_as false true k = let no : ⊥ = cc in absurd no
-        same_as false false k = refl
+        sym (left_at_point v e) ∙ ap (λ x. meets equal x v) z ∙ sym (stands_meets equal v) ∙ sym (beq_same b (stands equal v) h)
 
     constant_value : (b : Bool) → is_constant t equal r.bound b ≡ true → row_holds point r equal ≡ b
     constant_value b h =

@@ -1,5 +1,6 @@
 -- Rows as members of conjunctions, by cases of their boolean columns.
-use Rattle.std.specs.Prelude.{ℕ, ℤ, pos, Bool, true, false, ◌&&◌, not, int_le, nat_le, nat_eq, List, [], ◌∷◌, ◌++◌, filter, length, Option, None, Some, if◌then◌else◌}
+use mathlib.Core.Bool.{beq}
+use Rattle.std.specs.Prelude.{ℕ, ℤ, pos, Bool, true, false, ◌&&◌, int_le, nat_le, nat_eq, List, [], ◌∷◌, ◌++◌, filter, length, Option, None, Some, if◌then◌else◌}
 use Rattle.std.specs.List.{list_all}
 use Rattle.std.specs.Option.{option_map, option_and_then}
 use Rattle.std.specs.Ordering.{int_eq}
@@ -15,13 +16,9 @@ pub record ByTruths : Type 0 where
   pub numbers : List (ℕ × ℤ)
   pub truths : List (ℕ × ℤ)
 
-abbrev pub is_same : Bool → Bool → Bool
-is_same true b = b
-is_same false b = not b
-
 -- the terms of boolean columns, or of the others
 abbrev pub terms_of : ClauseScope → Bool → List (ℕ × ℤ) → List (ℕ × ℤ)
-terms_of s b ts = filter (λ t. is_same b (is_truth s t.0)) ts
+terms_of s b ts = filter (λ t. beq b (is_truth s t.0)) ts
 
 abbrev pub apart : ClauseScope → List (ℕ × ℤ) → ByTruths
 apart s ts =
@@ -36,7 +33,7 @@ stands false b = int_le (pos 0) b
 
 abbrev pub is_equal_to : Bool → Option Bool → Bool
 is_equal_to b None = false
-is_equal_to b (Some c) = is_same b c
+is_equal_to b (Some c) = beq b c
 
 -- the row has no whole numbers, and is so in each case
 abbrev pub is_constant : ByTruths → Bool → ℤ → Bool → Bool

@@ -1,5 +1,5 @@
 -- When what a row says holds.
-use Rattle.std.specs.Prelude.{◌≡◌, ℕ, ℤ, pos, ◌+ℤ◌, ◌*ℤ◌, Bool, true, false, not, ◌||◌, int_le, Some}
+use Rattle.std.specs.Prelude.{◌≡◌, ◌⊎◌, ℕ, ℤ, pos, ◌+ℤ◌, ◌*ℤ◌, Bool, true, false, not, ◌||◌, int_le, Some}
 use Rattle.std.specs.Ordering.{int_eq}
 use Rattle.boogie_tree.specs.declared.span.Span.{Span}
 use Rattle.boogie_tree.specs.declared.tree.Op.TheVariants as ops
@@ -22,15 +22,11 @@ pub record IsReading (worth : Expression → ℤ) (holds : Expression → Bool) 
   pub conclusions : (a b : Expression) → holds (operation ops.Implies a b) ≡ (not (holds a) || holds b)
   pub truths : IsTruthTest holds
 
-abbrev pub number_of : Bool → ℤ
-number_of true = pos 1
-number_of false = pos 0
-
--- The columns have these values where the clause stands: what they are called there is worth them, and boolean columns are 1 or 0.
+-- The columns have these values where the clause stands: what they are called there is worth them, and boolean columns are 0 or 1, and hold where they are 1.
 pub record HasColumns (worth : Expression → ℤ) (holds : Expression → Bool) (s : ClauseScope) (point : ℕ → ℤ) : Type 0 where
   pub columns : (n : ℕ) (e : Expression) → number_said s n ≡ Some e → worth e ≡ point n
-  pub truths : (n : ℕ) (e : Expression) → is_truth s n ≡ true → said s n ≡ Some e → point n ≡ number_of (holds e)
-  pub bounded : (n : ℕ) → is_truth s n ≡ true → point n ≡ number_of (int_eq (point n) (pos 1))
+  pub truths : (n : ℕ) (e : Expression) → is_truth s n ≡ true → said s n ≡ Some e → holds e ≡ int_eq (point n) (pos 1)
+  pub bounded : (n : ℕ) → is_truth s n ≡ true → (point n ≡ pos 0) ⊎ (point n ≡ pos 1)
 
 abbrev pub meets : Bool → ℤ → ℤ → Bool
 meets true a b = int_eq a b

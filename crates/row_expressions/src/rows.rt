@@ -1,5 +1,6 @@
 //! Rows as members of conjunctions: by cases of their boolean columns.
 
+ghost use mathlib.Core.Bool.{beq};
 ghost use Rattle.std.specs.Prelude.{◌≡◌, ◌∷◌, ◌++◌, [], cond, IfOk, OnOk, map, length};
 ghost use Rattle.std.specs.List.{AllByRecursion};
 ghost use Rattle.std.specs.Option.{option_map, option_and_then};
@@ -33,10 +34,9 @@ struct Split {
 
 /// Whether the column is boolean, or whether it is not.
 fn is_kind(scope: &Scope<'_>, truths: bool, column: u32) -> bool
-    ensures { result ≡ spec.is_same truths (is_truth (view.scope scope.now) column) }
+    ensures { result ≡ beq truths (is_truth (view.scope scope.now) column) }
 {
-    let truth = scope.is_truth(column);
-    if truths { truth } else { !truth }
+    scope.is_truth(column) == truths
 }
 
 /// Adds a term, if it is one of these.
