@@ -79,7 +79,7 @@ low_tree (tree n ts) h l =
 
 -- ---- atoms
 
-some_terms : (frame : Columns) (terms : List (Numeral × List ℕ)) (ts : List (ℕ × ℤ)) → is_some_list terms ≡ true → all_some (map (term_named frame) terms) ≡ Some ts → ts ≢ []
+pub some_terms : (frame : Columns) (terms : List (Numeral × List ℕ)) (ts : List (ℕ × ℤ)) → is_some_list terms ≡ true → all_some (map (term_named frame) terms) ≡ Some ts → ts ≢ []
 some_terms frame [] ts h e = absurd (cc)
 some_terms frame (t ∷ terms) ts h e = let f = front_of (term_named frame t) (all_some (map (term_named frame) terms)) ts e in λ k. absurd (let j = f.joined in cc)
 
@@ -96,12 +96,12 @@ row_is_atom (Some ts) (Some b) row h e =
     let k = in_order (ts, b) (terms_ascend ts) row e in
     record { inequality = k.0; has_term = λ n. h ts refl (sym k.1 ∙ n) }
 
-record IsAtomOf (m : PredNode) : Type 0 where
-  row : LinearRow
-  is : m ≡ Atom row
-  atom : IsAtom row
+pub record IsAtomOf (m : PredNode) : Type 0 where
+  pub row : LinearRow
+  pub is : m ≡ Atom row
+  pub atom : IsAtom row
 
-atom_of : (o : Option LinearRow) (m : PredNode) → ((row : LinearRow) → o ≡ Some row → IsAtom row) → option_map Atom o ≡ Some m → IsAtomOf m
+pub atom_of : (o : Option LinearRow) (m : PredNode) → ((row : LinearRow) → o ≡ Some row → IsAtom row) → option_map Atom o ≡ Some m → IsAtomOf m
 atom_of None m h e = absurd (cc)
 atom_of (Some row) m h e = record { row = row; is = cc; atom = h row refl }
 
@@ -128,84 +128,104 @@ all_of_append f (x ∷ xs) ys h =
     let r = all_of_append f xs ys b.1 in
     (rw (b.0, r.0) refl, r.1)
 
-node_grown : (frame : Columns) (n : PredicateNode) (ts : Forest PredicateNode) (m : PredNode) (ms : List PredNode) → parts n ≡ size ts → is_predicate_node n ≡ true →
-    node_named frame n ≡ Some m → AllGrown ts ms → Grown (tree n ts) (m ∷ ms)
-node_grown frame (atom bound terms) ts m ms p g e a =
-    let i = both_hold (is_numeral bound) (is_some_list terms && list_all is_term terms) g in
-    let j = both_hold (is_some_list terms) (list_all is_term terms) i.1 in
-    let w = atom_of (row_named frame bound terms) m
-    (λ row r. row_is_atom (all_some (map (term_named frame) terms)) (number_in bound) row (λ l k. some_terms frame terms l j.0 k) r) e in
-    let none : preds.prefixes_of a.formulas ≡ [] = no_formulas a.formulas (a.counted ∙ sym p) in
-    record {
-      formula = preds.atom w.row;
-      spelled = ap (λ (x : PredNode). x ∷ []) (sym w.is) ∙ ap (λ l. m ∷ l) (sym none ∙ a.spelled);
-      is_tree = w.atom;
-      nested = refl;
-    }
-  where
-    no_formulas : (fs : Formulas) → formula_count fs ≡ 0 → preds.prefixes_of fs ≡ []
-    no_formulas preds.no_formula c = refl
-    no_formulas (preds.one_more f fs) c = absurd (omega arith)
-node_grown frame (and_of k) ts m ms p g e a =
-    let i = both_hold (nat_le 2 k) (nat_lt k (2 ^ 32)) g in
-    let l = leb-true 2 k i.0 in
-    let c = a.counted in
-    let w : And k ≡ m = cc in
-    let v : formula_count a.formulas ≡ k = c ∙ sym p in
-    record {
-      formula = preds.and_of a.formulas;
-      spelled = ap (λ (x : ℕ). And x ∷ preds.prefixes_of a.formulas) v ∙ ap (λ (x : PredNode). x ∷ preds.prefixes_of a.formulas) w ∙ ap (λ l. m ∷ l) a.spelled;
-      is_tree = (omega (arith, l, v), a.are_trees);
-      nested = ap suc a.nested;
-    }
-node_grown frame (or_of k) ts m ms p g e a =
-    let i = both_hold (nat_le 2 k) (nat_lt k (2 ^ 32)) g in
-    let l = leb-true 2 k i.0 in
-    let c = a.counted in
-    let w : Or k ≡ m = cc in
-    let v : formula_count a.formulas ≡ k = c ∙ sym p in
-    record {
-      formula = preds.or_of a.formulas;
-      spelled = ap (λ (x : ℕ). Or x ∷ preds.prefixes_of a.formulas) v ∙ ap (λ (x : PredNode). x ∷ preds.prefixes_of a.formulas) w ∙ ap (λ l. m ∷ l) a.spelled;
-      is_tree = (omega (arith, l, v), a.are_trees);
-      nested = ap suc a.nested;
-    }
+-- a way to name nodes: atoms as inequalities with a term, and the others as they are
+pub record NamesNodes (f : PredicateNode → Option PredNode) : Type 0 where
+  pub atoms : (bound : Numeral) (terms : List (Numeral × List ℕ)) (m : PredNode) → is_predicate_node (atom bound terms) ≡ true → f (atom bound terms) ≡ Some m → IsAtomOf m
+  pub ands : (k : ℕ) (m : PredNode) → f (and_of k) ≡ Some m → And k ≡ m
+  pub ors : (k : ℕ) (m : PredNode) → f (or_of k) ≡ Some m → Or k ≡ m
 
-mutual
-  tree_grown : (frame : Columns) (t : Tree PredicateNode) (ms : List PredNode) → HasParts parts t → list_all is_predicate_node (prefix_of t) ≡ true →
-      all_some (map (node_named frame) (prefix_of t)) ≡ Some ms → Grown t ms
-  tree_grown frame (tree n ts) ms h g e =
-      let f = front_of (node_named frame n) (all_some (map (node_named frame) (prefixes_of ts))) ms e in
-      let b = both_hold (is_predicate_node n) (list_all is_predicate_node (prefixes_of ts)) g in
-      let w = node_grown frame n ts f.first f.rest h.0 b.0 f.is (forest_grown frame ts f.rest h.1 b.1 f.others) in
-      record { formula = w.formula; spelled = w.spelled ∙ sym f.joined; is_tree = w.is_tree; nested = w.nested }
-
-  forest_grown : (frame : Columns) (ts : Forest PredicateNode) (ms : List PredNode) → HaveParts parts ts → list_all is_predicate_node (prefixes_of ts) ≡ true →
-      all_some (map (node_named frame) (prefixes_of ts)) ≡ Some ms → AllGrown ts ms
-  forest_grown frame no_tree ms h g e = record { formulas = preds.no_formula; spelled = cc; counted = refl; are_trees = tt; nested = refl }
-  forest_grown frame (one_more t ts) ms h g e =
-      let p = parted (node_named frame) (prefix_of t) (prefixes_of ts) ms e in
-      let b = all_of_append is_predicate_node (prefix_of t) (prefixes_of ts) g in
-      let one = tree_grown frame t p.front h.0 b.0 p.first in
-      let all = forest_grown frame ts p.rest h.1 b.1 p.others in
+module _ (f : PredicateNode → Option PredNode) (names : NamesNodes f) where
+  node_grown : (n : PredicateNode) (ts : Forest PredicateNode) (m : PredNode) (ms : List PredNode) → parts n ≡ size ts → is_predicate_node n ≡ true →
+      f n ≡ Some m → AllGrown ts ms → Grown (tree n ts) (m ∷ ms)
+  node_grown (atom bound terms) ts m ms p g e a =
+      let w = names.atoms bound terms m g e in
+      let none : preds.prefixes_of a.formulas ≡ [] = no_formulas a.formulas (a.counted ∙ sym p) in
       record {
-        formulas = preds.one_more one.formula all.formulas;
-        spelled = ap (λ l. l ++ preds.prefixes_of all.formulas) one.spelled ∙ ap (λ l. p.front ++ l) all.spelled ∙ sym p.joined;
-        counted = ap suc all.counted;
-        are_trees = (one.is_tree, all.are_trees);
-        nested = ap (λ (k : ℕ). max k (deepest all.formulas)) one.nested ∙ ap (λ (k : ℕ). max (height t) k) all.nested;
+        formula = preds.atom w.row;
+        spelled = ap (λ (x : PredNode). x ∷ []) (sym w.is) ∙ ap (λ l. m ∷ l) (sym none ∙ a.spelled);
+        is_tree = w.atom;
+        nested = refl;
       }
+    where
+      no_formulas : (fs : Formulas) → formula_count fs ≡ 0 → preds.prefixes_of fs ≡ []
+      no_formulas preds.no_formula c = refl
+      no_formulas (preds.one_more g gs) c = absurd (omega arith)
+  node_grown (and_of k) ts m ms p g e a =
+      let i = both_hold (nat_le 2 k) (nat_lt k (2 ^ 32)) g in
+      let l = leb-true 2 k i.0 in
+      let c = a.counted in
+      let w = names.ands k m e in
+      let v : formula_count a.formulas ≡ k = c ∙ sym p in
+      record {
+        formula = preds.and_of a.formulas;
+        spelled = ap (λ (x : ℕ). And x ∷ preds.prefixes_of a.formulas) v ∙ ap (λ (x : PredNode). x ∷ preds.prefixes_of a.formulas) w ∙ ap (λ l. m ∷ l) a.spelled;
+        is_tree = (omega (arith, l, v), a.are_trees);
+        nested = ap suc a.nested;
+      }
+  node_grown (or_of k) ts m ms p g e a =
+      let i = both_hold (nat_le 2 k) (nat_lt k (2 ^ 32)) g in
+      let l = leb-true 2 k i.0 in
+      let c = a.counted in
+      let w = names.ors k m e in
+      let v : formula_count a.formulas ≡ k = c ∙ sym p in
+      record {
+        formula = preds.or_of a.formulas;
+        spelled = ap (λ (x : ℕ). Or x ∷ preds.prefixes_of a.formulas) v ∙ ap (λ (x : PredNode). x ∷ preds.prefixes_of a.formulas) w ∙ ap (λ l. m ∷ l) a.spelled;
+        is_tree = (omega (arith, l, v), a.are_trees);
+        nested = ap suc a.nested;
+      }
+
+  mutual
+    tree_grown : (t : Tree PredicateNode) (ms : List PredNode) → HasParts parts t → list_all is_predicate_node (prefix_of t) ≡ true →
+        all_some (map f (prefix_of t)) ≡ Some ms → Grown t ms
+    tree_grown (tree n ts) ms h g e =
+        let r = front_of (f n) (all_some (map f (prefixes_of ts))) ms e in
+        let b = both_hold (is_predicate_node n) (list_all is_predicate_node (prefixes_of ts)) g in
+        let w = node_grown n ts r.first r.rest h.0 b.0 r.is (forest_grown ts r.rest h.1 b.1 r.others) in
+        record { formula = w.formula; spelled = w.spelled ∙ sym r.joined; is_tree = w.is_tree; nested = w.nested }
+
+    forest_grown : (ts : Forest PredicateNode) (ms : List PredNode) → HaveParts parts ts → list_all is_predicate_node (prefixes_of ts) ≡ true →
+        all_some (map f (prefixes_of ts)) ≡ Some ms → AllGrown ts ms
+    forest_grown no_tree ms h g e = record { formulas = preds.no_formula; spelled = cc; counted = refl; are_trees = tt; nested = refl }
+    forest_grown (one_more t ts) ms h g e =
+        let p = parted f (prefix_of t) (prefixes_of ts) ms e in
+        let b = all_of_append is_predicate_node (prefix_of t) (prefixes_of ts) g in
+        let one = tree_grown t p.front h.0 b.0 p.first in
+        let all = forest_grown ts p.rest h.1 b.1 p.others in
+        record {
+          formulas = preds.one_more one.formula all.formulas;
+          spelled = ap (λ l. l ++ preds.prefixes_of all.formulas) one.spelled ∙ ap (λ l. p.front ++ l) all.spelled ∙ sym p.joined;
+          counted = ap suc all.counted;
+          are_trees = (one.is_tree, all.are_trees);
+          nested = ap (λ (k : ℕ). max k (deepest all.formulas)) one.nested ∙ ap (λ (k : ℕ). max (height t) k) all.nested;
+        }
+
+  -- the nodes of a predicate of the grammar, named so, spell a predicate
+  pub nodes_spell_so : (ns : List PredicateNode) (ms : List PredNode) → IsTrue (is_predicate ns) → all_some (map f ns) ≡ Some ms → SpellsPredicate ms
+  nodes_spell_so ns ms g e =
+      let b = both_hold (list_all is_predicate_node ns) (is_tree parts ns && are_low ns) g in
+      let c = both_hold (is_tree parts ns) (are_low ns) b.1 in
+      let t = whole_is_tree parts ns c.0 in
+      let w = tree_grown t.0 ms t.1 (subst (λ l. list_all is_predicate_node l ≡ true) (sym t.2) b.0) (subst (λ l. all_some (map f l) ≡ Some ms) (sym t.2) e) in
+      let low = low_tree t.0 t.1 (subst (λ l. are_low l ≡ true) (sym t.2) c.1) in
+      let n = w.nested in
+      (w.formula, w.spelled, inr (w.is_tree, omega (arith, n, low)))
+
+-- with their columns named
+names_nodes : (frame : Columns) → NamesNodes (node_named frame)
+names_nodes frame = record {
+  atoms = λ bound terms m g e.
+      let i = both_hold (is_numeral bound) (is_some_list terms && list_all is_term terms) g in
+      let j = both_hold (is_some_list terms) (list_all is_term terms) i.1 in
+      atom_of (row_named frame bound terms) m
+      (λ row r. row_is_atom (all_some (map (term_named frame) terms)) (number_in bound) row (λ l k. some_terms frame terms l j.0 k) r) e;
+  ands = λ k m e. cc;
+  ors = λ k m e. cc;
+}
 
 -- the nodes of a predicate of the grammar, with their columns named, spell a predicate
 pub nodes_spell : (frame : Columns) (ns : List PredicateNode) (ms : List PredNode) → IsTrue (is_predicate ns) → all_some (map (node_named frame) ns) ≡ Some ms → SpellsPredicate ms
-nodes_spell frame ns ms g e =
-    let b = both_hold (list_all is_predicate_node ns) (is_tree parts ns && are_low ns) g in
-    let c = both_hold (is_tree parts ns) (are_low ns) b.1 in
-    let t = whole_is_tree parts ns c.0 in
-    let w = tree_grown frame t.0 ms t.1 (subst (λ l. list_all is_predicate_node l ≡ true) (sym t.2) b.0) (subst (λ l. all_some (map (node_named frame) l) ≡ Some ms) (sym t.2) e) in
-    let low = low_tree t.0 t.1 (subst (λ l. are_low l ≡ true) (sym t.2) c.1) in
-    let n = w.nested in
-    (w.formula, w.spelled, inr (w.is_tree, omega (arith, n, low)))
+nodes_spell frame ns ms g e = nodes_spell_so (node_named frame) (names_nodes frame) ns ms g e
 
 spelled_in : (g : Graph) (nodes : List PredicateNode) (o : Option ℕ) (sc : Scoped) → IsTrue (is_predicate nodes) → scoped_named g nodes o ≡ Some sc → SpellsPredicate sc.pred
 spelled_in g nodes None sc h e = absurd (cc)

@@ -73,7 +73,7 @@ fn has_entry(entries: &[Option<u32>], place: usize) -> bool
 }
 
 /// The procedure that the text names, if it has a body.
-pub(crate) fn procedure_named(icfg: &Icfg, name: &[u8]) -> Option<u32>
+pub fn procedure_named(icfg: &Icfg, name: &[u8]) -> Option<u32>
     ensures { result ≡ spec.procedure_named icfg.now name.now }
 {
     match procedure_place(icfg.names(), name) {

@@ -41,7 +41,7 @@ fn with_digit(value: u128, digit: u8) -> Option<u128>
 }
 
 /// The number by which a member of a list is named.
-pub(crate) fn index_in(numeral: &Numeral) -> Option<usize>
+pub fn index_in(numeral: &Numeral) -> Option<usize>
     ensures { result ≡ spec.index_in numeral.now }
 {
     if numeral.negative {
@@ -63,7 +63,7 @@ pub fn short_in(numeral: &Numeral) -> Option<u32>
 }
 
 /// The number of a numeral, if it fits.
-pub(crate) fn number_in(numeral: &Numeral) -> Option<i128>
+pub fn number_in(numeral: &Numeral) -> Option<i128>
     ensures { result ≡ spec.number_in numeral.now }
 {
     let number = number_below(numeral.digits.bytes(), FITS)? as i128;

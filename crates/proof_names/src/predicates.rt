@@ -25,7 +25,7 @@ fn term_named(frame: &[(Column, VarInfo)], term: &(Numeral, Text)) -> Option<(u3
 }
 
 /// The terms of an atom, if all are named.
-fn terms_named(
+pub fn terms_named(
     alloc: Global,
     frame: &[(Column, VarInfo)],
     terms: &[(Numeral, Text)],
@@ -118,11 +118,7 @@ fn nodes_named(
 }
 
 /// The predicate that a line names.
-pub(crate) fn pred_named(
-    alloc: Global,
-    icfg: &Icfg,
-    line: &PredLine,
-) -> Result<Option<Scoped>, AllocError>
+pub fn pred_named(alloc: Global, icfg: &Icfg, line: &PredLine) -> Result<Option<Scoped>, AllocError>
     requires { IsTrue (lines.is_pred (lines.pred line.now)) }
     ensures { IfOk result (λ o. o ≡ spec.pred_named icfg.now (lines.pred line.now)) }
 {

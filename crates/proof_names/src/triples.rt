@@ -199,8 +199,9 @@ fn back_at(
     }
 }
 
-/// The triple with these numbers.
-fn triple_at(
+/// The triple with these numbers: 0 and 1 for true and false, k + 2 for predicate k. `None` where a predicate or the letter does not
+/// exist, or the letter is of another kind.
+pub fn triple_at(
     alloc: Global,
     icfg: &Icfg,
     preds: &[Scoped],
