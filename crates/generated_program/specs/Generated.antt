@@ -20,8 +20,8 @@ abbrev pub link_name : ℕ → Name
 link_name number = name (codes "p" ++ decimal number)
 
 -- a procedure without parameters that modifies the counter
-abbrev pub procedure : Name → Block → Procedure
-procedure x b = record {
+abbrev pub counting_procedure : Name → Block → Procedure
+counting_procedure x b = record {
   span = beginning;
   name = x;
   params = [];
@@ -38,7 +38,7 @@ calls number = Call beginning [] (link_name number) []
 
 -- `g := 0; call p1();`
 abbrev pub main_procedure : Procedure
-main_procedure = procedure (name (codes "main")) (Then (becomes (Lit beginning (pos 0))) (Then (calls 1) Empty))
+main_procedure = counting_procedure (name (codes "main")) (Then (becomes (Lit beginning (pos 0))) (Then (calls 1) Empty))
 
 -- `assert g >= K;`
 abbrev pub bound : ℕ → Block
@@ -55,7 +55,7 @@ step = becomes (Bin beginning Add (Var beginning counter) (Lit beginning (pos 1)
 
 -- the procedure with that number, which calls the next one or not
 abbrev pub link : Bool → ℕ → Procedure
-link next number = procedure (link_name number) (Then step (rest_of next number))
+link next number = counting_procedure (link_name number) (Then step (rest_of next number))
 
 -- one more than none
 abbrev pub is_positive : ℕ → Bool

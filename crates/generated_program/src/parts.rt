@@ -54,7 +54,7 @@ pub(crate) fn declared(alloc: Global) -> Result<Decl, AllocError>
 
 /// A procedure without parameters that modifies the global variable.
 pub(crate) fn procedure(alloc: Global, name: Name, stmts: Vec<Stmt>) -> Result<Decl, AllocError>
-    ensures { IfOk result (λ d. view.declaration d ≡ tree.Declares (generated.procedure name (view.statements stmts.items))) }
+    ensures { IfOk result (λ d. view.declaration d ≡ tree.Declares (generated.counting_procedure name (view.statements stmts.items))) }
 {
     let modified = vec![in alloc; counter(alloc)?]?;
     Ok(Decl::Procedure(Proc {

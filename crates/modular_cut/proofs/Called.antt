@@ -4,7 +4,7 @@ use Rattle.std.specs.List.{list_all}
 use Rattle.std.proofs.lemmas.Bool.{and_parts, and_from}
 use Rattle.std.proofs.lemmas.Bool.Decides.{nat_tests}
 use Rattle.typed_tree.specs.TypedTree.{TypedProcedure, TypedProgram}
-use Rattle.modular_cut.specs.Parts.{called_in, without_body, copy_of, own_procedure, cut_procs, copies, part_of}
+use Rattle.modular_cut.specs.Parts.{called_in, without_body, copy_of, own_procedure, cut_procs, copies, procedure_part}
 
 -- The procedure is one like q, without body and with that name.
 abbrev pub named_like : TypedProcedure → List ℕ → TypedProcedure
@@ -98,7 +98,7 @@ module _ (t : TypedProgram) (n : ℕ) (q : TypedProcedure) (is : slice_get t.pro
   abbrev pub part_procs : List TypedProcedure
   part_procs = cut_procs calls n t.procs ++ copy_of q ∷ []
 
-  pub procs_are : (part_of t n).procs ≡ part_procs
+  pub procs_are : (procedure_part t n).procs ≡ part_procs
   procs_are = ap (λ (o : Option TypedProcedure). cut_procs calls n t.procs ++ copies o) is
 
   pub own_is : slice_get part_procs n ≡ Some (own_procedure calls q)

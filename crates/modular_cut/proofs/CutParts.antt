@@ -10,7 +10,7 @@ use Rattle.typing_rules.specs.Rules.{meets}
 use Rattle.typing_rules.specs.Counts.{numbers_fit}
 use Rattle.typing_rules.specs.ValidProgram.{has_body, is_typed, is_valid}
 use Rattle.typing_rules.proofs.ValidLaws as valid_laws
-use Rattle.modular_cut.specs.Parts.{without_body, copy_of, own_procedure, cut_procs, copies, part_of, PlainPart, part_at, parts_from}
+use Rattle.modular_cut.specs.Parts.{without_body, copy_of, own_procedure, cut_procs, copies, procedure_part, PlainPart, part_at, parts_from_number}
 use Rattle.modular_cut.proofs.Called.{get_map}
 use Rattle.modular_cut.proofs.TypedParts.{parts_are_typed}
 
@@ -93,7 +93,7 @@ pub procedures_few : (t : TypedProgram) → IsTrue (is_valid t) → length t.pro
 procedures_few t valid = (valid_laws.numbers t valid).1
 
 -- a part keeps the typing rules
-pub part_typed : (t made : TypedProgram) (n : ℕ) → IsTrue (is_valid t) → list_all (λ p. is_name p.name) t.procs ≡ true → meets has_body (slice_get t.procs n) ≡ true → made ≡ part_of t n → is_typed made ≡ true
+pub part_typed : (t made : TypedProgram) (n : ℕ) → IsTrue (is_valid t) → list_all (λ p. is_name p.name) t.procs ≡ true → meets has_body (slice_get t.procs n) ≡ true → made ≡ procedure_part t n → is_typed made ≡ true
 part_typed t made n valid names entered same =
     let b : HasBody (slice_get t.procs n) = body_of (slice_get t.procs n) entered in
     let typed : is_typed t ≡ true = (and_parts (is_typed t) (numbers_fit t) valid).0 in
@@ -116,19 +116,19 @@ get_there (x ∷ xs) (suc i) h = get_there xs i (omega arith)
 
 -- one more procedure
 pub parts_more : {X : Type 0} (f : X → PlainPart) (t : TypedProgram) (i : ℕ) (old new : List X) (w : List PlainPart) → i < length t.procs → map f new ≡ map f old ++ part_at t i (slice_get t.procs i) →
-    map f old ++ parts_from t i (drop i t.procs) ≡ w → map f new ++ parts_from t (i + 1) (drop (i + 1) t.procs) ≡ w
+    map f old ++ parts_from_number t i (drop i t.procs) ≡ w → map f new ++ parts_from_number t (i + 1) (drop (i + 1) t.procs) ≡ w
 parts_more f t i old new w l n so_far =
     let here = get_there t.procs i l in
     let q : TypedProcedure = here.0 in
-    let rest : List PlainPart = parts_from t (i + 1) (drop (i + 1) t.procs) in
+    let rest : List PlainPart = parts_from_number t (i + 1) (drop (i + 1) t.procs) in
     ap (λ (xs : List PlainPart). xs ++ rest) (n ∙ ap (λ (o : Option TypedProcedure). map f old ++ part_at t i o) here.1)
     ∙ append_assoc (map f old) (part_at t i (Some q)) rest
-    ∙ sym (ap (λ (ps : List TypedProcedure). map f old ++ parts_from t i ps) (drop_next t.procs i q here.1))
+    ∙ sym (ap (λ (ps : List TypedProcedure). map f old ++ parts_from_number t i ps) (drop_next t.procs i q here.1))
     ∙ so_far
 
 -- none is left
-pub parts_end : {X : Type 0} (f : X → PlainPart) (t : TypedProgram) (i : ℕ) (old : List X) (w : List PlainPart) → length t.procs ≤ i → map f old ++ parts_from t i (drop i t.procs) ≡ w → map f old ≡ w
-parts_end f t i old w l so_far = sym (append-nil (map f old)) ∙ sym (ap (λ (ps : List TypedProcedure). map f old ++ parts_from t i ps) (drop_all t.procs i l)) ∙ so_far
+pub parts_end : {X : Type 0} (f : X → PlainPart) (t : TypedProgram) (i : ℕ) (old : List X) (w : List PlainPart) → length t.procs ≤ i → map f old ++ parts_from_number t i (drop i t.procs) ≡ w → map f old ≡ w
+parts_end f t i old w l so_far = sym (append-nil (map f old)) ∙ sym (ap (λ (ps : List TypedProcedure). map f old ++ parts_from_number t i ps) (drop_all t.procs i l)) ∙ so_far
   where
     drop_all : (xs : List TypedProcedure) (i : ℕ) → length xs ≤ i → drop i xs ≡ []
     drop_all [] zero h = refl

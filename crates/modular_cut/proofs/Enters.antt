@@ -31,7 +31,7 @@ use Rattle.lowered_runs.proofs.Machine.{start_runs}
 use Rattle.lowered_runs.proofs.MachineLaws.{imports_are_steps}
 use Rattle.lowered_runs.proofs.MovesOfRuns.{breaks_run}
 use Rattle.lowered_runs.proofs.Taken.{all_at}
-use Rattle.modular_cut.specs.Parts.{recalled_block, own_procedure, part_of}
+use Rattle.modular_cut.specs.Parts.{recalled_block, own_procedure, procedure_part}
 use Rattle.modular_cut.proofs.Called.{part_program}
 use Rattle.modular_cut.proofs.SamePoints.{SamePoint}
 use Rattle.modular_cut.proofs.SameActions.{claim_state, IsAtCall, SameStep, check, suppose, demand, write, guess, test, pick, jump, enter, import, leave, first_points_same, first_point_part}
@@ -200,7 +200,7 @@ before_none (y ∷ ys) (suc j) (suc k) x n e = let h = before_none ys j k x n e 
 
 -- the parts are valid and safe
 abbrev pub AreSafe : TypedProgram → Type 0
-AreSafe t = (n : ℕ) (q : TypedProcedure) (b : TypedBlock) → slice_get t.procs n ≡ Some q → q.body ≡ Some b → IsTrue (is_valid (part_of t n)) × IsSafe (part_of t n)
+AreSafe t = (n : ℕ) (q : TypedProcedure) (b : TypedBlock) → slice_get t.procs n ≡ Some q → q.body ≡ Some b → IsTrue (is_valid (procedure_part t n)) × IsSafe (procedure_part t n)
 
 module _ (t : TypedProgram) (valid : IsTrue (is_valid t)) (every : AreSafe t) where
   -- what was shown at the call is true at the entry

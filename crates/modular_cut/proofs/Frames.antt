@@ -24,7 +24,7 @@ use Rattle.lowered_imports.specs.KnownPoints.{IsPointOf}
 use Rattle.lowered_imports.proofs.RightPoints.{PointRight}
 use Rattle.lowered_imports.proofs.PointLaws.{knows_points, point_right}
 use Rattle.lowered_runs.proofs.Forward.{IsOwn, Follows, move_own}
-use Rattle.modular_cut.specs.Parts.{own_procedure, part_of}
+use Rattle.modular_cut.specs.Parts.{own_procedure, procedure_part}
 use Rattle.modular_cut.proofs.Called.{Renumbers, calls, part_procs, procs_are, own_is, renumbered, part_program}
 use Rattle.modular_cut.proofs.SamePoints.{SamePoint}
 use Rattle.modular_cut.proofs.SameActions.{SameStep, step_same}
@@ -46,9 +46,9 @@ pub record PartFor (t : TypedProgram) (n : ℕ) : Type 0 where
   pub valid : IsTrue (is_valid (part_program t n parts))
   pub safe : IsSafe (part_program t n parts)
 
-abbrev pub part_for : (t : TypedProgram) (n : ℕ) (q : TypedProcedure) (b : TypedBlock) → slice_get t.procs n ≡ Some q → q.body ≡ Some b → IsTrue (is_valid (part_of t n)) × IsSafe (part_of t n) → PartFor t n
+abbrev pub part_for : (t : TypedProgram) (n : ℕ) (q : TypedProcedure) (b : TypedBlock) → slice_get t.procs n ≡ Some q → q.body ≡ Some b → IsTrue (is_valid (procedure_part t n)) × IsSafe (procedure_part t n) → PartFor t n
 part_for t n q b is has good =
-    let same : part_of t n ≡ part_program t n (part_procs t n q is) = ap (part_program t n) (procs_are t n q is) in
+    let same : procedure_part t n ≡ part_program t n (part_procs t n q is) = ap (part_program t n) (procs_are t n q is) in
     record {
       procedure = q;
       body = b;

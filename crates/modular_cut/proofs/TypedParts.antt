@@ -16,7 +16,7 @@ use Rattle.typing_rules.specs.Rules.{all_differ, meets, is_condition, is_body_if
 use Rattle.typing_rules.specs.Shape.{counts_from, block_labels, is_shaped_block, is_body_shaped, are_modified, are_names, are_locals, is_procedure_shaped, has_shape}
 use Rattle.typing_rules.specs.ValidProgram.{has_body, has_entry, is_typed}
 use Rattle.typing_rules.proofs.Differ.{all_differ_push}
-use Rattle.modular_cut.specs.Parts.{recalled_block, without_body, copy_of, own_procedure, cut_procs, part_of}
+use Rattle.modular_cut.specs.Parts.{recalled_block, without_body, copy_of, own_procedure, cut_procs, procedure_part}
 use Rattle.modular_cut.specs.Laws.{PartsAreTyped}
 use Rattle.modular_cut.proofs.Called.{Renumbers, calls, part_procs, procs_are, own_is, renumbered, cut_all, cut_names}
 use Rattle.modular_cut.proofs.TypedStatements.{own_labels_stay, block_labels_stay, block_kept, block_shaped}
@@ -166,7 +166,7 @@ parts_are_typed t n q b typed plain is has =
     let all : list_all new parts ≡ true =
     list_all-append new (cut_procs r n t.procs) (copy_of q ∷ []) ∙ and_from (list_all new (cut_procs r n t.procs)) (new (copy_of q) && true) cut (and_from (new (copy_of q)) true copied refl) in
     let part : TypedProgram = record { globals = t.globals; axioms = t.axioms; procs = parts; entry = n } in
-    let same : part_of t n ≡ part = ap (λ (ps : List TypedProcedure). record { globals = t.globals; axioms = t.axioms; procs = ps; entry = n }) (procs_are t n q is) in
+    let same : procedure_part t n ≡ part = ap (λ (ps : List TypedProcedure). record { globals = t.globals; axioms = t.axioms; procs = ps; entry = n }) (procs_are t n q is) in
     let shape : has_shape part ≡ true =
     and_from (are_names (map (λ v. v.name) t.globals)) (are_names (map (λ p. p.name) parts) && list_all (is_procedure_shaped t.globals parts) parts) names.0
     (and_from (are_names (map (λ p. p.name) parts)) (list_all (is_procedure_shaped t.globals parts) parts) (names_kept t n q is shaped.0 plain)

@@ -5,7 +5,7 @@ use Rattle.boogie_tree.specs.declared.span.Span.{Span}
 use Rattle.boogie_tree.specs.declared.tree.Column.TheVariants as columns
 use Rattle.boogie_tree.specs.declared.tree.VarInfo.{VarInfo}
 use Rattle.typed_tree.specs.TypedTree.{TypedExpression, Cond, TypedInvariant, Assert, Assign, Call, If, TypedBlock, Empty, Then, Ensures, TypedProcedure, TypedProgram}
-use Rattle.modular_cut.specs.Parts.{without_body, part_of, parts_of}
+use Rattle.modular_cut.specs.Parts.{without_body, procedure_part, parts_of}
 use Rattle.modular_cut.specs.FreeConditions.{free_spans}
 
 module _ (at : Span) (five enough positive zero less more : TypedExpression) (main_locals sum_locals : List VarInfo) (ensured : TypedInvariant) where
@@ -38,11 +38,11 @@ module _ (at : Span) (five enough positive zero less more : TypedExpression) (ma
   two_parts = refl
 
   -- in its own part it calls its copy
-  own_part : (part_of recursion 1).procs ≡ without_body main ∷ sum_as (codes "sum") (Some (sum_body 2)) ∷ sum_as (codes "m:sum") None ∷ []
+  own_part : (procedure_part recursion 1).procs ≡ without_body main ∷ sum_as (codes "sum") (Some (sum_body 2)) ∷ sum_as (codes "m:sum") None ∷ []
   own_part = refl
 
   -- main calls it by its number
-  other_part : (part_of recursion 0).procs ≡ main ∷ sum_as (codes "sum") None ∷ record main { name = codes "m:main"; body = None } ∷ []
+  other_part : (procedure_part recursion 0).procs ≡ main ∷ sum_as (codes "sum") None ∷ record main { name = codes "m:main"; body = None } ∷ []
   other_part = refl
 
   -- an ensures that is free stands at its place

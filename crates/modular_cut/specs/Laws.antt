@@ -5,15 +5,15 @@ use Rattle.boogie_tree.specs.Names.{is_name}
 use Rattle.typed_tree.specs.TypedTree.{TypedBlock, TypedProcedure, TypedProgram}
 use Rattle.typing_rules.specs.ValidProgram.{is_typed, is_valid}
 use Rattle.boogie_run.specs.Runs.{IsSafe}
-use Rattle.modular_cut.specs.Parts.{part_of}
+use Rattle.modular_cut.specs.Parts.{procedure_part}
 
 -- A part keeps the typing rules, where the names of the procedures are names of the language: that of the copy is none.
 abbrev pub PartsAreTyped : Type 0
 PartsAreTyped = (t : TypedProgram) (n : ℕ) (q : TypedProcedure) (b : TypedBlock) → is_typed t ≡ true → list_all (λ p. is_name p.name) t.procs ≡ true →
-    slice_get t.procs n ≡ Some q → q.body ≡ Some b → is_typed (part_of t n) ≡ true
+    slice_get t.procs n ≡ Some q → q.body ≡ Some b → is_typed (procedure_part t n) ≡ true
 
 -- A program is safe where each of its parts is.
 abbrev pub PartsSuffice : Type 0
 PartsSuffice = (t : TypedProgram) → IsTrue (is_valid t) →
-    ((n : ℕ) (q : TypedProcedure) (b : TypedBlock) → slice_get t.procs n ≡ Some q → q.body ≡ Some b → IsTrue (is_valid (part_of t n)) × IsSafe (part_of t n)) →
+    ((n : ℕ) (q : TypedProcedure) (b : TypedBlock) → slice_get t.procs n ≡ Some q → q.body ≡ Some b → IsTrue (is_valid (procedure_part t n)) × IsSafe (procedure_part t n)) →
     IsSafe t

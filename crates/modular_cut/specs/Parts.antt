@@ -48,8 +48,8 @@ copies None = []
 copies (Some q) = copy_of q ∷ []
 
 -- The part of procedure n: its body begins the run, and no other procedure has one.
-abbrev pub part_of : TypedProgram → ℕ → TypedProgram
-part_of t n =
+abbrev pub procedure_part : TypedProgram → ℕ → TypedProgram
+procedure_part t n =
     record {
       globals = t.globals;
       axioms = t.axioms;
@@ -65,17 +65,17 @@ pub record PlainPart : Type 0 where
 -- the part of procedure n, where it has a body
 abbrev pub part_if : TypedProgram → ℕ → TypedProcedure → Option TypedBlock → List PlainPart
 part_if t n q None = []
-part_if t n q (Some b) = record { name = q.name; program = part_of t n } ∷ []
+part_if t n q (Some b) = record { name = q.name; program = procedure_part t n } ∷ []
 
 abbrev pub part_at : TypedProgram → ℕ → Option TypedProcedure → List PlainPart
 part_at t n None = []
 part_at t n (Some q) = part_if t n q q.body
 
 -- those of these procedures, of which the first has that number
-abbrev pub parts_from : TypedProgram → ℕ → List TypedProcedure → List PlainPart
-parts_from t n [] = []
-parts_from t n (q ∷ qs) = part_at t n (Some q) ++ parts_from t (n + 1) qs
+abbrev pub parts_from_number : TypedProgram → ℕ → List TypedProcedure → List PlainPart
+parts_from_number t n [] = []
+parts_from_number t n (q ∷ qs) = part_at t n (Some q) ++ parts_from_number t (n + 1) qs
 
 -- one for each procedure with a body, in order of declaration
 abbrev pub parts_of : TypedProgram → List PlainPart
-parts_of t = parts_from t 0 t.procs
+parts_of t = parts_from_number t 0 t.procs

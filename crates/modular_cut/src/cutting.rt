@@ -112,7 +112,7 @@ fn assembled(
 fn part_of(alloc: Global, program: &Typed, number: u32) -> Result<Typed, AllocError>
     requires names { list_all (λ p. is_name p.name) (typed_program program.now).procs ≡ true }
     requires entered { meets has_body (slice_get (typed_program program.now).procs number) ≡ true }
-    ensures made { IfOk result (λ made. typed_program made ≡ spec.part_of (typed_program program.now) number) }
+    ensures made { IfOk result (λ made. typed_program made ≡ spec.procedure_part (typed_program program.now) number) }
     ensures valid { IfOk result (λ made. IsTrue (is_valid (typed_program made))) }
 {
     let globals = variables(alloc, program.globals())?;

@@ -7,6 +7,6 @@ use Rattle.modular_cut.proofs.cutting.parts_of.Given as goal
 
 abbrev pub invariant-loop-number : goal.invariant-loop-number
 invariant-loop-number l = record {
-  so_far : map plain_part l.parts.items ++ spec.parts_from (typed_program l.program) l.number (drop l.number (typed_program l.program).procs) ≡ spec.parts_of (typed_program l.program);
+  so_far : map plain_part l.parts.items ++ spec.parts_from_number (typed_program l.program) l.number (drop l.number (typed_program l.program).procs) ≡ spec.parts_of (typed_program l.program);
   valid : AllByRecursion IsValidPart (map plain_part l.parts.items);
 }
