@@ -1,10 +1,11 @@
 #!/usr/bin/env python3
 """Runs the gate and tells what each crate costs in it, in processor seconds: gate.py [WORDS OF rt ci]
 
-With `--anew`, or on a machine that has kept nothing, that is what the whole gate costs from nothing. It writes what `rt ci` writes, and then a table:
-a row for each crate with its lines (code; definitions and proofs), the seconds of its own proof, of its tests, of its must-fail edits (with the proof
-that they begin with) and of building its program, and the most memory that one of them took in MB; the dearest crate comes first. The last line has the
-clock, the processor time of the whole run, and how many processors there are."""
+With `--anew`, or on a machine that has kept nothing, that is what the whole gate costs from nothing. It writes what `rt ci` writes, and then the table
+of docs/DECISIONS.md: a row for each crate of crates.txt with its lines (code; definitions and proofs), the seconds of its own proof, of its tests, of
+its must-fail edits (with the proof that they begin with) and of building its program, and the most memory that one of them took in MB; the dearest crate
+comes first. A crate that the run did not prove, since an earlier run did or since it was not asked for, has no seconds, and a line below the table names
+it. The last line has the clock, the processor time of the whole run, and how many processors there are."""
 import collections
 import os
 import pathlib
@@ -17,6 +18,7 @@ TOP = pathlib.Path(__file__).resolve().parent.parent
 TICK = os.sysconf("SC_CLK_TCK")
 PAGE = os.sysconf("SC_PAGE_SIZE")
 KINDS = ["proof", "tests", "edits", "build"]
+HEADS = ["Crate", "Lines of code", "Of definitions and proofs", "Proof", "Tests", "Edits", "Builds", "Memory"]
 
 
 def processes():
@@ -75,6 +77,12 @@ def watch(run):
     return took.values()
 
 
+def crates():
+    """The crates of crates.txt."""
+    texts = (line.split("#")[0] for line in (TOP / "crates.txt").read_text().splitlines())
+    return [text.split(":")[0].strip() for text in texts if ":" in text]
+
+
 def lines(crate, endings, folders):
     return sum(path.read_bytes().count(b"\n") for folder in folders for path in (TOP / "crates" / crate / folder).rglob(f"*{endings}"))
 
@@ -87,12 +95,17 @@ def main():
         rows[crate][kind] += seconds
         most[crate] = max(most[crate], memory)
     clock = time.perf_counter() - begin
-    print("| Crate | Code | Definitions, proofs | " + " | ".join(KINDS) + " | MB |\n|---|---|---|" + "---|" * (len(KINDS) + 1))
-    for crate, row in sorted(rows.items(), key=lambda it: -it[1].total()):
+    print("| " + " | ".join(HEADS) + " |\n|" + "---|" * len(HEADS))
+    # (a crate that the run asked nothing of gets an empty row)
+    for crate in sorted(crates(), key=lambda it: -rows[it].total()):
+        row, memory = rows[crate], f"{most[crate] >> 20}" if most[crate] else ""
         shown = [f"{row[kind]:.0f}" if row[kind] else "" for kind in KINDS]
-        print(f"| `{crate}` | {lines(crate, '.rt', ['src'])} | {lines(crate, '.antt', ['specs', 'proofs'])} | " + " | ".join(shown) + f" | {most[crate] >> 20} |")
+        print(f"| `{crate}` | {lines(crate, '.rt', ['src'])} | {lines(crate, '.antt', ['specs', 'proofs'])} | " + " | ".join(shown) + f" | {memory} |")
     sums = " | ".join(f"{sum(row[kind] for row in rows.values()):.0f}" for kind in KINDS)
     print(f"| all | | | {sums} | {max(most.values(), default=0) >> 20} |")
+    without = [crate for crate in crates() if not rows[crate]["proof"]]
+    if without:
+        print(f"not proved in this run: {', '.join(without)}")
     used = resource.getrusage(resource.RUSAGE_CHILDREN)
     print(f"clock {clock / 60:.0f} min, processors {(used.ru_utime + used.ru_stime) / 60:.0f} min, {os.cpu_count()} of them")
     return run.returncode
