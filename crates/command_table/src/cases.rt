@@ -4,6 +4,7 @@ use crate::answers::Answer;
 use crate::gates::Schedule;
 use crate::texts::{Name, Texts};
 use std::alloc::{AllocError, Global};
+use table_reading::{first_word, push_line};
 
 /// What a run is repeated with.
 #[derive(Clone, Copy)]
@@ -73,11 +74,6 @@ pub(crate) struct Case {
     pub(crate) answer: Answer,
 }
 
-/// The word before the first blank, and what is behind it.
-pub(crate) fn parted(text: &str) -> (&str, &str) {
-    text.split_once(' ').unwrap_or((text, ""))
-}
-
 impl Case {
     pub(crate) fn new(alloc: Global) -> Case {
         Case {
@@ -129,7 +125,7 @@ impl Case {
 
     /// Takes a line that lengthens the text that it names.
     fn take_text(&mut self, alloc: Global, command: &str, rest: &str) -> Result<bool, AllocError> {
-        let (name, rest) = parted(rest);
+        let (name, rest) = first_word(rest);
         let Some(name) = Name::of(name) else {
             return Ok(false);
         };
@@ -143,7 +139,7 @@ impl Case {
 
     /// Takes a count and the numbers of bytes.
     fn take_bytes(&mut self, alloc: Global, name: Name, rest: &str) -> Result<bool, AllocError> {
-        let (count, numbers) = parted(rest);
+        let (count, numbers) = first_word(rest);
         let Ok(count) = count.parse::<u32>() else {
             return Ok(false);
         };
@@ -165,7 +161,7 @@ impl Case {
 
     /// Takes a number that holds for the next run.
     fn set(&mut self, command: &str, rest: &str) -> Result<bool, AllocError> {
-        let (number, rest) = parted(rest);
+        let (number, rest) = first_word(rest);
         let Ok(number) = number.parse::<usize>() else {
             return Ok(false);
         };
@@ -204,17 +200,16 @@ impl Case {
     }
 }
 
-/// Puts a line behind a text.
-fn push_line(text: &mut String, line: &str) -> Result<(), AllocError> {
-    text.push_str(line)?;
-    text.push('\n')
-}
-
+/// The byte of a number.
 fn byte(number: &str) -> u8 {
     number.parse::<u8>().unwrap_or(0)
 }
 
 /// The bytes of these numbers.
 fn bytes_of(alloc: Global, numbers: &str) -> Result<Vec<u8>, AllocError> {
-    numbers.split_whitespace().map(byte).collect(alloc)
+    let mut bytes = Vec::new(alloc);
+    for number in numbers.split_whitespace() {
+        bytes.push(byte(number))?;
+    }
+    Ok(bytes)
 }

@@ -1,13 +1,14 @@
 //! Runs of the program.
 
 use crate::answers::Outcome;
-use crate::cases::{Case, Varied, parted};
+use crate::cases::{Case, Varied};
 use crate::gates::Schedule;
 use automizer_top::run;
 use outer_io::{MemShelf, MemSink};
 use std::alloc::{AllocError, Global};
 use std::sync::Wait;
 use std::thread::Threads;
+use table_reading::first_word;
 
 /// The most bytes that one call on the shelf or on the sink moves.
 const PIECE: usize = 7;
@@ -237,9 +238,9 @@ fn answer_each<R: Threads + Wait + Sync>(
     case: &mut Case,
     line: &str,
 ) -> bool {
-    let (varied, line) = parted(line);
-    let (from, line) = parted(line);
-    let (to, line) = parted(line);
+    let (varied, line) = first_word(line);
+    let (from, line) = first_word(line);
+    let (to, line) = first_word(line);
     match (
         Varied::of(varied),
         from.parse::<usize>(),
@@ -300,7 +301,7 @@ fn answer_line<R: Threads + Wait + Sync>(
     case: &mut Case,
     line: &str,
 ) {
-    let (command, rest) = parted(line);
+    let (command, rest) = first_word(line);
     match command {
         "" => {}
         "#" => {
