@@ -7,7 +7,7 @@ mod Recalled
 pub mod First
 mod Earliest
 mod CutParts
-mod SafeParts
+pub mod SafeParts
 mod MadeParts
 mod SamePoints
 mod SameActions
