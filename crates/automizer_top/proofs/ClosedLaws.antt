@@ -2,7 +2,7 @@
 use Rattle.std.proofs.Common.{◌≡◌, ◌<◌, ℕ, arith}
 use Rattle.race_verdicts.specs.declared.verdicts.Verdict.TheVariants as verdicts
 use Rattle.automizer_top.specs.declared.answer.Answer as code
-use Rattle.automizer_top.specs.declared.answer.Answer.TheVariants.{Usage, TooLong, Refused, IllTyped, TooWide, TooBig, Printed, Syntax, Accepted, Rejected, Replayed, Stopped, Decided}
+use Rattle.automizer_top.specs.declared.answer.Answer.TheVariants.{Usage, TooLong, Refused, IllTyped, TooWide, TooBig, Free, Printed, Syntax, Accepted, Rejected, Replayed, Stopped, Decided, PartsDecided, PartDecided}
 use Rattle.automizer_top.specs.Answers.{answered}
 
 below_five : (a : code.Answer) → (answered a).status < 5
@@ -12,6 +12,7 @@ below_five (Refused f) = omega arith
 below_five (IllTyped f) = omega arith
 below_five (TooWide at) = omega arith
 below_five (TooBig at) = omega arith
+below_five (Free at) = omega arith
 below_five (Printed text) = omega arith
 below_five (Syntax line) = omega arith
 below_five Accepted = omega arith
@@ -21,6 +22,10 @@ below_five (Stopped step cause) = omega arith
 below_five (Decided text (verdicts.Safe coarse annotation) race) = omega arith
 below_five (Decided text (verdicts.Unsafe failure) race) = omega arith
 below_five (Decided text (verdicts.Unknown cause word) race) = omega arith
+below_five (PartsDecided text races) = omega arith
+below_five (PartDecided text (verdicts.Safe coarse annotation) races) = omega arith
+below_five (PartDecided text (verdicts.Unsafe failure) races) = omega arith
+below_five (PartDecided text (verdicts.Unknown cause word) races) = omega arith
 
 pub is_not_five : (a : code.Answer) (status : ℕ) → status ≡ (answered a).status → status ≡ 5 → ⊥
 is_not_five a status e f = let b = below_five a in omega (arith, b, e, f)

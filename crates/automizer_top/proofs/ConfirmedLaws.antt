@@ -1,6 +1,7 @@
 -- What `verify` writes is confirmed: `check` accepts it where it says `safe`, and `replay` replays it where it says `unsafe`.
-use Rattle.std.proofs.Common.{◌≡◌, ℕ, ◌+◌, ◌^◌, ◌<◌, ◌≤◌, ℤ, List, [], ◌∷◌, length, None, Some, inl, inr, ap, refl, sym, ◌∙◌, subst, arith}
-use Rattle.std.specs.Prelude.{codes, IsTrue}
+use Rattle.std.proofs.Common.{◌≡◌, ℕ, ◌^◌, ◌<◌, ◌≤◌, ℤ, List, length, Bool, true, false, Option, None, Some, inl, inr, ap, refl, sym, ◌∙◌, subst, arith}
+use Rattle.std.specs.Prelude.{IsTrue}
+use Rattle.std.proofs.lemmas.Bool.{false≢true}
 use Rattle.outer_io.specs.Texts.{text_named}
 use Rattle.boogie_run.specs.declared.types.AssertId.{AssertId}
 use Rattle.typed_tree.specs.TypedTree.{TypedProgram}
@@ -15,20 +16,19 @@ use Rattle.trace_replay.specs.FailureText.{PlainFailure, plain}
 use Rattle.trace_replay.specs.Replays.{IsReplayed}
 use Rattle.race_core.specs.Races.{Race}
 use Rattle.itp_automaton.specs.Certified.{Certificate}
+use Rattle.race_rounds.specs.declared.limits.Limits.{Limits}
 use Rattle.race_verdicts.specs.declared.verdicts.Verdict.{Verdict}
 use Rattle.race_verdicts.specs.declared.verdicts.Verdict.TheVariants.{Safe, Unsafe, Unknown}
 use Rattle.race_verdicts.specs.Verdicts.{IsVerdict, IsFailureOf}
-use Rattle.automizer_top.specs.Verdicts.{verdict_status}
-use Rattle.automizer_top.specs.ReportTexts.{Answer, answer, accepted_answer, replayed_answer, verdict_answer}
-use Rattle.automizer_top.specs.Report.{second_limit, Ask, IsTypedText, refused, of_typed, unlowered, of_lowered, of_second, IsSafeText, ReportsProof, of_annotation, accepted, IsFailureText, replayed, ReportsVerdict, ReportsVerify, Reports, usage, printing, checking, replaying, verifying, generating}
+use Rattle.automizer_top.specs.ReportTexts.{Answer, accepted_answer, replayed_answer, verdict_answer}
+use Rattle.automizer_top.specs.Report.{second_limit, Ask, IsTypedText, refused, of_typed, unlowered, of_lowered, of_second, IsSafeText, ReportsProof, of_annotation, accepted, IsFailureText, replayed, ReportsVerdict, ReportsCheck, ReportsReplay, ReportsVerify, ReportsCheckBy, ReportsReplayBy, ReportsVerifyBy, Reports, usage, printing, checking, replaying, verifying, generating}
 use Rattle.automizer_top.specs.ReportClaims.{IsVerdictOn, IsHandedOver}
-use Rattle.automizer_top.specs.TypeRefusals.{type_refusal}
-use Rattle.automizer_top.proofs.ReportLaws.{typed_is_three, lowering_is_three}
+use Rattle.automizer_top.proofs.RefusalLaws.{typed_is_three, lowering_is_three}
 use Rattle.automizer_top.specs.CommandLine.{Check, Replay, Print, Verify, Big, Settings}
 use Rattle.automizer_top.proofs.RequestLaws.{program_of, same_task, same_settings, only_one, nothing_asked, rounds_fit}
 use Rattle.automizer_top.proofs.ReportUnique.{AreOne, report_once}
 
-abbrev Texts : Type 0
+abbrev pub Texts : Type 0
 Texts = List (List ℕ × List ℕ)
 
 -- ---- a status below 3 is that of a verdict
@@ -55,36 +55,49 @@ of_text s program text texts a found (of_typed t w (unlowered r)) l = absurd (no
 of_text s program text texts a found (of_typed t w (of_lowered none (v, few))) l =
     record { text = text; meant = t; found = found; typed = w; lowers = none; verdict = v; short = few }
 
-verdict_of : (words : List (List ℕ)) (s : Settings) (program : List ℕ) (texts : Texts) (a : Answer) → Ask words s (Verify program) → Reports words texts a → a.status < 3 →
+-- without the flag it is the whole program that is answered for
+whole_verify : (m : Bool) (entry : List ℕ) (l : Limits) (text : List ℕ) (a : Answer) → m ≡ false → ReportsVerifyBy m entry l text a → ReportsVerify entry l text a
+whole_verify false entry l text a off r = r
+whole_verify true entry l text a off r = absurd (false≢true (sym off))
+
+whole_check : (m : Bool) (entry text : List ℕ) (second : Option (List ℕ)) (a : Answer) → m ≡ false → ReportsCheck entry text second a → ReportsCheckBy m entry text second a
+whole_check false entry text second a off r = r
+whole_check true entry text second a off r = absurd (false≢true (sym off))
+
+whole_replay : (m : Bool) (entry text : List ℕ) (second : Option (List ℕ)) (a : Answer) → m ≡ false → ReportsReplay entry text second a → ReportsReplayBy m entry text second a
+whole_replay false entry text second a off r = r
+whole_replay true entry text second a off r = absurd (false≢true (sym off))
+
+verdict_of : (words : List (List ℕ)) (s : Settings) (program : List ℕ) (texts : Texts) (a : Answer) → Ask words s (Verify program) → s.modular ≡ false → Reports words texts a → a.status < 3 →
     IsVerdictOf s program texts a
-verdict_of words s program texts a ask (usage none is) l = absurd (nothing_asked words s (Verify program) none ask)
-verdict_of words s program texts a ask (printing u p t asked found print) l = absurd (only_one words s u (Verify program) (Print p) ask asked (λ (e : 3 ≡ 2). omega arith))
-verdict_of words s program texts a ask (checking u p x t asked found check) l = absurd (only_one words s u (Verify program) (Check p x) ask asked (λ (e : 3 ≡ 0). omega arith))
-verdict_of words s program texts a ask (replaying u p x t asked found replay) l = absurd (only_one words s u (Verify program) (Replay p x) ask asked (λ (e : 3 ≡ 1). omega arith))
-verdict_of words s program texts a ask (generating u count asked big) l = absurd (only_one words s u (Verify program) (Big count) ask asked (λ (e : 3 ≡ 4). omega arith))
-verdict_of words s program texts a ask (verifying u p t asked found verify) l =
+verdict_of words s program texts a ask off (usage none is) l = absurd (nothing_asked words s (Verify program) none ask)
+verdict_of words s program texts a ask off (printing u p t asked found print) l = absurd (only_one words s u (Verify program) (Print p) ask asked (λ (e : 3 ≡ 2). omega arith))
+verdict_of words s program texts a ask off (checking u p x t asked found check) l = absurd (only_one words s u (Verify program) (Check p x) ask asked (λ (e : 3 ≡ 0). omega arith))
+verdict_of words s program texts a ask off (replaying u p x t asked found replay) l = absurd (only_one words s u (Verify program) (Replay p x) ask asked (λ (e : 3 ≡ 1). omega arith))
+verdict_of words s program texts a ask off (generating u count asked big) l = absurd (only_one words s u (Verify program) (Big count) ask asked (λ (e : 3 ≡ 4). omega arith))
+verdict_of words s program texts a ask off (verifying u p t asked found verify) l =
     let name : p ≡ program = ap program_of (same_task words u s (Verify p) (Verify program) asked ask) in
     let settings : u ≡ s = same_settings words u s (Verify p) (Verify program) asked ask in
     of_text s program t texts a (subst (λ (n : List ℕ). text_named n texts ≡ Some t) name found)
-    (subst (λ (v : Settings). ReportsVerify v.entry v.limits t a) settings verify) l
+    (whole_verify s.modular s.entry s.limits t a off (subst (λ (v : Settings). ReportsVerifyBy v.modular v.entry v.limits t a) settings verify)) l
 
 -- so it is one on the program of the text
-pub verdict_told : (words : List (List ℕ)) (texts : Texts) (s : Settings) (program : List ℕ) (a : Answer) → Ask words s (Verify program) → Reports words texts a → a.status < 3 →
+pub verdict_told : (words : List (List ℕ)) (texts : Texts) (s : Settings) (program : List ℕ) (a : Answer) → Ask words s (Verify program) → s.modular ≡ false → Reports words texts a → a.status < 3 →
     (t : TypedProgram) × IsVerdictOn words texts t a
-verdict_told words texts s program a ask given l =
-    let d = verdict_of words s program texts a ask given l in
+verdict_told words texts s program a ask off given l =
+    let d = verdict_of words s program texts a ask off given l in
     (d.meant, (s, program, d.text, ask, d.found, d.typed, d.verdict))
 
 -- ---- `safe`
 
 -- the bytes are the `safe` text of an annotation that proves the program, with the coarse letters that its triples name
-record IsSafeOf (t : TypedProgram) (r : Race Certificate) (a : Answer) : Type 0 where
+pub record IsSafeOf (t : TypedProgram) (r : Race Certificate) (a : Answer) : Type 0 where
   pub annotation : Content
   pub spelled : a.bytes ≡ safe_text (length r.history) (coarse_letters (lowered t) annotation) annotation
   pub lines : IsTrue (is_annotation annotation)
   pub proves : Proves (lowered t) annotation
 
-safe_of : (t : TypedProgram) (r : Race Certificate) (v : Verdict) (a : Answer) → IsVerdict t r v → a ≡ verdict_answer r v → a.status ≡ 0 → IsSafeOf t r a
+pub safe_of : (t : TypedProgram) (r : Race Certificate) (v : Verdict) (a : Answer) → IsVerdict t r v → a ≡ verdict_answer r v → a.status ≡ 0 → IsSafeOf t r a
 safe_of t r (Safe coarse w) a h is z = record {
   annotation = w;
   spelled = ap (λ (b : Answer). b.bytes) is ∙ ap (λ (ns : List ℕ). safe_text (length r.history) ns w) h.3;
@@ -94,39 +107,43 @@ safe_of t r (Safe coarse w) a h is z = record {
 safe_of t r (Unsafe f) a h is z = absurd (let e : 1 ≡ 0 = sym (ap (λ (b : Answer). b.status) is) ∙ z in omega arith)
 safe_of t r (Unknown cause w) a h is z = absurd (let e : 2 ≡ 0 = sym (ap (λ (b : Answer). b.status) is) ∙ z in omega arith)
 
+-- that text is read as the annotation
+pub safe_spelled : (l : Limits) (t : TypedProgram) (a : Answer) → l.rounds ≤ 100000 → (v : ReportsVerdict l t a) (f : IsSafeOf t v.race a) → IsSafeText a.bytes (coarse_letters (lowered t) f.annotation) f.annotation
+safe_spelled l t a few v f =
+    let within : length v.race.history ≤ l.rounds = v.closed.within in
+    let small : length v.race.history < 2 ^ 64 = omega (arith, within, few) in
+    record { rounds = length v.race.history; small = small; short = letters_are_short (lowered t) f.annotation; lines = f.lines; spelled = f.spelled }
+
 proof_of : (s : Settings) (t : TypedProgram) (a : Answer) → s.limits.rounds ≤ 100000 → ReportsVerdict s.limits t a → a.status ≡ 0 →
     ReportsProof (lowered t) a.bytes accepted_answer
 proof_of s t a few v z =
     let f = safe_of t v.race v.verdict a v.of_end v.is z in
-    let letters = coarse_letters (lowered t) f.annotation in
-    let within : length v.race.history ≤ s.limits.rounds = v.closed.within in
-    let small : length v.race.history < 2 ^ 64 = omega (arith, within, few) in
-    let text : IsSafeText a.bytes letters f.annotation =
-    record { rounds = length v.race.history; small = small; short = letters_are_short (lowered t) f.annotation; lines = f.lines; spelled = f.spelled } in
-    of_annotation letters f.annotation text (accepted refl f.proves refl)
+    of_annotation (coarse_letters (lowered t) f.annotation) f.annotation (safe_spelled s.limits t a few v f) (accepted refl f.proves refl)
 
-check_answer : (again : List (List ℕ)) (r s : Settings) (program second : List ℕ) (before after : Texts) (a : Answer) → Ask again s (Check program second) → r.limits.rounds ≤ 100000 →
+check_answer : (again : List (List ℕ)) (r s : Settings) (program second : List ℕ) (before after : Texts) (a : Answer) → r.modular ≡ false → Ask again s (Check program second) → r.limits.rounds ≤ 100000 →
     IsVerdictOf r program before a → a.status ≡ 0 → IsHandedOver program second r s before after a → Reports again after accepted_answer
-check_answer again r s program second before after a ask few d z h =
+check_answer again r s program second before after a off ask few d z h =
     checking s program second d.text ask (h.same ∙ d.found)
-    (of_typed d.meant (subst (λ (e : List ℕ). IsTypedText e d.text d.meant) (sym h.entry) d.typed)
-    (of_lowered d.lowers (of_second a.bytes h.given d.short (proof_of r d.meant a few d.verdict z))))
+    (whole_check s.modular s.entry d.text (text_named second after) accepted_answer (h.modular ∙ off) (of_typed d.meant (subst (λ (e : List ℕ). IsTypedText e d.text d.meant) (sym h.entry) d.typed)
+    (of_lowered d.lowers (of_second a.bytes h.given d.short (proof_of r d.meant a few d.verdict z)))))
 
 -- words that ask for a check have no two verdicts, and an answer of status 0 is no typing refusal
-one_of_check : (words : List (List ℕ)) (s : Settings) (program second : List ℕ) (texts : Texts) (a b : Answer) → Ask words s (Check program second) → a.status ≡ 0 →
+pub one_of_check : (words : List (List ℕ)) (s : Settings) (program second : List ℕ) (texts : Texts) (a b : Answer) → Ask words s (Check program second) → a.status ≡ 0 →
     AreOne words texts a b → b ≡ a
 one_of_check words s program second texts a b ask z (inl e) = sym e
 one_of_check words s program second texts a b ask z (inr (inl h)) = absurd (let e : 3 ≡ 0 = sym (ap (λ (c : Answer). c.status) h.0.1) ∙ z in omega arith)
 one_of_check words s program second texts a b ask z (inr (inr (inl v))) =
     absurd (only_one words s v.1.0 (Check program second) (Verify v.1.1) ask v.1.3 (λ (e : 0 ≡ 3). omega arith))
-one_of_check words s program second texts a b ask z (inr (inr (inr v))) = absurd (only_one words s v.0 (Check program second) (Big v.1) ask v.2 (λ (e : 0 ≡ 4). omega arith))
+one_of_check words s program second texts a b ask z (inr (inr (inr (inl v)))) = absurd (only_one words s v.0 (Check program second) (Big v.1) ask v.2 (λ (e : 0 ≡ 4). omega arith))
+one_of_check words s program second texts a b ask z (inr (inr (inr (inr v)))) =
+    absurd (only_one words s v.1.0 (Check program second) (Verify v.1.1) ask v.1.3 (λ (e : 0 ≡ 3). omega arith))
 
-pub check_accepts : (words again : List (List ℕ)) (r s : Settings) (program second : List ℕ) (before after : Texts) (a b : Answer) → Ask words r (Verify program) →
+pub check_accepts : (words again : List (List ℕ)) (r s : Settings) (program second : List ℕ) (before after : Texts) (a b : Answer) → r.modular ≡ false → Ask words r (Verify program) →
     Ask again s (Check program second) → Reports words before a → a.status ≡ 0 → IsHandedOver program second r s before after a → Reports again after b → b ≡ accepted_answer
-check_accepts words again r s program second before after a b ask asked given z h gives =
+check_accepts words again r s program second before after a b off ask asked given z h gives =
     let below : a.status < 3 = omega (arith, z) in
     let few = rounds_fit words (record { task = Verify program; settings = r }) ask in
-    let first = check_answer again r s program second before after a asked few (verdict_of words r program before a ask given below) z h in
+    let first = check_answer again r s program second before after a off asked few (verdict_of words r program before a ask off given below) z h in
     one_of_check again s program second after accepted_answer b asked refl (report_once again after accepted_answer b first gives)
 
 -- ---- `unsafe`
@@ -151,29 +168,31 @@ unsafe_of t r (Safe coarse w) a h is z = absurd (let e : 0 ≡ 1 = sym (ap (λ (
 unsafe_of t r (Unsafe f) a h is z = failing t r f a h is
 unsafe_of t r (Unknown cause w) a h is z = absurd (let e : 2 ≡ 1 = sym (ap (λ (b : Answer). b.status) is) ∙ z in omega arith)
 
-replay_answer : (again : List (List ℕ)) (r s : Settings) (program second : List ℕ) (before after : Texts) (a : Answer) → Ask again s (Replay program second) →
+replay_answer : (again : List (List ℕ)) (r s : Settings) (program second : List ℕ) (before after : Texts) (a : Answer) → r.modular ≡ false → Ask again s (Replay program second) →
     (d : IsVerdictOf r program before a) (u : IsUnsafeOf d.meant a) → IsHandedOver program second r s before after a → Reports again after (replayed_answer u.id)
-replay_answer again r s program second before after a ask d u h =
+replay_answer again r s program second before after a off ask d u h =
     replaying s program second d.text ask (h.same ∙ d.found)
-    (of_typed d.meant (subst (λ (e : List ℕ). IsTypedText e d.text d.meant) (sym h.entry) d.typed)
-    (of_second a.bytes h.given d.short (replayed u.failure u.id u.read u.replays refl)))
+    (whole_replay s.modular s.entry d.text (text_named second after) (replayed_answer u.id) (h.modular ∙ off) (of_typed d.meant (subst (λ (e : List ℕ). IsTypedText e d.text d.meant) (sym h.entry) d.typed)
+    (of_second a.bytes h.given d.short (replayed u.failure u.id u.read u.replays refl))))
 
-one_of_replay : (words : List (List ℕ)) (s : Settings) (program second : List ℕ) (texts : Texts) (a b : Answer) → Ask words s (Replay program second) → a.status ≡ 0 →
+pub one_of_replay : (words : List (List ℕ)) (s : Settings) (program second : List ℕ) (texts : Texts) (a b : Answer) → Ask words s (Replay program second) → a.status ≡ 0 →
     AreOne words texts a b → b ≡ a
 one_of_replay words s program second texts a b ask z (inl e) = sym e
 one_of_replay words s program second texts a b ask z (inr (inl h)) = absurd (let e : 3 ≡ 0 = sym (ap (λ (c : Answer). c.status) h.0.1) ∙ z in omega arith)
 one_of_replay words s program second texts a b ask z (inr (inr (inl v))) =
     absurd (only_one words s v.1.0 (Replay program second) (Verify v.1.1) ask v.1.3 (λ (e : 1 ≡ 3). omega arith))
-one_of_replay words s program second texts a b ask z (inr (inr (inr v))) = absurd (only_one words s v.0 (Replay program second) (Big v.1) ask v.2 (λ (e : 1 ≡ 4). omega arith))
+one_of_replay words s program second texts a b ask z (inr (inr (inr (inl v)))) = absurd (only_one words s v.0 (Replay program second) (Big v.1) ask v.2 (λ (e : 1 ≡ 4). omega arith))
+one_of_replay words s program second texts a b ask z (inr (inr (inr (inr v)))) =
+    absurd (only_one words s v.1.0 (Replay program second) (Verify v.1.1) ask v.1.3 (λ (e : 1 ≡ 3). omega arith))
 
-pub replay_replays : (words again : List (List ℕ)) (r s : Settings) (program second : List ℕ) (before after : Texts) (a b : Answer) → Ask words r (Verify program) →
+pub replay_replays : (words again : List (List ℕ)) (r s : Settings) (program second : List ℕ) (before after : Texts) (a b : Answer) → r.modular ≡ false → Ask words r (Verify program) →
     Ask again s (Replay program second) → Reports words before a → a.status ≡ 1 → IsHandedOver program second r s before after a → Reports again after b →
     (id : AssertId) × (b ≡ replayed_answer id)
-replay_replays words again r s program second before after a b ask asked given z h gives =
+replay_replays words again r s program second before after a b off ask asked given z h gives =
     let below : a.status < 3 = omega (arith, z) in
-    let d = verdict_of words r program before a ask given below in
+    let d = verdict_of words r program before a ask off given below in
     let u = unsafe_of d.meant d.verdict.race d.verdict.verdict a d.verdict.of_end d.verdict.is z in (
       u.id,
       one_of_replay again s program second after (replayed_answer u.id) b asked refl
-          (report_once again after (replayed_answer u.id) b (replay_answer again r s program second before after a asked d u h) gives),
+          (report_once again after (replayed_answer u.id) b (replay_answer again r s program second before after a off asked d u h) gives),
     )

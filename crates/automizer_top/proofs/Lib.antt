@@ -6,6 +6,9 @@ pub mod ParsedNames
 pub mod RequestLaws
 pub mod TypedTexts
 pub mod SafetyLaws
+pub mod RefusalLaws
+pub mod PartAnswers
+pub mod PartFunctions
 pub mod ReportLaws
 pub mod UsageLaws
 pub mod VerdictLaws
@@ -13,9 +16,16 @@ pub mod BigLaws
 pub mod SummaryLaws
 pub mod ReplayedOnce
 pub mod ProofOnce
+pub mod PartOnce
 pub mod ReportUnique
 pub mod ConfirmedLaws
+pub mod PartFronts
+pub mod PartLines
+pub mod PartLoops
+pub mod PartNames
+pub mod PartConfirmed
 pub mod AgreeLaws
+pub mod PartTruth
 pub mod ClosedLaws
 pub mod CompleteLaws
 pub mod AnsweringLaws

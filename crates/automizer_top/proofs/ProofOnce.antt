@@ -68,7 +68,7 @@ behind_safe_once (l ∷ ls) k m (inl h) (inr g) = absurd (h.0 g.0 g.1 g.2)
 behind_safe_once (l ∷ ls) k m (inr h) (inl g) = absurd (g.0 h.0 h.1 h.2)
 behind_safe_once (l ∷ ls) k m (inr h) (inr g) = behind_rounds_once ls k m h.3 g.3
 
-one_first_wrong : (ls : List (List ℕ)) (k m : ℕ) → FirstWrongOfText ls k → FirstWrongOfText ls m → k ≡ m
+pub one_first_wrong : (ls : List (List ℕ)) (k m : ℕ) → FirstWrongOfText ls k → FirstWrongOfText ls m → k ≡ m
 one_first_wrong [] k m h g = h ∙ sym g
 one_first_wrong (l ∷ ls) k m (inl h) (inl g) = h.1 ∙ sym g.1
 one_first_wrong (l ∷ ls) k m (inl h) (inr g) = absurd (h.0 g.0)
@@ -95,10 +95,10 @@ check_of_turn MissingStep = refl
 check_of_turn BadStep = refl
 check_of_turn BadName = refl
 
-same_turn : (c d : RejectCause) → turn c ≡ turn d → c ≡ d
+pub same_turn : (c d : RejectCause) → turn c ≡ turn d → c ≡ d
 same_turn c d e = sym (check_of_turn c) ∙ ap check_at e ∙ check_of_turn d
 
-not_below : (m n : ℕ) → (m < n → ⊥) → (n < m → ⊥) → m ≡ n
+pub not_below : (m n : ℕ) → (m < n → ⊥) → (n < m → ⊥) → m ≡ n
 not_below m n h k = omega arith
 
 first_once : (g : Graph) (w : Content) (count i j : ℕ) (c d : RejectCause) → IsFirst g w i c → IsFirst g w j d → rejected_answer count i c ≡ rejected_answer count j d
@@ -110,10 +110,10 @@ first_once g w count i j c d h k =
 
 -- ---- one answer to an annotation
 
-same_place : (o : Option ℕ) (j k : ℕ) → o ≡ Some j → o ≡ Some k → j ≡ k
+pub same_place : (o : Option ℕ) (j k : ℕ) → o ≡ Some j → o ≡ Some k → j ≡ k
 same_place o j k h g = same_Some j k (sym h ∙ g)
 
-no_place : (o : Option ℕ) (k : ℕ) → o ≡ None → o ≡ Some k → ⊥
+pub no_place : (o : Option ℕ) (k : ℕ) → o ≡ None → o ≡ Some k → ⊥
 no_place o k h g = none-some k (sym h ∙ g)
 
 annotation_once : (g : Graph) (coarse : List ℕ) (w : Content) (a b : Answer) → ReportsAnnotation g coarse w a → ReportsAnnotation g coarse w b → a ≡ b
@@ -137,17 +137,17 @@ annotation_once g coarse w a b (rejected item cause e f is) (rejected other reas
 
 -- ---- one answer
 
-fits_in_memory : (x coarse : List ℕ) (v : Content) (s : IsSafeText x coarse v) → length x ≤ second_limit → length (safe_text s.rounds coarse v) < 2 ^ 64
+pub fits_in_memory : (x coarse : List ℕ) (v : Content) (s : IsSafeText x coarse v) → length x ≤ second_limit → length (safe_text s.rounds coarse v) < 2 ^ 64
 fits_in_memory x coarse v s l = let same : length x ≡ length (safe_text s.rounds coarse v) = ap (λ (bytes : List ℕ). length bytes) s.spelled in omega arith
 
 -- a text is the `safe` text of one annotation at most, with the same coarse letters
-one_content : (x c d : List ℕ) (v w : Content) → length x ≤ second_limit → IsSafeText x c v → IsSafeText x d w → (c ≡ d) × (v ≡ w)
+pub one_content : (x c d : List ℕ) (v w : Content) → length x ≤ second_limit → IsSafeText x c v → IsSafeText x d w → (c ≡ d) × (v ≡ w)
 one_content x c d v w l s r =
     let one = one_annotation s.rounds r.rounds c d v w s.small r.small s.short r.short s.lines r.lines (fits_in_memory x c v s l) (sym s.spelled ∙ r.spelled) in
     (one.1, one.2)
 
 -- and has no wrong line
-wrong_or_not : (x coarse : List ℕ) (line : ℕ) (v : Content) → length x ≤ second_limit → IsSafeText x coarse v → FirstWrongOfText (lines_of x) line → ⊥
+pub wrong_or_not : (x coarse : List ℕ) (line : ℕ) (v : Content) → length x ≤ second_limit → IsSafeText x coarse v → FirstWrongOfText (lines_of x) line → ⊥
 wrong_or_not x coarse line v l s wrong =
     let text : List ℕ = safe_text s.rounds coarse v in
     spelled_not_wrong text (body_text v) s.rounds coarse line v s.small s.short (spelled_header s.rounds coarse v s.small s.short)

@@ -10,7 +10,7 @@ use Rattle.boogie_run.specs.Steps.{Went, start}
 use Rattle.boogie_run.specs.StepView.{line_at}
 use Rattle.boogie_run.specs.declared.types.AssertId.{AssertId}
 use Rattle.trace_replay.specs.declared.causes.ReplayCause.{ReplayCause}
-use Rattle.trace_replay.specs.FailureText.{PlainFailure, failure_text}
+use Rattle.trace_replay.specs.FailureText.{PlainFailure}
 use Rattle.trace_replay.specs.FailureFaults.{IsFirstFault}
 use Rattle.trace_replay.specs.Replays.{choices_among, Replays, IsReplayed}
 use Rattle.trace_replay.specs.ReplayCauses.{HasMade, StopsAt}
@@ -71,7 +71,7 @@ one_replay t n choices a b p q =
 one_failure : (x : List ℕ) (f g : PlainFailure) → IsFailureText x f → IsFailureText x g → g ≡ f
 one_failure x f g h k = failure_text_injective g f k.bounds h.bounds (sym k.spelled ∙ h.spelled)
 
-faulty_or_not : (x : List ℕ) (line : ℕ) (f : PlainFailure) → IsFirstFault x line → IsFailureText x f → ⊥
+pub faulty_or_not : (x : List ℕ) (line : ℕ) (f : PlainFailure) → IsFirstFault x line → IsFailureText x f → ⊥
 faulty_or_not x line f fault k = no_failure_text x line fault f k.bounds k.spelled
 
 replays_or_stops : (t : TypedProgram) (f g : PlainFailure) (id : AssertId) (step : ℕ) (cause : ReplayCause) → g ≡ f → IsReplayed t f.steps f.choices id → StopsAt t g.steps g.choices step cause → ⊥

@@ -1,6 +1,6 @@
 -- Cases of the report, and what an accepted annotation is worth.
 use Rattle.std.proofs.lemmas.List.{length-append}
-use Rattle.std.proofs.Common.{◌≡◌, ℕ, zero, suc, ◌+◌, ◌<◌, ◌≤◌, List, [], ◌∷◌, ◌++◌, length, get_or, take, Option, None, Some, Err, ap, refl, sym, ◌∙◌, subst, arith, ◌⊎◌, inl, inr}
+use Rattle.std.proofs.Common.{◌≡◌, ℕ, zero, suc, ◌+◌, ◌<◌, ◌≤◌, List, [], ◌∷◌, ◌++◌, length, get_or, take, Bool, true, false, Option, None, Some, Err, ap, refl, sym, ◌∙◌, subst, arith, ◌⊎◌, inl, inr}
 use Rattle.std.specs.Prelude.{◌≢◌, Result, Ok, IfOk, IfSome, IsSome, codes}
 use Rattle.std.specs.Borrow.{Bor}
 use Rattle.std.specs.declared.alloc.AllocError.{AllocError}
@@ -12,11 +12,7 @@ use Rattle.boogie_parse.specs.declared.fault.Fault.TheVariants as faults
 use Rattle.boogie_parse.specs.GrammarLimits.{IsProgram}
 use Rattle.boogie_parse.specs.WholeText.{read_text}
 use Rattle.typed_tree.specs.TypedTree.{TypedProgram}
-use Rattle.typed_tree.specs.declared.fault.TypeFault.{TypeFault}
-use Rattle.typed_tree.specs.declared.fault.TypeFault.TheVariants as type_faults
 use Rattle.letter_acts.specs.Invariant.{Graph}
-use Rattle.proof_form.specs.Annotations.{Content}
-use Rattle.lowered_graph.specs.Items.{ItemFault, TooWide, TooBig}
 use Rattle.lowered_graph.specs.Lowered.{lowered}
 use Rattle.race_rounds.specs.declared.limits.Limits.{Limits}
 use Rattle.automizer_top.specs.declared.answer.Answer as code
@@ -24,18 +20,19 @@ use Rattle.automizer_top.specs.declared.reporting.Halt.{Halt}
 use Rattle.automizer_top.specs.declared.words.Mode.{Mode}
 use Rattle.automizer_top.specs.declared.words.Mode.TheVariants as modes
 use Rattle.automizer_top.specs.declared.words.Options.{Options}
-use Rattle.automizer_top.specs.CommandLine.{Task, Check, Replay, Print, Verify, Big, Settings, requested}
+use Rattle.automizer_top.specs.CommandLine.{Task, Check, Replay, Print, Verify, Settings}
 use Rattle.automizer_top.specs.Asked.{of_texts, settings, program_name}
 use Rattle.automizer_top.specs.Refusals.{refusal}
-use Rattle.automizer_top.specs.TypeRefusals.{type_refusal}
-use Rattle.automizer_top.specs.LoweringRefusals.{lowering_refusal}
 use Rattle.automizer_top.specs.Answers.{answered, Asks, IsGraphOf, HasNoErrorWord, TextIsSafe, CheckedIsSafe, VerifiedIsSafe, BuiltIsSafe}
 use Rattle.automizer_top.specs.ReportTexts.{Answer, answer, too_long_answer, accepted_answer}
-use Rattle.automizer_top.specs.Report.{program_limit, second_limit, Ask, RefusesProgram, too_long, no_program, ReportsPrint, refused_print, printed, RefusesTyped, refused_text, ill_typed, IsTypedText, refused, of_typed, RefusesLowering, unlowered, of_lowered, ReportsSecond, second_too_long, of_second, ReportsAnnotation, wrong_line, missing_line, accepted, rejected, ReportsProof, no_annotation, of_annotation, ReportsCheck, ReportsFailure, no_failure, replayed, stopped, ReportsReplay, ReportsVerify, Reports, usage, printing, checking, replaying, verifying, generating}
+use Rattle.automizer_top.specs.Report.{program_limit, second_limit, Ask, too_long, no_program, ReportsPrint, refused_print, printed, RefusesTyped, refused_text, IsTypedText, refused, of_typed, RefusesLowering, unlowered, of_lowered, ReportsSecond, second_too_long, of_second, ReportsProof, ReportsCheck, ReportsFailure, no_failure, replayed, stopped, ReportsReplay, ReportsVerify, ReportsCheckBy, ReportsReplayBy, ReportsVerifyBy, Reports, usage, printing, checking, replaying, verifying, generating}
+use Rattle.automizer_top.specs.PartClaims.{PartFails}
 use Rattle.automizer_top.specs.ReportClaims.{GeneratedIsSafe, PrintsProgram, AsksForCheck, AsksForVerdict, ProgramIsSafe, ProgramFails, WhereTold}
 use Rattle.automizer_top.proofs.PrintedTexts.{begins_otherwise}
 use Rattle.automizer_top.proofs.VerdictTexts.{verdict_begins}
 use Rattle.automizer_top.proofs.SafetyLaws.{graph_is_safe}
+use Rattle.automizer_top.proofs.RefusalLaws.{typed_is_not_zero, lowering_is_not_zero, refused_is_not_zero, too_long_is_not_zero, IsAccepted, proof_zero, second_letter, typed_begins, lowering_begins, refused_begins, too_long_begins, proof_begins, failure_begins}
+use Rattle.automizer_top.proofs.PartAnswers.{verify_parts_zero, verify_parts_begins, check_parts_zero, check_parts_begins, replay_parts_zero, replay_parts_begins}
 use Rattle.automizer_top.proofs.RequestLaws.{only_one, program_of, same_task, same_settings}
 use Rattle.automizer_top.proofs.TypedTexts.{one_typed}
 
@@ -121,16 +118,29 @@ typed_replayed entry program name t a (Some shown) w r = of_typed t w r
 
 -- ---- what is answered to words
 
+-- a program text that is refused is so by parts, too
+refused_check : (m : Bool) (entry text : List ℕ) (second : Option (List ℕ)) (a : Answer) → RefusesTyped entry text a → ReportsCheckBy m entry text second a
+refused_check false entry text second a r = refused r
+refused_check true entry text second a r = refused r
+
+refused_replay : (m : Bool) (entry text : List ℕ) (second : Option (List ℕ)) (a : Answer) → RefusesTyped entry text a → ReportsReplayBy m entry text second a
+refused_replay false entry text second a r = refused r
+refused_replay true entry text second a r = refused r
+
+refused_verify : (m : Bool) (entry : List ℕ) (l : Limits) (text : List ℕ) (a : Answer) → RefusesTyped entry text a → ReportsVerifyBy m entry l text a
+refused_verify false entry l text a r = refused r
+refused_verify true entry l text a r = refused r
+
 -- a program text that is past its limit is refused, whatever the words ask for
 too_long_asked : (words : List (List ℕ)) (mode : Mode) (o : Options) (text : List ℕ) (shown : List (List ℕ × List ℕ)) → Asks words mode o →
     text_named (program_name mode) shown ≡ Some text → program_limit < length text → Reports words shown too_long_answer
 too_long_asked words (modes.Check program second) o text shown ask e past =
-    checking (settings o) program.now second.now text ask e (refused (refused_text (too_long past refl)))
+    checking (settings o) program.now second.now text ask e (refused_check o.modular o.entry.now text (text_named second.now shown) too_long_answer (refused_text (too_long past refl)))
 too_long_asked words (modes.Replay program second) o text shown ask e past =
-    replaying (settings o) program.now second.now text ask e (refused (refused_text (too_long past refl)))
+    replaying (settings o) program.now second.now text ask e (refused_replay o.modular o.entry.now text (text_named second.now shown) too_long_answer (refused_text (too_long past refl)))
 too_long_asked words (modes.Print program) o text shown ask e past = printing (settings o) program.now text ask e (refused_print (too_long past refl))
 too_long_asked words (modes.Verify program) o text shown ask e past =
-    verifying (settings o) program.now text ask e (refused (refused_text (too_long past refl)))
+    verifying (settings o) program.now text ask e (refused_verify o.modular o.entry.now o.limits text too_long_answer (refused_text (too_long past refl)))
 
 -- the program text is past its limit
 pub program_reported : (words : List (List ℕ)) (mode : Mode) (o : Options) (name : List ℕ) (texts : Option (List (List ℕ × List ℕ))) → Asks words mode o → name ≡ program_name mode →
@@ -158,7 +168,7 @@ text_of mode known name text shown is same h = ap (λ (n : List ℕ). text_named
 check_reported : (words : List (List ℕ)) (mode : Mode) (o : Options) (program second : Bor (List ℕ)) (name text : List ℕ) (a : Answer) (texts : Option (List (List ℕ × List ℕ))) →
     Asks words mode o → mode ≡ modes.Check program second → name ≡ program_name mode →
     IfSome texts (λ shown. (text_named name shown ≡ Some text) × (length text ≤ program_limit)) →
-    IfSome texts (λ shown. ReportsCheck o.entry.now text (text_named second.now shown) a) → IfSome texts (λ shown. Reports words shown a)
+    IfSome texts (λ shown. ReportsCheckBy o.modular o.entry.now text (text_named second.now shown) a) → IfSome texts (λ shown. Reports words shown a)
 check_reported words mode o program second name text a None ask is same h r = tt
 check_reported words mode o program second name text a (Some shown) ask is same h r =
     checking (settings o) program.now second.now text (asks_for words mode (modes.Check program second) o ask is)
@@ -168,7 +178,7 @@ check_reported words mode o program second name text a (Some shown) ask is same 
 pub check_answered : (words : List (List ℕ)) (mode : Mode) (o : Options) (program second : Bor (List ℕ)) (name text : List ℕ) (r : Result code.Answer Halt) (texts : Option (List (List ℕ × List ℕ))) →
     Asks words mode o → mode ≡ modes.Check program second → name ≡ program_name mode →
     IfSome texts (λ shown. (text_named name shown ≡ Some text) × (length text ≤ program_limit)) →
-    IfOk r (λ a. IfSome texts (λ shown. ReportsCheck o.entry.now text (text_named second.now shown) (answered a))) →
+    IfOk r (λ a. IfSome texts (λ shown. ReportsCheckBy o.modular o.entry.now text (text_named second.now shown) (answered a))) →
     IfOk r (λ a. IfSome texts (λ shown. Reports words shown (answered a)))
 check_answered words mode o program second name text (Ok a) texts ask is same h r = check_reported words mode o program second name text (answered a) texts ask is same h r
 check_answered words mode o program second name text (Err e) texts ask is same h r = tt
@@ -177,7 +187,7 @@ check_answered words mode o program second name text (Err e) texts ask is same h
 replay_reported : (words : List (List ℕ)) (mode : Mode) (o : Options) (program second : Bor (List ℕ)) (name text : List ℕ) (a : Answer) (texts : Option (List (List ℕ × List ℕ))) →
     Asks words mode o → mode ≡ modes.Replay program second → name ≡ program_name mode →
     IfSome texts (λ shown. (text_named name shown ≡ Some text) × (length text ≤ program_limit)) →
-    IfSome texts (λ shown. ReportsReplay o.entry.now text (text_named second.now shown) a) → IfSome texts (λ shown. Reports words shown a)
+    IfSome texts (λ shown. ReportsReplayBy o.modular o.entry.now text (text_named second.now shown) a) → IfSome texts (λ shown. Reports words shown a)
 replay_reported words mode o program second name text a None ask is same h r = tt
 replay_reported words mode o program second name text a (Some shown) ask is same h r =
     replaying (settings o) program.now second.now text (asks_for words mode (modes.Replay program second) o ask is)
@@ -186,7 +196,7 @@ replay_reported words mode o program second name text a (Some shown) ask is same
 pub replay_answered : (words : List (List ℕ)) (mode : Mode) (o : Options) (program second : Bor (List ℕ)) (name text : List ℕ) (r : Result code.Answer Halt) (texts : Option (List (List ℕ × List ℕ))) →
     Asks words mode o → mode ≡ modes.Replay program second → name ≡ program_name mode →
     IfSome texts (λ shown. (text_named name shown ≡ Some text) × (length text ≤ program_limit)) →
-    IfOk r (λ a. IfSome texts (λ shown. ReportsReplay o.entry.now text (text_named second.now shown) (answered a))) →
+    IfOk r (λ a. IfSome texts (λ shown. ReportsReplayBy o.modular o.entry.now text (text_named second.now shown) (answered a))) →
     IfOk r (λ a. IfSome texts (λ shown. Reports words shown (answered a)))
 replay_answered words mode o program second name text (Ok a) texts ask is same h r = replay_reported words mode o program second name text (answered a) texts ask is same h r
 replay_answered words mode o program second name text (Err e) texts ask is same h r = tt
@@ -204,57 +214,12 @@ print_reported words mode o program name text a (Some shown) ask is same h r =
 pub verify_reported : (words : List (List ℕ)) (mode : Mode) (o : Options) (program : Bor (List ℕ)) (name text : List ℕ) (a : Answer) (texts : Option (List (List ℕ × List ℕ))) →
     Asks words mode o → mode ≡ modes.Verify program → name ≡ program_name mode →
     IfSome texts (λ shown. (text_named name shown ≡ Some text) × (length text ≤ program_limit)) →
-    ReportsVerify o.entry.now o.limits text a → IfSome texts (λ shown. Reports words shown a)
+    ReportsVerifyBy o.modular o.entry.now o.limits text a → IfSome texts (λ shown. Reports words shown a)
 verify_reported words mode o program name text a None ask is same h r = tt
 verify_reported words mode o program name text a (Some shown) ask is same h r =
     verifying (settings o) program.now text (asks_for words mode (modes.Verify program) o ask is) (text_of mode (modes.Verify program) name text shown is same h.0) r
 
 -- ---- what has the status 0
-
-refused_is_three : (text : List ℕ) (a : Answer) → RefusesProgram text a → a.status ≡ 3
-refused_is_three text a (too_long past is) = ap (λ (b : Answer). b.status) is
-refused_is_three text a (no_program f l r is) = ap (λ (b : Answer). b.status) is
-
-pub typed_is_three : (entry : List ℕ) (text : List ℕ) (a : Answer) → RefusesTyped entry text a → a.status ≡ 3
-typed_is_three entry text a (refused_text r) = refused_is_three text a r
-typed_is_three entry text a (ill_typed ds f l w broken is) = ap (λ (b : Answer). b.status) is
-
-pub lowering_is_three : (t : TypedProgram) (a : Answer) → RefusesLowering t a → a.status ≡ 3
-lowering_is_three t a h = ap (λ (b : Answer). b.status) h.is
-
-three_is_not_zero : (n : ℕ) → n ≡ 3 → n ≡ 0 → ⊥
-three_is_not_zero n d e = omega arith
-
--- no refused program has the status 0
-refused_is_not_zero : (text : List ℕ) (a : Answer) → RefusesProgram text a → a.status ≡ 0 → ⊥
-refused_is_not_zero text a (too_long past is) z = three_is_not_zero a.status (ap (λ (b : Answer). b.status) is) z
-refused_is_not_zero text a (no_program f l r is) z = three_is_not_zero a.status (ap (λ (b : Answer). b.status) is) z
-
-pub typed_is_not_zero : (entry : List ℕ) (text : List ℕ) (a : Answer) → RefusesTyped entry text a → a.status ≡ 0 → ⊥
-typed_is_not_zero entry text a (refused_text r) z = refused_is_not_zero text a r z
-typed_is_not_zero entry text a (ill_typed ds f l w broken is) z = three_is_not_zero a.status (ap (λ (b : Answer). b.status) is) z
-
-pub lowering_is_not_zero : (t : TypedProgram) (a : Answer) → RefusesLowering t a → a.status ≡ 0 → ⊥
-lowering_is_not_zero t a h z = three_is_not_zero a.status (ap (λ (b : Answer). b.status) h.is) z
-
--- an accepted program keeps the typing rules
-pub record IsAccepted (entry text : List ℕ) (a : Answer) : Type 0 where
-  pub meant : TypedProgram
-  pub typed : IsTypedText entry text meant
-  pub is : a ≡ accepted_answer
-
-annotation_zero : (g : Graph) (coarse : List ℕ) (w : Content) (a : Answer) → ReportsAnnotation g coarse w a → a.status ≡ 0 → a ≡ accepted_answer
-annotation_zero g coarse w a (wrong_line place e is) z = absurd (let d : 1 ≡ 0 = sym (ap (λ (b : Answer). b.status) is) ∙ z in omega arith)
-annotation_zero g coarse w a (missing_line place e f is) z = absurd (let d : 1 ≡ 0 = sym (ap (λ (b : Answer). b.status) is) ∙ z in omega arith)
-annotation_zero g coarse w a (accepted e p is) z = is
-annotation_zero g coarse w a (rejected item cause e first is) z = absurd (let d : 1 ≡ 0 = sym (ap (λ (b : Answer). b.status) is) ∙ z in omega arith)
-
-proof_zero : (g : Graph) (text : List ℕ) (a : Answer) → ReportsProof g text a → a.status ≡ 0 → a ≡ accepted_answer
-proof_zero g text a (no_annotation line wrong is) z = absurd (let d : 1 ≡ 0 = sym (ap (λ (b : Answer). b.status) is) ∙ z in omega arith)
-proof_zero g text a (of_annotation coarse w s r) z = annotation_zero g coarse w a r z
-
-too_long_is_not_zero : (a : Answer) → a ≡ too_long_answer → a.status ≡ 0 → ⊥
-too_long_is_not_zero a is z = three_is_not_zero a.status (ap (λ (b : Answer). b.status) is) z
 
 check_zero : (entry : List ℕ) (text : List ℕ) (second : Option (List ℕ)) (a : Answer) → ReportsCheck entry text second a → a.status ≡ 0 → IsAccepted entry text a
 check_zero entry text second a (refused r) z = absurd (typed_is_not_zero entry text a r z)
@@ -281,6 +246,12 @@ replayed_by words texts s program second text a asked found (of_typed t h (secon
 replayed_by words texts s program second text a asked found (of_typed t h (of_second x e l r)) zero_status =
     fails_by words texts s program second text x t a asked found h e r zero_status
 
+-- of the program, or of a part
+replayed_one : (words : List (List ℕ)) (texts : List (List ℕ × List ℕ)) (s : Settings) (program second text : List ℕ) (a : Answer) (m : Bool) → s.modular ≡ m → Ask words s (Replay program second) →
+    text_named program texts ≡ Some text → ReportsReplayBy m s.entry text (text_named second texts) a → a.status ≡ 0 → ProgramFails words texts ⊎ PartFails words texts
+replayed_one words texts s program second text a false is asked found r z = inl (replayed_by words texts s program second text a asked found r z)
+replayed_one words texts s program second text a true is asked found r z = inr (replay_parts_zero words texts s program second text a is asked found r z)
+
 -- what is accepted is safe, where that is so of the program whose check is asked for
 accepted_is_safe : (words : List (List ℕ)) (texts : Texts) (s : Settings) (program second text : List ℕ) (a : Answer) → Ask words s (Check program second) → text_named program texts ≡ Some text →
     IsAccepted s.entry text a → (a ≡ accepted_answer → CheckedIsSafe words texts) → ProgramIsSafe words texts
@@ -288,118 +259,83 @@ accepted_is_safe words texts s program second text a asked found h safe =
     let asks : AsksForCheck words texts h.meant = record { settings = s; program = program; second = second; asked = asked; text = text; found = found; typed = h.typed } in
     (h.meant, inl asks, safe h.is h.meant asks)
 
+check_by_zero : (m : Bool) (entry text : List ℕ) (second : Option (List ℕ)) (a : Answer) → ReportsCheckBy m entry text second a → a.status ≡ 0 → IsAccepted entry text a
+check_by_zero false entry text second a r z = check_zero entry text second a r z
+check_by_zero true entry text second a r z = check_parts_zero entry text second a r z
+
 -- a verdict of status 0 is asked for a program that is safe, where that is so of the program whose verdict is asked for
-verified_is_safe : (words : List (List ℕ)) (texts : Texts) (s : Settings) (program text : List ℕ) (a : Answer) → Ask words s (Verify program) → text_named program texts ≡ Some text →
-    ReportsVerify s.entry s.limits text a → a.status ≡ 0 → VerifiedIsSafe words texts → ProgramIsSafe words texts
-verified_is_safe words texts s program text a asked found (refused r) z safe = absurd (typed_is_not_zero s.entry text a r z)
-verified_is_safe words texts s program text a asked found (of_typed t w (unlowered r)) z safe = absurd (lowering_is_not_zero t a r z)
-verified_is_safe words texts s program text a asked found (of_typed t w (of_lowered none v)) z safe =
+verified_is_safe : (words : List (List ℕ)) (texts : Texts) (s : Settings) (program text : List ℕ) (a : Answer) (m : Bool) → Ask words s (Verify program) → text_named program texts ≡ Some text →
+    ReportsVerifyBy m s.entry s.limits text a → a.status ≡ 0 → VerifiedIsSafe words texts → ProgramIsSafe words texts
+verified_is_safe words texts s program text a true asked found r z safe =
+    let w = verify_parts_zero s.entry s.limits text a r z in
+    let asks : AsksForVerdict words texts w.0 = record { settings = s; program = program; asked = asked; text = text; found = found; typed = w.1 } in
+    (w.0, inr asks, safe w.0 asks)
+verified_is_safe words texts s program text a false asked found (refused r) z safe = absurd (typed_is_not_zero s.entry text a r z)
+verified_is_safe words texts s program text a false asked found (of_typed t w (unlowered r)) z safe = absurd (lowering_is_not_zero t a r z)
+verified_is_safe words texts s program text a false asked found (of_typed t w (of_lowered none v)) z safe =
     let asks : AsksForVerdict words texts t = record { settings = s; program = program; asked = asked; text = text; found = found; typed = w } in
     (t, inr asks, safe t asks)
+
+failing : (words : List (List ℕ)) (texts : Texts) → ProgramFails words texts ⊎ PartFails words texts → ProgramFails words texts ⊎ (GeneratedIsSafe words ⊎ PartFails words texts)
+failing words texts (inl f) = inl f
+failing words texts (inr f) = inr (inr f)
 
 -- an answer of status 0 is a printed program, or is safe, or fails
 reports_safe : (words : List (List ℕ)) (texts : Texts) (a : Answer) → Reports words texts a → (a ≡ accepted_answer → CheckedIsSafe words texts) →
     (a.status ≡ 0 → VerifiedIsSafe words texts) → (a.status ≡ 0 → BuiltIsSafe words) → a.status ≡ 0 →
-    PrintsProgram words texts ⊎ (ProgramIsSafe words texts ⊎ (ProgramFails words texts ⊎ GeneratedIsSafe words))
+    PrintsProgram words texts ⊎ (ProgramIsSafe words texts ⊎ (ProgramFails words texts ⊎ (GeneratedIsSafe words ⊎ PartFails words texts)))
 reports_safe words texts a (usage none is) safe verified built z = absurd (let e : 4 ≡ 0 = sym (ap (λ (b : Answer). b.status) is) ∙ z in omega arith)
 reports_safe words texts a (printing s program text asked found print) safe verified built z = inl (printed_by words texts s program text a asked found print z)
 reports_safe words texts a (checking s program second text asked found check) safe verified built z =
-    inr (inl (accepted_is_safe words texts s program second text a asked found (check_zero s.entry text (text_named second texts) a check z) safe))
+    inr (inl (accepted_is_safe words texts s program second text a asked found (check_by_zero s.modular s.entry text (text_named second texts) a check z) safe))
 reports_safe words texts a (replaying s program second text asked found replay) safe verified built z =
-    inr (inr (inl (replayed_by words texts s program second text a asked found replay z)))
+    inr (inr (failing words texts (replayed_one words texts s program second text a s.modular refl asked found replay z)))
 reports_safe words texts a (verifying s program text asked found verify) safe verified built z =
-    inr (inl (verified_is_safe words texts s program text a asked found verify z (verified z)))
+    inr (inl (verified_is_safe words texts s program text a s.modular asked found verify z (verified z)))
 reports_safe words texts a (generating s count asked big) safe verified built z =
-    inr (inr (inr (s, count, big.program, asked, big.typed, built z s count big.program asked big.typed)))
+    inr (inr (inr (inl (s, count, big.program, asked, big.typed, built z s count big.program asked big.typed))))
 
--- `accepted` has `c` as its second byte, and no other answer has
-abbrev second_of : Answer → ℕ
-second_of a = get_or a.bytes 1 0
-
-e_is_not_c : (n : ℕ) → n ≡ 101 → n ≡ 99 → ⊥
-e_is_not_c n d e = omega arith
-
-refused_begins : (text : List ℕ) (a : Answer) → RefusesProgram text a → second_of a ≡ 99 → ⊥
-refused_begins text a (too_long past is) begin = e_is_not_c (second_of a) (ap second_of is) begin
-refused_begins text a (no_program f l r is) begin = by_fault f (sym (ap second_of is) ∙ begin)
-  where
-    by_fault : (f : Fault) → get_or (refusal f) 1 0 ≡ 99 → ⊥
-    by_fault (faults.Syntax line col) b = omega arith
-    by_fault (faults.Unsupported what line col) b = omega arith
-    by_fault (faults.Limit which line col) b = omega arith
-    by_fault faults.Memory b = omega arith
-
-rule_begins : (f : TypeFault) → get_or (type_refusal f) 1 0 ≡ 99 → ⊥
-rule_begins (type_faults.Unknown at) b = omega arith
-rule_begins (type_faults.Twice at) b = omega arith
-rule_begins (type_faults.Mismatch at) b = omega arith
-rule_begins (type_faults.NotAssignable at) b = omega arith
-rule_begins (type_faults.NotModified at) b = omega arith
-rule_begins type_faults.NoEntry b = omega arith
-rule_begins (type_faults.ZeroDivisor at) b = omega arith
-rule_begins (type_faults.NonLinear at) b = omega arith
-rule_begins (type_faults.BadGoto at) b = omega arith
-rule_begins (type_faults.TooBig at) b = omega arith
-rule_begins type_faults.Memory b = omega arith
-
-typed_begins : (entry : List ℕ) (text : List ℕ) (a : Answer) → RefusesTyped entry text a → second_of a ≡ 99 → ⊥
-typed_begins entry text a (refused_text r) begin = refused_begins text a r begin
-typed_begins entry text a (ill_typed ds f l w broken is) begin = rule_begins f (sym (ap second_of is) ∙ begin)
-
-lowering_begins : (t : TypedProgram) (a : Answer) → RefusesLowering t a → second_of a ≡ 99 → ⊥
-lowering_begins t a h begin = by_fault h.fault (sym (ap second_of h.is) ∙ begin)
-  where
-    by_fault : (f : ItemFault) → get_or (lowering_refusal f) 1 0 ≡ 99 → ⊥
-    by_fault (TooWide at) b = omega arith
-    by_fault (TooBig at) b = omega arith
-
-too_long_begins : (a : Answer) → a ≡ too_long_answer → second_of a ≡ 99 → ⊥
-too_long_begins a is begin = e_is_not_c (second_of a) (ap second_of is) begin
-
-annotation_begins : (g : Graph) (coarse : List ℕ) (w : Content) (a : Answer) → ReportsAnnotation g coarse w a → second_of a ≡ 99 → a ≡ accepted_answer
-annotation_begins g coarse w a (wrong_line place e is) begin = absurd (let same : 101 ≡ 99 = sym (ap second_of is) ∙ begin in omega arith)
-annotation_begins g coarse w a (missing_line place e f is) begin = absurd (let same : 101 ≡ 99 = sym (ap second_of is) ∙ begin in omega arith)
-annotation_begins g coarse w a (accepted e p is) begin = is
-annotation_begins g coarse w a (rejected item cause e first is) begin = absurd (let same : 101 ≡ 99 = sym (ap second_of is) ∙ begin in omega arith)
-
-proof_begins : (g : Graph) (text : List ℕ) (a : Answer) → ReportsProof g text a → second_of a ≡ 99 → a ≡ accepted_answer
-proof_begins g text a (no_annotation line wrong is) begin = absurd (let same : 101 ≡ 99 = sym (ap second_of is) ∙ begin in omega arith)
-proof_begins g text a (of_annotation coarse w s r) begin = annotation_begins g coarse w a r begin
-
-check_begins : (entry : List ℕ) (text : List ℕ) (second : Option (List ℕ)) (a : Answer) → ReportsCheck entry text second a → second_of a ≡ 99 → IsAccepted entry text a
+check_begins : (entry : List ℕ) (text : List ℕ) (second : Option (List ℕ)) (a : Answer) → ReportsCheck entry text second a → second_letter a ≡ 99 → IsAccepted entry text a
 check_begins entry text second a (refused r) begin = absurd (typed_begins entry text a r begin)
 check_begins entry text second a (of_typed t w (unlowered r)) begin = absurd (lowering_begins t a r begin)
 check_begins entry text second a (of_typed t w (of_lowered none (second_too_long x e past is))) begin = absurd (too_long_begins a is begin)
 check_begins entry text second a (of_typed t w (of_lowered none (of_second x e l r))) begin = record { meant = t; typed = w; is = proof_begins (lowered t) x a r begin }
 
-print_begins : (text : List ℕ) (a : Answer) → ReportsPrint text a → second_of a ≡ 99 → ⊥
+print_begins : (text : List ℕ) (a : Answer) → ReportsPrint text a → second_letter a ≡ 99 → ⊥
 print_begins text a (refused_print r) begin = refused_begins text a r begin
-print_begins text a (printed ds l w is) begin = begins_otherwise ds (sym (ap second_of is) ∙ begin)
+print_begins text a (printed ds l w is) begin = begins_otherwise ds (sym (ap second_letter is) ∙ begin)
 
-failure_begins : (t : TypedProgram) (text : List ℕ) (a : Answer) → ReportsFailure t text a → second_of a ≡ 99 → ⊥
-failure_begins t text a (no_failure line fault is) begin = absurd (let same : 101 ≡ 99 = sym (ap second_of is) ∙ begin in omega arith)
-failure_begins t text a (replayed f id h r is) begin = absurd (let same : 101 ≡ 99 = sym (ap second_of is) ∙ begin in omega arith)
-failure_begins t text a (stopped f step cause h s is) begin = absurd (let same : 101 ≡ 99 = sym (ap second_of is) ∙ begin in omega arith)
-
-replay_begins : (entry : List ℕ) (text : List ℕ) (second : Option (List ℕ)) (a : Answer) → ReportsReplay entry text second a → second_of a ≡ 99 → ⊥
+replay_begins : (entry : List ℕ) (text : List ℕ) (second : Option (List ℕ)) (a : Answer) → ReportsReplay entry text second a → second_letter a ≡ 99 → ⊥
 replay_begins entry text second a (refused r) begin = typed_begins entry text a r begin
 replay_begins entry text second a (of_typed t h (second_too_long x e past is)) begin = too_long_begins a is begin
 replay_begins entry text second a (of_typed t h (of_second x e l r)) begin = failure_begins t x a r begin
 
-verify_begins : (entry : List ℕ) (l : Limits) (text : List ℕ) (a : Answer) → ReportsVerify entry l text a → second_of a ≡ 99 → ⊥
+verify_begins : (entry : List ℕ) (l : Limits) (text : List ℕ) (a : Answer) → ReportsVerify entry l text a → second_letter a ≡ 99 → ⊥
 verify_begins entry l text a (refused r) begin = typed_begins entry text a r begin
 verify_begins entry l text a (of_typed t w (unlowered r)) begin = lowering_begins t a r begin
-verify_begins entry l text a (of_typed t w (of_lowered none (v, few))) begin = verdict_begins (length v.race.history) v.verdict (sym (ap second_of v.is) ∙ begin)
+verify_begins entry l text a (of_typed t w (of_lowered none (v, few))) begin = verdict_begins (length v.race.history) v.verdict (sym (ap second_letter v.is) ∙ begin)
+
+check_by_begins : (m : Bool) (entry text : List ℕ) (second : Option (List ℕ)) (a : Answer) → ReportsCheckBy m entry text second a → second_letter a ≡ 99 → IsAccepted entry text a
+check_by_begins false entry text second a r begin = check_begins entry text second a r begin
+check_by_begins true entry text second a r begin = check_parts_begins entry text second a r begin
+
+replay_by_begins : (m : Bool) (entry text : List ℕ) (second : Option (List ℕ)) (a : Answer) → ReportsReplayBy m entry text second a → second_letter a ≡ 99 → ⊥
+replay_by_begins false entry text second a r begin = replay_begins entry text second a r begin
+replay_by_begins true entry text second a r begin = replay_parts_begins entry text second a r begin
+
+verify_by_begins : (m : Bool) (entry : List ℕ) (l : Limits) (text : List ℕ) (a : Answer) → ReportsVerifyBy m entry l text a → second_letter a ≡ 99 → ⊥
+verify_by_begins false entry l text a r begin = verify_begins entry l text a r begin
+verify_by_begins true entry l text a r begin = verify_parts_begins entry l text a r begin
 
 -- an answer that begins as `accepted` does is safe
-reports_begin : (words : List (List ℕ)) (texts : Texts) (a : Answer) → Reports words texts a → (a ≡ accepted_answer → CheckedIsSafe words texts) → second_of a ≡ 99 → ProgramIsSafe words texts
-reports_begin words texts a (usage none is) safe begin = absurd (let e : 115 ≡ 99 = sym (ap second_of is) ∙ begin in omega arith)
+reports_begin : (words : List (List ℕ)) (texts : Texts) (a : Answer) → Reports words texts a → (a ≡ accepted_answer → CheckedIsSafe words texts) → second_letter a ≡ 99 → ProgramIsSafe words texts
+reports_begin words texts a (usage none is) safe begin = absurd (let e : 115 ≡ 99 = sym (ap second_letter is) ∙ begin in omega arith)
 reports_begin words texts a (printing s program text asked found print) safe begin = absurd (print_begins text a print begin)
 reports_begin words texts a (checking s program second text asked found check) safe begin =
-    accepted_is_safe words texts s program second text a asked found (check_begins s.entry text (text_named second texts) a check begin) safe
-reports_begin words texts a (replaying s program second text asked found replay) safe begin = absurd (replay_begins s.entry text (text_named second texts) a replay begin)
-reports_begin words texts a (generating s count asked big) safe begin = absurd (let e : 105 ≡ 99 = sym (ap second_of big.is) ∙ begin in omega arith)
-reports_begin words texts a (verifying s program text asked found verify) safe begin = absurd (verify_begins s.entry s.limits text a verify begin)
+    accepted_is_safe words texts s program second text a asked found (check_by_begins s.modular s.entry text (text_named second texts) a check begin) safe
+reports_begin words texts a (replaying s program second text asked found replay) safe begin = absurd (replay_by_begins s.modular s.entry text (text_named second texts) a replay begin)
+reports_begin words texts a (generating s count asked big) safe begin = absurd (let e : 105 ≡ 99 = sym (ap second_letter big.is) ∙ begin in omega arith)
+reports_begin words texts a (verifying s program text asked found verify) safe begin = absurd (verify_by_begins s.modular s.entry s.limits text a verify begin)
 
 seam : (b xs : List ℕ) → get_or (b ++ xs) (suc (length b)) 0 ≡ get_or xs 1 0
 seam [] xs = refl
@@ -453,7 +389,7 @@ whole_is_safe words (Some shown) (Some before) new a r s taken = λ e.
 -- an answer of status 0 is a printed program, or is safe, or fails
 pub zero_is_safe : (words : List (List ℕ)) (texts : Option Texts) (a : Answer) → IfSome texts (λ shown. Reports words shown a) →
     (a ≡ accepted_answer → IfSome texts (λ shown. CheckedIsSafe words shown)) → (a.status ≡ 0 → IfSome texts (λ shown. VerifiedIsSafe words shown)) → (a.status ≡ 0 → BuiltIsSafe words) → a.status ≡ 0 →
-    IfSome texts (λ shown. PrintsProgram words shown ⊎ (ProgramIsSafe words shown ⊎ (ProgramFails words shown ⊎ GeneratedIsSafe words)))
+    IfSome texts (λ shown. PrintsProgram words shown ⊎ (ProgramIsSafe words shown ⊎ (ProgramFails words shown ⊎ (GeneratedIsSafe words ⊎ PartFails words shown))))
 zero_is_safe words None a r s v b z = tt
 zero_is_safe words (Some shown) a r s v b z = reports_safe words shown a r s v b z
 

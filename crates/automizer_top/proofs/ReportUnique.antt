@@ -1,5 +1,5 @@
 -- The report allows one answer at most: its cases exclude each other.
-use Rattle.std.proofs.Common.{◌≡◌, ℕ, ◌<◌, ◌≤◌, List, [], ◌∷◌, length, Option, None, Some, Ok, Err, inl, inr, ◌⊎◌, ap, sym, ◌∙◌, subst, arith}
+use Rattle.std.proofs.Common.{◌≡◌, ℕ, ◌<◌, ◌≤◌, List, length, Bool, true, false, refl, Option, None, Some, Ok, Err, inl, inr, ◌⊎◌, ap, sym, ◌∙◌, subst, arith}
 use Rattle.std.proofs.lemmas.Option.{none-some, same_Some}
 use Rattle.outer_io.specs.Texts.{text_named}
 use Rattle.boogie_tree.specs.Tree.{Declaration}
@@ -18,14 +18,18 @@ use Rattle.lowered_graph.specs.Lowered.{lowered}
 use Rattle.automizer_top.specs.Refusals.{refusal}
 use Rattle.automizer_top.specs.LoweringRefusals.{lowering_refusal}
 use Rattle.automizer_top.specs.ReportTexts.{Answer, answer}
-use Rattle.automizer_top.specs.Report.{program_limit, second_limit, Ask, RefusesProgram, too_long, no_program, ReportsPrint, refused_print, printed, RefusesTyped, refused_text, ill_typed, IsTypedText, ReportsTyped, refused, of_typed, RefusesLowering, ReportsLowered, unlowered, of_lowered, ReportsSecond, second_too_long, of_second, ReportsProof, ReportsCheck, ReportsFailure, ReportsReplay, ReportsVerdict, ReportsVerify, ReportsBig, Reports, usage, printing, checking, replaying, verifying, generating}
+use Rattle.automizer_top.specs.Report.{program_limit, second_limit, Ask, RefusesProgram, too_long, no_program, ReportsPrint, refused_print, printed, RefusesTyped, refused_text, ill_typed, IsTypedText, ReportsTyped, refused, of_typed, RefusesLowering, ReportsLowered, unlowered, of_lowered, ReportsSecond, second_too_long, of_second, ReportsProof, ReportsCheck, ReportsFailure, ReportsReplay, ReportsVerdict, ReportsVerify, ReportsCheckBy, ReportsReplayBy, ReportsVerifyBy, ReportsBig, Reports, usage, printing, checking, replaying, verifying, generating}
+use Rattle.modular_cut.specs.Parts.{parts_of}
+use Rattle.automizer_top.specs.Parts.{ReportsCut, ReportsLoweredParts, ReportsParts, ReportsVerifyParts, ReportsPartProofs, ReportsCheckParts, ReportsPartFailure, ReportsReplayParts}
+use Rattle.automizer_top.specs.PartClaims.{AreVerdictsOn}
 use Rattle.automizer_top.specs.ReportClaims.{IsTypingRefusal, IsVerdictOn}
 use Rattle.race_rounds.specs.declared.limits.Limits.{Limits}
-use Rattle.automizer_top.specs.CommandLine.{Check, Replay, Print, Verify, Big, Settings, requested}
+use Rattle.automizer_top.specs.CommandLine.{Check, Replay, Print, Verify, Big, Settings}
 use Rattle.automizer_top.proofs.RequestLaws.{program_of, second_of, same_task, same_settings, only_one, nothing_asked}
 use Rattle.automizer_top.proofs.TypedTexts.{one_typed}
 use Rattle.automizer_top.proofs.ProofOnce.{proof_once}
 use Rattle.automizer_top.proofs.ReplayedOnce.{failure_once}
+use Rattle.automizer_top.proofs.PartOnce.{cut_once, lowered_parts_once, part_proofs_once, part_failure_once}
 
 same_text : (a b : List ℕ) (o : Option (List ℕ)) → o ≡ Some a → o ≡ Some b → a ≡ b
 same_text a b o h k = unwrapped a b (sym h ∙ k)
@@ -132,6 +136,28 @@ replay_once entry text second a b r s =
     one_of_three a b (typed_once entry text (λ t. ReportsSecond second (ReportsFailure t)) (a ≡ b) a b
     (λ t w. second_once second (ReportsFailure t) a b (λ x l. failure_once t x a b)) r s)
 
+-- the same by parts
+check_parts_once : (entry text : List ℕ) (second : Option (List ℕ)) (a b : Answer) → ReportsCheckParts entry text second a → ReportsCheckParts entry text second b → (a ≡ b) ⊎ BothIllTyped a b
+check_parts_once entry text second a b r s =
+    one_of_three a b (typed_once entry text (λ t. ReportsCut t (λ ps. ReportsLoweredParts ps (ReportsSecond second (ReportsPartProofs ps)))) (a ≡ b) a b
+    (λ t w h k. one_of_two a b (cut_once t (λ ps. ReportsLoweredParts ps (ReportsSecond second (ReportsPartProofs ps))) (a ≡ b) a b
+    (λ u v. one_of_two a b (lowered_parts_once (parts_of t) (ReportsSecond second (ReportsPartProofs (parts_of t))) (a ≡ b) a b
+    (second_once second (ReportsPartProofs (parts_of t)) a b (λ x few. part_proofs_once (parts_of t) x a b few)) u v)) h k)) r s)
+
+replay_parts_once : (entry text : List ℕ) (second : Option (List ℕ)) (a b : Answer) → ReportsReplayParts entry text second a → ReportsReplayParts entry text second b → (a ≡ b) ⊎ BothIllTyped a b
+replay_parts_once entry text second a b r s =
+    one_of_three a b (typed_once entry text (λ t. ReportsCut t (λ ps. ReportsSecond second (ReportsPartFailure ps))) (a ≡ b) a b
+    (λ t w h k. one_of_two a b (cut_once t (λ ps. ReportsSecond second (ReportsPartFailure ps)) (a ≡ b) a b
+    (second_once second (ReportsPartFailure (parts_of t)) a b (λ x few. part_failure_once (parts_of t) x a b)) h k)) r s)
+
+check_by_once : (m : Bool) (entry text : List ℕ) (second : Option (List ℕ)) (a b : Answer) → ReportsCheckBy m entry text second a → ReportsCheckBy m entry text second b → (a ≡ b) ⊎ BothIllTyped a b
+check_by_once false entry text second a b r s = check_once entry text second a b r s
+check_by_once true entry text second a b r s = check_parts_once entry text second a b r s
+
+replay_by_once : (m : Bool) (entry text : List ℕ) (second : Option (List ℕ)) (a b : Answer) → ReportsReplayBy m entry text second a → ReportsReplayBy m entry text second b → (a ≡ b) ⊎ BothIllTyped a b
+replay_by_once false entry text second a b r s = replay_once entry text second a b r s
+replay_by_once true entry text second a b r s = replay_parts_once entry text second a b r s
+
 -- both are verdicts on the program of the text
 abbrev BothVerdicts : List ℕ → Limits → List ℕ → Answer → Answer → Type 0
 BothVerdicts entry l text a b = (t : TypedProgram) × IsTypedText entry text t × ReportsVerdict l t a × ReportsVerdict l t b
@@ -148,11 +174,34 @@ verify_once entry l text a b r s =
     ordered (inr (inl e)) = inl e
     ordered (inr (inr h)) = inr (inl h)
 
+-- both are verdicts on its parts
+abbrev BothPartVerdicts : List ℕ → Limits → List ℕ → Answer → Answer → Type 0
+BothPartVerdicts entry l text a b = (t : TypedProgram) × IsTypedText entry text t × ReportsParts l (parts_of t) a × ReportsParts l (parts_of t) b
+
+verify_parts_once : (entry : List ℕ) (l : Limits) (text : List ℕ) (a b : Answer) → ReportsVerifyParts entry l text a → ReportsVerifyParts entry l text b →
+    (a ≡ b) ⊎ (BothIllTyped a b ⊎ BothPartVerdicts entry l text a b)
+verify_parts_once entry l text a b r s =
+    ordered (typed_once entry text (λ t. ReportsCut t (λ ps. ReportsLoweredParts ps (λ c. ReportsParts l ps c × (length c.bytes ≤ second_limit)))) ((a ≡ b) ⊎ BothPartVerdicts entry l text a b) a b
+    (λ t w h k. joined t (cut_once t (λ ps. ReportsLoweredParts ps (λ c. ReportsParts l ps c × (length c.bytes ≤ second_limit))) ((a ≡ b) ⊎ BothPartVerdicts entry l text a b) a b
+    (lowered_parts_once (parts_of t) (λ c. ReportsParts l (parts_of t) c × (length c.bytes ≤ second_limit)) (BothPartVerdicts entry l text a b) a b (λ v u. (t, w, v.0, u.0))) h k)) r s)
+  where
+    joined : TypedProgram → (a ≡ b) ⊎ ((a ≡ b) ⊎ BothPartVerdicts entry l text a b) → (a ≡ b) ⊎ BothPartVerdicts entry l text a b
+    joined t (inl e) = inl e
+    joined t (inr h) = h
+
+    ordered : ((a ≡ b) ⊎ BothPartVerdicts entry l text a b) ⊎ ((a ≡ b) ⊎ BothIllTyped a b) → (a ≡ b) ⊎ (BothIllTyped a b ⊎ BothPartVerdicts entry l text a b)
+    ordered (inl (inl e)) = inl e
+    ordered (inl (inr v)) = inr (inr v)
+    ordered (inr (inl e)) = inl e
+    ordered (inr (inr h)) = inr (inl h)
+
 -- ---- the report
 
--- one answer; or two broken typing rules; or two verdicts on one program; or two summaries of one generated program
+-- one answer; or two broken typing rules; or two verdicts on one program; or two summaries of one generated program; or verdicts on the parts of one
+-- program
 abbrev pub AreOne : List (List ℕ) → List (List ℕ × List ℕ) → Answer → Answer → Type 0
-AreOne words texts a b = (a ≡ b) ⊎ (BothIllTyped a b ⊎ (((t : TypedProgram) × IsVerdictOn words texts t a × IsVerdictOn words texts t b) ⊎ ((s : Settings) × (count : ℕ) × Ask words s (Big count) × ReportsBig s.limits count a × ReportsBig s.limits count b)))
+AreOne words texts a b = (a ≡ b) ⊎ (BothIllTyped a b ⊎ (((t : TypedProgram) × IsVerdictOn words texts t a × IsVerdictOn words texts t b) ⊎ (((s : Settings) × (count : ℕ) × Ask words s (Big count) × ReportsBig s.limits count a × ReportsBig s.limits count b)
+    ⊎ ((t : TypedProgram) × AreVerdictsOn words texts t a × AreVerdictsOn words texts t b))))
 
 wider : (words : List (List ℕ)) (texts : List (List ℕ × List ℕ)) (a b : Answer) → (a ≡ b) ⊎ BothIllTyped a b → AreOne words texts a b
 wider words texts a b (inl e) = inl e
@@ -164,13 +213,21 @@ both words texts s p text a b asked found (inl e) = inl e
 both words texts s p text a b asked found (inr (inl h)) = inr (inl h)
 both words texts s p text a b asked found (inr (inr h)) = inr (inr (inl (h.0, (s, p, text, asked, found, h.1, h.2), (s, p, text, asked, found, h.1, h.3))))
 
+both_parts : (words : List (List ℕ)) (texts : List (List ℕ × List ℕ)) (s : Settings) (p text : List ℕ) (a b : Answer) → s.modular ≡ true → Ask words s (Verify p) → text_named p texts ≡ Some text →
+    (a ≡ b) ⊎ (BothIllTyped a b ⊎ BothPartVerdicts s.entry s.limits text a b) → AreOne words texts a b
+both_parts words texts s p text a b m asked found (inl e) = inl e
+both_parts words texts s p text a b m asked found (inr (inl h)) = inr (inl h)
+both_parts words texts s p text a b m asked found (inr (inr h)) =
+    inr (inr (inr (inr (h.0, (s, p, text, asked, m, found, h.1, h.2), (s, p, text, asked, m, found, h.1, h.3)))))
+
+both_by : (words : List (List ℕ)) (texts : List (List ℕ × List ℕ)) (s : Settings) (p text : List ℕ) (a b : Answer) (m : Bool) → s.modular ≡ m → Ask words s (Verify p) → text_named p texts ≡ Some text →
+    ReportsVerifyBy m s.entry s.limits text a → ReportsVerifyBy m s.entry s.limits text b → AreOne words texts a b
+both_by words texts s p text a b false m asked found r k = both words texts s p text a b asked found (verify_once s.entry s.limits text a b r k)
+both_by words texts s p text a b true m asked found r k = both_parts words texts s p text a b m asked found (verify_parts_once s.entry s.limits text a b r k)
+
 -- the same text was found
 same_found : (texts : List (List ℕ × List ℕ)) (p q t u : List ℕ) → p ≡ q → text_named p texts ≡ Some t → text_named q texts ≡ Some u → u ≡ t
 same_found texts p q t u e found found' = same_text u t (text_named p texts) (subst (λ (n : List ℕ). text_named n texts ≡ Some u) (sym e) found') found
-
--- the entry of settings that are the same
-same_entry : (s s' : Settings) → s ≡ s' → s'.entry ≡ s.entry
-same_entry s s' e = ap (λ (u : Settings). u.entry) (sym e)
 
 one_count : (m n : ℕ) → Big m ≡ Big n → m ≡ n
 one_count m n e = cc
@@ -202,12 +259,12 @@ report_once words texts a b (checking s p x t asked found check) (verifying s' q
     absurd (only_one words s s' (Check p x) (Verify q) asked asked' (λ (e : 0 ≡ 3). omega arith))
 report_once words texts a b (checking s p x t asked found check) (checking s' q y u asked' found' check') =
     let same = same_task words s s' (Check p x) (Check q y) asked asked' in
-    let entries : s'.entry ≡ s.entry = same_entry s s' (same_settings words s s' (Check p x) (Check q y) asked asked') in
+    let settings : s' ≡ s = sym (same_settings words s s' (Check p x) (Check q y) asked asked') in
     let text : u ≡ t = same_found texts p q t u (ap program_of same) found found' in
-    wider words texts a b (check_once s.entry t (text_named x texts) a b check
-    (subst (λ (e : List ℕ). ReportsCheck e t (text_named x texts) b) entries
-    (subst (λ (z : List ℕ). ReportsCheck s'.entry z (text_named x texts) b) text
-    (subst (λ (n : List ℕ). ReportsCheck s'.entry u (text_named n texts) b) (sym (ap second_of same)) check'))))
+    wider words texts a b (check_by_once s.modular s.entry t (text_named x texts) a b check
+    (subst (λ (v : Settings). ReportsCheckBy v.modular v.entry t (text_named x texts) b) settings
+    (subst (λ (z : List ℕ). ReportsCheckBy s'.modular s'.entry z (text_named x texts) b) text
+    (subst (λ (n : List ℕ). ReportsCheckBy s'.modular s'.entry u (text_named n texts) b) (sym (ap second_of same)) check'))))
 report_once words texts a b (replaying s p x t asked found replay) (usage none is) = absurd (nothing_asked words s (Replay p x) none asked)
 report_once words texts a b (replaying s p x t asked found replay) (printing s' q u asked' found' print) =
     absurd (only_one words s s' (Replay p x) (Print q) asked asked' (λ (e : 1 ≡ 2). omega arith))
@@ -217,12 +274,12 @@ report_once words texts a b (replaying s p x t asked found replay) (verifying s'
     absurd (only_one words s s' (Replay p x) (Verify q) asked asked' (λ (e : 1 ≡ 3). omega arith))
 report_once words texts a b (replaying s p x t asked found replay) (replaying s' q y u asked' found' replay') =
     let same = same_task words s s' (Replay p x) (Replay q y) asked asked' in
-    let entries : s'.entry ≡ s.entry = same_entry s s' (same_settings words s s' (Replay p x) (Replay q y) asked asked') in
+    let settings : s' ≡ s = sym (same_settings words s s' (Replay p x) (Replay q y) asked asked') in
     let text : u ≡ t = same_found texts p q t u (ap program_of same) found found' in
-    wider words texts a b (replay_once s.entry t (text_named x texts) a b replay
-    (subst (λ (e : List ℕ). ReportsReplay e t (text_named x texts) b) entries
-    (subst (λ (z : List ℕ). ReportsReplay s'.entry z (text_named x texts) b) text
-    (subst (λ (n : List ℕ). ReportsReplay s'.entry u (text_named n texts) b) (sym (ap second_of same)) replay'))))
+    wider words texts a b (replay_by_once s.modular s.entry t (text_named x texts) a b replay
+    (subst (λ (v : Settings). ReportsReplayBy v.modular v.entry t (text_named x texts) b) settings
+    (subst (λ (z : List ℕ). ReportsReplayBy s'.modular s'.entry z (text_named x texts) b) text
+    (subst (λ (n : List ℕ). ReportsReplayBy s'.modular s'.entry u (text_named n texts) b) (sym (ap second_of same)) replay'))))
 report_once words texts a b (verifying s p t asked found verify) (usage none is) = absurd (nothing_asked words s (Verify p) none asked)
 report_once words texts a b (verifying s p t asked found verify) (printing s' q u asked' found' print) =
     absurd (only_one words s s' (Verify p) (Print q) asked asked' (λ (e : 3 ≡ 2). omega arith))
@@ -234,9 +291,9 @@ report_once words texts a b (verifying s p t asked found verify) (verifying s' q
     let same = same_task words s s' (Verify p) (Verify q) asked asked' in
     let settings : s' ≡ s = sym (same_settings words s s' (Verify p) (Verify q) asked asked') in
     let text : u ≡ t = same_found texts p q t u (ap program_of same) found found' in
-    both words texts s p t a b asked found (verify_once s.entry s.limits t a b verify
-    (subst (λ (v : Settings). ReportsVerify v.entry v.limits t b) settings
-    (subst (λ (z : List ℕ). ReportsVerify s'.entry s'.limits z b) text verify')))
+    both_by words texts s p t a b s.modular refl asked found verify
+    (subst (λ (v : Settings). ReportsVerifyBy v.modular v.entry v.limits t b) settings
+    (subst (λ (z : List ℕ). ReportsVerifyBy s'.modular s'.entry s'.limits z b) text verify'))
 report_once words texts a b (usage none is) (generating s count asked big) = absurd (nothing_asked words s (Big count) none asked)
 report_once words texts a b (printing s p t asked found print) (generating s' count asked' big) = absurd (only_one words s s' (Print p) (Big count) asked asked' (λ (e : 2 ≡ 4). omega arith))
 report_once words texts a b (checking s p x t asked found check) (generating s' count asked' big) = absurd (only_one words s s' (Check p x) (Big count) asked asked' (λ (e : 0 ≡ 4). omega arith))
@@ -250,4 +307,4 @@ report_once words texts a b (generating s count asked big) (verifying s' p t ask
 report_once words texts a b (generating s count asked big) (generating s' count' asked' big') =
     let same : count' ≡ count = sym (one_count count count' (same_task words s s' (Big count) (Big count') asked asked')) in
     let settings : s' ≡ s = sym (same_settings words s s' (Big count) (Big count') asked asked') in
-    inr (inr (inr (s, count, asked, big, subst (λ (u : Settings). ReportsBig u.limits count b) settings (subst (λ (n : ℕ). ReportsBig s'.limits n b) same big'))))
+    inr (inr (inr (inl (s, count, asked, big, subst (λ (u : Settings). ReportsBig u.limits count b) settings (subst (λ (n : ℕ). ReportsBig s'.limits n b) same big')))))

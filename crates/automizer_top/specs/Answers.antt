@@ -1,12 +1,13 @@
 -- The code's answers and questions as contracts see them.
-use Rattle.std.specs.Prelude.{◌≡◌, ℕ, List, [], ◌∷◌, None, Some, codes}
+use Rattle.std.specs.Prelude.{◌≡◌, ◌<◌, ◌^◌, ℕ, List, [], ◌∷◌, None, Some, codes}
 use Rattle.automizer_top.specs.declared.answer.Answer.{Answer}
-use Rattle.automizer_top.specs.declared.answer.Answer.TheVariants.{Usage, TooLong, Refused, IllTyped, TooWide, TooBig, Printed, Syntax, Accepted, Rejected, Replayed, Stopped, Decided}
+use Rattle.automizer_top.specs.declared.answer.Answer.TheVariants.{Usage, TooLong, Refused, IllTyped, TooWide, TooBig, Free, Printed, Syntax, Accepted, Rejected, Replayed, Stopped, Decided, PartsDecided, PartDecided}
+use Rattle.automizer_top.specs.declared.reporting.Decision.{Decision}
 use Rattle.automizer_top.specs.declared.words.Mode.{Mode}
 use Rattle.automizer_top.specs.declared.words.Options.{Options}
 use Rattle.automizer_top.specs.Asked.{of_texts, settings}
 use Rattle.automizer_top.specs.Refusals.{refusal}
-use Rattle.automizer_top.specs.TypeRefusals.{type_refusal}
+use Rattle.automizer_top.specs.TypeRefusals.{rule_line, type_refusal}
 use Rattle.typed_tree.specs.TypedTree.{TypedProgram}
 use Rattle.boogie_run.specs.Runs.{IsSafe}
 use Rattle.nwa_base.specs.declared.letters.Letter.{Letter}
@@ -17,7 +18,11 @@ use Rattle.lowered_graph.specs.Items as items
 use Rattle.lowered_graph.specs.Items.{first_fault}
 use Rattle.lowered_graph.specs.Lowered.{lowered}
 use Rattle.lowered_graph.specs.Laws.{IsFaithful}
+use Rattle.proof_form.specs.Annotations.{Content}
+use Rattle.coarse_lines.specs.CoarseLetters.{coarse_letters}
+use Rattle.proof_check.specs.declared.rejects.RejectCause.{RejectCause}
 use Rattle.proof_check.specs.Proves.{Proves}
+use Rattle.automizer_top.specs.Parts.{FailsOnLine}
 use Rattle.race_verdicts.specs.declared.verdicts.Verdict.{Verdict}
 use Rattle.race_verdicts.specs.declared.verdicts.Verdict.TheVariants.{Safe, Unsafe, Unknown}
 use Rattle.automizer_top.specs.LoweringRefusals.{lowering_refusal}
@@ -36,6 +41,7 @@ answered (Refused f) = written.answer (refusal f) 3
 answered (IllTyped f) = written.answer (type_refusal f) 3
 answered (TooWide at) = written.answer (lowering_refusal (items.TooWide at)) 3
 answered (TooBig at) = written.answer (lowering_refusal (items.TooBig at)) 3
+answered (Free at) = written.answer (rule_line (codes "Free") at) 3
 answered (Printed text) = written.answer text.items 0
 answered (Syntax line) = written.syntax_answer line
 answered Accepted = written.accepted_answer
@@ -43,6 +49,36 @@ answered (Rejected line cause) = written.failed_answer line cause
 answered (Replayed id) = written.replayed_answer id
 answered (Stopped step cause) = written.stopped_answer step cause
 answered (Decided text verdict race) = record { bytes = text.items; status = verdict_status verdict; races = race ∷ [] }
+answered (PartsDecided text races) = record { bytes = text.items; status = 0; races = races.items }
+answered (PartDecided text verdict races) = record { bytes = text.items; status = verdict_status verdict; races = races.items }
+
+-- the answer with this verdict
+abbrev pub decided_answer : Decision → written.Answer
+decided_answer d = record { bytes = d.text.items; status = verdict_status d.verdict; races = d.race ∷ [] }
+
+-- the answer is that this check fails at this line, whose number has 70 bits
+abbrev pub IsRejected : ℕ → RejectCause → Answer → Type 0
+IsRejected line cause a = (a ≡ Rejected line cause) × (line < 2 ^ 70)
+
+-- The answer is that an annotation with lines of these coarse letters is accepted, or it names the first check that fails, by a line whose number has
+-- 70 bits.
+abbrev pub IsJudged : Graph → List ℕ → Content → Answer → Type 0
+IsJudged g coarse w Usage = ⊥
+IsJudged g coarse w TooLong = ⊥
+IsJudged g coarse w (Refused f) = ⊥
+IsJudged g coarse w (IllTyped f) = ⊥
+IsJudged g coarse w (TooWide at) = ⊥
+IsJudged g coarse w (TooBig at) = ⊥
+IsJudged g coarse w (Free at) = ⊥
+IsJudged g coarse w (Printed text) = ⊥
+IsJudged g coarse w (Syntax line) = ⊥
+IsJudged g coarse w Accepted = (coarse ≡ coarse_letters g w) × Proves g w
+IsJudged g coarse w (Rejected line cause) = FailsOnLine g coarse w line cause × (line < 2 ^ 70)
+IsJudged g coarse w (Replayed id) = ⊥
+IsJudged g coarse w (Stopped step cause) = ⊥
+IsJudged g coarse w (Decided text verdict race) = ⊥
+IsJudged g coarse w (PartsDecided text races) = ⊥
+IsJudged g coarse w (PartDecided text verdict races) = ⊥
 
 -- the words ask for this, with these options
 abbrev pub Asks : List (List ℕ) → Mode → Options → Type 0

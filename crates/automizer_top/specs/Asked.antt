@@ -24,7 +24,7 @@ IsCounted (Texts mode) = Unit {0}
 IsCounted (Generated count) = (1 ≤ count) × (count ≤ 200)
 
 abbrev pub settings : Options → line.Settings
-settings o = record { entry = o.entry.now; limits = o.limits }
+settings o = record { entry = o.entry.now; limits = o.limits; modular = o.modular }
 
 abbrev pub asked : Request → line.Request
 asked r = record { task = task r.task; settings = settings r.options }

@@ -7,6 +7,7 @@ use Rattle.clap.specs.Walk.{Row, Rule, first_of}
 use Rattle.clap.specs.Simple.{App, new_rule, new_shape, matches_of}
 use Rattle.clap.specs.Faults.{fault_of}
 use Rattle.clap.specs.Kinds.{Kinds}
+use Rattle.clap.specs.declared.builder.action.ArgAction.TheVariants.{SetTrue}
 use Rattle.race_rounds.specs.declared.limits.Limits.{Limits}
 
 -- ---- the command
@@ -19,11 +20,15 @@ positional id required = record (new_rule id) { required = required }
 abbrev pub option : List ℕ → List ℕ → Rule
 option id default = record (new_rule id) { long = Some id; defaults = default ∷ [] }
 
--- MODE PROGRAM [SECOND] [--entry NAME] [--rounds N] [--workers N] [--depth N]
+-- a flag `--ID`
+abbrev pub flag : List ℕ → Rule
+flag id = record (new_rule id) { long = Some id; action = Some SetTrue }
+
+-- MODE PROGRAM [SECOND] [--entry NAME] [--rounds N] [--workers N] [--depth N] [--modular]
 abbrev pub arguments : List Rule
 arguments = positional (codes "mode") true ∷ positional (codes "program") true ∷ positional (codes "second") false
     ∷ option (codes "entry") (codes "main") ∷ option (codes "rounds") (codes "1000") ∷ option (codes "workers") (codes "4")
-    ∷ option (codes "depth") (codes "16") ∷ []
+    ∷ option (codes "depth") (codes "16") ∷ flag (codes "modular") ∷ []
 
 -- no word is the program's name, and no flag asks for help or the version
 abbrev pub bare_command : App
@@ -53,10 +58,11 @@ pub data Task : Type 0 where
   Verify : List ℕ → Task
   Big : ℕ → Task
 
--- the name of the procedure at which runs begin, and the limits of a race
+-- the name of the procedure at which runs begin, the limits of a race, and whether each procedure is verified by itself
 pub record Settings : Type 0 where
   pub entry : List ℕ
   pub limits : Limits
+  pub modular : Bool
 
 pub record Request : Type 0 where
   pub task : Task
@@ -94,10 +100,15 @@ abbrev pub task_of : List Row → Option Task
 task_of rows = option_and_then (λ mode. option_and_then (λ program. task_by mode program (first_of (codes "second") rows))
     (first_of (codes "program") rows)) (first_of (codes "mode") rows)
 
+-- the flag of that name is set
+abbrev pub is_given : List ℕ → List Row → Option Bool
+is_given id rows = option_map (λ text. bytes_eq text (codes "true")) (first_of id rows)
+
 -- the settings that they name, each number in its range
 abbrev pub settings_of : List Row → Option Settings
-settings_of rows = option_and_then (λ entry. option_and_then (λ rounds. option_and_then (λ workers. option_map
-    (λ depth. record { entry = entry; limits = record { rounds = rounds; workers = workers; depth = depth } })
+settings_of rows = option_and_then (λ entry. option_and_then (λ rounds. option_and_then (λ workers. option_and_then (λ depth. option_map
+    (λ modular. record { entry = entry; limits = record { rounds = rounds; workers = workers; depth = depth }; modular = modular })
+    (is_given (codes "modular") rows))
     (option_and_then (number_in_bounds 0 64) (first_of (codes "depth") rows)))
     (option_and_then (number_in_bounds 1 64) (first_of (codes "workers") rows)))
     (option_and_then (number_in_bounds 1 100000) (first_of (codes "rounds") rows)))

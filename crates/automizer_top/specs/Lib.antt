@@ -6,7 +6,12 @@ pub mod Asked
 pub mod Verdicts
 pub mod Summary
 pub mod ReportTexts
+pub mod ReportCases
+pub mod PartTexts
+pub mod Parts
 pub mod Report
 pub mod ReportClaims
+pub mod PartClaims
 pub mod Answers
+pub mod PartViews
 pub mod Completeness

@@ -83,9 +83,10 @@ abbrev pub GeneratedIsSafe : List (List ℕ) → Type 0
 GeneratedIsSafe words = (s : Settings) × (count : ℕ) × (t : TypedProgram) × Ask words s (Big count)
     × (resolved_program (generated count) (codes "main") ≡ Some t) × IsSafe t
 
--- The program has the same text and the same entry in both, and the second name stands for the bytes of an answer.
+-- The program has the same text and the same entry in both, both or none go by parts, and the second name stands for the bytes of an answer.
 pub record IsHandedOver (program second : List ℕ) (r s : Settings) (before after : List (List ℕ × List ℕ)) (a : Answer) : Type 0 where
   pub entry : s.entry ≡ r.entry
+  pub modular : s.modular ≡ r.modular
   pub same : text_named program after ≡ text_named program before
   pub given : text_named second after ≡ Some a.bytes
 

@@ -1,5 +1,4 @@
-ghost use Rattle.std.specs.Prelude.{◌≡◌, IfOk};
-ghost use Rattle.std.specs.Option.{option_to_list};
+ghost use Rattle.std.specs.Prelude.{◌≡◌, [], ◌∷◌, IfOk};
 ghost use Rattle.std.specs.String.{string_bytes};
 ghost use Rattle.automizer_top.specs.Answers.{answered};
 ghost use Rattle.automizer_top.specs.Verdicts.{verdict_status};
@@ -31,11 +30,13 @@ pub(crate) enum Answer {
     TooWide(Span),
     /// A number of the item there is too big to be lowered.
     TooBig(Span),
+    /// The specification or the invariant there is free, where each procedure is to be verified by itself.
+    Free(Span),
     /// The text of the program.
     Printed(Vec<u8>),
-    /// The second text is not in its grammar: its first wrong line.
+    /// The second text is not in its grammar: its first wrong line, whose number may have more than 64 bits.
     Syntax {
-        line: u64,
+        line: u128,
     },
     /// The annotation proves the program.
     Accepted,
@@ -57,25 +58,37 @@ pub(crate) enum Answer {
         verdict: Verdict,
         race: Shared<Certified>,
     },
+    /// The text of the verdicts on parts, each of which is safe, with the races that they are of.
+    PartsDecided {
+        text: Vec<u8>,
+        races: Vec<Shared<Certified>>,
+    },
+    /// The text of the verdict on a part, with its race and those of the parts before it.
+    PartDecided {
+        text: Vec<u8>,
+        verdict: Verdict,
+        races: Vec<Shared<Certified>>,
+    },
 }
 
 impl Answer {
-    /// The bytes that are written, and the race of a verdict.
-    pub fn output(self, alloc: Global) -> Result<(Vec<u8>, Option<Shared<Certified>>), AllocError>
+    /// The bytes that are written, and the races of verdicts.
+    pub fn output(self, alloc: Global) -> Result<(Vec<u8>, Vec<Shared<Certified>>), AllocError>
         ensures text { IfOk result (λ output. output.0.items ≡ (answered self).bytes) }
-        ensures race { IfOk result (λ output. option_to_list output.1 ≡ (answered self).races) }
+        ensures races { IfOk result (λ output. output.1.items ≡ (answered self).races) }
     {
         let line = match self {
             Answer::Usage => String::from_str(
                 alloc,
-                "usage: automizer MODE PROGRAM [SECOND] [--entry NAME] [--rounds N] [--workers N] [--depth N]\n",
+                "usage: automizer MODE PROGRAM [SECOND] [--entry NAME] [--rounds N] [--workers N] [--depth N] [--modular]\n",
             )?,
             Answer::TooLong => String::from_str(alloc, "refused TooLong\n")?,
             Answer::Refused(fault) => refusal_text(alloc, &fault)?,
             Answer::IllTyped(fault) => type_refusal_text(alloc, &fault)?,
             Answer::TooWide(at) => rule_line(alloc, "TooWide", at)?,
             Answer::TooBig(at) => rule_line(alloc, "TooBig", at)?,
-            Answer::Printed(text) => return Ok((text, None)),
+            Answer::Free(at) => rule_line(alloc, "Free", at)?,
+            Answer::Printed(text) => return Ok((text, Vec::new(alloc))),
             Answer::Syntax { line } => format!(in alloc; "rejected {line} Syntax\n")?,
             Answer::Accepted => String::from_str(alloc, "accepted\n")?,
             Answer::Rejected { line, cause } => rejected_text(alloc, line, cause)?,
@@ -88,9 +101,15 @@ impl Answer {
                 text,
                 verdict: _,
                 race,
-            } => return Ok((text, Some(race))),
+            } => return Ok((text, only(alloc, race)?)),
+            Answer::PartsDecided { text, races } => return Ok((text, races)),
+            Answer::PartDecided {
+                text,
+                verdict: _,
+                races,
+            } => return Ok((text, races)),
         };
-        Ok((line.into_bytes(), None))
+        Ok((line.into_bytes(), Vec::new(alloc)))
     }
 
     /// The status of the program.
@@ -103,18 +122,32 @@ impl Answer {
             | Answer::Refused(_)
             | Answer::IllTyped(_)
             | Answer::TooWide(_)
-            | Answer::TooBig(_) => 3,
-            Answer::Printed(_) | Answer::Accepted | Answer::Replayed(_) => 0,
+            | Answer::TooBig(_)
+            | Answer::Free(_) => 3,
+            Answer::Printed(_)
+            | Answer::Accepted
+            | Answer::Replayed(_)
+            | Answer::PartsDecided { .. } => 0,
             Answer::Syntax { line: _ }
             | Answer::Rejected { line: _, cause: _ }
             | Answer::Stopped { step: _, cause: _ } => 1,
             Answer::Decided { verdict, .. } => verdict_status(verdict),
+            Answer::PartDecided { verdict, .. } => verdict_status(verdict),
         }
     }
 }
 
+/// A list of one race.
+fn only(alloc: Global, race: Shared<Certified>) -> Result<Vec<Shared<Certified>>, AllocError>
+    ensures { IfOk result (λ races. races.items ≡ race ∷ []) }
+{
+    let mut races = Vec::new(alloc);
+    races.push(race)?;
+    Ok(races)
+}
+
 /// The status of a verdict.
-fn verdict_status(verdict: &Verdict) -> u8
+pub(crate) fn verdict_status(verdict: &Verdict) -> u8
     ensures { result ≡ verdict_status verdict.now }
 {
     match verdict {

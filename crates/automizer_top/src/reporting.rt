@@ -1,47 +1,54 @@
-ghost use Rattle.std.specs.Prelude.{◌≡◌, ◌≢◌, ◌≤◌, ◌<◌, ◌+◌, ℕ, List, Option, length, map, Some, None, Err, IfOk, IfSome, IsSome, MatchOption, MatchResult, vec_len};
+ghost use Rattle.std.specs.Prelude.{true, ◌≡◌, ◌≢◌, ◌≤◌, ◌<◌, ◌+◌, ℕ, List, Option, length, map, Some, None, Err, IfOk, IfSome, IsSome, MatchOption, MatchResult, vec_len};
 ghost use Rattle.std.specs.String.{string_bytes};
+ghost use Rattle.std.specs.List.{list_all};
 ghost use Rattle.outer_io.specs.Faults.{Rose};
 ghost use Rattle.outer_io.specs.Texts.{text_named};
+ghost use Rattle.boogie_tree.specs.Names.{is_name};
 ghost use Rattle.typed_tree.specs.TypedTree.{TypedProgram};
 ghost use Rattle.typed_tree.specs.declared.fault.TypeFault.TheVariants as TypeFault;
 ghost use Rattle.typing_rules.specs.TypedParts.{typed_program};
 ghost use Rattle.coarse_lines.specs.CoarseLetters.{coarse_letters};
 ghost use Rattle.proof_names.specs.Items.{first_triple};
 ghost use Rattle.automizer_top.specs.declared.reporting.Halt.TheVariants.{Fault, Memory};
-ghost use Rattle.automizer_top.specs.Answers.{answered, Asks, IsGraphOf, HasNoErrorWord, TextIsSafe, CheckedIsSafe, VerifiedIsSafe, BuiltIsSafe};
+ghost use Rattle.automizer_top.specs.Answers.{answered, Asks, IsGraphOf, HasNoErrorWord, TextIsSafe, CheckedIsSafe, VerifiedIsSafe, BuiltIsSafe, IsJudged, IsRejected, decided_answer};
+ghost use Rattle.automizer_top.specs.Verdicts.{verdict_status};
+ghost use Rattle.trace_replay.specs.FailureText.{plain};
 ghost use Rattle.race_rounds.specs.Limits.{AreInRange};
 ghost use Rattle.automizer_top.specs.CommandLine.{requested};
 ghost use Rattle.automizer_top.specs.Refusals.{refusal};
 ghost use Rattle.automizer_top.specs.TypeRefusals.{type_refusal};
 ghost use Rattle.proof_check.specs.declared.rejects.RejectCause.TheVariants as RejectCause;
 ghost use Rattle.automizer_top.specs.ReportTexts.{answer, accepted_answer, failed_answer, rejected_answer};
-ghost use Rattle.automizer_top.specs.Report.{IsTypedText, RefusesTyped, RefusesLowering, Reports, ReportsPrint, ReportsSecond, ReportsAnnotation, ReportsProof, ReportsCheck, ReportsReplay, ReportsFailure, ReportsVerdict, ReportsVerify};
+ghost use Rattle.automizer_top.specs.Report.{IsFailureText, IsTypedText, RefusesTyped, RefusesLowering, Reports, ReportsPrint, ReportsSecond, ReportsAnnotation, ReportsProof, ReportsCheck, ReportsReplay, ReportsFailure, ReportsVerdict, ReportsVerify, ReportsCheckBy, ReportsReplayBy, ReportsVerifyBy};
 
 use crate::answer::Answer;
 use crate::generated::summed;
+use crate::parts;
 use crate::words::{Mode, Options, Task, read_words};
 use boogie_parse::{Fault, parse};
 use boogie_tree::print;
 use boogie_types::{TypeFault, Typed, resolve};
 use coarse_lines::{CoarseFault, compared};
 use icfg_lower::{LowerFault, lower};
+use itp_automaton::Certified;
 use letter_acts::Icfg;
 use outer_io::{ReadFault, Shelf, read_all};
 use proof_check::{Reject, RejectCause, check};
 use proof_form::{Annotation, ProofFault, read_safe};
+use race_core::Shared;
 use race_rounds::Limits;
-use race_verdicts::{verdict_of, verdict_text};
+use race_verdicts::{Verdict, verdict_of, verdict_text};
 use race_workers::{Gate, race};
 use std::alloc::{AllocError, Global};
 use std::sync::Wait;
 use std::thread::Threads;
-use trace_replay::{FailureFault, ReplayFault, read_failure, replay};
+use trace_replay::{Failure, FailureFault, ReplayFault, read_failure, replay};
 
 /// The most bytes of a program text.
-const PROGRAM_LIMIT: u64 = 1_048_576;
+pub(crate) const PROGRAM_LIMIT: u64 = 1_048_576;
 
 /// The most bytes of a second text: the greatest length of a list of bytes.
-const SECOND_LIMIT: u64 = 9_223_372_036_854_775_807;
+pub(crate) const SECOND_LIMIT: u64 = 9_223_372_036_854_775_807;
 
 /// The line of an annotation on which the first of its coarse lines and of its items stands.
 const FIRST_LINE: u128 = 4;
@@ -63,8 +70,16 @@ impl From<AllocError> for Halt {
     }
 }
 
+/// A verdict with its text, and the race that it is of.
+#[derive(Drop)]
+pub(crate) struct Decision {
+    pub text: Vec<u8>,
+    pub verdict: Verdict,
+    pub race: Shared<Certified>,
+}
+
 /// The text of that name; none where it has more bytes than the limit.
-fn text_within<H: Shelf>(
+pub(crate) fn text_within<H: Shelf>(
     alloc: Global,
     shelf: &mut H,
     name: &str,
@@ -121,11 +136,16 @@ fn ill_typed(fault: TypeFault) -> Result<Answer, AllocError>
 }
 
 /// The typed program of a text whose runs begin at the procedure `entry`, or what is answered where it is the text of none.
-fn typed(alloc: Global, text: &[u8], entry: &str) -> Result<Result<Typed, Answer>, AllocError>
+pub(crate) fn typed(
+    alloc: Global,
+    text: &[u8],
+    entry: &str,
+) -> Result<Result<Typed, Answer>, AllocError>
     requires { length text.now ≤ PROGRAM_LIMIT }
-    ensures { IfOk result (λ r. MatchResult r
+    ensures typed { IfOk result (λ r. MatchResult r
         (λ t. IsTypedText entry.now text.now (typed_program t))
         (λ a. RefusesTyped entry.now text.now (answered a))) }
+    ensures names { IfOk result (λ r. IfOk r (λ t. list_all (λ p. is_name p.name) (typed_program t).procs ≡ true)) }
 {
     let program = match parse(alloc, text) {
         Ok(program) => program,
@@ -153,7 +173,8 @@ pub(crate) fn graph(alloc: Global, program: &Typed) -> Result<Result<Icfg, Answe
 
 /// What is answered where the coarse line at this place of an annotation is wrong.
 fn wrong(place: usize) -> Answer
-    ensures { answered result ≡ failed_answer (place + 4) RejectCause.BadName }
+    ensures answer { answered result ≡ failed_answer (place + 4) RejectCause.BadName }
+    ensures line { IsRejected (place + 4) RejectCause.BadName result }
 {
     Answer::Rejected {
         line: place as u128 + FIRST_LINE,
@@ -163,7 +184,8 @@ fn wrong(place: usize) -> Answer
 
 /// What is answered where the triple at this place of an annotation with so many coarse lines lacks its own.
 fn missing(count: usize, proof: &Annotation, place: usize) -> Answer
-    ensures { answered result ≡ rejected_answer count (first_triple proof.now + place) RejectCause.BadName }
+    ensures answer { answered result ≡ rejected_answer count (first_triple proof.now + place) RejectCause.BadName }
+    ensures line { IsRejected (first_triple proof.now + place + (count + 4)) RejectCause.BadName result }
 {
     let item = proof.preds().len() as u128 + place as u128;
     Answer::Rejected {
@@ -174,7 +196,8 @@ fn missing(count: usize, proof: &Annotation, place: usize) -> Answer
 
 /// What is answered where a check fails at this item of an annotation with so many coarse lines.
 fn rejected(count: usize, item: u64, cause: RejectCause) -> Answer
-    ensures { answered result ≡ rejected_answer count item cause }
+    ensures answer { answered result ≡ rejected_answer count item cause }
+    ensures line { IsRejected (item + (count + 4)) cause result }
 {
     Answer::Rejected {
         line: u128::from(item) + (count as u128 + FIRST_LINE),
@@ -191,6 +214,7 @@ fn proved(
 ) -> Result<Answer, AllocError>
     requires { coarse.now ≡ coarse_letters icfg.now proof.now }
     ensures reported { IfOk result (λ a. ReportsAnnotation icfg.now coarse.now proof.now (answered a)) }
+    ensures judged { IfOk result (IsJudged icfg.now coarse.now proof.now) }
     ensures accepted { IfOk result (λ a. answered a ≡ accepted_answer → HasNoErrorWord icfg.now) }
 {
     match check(alloc, icfg, proof) {
@@ -201,13 +225,14 @@ fn proved(
 }
 
 /// What is answered to a graph and to an annotation with lines of these coarse letters.
-fn confirmed(
+pub(crate) fn confirmed(
     alloc: Global,
     icfg: &Icfg,
     coarse: &[u32],
     proof: &Annotation,
 ) -> Result<Answer, AllocError>
     ensures reported { IfOk result (λ a. ReportsAnnotation icfg.now coarse.now proof.now (answered a)) }
+    ensures judged { IfOk result (IsJudged icfg.now coarse.now proof.now) }
     ensures accepted { IfOk result (λ a. answered a ≡ accepted_answer → HasNoErrorWord icfg.now) }
 {
     match compared(alloc, icfg, coarse, proof) {
@@ -226,7 +251,9 @@ fn judged(alloc: Global, icfg: &Icfg, text: &[u8]) -> Result<Answer, AllocError>
 {
     match read_safe(alloc, text) {
         Ok((_rounds, coarse, proof)) => confirmed(alloc, icfg, &coarse, &proof),
-        Err(ProofFault::Syntax { line }) => Ok(Answer::Syntax { line }),
+        Err(ProofFault::Syntax { line }) => Ok(Answer::Syntax {
+            line: u128::from(line),
+        }),
         Err(ProofFault::Memory) => Err(AllocError),
     }
 }
@@ -292,7 +319,35 @@ fn checked<H: Shelf>(
     judged_within(alloc, shelf, &icfg, second)
 }
 
-/// The verdict on a program by a race over its graph.
+/// The verdict on a program with its text, by a race over its graph.
+pub(crate) fn raced<R: Threads + Wait + Sync, G: Gate + Sync>(
+    rt: &R,
+    alloc: Global,
+    program: &Typed,
+    icfg: &Icfg,
+    limits: Limits,
+    gate: &G,
+) -> Result<Decision, AllocError>
+    requires graph { IsGraphOf (typed_program program.now) icfg.now }
+    requires limits { AreInRange limits }
+    ensures reported { IfOk result (λ d. ReportsVerdict limits (typed_program program.now) (decided_answer d)) }
+    ensures short { IfOk result (λ d. length d.text.items ≤ SECOND_LIMIT) }
+    ensures safe { IfOk result (λ d. verdict_status d.verdict ≡ 0 → HasNoErrorWord icfg.now) }
+{
+    let race = race(rt, alloc, program, icfg, limits, gate)?;
+    let verdict = verdict_of(alloc, program, icfg, &race)?;
+    let text = verdict_text(alloc, race.version(), &verdict)?;
+    // Contracts alone speak of these.
+    let (_graph, _history, _kept) = (icfg.nwa(), race.history(), race.kept());
+    let _room = race.sized();
+    Ok(Decision {
+        text,
+        verdict,
+        race,
+    })
+}
+
+/// What is answered to a program and its graph, where the verdict is asked for.
 fn decided<R: Threads + Wait + Sync, G: Gate + Sync>(
     rt: &R,
     alloc: Global,
@@ -307,12 +362,11 @@ fn decided<R: Threads + Wait + Sync, G: Gate + Sync>(
     ensures short { IfOk result (λ a. length (answered a).bytes ≤ SECOND_LIMIT) }
     ensures safe { IfOk result (λ a. (answered a).status ≡ 0 → HasNoErrorWord icfg.now) }
 {
-    let race = race(rt, alloc, program, icfg, limits, gate)?;
-    let verdict = verdict_of(alloc, program, icfg, &race)?;
-    let text = verdict_text(alloc, race.version(), &verdict)?;
-    // Contracts alone speak of these.
-    let (_graph, _history, _kept) = (icfg.nwa(), race.history(), race.kept());
-    let _room = race.sized();
+    let Decision {
+        text,
+        verdict,
+        race,
+    } = raced(rt, alloc, program, icfg, limits, gate)?;
     Ok(Answer::Decided {
         text,
         verdict,
@@ -344,6 +398,21 @@ fn verified<R: Threads + Wait + Sync, G: Gate + Sync>(
     decided(rt, alloc, &program, &icfg, options.limits, gate)
 }
 
+/// What is answered to a program and to a failure.
+pub(crate) fn replayed_failure(
+    alloc: Global,
+    program: &Typed,
+    failure: &Failure,
+) -> Result<Answer, AllocError>
+    ensures { (text : List ℕ) → IsFailureText text (plain failure.now) → IfOk result (λ a. ReportsFailure (typed_program program.now) text (answered a)) }
+{
+    match replay(alloc, program, &failure.trail) {
+        Ok(id) => Ok(Answer::Replayed(id)),
+        Err(ReplayFault::At { step, cause }) => Ok(Answer::Stopped { step, cause }),
+        Err(ReplayFault::Memory) => Err(AllocError),
+    }
+}
+
 /// What is answered to a program and to the text of a failure.
 fn outcome(alloc: Global, program: &Typed, text: &[u8]) -> Result<Answer, AllocError>
     requires { length text.now ≤ SECOND_LIMIT }
@@ -351,14 +420,14 @@ fn outcome(alloc: Global, program: &Typed, text: &[u8]) -> Result<Answer, AllocE
 {
     let failure = match read_failure(alloc, text) {
         Ok(failure) => failure,
-        Err(FailureFault::Syntax { line }) => return Ok(Answer::Syntax { line }),
+        Err(FailureFault::Syntax { line }) => {
+            return Ok(Answer::Syntax {
+                line: u128::from(line),
+            });
+        }
         Err(FailureFault::Memory) => return Err(AllocError),
     };
-    match replay(alloc, program, &failure.trail) {
-        Ok(id) => Ok(Answer::Replayed(id)),
-        Err(ReplayFault::At { step, cause }) => Ok(Answer::Stopped { step, cause }),
-        Err(ReplayFault::Memory) => Err(AllocError),
-    }
+    replayed_failure(alloc, program, &failure)
 }
 
 /// What is answered to a program text and to the failure in the text of that name.
@@ -388,6 +457,75 @@ fn replayed<H: Shelf>(
     Ok(outcome(alloc, &program, &failure)?)
 }
 
+/// What is answered to a program text whose verdict, or with the flag that of each of its parts, is asked for.
+fn verified_by<R: Threads + Wait + Sync, G: Gate + Sync>(
+    rt: &R,
+    alloc: Global,
+    text: &[u8],
+    options: &Options<'_>,
+    gate: &G,
+) -> Result<Answer, AllocError>
+    requires text { length text.now ≤ PROGRAM_LIMIT }
+    requires limits { AreInRange options.now.limits }
+    ensures reported { IfOk result (λ a. ReportsVerifyBy options.now.modular options.now.entry.now options.now.limits text.now (answered a)) }
+    ensures safe { IfOk result (λ a. (answered a).status ≡ 0 → TextIsSafe options.now.entry.now text.now) }
+{
+    if options.modular {
+        parts::verified(rt, alloc, text, options, gate)
+    } else {
+        verified(rt, alloc, text, options, gate)
+    }
+}
+
+/// What is answered to a program text and to the annotation, or with the flag to the annotations of its parts, in the text of that name.
+fn checked_by<H: Shelf>(
+    alloc: Global,
+    shelf: &mut H,
+    text: &[u8],
+    second: &str,
+    options: &Options<'_>,
+) -> Result<Answer, Halt>
+    requires { length text.now ≤ PROGRAM_LIMIT }
+    ensures texts { H.texts shelf.new ≡ H.texts shelf.old }
+    ensures reported { IfOk result (λ a. IfSome (H.texts shelf.old) (λ shown.
+        ReportsCheckBy options.now.modular options.now.entry.now text.now (text_named second.now shown) (answered a))) }
+    ensures accepted { IfOk result (λ a. answered a ≡ accepted_answer → TextIsSafe options.now.entry.now text.now) }
+    ensures no_usage { IfOk result (λ a. (answered a).status ≢ 4) }
+    ensures fault { result ≡ Err Halt.Fault → Rose (H.faults shelf.old) (H.faults shelf.new) }
+    ensures no_fault { result ≢ Err Halt.Fault → H.faults shelf.new ≡ H.faults shelf.old }
+    ensures never_falls { H.faults shelf.old ≤ H.faults shelf.new }
+{
+    if options.modular {
+        parts::checked(alloc, shelf, text, second, options.entry)
+    } else {
+        checked(alloc, shelf, text, second, options.entry)
+    }
+}
+
+/// What is answered to a program text and to the failure, or with the flag to that of one of its parts, in the text of that name.
+fn replayed_by<H: Shelf>(
+    alloc: Global,
+    shelf: &mut H,
+    text: &[u8],
+    second: &str,
+    options: &Options<'_>,
+) -> Result<Answer, Halt>
+    requires { length text.now ≤ PROGRAM_LIMIT }
+    ensures texts { H.texts shelf.new ≡ H.texts shelf.old }
+    ensures reported { IfOk result (λ a. IfSome (H.texts shelf.old) (λ shown.
+        ReportsReplayBy options.now.modular options.now.entry.now text.now (text_named second.now shown) (answered a))) }
+    ensures no_usage { IfOk result (λ a. (answered a).status ≢ 4) }
+    ensures fault { result ≡ Err Halt.Fault → Rose (H.faults shelf.old) (H.faults shelf.new) }
+    ensures no_fault { result ≢ Err Halt.Fault → H.faults shelf.new ≡ H.faults shelf.old }
+    ensures never_falls { H.faults shelf.old ≤ H.faults shelf.new }
+{
+    if options.modular {
+        parts::replayed(alloc, shelf, text, second, options.entry)
+    } else {
+        replayed(alloc, shelf, text, second, options.entry)
+    }
+}
+
 /// What is answered where something with texts of the shelf is asked for.
 fn reported_on_texts<R: Threads + Wait + Sync, H: Shelf, G: Gate + Sync>(
     rt: &R,
@@ -415,11 +553,9 @@ fn reported_on_texts<R: Threads + Wait + Sync, H: Shelf, G: Gate + Sync>(
     };
     match *mode {
         Mode::Print { program: _ } => Ok(printed(alloc, &text)?),
-        Mode::Verify { program: _ } => Ok(verified(rt, alloc, &text, options, gate)?),
-        Mode::Check { program: _, second } => checked(alloc, shelf, &text, second, options.entry),
-        Mode::Replay { program: _, second } => {
-            replayed(alloc, shelf, &text, second, options.entry)
-        }
+        Mode::Verify { program: _ } => Ok(verified_by(rt, alloc, &text, options, gate)?),
+        Mode::Check { program: _, second } => checked_by(alloc, shelf, &text, second, options),
+        Mode::Replay { program: _, second } => replayed_by(alloc, shelf, &text, second, options),
     }
 }
 

@@ -1,6 +1,6 @@
-ghost use Rattle.std.specs.Prelude.{◌≡◌, ◌≢◌, ◌<◌, ◌≤◌, ◌++◌, ℕ, List, ◌⊎◌, Option, Some, None, length, map, codes, IsTrue, IfSome, OnOk, OnErr};
-ghost use Rattle.std.specs.Option.{option_to_list};
+ghost use Rattle.std.specs.Prelude.{false, true, ◌≡◌, ◌≢◌, ◌<◌, ◌≤◌, ◌++◌, ℕ, List, ◌⊎◌, Option, Some, None, length, map, codes, IsTrue, IfSome, OnOk, OnErr};
 ghost use Rattle.std.specs.String.{string_bytes};
+ghost use Rattle.std.specs.List.{AllByRecursion};
 ghost use Rattle.outer_io.specs.Faults.{Rose};
 ghost use Rattle.boogie_run.specs.declared.types.AssertId.{AssertId};
 ghost use Rattle.boogie_types.specs.Resolved.{resolved_program};
@@ -19,6 +19,10 @@ ghost use Rattle.typing_rules.specs.ValidProgram.{is_valid};
 ghost use Rattle.boogie_run.specs.Runs.{IsSafe};
 ghost use Rattle.race_rounds.specs.declared.limits.Limits.{Limits};
 ghost use Rattle.race_completeness.specs.Words.{HasWordsAmong};
+ghost use Rattle.modular_cut.specs.Parts.{parts_of};
+ghost use Rattle.modular_cut.specs.View.{IsValidPart};
+ghost use Rattle.automizer_top.specs.Parts.{ReportsParts};
+ghost use Rattle.automizer_top.specs.PartClaims.{AreVerdictsOn, PrintsPartFailure, PartFails};
 ghost use Rattle.automizer_top.specs.Completeness.{HasDifferenceRows, SaysUnknown};
 ghost use Rattle.automizer_top.specs.CommandLine as line;
 ghost use Rattle.automizer_top.specs.CommandLine.{Settings, requested};
@@ -45,23 +49,21 @@ const DEVICE: u8 = 5;
 /// The status where memory ran out.
 const NO_MEMORY: u8 = 6;
 
-/// Adds a race to those that are closed.
+/// Adds races to those that are closed: all of them, or none where memory runs out.
 fn close(
     closed: &mut Vec<Shared<Certified>>,
-    race: Option<Shared<Certified>>,
+    races: Vec<Shared<Certified>>,
 ) -> Result<(), AllocError>
-    ensures gained { OnOk result (closed.new.items ≡ closed.old.items ++ option_to_list race) }
+    ensures gained { OnOk result (closed.new.items ≡ closed.old.items ++ races.items) }
     ensures kept { OnErr result (closed.new.items ≡ closed.old.items) }
 {
-    if let Some(race) = race {
-        closed.push(race)?;
-    }
-    Ok(())
+    let mut races = races;
+    closed.append(&mut races)
 }
 
 /// Does all that the program does, and answers its status. The words are those after the program's name; texts are read
-/// from the shelf by their names, and the output goes to the sink. The race of a verdict is added to `closed`. The gate is called
-/// at each moment of each worker of the race, and decides nothing.
+/// from the shelf by their names, and the output goes to the sink. The race of a verdict is added to `closed`, and with `--modular` that of each part
+/// that was verified, in order. The gate is called at each moment of each worker of a race, and decides nothing.
 pub fn run<R: Threads + Wait + Sync, H: Shelf, K: Sink, G: Gate + Sync>(
     rt: &R,
     alloc: Global,
@@ -72,7 +74,7 @@ pub fn run<R: Threads + Wait + Sync, H: Shelf, K: Sink, G: Gate + Sync>(
     closed: &mut Vec<Shared<Certified>>,
 ) -> u8
     // Where no call on the outside failed and memory did not run out, the status is that of the report, and so are the bytes; and `closed` gains the
-    // race of a verdict, and nothing else.
+    // races of verdicts, in order, and nothing else.
     ensures report { (Rose (H.faults shelf.old) (H.faults shelf.new) → ⊥) → (Rose (K.faults sink.old) (K.faults sink.new) → ⊥) → result ≢ 6 →
         IfSome (H.texts shelf.old) (λ shown. Closes (map string_bytes words.now) shown (K.taken sink.old) (K.taken sink.new) result closed.old.items closed.new.items) }
 
@@ -80,11 +82,11 @@ pub fn run<R: Threads + Wait + Sync, H: Shelf, K: Sink, G: Gate + Sync>(
     ensures usage { (result ≡ 4 → requested (map string_bytes words.now) ≡ None)
         × (requested (map string_bytes words.now) ≡ None → result ≢ 5 → result ≢ 6 → result ≡ 4) }
 
-    // Status 0 says that a program was printed, that no run of a checked, verified or generated one fails an assertion, or that one was replayed that does.
-    // `accepted` says the second.
+    // Status 0 says that a program was printed, that no run of a checked, verified or generated one fails an assertion, also where that was shown part by
+    // part, or that one was replayed that does; or with `--modular` that one of a part was. `accepted` says the second.
     ensures accepted_is_safe { result ≡ 0 → IfSome (H.texts shelf.old) (λ shown.
         PrintsProgram (map string_bytes words.now) shown ⊎ (ProgramIsSafe (map string_bytes words.now) shown ⊎ (ProgramFails (map string_bytes words.now) shown
-        ⊎ GeneratedIsSafe (map string_bytes words.now)))) }
+        ⊎ (GeneratedIsSafe (map string_bytes words.now) ⊎ PartFails (map string_bytes words.now) shown)))) }
     ensures accepted_text_is_safe { WhereTold (H.texts shelf.old) (K.taken sink.old) (λ shown before.
         K.taken sink.new ≡ Some (before ++ codes "accepted\n") → ProgramIsSafe (map string_bytes words.now) shown) }
 
@@ -95,7 +97,7 @@ pub fn run<R: Threads + Wait + Sync, H: Shelf, K: Sink, G: Gate + Sync>(
     ensures front { result ≡ 5 → WhereTold (H.texts shelf.old) (K.taken sink.old)
         (λ shown before. TookFront (map string_bytes words.now) shown before (K.taken sink.new)) }
 
-    // Where the sink failed, `closed` has gained the race of the verdict that was written, and nothing where the shelf failed.
+    // Where the sink failed, `closed` has gained the races of the verdicts that were written, and nothing where the shelf failed.
     ensures closed_at_fault { result ≡ 5 → ((closed.new.items ≡ closed.old.items) × Rose (H.faults shelf.old) (H.faults shelf.new)) ⊎
         IfSome (H.texts shelf.old) (λ shown. ClosesAtFront (map string_bytes words.now) shown (K.taken sink.old) (K.taken sink.new) closed.old.items closed.new.items) }
 
@@ -110,10 +112,10 @@ pub fn run<R: Threads + Wait + Sync, H: Shelf, K: Sink, G: Gate + Sync>(
         Err(Halt::Memory) => return NO_MEMORY,
     };
     let status = answer.status();
-    let Ok((text, race)) = answer.output(alloc) else {
+    let Ok((text, races)) = answer.output(alloc) else {
         return NO_MEMORY;
     };
-    if close(closed, race).is_err() {
+    if close(closed, races).is_err() {
         return NO_MEMORY;
     }
     match write_all(sink, &text) {
@@ -129,15 +131,16 @@ pub fn reports_are_answers()
 {}
 
 /// The report allows one answer at most, so each output comes exactly where its case holds; but of several typing rules that a
-/// program breaks any may be named, and of several verdicts on one program, or on the generated one, any may be told.
+/// program breaks any may be named, and of several verdicts on one program, on its parts, or on the generated one, any may be told.
 pub fn one_report()
     ensures { (words : List (List ℕ)) (texts : List (List ℕ × List ℕ)) (a b : Answer) → Reports words texts a → Reports words texts b →
         (a ≡ b) ⊎ ((IsTypingRefusal a × IsTypingRefusal b) ⊎ (((t : TypedProgram) × IsVerdictOn words texts t a × IsVerdictOn words texts t b)
-        ⊎ ((s : Settings) × (count : ℕ) × Ask words s (line.Big count) × ReportsBig s.limits count a × ReportsBig s.limits count b))) }
+        ⊎ (((s : Settings) × (count : ℕ) × Ask words s (line.Big count) × ReportsBig s.limits count a × ReportsBig s.limits count b)
+        ⊎ ((t : TypedProgram) × AreVerdictsOn words texts t a × AreVerdictsOn words texts t b)))) }
 {}
 
-/// What `verify` writes is confirmed where its bytes are handed over with the same program and the same entry: `check` accepts each `safe`,
-/// and `replay` replays each `unsafe`, whatever the other options.
+/// What `verify` writes is confirmed where its bytes are handed over with the same program and the same entry, and with `--modular` in both words or in
+/// none: `check` accepts each `safe`, and `replay` replays each `unsafe`, whatever the other options.
 pub fn verdicts_are_confirmed()
     ensures accepted { (words again : List (List ℕ)) (r s : Settings) (program second : List ℕ) (before after : List (List ℕ × List ℕ)) (a b : Answer) →
         Ask words r (line.Verify program) → Ask again s (line.Check program second) → Reports words before a → a.status ≡ 0 →
@@ -152,9 +155,23 @@ pub fn verdicts_are_confirmed()
 /// values that replay it.
 pub fn verdicts_are_true()
     ensures told { (words : List (List ℕ)) (texts : List (List ℕ × List ℕ)) (s : Settings) (program : List ℕ) (a : Answer) →
-        Ask words s (line.Verify program) → Reports words texts a → a.status < 3 → (t : TypedProgram) × IsVerdictOn words texts t a }
+        Ask words s (line.Verify program) → s.modular ≡ false → Reports words texts a → a.status < 3 → (t : TypedProgram) × IsVerdictOn words texts t a }
     ensures safe { (l : Limits) (t : TypedProgram) (a : Answer) → IsTrue (is_valid t) → ReportsVerdict l t a → a.status ≡ 0 → IsSafe t }
     ensures fails { (l : Limits) (t : TypedProgram) (a : Answer) → ReportsVerdict l t a → a.status ≡ 1 → PrintsFailure t a }
+{
+    certified_words_are_infeasible();
+    lowering_is_faithful();
+    what_replays_fails();
+}
+
+/// The same part by part: with `--modular` the statuses 0, 1 and 2 of `verify` are those of verdicts on the parts of the typed program of the text.
+/// Status 0 is answered only where the whole program is safe, and status 1 only where a run of a part fails, with values that replay it there.
+pub fn part_verdicts_are_true()
+    ensures told { (words : List (List ℕ)) (texts : List (List ℕ × List ℕ)) (s : Settings) (program : List ℕ) (a : Answer) →
+        Ask words s (line.Verify program) → s.modular ≡ true → Reports words texts a → a.status < 3 → (t : TypedProgram) × AreVerdictsOn words texts t a }
+    ensures safe { (l : Limits) (t : TypedProgram) (a : Answer) → IsTrue (is_valid t) → AllByRecursion IsValidPart (parts_of t) → ReportsParts l (parts_of t) a →
+        a.status ≡ 0 → IsSafe t }
+    ensures fails { (l : Limits) (t : TypedProgram) (a : Answer) → ReportsParts l (parts_of t) a → a.status ≡ 1 → PrintsPartFailure t a }
 {
     certified_words_are_infeasible();
     lowering_is_faithful();

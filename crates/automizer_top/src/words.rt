@@ -9,7 +9,7 @@ ghost use Rattle.automizer_top.specs.Asked.{asked, task, settings, program_name,
 ghost use Rattle.automizer_top.specs.CommandLine as line;
 
 use clap::error::ErrorKind;
-use clap::{Arg, ArgMatches, Command, Error};
+use clap::{Arg, ArgAction, ArgMatches, Command, Error};
 use race_rounds::Limits;
 use std::alloc::{AllocError, Global};
 
@@ -56,6 +56,8 @@ pub(crate) struct Options<'a> {
     pub entry: &'a str,
     /// The limits of a race.
     pub limits: Limits,
+    /// Whether each procedure is verified by itself.
+    pub modular: bool,
 }
 
 /// What the words ask for.
@@ -81,6 +83,14 @@ fn option<'a>(alloc: Global, id: &'a str, default: &'a str) -> Arg<'a>
     Arg::new(alloc, id).long(id).default_value(default)
 }
 
+/// A flag.
+fn flag<'a>(alloc: Global, id: &'a str) -> Arg<'a>
+    ensures rule { rule_of result ≡ line.flag id.entry.now }
+    ensures local { result.global ≡ false }
+{
+    Arg::new(alloc, id).long(id).action(ArgAction::SetTrue)
+}
+
 /// The command without its arguments.
 fn bare_command<'a>(alloc: Global) -> Command<'a>
     ensures { app_of result ≡ line.bare_command }
@@ -102,7 +112,8 @@ fn command<'a>(alloc: Global) -> Result<Command<'a>, AllocError>
         .arg(option(alloc, "entry", "main"))?
         .arg(option(alloc, "rounds", "1000"))?
         .arg(option(alloc, "workers", "4"))?
-        .arg(option(alloc, "depth", "16"))
+        .arg(option(alloc, "depth", "16"))?
+        .arg(flag(alloc, "modular"))
 }
 
 /// The values that the words give to the arguments, or why the command refuses them.
@@ -208,6 +219,14 @@ fn task_of<'a>(matches: &ArgMatches<'a>) -> Option<Task<'a>>
     }
 }
 
+/// Whether the flag of that name is set.
+fn is_set(matches: &ArgMatches<'_>, id: &str) -> Option<bool>
+    ensures { line.is_given id.now (rows_of (found_of matches.now)) ≡ result }
+{
+    let text = value(matches, id)?;
+    Some(text == "true")
+}
+
 /// The values of the options, each number in its range.
 fn options_of<'a>(matches: &ArgMatches<'a>) -> Option<Options<'a>>
     ensures value { line.settings_of (rows_of (found_of matches.now)) ≡ option_map settings result }
@@ -217,12 +236,17 @@ fn options_of<'a>(matches: &ArgMatches<'a>) -> Option<Options<'a>>
     let rounds = number(value(matches, "rounds")?, 1, 100_000)?;
     let workers = number(value(matches, "workers")?, 1, 64)?;
     let depth = number(value(matches, "depth")?, 0, 64)?;
+    let modular = is_set(matches, "modular")?;
     let limits = Limits {
         rounds: u64::from(rounds),
         workers,
         depth,
     };
-    Some(Options { entry, limits })
+    Some(Options {
+        entry,
+        limits,
+        modular,
+    })
 }
 
 /// What the values of the arguments ask for.

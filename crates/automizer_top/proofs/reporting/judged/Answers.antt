@@ -1,6 +1,7 @@
-use Rattle.std.proofs.Common.{ℕ, List, rules, refl, subst}
+use Rattle.std.proofs.Common.{◌≡◌, ℕ, List, rules, ap, subst, arith}
 use Rattle.std.proofs.lemmas.Result.{IfOk-weaker}
 use Rattle.automizer_top.specs.Answers.{answered}
+use Rattle.automizer_top.specs.ReportTexts.{syntax_answer}
 use Rattle.automizer_top.specs.Report.{IsSafeText, ReportsAnnotation, no_annotation, of_annotation}
 use Rattle.automizer_top.proofs.reporting.judged.Goals as goal
 
@@ -14,4 +15,5 @@ returns-in-Ok-clause-reported c =
 
 pub returns-in-Err-Syntax-clause-reported : goal.returns-in-Err-Syntax-clause-reported
 returns-in-Err-Syntax-clause-reported c =
-    no_annotation c.in-Err-Syntax.line (rw c.in-Err-Syntax.field-0-is at c.in-Err-Syntax.ensures.syntax) (rw c.in-Err-Syntax.line-is refl)
+    let same : c.from.result ≡ c.in-Err-Syntax.line = omega arith in
+    no_annotation c.in-Err-Syntax.line (rw c.in-Err-Syntax.field-0-is at c.in-Err-Syntax.ensures.syntax) (ap syntax_answer same)

@@ -1,9 +1,9 @@
-use Rattle.std.proofs.Common.{◌≡◌, map, Ok, ap, sym, subst, arith}
+use Rattle.std.proofs.Common.{◌≡◌, Ok, ap, sym, subst, arith}
 use Rattle.automizer_top.specs.declared.words.Mode.{Mode}
 use Rattle.automizer_top.specs.Answers.{answered}
 use Rattle.automizer_top.specs.ReportTexts.{Answer}
 use Rattle.automizer_top.proofs.ReportLaws.{program_reported, check_answered, check_is_safe, replay_answered, print_reported, IsNoVerify, unverified, IsNoCheck, unchecked, verify_reported, verify_is_safe}
-use Rattle.automizer_top.proofs.UsageLaws.{print_not_four, verify_not_four}
+use Rattle.automizer_top.proofs.UsageLaws.{print_not_four, verify_by_not_four}
 use Rattle.automizer_top.proofs.reporting.reported_on_texts.Goals as goal
 
 pub returns-in_default-clause-reported : goal.returns-in_default-clause-reported
@@ -23,42 +23,42 @@ returns-in-Print-clause-no_usage g c = print_not_four c.deref.result.now (answer
 
 pub returns-in-Check-clause-reported : goal.returns-in-Check-clause-reported
 returns-in-Check-clause-reported g c = λ words ask.
-    check_answered words c.args.mode.now c.args.options.now c.in-Check.program c.in-Check.second c.program.result.now c.in-Some.text.items c.checked.result
+    check_answered words c.args.mode.now c.args.options.now c.in-Check.program c.in-Check.second c.program.result.now c.in-Some.text.items c.checked_by.result
     (g.H.Shelf.texts c.args.shelf.now) ask c.in-Check.is c.program.ensures
     (rw c.in-Some.is at c.in_ok-text.ensures.found)
-    (rw (← c.in_ok-text.ensures.texts, ← c.deref-in-Check.ensures.value) c.checked.ensures.reported)
+    (rw (← c.in_ok-text.ensures.texts, ← c.deref-in-Check.ensures.value) c.checked_by.ensures.reported)
 
 pub returns-in-Check-clause-accepted : goal.returns-in-Check-clause-accepted
 returns-in-Check-clause-accepted g c = λ words ask.
-    check_is_safe words c.args.mode.now c.args.options.now c.program.result.now c.in-Some.text.items c.checked.result
+    check_is_safe words c.args.mode.now c.args.options.now c.program.result.now c.in-Some.text.items c.checked_by.result
     (g.H.Shelf.texts c.args.shelf.now) ask c.program.ensures
     (rw c.in-Some.is at c.in_ok-text.ensures.found)
-    (rw (← c.deref-in-Check.ensures.value) c.checked.ensures.accepted)
+    (rw (← c.deref-in-Check.ensures.value) c.checked_by.ensures.accepted)
 
 pub returns-clause-reported : goal.returns-clause-reported
 returns-clause-reported g c = λ words ask.
-    replay_answered words c.args.mode.now c.args.options.now c.in-Replay.program c.in-Replay.second c.program.result.now c.in-Some.text.items c.replayed.result
+    replay_answered words c.args.mode.now c.args.options.now c.in-Replay.program c.in-Replay.second c.program.result.now c.in-Some.text.items c.replayed_by.result
     (g.H.Shelf.texts c.args.shelf.now) ask c.in-Replay.is c.program.ensures
     (rw c.in-Some.is at c.in_ok-text.ensures.found)
-    (rw (← c.in_ok-text.ensures.texts, ← c.deref-in-Replay.ensures.value) c.replayed.ensures.reported)
+    (rw (← c.in_ok-text.ensures.texts, ← c.deref-in-Replay.ensures.value) c.replayed_by.ensures.reported)
 
 pub returns-in-Verify-clause-reported : goal.returns-in-Verify-clause-reported
 returns-in-Verify-clause-reported g c = λ words ask.
-    verify_reported words c.args.mode.now c.args.options.now c.in-Verify.program c.program.result.now c.in-Some.text.items (answered c.in_ok-verified-in-Verify.field-0)
+    verify_reported words c.args.mode.now c.args.options.now c.in-Verify.program c.program.result.now c.in-Some.text.items (answered c.in_ok-verified_by-in-Verify.field-0)
     (g.H.Shelf.texts c.args.shelf.now) ask c.in-Verify.is c.program.ensures
     (rw c.in-Some.is at c.in_ok-text.ensures.found)
-    (rw (← c.deref-in-Verify.ensures.value) c.in_ok-verified-in-Verify.ensures.reported)
+    (rw (← c.deref-in-Verify.ensures.value) c.in_ok-verified_by-in-Verify.ensures.reported)
 
 pub returns-in-Verify-clause-no_usage : goal.returns-in-Verify-clause-no_usage
 returns-in-Verify-clause-no_usage g c =
-    verify_not_four c.args.options.now.entry.now c.args.options.now.limits c.deref-in-Verify.result.now (answered c.in_ok-verified-in-Verify.field-0) c.in_ok-verified-in-Verify.ensures.reported
+    verify_by_not_four c.args.options.now.modular c.args.options.now.entry.now c.args.options.now.limits c.deref-in-Verify.result.now (answered c.in_ok-verified_by-in-Verify.field-0) c.in_ok-verified_by-in-Verify.ensures.reported
 
 pub returns-in-Verify-clause-verified : goal.returns-in-Verify-clause-verified
 returns-in-Verify-clause-verified g c = λ words ask.
-    verify_is_safe words c.args.mode.now c.args.options.now c.program.result.now c.in-Some.text.items (answered c.in_ok-verified-in-Verify.field-0)
+    verify_is_safe words c.args.mode.now c.args.options.now c.program.result.now c.in-Some.text.items (answered c.in_ok-verified_by-in-Verify.field-0)
     (g.H.Shelf.texts c.args.shelf.now) ask c.program.ensures
     (rw c.in-Some.is at c.in_ok-text.ensures.found)
-    (rw (← c.deref-in-Verify.ensures.value) c.in_ok-verified-in-Verify.ensures.safe)
+    (rw (← c.deref-in-Verify.ensures.value) c.in_ok-verified_by-in-Verify.ensures.safe)
 
 pub returns-in-Print-clause-verified : goal.returns-in-Print-clause-verified
 returns-in-Print-clause-verified g c = λ words ask.
@@ -67,12 +67,12 @@ returns-in-Print-clause-verified g c = λ words ask.
 
 pub returns-in-Check-clause-verified : goal.returns-in-Check-clause-verified
 returns-in-Check-clause-verified g c = λ words ask.
-    unverified words c.args.mode.now c.args.options.now c.checked.result (g.H.Shelf.texts c.args.shelf.now) ask
+    unverified words c.args.mode.now c.args.options.now c.checked_by.result (g.H.Shelf.texts c.args.shelf.now) ask
     (subst (λ (m : Mode). IsNoVerify m) (sym c.in-Check.is) tt)
 
 pub returns-clause-verified : goal.returns-clause-verified
 returns-clause-verified g c = λ words ask.
-    unverified words c.args.mode.now c.args.options.now c.replayed.result (g.H.Shelf.texts c.args.shelf.now) ask
+    unverified words c.args.mode.now c.args.options.now c.replayed_by.result (g.H.Shelf.texts c.args.shelf.now) ask
     (subst (λ (m : Mode). IsNoVerify m) (sym c.in-Replay.is) tt)
 
 -- what is no check is not accepted
@@ -84,12 +84,12 @@ returns-in-Print-clause-accepted g c = λ words ask.
 
 pub returns-in-Verify-clause-accepted : goal.returns-in-Verify-clause-accepted
 returns-in-Verify-clause-accepted g c = λ words ask.
-    unchecked words c.args.mode.now c.args.options.now (Ok c.in_ok-verified-in-Verify.field-0) (g.H.Shelf.texts c.args.shelf.now) ask
+    unchecked words c.args.mode.now c.args.options.now (Ok c.in_ok-verified_by-in-Verify.field-0) (g.H.Shelf.texts c.args.shelf.now) ask
     (subst (λ (m : Mode). IsNoCheck m) (sym c.in-Verify.is) tt)
 
 pub returns-clause-accepted : goal.returns-clause-accepted
 returns-clause-accepted g c = λ words ask.
-    unchecked words c.args.mode.now c.args.options.now c.replayed.result (g.H.Shelf.texts c.args.shelf.now) ask
+    unchecked words c.args.mode.now c.args.options.now c.replayed_by.result (g.H.Shelf.texts c.args.shelf.now) ask
     (subst (λ (m : Mode). IsNoCheck m) (sym c.in-Replay.is) tt)
 
 pub returns-in_default-clause-accepted : goal.returns-in_default-clause-accepted

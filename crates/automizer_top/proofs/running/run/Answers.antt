@@ -69,7 +69,7 @@ returns-in-Ok-write_all-clause-report g c = λ s k z.
     closes_given (map string_bytes c.args.words.now) (answered c.in-Ok.answer) (g.H.Shelf.texts c.args.shelf.now) (g.K.Sink.taken c.args.sink.now) (g.K.Sink.taken c.write_all.new.sink)
     c.status-status.result c.args.closed.now.items c.close.new.closed.items c.in-Ok.ensures.reported c.status-status.ensures
     (subst (λ (bs : List ℕ). IfSome (g.K.Sink.taken c.args.sink.now) (λ before. g.K.Sink.taken c.write_all.new.sink ≡ Some (before ++ bs))) bytes c.in-Ok-write_all.ensures.whole)
-    (where_ok _ c.close.result c.if-is_err.ensures.value c.close.ensures.gained ∙ ap (λ (rs : List (Race Certificate)). c.args.closed.now.items ++ rs) c.in-Ok-output.ensures.race)
+    (where_ok _ c.close.result c.if-is_err.ensures.value c.close.ensures.gained ∙ ap (λ (rs : List (Race Certificate)). c.args.closed.now.items ++ rs) c.in-Ok-output.ensures.races)
 
 pub returns-clause-front : goal.returns-clause-front
 returns-clause-front g c = λ z.
@@ -84,7 +84,7 @@ returns-clause-closed_at_fault g c = λ z.
     inr (closes_at_front (map string_bytes c.args.words.now) (answered c.in-Ok.answer) (g.H.Shelf.texts c.args.shelf.now) (g.K.Sink.taken c.args.sink.now) (g.K.Sink.taken c.write_all.new.sink)
     c.args.closed.now.items c.close.new.closed.items c.in-Ok.ensures.reported
     (subst (λ (bs : List ℕ). IfSome (g.K.Sink.taken c.args.sink.now) (λ before. GainsFront bs before (g.K.Sink.taken c.write_all.new.sink))) bytes c.in-Err.ensures.front)
-    (where_ok _ c.close.result c.if-is_err.ensures.value c.close.ensures.gained ∙ ap (λ (rs : List (Race Certificate)). c.args.closed.now.items ++ rs) c.in-Ok-output.ensures.race))
+    (where_ok _ c.close.result c.if-is_err.ensures.value c.close.ensures.gained ∙ ap (λ (rs : List (Race Certificate)). c.args.closed.now.items ++ rs) c.in-Ok-output.ensures.races))
 
 pub returns-then-is_err-clause-accepted_text_is_safe :
     goal.returns-then-is_err-clause-accepted_text_is_safe

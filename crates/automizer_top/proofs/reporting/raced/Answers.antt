@@ -1,6 +1,6 @@
 use Rattle.typing_rules.specs.TypedParts.{typed_program}
 use Rattle.automizer_top.proofs.VerdictLaws.{fits, reports, safe_is_infeasible}
-use Rattle.automizer_top.proofs.reporting.decided.Goals as goal
+use Rattle.automizer_top.proofs.reporting.raced.Goals as goal
 
 pub verdict_of-requires-clause-race : goal.verdict_of-requires-clause-race
 verdict_of-requires-clause-race g c = (c.args.limits, c.in_ok-race.ensures.race)
