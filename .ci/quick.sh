@@ -42,6 +42,14 @@ if [ -x "$program" ]; then
       [ -z "$mode" ] || "$program" "$mode" "$path" "$text" >"$text.answer" || wrong "what is said of $path is not confirmed"
     done
   done
+  # Those by parts say how their first line reads: `modular K`, or the part that is not safe.
+  for path in examples/modular/*.bpl; do
+    first=$(sed -nE 's|^// .*By verify --modular: ([a-z]+ [a-z0-9]+), .*|\1|p' "$path")
+    case "$first" in modular*) mode=check ;; *) mode=replay ;; esac
+    timeout 60 "$program" verify "$path" --modular >"$text"
+    [ "$(sed -n 1p "$text")" = "$first" ] || wrong "$path is not verified as $first"
+    "$program" "$mode" "$path" "$text" --modular >"$text.answer" || wrong "what is said of the parts of $path is not confirmed"
+  done
   rm -f "$text" "$text.answer"
 fi
 # The script runs it too, where no source is newer, through a link from another folder, and names of files are those of that folder.
