@@ -1,12 +1,17 @@
 //! What a worker does in a round.
 
 use crate::limits::Round;
+use nwa_base::Nwa;
 
-/// How many letters a walker tries before the first round, in some milliseconds.
-const FIRST_MOVES: u64 = 40_000;
+/// Before the first round a walker tries so many letters for each pair of edges of the program: walks over a small program are short,
+/// so few letters are many walks.
+const MOVES_OF_AN_EDGE_PAIR: u64 = 40;
+
+/// But it does not try more of them, in some milliseconds.
+const MOST_FIRST_MOVES: u64 = 40_000;
 
 /// Before a later round it tries so many for each pair of entries, so that short races lose nothing.
-const MOVES_OF_A_PAIR: u64 = 100;
+const MOVES_OF_AN_ENTRY_PAIR: u64 = 100;
 
 /// But it does not try more of them.
 const MOST_MOVES: u64 = 50_000;
@@ -25,44 +30,38 @@ pub(crate) enum Choice {
     Exits,
 }
 
-/// What a worker does in a round.
-#[derive(Clone, Copy)]
-pub(crate) struct Plan {
-    /// How many letters its walker tries, before a kept word is sought.
-    pub(crate) moves: u64,
-    /// The choice for a word that goes through no recursion and back.
-    pub(crate) choice: Choice,
+/// How many edges an automaton has.
+fn edges_of(nwa: &Nwa) -> u64 {
+    let forward = nwa.insides().len().saturating_add(nwa.calls().len());
+    forward.saturating_add(nwa.backs().len()) as u64
 }
 
-/// How many letters a worker's walker tries before a round. One worker of a race walks.
-fn moves_of(round: Round) -> u64 {
+/// So many letters for each pair of so many, up to a limit.
+fn for_pairs(count: u64, moves: u64, most: u64) -> u64 {
+    let pairs = count.saturating_mul(count);
+    pairs.saturating_mul(moves).min(most)
+}
+
+/// How many letters a worker's walker tries over a program before a round. One worker of a race walks.
+pub(crate) fn moves_of(program: &Nwa, round: Round) -> u64 {
     let Round { version, worker } = round;
     if worker > 0 {
-        return 0;
+        0
+    } else if version == 0 {
+        for_pairs(edges_of(program), MOVES_OF_AN_EDGE_PAIR, MOST_FIRST_MOVES)
+    } else {
+        for_pairs(version, MOVES_OF_AN_ENTRY_PAIR, MOST_MOVES)
     }
-    if version == 0 {
-        return FIRST_MOVES;
-    }
-    let pairs = version.saturating_mul(version);
-    pairs.saturating_mul(MOVES_OF_A_PAIR).min(MOST_MOVES)
 }
 
-/// The choice of a round. Each choice solves programs that the others do not, so they take turns;
-/// but in the first rounds, which are enough for most programs, worker 0 keeps to late rows, which cost least.
-fn choice_of(round: Round) -> Choice {
+/// The choice of a round for a word that goes through no recursion and back. Each choice solves programs that the others do not, so
+/// they take turns; but in the first rounds, which are enough for most programs, worker 0 keeps to late rows, which cost least.
+pub(crate) fn choice_of(round: Round) -> Choice {
     let Round { version, worker } = round;
     let turn = if version < FIRST_ROUNDS { 0 } else { version };
     match turn.saturating_add(u64::from(worker)) % 3 {
         0 => Choice::Late,
         1 => Choice::Entries,
         _ => Choice::Exits,
-    }
-}
-
-/// The plan of a round.
-pub(crate) fn plan_of(round: Round) -> Plan {
-    Plan {
-        moves: moves_of(round),
-        choice: choice_of(round),
     }
 }

@@ -6,7 +6,7 @@ ghost use Rattle.nwa_emptiness.specs.Found.{IsFound};
 
 use crate::deviating::deviating;
 use crate::limits::Round;
-use crate::plans::{Plan, plan_of};
+use crate::plans::moves_of;
 use concrete_walks::Walker;
 use letter_acts::Icfg;
 use nwa_base::{Nwa, Word, accepts};
@@ -74,7 +74,7 @@ pub fn kept_word(
 ) -> Result<Found, AllocError>
     ensures { IfOk result (IsFound kept.now) }
 {
-    let Plan { moves, .. } = plan_of(round);
+    let moves = moves_of(icfg.nwa(), round);
     let walked = seeker.walked(alloc, icfg, moves)?;
     if let Some(word) = if_kept(alloc, kept, walked)? {
         return Ok(Found::Word(word));

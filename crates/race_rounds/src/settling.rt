@@ -17,7 +17,7 @@ ghost use Rattle.race_rounds.specs.Rounds.{SettlesWord, SettlesKept, settled_by_
 use crate::exact::exact_word;
 use crate::failing::failing;
 use crate::limits::{Limits, Round};
-use crate::plans::{Plan, plan_of};
+use crate::plans::choice_of;
 use crate::products::is_by_products;
 use crate::refining::{Refined, refine};
 use farkas_check::Refutation;
@@ -168,7 +168,7 @@ fn refuted<R: Threads + Sync>(
     if round.version >= limits.rounds {
         return Ok(unknown(Cause::Rounds, word));
     }
-    let Plan { choice, .. } = plan_of(round);
+    let choice = choice_of(round);
     match refine(rt, alloc, icfg, path, refutation, limits, choice)? {
         Refined::Evidence(evidence) => Ok(Settled::Removed(Entry { word, evidence })),
         Refined::Unknown(cause) => Ok(unknown(cause, word)),
