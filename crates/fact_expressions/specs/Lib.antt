@@ -1,0 +1,6 @@
+pub mod Trees
+pub mod Facts
+pub mod Disjunctions
+pub mod EntryRows
+pub mod Conclusions
+pub mod Views
