@@ -1,5 +1,5 @@
 -- What a pass keeps when it has seen more.
-use Rattle.std.proofs.Common.{◌≡◌, ℕ, ◌+◌, ◌<◌, ◌≤◌, Bool, true, false, nat_eq, nat_le, if◌then◌else◌, List, [], ◌∷◌, ◌++◌, length, sym, ap, ◌∙◌, subst, refl, Option, None, Some, arith, ⊎_elim, length-append}
+use Rattle.std.proofs.Common.{◌≡◌, ℕ, zero, suc, ◌+◌, ◌<◌, ◌≤◌, Bool, true, false, nat_eq, nat_le, if◌then◌else◌, List, [], ◌∷◌, ◌++◌, length, sym, ap, ◌∙◌, subst, refl, Option, None, Some, arith, ⊎_elim, length-append}
 use Rattle.nwa_base.specs.declared.letters.Letter.{Letter}
 use Rattle.nwa_base.specs.Automata.{Automaton}
 use Rattle.race_core.specs.declared.ends.End.{End}
@@ -11,7 +11,7 @@ use Rattle.race_core.specs.Histories.{IsFair, IsLegal, IsNext, Keeps}
 use Rattle.race_core.specs.Races.{Race}
 use Rattle.race_core.specs.Steps.{staleness, publish_refusal, finish_refusal}
 use Rattle.version_cell.specs.declared.board.Sight.{Sight}
-use Rattle.version_cell.specs.Counts.{times, Begins}
+use Rattle.version_cell.specs.Counts.{times, once_below, Begins}
 use Rattle.version_cell.specs.Plays.{IsIdle, GoesOn, Grows, Closes}
 use Rattle.version_cell.specs.Views.{holding, informed, with_entry, with_end}
 use Rattle.version_cell.specs.Passes.{Known, known, IsTable, IsValid, WasAt, shown, owning, ending, Names}
@@ -121,6 +121,9 @@ finish_taken : (e : Option End) (n base : ℕ) → finish_refusal e n base ≡ N
 finish_taken None n base q = refl
 finish_taken (Some x) n base q = absurd (none_some (Ended (kind_of x)) (sym q))
 
+taken_at : (n limit base : ℕ) → base ≡ n → base < limit → publish_refusal None n limit base ≡ None
+taken_at n limit base at room = grind arith
+
 pub publish_open : (e : Option End) (n limit base : ℕ) → publish_refusal e n limit base ≡ None → e ≡ None
 publish_open e n limit base q = (publish_taken e n limit base q).0
 
@@ -171,6 +174,28 @@ module _ {E : Type 0} where
   -- the moment at which the state was won, said of the pass
   pub moment_of : (z : TableId) (v : Sight E) (p : Known E) (c : Race E) → known z v ≡ p → GoesOn v c → WasAt p c.history c.end
   moment_of z v p c is g = let P : Known E → Type 0 = λ x. WasAt x c.history c.end in subst P is (was_at z v c g)
+
+-- a history of which each place is an own one, and lies below what was seen, was seen whole
+all_seen : (own : List ℕ) (n seen : ℕ) → ((p : ℕ) → times p own ≡ once_below p n) → ((p : ℕ) → 0 < times p own → p < seen) → n ≤ seen
+all_seen own zero seen all below = omega arith
+all_seen own (suc n) seen all below =
+    let here : once_below n (suc n) ≡ 1 = grind arith in
+    let last = below n (let o = all n in omega (arith, o, here)) in omega (arith, last)
+
+module _ {E : Type 0} (automaton : E → Automaton) (feasible : E → List Letter → Type 0) where
+  -- what a whole pass with no end publishes behind all that it has seen, below the limit, is not refused
+  pub whole_taken : (z : TableId) (v : Sight E) (p : Known E) (c : Race E) (base : ℕ) → known z v ≡ p → GoesOn v c →
+      IsValid automaton feasible (known z v) → p.shares ≡ p.total → p.finish ≡ None → base ≡ length p.seen → base < p.limit →
+      publish_refusal c.end (length c.history) c.limit base ≡ None
+  whole_taken z v p c base is g valid whole open_ at room =
+      let own = g.whole (ap (λ (x : Known E). x.shares) is ∙ (whole ∙ sym (ap (λ (x : Known E). x.total) is))) in
+      let end : c.end ≡ None = own.end ∙ (ap (λ (x : Known E). x.finish) is ∙ open_) in
+      let limit = g.limit ∙ ap (λ (x : Known E). x.limit) is in
+      let seen = ap (λ (x : Known E). length x.seen) is in
+      let le = all_seen v.own (length c.history) (length v.seen) own.places valid.below in
+      let ge = begins_length v.seen c.history g.seen in
+      subst (λ (x : Option End). publish_refusal x (length c.history) c.limit base ≡ None) (sym end)
+      (taken_at (length c.history) c.limit base (omega (arith, le, ge, seen, at)) (omega (arith, room, limit)))
 
 module _ {E : Type 0} (automaton : E → Automaton) where
   -- fairness at a base speaks of the first entries alone

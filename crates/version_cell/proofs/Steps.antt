@@ -15,7 +15,7 @@ use Rattle.version_cell.specs.declared.board.Sight.{Sight}
 use Rattle.version_cell.specs.Counts.{times, once_below, count}
 use Rattle.version_cell.specs.Views.{nobody, held_of, holding, with_entry, informed, with_end, lessened, part_of, both_of}
 use Rattle.version_cell.specs.Rule.{IsLive, Views, IsAt, Slot, RuleIsKept}
-use Rattle.version_cell.specs.Plays.{IsIdle, GoesOn, Holds, Grows, Closes, won, bumped, released, finished, looked}
+use Rattle.version_cell.specs.Plays.{IsIdle, IsAllOwn, GoesOn, Holds, Grows, Closes, won, bumped, released, finished, looked}
 use Rattle.atomic_table.specs.Seated.{TableId}
 use Rattle.version_cell.specs.Passes.{known, IsClosed}
 use Rattle.version_cell.proofs.Sums.{total_one, once_most, own_more, count_one, count_none, some_is}
@@ -49,14 +49,30 @@ module _ {E : Type 0} (program : Automaton) (limit all : ℕ) where
       let P : List ℕ → Type 0 = λ ws. Goes m i f then id ws s.homes s.views in
       subst P (sym k.words) (go k.turn k.history k.end s.homes s.views k.views k.slot at)
 
-  goes_on : (h : List (Entry E)) (e : Option End) (v : Sight E) (c : Race E) → IsLive program limit all h e v →
-      IsAt program limit all h e c → GoesOn v c
-  goes_on h e v c l at =
+  -- a view with all shares is the only live one
+  all_own : (turn : ℕ) (h : List (Entry E)) (e : Option End) (id : ℕ) (v : Sight E) (vs : List (Sight E)) (c : Race E) →
+      Views program limit all h e turn vs → get_elem? vs id ≡ maybe.some v → 0 < v.shares → IsAt program limit all h e c →
+      v.shares ≡ v.total → IsAllOwn v c
+  all_own turn h e id v vs c k at some is whole =
+      let l = live_of program limit all h e turn id v vs k at some in
+      let full = whole ∙ l.total_is in
+      let ends = whole_only program limit all (λ (u : Sight E). count u.finish) refl h e turn id v vs k at full in
+      let owns = λ (p : ℕ). whole_only program limit all (λ (u : Sight E). times p u.own) refl h e turn id v vs k at full in
       record {
-        program = at.program_is ∙ sym l.program_is;
-        limit = at.limit_is ∙ sym l.limit_is;
-        seen = (l.seen.0, at.history_is ∙ l.seen.1);
-        ended = λ k q. let d = l.ended k q in (ap kind_in at.end_is ∙ d.0, d.1 ∙ sym at.history_is);
+        places = λ p. sym (owns p) ∙ (k.own p ∙ ap (λ (x : List (Entry E)). once_below p (length x)) (sym is.history_is));
+        end = is.end_is ∙ same_end e v.finish (sym ends ∙ k.ends) l.finish;
+      }
+
+  goes_on : (turn : ℕ) (h : List (Entry E)) (e : Option End) (id : ℕ) (v : Sight E) (vs : List (Sight E)) (c : Race E) →
+      Views program limit all h e turn vs → get_elem? vs id ≡ maybe.some v → 0 < v.shares → IsAt program limit all h e c → GoesOn v c
+  goes_on turn h e id v vs c k at some is =
+      let l = live_of program limit all h e turn id v vs k at some in
+      record {
+        program = is.program_is ∙ sym l.program_is;
+        limit = is.limit_is ∙ sym l.limit_is;
+        seen = (l.seen.0, is.history_is ∙ l.seen.1);
+        ended = λ q r. let d = l.ended q r in (ap kind_in is.end_is ∙ d.0, d.1 ∙ sym is.history_is);
+        whole = all_own turn h e id v vs c k at some is;
       }
 
   won_turn : (st : Step (Option (Race E))) (id : ℕ) (v : Sight E) → 0 < v.shares → v.held ≡ None →
@@ -81,7 +97,7 @@ module _ {E : Type 0} (program : Automaton) (limit all : ℕ) where
               (live_holding program limit all h e v c l slot.2) (λ j u n there m. m) (λ p. refl) refl (omega (arith, none));
           slot = refl;
         },
-        ((λ z. (c, refl, goes_on h e v c l slot.2)), (λ n. absurd (n refl))),
+        ((λ z. (c, refl, goes_on 0 h e id v vs c k at some slot.2)), (λ n. absurd (n refl))),
       )
   won_turn st id v some free (suc zero) h e hs vs k slot at = (
     v,
@@ -309,21 +325,18 @@ module _ {E : Type 0} (program : Automaton) (limit all : ℕ) where
       let all_held = whole_only program limit all (λ (u : Sight E). count u.held) refl h e (suc n) id v vs k at (whole ∙ l.total_is) in
       let a = k.holders in let b = ap count free in absurd (omega (arith, all_held, a, b))
   closed_turn z id v some free whole zero h e hs vs k slot at =
-      let l = live_of program limit all h e 0 id v vs k at some in
-      let full = whole ∙ l.total_is in
       let c = slot.0 in
-      let i = slot.2 in
-      let ends = whole_only program limit all (λ (u : Sight E). count u.finish) refl h e 0 id v vs k at full in
-      let owns = λ (p : ℕ). whole_only program limit all (λ (u : Sight E). times p u.own) refl h e 0 id v vs k at full in (
+      let g = goes_on 0 h e id v vs c k at some slot.2 in
+      let o = g.whole whole in (
         c,
         ap (λ (x : List (maybe.Option (Option (Race E)))). get_elem? x 0) slot.1,
         record {
-          program = i.program_is ∙ sym l.program_is;
-          limit = i.limit_is ∙ sym l.limit_is;
-          seen = (l.seen.0, i.history_is ∙ l.seen.1);
-          own = λ p. sym (owns p) ∙ (k.own p ∙ ap (λ (x : List (Entry E)). once_below p (length x)) (sym i.history_is));
-          end = i.end_is ∙ same_end e v.finish (sym ends ∙ k.ends) l.finish;
-          ended = λ q r. let d = l.ended q r in (ap kind_in i.end_is ∙ d.0, i.history_is ∙ sym d.1);
+          program = g.program;
+          limit = g.limit;
+          seen = g.seen;
+          own = o.places;
+          end = o.end;
+          ended = λ q r. let d = g.ended q r in (d.0, sym d.1);
         },
       )
 

@@ -7,7 +7,7 @@ use Rattle.race_core.specs.Ends.{kind_in}
 use Rattle.race_core.specs.Races.{Race}
 use Rattle.atomic_table.specs.Table.{Step, Me}
 use Rattle.version_cell.specs.declared.board.Sight.{Sight}
-use Rattle.version_cell.specs.Counts.{times, Begins}
+use Rattle.version_cell.specs.Counts.{times, once_below, Begins}
 use Rattle.version_cell.specs.Views.{held_of, holding, with_entry, informed, with_end}
 
 module _ {E : Type 0} where
@@ -17,13 +17,19 @@ module _ {E : Type 0} where
     pub free : m.0.held ≡ None
     pub carries : m.1 ≡ []
 
-  -- the state is of the view's program and limit, its history begins with what the view has seen, and a kind of end that the
-  -- view has seen is that of the state's end, and the view has then seen its history
+  -- each place of the state's history is one of the view's own, once, and the end is the view's own
+  pub record IsAllOwn (v : Sight E) (c : Race E) : Type 0 where
+    pub places : (p : ℕ) → times p v.own ≡ once_below p (length c.history)
+    pub end : c.end ≡ v.finish
+
+  -- The state is of the view's program and limit, its history begins with what the view has seen, and a kind of end that the
+  -- view has seen is that of the state's end, and the view has then seen its history. A view with all shares owns all of it.
   pub record GoesOn (v : Sight E) (c : Race E) : Type 0 where
     pub program : c.program ≡ v.program
     pub limit : c.limit ≡ v.limit
     pub seen : Begins v.seen c.history
     pub ended : (k : EndKind) → v.ended ≡ Some k → (kind_in c.end ≡ Some k) × (v.seen ≡ c.history)
+    pub whole : v.shares ≡ v.total → IsAllOwn v c
 
   -- the holder names this history and end, and the state has its program and limit
   pub record Holds (v : Sight E) (c : Race E) : Type 0 where

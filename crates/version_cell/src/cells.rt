@@ -1,4 +1,4 @@
-ghost use Rattle.std.specs.Prelude.{◌≡◌, ◌+◌, ◌≤◌, ℕ, List, Option, None, Some, length, IfOk, IfErr, MatchResult};
+ghost use Rattle.std.specs.Prelude.{◌≡◌, ◌+◌, ◌<◌, ◌≤◌, ℕ, List, Option, None, Some, length, IfOk, IfErr, IsOk, MatchResult};
 ghost use Rattle.std.specs.Arc.{arc_value};
 ghost use Rattle.race_core.specs.declared.ends.End.{End};
 ghost use Rattle.race_core.specs.declared.events.Entry.{Entry};
@@ -94,8 +94,8 @@ impl<E: Evidence> VersionCell<E> {
     }
 
     /// Adds the entry, where no end is set, the version is below the limit, and it is `base`. What is refused is handed back,
-    /// first as `Ended`, then as `Full`, then as `Stale`, and the pass has then seen the history that refused it. This takes
-    /// no memory.
+    /// first as `Ended`, then as `Full`, then as `Stale`, and the pass has then seen the history that refused it. A whole pass
+    /// that set no end is not refused at what it has seen, below the limit. This takes no memory.
     pub fn publish<R: Wait>(
         &self,
         rt: &R,
@@ -110,6 +110,7 @@ impl<E: Evidence> VersionCell<E> {
         ensures moment { (h : List (Entry E)) × (e : Option End) × WasAt pass.old h e × MatchResult result
             (λ v. (publish_refusal e (length h) pass.old.limit base ≡ None) × (v ≡ base + 1) × (length h ≡ base) × (pass.new ≡ owning pass.old h entry base))
             (λ r. (publish_refusal e (length h) pass.old.limit base ≡ Some r.why) × (r.entry ≡ entry) × (r.kept ≡ kept) × (pass.new ≡ shown pass.old h e)) }
+        ensures whole { pass.old.shares ≡ pass.old.total → pass.old.finish ≡ None → base ≡ length pass.old.seen → base < pass.old.limit → IsOk result }
         ensures names { IfErr result (λ r. Names pass.new r.why) }
         ensures of_cell { IsPassOf self.now pass.new }
         ensures valid { IsValid E.automaton E.feasible pass.new }

@@ -7,7 +7,8 @@ use Rattle.version_cell.specs.declared.board.Sight.{Sight}
 use Rattle.version_cell.specs.Views.{holding, informed, with_entry}
 use Rattle.version_cell.specs.Passes.{Known, Cell, owning}
 use Rattle.version_cell.proofs.Putting.{holds_of, shown_by, of_cell_shown, of_cell_owning, keeps_shown}
-use Rattle.version_cell.proofs.Passing.{moment_of, owning_is, fair_won, grows_of, valid_entry, keeps_pass, publish_open, publish_base}
+use Rattle.version_cell.proofs.Sums.{none_some}
+use Rattle.version_cell.proofs.Passing.{moment_of, owning_is, fair_won, grows_of, valid_entry, keeps_pass, publish_open, publish_base, whole_taken}
 use Rattle.version_cell.proofs.cells.VersionCell.publish.Goals as goal
 
 pub win-state-requires-clause-table : goal.win-state-requires-clause-table
@@ -168,3 +169,10 @@ unfolding returns-in-Err-clause-moment
 returns-in-Err-clause-of_cell g c =
     let b = c.win-state.result in
     of_cell_shown c.args.self.now c.args.pass.now _ b.history b.end (returns-in-Err-clause-moment g c).3.3 c.requires.cell
+
+pub returns-in-Err-clause-whole : goal.returns-in-Err-clause-whole
+returns-in-Err-clause-whole g c whole open_ at room =
+    let p = c.pass.inside.seat in
+    let taken = whole_taken g.E.Evidence.automaton g.E.Evidence.feasible p.table_id p.me.0 c.args.pass.now c.win-state.result c.args.base
+    c.pass.view_is c.win-state.ensures.state c.pass.invariant.3 whole open_ at room in
+    absurd (none_some c.in-Err.refused.why (sym taken ∙ c.in-Err.ensures.0))
