@@ -1,5 +1,5 @@
 -- What a round makes of a kept word, and what a race keeps.
-use Rattle.std.specs.Prelude.{◌≡◌, ◌<◌, ◌≤◌, ℕ, Bool, true, false, List, length, IfSome}
+use Rattle.std.specs.Prelude.{◌≡◌, ◌<◌, ◌≤◌, ℕ, Bool, true, false, List, [], ◌∷◌, length, Option, None, Some, IfSome}
 use Rattle.std.specs.List.{AllByRecursion}
 use Rattle.nwa_base.specs.declared.letters.Letter.{Letter}
 use Rattle.nwa_base.specs.Automata.{Automaton}
@@ -74,10 +74,22 @@ AllAreCoarse g kept = (w : List Letter) → Accepts kept w → IsExactWord g w �
 abbrev pub IsOwn : TypedProgram → Entry Certificate → Type 0
 IsOwn t e = IsEvidence (lowered t) e.word e.evidence
 
--- what the workers keep: the race is one of the program, within the rounds, each entry is one of the program, and an end is met
-pub record IsRaceOf (t : TypedProgram) (l : Limits) (r : Race Certificate) : Type 0 where
+-- the entry's automaton is certified for the program, and accepts its word
+pub record IsGiven (t : TypedProgram) (e : Entry Certificate) : Type 0 where
+  pub certified : IsCertified (alphabet_of (lowered t)) e.evidence
+  pub own : Accepts e.evidence.automaton e.word
+
+-- The history begins with the entry that was given, where one was; each other entry is one of the program.
+abbrev pub AreOwn : TypedProgram → Option (Entry Certificate) → List (Entry Certificate) → Type 0
+AreOwn t None h = AllByRecursion (IsOwn t) h
+AreOwn t (Some e) [] = ⊥
+AreOwn t (Some e) (x ∷ h) = (x ≡ e) × IsGiven t e × AllByRecursion (IsOwn t) h
+
+-- What the workers keep: the race is one of the program, within the rounds, its history begins with the entry that was given, where one was, each
+-- other entry is one of the program, and an end is met.
+pub record IsRaceOf (t : TypedProgram) (given : Option (Entry Certificate)) (l : Limits) (r : Race Certificate) : Type 0 where
   pub program : r.program ≡ (lowered t).automaton
   pub limit : r.limit ≡ l.rounds
   pub within : length r.history ≤ l.rounds
-  pub own : AllByRecursion (IsOwn t) r.history
+  pub own : AreOwn t given r.history
   pub end : IfSome r.end (EndMeets automaton_in t l r.history)

@@ -4,4 +4,5 @@ pub mod Openings
 pub mod Closings
 pub mod Crossing
 pub mod Published
+pub mod Givens
 pub mod Turns

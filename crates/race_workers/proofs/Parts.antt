@@ -1,6 +1,6 @@
 -- What a worker's pass carries, as the calls of its cell change it.
-use Rattle.std.proofs.Common.{◌≡◌, ◌⊎◌, inl, inr, ⊎_elim, ℕ, ◌+◌, ◌<◌, ◌≤◌, List, [], ◌∷◌, ◌++◌, length, Option, None, Some, Result, Ok, Err, refl, sym, subst, ap, ◌∙◌, arith}
-use Rattle.std.specs.Prelude.{IfSome, IsSome, MatchResult}
+use Rattle.std.proofs.Common.{◌≡◌, ◌⊎◌, inl, inr, ⊎_elim, ℕ, ◌+◌, ◌<◌, List, [], ◌∷◌, ◌++◌, length, Option, None, Some, Result, Ok, Err, refl, sym, subst, ap, ◌∙◌, arith}
+use Rattle.std.specs.Prelude.{IsSome, MatchResult}
 use Rattle.nwa_base.specs.declared.letters.Letter.{Letter}
 use Rattle.nwa_base.specs.Automata.{Automaton}
 use Rattle.nwa_base.specs.Acceptance.{Accepts}
@@ -20,15 +20,15 @@ use Rattle.race_core.specs.Steps.{publish_refusal, finish_refusal}
 use Rattle.itp_automaton.specs.Certified.{Certificate}
 use Rattle.race_rounds.specs.Ends.{WordIsKept, EndMeets, no_word, one_word, SaysOfWord}
 use Rattle.race_rounds.specs.declared.settling.Settled.TheVariants.{Removed}
-use Rattle.race_rounds.specs.Rounds.{automaton_in, IsEvidence, IsOwn, SettlesWord, IsRaceOf}
-use Rattle.version_cell.specs.Counts.{times, once_below, Begins}
+use Rattle.race_rounds.specs.Rounds.{automaton_in, IsEvidence, IsOwn, SettlesWord}
+use Rattle.version_cell.specs.Counts.{times, Begins}
 use Rattle.version_cell.specs.Views.{first_of}
-use Rattle.version_cell.specs.Passes.{Cell, Known, IsPassOf, WasAt, shown, owning, ending, lessened_pass, part_of_pass, joined, Continues, Names, IsClosed}
+use Rattle.version_cell.specs.Passes.{Cell, Known, IsPassOf, WasAt, shown, owning, ending, part_of_pass, joined, Continues, Names, IsClosed}
 use Rattle.version_cell.proofs.Sums.{times_last, times_either}
 use Rattle.version_cell.proofs.Beginnings.{begins_more}
 use Rattle.race_rounds.specs.declared.limits.Limits.{Limits}
 use Rattle.race_workers.specs.Parts.{IsJob, OwnsEntries, OwnsEnd, IsPassAt, IsFresh, IsAsSeen}
-use Rattle.race_workers.proofs.Lists.{get_begins, get_last, begins_all, all_by_get}
+use Rattle.race_workers.proofs.Lists.{get_begins, get_last, begins_all}
 
 -- ---- ends
 
@@ -134,31 +134,9 @@ fresh c t limits n p f = record {
   end = λ end e. let none = f.end in cc;
 }
 
-end_met : (M : End → Type 0) (f : Option End) → ((e : End) → f ≡ Some e → M e) → IfSome f M
-end_met M None each = tt
-end_met M (Some e) each = each e refl
-
 some_kind : (e : Option End) (k : EndKind) → kind_in e ≡ Some k → IsSome e
 some_kind None k q = cc
 some_kind (Some e) k q = refl
-
-below : (i n : ℕ) → i < n → once_below i n ≡ 1
-below i n b = grind arith
-
--- the closed state is a race of the program
-pub closes : (c : Cell) (t : TypedProgram) (limits : Limits) (n : ℕ) (p : Known Certificate) (s : Race Certificate) → IsPassAt c t limits n p →
-    IsClosed p s → c.program ≡ (lowered t).automaton → c.limit ≡ limits.rounds → length s.history ≤ s.limit → IsRaceOf t limits s
-closes c t limits n p s a x program limit room = record {
-  program = x.program ∙ a.of_cell.program ∙ program;
-  limit = x.limit ∙ a.of_cell.limit ∙ limit;
-  within = let l = x.limit ∙ a.of_cell.limit ∙ limit in omega (arith, room, l);
-  own = all_by_get (IsOwn t) s.history (λ i b.
-      let once : times i p.own ≡ 1 = x.own i ∙ below i (length s.history) b in
-      let z = a.entries i (omega (arith, once)) in (z.0, get_begins p.seen s.history i z.0 x.seen z.1, z.2));
-  end = subst (λ (f : Option End). IfSome f (EndMeets automaton_in t limits s.history)) (sym x.end)
-      (end_met (EndMeets automaton_in t limits s.history) p.finish (λ e f.
-      let z = a.end e f in subst (λ (l : List (Entry Certificate)). EndMeets automaton_in t limits l e) (sym (x.ended (kind_of e) z.0).1) z.1));
-}
 
 pub closes_ended : (p : Known Certificate) (s : Race Certificate) → IsClosed p s → IsSome p.ended → IsSome s.end
 closes_ended p s x h = let k = some_of p.ended h in some_kind s.end k.0 (x.ended k.0 k.1).0
@@ -237,14 +215,6 @@ own_shares c t limits n p a = record { of_cell = a.of_cell; shares = refl; entri
 
 pub with_shares : (c : Cell) (t : TypedProgram) (limits : Limits) (n m : ℕ) (p : Known Certificate) → IsPassAt c t limits n p → n ≡ m → IsPassAt c t limits m p
 with_shares c t limits n m p a e = record { of_cell = a.of_cell; shares = a.shares ∙ e; entries = a.entries; end = a.end }
-
-pub fresh_rest : (c : Cell) (n : ℕ) (p q : Known Certificate) → IsFresh c n p → q ≡ lessened_pass p → IsPassOf c q → IsFresh c q.shares q
-fresh_rest c n p q f s of_cell = record {
-  of_cell = of_cell;
-  shares = refl;
-  entries = ap (λ (k : Known Certificate). k.own) s ∙ f.entries;
-  end = ap (λ (k : Known Certificate). k.finish) s ∙ f.end;
-}
 
 pub fresh_part : (c : Cell) (p q : Known Certificate) → q ≡ part_of_pass p → IsPassOf c q → IsFresh c 1 q
 fresh_part c p q s of_cell = record {

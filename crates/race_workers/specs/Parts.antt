@@ -16,7 +16,7 @@ use Rattle.race_rounds.specs.declared.limits.Limits.{Limits}
 use Rattle.race_rounds.specs.Ends.{WordIsKept, EndMeets}
 use Rattle.race_rounds.specs.Rounds.{automaton_in, IsOwn}
 use Rattle.version_cell.specs.Counts.{times}
-use Rattle.version_cell.specs.Passes.{Cell, Known, IsPassOf}
+use Rattle.version_cell.specs.Passes.{Cell, Known, IsPassOf, owning, joined, Continues}
 use Rattle.race_workers.specs.declared.rounds.Turn.{Turn}
 use Rattle.race_workers.specs.declared.rounds.Turn.TheVariants as turns
 
@@ -47,6 +47,33 @@ pub record IsFresh (c : Cell) (n : ℕ) (p : Known Certificate) : Type 0 where
   pub shares : p.shares ≡ n
   pub entries : p.own ≡ []
   pub end : p.finish ≡ None
+
+-- ---- the first pass
+
+-- the history with which the workers begin: the entry that is given, where one is
+abbrev pub opening_history : Option (Entry Certificate) → List (Entry Certificate)
+opening_history None = []
+opening_history (Some e) = e ∷ []
+
+-- the pass has added the entry that is given, where one is, as the first of the history
+abbrev pub opened_with : Option (Entry Certificate) → Known Certificate → Known Certificate
+opened_with None p = p
+opened_with (Some e) p = owning p [] e 0
+
+-- the pass with one share
+abbrev pub with_one_share : Known Certificate → Known Certificate
+with_one_share p = record p { shares = 1 }
+
+-- What a pass has become when n workers have run: it gave a share to each, and was joined with the pass that theirs have become.
+pub record HasRun (c : Cell) (t : TypedProgram) (l : Limits) (n : ℕ) (p q : Known Certificate) : Type 0 where
+  pub workers : Known Certificate
+  pub at : IsPassAt c t l n workers
+  pub both : q ≡ joined (with_one_share p) workers
+  pub first : Continues p q
+  pub second : Continues workers q
+  pub of_cell : IsPassOf c q
+
+-- ---- reading
 
 -- the version is that of the history which the pass has seen, and the automaton accepts what that history leaves
 abbrev pub IsAsSeen : Known Certificate → ℕ → Automaton → Type 0

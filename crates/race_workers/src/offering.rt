@@ -22,7 +22,11 @@ use std::sync::{Arc, Wait};
 use version_cell::{Pass, Snapshot};
 
 /// What is kept behind an entry, by an automaton from which no state can be taken away.
-fn kept_behind(alloc: Global, kept: &Nwa, entry: &Entry<Certified>) -> Result<Arc<Nwa>, AllocError>
+pub(crate) fn kept_behind(
+    alloc: Global,
+    kept: &Nwa,
+    entry: &Entry<Certified>,
+) -> Result<Arc<Nwa>, AllocError>
     ensures words { IfOk result (λ left. IsWithout kept.now (automaton_in entry.now.evidence) (arc_value left)) }
     ensures lean { IfOk result (λ left. IsLean (arc_value left)) }
 {

@@ -1,19 +1,22 @@
 //! The race of several workers.
 
-ghost use Rattle.std.specs.Prelude.{◌≡◌, ◌≤◌, ◌+◌, IfOk, IsSome};
+ghost use Rattle.std.specs.Prelude.{◌≡◌, ◌≤◌, ◌+◌, None, IfOk, IfSome, IsSome};
+ghost use Rattle.nwa_base.specs.Acceptance.{Accepts};
 ghost use Rattle.typing_rules.specs.TypedParts.{typed_program};
 ghost use Rattle.lowered_graph.specs.Lowered.{lowered};
 ghost use Rattle.race_rounds.specs.Limits.{AreInRange};
-ghost use Rattle.race_rounds.specs.Rounds.{IsRaceOf};
-ghost use Rattle.race_workers.specs.Parts.{IsJob, IsPassAt, IsFresh};
+ghost use Rattle.race_rounds.specs.Rounds.{IsGiven, IsRaceOf};
+ghost use Rattle.version_cell.specs.Passes.{IsPassOf};
+ghost use Rattle.race_workers.specs.Parts.{IsJob, HasRun};
 
+use crate::beginning::begin;
 use crate::gates::Gate;
 use crate::jobs::Job;
 use crate::splitting::split_all;
 use crate::working::run_all;
 use itp_automaton::Certified;
 use letter_acts::Icfg;
-use race_core::Shared;
+use race_core::{Entry, Shared};
 use race_rounds::Limits;
 use std::alloc::{AllocError, Global};
 use std::sync::{Arc, Wait};
@@ -30,8 +33,8 @@ fn run<G: Gate + Sync, R: Threads + Wait + Sync>(
 ) -> Result<Pass<Certified>, AllocError>
     requires job { IsJob (typed_program job.now.program.now) job.now.icfg.now job.now.limits job.now.cell.now }
     requires workers { (1 ≤ job.now.limits.workers) × (job.now.limits.workers ≤ 64) }
-    requires fresh { IsFresh job.now.cell.now (job.now.limits.workers + 1) pass }
-    ensures pass { IfOk result (IsPassAt job.now.cell.now (typed_program job.now.program.now) job.now.limits (job.now.limits.workers + 1)) }
+    requires pass { IsPassOf job.now.cell.now pass × (pass.shares ≡ job.now.limits.workers + 1) }
+    ensures done { IfOk result (HasRun job.now.cell.now (typed_program job.now.program.now) job.now.limits job.now.limits.workers pass) }
     ensures ended { IfOk result (λ p. IsSome p.ended) }
 {
     let mut pass = pass;
@@ -55,12 +58,32 @@ pub fn race<G: Gate + Sync, R: Threads + Wait + Sync>(
 ) -> Result<Shared<Certified>, AllocError>
     requires lowered { icfg.now ≡ lowered (typed_program program.now) }
     requires limits { AreInRange limits }
-    ensures race { IfOk result (IsRaceOf (typed_program program.now) limits) }
+    ensures race { IfOk result (IsRaceOf (typed_program program.now) None limits) }
+    ensures ended { IfOk result (λ r. IsSome r.end) }
+{
+    race_from(rt, alloc, program, icfg, limits, None, gate)
+}
+
+/// The same, where the history begins with the entry that is given, where one is. It is one of the `rounds` entries.
+pub fn race_from<G: Gate + Sync, R: Threads + Wait + Sync>(
+    rt: &R,
+    alloc: Global,
+    program: &Typed,
+    icfg: &Icfg,
+    limits: Limits,
+    first: Option<Entry<Certified>>,
+    gate: &G,
+) -> Result<Shared<Certified>, AllocError>
+    requires lowered { icfg.now ≡ lowered (typed_program program.now) }
+    requires limits { AreInRange limits }
+    requires given { IfSome first (λ e. Accepts icfg.now.automaton e.word × IsGiven (typed_program program.now) e) }
+    ensures race { IfOk result (IsRaceOf (typed_program program.now) first limits) }
     ensures ended { IfOk result (λ r. IsSome r.end) }
 {
     let automaton = Arc::new(alloc, icfg.nwa().copy()?)?;
     let shares = limits.workers as u64 + 1;
-    let (cell, pass) = create::<Certified>(alloc, automaton, limits.rounds, shares)?;
+    let (cell, mut pass) = create::<Certified>(alloc, automaton, limits.rounds, shares)?;
+    begin(rt, alloc, icfg, &cell, &mut pass, first)?;
     let job = Job {
         program,
         icfg,

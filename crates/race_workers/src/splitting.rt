@@ -2,7 +2,8 @@
 
 ghost use Rattle.std.specs.Prelude.{◌≡◌, ◌+◌, length, IfOk, OnOk};
 ghost use Rattle.std.specs.List.{AllByRecursion};
-ghost use Rattle.race_workers.specs.Parts.{IsFresh};
+ghost use Rattle.version_cell.specs.Passes.{IsPassOf};
+ghost use Rattle.race_workers.specs.Parts.{IsFresh, with_one_share};
 
 use itp_automaton::Certified;
 use std::alloc::{AllocError, Global};
@@ -15,8 +16,9 @@ pub(crate) fn split_all(
     pass: &mut Pass<Certified>,
     workers: u32,
 ) -> Result<Vec<Pass<Certified>>, AllocError>
-    requires { IsFresh cell.now (workers + 1) pass.old }
-    ensures pass { OnOk result (IsFresh cell.now 1 pass.new) }
+    requires { IsPassOf cell.now pass.old × (pass.old.shares ≡ workers + 1) }
+    ensures pass { OnOk result (pass.new ≡ with_one_share pass.old) }
+    ensures of_cell { OnOk result (IsPassOf cell.now pass.new) }
     ensures parts { IfOk result (λ v. (length v.items ≡ workers) × AllByRecursion (IsFresh cell.now 1) v.items) }
 {
     let mut parts = Vec::new(alloc);

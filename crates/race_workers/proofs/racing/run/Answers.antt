@@ -1,13 +1,15 @@
-use Rattle.std.proofs.Common.{◌+◌, length, arith}
+use Rattle.std.proofs.Common.{length, arith}
 use Rattle.typing_rules.specs.TypedParts.{typed_program}
-use Rattle.race_workers.proofs.Parts.{fresh, joins, with_shares}
+use Rattle.race_workers.proofs.Parts.{with_shares}
+use Rattle.race_workers.proofs.Givens.{has_run}
 use Rattle.race_workers.proofs.racing.run.Goals as goal
 
-pub returns-clause-pass : goal.returns-clause-pass
-returns-clause-pass g c =
+pub returns-clause-done : goal.returns-clause-done
+returns-clause-done g c =
     let q = c.in_ok-passes.ensures.parts in
     let n = q.0 in
-    with_shares c.args.job.now.cell.now (typed_program c.args.job.now.program.now) c.args.job.now.limits (1 + length c.in_ok-passes.passes.items) (c.args.job.now.limits.workers + 1) c.join.new.pass
-    (joins c.args.job.now.cell.now (typed_program c.args.job.now.program.now) c.args.job.now.limits 1 (length c.in_ok-passes.passes.items) c.split_all.new.pass
-    c.run_all-done.result.1 c.join.new.pass (fresh c.args.job.now.cell.now (typed_program c.args.job.now.program.now) c.args.job.now.limits 1 c.split_all.new.pass c.in_ok-passes.ensures.pass)
-    c.run_all-done.ensures.pass c.join.ensures.both c.join.ensures.first c.join.ensures.second c.join.ensures.of_cell) (omega (arith, n))
+    let t = typed_program c.args.job.now.program.now in
+    let at = with_shares c.args.job.now.cell.now t c.args.job.now.limits (length c.in_ok-passes.passes.items) c.args.job.now.limits.workers
+    c.run_all-done.result.1 c.run_all-done.ensures.pass (omega (arith, n)) in
+    has_run c.args.job.now.cell.now t c.args.job.now.limits c.args.job.now.limits.workers c.args.pass c.split_all.new.pass c.run_all-done.result.1 c.join.new.pass
+    c.in_ok-passes.ensures.pass at c.join.ensures.both c.join.ensures.first c.join.ensures.second c.join.ensures.of_cell
