@@ -11,7 +11,7 @@ use Rattle.trace_replay.specs.declared.failure.Failure.{Failure}
 use Rattle.trace_replay.specs.Replays.{Replays, IsReplayed}
 use Rattle.trace_replay.specs.Tried.{TriedFails}
 use Rattle.race_core.specs.declared.ends.End.{End}
-use Rattle.race_core.specs.declared.ends.End.TheVariants.{Safe, Unsafe}
+use Rattle.race_core.specs.declared.ends.End.TheVariants.{Unsafe}
 use Rattle.race_core.specs.declared.events.Entry.{Entry}
 use Rattle.race_core.specs.Races.{Race}
 use Rattle.itp_automaton.specs.Certified.{Certificate}
@@ -25,24 +25,24 @@ said : (t : TypedProgram) (limits : Limits) (h : List (Entry Certificate)) (w : 
 said t limits h w steps choices (no_word e n) = absurd (cc)
 said t limits h w steps choices (one_word v k s) = (v, s.2)
 
-fails : (t : TypedProgram) (limits : Limits) (r : Race Certificate) (w : List Letter) (steps : ℕ) (choices : Vec ℤ Global) → IsRaceOf t limits r →
+fails : (t : TypedProgram) (given : Option (Entry Certificate)) (limits : Limits) (r : Race Certificate) (w : List Letter) (steps : ℕ) (choices : Vec ℤ Global) → IsRaceOf t given limits r →
     r.end ≡ Some (Unsafe w steps choices) → (v : List Letter) × FailsAfter t v steps choices.items
-fails t limits r w steps choices race e =
+fails t given limits r w steps choices race e =
     said t limits r.history w steps choices (subst (λ (x : Option End). IfSome x (EndMeets automaton_in t limits r.history)) e race.end)
 
-pub replays : (t : TypedProgram) (limits : Limits) (r : Race Certificate) (w : List Letter) (steps : ℕ) (choices : Vec ℤ Global) →
-    ((s : TypedProgram) (n : ℕ) (cs : List ℤ) (made : ℕ) (used : List ℤ) (i : ℕ) → TriedFails s n cs made used i → Replays s made used i) → IsRaceOf t limits r →
+pub replays : (t : TypedProgram) (given : Option (Entry Certificate)) (limits : Limits) (r : Race Certificate) (w : List Letter) (steps : ℕ) (choices : Vec ℤ Global) →
+    ((s : TypedProgram) (n : ℕ) (cs : List ℤ) (made : ℕ) (used : List ℤ) (i : ℕ) → TriedFails s n cs made used i → Replays s made used i) → IsRaceOf t given limits r →
     r.end ≡ Some (Unsafe w steps choices) → (i : ℕ) × Replays t steps choices.items i
-replays t limits r w steps choices replay race e =
-    let f = fails t limits r w steps choices race e in (f.1.assertion, replay t steps choices.items steps choices.items f.1.assertion f.1.fails)
+replays t given limits r w steps choices replay race e =
+    let f = fails t given limits r w steps choices race e in (f.1.assertion, replay t steps choices.items steps choices.items f.1.assertion f.1.fails)
 
-pub values_fit : (t : TypedProgram) (limits : Limits) (r : Race Certificate) (w : List Letter) (steps : ℕ) (choices : Vec ℤ Global) → IsRaceOf t limits r →
+pub values_fit : (t : TypedProgram) (given : Option (Entry Certificate)) (limits : Limits) (r : Race Certificate) (w : List Letter) (steps : ℕ) (choices : Vec ℤ Global) → IsRaceOf t given limits r →
     r.end ≡ Some (Unsafe w steps choices) → AllByRecursion Fits choices.items
-values_fit t limits r w steps choices race e = (fails t limits r w steps choices race e).1.fit
+values_fit t given limits r w steps choices race e = (fails t given limits r w steps choices race e).1.fit
 
-pub failure : (t : TypedProgram) (limits : Limits) (r : Race Certificate) (w : List Letter) (rounds steps : ℕ) (choices : Vec ℤ Global) (f : Failure) → IsRaceOf t limits r →
+pub failure : (t : TypedProgram) (given : Option (Entry Certificate)) (limits : Limits) (r : Race Certificate) (w : List Letter) (rounds steps : ℕ) (choices : Vec ℤ Global) (f : Failure) → IsRaceOf t given limits r →
     r.end ≡ Some (Unsafe w steps choices) → rounds ≡ length r.history → IsFailureBy t rounds steps choices.items f → IsFailureOf t r f
-failure t limits r w rounds steps choices f race e n b = record {
+failure t given limits r w rounds steps choices f race e n b = record {
   word = w;
   choices = choices;
   end = e ∙ subst (λ (s : ℕ). Some (Unsafe w steps choices) ≡ Some (Unsafe w s choices)) (sym b.steps_are) refl;

@@ -1,5 +1,5 @@
 -- Where a race ended without a word, its automata accept all error words.
-use Rattle.std.proofs.Common.{◌≡◌, ◌⊎◌, inl, inr, List, [], ◌∷◌, map, Option, Some, refl, sym, ap, subst, ◌∙◌}
+use Rattle.std.proofs.Common.{◌≡◌, inl, inr, List, [], ◌∷◌, map, Option, None, Some, refl, sym, ap, subst, ◌∙◌}
 use Rattle.std.specs.Prelude.{IfSome}
 use Rattle.std.specs.List.{AllByRecursion}
 use Rattle.std.specs.Borrow.{Bor}
@@ -18,8 +18,8 @@ use Rattle.race_core.specs.Races.{Race}
 use Rattle.itp_automaton.specs.Certified.{Certificate, IsCertified}
 use Rattle.proof_build.specs.Unwound.{AreCovering}
 use Rattle.race_rounds.specs.declared.limits.Limits.{Limits}
-use Rattle.race_rounds.specs.Ends.{WordIsKept, EndMeets, no_word, one_word, SaysOfWord}
-use Rattle.race_rounds.specs.Rounds.{automaton_in, IsOwn, IsRaceOf}
+use Rattle.race_rounds.specs.Ends.{WordIsKept, EndMeets, no_word, one_word}
+use Rattle.race_rounds.specs.Rounds.{automaton_in, IsOwn, AreOwn, IsRaceOf}
 use Rattle.race_verdicts.proofs.Accepted.{IsDecided, accepted_or_not}
 
 abbrev pub evidence : Entry Certificate → Certificate
@@ -59,14 +59,22 @@ all_certified : (t : TypedProgram) (h : List (Entry Certificate)) → AllByRecur
 all_certified t [] a = tt
 all_certified t (e ∷ h) a = (a.0.certified, all_certified t h a.1)
 
-pub certified : (g : Graph) (t : TypedProgram) (limits : Limits) (r : Race Certificate) (cs : List Certificate) → g ≡ lowered t → IsRaceOf t limits r →
-    cs ≡ map evidence r.history → AreCertified g cs
-certified g t limits r cs e race s =
-    subst (λ (x : Graph). AreCertified x cs) (sym e) (subst (λ (x : List Certificate). AreCertified (lowered t) x) (sym s) (all_certified t r.history race.own))
+-- the entry that was given is certified, too
+certified_with : (t : TypedProgram) (given : Option (Entry Certificate)) (h : List (Entry Certificate)) → AreOwn t given h → AreCertified (lowered t) (map evidence h)
+certified_with t None h a = all_certified t h a
+certified_with t (Some e) [] a = absurd a
+certified_with t (Some e) (x ∷ h) a =
+    (subst (λ (y : Entry Certificate). IsCertified (alphabet_of (lowered t)) y.evidence) (sym a.0) a.1.certified, all_certified t h a.2)
 
-all_covered : (t : TypedProgram) (limits : Limits) (r : Race Certificate) → IsRaceOf t limits r → r.end ≡ Some Safe →
+pub certified : (g : Graph) (t : TypedProgram) (given : Option (Entry Certificate)) (limits : Limits) (r : Race Certificate) (cs : List Certificate) → g ≡ lowered t →
+    IsRaceOf t given limits r → cs ≡ map evidence r.history → AreCertified g cs
+certified g t given limits r cs e race s =
+    subst (λ (x : Graph). AreCertified x cs) (sym e)
+    (subst (λ (x : List Certificate). AreCertified (lowered t) x) (sym s) (certified_with t given r.history race.own))
+
+all_covered : (t : TypedProgram) (given : Option (Entry Certificate)) (limits : Limits) (r : Race Certificate) → IsRaceOf t given limits r → r.end ≡ Some Safe →
     AreCovering (lowered t).automaton (map (λ c. c.automaton) (map evidence r.history))
-all_covered t limits r race end = λ w a.
+all_covered t given limits r race end = λ w a.
     let met : EndMeets automaton_in t limits r.history Safe = subst (λ (x : Option End). IfSome x (EndMeets automaton_in t limits r.history)) end race.end in
     removing r.history w (either (Removed automaton_in r.history w) (removed_or_not r.history w) (λ n. none_left t limits r.history met w (record { error = a; left = n })))
 
@@ -74,9 +82,9 @@ automata_are : (xs : List (Bor Certificate)) → map (λ c. c.now.automaton) xs 
 automata_are [] = refl
 automata_are (x ∷ xs) = ap (λ (ys : List Automaton). x.now.automaton ∷ ys) (automata_are xs)
 
-pub covered : (g : Graph) (t : TypedProgram) (limits : Limits) (r : Race Certificate) (xs : List (Bor Certificate)) → g ≡ lowered t → IsRaceOf t limits r → r.end ≡ Some Safe →
-    map (λ c. c.now) xs ≡ map evidence r.history → AreCovering g.automaton (map (λ c. c.now.automaton) xs)
-covered g t limits r xs e race end s =
+pub covered : (g : Graph) (t : TypedProgram) (given : Option (Entry Certificate)) (limits : Limits) (r : Race Certificate) (xs : List (Bor Certificate)) → g ≡ lowered t →
+    IsRaceOf t given limits r → r.end ≡ Some Safe → map (λ c. c.now) xs ≡ map evidence r.history → AreCovering g.automaton (map (λ c. c.now.automaton) xs)
+covered g t given limits r xs e race end s =
     subst (λ (x : Graph). AreCovering x.automaton (map (λ c. c.now.automaton) xs)) (sym e)
     (subst (λ (bs : List Automaton). AreCovering (lowered t).automaton bs) (sym (automata_are xs ∙ ap (λ (cs : List Certificate). map (λ c. c.automaton) cs) s))
-    (all_covered t limits r race end))
+    (all_covered t given limits r race end))

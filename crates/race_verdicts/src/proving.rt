@@ -1,11 +1,13 @@
 //! The annotation of a race that ended without a word.
 
-ghost use Rattle.std.specs.Prelude.{◌≡◌, IfOk, IsTrue, Some, map};
+ghost use Rattle.std.specs.Prelude.{◌≡◌, IfOk, IsTrue, Option, Some, map};
 ghost use Rattle.typing_rules.specs.TypedParts.{typed_program};
 ghost use Rattle.lowered_graph.specs.Lowered.{lowered};
 ghost use Rattle.proof_form.specs.Annotations.{is_annotation};
 ghost use Rattle.proof_check.specs.Proves.{Proves};
 ghost use Rattle.race_core.specs.declared.ends.End.TheVariants.{Safe};
+ghost use Rattle.race_core.specs.declared.events.Entry.{Entry};
+ghost use Rattle.itp_automaton.specs.Certified.{Certificate};
 ghost use Rattle.race_rounds.specs.declared.limits.Limits.{Limits};
 ghost use Rattle.race_rounds.specs.Rounds.{IsRaceOf};
 
@@ -40,7 +42,7 @@ pub(crate) fn annotation_of(
     race: &Shared<Certified>,
 ) -> Result<Annotation, AllocError>
     requires lowered { icfg.now ≡ lowered (typed_program program.now) }
-    requires race { (l : Limits) × IsRaceOf (typed_program program.now) l race.now }
+    requires race { (given : Option (Entry Certificate)) × (l : Limits) × IsRaceOf (typed_program program.now) given l race.now }
     requires safe { race.now.end ≡ Some Safe }
     ensures proves { IfOk result (Proves icfg.now) }
     ensures lines { IfOk result (λ a. IsTrue (is_annotation a)) }

@@ -1,8 +1,10 @@
 //! What is said of a race that has ended.
 
-ghost use Rattle.std.specs.Prelude.{◌≡◌, IfOk, IsSome};
+ghost use Rattle.std.specs.Prelude.{◌≡◌, IfOk, IsSome, Option};
 ghost use Rattle.typing_rules.specs.TypedParts.{typed_program};
 ghost use Rattle.lowered_graph.specs.Lowered.{lowered};
+ghost use Rattle.race_core.specs.declared.events.Entry.{Entry};
+ghost use Rattle.itp_automaton.specs.Certified.{Certificate};
 ghost use Rattle.race_rounds.specs.declared.limits.Limits.{Limits};
 ghost use Rattle.race_rounds.specs.Rounds.{IsRaceOf};
 ghost use Rattle.race_verdicts.specs.Verdicts.{IsVerdict};
@@ -49,7 +51,7 @@ pub fn verdict_of(
     race: &Shared<Certified>,
 ) -> Result<Verdict, AllocError>
     requires lowered { icfg.now ≡ lowered (typed_program program.now) }
-    requires race { (l : Limits) × IsRaceOf (typed_program program.now) l race.now }
+    requires race { (given : Option (Entry Certificate)) × (l : Limits) × IsRaceOf (typed_program program.now) given l race.now }
     requires ended { IsSome race.now.end }
     ensures { IfOk result (IsVerdict (typed_program program.now) race.now) }
 {

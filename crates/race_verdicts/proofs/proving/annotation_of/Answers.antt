@@ -1,4 +1,4 @@
-use Rattle.std.proofs.Common.{◌≡◌, ◌∙◌, ap, map}
+use Rattle.std.proofs.Common.{◌∙◌, ap, map}
 use Rattle.typing_rules.specs.TypedParts.{typed_program}
 use Rattle.race_verdicts.proofs.NoneLeft.{evidence, certified, covered}
 use Rattle.race_verdicts.proofs.StartBodies.{starts}
@@ -6,12 +6,12 @@ use Rattle.race_verdicts.proofs.proving.annotation_of.Goals as goal
 
 pub build-requires-clause-certified : goal.build-requires-clause-certified
 build-requires-clause-certified c =
-    certified c.args.icfg.now (typed_program c.args.program.now) c.requires.race.0 c.args.race.now (map (λ c. c.now) c.deref.result.now) c.requires.lowered c.requires.race.1
+    certified c.args.icfg.now (typed_program c.args.program.now) c.requires.race.0 c.requires.race.1 c.args.race.now (map (λ c. c.now) c.deref.result.now) c.requires.lowered c.requires.race.2
     (ap (map (λ c. c.now)) c.deref.ensures.value ∙ c.in_ok-automata.ensures ∙ ap (map evidence) c.history.ensures.value)
 
 pub build-requires-clause-covering : goal.build-requires-clause-covering
 build-requires-clause-covering c =
-    covered c.args.icfg.now (typed_program c.args.program.now) c.requires.race.0 c.args.race.now c.deref.result.now c.requires.lowered c.requires.race.1 c.requires.safe
+    covered c.args.icfg.now (typed_program c.args.program.now) c.requires.race.0 c.requires.race.1 c.args.race.now c.deref.result.now c.requires.lowered c.requires.race.2 c.requires.safe
     (ap (map (λ c. c.now)) c.deref.ensures.value ∙ c.in_ok-automata.ensures ∙ ap (map evidence) c.history.ensures.value)
 
 pub build-requires-clause-body : goal.build-requires-clause-body
