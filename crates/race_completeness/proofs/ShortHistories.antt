@@ -95,8 +95,9 @@ over : (t : TypedProgram) (limits : Limits) (h : List (Entry Certificate)) (w : 
 over t limits h w (no_word e n) = absurd (let no : ⊥ = cc in no)
 over t limits h w (one_word v k s) = s.1.0
 
-pub all_used : (t : TypedProgram) (limits : Limits) (r : Race Certificate) (w : List Letter) → IsRaceOf t limits r → r.end ≡ Some (Unknown Rounds w) → length r.history ≡ limits.rounds
-all_used t limits r w race e =
+pub all_used : (t : TypedProgram) (given : Option (Entry Certificate)) (limits : Limits) (r : Race Certificate) (w : List Letter) → IsRaceOf t given limits r →
+    r.end ≡ Some (Unknown Rounds w) → length r.history ≡ limits.rounds
+all_used t given limits r w race e =
     let least = over t limits r.history w (subst (λ (x : Option End). IfSome x (EndMeets automaton_in t limits r.history)) e race.end) in
     let most = race.within in
     omega (arith, least, most)

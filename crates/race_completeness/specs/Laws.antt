@@ -1,5 +1,5 @@
 -- What holds of the ends of races.
-use Rattle.std.specs.Prelude.{◌≡◌, ◌≤◌, ◌<◌, List, length, Some}
+use Rattle.std.specs.Prelude.{◌≡◌, ◌≤◌, ◌<◌, List, length, Option, Some}
 use Rattle.nwa_base.specs.declared.letters.Letter.{Letter}
 use Rattle.nwa_base.specs.Automata.{Automaton}
 use Rattle.typed_tree.specs.TypedTree.{TypedProgram}
@@ -26,7 +26,7 @@ RoundsAreEnough = (t : TypedProgram) (l : Limits) (h : List (Entry Certificate))
     HasWordsAmong (lowered t).automaton ws → length ws ≤ l.rounds → IsLegal automaton_in IsFeasibleFor (lowered t).automaton h →
     EndMeets automaton_in t l h (Unknown Rounds w) → ⊥
 
--- A race that has ended because its rounds are over has as many entries as rounds.
+-- A race that has ended because its rounds are over has as many entries as rounds, the one that was given included.
 abbrev pub AllRoundsAreUsed : Type 0
-AllRoundsAreUsed = (t : TypedProgram) (l : Limits) (r : Race Certificate) (w : List Letter) → IsRaceOf t l r → r.end ≡ Some (Unknown Rounds w) →
-    length r.history ≡ l.rounds
+AllRoundsAreUsed = (t : TypedProgram) (given : Option (Entry Certificate)) (l : Limits) (r : Race Certificate) (w : List Letter) → IsRaceOf t given l r →
+    r.end ≡ Some (Unknown Rounds w) → length r.history ≡ l.rounds

@@ -12,7 +12,7 @@ pub fn rounds_are_enough()
     ensures { law.RoundsAreEnough }
 {}
 
-/// A race that ends because its rounds are over has as many entries as rounds.
+/// A race that ends because its rounds are over has as many entries as rounds, the one that was given included.
 pub fn all_rounds_are_used()
     ensures { law.AllRoundsAreUsed }
 {}
