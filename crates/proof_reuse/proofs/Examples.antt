@@ -1,5 +1,5 @@
 -- The definitions at work: `x := 1; assert x == 1;` with its earlier annotation, and what is found where names have changed.
-use Rattle.std.proofs.Common.{◌≡◌, ℕ, suc, true, false, List, [], ◌∷◌, Option, None, Some, codes, refl, sym, ap, subst, inl, inr, lit<}
+use Rattle.std.proofs.Common.{◌≡◌, ℕ, suc, true, false, List, [], ◌∷◌, None, Some, codes, refl, sym, ap, subst, inl, inr, lit<}
 use Rattle.std.specs.Prelude.{ℤ, pos, negsuc, Bool}
 use Rattle.boogie_tree.specs.declared.tree.Column.{Column}
 use Rattle.boogie_tree.specs.declared.tree.Column.TheVariants.{Local}
@@ -14,7 +14,6 @@ use Rattle.letter_acts.specs.Acts.{PlainAct, inside_act}
 use Rattle.letter_acts.specs.Invariant.{Graph, alphabet_of}
 use Rattle.triple_rows.specs.declared.predicates.PredNode.TheVariants.{Truth, Atom}
 use Rattle.triple_rows.specs.declared.triples.Scoped.{Scoped}
-use Rattle.triple_rows.specs.declared.triples.Triple.{Triple}
 use Rattle.triple_rows.specs.declared.triples.Triple.TheVariants.{Inside}
 use Rattle.triple_rows.specs.Triples.{IsScoped, truth_of}
 use Rattle.proof_form.specs.declared.numerals.Numeral.{Numeral}

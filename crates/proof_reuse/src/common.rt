@@ -1,0 +1,48 @@
+//! A word of both languages.
+
+ghost use Rattle.std.specs.Prelude.{◌≡◌, ◌↔◌, Ok, None, List, IfOk, IfSome};
+ghost use Rattle.nwa_base.specs.declared.letters.Letter.{Letter};
+ghost use Rattle.nwa_base.specs.Acceptance.{Accepts};
+ghost use Rattle.letter_acts.specs.Invariant.{alphabet_of};
+ghost use Rattle.itp_automaton.specs.Certified.{IsCertified};
+
+use itp_automaton::Certified;
+use letter_acts::Icfg;
+use nwa_base::{Nwa, accepts};
+use nwa_difference::difference;
+use nwa_emptiness::{Found, find};
+use race_core::Entry;
+use std::alloc::{AllocError, Global};
+
+/// An automaton that accepts what both do: what the first does, without what it does and the second does not.
+fn common(alloc: Global, first: &Nwa, second: &Nwa) -> Result<Nwa, AllocError>
+    ensures { IfOk result (λ c. (w : List Letter) → Accepts c w ↔ (Accepts first.now w × ((Accepts second.now w → ⊥) → ⊥))) }
+{
+    let others = difference(alloc, first, second)?;
+    difference(alloc, first, &others)
+}
+
+/// An entry of the automaton, with a word that it and the program accept; `None` exactly where there is none.
+pub fn first(
+    alloc: Global,
+    icfg: &Icfg,
+    reused: Certified,
+) -> Result<Option<Entry<Certified>>, AllocError>
+    requires { IsCertified (alphabet_of icfg.now) reused }
+    ensures entry { IfOk result (λ r. IfSome r (λ e. (e.evidence ≡ reused) × Accepts icfg.now.automaton e.word × Accepts reused.automaton e.word)) }
+    ensures none { result ≡ Ok None → (w : List Letter) → Accepts icfg.now.automaton w → Accepts reused.automaton w → ⊥ }
+{
+    let both = common(alloc, icfg.nwa(), reused.nwa())?;
+    match find(alloc, &both, 0)? {
+        Found::Word(word) => {
+            if !accepts(alloc, reused.nwa(), &word)? {
+                unreachable!()
+            }
+            Ok(Some(Entry {
+                word,
+                evidence: reused,
+            }))
+        }
+        Found::Empty => Ok(None),
+    }
+}
