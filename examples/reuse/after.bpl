@@ -1,0 +1,33 @@
+// The lift of before.bpl now begins on the first floor, and a key lets it pass to the ground floor at once.
+// By verify: safe. By verify --reuse before.proof: safe, within 1 round.
+const top: int;
+axiom 1 <= top;
+var floor: int;
+
+procedure ride(up: bool)
+  modifies floor;
+{
+  if (up && floor < top) {
+    floor := floor + 1;
+  } else if (!up && 0 < floor) {
+    floor := floor - 1;
+  }
+}
+
+procedure main()
+  modifies floor;
+{
+  var up, key: bool;
+
+  floor := 1;
+  while (*) {
+    havoc up, key;
+    if (key) {
+      floor := 0;
+    } else {
+      call ride(up);
+    }
+  }
+  assert 0 <= floor;
+  assert floor <= top;
+}
