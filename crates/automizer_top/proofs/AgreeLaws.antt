@@ -1,6 +1,6 @@
 -- What a verdict says is so. Two verdicts on one program do not contradict each other, and where it has no error word the verdict is `safe` after no
 -- round.
-use Rattle.std.proofs.Common.{◌≡◌, ℕ, ℤ, List, [], ◌∷◌, length, Option, Some, inl, inr, ap, refl, sym, ◌∙◌, subst, arith}
+use Rattle.std.proofs.Common.{◌≡◌, ℕ, ℤ, List, [], ◌∷◌, length, Option, None, Some, inl, inr, ap, refl, sym, ◌∙◌, subst, arith}
 use Rattle.std.specs.Prelude.{IfSome, IsTrue}
 use Rattle.std.specs.List.{AllByRecursion}
 use Rattle.std.specs.declared.vec.Vec.{Vec}
@@ -27,7 +27,7 @@ use Rattle.race_core.specs.Races.{Race}
 use Rattle.itp_automaton.specs.Certified.{Certificate, IsCertified, IsFeasibleFor}
 use Rattle.race_rounds.specs.declared.limits.Limits.{Limits}
 use Rattle.race_rounds.specs.Ends.{WordIsKept, EndMeets, no_word, one_word}
-use Rattle.race_rounds.specs.Rounds.{automaton_in, IsOwn, IsRaceOf}
+use Rattle.race_rounds.specs.Rounds.{automaton_in, IsOwn, AreOwn, IsRaceOf}
 use Rattle.race_verdicts.specs.declared.verdicts.Verdict.{Verdict}
 use Rattle.race_verdicts.specs.declared.verdicts.Verdict.TheVariants.{Safe, Unsafe, Unknown}
 use Rattle.race_verdicts.specs.Verdicts.{IsVerdict}
@@ -42,8 +42,8 @@ abbrev pub CertifiedIsInfeasible : Type 0
 CertifiedIsInfeasible = (al : Alphabet) (c : Certificate) → IsCertified al c → (w : List Letter) → Accepts c.automaton w → IsFeasible al w → ⊥
 
 -- an end that the race has is met
-met : (t : TypedProgram) (limits : Limits) (r : Race Certificate) (e : End) → IsRaceOf t limits r → r.end ≡ Some e → EndMeets automaton_in t limits r.history e
-met t limits r e race is = subst (λ (x : Option End). IfSome x (EndMeets automaton_in t limits r.history)) is race.end
+met : (t : TypedProgram) (given : Option (Entry Certificate)) (limits : Limits) (r : Race Certificate) (e : End) → IsRaceOf t given limits r → r.end ≡ Some e → EndMeets automaton_in t limits r.history e
+met t given limits r e race is = subst (λ (x : Option End). IfSome x (EndMeets automaton_in t limits r.history)) is race.end
 
 -- ---- safe and unsafe
 
@@ -52,6 +52,15 @@ removed_is_infeasible : CertifiedIsInfeasible → (t : TypedProgram) (h : List (
 removed_is_infeasible law t [] w own f r = r
 removed_is_infeasible law t (e ∷ h) w own f (inl a) = law (alphabet_of (lowered t)) e.evidence own.0.certified w a f
 removed_is_infeasible law t (e ∷ h) w own f (inr r) = removed_is_infeasible law t h w own.1 f r
+
+-- nor does the automaton of the entry that was given
+none_removed : CertifiedIsInfeasible → (t : TypedProgram) (given : Option (Entry Certificate)) (h : List (Entry Certificate)) (w : List Letter) → AreOwn t given h →
+    IsFeasible (alphabet_of (lowered t)) w → Removed automaton_in h w → ⊥
+none_removed law t None h w own f r = removed_is_infeasible law t h w own f r
+none_removed law t (Some e) [] w own f r = r
+none_removed law t (Some e) (x ∷ h) w own f (inl a) =
+    law (alphabet_of (lowered t)) e.evidence own.1.certified w (subst (λ (y : Entry Certificate). Accepts y.evidence.automaton w) own.0 a) f
+none_removed law t (Some e) (x ∷ h) w own f (inr r) = removed_is_infeasible law t h w own.2 f r
 
 none_kept : (t : TypedProgram) (limits : Limits) (h : List (Entry Certificate)) → EndMeets automaton_in t limits h ends.Safe → (w : List Letter) →
     WordIsKept automaton_in (lowered t).automaton h w → ⊥
@@ -72,34 +81,37 @@ ends_safe t r (Safe coarse w) a h is z = h.0
 ends_safe t r (Unsafe f) a h is z = absurd (let e : 1 ≡ 0 = sym (ap (λ (b : Answer). b.status) is) ∙ z in omega arith)
 ends_safe t r (Unknown cause w) a h is z = absurd (let e : 2 ≡ 0 = sym (ap (λ (b : Answer). b.status) is) ∙ z in omega arith)
 
-fails_at : (t : TypedProgram) (limits : Limits) (r : Race Certificate) (v : Verdict) (a : Answer) → IsRaceOf t limits r → IsVerdict t r v → a ≡ verdict_answer r v → a.status ≡ 1 →
+fails_at : (t : TypedProgram) (given : Option (Entry Certificate)) (limits : Limits) (r : Race Certificate) (v : Verdict) (a : Answer) → IsRaceOf t given limits r → IsVerdict t r v → a ≡ verdict_answer r v → a.status ≡ 1 →
     (w : List Letter) × IsErrorWord t w
-fails_at t limits r (Safe coarse w) a race h is z = absurd (let e : 0 ≡ 1 = sym (ap (λ (b : Answer). b.status) is) ∙ z in omega arith)
-fails_at t limits r (Unsafe f) a race h is z = error_word t limits r.history h.word f.trail.steps h.choices (met t limits r (ends.Unsafe h.word f.trail.steps h.choices) race h.end)
-fails_at t limits r (Unknown cause w) a race h is z = absurd (let e : 2 ≡ 1 = sym (ap (λ (b : Answer). b.status) is) ∙ z in omega arith)
+fails_at t given limits r (Safe coarse w) a race h is z = absurd (let e : 0 ≡ 1 = sym (ap (λ (b : Answer). b.status) is) ∙ z in omega arith)
+fails_at t given limits r (Unsafe f) a race h is z = error_word t limits r.history h.word f.trail.steps h.choices (met t given limits r (ends.Unsafe h.word f.trail.steps h.choices) race h.end)
+fails_at t given limits r (Unknown cause w) a race h is z = absurd (let e : 2 ≡ 1 = sym (ap (λ (b : Answer). b.status) is) ∙ z in omega arith)
 
-pub never_both : CertifiedIsInfeasible → (limits p : Limits) (t : TypedProgram) (a b : Answer) → ReportsVerdict limits t a → ReportsVerdict p t b → a.status ≡ 0 → b.status ≡ 1 → ⊥
-never_both law limits p t a b v u z s =
-    let safe = met t limits v.race ends.Safe v.closed.race (ends_safe t v.race v.verdict a v.of_end v.is z) in
-    let e = fails_at t p u.race u.verdict b u.closed.race u.of_end u.is s in
+pub never_both : CertifiedIsInfeasible → (given other : Option (Entry Certificate)) (limits p : Limits) (t : TypedProgram) (a b : Answer) → ReportsVerdict given limits t a →
+    ReportsVerdict other p t b → a.status ≡ 0 → b.status ≡ 1 → ⊥
+never_both law given other limits p t a b v u z s =
+    let safe = met t given limits v.race ends.Safe v.closed.race (ends_safe t v.race v.verdict a v.of_end v.is z) in
+    let e = fails_at t other p u.race u.verdict b u.closed.race u.of_end u.is s in
     none_kept t limits v.race.history safe e.0
-    (record { error = e.1.accepted; left = λ r. removed_is_infeasible law t v.race.history e.0 v.closed.race.own e.1.feasible r })
+    (record { error = e.1.accepted; left = λ r. none_removed law t given v.race.history e.0 v.closed.race.own e.1.feasible r })
 
 -- ---- what a verdict says is so
 
-pub safe_is_true : CertifiedIsInfeasible → LoweringIsFaithful → (limits : Limits) (t : TypedProgram) (a : Answer) → IsTrue (is_valid t) → ReportsVerdict limits t a → a.status ≡ 0 → IsSafe t
-safe_is_true law faithful limits t a valid v z =
-    let safe = met t limits v.race ends.Safe v.closed.race (ends_safe t v.race v.verdict a v.of_end v.is z) in
+pub safe_is_true : CertifiedIsInfeasible → LoweringIsFaithful → (given : Option (Entry Certificate)) (limits : Limits) (t : TypedProgram) (a : Answer) → IsTrue (is_valid t) →
+    ReportsVerdict given limits t a → a.status ≡ 0 → IsSafe t
+safe_is_true law faithful given limits t a valid v z =
+    let safe = met t given limits v.race ends.Safe v.closed.race (ends_safe t v.race v.verdict a v.of_end v.is z) in
     faithful_is_safe t (lowered t) refl (faithful t valid)
     (λ w accepted feasible. none_kept t limits v.race.history safe w
-    (record { error = accepted; left = λ r. removed_is_infeasible law t v.race.history w v.closed.race.own feasible r }))
+    (record { error = accepted; left = λ r. none_removed law t given v.race.history w v.closed.race.own feasible r }))
 
 -- what replays is a run that fails
 abbrev pub WhatReplaysFails : Type 0
 WhatReplaysFails = (t : TypedProgram) (n : ℕ) (choices : List ℤ) (i : ℕ) → Replays t n choices i → Fails t i
 
-pub unsafe_is_true : WhatReplaysFails → (limits : Limits) (t : TypedProgram) (a : Answer) → ReportsVerdict limits t a → a.status ≡ 1 → PrintsFailure t a
-unsafe_is_true law limits t a v z =
+pub unsafe_is_true : WhatReplaysFails → (given : Option (Entry Certificate)) (limits : Limits) (t : TypedProgram) (a : Answer) → ReportsVerdict given limits t a → a.status ≡ 1 →
+    PrintsFailure t a
+unsafe_is_true law given limits t a v z =
     let u = unsafe_of t v.race v.verdict a v.of_end v.is z in
     (u.failure, u.id, law t u.failure.steps u.failure.choices u.id.number u.replays.replays, u.read, u.replays)
 
@@ -116,16 +128,16 @@ only_safe : (t : TypedProgram) (limits : Limits) (h : List (Entry Certificate)) 
 only_safe t limits h e none (no_word is n) = is
 only_safe t limits h e none (one_word w k s) = absurd (none w k.error)
 
-safe_at_once : (t : TypedProgram) (limits : Limits) (r : Race Certificate) (v : Verdict) (a : Answer) → HasNoWord t → IsRaceOf t limits r → r.history ≡ [] → IsVerdict t r v →
+safe_at_once : (t : TypedProgram) (given : Option (Entry Certificate)) (limits : Limits) (r : Race Certificate) (v : Verdict) (a : Answer) → HasNoWord t → IsRaceOf t given limits r → r.history ≡ [] → IsVerdict t r v →
     a ≡ verdict_answer r v → (w : Content) × (a.bytes ≡ safe_text 0 (coarse_letters (lowered t) w) w) × (a.status ≡ 0)
-safe_at_once t limits r (Safe coarse w) a none race empty h is =
+safe_at_once t given limits r (Safe coarse w) a none race empty h is =
     (w, ap (λ (b : Answer). b.bytes) is ∙ ap (λ (x : List (Entry Certificate)). safe_text (length x) coarse.items w) empty ∙ ap (λ (ns : List ℕ). safe_text 0 ns w) h.3, ap (λ (b : Answer). b.status) is)
-safe_at_once t limits r (Unsafe f) a none race empty h is =
-    absurd (let e = only_safe t limits r.history (ends.Unsafe h.word f.trail.steps h.choices) none (met t limits r (ends.Unsafe h.word f.trail.steps h.choices) race h.end) in let no : ⊥ = cc in no)
-safe_at_once t limits r (Unknown cause w) a none race empty h is =
-    absurd (let e = only_safe t limits r.history (ends.Unknown cause w) none (met t limits r (ends.Unknown cause w) race h) in let no : ⊥ = cc in no)
+safe_at_once t given limits r (Unsafe f) a none race empty h is =
+    absurd (let e = only_safe t limits r.history (ends.Unsafe h.word f.trail.steps h.choices) none (met t given limits r (ends.Unsafe h.word f.trail.steps h.choices) race h.end) in let no : ⊥ = cc in no)
+safe_at_once t given limits r (Unknown cause w) a none race empty h is =
+    absurd (let e = only_safe t limits r.history (ends.Unknown cause w) none (met t given limits r (ends.Unknown cause w) race h) in let no : ⊥ = cc in no)
 
-pub without_error_words : (limits : Limits) (t : TypedProgram) (a : Answer) → ReportsVerdict limits t a → HasNoWord t →
+pub without_error_words : (given : Option (Entry Certificate)) (limits : Limits) (t : TypedProgram) (a : Answer) → ReportsVerdict given limits t a → HasNoWord t →
     (w : Content) × (a.bytes ≡ safe_text 0 (coarse_letters (lowered t) w) w) × (a.status ≡ 0)
-without_error_words limits t a v none =
-    safe_at_once t limits v.race v.verdict a none v.closed.race (no_entry t v.race.program v.race.history v.closed.race.program none v.closed.legal) v.of_end v.is
+without_error_words given limits t a v none =
+    safe_at_once t given limits v.race v.verdict a none v.closed.race (no_entry t v.race.program v.race.history v.closed.race.program none v.closed.legal) v.of_end v.is

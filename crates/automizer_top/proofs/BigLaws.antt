@@ -37,7 +37,7 @@ use Rattle.automizer_top.proofs.RequestLaws.{same_task, only_one}
 use Rattle.automizer_top.proofs.SafetyLaws.{graph_is_safe}
 
 pub summary_reported : (limits : Limits) (count : ℕ) (t : TypedProgram) (r : Race Certificate) (v : Verdict) (text : List ℕ) (left : ℕ) →
-    resolved_program (generated count) (codes "main") ≡ Some t → first_fault t ≡ None → IsRaceOf t limits r → IsVerdict t r v →
+    resolved_program (generated count) (codes "main") ≡ Some t → first_fault t ≡ None → IsRaceOf t None limits r → IsVerdict t r v →
     IsLegal automaton_in IsFeasibleFor r.program r.history → Keeps automaton_in r.program r.history r.kept → left + length r.history ≡ r.limit → text ≡ summary_text count v →
     ReportsBig limits count (record { bytes = text; status = verdict_status v; races = r ∷ [] })
 summary_reported limits count t r v text left typed lowers race of_end legal kept room same_text = record {
@@ -84,7 +84,7 @@ big_is_safe count t g typed h none u other = subst IsSafe (one_program count t u
 
 -- a summary is of a verdict that could be told
 pub summary_is_verdict : (l : Limits) (count : ℕ) (a : Answer) → ReportsBig l count a →
-    (t : TypedProgram) × (r : Race Certificate) × (v : Verdict) × (resolved_program (generated count) (codes "main") ≡ Some t) × ReportsVerdict l t (verdict_answer r v)
+    (t : TypedProgram) × (r : Race Certificate) × (v : Verdict) × (resolved_program (generated count) (codes "main") ≡ Some t) × ReportsVerdict None l t (verdict_answer r v)
     × (a ≡ summary_answer count r v)
 summary_is_verdict l count a big = (
   big.program,

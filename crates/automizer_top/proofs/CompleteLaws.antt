@@ -9,6 +9,7 @@ use Rattle.race_core.specs.declared.ends.Cause.{Cause}
 use Rattle.race_core.specs.declared.ends.Cause.TheVariants.{Rounds, Whole, Number, Product}
 use Rattle.race_core.specs.declared.ends.End.{End}
 use Rattle.race_core.specs.declared.ends.End.TheVariants as ends
+use Rattle.race_core.specs.declared.events.Entry.{Entry}
 use Rattle.race_core.specs.Histories.{IsLegal}
 use Rattle.race_core.specs.Races.{Race}
 use Rattle.itp_automaton.specs.Certified.{Certificate, IsFeasibleFor}
@@ -85,8 +86,8 @@ record EndsUnknown (t : TypedProgram) (limits : Limits) (cause : Cause) : Type 0
   legal : IsLegal automaton_in IsFeasibleFor (lowered t).automaton race.history
   meets : EndMeets automaton_in t limits race.history (ends.Unknown cause word)
 
-ends_so : (limits : Limits) (t : TypedProgram) (a : Answer) (cause : Cause) → ReportsVerdict limits t a → SaysUnknown cause a → EndsUnknown t limits cause
-ends_so limits t a cause v s =
+ends_so : (given : Option (Entry Certificate)) (limits : Limits) (t : TypedProgram) (a : Answer) (cause : Cause) → ReportsVerdict given limits t a → SaysUnknown cause a → EndsUnknown t limits cause
+ends_so given limits t a cause v s =
     let text : verdict_text (length v.race.history) v.verdict ≡ unknown_text cause s.0 s.1 = sym (ap (λ (b : Answer). b.bytes) v.is) ∙ s.2 in
     let k = of_text cause (length v.race.history) s.0 s.1 v.verdict text in
     let end : v.race.end ≡ Some (ends.Unknown cause k.0) = subst (IsVerdict t v.race) k.1 v.of_end in
@@ -97,15 +98,16 @@ ends_so limits t a cause v s =
       meets = subst (λ (x : Option End). IfSome x (EndMeets automaton_in t limits v.race.history)) end v.closed.race.end;
     }
 
-pub never_rounds : RoundsAreEnough → (limits : Limits) (t : TypedProgram) (a : Answer) (ws : List (List Letter)) → ReportsVerdict limits t a → HasWordsAmong (lowered t).automaton ws →
+pub never_rounds : RoundsAreEnough → (given : Option (Entry Certificate)) (limits : Limits) (t : TypedProgram) (a : Answer) (ws : List (List Letter)) → ReportsVerdict given limits t a →
+    HasWordsAmong (lowered t).automaton ws →
     length ws ≤ limits.rounds → SaysUnknown Rounds a → ⊥
-never_rounds law limits t a ws v f le s =
-    let e = ends_so limits t a Rounds v s in
+never_rounds law given limits t a ws v f le s =
+    let e = ends_so given limits t a Rounds v s in
     law t limits e.race.history e.word ws f le e.legal e.meets
 
 gap_of : (limits : Limits) (t : TypedProgram) (e : EndsUnknown t limits Whole) → HasDifferenceRows t → EndMeets automaton_in t limits e.race.history (ends.Unknown Whole e.word) → ⊥
 gap_of limits t e d (no_word is n) = let no : ⊥ = cc in no
 gap_of limits t e d (one_word w k s) = s.1.others (d w k.error)
 
-pub never_whole : (limits : Limits) (t : TypedProgram) (a : Answer) → ReportsVerdict limits t a → HasDifferenceRows t → SaysUnknown Whole a → ⊥
-never_whole limits t a v d s = let e = ends_so limits t a Whole v s in gap_of limits t e d e.meets
+pub never_whole : (given : Option (Entry Certificate)) (limits : Limits) (t : TypedProgram) (a : Answer) → ReportsVerdict given limits t a → HasDifferenceRows t → SaysUnknown Whole a → ⊥
+never_whole given limits t a v d s = let e = ends_so given limits t a Whole v s in gap_of limits t e d e.meets

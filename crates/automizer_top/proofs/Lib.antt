@@ -12,6 +12,7 @@ pub mod PartFunctions
 pub mod ReportLaws
 pub mod UsageLaws
 pub mod VerdictLaws
+pub mod EarlierLaws
 pub mod BigLaws
 pub mod SummaryLaws
 pub mod ReplayedOnce

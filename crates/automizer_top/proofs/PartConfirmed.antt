@@ -1,5 +1,5 @@
 -- What `verify` writes by parts is confirmed: `check` accepts it where all parts are safe, and `replay` replays it where one is unsafe.
-use Rattle.std.proofs.Common.{◌≡◌, ℕ, ◌+◌, ◌<◌, ◌≤◌, List, [], ◌∷◌, ◌++◌, length, Bool, true, false, Option, None, Some, ap, refl, sym, ◌∙◌, subst, arith}
+use Rattle.std.proofs.Common.{◌≡◌, ℕ, ◌+◌, ◌<◌, ◌≤◌, List, [], ◌∷◌, ◌++◌, length, Bool, true, false, Option, None, Some, ◌⊎◌, inr, ap, refl, sym, ◌∙◌, subst, arith}
 use Rattle.std.proofs.lemmas.Bool.{false≢true}
 use Rattle.std.proofs.lemmas.List.{length-append}
 use Rattle.outer_io.specs.Texts.{text_named}
@@ -15,7 +15,7 @@ use Rattle.automizer_top.specs.PartTexts.{modular_line, part_line, front_lines, 
 use Rattle.automizer_top.specs.ReportTexts.{Answer, accepted_answer, replayed_answer}
 use Rattle.automizer_top.specs.Report.{second_limit, Ask, IsTypedText, refused, of_typed, of_second, IsSafeText, replayed, ReportsVerdict, ReportsCheckBy, ReportsReplayBy, ReportsVerifyBy, Reports, usage, printing, checking, replaying, verifying, generating}
 use Rattle.automizer_top.specs.Parts.{free, of_parts, first_part_fault, part_unlowered, parts_lowered, AreSafe, part_texts, ReportsParts, all_safe, one_is_not, ReportsVerifyParts, ProvesPart, right_part, ChecksParts, of_part_proofs, ReportsPartProofs, ReportsCheckParts, of_part_failure, ReportsReplayParts}
-use Rattle.automizer_top.specs.ReportClaims.{IsHandedOver}
+use Rattle.automizer_top.specs.ReportClaims.{RefusesEarlier, IsHandedOver}
 use Rattle.automizer_top.specs.PartClaims.{AreVerdictsOn}
 use Rattle.automizer_top.proofs.RefusalLaws.{typed_is_three}
 use Rattle.automizer_top.proofs.RequestLaws.{program_of, same_task, same_settings, only_one, nothing_asked, rounds_fit}
@@ -49,9 +49,10 @@ of_text s program text texts a found (of_typed t w (of_parts none (parts_lowered
     record { text = text; meant = t; found = found; typed = w; none_free = none; lowers = lowers; verdicts = v; short = few }
 
 -- with the flag it is the parts that are answered for
-parts_verify : (m : Bool) (entry : List ℕ) (l : Limits) (text : List ℕ) (a : Answer) → m ≡ true → ReportsVerifyBy m entry l text a → ReportsVerifyParts entry l text a
-parts_verify true entry l text a on r = r
-parts_verify false entry l text a on r = absurd (false≢true on)
+parts_verify : (m : Bool) (reuse : Option (List ℕ)) (texts : Texts) (entry : List ℕ) (l : Limits) (text : List ℕ) (a : Answer) → m ≡ true → ReportsVerifyBy m reuse texts entry l text a →
+    ReportsVerifyParts entry l text a
+parts_verify true reuse texts entry l text a on r = r
+parts_verify false reuse texts entry l text a on r = absurd (false≢true on)
 
 parts_check : (m : Bool) (entry text : List ℕ) (second : Option (List ℕ)) (a : Answer) → m ≡ true → ReportsCheckParts entry text second a → ReportsCheckBy m entry text second a
 parts_check true entry text second a on r = r
@@ -72,7 +73,7 @@ verdicts_of words s program texts a ask on (verifying u p t asked found verify) 
     let name : p ≡ program = ap program_of (same_task words u s (Verify p) (Verify program) asked ask) in
     let settings : u ≡ s = same_settings words u s (Verify p) (Verify program) asked ask in
     of_text s program t texts a (subst (λ (n : List ℕ). text_named n texts ≡ Some t) name found)
-    (parts_verify s.modular s.entry s.limits t a on (subst (λ (v : Settings). ReportsVerifyBy v.modular v.entry v.limits t a) settings verify)) l
+    (parts_verify s.modular s.reuse texts s.entry s.limits t a on (subst (λ (v : Settings). ReportsVerifyBy v.modular v.reuse texts v.entry v.limits t a) settings verify)) l
 
 -- so they are verdicts on the parts of the program of the text
 pub parts_told : (words : List (List ℕ)) (texts : Texts) (s : Settings) (program : List ℕ) (a : Answer) → Ask words s (Verify program) → s.modular ≡ true → Reports words texts a → a.status < 3 →
@@ -88,11 +89,11 @@ record IsAnnotated (t : TypedProgram) (a : Answer) (more : List ℕ) : Type 0 wh
   pub proves : ProvesPart (lowered t) (front_text (a.bytes ++ more))
   pub rest : rest_text (a.bytes ++ more) ≡ more
 
-annotated : (l : Limits) (t : TypedProgram) (a : Answer) (more : List ℕ) → l.rounds ≤ 100000 → ReportsVerdict l t a → a.status ≡ 0 → length a.bytes ≤ second_limit → IsAnnotated t a more
+annotated : (l : Limits) (t : TypedProgram) (a : Answer) (more : List ℕ) → l.rounds ≤ 100000 → ReportsVerdict None l t a → a.status ≡ 0 → length a.bytes ≤ second_limit → IsAnnotated t a more
 annotated l t a more small v z few =
     let f = safe_of t v.race v.verdict a v.of_end v.is z in
     let letters : List ℕ = coarse_letters (lowered t) f.annotation in
-    let s : IsSafeText a.bytes letters f.annotation = safe_spelled l t a small v f in
+    let s : IsSafeText a.bytes letters f.annotation = safe_spelled None l t a small v f in
     let front = safe_is_front s.rounds letters f.annotation more s.small s.short s.lines (fits_in_memory a.bytes letters f.annotation s few) in
     let text : front_text (a.bytes ++ more) ≡ a.bytes =
     subst (λ (bytes : List ℕ). front_text (bytes ++ more) ≡ bytes) (sym s.spelled) front.0 in
@@ -219,11 +220,12 @@ verify_is_accepted words again r s program second before after a b = check_by r.
 
 replay_by : (m : Bool) (words again : List (List ℕ)) (r s : Settings) (program second : List ℕ) (before after : Texts) (a b : Answer) → r.modular ≡ m → Ask words r (Verify program) →
     Ask again s (Replay program second) → Reports words before a → a.status ≡ 1 → IsHandedOver program second r s before after a → Reports again after b →
-    (id : AssertId) × (b ≡ replayed_answer id)
-replay_by true words again r s program second before after a b m = replay_replays_parts words again r s program second before after a b m
+    RefusesEarlier r before a ⊎ ((id : AssertId) × (b ≡ replayed_answer id))
+replay_by true words again r s program second before after a b m = λ ask asked given z h gives.
+    inr (replay_replays_parts words again r s program second before after a b m ask asked given z h gives)
 replay_by false words again r s program second before after a b m = replay_replays words again r s program second before after a b m
 
 pub verify_is_replayed : (words again : List (List ℕ)) (r s : Settings) (program second : List ℕ) (before after : Texts) (a b : Answer) → Ask words r (Verify program) →
     Ask again s (Replay program second) → Reports words before a → a.status ≡ 1 → IsHandedOver program second r s before after a → Reports again after b →
-    (id : AssertId) × (b ≡ replayed_answer id)
+    RefusesEarlier r before a ⊎ ((id : AssertId) × (b ≡ replayed_answer id))
 verify_is_replayed words again r s program second before after a b = replay_by r.modular words again r s program second before after a b refl

@@ -185,7 +185,7 @@ replay_reported entry text name t ps a (Some shown) w h r = replay_answered entr
 -- ---- verdicts, part by part
 
 -- one part more that is safe
-pub safe_more : (l : Limits) (ps : List PlainPart) (bs : List Answer) (p : PlainPart) (b : Answer) → AreSafe l ps bs → ReportsVerdict l p.program b → b.status ≡ 0 → AreSafe l (ps ++ p ∷ []) (bs ++ b ∷ [])
+pub safe_more : (l : Limits) (ps : List PlainPart) (bs : List Answer) (p : PlainPart) (b : Answer) → AreSafe l ps bs → ReportsVerdict None l p.program b → b.status ≡ 0 → AreSafe l (ps ++ p ∷ []) (bs ++ b ∷ [])
 safe_more l [] [] p b h v z = (v, z, tt)
 safe_more l [] (c ∷ bs) p b h v z = absurd h
 safe_more l (q ∷ ps) [] p b h v z = absurd h

@@ -108,7 +108,7 @@ pub none_verified : (l : Limits) (ps : List Part) (gs : List Graph) (text : List
 none_verified l ps gs text races e f = record { answers = []; safe = tt; text_is = e ∙ sym (append-nil (modular_line (length ps))); races_are = f; none = tt }
 
 pub one_more_safe : (l : Limits) (ps : List Part) (gs : List Graph) (n : ℕ) (text new : List ℕ) (races more : List (Race Certificate)) (p : Part) (g : Graph) (b : Answer) → n < length ps → p ≡ get_or ps n p →
-    n < length gs → g ≡ get_or gs n g → SafeSoFar l ps gs n text races → ReportsVerdict l (plain_part p).program b → b.status ≡ 0 → HasNoErrorWord g →
+    n < length gs → g ≡ get_or gs n g → SafeSoFar l ps gs n text races → ReportsVerdict None l (plain_part p).program b → b.status ≡ 0 → HasNoErrorWord g →
     new ≡ text ++ (part_line (plain_part p).name ++ b.bytes) → more ≡ races ++ b.races → SafeSoFar l ps gs (n + 1) new more
 one_more_safe l ps gs n text new races more p g b within e within' f h v z none added pushed =
     let qs : List PlainPart = take n (map plain_part ps) in
@@ -137,7 +137,7 @@ pub none_has_errors : (l : Limits) (ps : List Part) (gs : List Graph) (n : ℕ) 
 none_has_errors l ps gs n text races past h = subst HaveNoErrorWord (whole gs n past) h.none
 
 pub one_is_unsafe : (l : Limits) (ps : List Part) (gs : List Graph) (n : ℕ) (text own : List ℕ) (races more : List (Race Certificate)) (p : Part) (b : Answer) → n < length ps → p ≡ get_or ps n p →
-    SafeSoFar l ps gs n text races → ReportsVerdict l (plain_part p).program b → b.status ≢ 0 → own ≡ part_line (plain_part p).name ++ b.bytes → more ≡ races ++ b.races →
+    SafeSoFar l ps gs n text races → ReportsVerdict None l (plain_part p).program b → b.status ≢ 0 → own ≡ part_line (plain_part p).name ++ b.bytes → more ≡ races ++ b.races →
     ReportsParts l (map plain_part ps) (record { bytes = own; status = b.status; races = more })
 one_is_unsafe l ps gs n text own races more p b within e h v other written pushed =
     let there = get_map plain_part ps n p (at ps n p within e) in

@@ -1,5 +1,5 @@
 -- What verdicts on parts say is so: where all are safe the program is, and where one is unsafe a run of that part fails.
-use Rattle.std.proofs.Common.{◌≡◌, ℕ, suc, ◌<◌, List, [], ◌∷◌, ◌++◌, length, ap, refl, sym, ◌∙◌, subst, arith}
+use Rattle.std.proofs.Common.{◌≡◌, ℕ, suc, ◌<◌, List, [], ◌∷◌, ◌++◌, length, None, ap, refl, sym, ◌∙◌, subst, arith}
 use Rattle.std.specs.Prelude.{IsTrue, Contains}
 use Rattle.std.specs.List.{AllByRecursion}
 use Rattle.typed_tree.specs.TypedTree.{TypedProgram}
@@ -19,7 +19,7 @@ each_is_safe : CertifiedIsInfeasible → LoweringIsFaithful → (l : Limits) (ps
     AllByRecursion (λ p. IsSafe p.program) ps
 each_is_safe law faithful l [] bs valid h = tt
 each_is_safe law faithful l (p ∷ ps) [] valid h = absurd h
-each_is_safe law faithful l (p ∷ ps) (b ∷ bs) valid h = (safe_is_true law faithful l p.program b valid.0 h.0 h.1, each_is_safe law faithful l ps bs valid.1 h.2)
+each_is_safe law faithful l (p ∷ ps) (b ∷ bs) valid h = (safe_is_true law faithful None l p.program b valid.0 h.0 h.1, each_is_safe law faithful l ps bs valid.1 h.2)
 
 not_both : (b : Answer) (n : ℕ) → n ≡ b.status → n ≡ 0 → (b.status ≡ 0 → ⊥) → ⊥
 not_both b n e z other = other (sym e ∙ z)
@@ -49,5 +49,5 @@ part_fails law l t a (one_is_not before after p bs b same h v other is) z =
       subst (λ (ps : List PlainPart). Contains ps p) (sym same) (split_contains before after p),
       b,
       ap (λ (c : Answer). c.bytes) is,
-      unsafe_is_true law l p.program b v status,
+      unsafe_is_true law None l p.program b v status,
     )

@@ -26,12 +26,13 @@ use Rattle.automizer_top.specs.Refusals.{refusal}
 use Rattle.automizer_top.specs.Answers.{answered, Asks, IsGraphOf, HasNoErrorWord, TextIsSafe, CheckedIsSafe, VerifiedIsSafe, BuiltIsSafe}
 use Rattle.automizer_top.specs.ReportTexts.{Answer, answer, too_long_answer, accepted_answer}
 use Rattle.automizer_top.specs.Report.{program_limit, second_limit, Ask, too_long, no_program, ReportsPrint, refused_print, printed, RefusesTyped, refused_text, IsTypedText, refused, of_typed, RefusesLowering, unlowered, of_lowered, ReportsSecond, second_too_long, of_second, ReportsProof, ReportsCheck, ReportsFailure, no_failure, replayed, stopped, ReportsReplay, ReportsVerify, ReportsCheckBy, ReportsReplayBy, ReportsVerifyBy, Reports, usage, printing, checking, replaying, verifying, generating}
+use Rattle.automizer_top.specs.Earlier.{ReportsReuse, no_earlier, of_earlier, ReportsVerifyWith}
 use Rattle.automizer_top.specs.PartClaims.{PartFails}
 use Rattle.automizer_top.specs.ReportClaims.{GeneratedIsSafe, PrintsProgram, AsksForCheck, AsksForVerdict, ProgramIsSafe, ProgramFails, WhereTold}
 use Rattle.automizer_top.proofs.PrintedTexts.{begins_otherwise}
 use Rattle.automizer_top.proofs.VerdictTexts.{verdict_begins}
 use Rattle.automizer_top.proofs.SafetyLaws.{graph_is_safe}
-use Rattle.automizer_top.proofs.RefusalLaws.{typed_is_not_zero, lowering_is_not_zero, refused_is_not_zero, too_long_is_not_zero, IsAccepted, proof_zero, second_letter, typed_begins, lowering_begins, refused_begins, too_long_begins, proof_begins, failure_begins}
+use Rattle.automizer_top.proofs.RefusalLaws.{typed_is_not_zero, lowering_is_not_zero, refused_is_not_zero, too_long_is_not_zero, IsAccepted, proof_zero, second_letter, e_is_not_c, typed_begins, lowering_begins, refused_begins, too_long_begins, proof_begins, failure_begins}
 use Rattle.automizer_top.proofs.PartAnswers.{verify_parts_zero, verify_parts_begins, check_parts_zero, check_parts_begins, replay_parts_zero, replay_parts_begins}
 use Rattle.automizer_top.proofs.RequestLaws.{only_one, program_of, same_task, same_settings}
 use Rattle.automizer_top.proofs.TypedTexts.{one_typed}
@@ -127,9 +128,11 @@ refused_replay : (m : Bool) (entry text : List ℕ) (second : Option (List ℕ))
 refused_replay false entry text second a r = refused r
 refused_replay true entry text second a r = refused r
 
-refused_verify : (m : Bool) (entry : List ℕ) (l : Limits) (text : List ℕ) (a : Answer) → RefusesTyped entry text a → ReportsVerifyBy m entry l text a
-refused_verify false entry l text a r = refused r
-refused_verify true entry l text a r = refused r
+refused_verify : (m : Bool) (reuse : Option (List ℕ)) (texts : Texts) (entry : List ℕ) (l : Limits) (text : List ℕ) (a : Answer) → RefusesTyped entry text a →
+    ReportsVerifyBy m reuse texts entry l text a
+refused_verify false None texts entry l text a r = refused r
+refused_verify false (Some old) texts entry l text a r = refused r
+refused_verify true reuse texts entry l text a r = refused r
 
 -- a program text that is past its limit is refused, whatever the words ask for
 too_long_asked : (words : List (List ℕ)) (mode : Mode) (o : Options) (text : List ℕ) (shown : List (List ℕ × List ℕ)) → Asks words mode o →
@@ -140,7 +143,7 @@ too_long_asked words (modes.Replay program second) o text shown ask e past =
     replaying (settings o) program.now second.now text ask e (refused_replay o.modular o.entry.now text (text_named second.now shown) too_long_answer (refused_text (too_long past refl)))
 too_long_asked words (modes.Print program) o text shown ask e past = printing (settings o) program.now text ask e (refused_print (too_long past refl))
 too_long_asked words (modes.Verify program) o text shown ask e past =
-    verifying (settings o) program.now text ask e (refused_verify o.modular o.entry.now o.limits text too_long_answer (refused_text (too_long past refl)))
+    verifying (settings o) program.now text ask e (refused_verify o.modular (settings o).reuse shown o.entry.now o.limits text too_long_answer (refused_text (too_long past refl)))
 
 -- the program text is past its limit
 pub program_reported : (words : List (List ℕ)) (mode : Mode) (o : Options) (name : List ℕ) (texts : Option (List (List ℕ × List ℕ))) → Asks words mode o → name ≡ program_name mode →
@@ -211,13 +214,21 @@ print_reported words mode o program name text a (Some shown) ask is same h r =
     printing (settings o) program.now text (asks_for words mode (modes.Print program) o ask is) (text_of mode (modes.Print program) name text shown is same h.0) r
 
 -- the program text was read, and its verdict is asked for
-pub verify_reported : (words : List (List ℕ)) (mode : Mode) (o : Options) (program : Bor (List ℕ)) (name text : List ℕ) (a : Answer) (texts : Option (List (List ℕ × List ℕ))) →
+verify_reported : (words : List (List ℕ)) (mode : Mode) (o : Options) (program : Bor (List ℕ)) (name text : List ℕ) (a : Answer) (texts : Option (List (List ℕ × List ℕ))) →
     Asks words mode o → mode ≡ modes.Verify program → name ≡ program_name mode →
     IfSome texts (λ shown. (text_named name shown ≡ Some text) × (length text ≤ program_limit)) →
-    ReportsVerifyBy o.modular o.entry.now o.limits text a → IfSome texts (λ shown. Reports words shown a)
+    IfSome texts (λ shown. ReportsVerifyBy o.modular (settings o).reuse shown o.entry.now o.limits text a) → IfSome texts (λ shown. Reports words shown a)
 verify_reported words mode o program name text a None ask is same h r = tt
 verify_reported words mode o program name text a (Some shown) ask is same h r =
     verifying (settings o) program.now text (asks_for words mode (modes.Verify program) o ask is) (text_of mode (modes.Verify program) name text shown is same h.0) r
+
+pub verify_answered : (words : List (List ℕ)) (mode : Mode) (o : Options) (program : Bor (List ℕ)) (name text : List ℕ) (r : Result code.Answer Halt) (texts : Option (List (List ℕ × List ℕ))) →
+    Asks words mode o → mode ≡ modes.Verify program → name ≡ program_name mode →
+    IfSome texts (λ shown. (text_named name shown ≡ Some text) × (length text ≤ program_limit)) →
+    IfOk r (λ a. IfSome texts (λ shown. ReportsVerifyBy o.modular (settings o).reuse shown o.entry.now o.limits text (answered a))) →
+    IfOk r (λ a. IfSome texts (λ shown. Reports words shown (answered a)))
+verify_answered words mode o program name text (Ok a) texts ask is same h r = verify_reported words mode o program name text (answered a) texts ask is same h r
+verify_answered words mode o program name text (Err e) texts ask is same h r = tt
 
 -- ---- what has the status 0
 
@@ -263,18 +274,22 @@ check_by_zero : (m : Bool) (entry text : List ℕ) (second : Option (List ℕ)) 
 check_by_zero false entry text second a r z = check_zero entry text second a r z
 check_by_zero true entry text second a r z = check_parts_zero entry text second a r z
 
+-- a text whose verdict has status 0 is that of a typed program
+verify_by_zero : (m : Bool) (reuse : Option (List ℕ)) (texts : Texts) (entry : List ℕ) (l : Limits) (text : List ℕ) (a : Answer) → ReportsVerifyBy m reuse texts entry l text a → a.status ≡ 0 →
+    (t : TypedProgram) × IsTypedText entry text t
+verify_by_zero true reuse texts entry l text a r z = verify_parts_zero entry l text a r z
+verify_by_zero false None texts entry l text a (refused r) z = absurd (typed_is_not_zero entry text a r z)
+verify_by_zero false None texts entry l text a (of_typed t w r) z = (t, w)
+verify_by_zero false (Some old) texts entry l text a (refused r) z = absurd (typed_is_not_zero entry text a r z)
+verify_by_zero false (Some old) texts entry l text a (of_typed t w r) z = (t, w)
+
 -- a verdict of status 0 is asked for a program that is safe, where that is so of the program whose verdict is asked for
-verified_is_safe : (words : List (List ℕ)) (texts : Texts) (s : Settings) (program text : List ℕ) (a : Answer) (m : Bool) → Ask words s (Verify program) → text_named program texts ≡ Some text →
-    ReportsVerifyBy m s.entry s.limits text a → a.status ≡ 0 → VerifiedIsSafe words texts → ProgramIsSafe words texts
-verified_is_safe words texts s program text a true asked found r z safe =
-    let w = verify_parts_zero s.entry s.limits text a r z in
+verified_is_safe : (words : List (List ℕ)) (texts : Texts) (s : Settings) (program text : List ℕ) (a : Answer) (m : Bool) (reuse : Option (List ℕ)) → Ask words s (Verify program) →
+    text_named program texts ≡ Some text → ReportsVerifyBy m reuse texts s.entry s.limits text a → a.status ≡ 0 → VerifiedIsSafe words texts → ProgramIsSafe words texts
+verified_is_safe words texts s program text a m reuse asked found r z safe =
+    let w = verify_by_zero m reuse texts s.entry s.limits text a r z in
     let asks : AsksForVerdict words texts w.0 = record { settings = s; program = program; asked = asked; text = text; found = found; typed = w.1 } in
     (w.0, inr asks, safe w.0 asks)
-verified_is_safe words texts s program text a false asked found (refused r) z safe = absurd (typed_is_not_zero s.entry text a r z)
-verified_is_safe words texts s program text a false asked found (of_typed t w (unlowered r)) z safe = absurd (lowering_is_not_zero t a r z)
-verified_is_safe words texts s program text a false asked found (of_typed t w (of_lowered none v)) z safe =
-    let asks : AsksForVerdict words texts t = record { settings = s; program = program; asked = asked; text = text; found = found; typed = w } in
-    (t, inr asks, safe t asks)
 
 failing : (words : List (List ℕ)) (texts : Texts) → ProgramFails words texts ⊎ PartFails words texts → ProgramFails words texts ⊎ (GeneratedIsSafe words ⊎ PartFails words texts)
 failing words texts (inl f) = inl f
@@ -291,7 +306,7 @@ reports_safe words texts a (checking s program second text asked found check) sa
 reports_safe words texts a (replaying s program second text asked found replay) safe verified built z =
     inr (inr (failing words texts (replayed_one words texts s program second text a s.modular refl asked found replay z)))
 reports_safe words texts a (verifying s program text asked found verify) safe verified built z =
-    inr (inl (verified_is_safe words texts s program text a s.modular asked found verify z (verified z)))
+    inr (inl (verified_is_safe words texts s program text a s.modular s.reuse asked found verify z (verified z)))
 reports_safe words texts a (generating s count asked big) safe verified built z =
     inr (inr (inr (inl (s, count, big.program, asked, big.typed, built z s count big.program asked big.typed))))
 
@@ -323,9 +338,21 @@ replay_by_begins : (m : Bool) (entry text : List ℕ) (second : Option (List ℕ
 replay_by_begins false entry text second a r begin = replay_begins entry text second a r begin
 replay_by_begins true entry text second a r begin = replay_parts_begins entry text second a r begin
 
-verify_by_begins : (m : Bool) (entry : List ℕ) (l : Limits) (text : List ℕ) (a : Answer) → ReportsVerifyBy m entry l text a → second_letter a ≡ 99 → ⊥
-verify_by_begins false entry l text a r begin = verify_begins entry l text a r begin
-verify_by_begins true entry l text a r begin = verify_parts_begins entry l text a r begin
+reuse_begins : (l : Limits) (t : TypedProgram) (x : List ℕ) (a : Answer) → ReportsReuse l t x a → second_letter a ≡ 99 → ⊥
+reuse_begins l t x a (no_earlier line wrong is) begin = e_is_not_c (second_letter a) (ap second_letter is) begin
+reuse_begins l t x a (of_earlier coarse old c given spelled reused first v few) begin = verdict_begins (length v.race.history) v.verdict (sym (ap second_letter v.is) ∙ begin)
+
+verify_with_begins : (entry : List ℕ) (l : Limits) (text : List ℕ) (second : Option (List ℕ)) (a : Answer) → ReportsVerifyWith entry l text second a → second_letter a ≡ 99 → ⊥
+verify_with_begins entry l text second a (refused r) begin = typed_begins entry text a r begin
+verify_with_begins entry l text second a (of_typed t w (unlowered r)) begin = lowering_begins t a r begin
+verify_with_begins entry l text second a (of_typed t w (of_lowered none (second_too_long x e past is))) begin = too_long_begins a is begin
+verify_with_begins entry l text second a (of_typed t w (of_lowered none (of_second x e few r))) begin = reuse_begins l t x a r begin
+
+verify_by_begins : (m : Bool) (reuse : Option (List ℕ)) (texts : Texts) (entry : List ℕ) (l : Limits) (text : List ℕ) (a : Answer) → ReportsVerifyBy m reuse texts entry l text a →
+    second_letter a ≡ 99 → ⊥
+verify_by_begins false None texts entry l text a r begin = verify_begins entry l text a r begin
+verify_by_begins false (Some old) texts entry l text a r begin = verify_with_begins entry l text (text_named old texts) a r begin
+verify_by_begins true reuse texts entry l text a r begin = verify_parts_begins entry l text a r begin
 
 -- an answer that begins as `accepted` does is safe
 reports_begin : (words : List (List ℕ)) (texts : Texts) (a : Answer) → Reports words texts a → (a ≡ accepted_answer → CheckedIsSafe words texts) → second_letter a ≡ 99 → ProgramIsSafe words texts
@@ -335,7 +362,7 @@ reports_begin words texts a (checking s program second text asked found check) s
     accepted_is_safe words texts s program second text a asked found (check_by_begins s.modular s.entry text (text_named second texts) a check begin) safe
 reports_begin words texts a (replaying s program second text asked found replay) safe begin = absurd (replay_by_begins s.modular s.entry text (text_named second texts) a replay begin)
 reports_begin words texts a (generating s count asked big) safe begin = absurd (let e : 105 ≡ 99 = sym (ap second_letter big.is) ∙ begin in omega arith)
-reports_begin words texts a (verifying s program text asked found verify) safe begin = absurd (verify_by_begins s.modular s.entry s.limits text a verify begin)
+reports_begin words texts a (verifying s program text asked found verify) safe begin = absurd (verify_by_begins s.modular s.reuse texts s.entry s.limits text a verify begin)
 
 seam : (b xs : List ℕ) → get_or (b ++ xs) (suc (length b)) 0 ≡ get_or xs 1 0
 seam [] xs = refl
@@ -474,9 +501,10 @@ unchecked words mode o (Ok a) texts ask n =
     λ z. told (λ shown. CheckedIsSafe words shown) texts (λ shown t k. absurd (not_checked words mode o k.settings k.program k.second ask n k.asked))
 
 -- the program is as safe as the text that was read
-pub verify_is_safe : (words : List (List ℕ)) (mode : Mode) (o : Options) (name text : List ℕ) (a : Answer) (texts : Option Texts) →
+pub verify_is_safe : (words : List (List ℕ)) (mode : Mode) (o : Options) (name text : List ℕ) (r : Result code.Answer Halt) (texts : Option Texts) →
     Asks words mode o → name ≡ program_name mode → IfSome texts (λ shown. (text_named name shown ≡ Some text) × (length text ≤ program_limit)) →
-    (a.status ≡ 0 → TextIsSafe o.entry.now text) → a.status ≡ 0 → IfSome texts (λ shown. VerifiedIsSafe words shown)
-verify_is_safe words mode o name text a None ask same h s z = tt
-verify_is_safe words mode o name text a (Some shown) ask same h s z = λ t k.
+    IfOk r (λ a. (answered a).status ≡ 0 → TextIsSafe o.entry.now text) → IfOk r (λ a. (answered a).status ≡ 0 → IfSome texts (λ shown. VerifiedIsSafe words shown))
+verify_is_safe words mode o name text (Err e) texts ask same h s = tt
+verify_is_safe words mode o name text (Ok a) None ask same h s = λ z. tt
+verify_is_safe words mode o name text (Ok a) (Some shown) ask same h s = λ z t k.
     s z t (meant_by words mode o name text shown k.settings (Verify k.program) k.text t ask same (program_is mode) h.0 k.asked k.found k.typed)

@@ -1,6 +1,7 @@
 -- The report allows one answer at most: its cases exclude each other.
 use Rattle.std.proofs.Common.{◌≡◌, ℕ, ◌<◌, ◌≤◌, List, length, Bool, true, false, refl, Option, None, Some, Ok, Err, inl, inr, ◌⊎◌, ap, sym, ◌∙◌, subst, arith}
 use Rattle.std.proofs.lemmas.Option.{none-some, same_Some}
+use Rattle.outer_io.specs.Lines.{lines_of}
 use Rattle.outer_io.specs.Texts.{text_named}
 use Rattle.boogie_tree.specs.Tree.{Declaration}
 use Rattle.boogie_tree.specs.Printing.{program_text}
@@ -17,9 +18,12 @@ use Rattle.lowered_graph.specs.Items.{ItemFault, first_fault}
 use Rattle.lowered_graph.specs.Lowered.{lowered}
 use Rattle.automizer_top.specs.Refusals.{refusal}
 use Rattle.automizer_top.specs.LoweringRefusals.{lowering_refusal}
-use Rattle.automizer_top.specs.ReportTexts.{Answer, answer}
+use Rattle.race_core.specs.declared.events.Entry.{Entry}
+use Rattle.itp_automaton.specs.Certified.{Certificate}
+use Rattle.automizer_top.specs.ReportTexts.{Answer, answer, syntax_answer}
 use Rattle.automizer_top.specs.Report.{program_limit, second_limit, Ask, RefusesProgram, too_long, no_program, ReportsPrint, refused_print, printed, RefusesTyped, refused_text, ill_typed, IsTypedText, ReportsTyped, refused, of_typed, RefusesLowering, ReportsLowered, unlowered, of_lowered, ReportsSecond, second_too_long, of_second, ReportsProof, ReportsCheck, ReportsFailure, ReportsReplay, ReportsVerdict, ReportsVerify, ReportsCheckBy, ReportsReplayBy, ReportsVerifyBy, ReportsBig, Reports, usage, printing, checking, replaying, verifying, generating}
 use Rattle.modular_cut.specs.Parts.{parts_of}
+use Rattle.automizer_top.specs.Earlier.{ReportsReuse, no_earlier, of_earlier, ReportsVerifyWith}
 use Rattle.automizer_top.specs.Parts.{ReportsCut, ReportsLoweredParts, ReportsParts, ReportsVerifyParts, ReportsPartProofs, ReportsCheckParts, ReportsPartFailure, ReportsReplayParts}
 use Rattle.automizer_top.specs.PartClaims.{AreVerdictsOn}
 use Rattle.automizer_top.specs.ReportClaims.{IsTypingRefusal, IsVerdictOn}
@@ -27,7 +31,7 @@ use Rattle.race_rounds.specs.declared.limits.Limits.{Limits}
 use Rattle.automizer_top.specs.CommandLine.{Check, Replay, Print, Verify, Big, Settings}
 use Rattle.automizer_top.proofs.RequestLaws.{program_of, second_of, same_task, same_settings, only_one, nothing_asked}
 use Rattle.automizer_top.proofs.TypedTexts.{one_typed}
-use Rattle.automizer_top.proofs.ProofOnce.{proof_once}
+use Rattle.automizer_top.proofs.ProofOnce.{one_first_wrong, wrong_or_not, proof_once}
 use Rattle.automizer_top.proofs.ReplayedOnce.{failure_once}
 use Rattle.automizer_top.proofs.PartOnce.{cut_once, lowered_parts_once, part_proofs_once, part_failure_once}
 
@@ -108,18 +112,23 @@ lowered_once t to_graph X a b once (of_lowered none r) (of_lowered none' s) = in
 too_long_or_not : (x y : List ℕ) (second : Option (List ℕ)) → second ≡ Some x → second ≡ Some y → second_limit < length x → length y ≤ second_limit → ⊥
 too_long_or_not x y second e d past l = let lengths : length x ≡ length y = ap (λ (bytes : List ℕ). length bytes) (same_text x y second e d) in omega arith
 
-second_once : (second : Option (List ℕ)) (to_text : List ℕ → Answer → Type 0) (a b : Answer) →
-    ((x : List ℕ) → length x ≤ second_limit → to_text x a → to_text x b → a ≡ b) → ReportsSecond second to_text a → ReportsSecond second to_text b → a ≡ b
-second_once second to_text a b once (second_too_long x e past is) (second_too_long y d past' is') = is ∙ sym is'
-second_once second to_text a b once (second_too_long x e past is) (of_second y d l s) = absurd (too_long_or_not x y second e d past l)
-second_once second to_text a b once (of_second x e l r) (second_too_long y d past is) = absurd (too_long_or_not y x second d e past l)
-second_once second to_text a b once (of_second x e l r) (of_second y d l' s) = once x l r (subst (λ (z : List ℕ). to_text z b) (same_text y x second d e) s)
-
--- ---- checks, replays and verdicts
+-- two answers to a second text, where X holds of two answers to what it is
+second_or : (second : Option (List ℕ)) (to_text : List ℕ → Answer → Type 0) (X : Type 0) (a b : Answer) →
+    ((x : List ℕ) → length x ≤ second_limit → to_text x a → to_text x b → X) → ReportsSecond second to_text a → ReportsSecond second to_text b → (a ≡ b) ⊎ X
+second_or second to_text X a b once (second_too_long x e past is) (second_too_long y d past' is') = inl (is ∙ sym is')
+second_or second to_text X a b once (second_too_long x e past is) (of_second y d l s) = absurd (too_long_or_not x y second e d past l)
+second_or second to_text X a b once (of_second x e l r) (second_too_long y d past is) = absurd (too_long_or_not y x second d e past l)
+second_or second to_text X a b once (of_second x e l r) (of_second y d l' s) = inr (once x l r (subst (λ (z : List ℕ). to_text z b) (same_text y x second d e) s))
 
 one_of_two : (a b : Answer) → (a ≡ b) ⊎ (a ≡ b) → a ≡ b
 one_of_two a b (inl e) = e
 one_of_two a b (inr e) = e
+
+second_once : (second : Option (List ℕ)) (to_text : List ℕ → Answer → Type 0) (a b : Answer) →
+    ((x : List ℕ) → length x ≤ second_limit → to_text x a → to_text x b → a ≡ b) → ReportsSecond second to_text a → ReportsSecond second to_text b → a ≡ b
+second_once second to_text a b once r s = one_of_two a b (second_or second to_text (a ≡ b) a b once r s)
+
+-- ---- checks, replays and verdicts
 
 one_of_three : (a b : Answer) → (a ≡ b) ⊎ ((a ≡ b) ⊎ BothIllTyped a b) → (a ≡ b) ⊎ BothIllTyped a b
 one_of_three a b (inl e) = inl e
@@ -158,21 +167,48 @@ replay_by_once : (m : Bool) (entry text : List ℕ) (second : Option (List ℕ))
 replay_by_once false entry text second a b r s = replay_once entry text second a b r s
 replay_by_once true entry text second a b r s = replay_parts_once entry text second a b r s
 
+-- a verdict, whatever entry its race began with
+abbrev IsSomeVerdict : Limits → TypedProgram → Answer → Type 0
+IsSomeVerdict l t a = (given : Option (Entry Certificate)) × ReportsVerdict given l t a
+
 -- both are verdicts on the program of the text
 abbrev BothVerdicts : List ℕ → Limits → List ℕ → Answer → Answer → Type 0
-BothVerdicts entry l text a b = (t : TypedProgram) × IsTypedText entry text t × ReportsVerdict l t a × ReportsVerdict l t b
+BothVerdicts entry l text a b = (t : TypedProgram) × IsTypedText entry text t × IsSomeVerdict l t a × IsSomeVerdict l t b
+
+-- what was found for a program text is one answer, two broken typing rules, or two verdicts
+in_order : (entry : List ℕ) (l : Limits) (text : List ℕ) (a b : Answer) → ((a ≡ b) ⊎ BothVerdicts entry l text a b) ⊎ ((a ≡ b) ⊎ BothIllTyped a b) →
+    (a ≡ b) ⊎ (BothIllTyped a b ⊎ BothVerdicts entry l text a b)
+in_order entry l text a b (inl (inl e)) = inl e
+in_order entry l text a b (inl (inr v)) = inr (inr v)
+in_order entry l text a b (inr (inl e)) = inl e
+in_order entry l text a b (inr (inr h)) = inr (inl h)
 
 verify_once : (entry : List ℕ) (l : Limits) (text : List ℕ) (a b : Answer) → ReportsVerify entry l text a → ReportsVerify entry l text b →
     (a ≡ b) ⊎ (BothIllTyped a b ⊎ BothVerdicts entry l text a b)
 verify_once entry l text a b r s =
-    ordered (typed_once entry text (λ t. ReportsLowered t (λ g c. ReportsVerdict l t c × (length c.bytes ≤ second_limit))) ((a ≡ b) ⊎ BothVerdicts entry l text a b) a b
-    (λ t w. lowered_once t (λ g c. ReportsVerdict l t c × (length c.bytes ≤ second_limit)) (BothVerdicts entry l text a b) a b (λ v u. (t, w, v.0, u.0))) r s)
+    in_order entry l text a b (typed_once entry text (λ t. ReportsLowered t (λ g c. ReportsVerdict None l t c × (length c.bytes ≤ second_limit))) ((a ≡ b) ⊎ BothVerdicts entry l text a b) a b
+    (λ t w. lowered_once t (λ g c. ReportsVerdict None l t c × (length c.bytes ≤ second_limit)) (BothVerdicts entry l text a b) a b (λ v u. (t, w, (None, v.0), (None, u.0)))) r s)
+
+-- the same with an earlier annotation
+reuse_once : (l : Limits) (t : TypedProgram) (x : List ℕ) (a b : Answer) → length x ≤ second_limit → ReportsReuse l t x a → ReportsReuse l t x b →
+    (a ≡ b) ⊎ (IsSomeVerdict l t a × IsSomeVerdict l t b)
+reuse_once l t x a b few (no_earlier line wrong is) (no_earlier other wrong' is') = inl (is ∙ ap syntax_answer (one_first_wrong (lines_of x) line other wrong wrong') ∙ sym is')
+reuse_once l t x a b few (no_earlier line wrong is) (of_earlier coarse old c given spelled reused first v short) = absurd (wrong_or_not x coarse line old few spelled wrong)
+reuse_once l t x a b few (of_earlier coarse old c given spelled reused first v short) (no_earlier line wrong is) = absurd (wrong_or_not x coarse line old few spelled wrong)
+reuse_once l t x a b few (of_earlier coarse old c given spelled reused first v short) (of_earlier coarse' old' c' given' spelled' reused' first' v' short') = inr ((given, v), (given', v'))
+
+verify_with_once : (entry : List ℕ) (l : Limits) (text : List ℕ) (second : Option (List ℕ)) (a b : Answer) → ReportsVerifyWith entry l text second a → ReportsVerifyWith entry l text second b →
+    (a ≡ b) ⊎ (BothIllTyped a b ⊎ BothVerdicts entry l text a b)
+verify_with_once entry l text second a b r s =
+    in_order entry l text a b (typed_once entry text (λ t. ReportsLowered t (λ g. ReportsSecond second (ReportsReuse l t))) ((a ≡ b) ⊎ BothVerdicts entry l text a b) a b
+    (λ t w h k. joined t w (lowered_once t (λ g. ReportsSecond second (ReportsReuse l t)) ((a ≡ b) ⊎ ((a ≡ b) ⊎ (IsSomeVerdict l t a × IsSomeVerdict l t b))) a b
+    (second_or second (ReportsReuse l t) ((a ≡ b) ⊎ (IsSomeVerdict l t a × IsSomeVerdict l t b)) a b (λ x few. reuse_once l t x a b few)) h k)) r s)
   where
-    ordered : ((a ≡ b) ⊎ BothVerdicts entry l text a b) ⊎ ((a ≡ b) ⊎ BothIllTyped a b) → (a ≡ b) ⊎ (BothIllTyped a b ⊎ BothVerdicts entry l text a b)
-    ordered (inl (inl e)) = inl e
-    ordered (inl (inr v)) = inr (inr v)
-    ordered (inr (inl e)) = inl e
-    ordered (inr (inr h)) = inr (inl h)
+    joined : (t : TypedProgram) → IsTypedText entry text t → (a ≡ b) ⊎ ((a ≡ b) ⊎ ((a ≡ b) ⊎ (IsSomeVerdict l t a × IsSomeVerdict l t b))) → (a ≡ b) ⊎ BothVerdicts entry l text a b
+    joined t w (inl e) = inl e
+    joined t w (inr (inl e)) = inl e
+    joined t w (inr (inr (inl e))) = inl e
+    joined t w (inr (inr (inr v))) = inr (t, w, v.0, v.1)
 
 -- both are verdicts on its parts
 abbrev BothPartVerdicts : List ℕ → Limits → List ℕ → Answer → Answer → Type 0
@@ -211,7 +247,7 @@ both : (words : List (List ℕ)) (texts : List (List ℕ × List ℕ)) (s : Sett
     (a ≡ b) ⊎ (BothIllTyped a b ⊎ BothVerdicts s.entry s.limits text a b) → AreOne words texts a b
 both words texts s p text a b asked found (inl e) = inl e
 both words texts s p text a b asked found (inr (inl h)) = inr (inl h)
-both words texts s p text a b asked found (inr (inr h)) = inr (inr (inl (h.0, (s, p, text, asked, found, h.1, h.2), (s, p, text, asked, found, h.1, h.3))))
+both words texts s p text a b asked found (inr (inr h)) = inr (inr (inl (h.0, (s, p, text, asked, found, h.1, h.2.0, h.2.1), (s, p, text, asked, found, h.1, h.3.0, h.3.1))))
 
 both_parts : (words : List (List ℕ)) (texts : List (List ℕ × List ℕ)) (s : Settings) (p text : List ℕ) (a b : Answer) → s.modular ≡ true → Ask words s (Verify p) → text_named p texts ≡ Some text →
     (a ≡ b) ⊎ (BothIllTyped a b ⊎ BothPartVerdicts s.entry s.limits text a b) → AreOne words texts a b
@@ -220,10 +256,12 @@ both_parts words texts s p text a b m asked found (inr (inl h)) = inr (inl h)
 both_parts words texts s p text a b m asked found (inr (inr h)) =
     inr (inr (inr (inr (h.0, (s, p, text, asked, m, found, h.1, h.2), (s, p, text, asked, m, found, h.1, h.3)))))
 
-both_by : (words : List (List ℕ)) (texts : List (List ℕ × List ℕ)) (s : Settings) (p text : List ℕ) (a b : Answer) (m : Bool) → s.modular ≡ m → Ask words s (Verify p) → text_named p texts ≡ Some text →
-    ReportsVerifyBy m s.entry s.limits text a → ReportsVerifyBy m s.entry s.limits text b → AreOne words texts a b
-both_by words texts s p text a b false m asked found r k = both words texts s p text a b asked found (verify_once s.entry s.limits text a b r k)
-both_by words texts s p text a b true m asked found r k = both_parts words texts s p text a b m asked found (verify_parts_once s.entry s.limits text a b r k)
+both_by : (words : List (List ℕ)) (texts : List (List ℕ × List ℕ)) (s : Settings) (p text : List ℕ) (a b : Answer) (m : Bool) (reuse : Option (List ℕ)) → s.modular ≡ m → Ask words s (Verify p) →
+    text_named p texts ≡ Some text → ReportsVerifyBy m reuse texts s.entry s.limits text a → ReportsVerifyBy m reuse texts s.entry s.limits text b → AreOne words texts a b
+both_by words texts s p text a b false None m asked found r k = both words texts s p text a b asked found (verify_once s.entry s.limits text a b r k)
+both_by words texts s p text a b false (Some old) m asked found r k =
+    both words texts s p text a b asked found (verify_with_once s.entry s.limits text (text_named old texts) a b r k)
+both_by words texts s p text a b true reuse m asked found r k = both_parts words texts s p text a b m asked found (verify_parts_once s.entry s.limits text a b r k)
 
 -- the same text was found
 same_found : (texts : List (List ℕ × List ℕ)) (p q t u : List ℕ) → p ≡ q → text_named p texts ≡ Some t → text_named q texts ≡ Some u → u ≡ t
@@ -291,9 +329,9 @@ report_once words texts a b (verifying s p t asked found verify) (verifying s' q
     let same = same_task words s s' (Verify p) (Verify q) asked asked' in
     let settings : s' ≡ s = sym (same_settings words s s' (Verify p) (Verify q) asked asked') in
     let text : u ≡ t = same_found texts p q t u (ap program_of same) found found' in
-    both_by words texts s p t a b s.modular refl asked found verify
-    (subst (λ (v : Settings). ReportsVerifyBy v.modular v.entry v.limits t b) settings
-    (subst (λ (z : List ℕ). ReportsVerifyBy s'.modular s'.entry s'.limits z b) text verify'))
+    both_by words texts s p t a b s.modular s.reuse refl asked found verify
+    (subst (λ (v : Settings). ReportsVerifyBy v.modular v.reuse texts v.entry v.limits t b) settings
+    (subst (λ (z : List ℕ). ReportsVerifyBy s'.modular s'.reuse texts s'.entry s'.limits z b) text verify'))
 report_once words texts a b (usage none is) (generating s count asked big) = absurd (nothing_asked words s (Big count) none asked)
 report_once words texts a b (printing s p t asked found print) (generating s' count asked' big) = absurd (only_one words s s' (Print p) (Big count) asked asked' (λ (e : 2 ≡ 4). omega arith))
 report_once words texts a b (checking s p x t asked found check) (generating s' count asked' big) = absurd (only_one words s s' (Check p x) (Big count) asked asked' (λ (e : 0 ≡ 4). omega arith))

@@ -1,6 +1,6 @@
 -- Words ask for one task at most, with one set of settings.
 use Rattle.std.proofs.Common.{◌≡◌, ℕ, ◌≤◌, List, [], ◌∷◌, Bool, Option, None, Some, ap, refl, sym, ◌∙◌, arith}
-use Rattle.std.specs.Prelude.{codes, option_map, option_and_then, nat_le}
+use Rattle.std.specs.Prelude.{codes, if◌then◌else◌, option_map, option_and_then, nat_le}
 use Rattle.std.specs.Fmt.{decimal}
 use Rattle.std.specs.Str.{bytes_eq}
 use Rattle.std.specs.Str.Parse.{digits_value}
@@ -8,7 +8,7 @@ use Rattle.std.proofs.lemmas.Bool.{and_parts, leb-true}
 use Rattle.std.proofs.lemmas.Option.{same_Some, none-some, cond_some}
 use Rattle.clap.specs.Kinds.{Kinds}
 use Rattle.clap.specs.Walk.{Row, first_of}
-use Rattle.automizer_top.specs.CommandLine.{Task, Check, Replay, Print, Verify, Big, Settings, Request, is_number_in, number_in_bounds, is_given, task_of, settings_of, request_of, request_by, faults, values, requested}
+use Rattle.automizer_top.specs.CommandLine.{Task, Check, Replay, Print, Verify, Big, Settings, Request, is_number_in, number_in_bounds, is_given, go_together, task_of, settings_of, request_of, request_by, faults, values, requested}
 use Rattle.automizer_top.specs.Report.{Ask}
 
 -- the name of the program text
@@ -73,16 +73,18 @@ settings_by (Some s) t r e =
     let m = option_map_some (λ task. record { task = task; settings = s }) t r e in
     ap (λ (q : Request). Some q.settings) m.2
 
-rounds_by : (entry : Option (List ℕ)) (rounds workers depth : Option ℕ) (modular : Option Bool) (s : Settings) →
-    option_and_then (λ e. option_and_then (λ n. option_and_then (λ w. option_and_then (λ d. option_map (λ m. record { entry = e; limits = record { rounds = n; workers = w; depth = d }; modular = m }) modular) depth) workers) rounds) entry ≡ Some s →
+rounds_by : (entry : Option (List ℕ)) (rounds workers depth : Option ℕ) (modular : Option Bool) (reuse : Option (List ℕ)) (s : Settings) →
+    option_and_then (λ e. option_and_then (λ n. option_and_then (λ w. option_and_then (λ d. option_and_then (λ m. if go_together m reuse then
+    Some (record { entry = e; limits = record { rounds = n; workers = w; depth = d }; modular = m; reuse = reuse }) else None) modular) depth) workers) rounds) entry ≡ Some s →
     rounds ≡ Some s.limits.rounds
-rounds_by None rounds workers depth modular s e = absurd (none-some s e)
-rounds_by (Some x) None workers depth modular s e = absurd (none-some s e)
-rounds_by (Some x) (Some n) None depth modular s e = absurd (none-some s e)
-rounds_by (Some x) (Some n) (Some w) None modular s e = absurd (none-some s e)
-rounds_by (Some x) (Some n) (Some w) (Some d) None s e = absurd (none-some s e)
-rounds_by (Some x) (Some n) (Some w) (Some d) (Some m) s e =
-    ap (λ (u : Settings). Some u.limits.rounds) (same_Some (record { entry = x; limits = record { rounds = n; workers = w; depth = d }; modular = m }) s e)
+rounds_by None rounds workers depth modular reuse s e = absurd (none-some s e)
+rounds_by (Some x) None workers depth modular reuse s e = absurd (none-some s e)
+rounds_by (Some x) (Some n) None depth modular reuse s e = absurd (none-some s e)
+rounds_by (Some x) (Some n) (Some w) None modular reuse s e = absurd (none-some s e)
+rounds_by (Some x) (Some n) (Some w) (Some d) None reuse s e = absurd (none-some s e)
+rounds_by (Some x) (Some n) (Some w) (Some d) (Some m) reuse s e =
+    let c = cond_some (go_together m reuse) (record { entry = x; limits = record { rounds = n; workers = w; depth = d }; modular = m; reuse = reuse }) s e in
+    ap (λ (u : Settings). Some u.limits.rounds) c.1
 
 number_by : (text : Option (List ℕ)) (n : ℕ) → option_and_then (number_in_bounds 1 100000) text ≡ Some n → n ≤ 100000
 number_by None n e = absurd (none-some n e)
@@ -95,7 +97,7 @@ request_rounds : (rows : List Row) (r : Request) → request_of rows ≡ Some r 
 request_rounds rows r e =
     number_by (first_of (codes "rounds") rows) r.settings.limits.rounds
     (rounds_by (first_of (codes "entry") rows) (number_at 1 100000 (codes "rounds") rows) (number_at 1 64 (codes "workers") rows) (number_at 0 64 (codes "depth") rows)
-    (is_given (codes "modular") rows) r.settings (settings_by (settings_of rows) (task_of rows) r e))
+    (is_given (codes "modular") rows) (first_of (codes "reuse") rows) r.settings (settings_by (settings_of rows) (task_of rows) r e))
 
 taken_request : (faults : Kinds) (rows : List Row) (r : Request) → request_by faults rows ≡ Some r → r.settings.limits.rounds ≤ 100000
 taken_request [] rows r e = request_rounds rows r e

@@ -1,5 +1,5 @@
 -- The status 4 is that of faulty words alone.
-use Rattle.std.proofs.Common.{◌≡◌, ℕ, List, Bool, true, false, Option, None, Some, Ok, Err, ap, sym, ◌∙◌, arith}
+use Rattle.std.proofs.Common.{◌≡◌, ℕ, List, Option, None, Some, Ok, Err, ap, sym, ◌∙◌, arith}
 use Rattle.std.specs.Prelude.{◌≢◌, Result, IfOk, option_map}
 use Rattle.std.proofs.lemmas.Option.{none-some}
 use Rattle.typed_tree.specs.TypedTree.{TypedProgram}
@@ -19,8 +19,9 @@ use Rattle.automizer_top.specs.Asked.{asked, task, settings}
 use Rattle.automizer_top.specs.Answers.{answered, Asks}
 use Rattle.automizer_top.specs.Verdicts.{verdict_status}
 use Rattle.automizer_top.specs.ReportTexts.{Answer}
-use Rattle.automizer_top.specs.Report.{Ask, RefusesProgram, too_long, no_program, ReportsPrint, refused_print, printed, RefusesTyped, refused, of_typed, RefusesLowering, unlowered, of_lowered, ReportsAnnotation, wrong_line, missing_line, accepted, rejected, ReportsProof, no_annotation, of_annotation, ReportsFailure, no_failure, replayed, stopped, ReportsVerify, ReportsVerifyBy, ReportsBig}
+use Rattle.automizer_top.specs.Report.{Ask, RefusesProgram, too_long, no_program, ReportsPrint, refused_print, printed, RefusesTyped, refused, of_typed, RefusesLowering, unlowered, of_lowered, ReportsAnnotation, wrong_line, missing_line, accepted, rejected, ReportsProof, no_annotation, of_annotation, ReportsFailure, no_failure, replayed, stopped, ReportsVerify, ReportsBig}
 use Rattle.modular_cut.specs.Parts.{PlainPart, parts_of}
+use Rattle.automizer_top.specs.Earlier.{ReportsReuse, no_earlier, of_earlier}
 use Rattle.automizer_top.specs.Parts.{free, of_parts, part_unlowered, parts_lowered, ReportsParts, all_safe, one_is_not, ReportsVerifyParts, ReportsPartFailure, no_part, no_part_failure, of_part_failure}
 use Rattle.automizer_top.proofs.RefusalLaws.{typed_is_three, lowering_is_three}
 
@@ -76,20 +77,21 @@ verify_not_four entry l text a (refused r) = typed_not_four entry text a r
 verify_not_four entry l text a (of_typed t w (unlowered r)) = lowering_not_four t a r
 verify_not_four entry l text a (of_typed t w (of_lowered none (v, few))) = λ e. verdict_not_four v.verdict (sym (ap status_of v.is) ∙ e)
 
+-- with an earlier annotation
+pub reuse_not_four : (l : Limits) (t : TypedProgram) (text : List ℕ) (a : Answer) → ReportsReuse l t text a → a.status ≢ 4
+reuse_not_four l t text a (no_earlier line wrong is) = not_one a.status (ap status_of is)
+reuse_not_four l t text a (of_earlier coarse old c given spelled reused first v few) = λ e. verdict_not_four v.verdict (sym (ap status_of v.is) ∙ e)
+
 -- the same by parts
 parts_not_four : (l : Limits) (ps : List PlainPart) (a : Answer) → ReportsParts l ps a → a.status ≢ 4
 parts_not_four l ps a (all_safe bs h is) = not_zero a.status (ap status_of is)
 parts_not_four l ps a (one_is_not before after p bs b same h v other is) = λ e. verdict_not_four v.verdict (sym (ap status_of is ∙ ap status_of v.is) ∙ e)
 
-verify_parts_not_four : (entry : List ℕ) (l : Limits) (text : List ℕ) (a : Answer) → ReportsVerifyParts entry l text a → a.status ≢ 4
+pub verify_parts_not_four : (entry : List ℕ) (l : Limits) (text : List ℕ) (a : Answer) → ReportsVerifyParts entry l text a → a.status ≢ 4
 verify_parts_not_four entry l text a (refused r) = typed_not_four entry text a r
 verify_parts_not_four entry l text a (of_typed t w (free at first is)) = not_three a.status (ap status_of is)
 verify_parts_not_four entry l text a (of_typed t w (of_parts none (part_unlowered f first is))) = not_three a.status (ap status_of is)
 verify_parts_not_four entry l text a (of_typed t w (of_parts none (parts_lowered lowers (v, few)))) = parts_not_four l (parts_of t) a v
-
-pub verify_by_not_four : (m : Bool) (entry : List ℕ) (l : Limits) (text : List ℕ) (a : Answer) → ReportsVerifyBy m entry l text a → a.status ≢ 4
-verify_by_not_four false entry l text a r = verify_not_four entry l text a r
-verify_by_not_four true entry l text a r = verify_parts_not_four entry l text a r
 
 pub part_failure_not_four : (ps : List PlainPart) (text : List ℕ) (a : Answer) → ReportsPartFailure ps text a → a.status ≢ 4
 part_failure_not_four ps text a (no_part none is) = not_one a.status (ap status_of is)

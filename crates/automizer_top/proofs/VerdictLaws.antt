@@ -1,6 +1,6 @@
 -- What a verdict is worth, and that it can be written.
-use Rattle.std.proofs.Common.{◌≡◌, ◌+◌, ◌≤◌, ℕ, List, length, ◌∷◌, [], ap, refl, sym, ◌∙◌, subst, arith}
-use Rattle.std.specs.Prelude.{IsTrue, Result, Ok, Err, IfOk}
+use Rattle.std.proofs.Common.{◌≡◌, ◌+◌, ◌≤◌, ℕ, List, length, ◌∷◌, [], Option, None, ap, refl, sym, ◌∙◌, subst, arith}
+use Rattle.std.specs.Prelude.{IsTrue, Result, Ok, Err, IfOk, IfSome}
 use Rattle.std.specs.declared.alloc.AllocError.{AllocError}
 use Rattle.nwa_base.specs.declared.letters.Letter.{Letter}
 use Rattle.nwa_base.specs.Acceptance.{Accepts}
@@ -14,10 +14,11 @@ use Rattle.proof_check.specs.Proves.{Proves}
 use Rattle.proof_check.proofs.ProvedLaws.{proved_infeasible}
 use Rattle.race_core.specs.Histories.{IsLegal}
 use Rattle.race_core.specs.Histories as histories
+use Rattle.race_core.specs.declared.events.Entry.{Entry}
 use Rattle.race_core.specs.Races.{Race}
 use Rattle.itp_automaton.specs.Certified.{Certificate, IsFeasibleFor}
 use Rattle.race_rounds.specs.declared.limits.Limits.{Limits}
-use Rattle.race_rounds.specs.Rounds.{automaton_in, IsRaceOf}
+use Rattle.race_rounds.specs.Rounds.{automaton_in, IsGiven, IsRaceOf}
 use Rattle.race_verdicts.specs.declared.verdicts.Verdict.{Verdict}
 use Rattle.race_verdicts.specs.declared.verdicts.Verdict.TheVariants.{Safe, Unsafe, Unknown}
 use Rattle.race_verdicts.specs.Verdicts.{IsVerdict}
@@ -26,6 +27,7 @@ use Rattle.automizer_top.specs.Verdicts.{IsClosedRace, verdict_status}
 use Rattle.automizer_top.specs.ReportTexts.{Answer, verdict_answer}
 use Rattle.automizer_top.specs.Report.{second_limit, IsTypedText, ReportsVerdict, ReportsVerify, of_typed, of_lowered}
 use Rattle.automizer_top.specs.Answers.{answered, IsGraphOf, HasNoErrorWord, TextIsSafe}
+use Rattle.automizer_top.specs.EarlierViews.{IsGivenOver}
 use Rattle.automizer_top.specs.declared.answer.Answer as code
 use Rattle.automizer_top.proofs.ReportLaws.{text_is_safe}
 
@@ -33,16 +35,22 @@ kept_graph : (g : Graph) → Keeps g → IsGraph g
 unfolding Keeps
 kept_graph g k = k
 
+-- an entry with which a race over the program may begin is one for its graph
+pub given_over : (t : TypedProgram) (g : Graph) (first : Option (Entry Certificate)) → g ≡ lowered t → IfSome first (IsGivenOver t) →
+    IfSome first (λ e. Accepts g.automaton e.word × IsGiven t e)
+given_over t g first same h = subst (λ (x : Graph). IfSome first (λ e. Accepts x.automaton e.word × IsGiven t e)) (sym same) h
+
 -- the values of a verdict's failure fit
 pub fits : (t : TypedProgram) (r : Race Certificate) (v : Verdict) → IsVerdict t r v → ChoicesFit v
 fits t r (Safe coarse a) h = tt
 fits t r (Unsafe f) h = h.failure.bounds.choices
 fits t r (Unknown cause w) h = tt
 
-pub reports : (limits : Limits) (t : TypedProgram) (r : Race Certificate) (v : Verdict) (text : List ℕ) (left rounds : ℕ) → IsRaceOf t limits r → IsVerdict t r v →
+pub reports : (given : Option (Entry Certificate)) (limits : Limits) (t : TypedProgram) (r : Race Certificate) (v : Verdict) (text : List ℕ) (left rounds : ℕ) →
+    IsRaceOf t given limits r → IsVerdict t r v →
     IsLegal automaton_in IsFeasibleFor r.program r.history → histories.Keeps automaton_in r.program r.history r.kept → left + length r.history ≡ r.limit → rounds ≡ length r.history → text ≡ verdict_text rounds v →
-    ReportsVerdict limits t (record { bytes = text; status = verdict_status v; races = r ∷ [] })
-reports limits t r v text left rounds race of_end legal kept room n same_text = record {
+    ReportsVerdict given limits t (record { bytes = text; status = verdict_status v; races = r ∷ [] })
+reports given limits t r v text left rounds race of_end legal kept room n same_text = record {
   race = r;
   verdict = v;
   closed = record { race = race; legal = legal; kept = kept; within = let l = race.limit in omega (arith, room, l) };
@@ -59,11 +67,11 @@ safe_is_infeasible t g r (Unknown cause w) h k s z = absurd (omega arith)
 -- ---- what was decided, of a text
 
 pub decided_reported : (entry : List ℕ) (l : Limits) (text : List ℕ) (t : TypedProgram) (g : Graph) (r : Result code.Answer AllocError) → IsTypedText entry text t → IsGraphOf t g →
-    IfOk r (λ a. ReportsVerdict l t (answered a)) → IfOk r (λ a. length (answered a).bytes ≤ second_limit) → IfOk r (λ a. ReportsVerify entry l text (answered a))
+    IfOk r (λ a. ReportsVerdict None l t (answered a)) → IfOk r (λ a. length (answered a).bytes ≤ second_limit) → IfOk r (λ a. ReportsVerify entry l text (answered a))
 decided_reported entry l text t g (Ok a) w h v few = of_typed t w (of_lowered h.fits (v, few))
 decided_reported entry l text t g (Err e) w h v few = tt
 
-pub decided_is_safe : (entry text : List ℕ) (t : TypedProgram) (g : Graph) (r : Result code.Answer AllocError) → IsTypedText entry text t → IsGraphOf t g →
+pub decided_is_safe : {E : Type 0} (entry text : List ℕ) (t : TypedProgram) (g : Graph) (r : Result code.Answer E) → IsTypedText entry text t → IsGraphOf t g →
     IfOk r (λ a. (answered a).status ≡ 0 → HasNoErrorWord g) → IfOk r (λ a. (answered a).status ≡ 0 → TextIsSafe entry text)
 decided_is_safe entry text t g (Ok a) w h s = λ z. text_is_safe entry text t g w h (s z)
 decided_is_safe entry text t g (Err e) w h s = tt

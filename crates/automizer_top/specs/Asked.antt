@@ -1,5 +1,5 @@
 -- What the code read of the words, as contracts see it.
-use Rattle.std.specs.Prelude.{ℕ, ◌≤◌, List}
+use Rattle.std.specs.Prelude.{ℕ, ◌≤◌, List, option_map}
 use Rattle.automizer_top.specs.declared.words.Mode.{Mode}
 use Rattle.automizer_top.specs.declared.words.Mode.TheVariants.{Check, Replay, Print, Verify}
 use Rattle.automizer_top.specs.declared.words.Task.{Task}
@@ -24,7 +24,7 @@ IsCounted (Texts mode) = Unit {0}
 IsCounted (Generated count) = (1 ≤ count) × (count ≤ 200)
 
 abbrev pub settings : Options → line.Settings
-settings o = record { entry = o.entry.now; limits = o.limits; modular = o.modular }
+settings o = record { entry = o.entry.now; limits = o.limits; modular = o.modular; reuse = option_map (λ name. name.now) o.reuse }
 
 abbrev pub asked : Request → line.Request
 asked r = record { task = task r.task; settings = settings r.options }

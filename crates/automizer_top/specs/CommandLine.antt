@@ -1,5 +1,5 @@
 -- The words of the command line, as a simple command of `clap`, and what they ask for.
-use Rattle.std.specs.Prelude.{ℕ, ◌==◌, ◌&&◌, ◌||◌, List, [], ◌∷◌, length, slice_index, Bool, true, false, Option, None, Some, codes, if◌then◌else◌, nat_lt, nat_le, option_map, option_and_then}
+use Rattle.std.specs.Prelude.{ℕ, ◌==◌, ◌&&◌, ◌||◌, List, [], ◌∷◌, length, slice_index, Bool, true, false, not, Option, None, Some, codes, if◌then◌else◌, nat_lt, nat_le, option_map, option_and_then}
 use Rattle.std.specs.Fmt.{decimal}
 use Rattle.std.specs.Str.{bytes_eq}
 use Rattle.std.specs.Str.Parse.{digits_value}
@@ -20,15 +20,19 @@ positional id required = record (new_rule id) { required = required }
 abbrev pub option : List ℕ → List ℕ → Rule
 option id default = record (new_rule id) { long = Some id; defaults = default ∷ [] }
 
+-- an option `--ID VALUE` that has no value where it is left out
+abbrev pub choice : List ℕ → Rule
+choice id = record (new_rule id) { long = Some id }
+
 -- a flag `--ID`
 abbrev pub flag : List ℕ → Rule
 flag id = record (new_rule id) { long = Some id; action = Some SetTrue }
 
--- MODE PROGRAM [SECOND] [--entry NAME] [--rounds N] [--workers N] [--depth N] [--modular]
+-- MODE PROGRAM [SECOND] [--entry NAME] [--rounds N] [--workers N] [--depth N] [--modular] [--reuse OLD]
 abbrev pub arguments : List Rule
 arguments = positional (codes "mode") true ∷ positional (codes "program") true ∷ positional (codes "second") false
     ∷ option (codes "entry") (codes "main") ∷ option (codes "rounds") (codes "1000") ∷ option (codes "workers") (codes "4")
-    ∷ option (codes "depth") (codes "16") ∷ flag (codes "modular") ∷ []
+    ∷ option (codes "depth") (codes "16") ∷ flag (codes "modular") ∷ choice (codes "reuse") ∷ []
 
 -- no word is the program's name, and no flag asks for help or the version
 abbrev pub bare_command : App
@@ -58,11 +62,13 @@ pub data Task : Type 0 where
   Verify : List ℕ → Task
   Big : ℕ → Task
 
--- the name of the procedure at which runs begin, the limits of a race, and whether each procedure is verified by itself
+-- The name of the procedure at which runs begin, the limits of a race, whether each procedure is verified by itself, and the name of the text of
+-- an earlier annotation, where one is named.
 pub record Settings : Type 0 where
   pub entry : List ℕ
   pub limits : Limits
   pub modular : Bool
+  pub reuse : Option (List ℕ)
 
 pub record Request : Type 0 where
   pub task : Task
@@ -104,10 +110,20 @@ task_of rows = option_and_then (λ mode. option_and_then (λ program. task_by mo
 abbrev pub is_given : List ℕ → List Row → Option Bool
 is_given id rows = option_map (λ text. bytes_eq text (codes "true")) (first_of id rows)
 
--- the settings that they name, each number in its range
+-- no earlier annotation is of parts
+abbrev pub go_together : Bool → Option (List ℕ) → Bool
+go_together modular None = true
+go_together modular (Some name) = not modular
+
+-- the settings that they name, each number in its range, and not both `--modular` and `--reuse`
 abbrev pub settings_of : List Row → Option Settings
-settings_of rows = option_and_then (λ entry. option_and_then (λ rounds. option_and_then (λ workers. option_and_then (λ depth. option_map
-    (λ modular. record { entry = entry; limits = record { rounds = rounds; workers = workers; depth = depth }; modular = modular })
+settings_of rows = option_and_then (λ entry. option_and_then (λ rounds. option_and_then (λ workers. option_and_then (λ depth. option_and_then
+    (λ modular. if go_together modular (first_of (codes "reuse") rows) then Some (record {
+      entry = entry;
+      limits = record { rounds = rounds; workers = workers; depth = depth };
+      modular = modular;
+      reuse = first_of (codes "reuse") rows;
+    }) else None)
     (is_given (codes "modular") rows))
     (option_and_then (number_in_bounds 0 64) (first_of (codes "depth") rows)))
     (option_and_then (number_in_bounds 1 64) (first_of (codes "workers") rows)))
@@ -122,6 +138,7 @@ abbrev pub request_by : Kinds → List Row → Option Request
 request_by [] rows = request_of rows
 request_by (fault ∷ more) rows = None
 
--- What the words ask for; nothing where the command refuses them, or they name no mode with as many texts, or a number is out of its range.
+-- What the words ask for; nothing where the command refuses them, or they name no mode with as many texts, or a number is out of its range, or both
+-- `--modular` and `--reuse` stand.
 unfoldable pub requested : List (List ℕ) → Option Request
 requested words = request_by (faults words) (values words)

@@ -8,10 +8,12 @@ pub mod Summary
 pub mod ReportTexts
 pub mod ReportCases
 pub mod PartTexts
+pub mod Earlier
 pub mod Parts
 pub mod Report
 pub mod ReportClaims
 pub mod PartClaims
 pub mod Answers
 pub mod PartViews
+pub mod EarlierViews
 pub mod Completeness

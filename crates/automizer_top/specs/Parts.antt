@@ -56,7 +56,7 @@ abbrev pub AreSafe : Limits → List PlainPart → List Answer → Type 0
 AreSafe l [] [] = Unit {0}
 AreSafe l [] (b ∷ bs) = ⊥
 AreSafe l (p ∷ ps) [] = ⊥
-AreSafe l (p ∷ ps) (b ∷ bs) = ReportsVerdict l p.program b × (b.status ≡ 0) × AreSafe l ps bs
+AreSafe l (p ∷ ps) (b ∷ bs) = ReportsVerdict None l p.program b × (b.status ≡ 0) × AreSafe l ps bs
 
 -- the line of each part, and the text of its verdict
 abbrev pub part_texts : List PlainPart → List Answer → List ℕ
@@ -81,7 +81,7 @@ part_answer bs p b = record { bytes = part_line p.name ++ b.bytes; status = b.st
 pub data ReportsParts (l : Limits) (ps : List PlainPart) (a : Answer) : Type 0 where
   all_safe : (bs : List Answer) → AreSafe l ps bs → a ≡ parts_answer ps bs → ReportsParts l ps a
   one_is_not : (before after : List PlainPart) (p : PlainPart) (bs : List Answer) (b : Answer) → ps ≡ before ++ p ∷ after → AreSafe l before bs →
-      ReportsVerdict l p.program b → b.status ≢ 0 → a ≡ part_answer bs p b → ReportsParts l ps a
+      ReportsVerdict None l p.program b → b.status ≢ 0 → a ≡ part_answer bs p b → ReportsParts l ps a
 
 -- What is answered to a program text whose verdict is asked for part by part. It has no more bytes than a second text may have.
 abbrev pub ReportsVerifyParts : List ℕ → Limits → List ℕ → Answer → Type 0

@@ -4,6 +4,7 @@ use Rattle.outer_io.specs.Texts.{text_named}
 use Rattle.race_rounds.specs.declared.limits.Limits.{Limits}
 use Rattle.automizer_top.specs.CommandLine.{Check, Replay, Print, Verify, Big, Settings, requested}
 use Rattle.automizer_top.specs.ReportTexts.{Answer, answer, usage_line}
+use Rattle.automizer_top.specs.Earlier.{ReportsVerifyWith}
 use Rattle.automizer_top.specs.Parts.{ReportsVerifyParts, ReportsCheckParts, ReportsReplayParts}
 pub use Rattle.automizer_top.specs.ReportCases.{program_limit, second_limit, Ask, RefusesProgram, ReportsPrint, IsIllTyped, RefusesTyped, IsTypedText, ReportsTyped, RefusesLowering, ReportsLowered, ReportsSecond, IsSafeText, ReportsAnnotation, ReportsProof, ReportsCheck, IsFailureText, ReportsFailure, ReportsReplay, ReportsVerdict, ReportsVerify, ReportsBig, too_long, no_program, refused_print, printed, refused_text, ill_typed, refused, of_typed, unlowered, of_lowered, second_too_long, of_second, wrong_line, missing_line, accepted, rejected, no_annotation, of_annotation, no_failure, replayed, stopped}
 
@@ -16,9 +17,11 @@ abbrev pub ReportsReplayBy : Bool → List ℕ → List ℕ → Option (List ℕ
 ReportsReplayBy false = ReportsReplay
 ReportsReplayBy true = ReportsReplayParts
 
-abbrev pub ReportsVerifyBy : Bool → List ℕ → Limits → List ℕ → Answer → Type 0
-ReportsVerifyBy false = ReportsVerify
-ReportsVerifyBy true = ReportsVerifyParts
+-- of the whole program, which may begin with an earlier annotation, or of its parts
+abbrev pub ReportsVerifyBy : Bool → Option (List ℕ) → List (List ℕ × List ℕ) → List ℕ → Limits → List ℕ → Answer → Type 0
+ReportsVerifyBy false None texts entry l program = ReportsVerify entry l program
+ReportsVerifyBy false (Some old) texts entry l program = ReportsVerifyWith entry l program (text_named old texts)
+ReportsVerifyBy true reuse texts entry l program = ReportsVerifyParts entry l program
 
 -- The report: to words that ask for nothing the usage line, to others what the named texts give.
 pub data Reports (words : List (List ℕ)) (texts : List (List ℕ × List ℕ)) (a : Answer) : Type 0 where
@@ -30,5 +33,5 @@ pub data Reports (words : List (List ℕ)) (texts : List (List ℕ × List ℕ))
   replaying : (s : Settings) (program second text : List ℕ) → Ask words s (Replay program second) → text_named program texts ≡ Some text →
       ReportsReplayBy s.modular s.entry text (text_named second texts) a → Reports words texts a
   verifying : (s : Settings) (program text : List ℕ) → Ask words s (Verify program) → text_named program texts ≡ Some text →
-      ReportsVerifyBy s.modular s.entry s.limits text a → Reports words texts a
+      ReportsVerifyBy s.modular s.reuse texts s.entry s.limits text a → Reports words texts a
   generating : (s : Settings) (count : ℕ) → Ask words s (Big count) → ReportsBig s.limits count a → Reports words texts a

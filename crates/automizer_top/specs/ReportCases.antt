@@ -29,6 +29,7 @@ use Rattle.trace_replay.specs.FailureFaults.{IsFirstFault}
 use Rattle.trace_replay.specs.Replays.{IsReplayed}
 use Rattle.trace_replay.specs.ReplayCauses.{StopsAt}
 use Rattle.trace_replay.specs.declared.causes.ReplayCause.{ReplayCause}
+use Rattle.race_core.specs.declared.events.Entry.{Entry}
 use Rattle.race_core.specs.Races.{Race}
 use Rattle.itp_automaton.specs.Certified.{Certificate}
 use Rattle.race_rounds.specs.declared.limits.Limits.{Limits}
@@ -165,18 +166,19 @@ ReportsReplay entry program second = ReportsTyped entry program (λ t. ReportsSe
 
 -- ---- a race decides
 
--- What is answered to a program that can be lowered, where its verdict is asked for: the verdict for which a race over it has ended.
-pub record ReportsVerdict (l : Limits) (t : TypedProgram) (a : Answer) : Type 0 where
+-- What is answered to a program that can be lowered, where its verdict is asked for: the verdict for which a race over it has ended, which began with
+-- the entry that was given, where one was.
+pub record ReportsVerdict (given : Option (Entry Certificate)) (l : Limits) (t : TypedProgram) (a : Answer) : Type 0 where
   pub race : Race Certificate
   pub verdict : Verdict
-  pub closed : IsClosedRace t l race
+  pub closed : IsClosedRace t given l race
   pub of_end : IsVerdict t race verdict
   pub is : a ≡ verdict_answer race verdict
 
 -- What is answered to a program text whose verdict is asked for. Of several verdicts any may be told. A verdict has no more bytes than a second
 -- text may have, so that its text can be handed over.
 abbrev pub ReportsVerify : List ℕ → Limits → List ℕ → Answer → Type 0
-ReportsVerify entry l program = ReportsTyped entry program (λ t. ReportsLowered t (λ g a. ReportsVerdict l t a × (length a.bytes ≤ second_limit)))
+ReportsVerify entry l program = ReportsTyped entry program (λ t. ReportsLowered t (λ g a. ReportsVerdict None l t a × (length a.bytes ≤ second_limit)))
 
 -- What is answered where the generated program of so many procedures is asked for: the summary of the verdict for which a race over it has ended.
 -- This program is never refused.
@@ -186,6 +188,6 @@ pub record ReportsBig (l : Limits) (count : ℕ) (a : Answer) : Type 0 where
   pub lowers : first_fault program ≡ None
   pub race : Race Certificate
   pub verdict : Verdict
-  pub closed : IsClosedRace program l race
+  pub closed : IsClosedRace program None l race
   pub of_end : IsVerdict program race verdict
   pub is : a ≡ summary_answer count race verdict

@@ -1,5 +1,6 @@
 -- What contracts and laws say by the report: what words ask for, what an answer is, and what has become of it.
 use Rattle.std.specs.Prelude.{◌≡◌, ◌⊎◌, ℕ, List, ◌++◌, Option, Some, codes, IfSome}
+use Rattle.outer_io.specs.Lines.{lines_of}
 use Rattle.outer_io.specs.Texts.{text_named, GainsFront}
 use Rattle.boogie_tree.specs.Tree.{Declaration}
 use Rattle.boogie_parse.specs.GrammarLimits.{IsProgram}
@@ -8,14 +9,16 @@ use Rattle.typed_tree.specs.declared.fault.TypeFault.{TypeFault}
 use Rattle.boogie_types.specs.Resolved.{resolved_program}
 use Rattle.boogie_run.specs.Runs.{Fails, IsSafe}
 use Rattle.boogie_run.specs.declared.types.AssertId.{AssertId}
+use Rattle.proof_form.specs.Standing.{FirstWrongOfText}
 use Rattle.trace_replay.specs.FailureText.{PlainFailure}
 use Rattle.trace_replay.specs.Replays.{IsReplayed}
+use Rattle.race_core.specs.declared.events.Entry.{Entry}
 use Rattle.race_core.specs.Races.{Race}
 use Rattle.itp_automaton.specs.Certified.{Certificate}
 use Rattle.generated_program.specs.Generated.{generated}
 use Rattle.automizer_top.specs.CommandLine.{Check, Replay, Print, Verify, Big, Settings}
 use Rattle.automizer_top.specs.TypeRefusals.{type_refusal}
-use Rattle.automizer_top.specs.ReportTexts.{Answer, answer}
+use Rattle.automizer_top.specs.ReportTexts.{Answer, answer, syntax_answer}
 use Rattle.automizer_top.specs.Report.{Ask, IsTypedText, IsFailureText, ReportsVerdict, Reports}
 
 -- ---- what an answer is
@@ -27,7 +30,12 @@ IsTypingRefusal a = (f : TypeFault) × (a ≡ answer (type_refusal f) 3)
 -- the answer is a verdict on this program
 abbrev pub IsVerdictOn : List (List ℕ) → List (List ℕ × List ℕ) → TypedProgram → Answer → Type 0
 IsVerdictOn words texts t a = (s : Settings) × (program text : List ℕ) × Ask words s (Verify program) × (text_named program texts ≡ Some text)
-    × IsTypedText s.entry text t × ReportsVerdict s.limits t a
+    × IsTypedText s.entry text t × (given : Option (Entry Certificate)) × ReportsVerdict given s.limits t a
+
+-- an earlier annotation is named, and its text is none: this is its first wrong line
+abbrev pub RefusesEarlier : Settings → List (List ℕ × List ℕ) → Answer → Type 0
+RefusesEarlier s texts a = (old text : List ℕ) × (line : ℕ) × (s.reuse ≡ Some old) × (text_named old texts ≡ Some text)
+    × FirstWrongOfText (lines_of text) line × (a ≡ syntax_answer line)
 
 -- the answer spells values that replay, and their run fails this assertion
 abbrev pub PrintsFailure : TypedProgram → Answer → Type 0

@@ -26,7 +26,7 @@ answer bytes status = record { bytes = bytes; status = status; races = [] }
 -- ---- to faulty words, and to a text that is past its limit
 
 abbrev pub usage_line : List ℕ
-usage_line = codes "usage: automizer MODE PROGRAM [SECOND] [--entry NAME] [--rounds N] [--workers N] [--depth N] [--modular]\n"
+usage_line = codes "usage: automizer MODE PROGRAM [SECOND] [--entry NAME] [--rounds N] [--workers N] [--depth N] [--modular] [--reuse OLD]\n"
 
 abbrev pub too_long_answer : Answer
 too_long_answer = answer (codes "refused TooLong\n") 3

@@ -80,7 +80,7 @@ impl Answer {
         let line = match self {
             Answer::Usage => String::from_str(
                 alloc,
-                "usage: automizer MODE PROGRAM [SECOND] [--entry NAME] [--rounds N] [--workers N] [--depth N] [--modular]\n",
+                "usage: automizer MODE PROGRAM [SECOND] [--entry NAME] [--rounds N] [--workers N] [--depth N] [--modular] [--reuse OLD]\n",
             )?,
             Answer::TooLong => String::from_str(alloc, "refused TooLong\n")?,
             Answer::Refused(fault) => refusal_text(alloc, &fault)?,

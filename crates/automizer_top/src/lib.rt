@@ -2,6 +2,7 @@
 #![tactic(auto)]
 
 mod answer;
+mod earlier;
 mod generated;
 mod part_texts;
 mod parts;

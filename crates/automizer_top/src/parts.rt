@@ -128,6 +128,7 @@ fn decided<R: Threads + Wait + Sync, G: Gate + Sync>(
             &part.program,
             &lowered.graphs[number],
             limits,
+            None,
             gate,
         )?;
         races.push(race)?;

@@ -1,4 +1,4 @@
-ghost use Rattle.std.specs.Prelude.{true, ◌≡◌, ◌≢◌, ◌≤◌, ◌<◌, ◌+◌, ℕ, List, Option, length, map, Some, None, Err, IfOk, IfSome, IsSome, MatchOption, MatchResult, vec_len};
+ghost use Rattle.std.specs.Prelude.{true, ◌≡◌, ◌≢◌, ◌≤◌, ◌<◌, ◌+◌, ℕ, List, Option, length, map, Some, None, Err, IfOk, IfSome, IsSome, MatchOption, MatchResult, option_map, vec_len};
 ghost use Rattle.std.specs.String.{string_bytes};
 ghost use Rattle.std.specs.List.{list_all};
 ghost use Rattle.outer_io.specs.Faults.{Rose};
@@ -11,6 +11,7 @@ ghost use Rattle.coarse_lines.specs.CoarseLetters.{coarse_letters};
 ghost use Rattle.proof_names.specs.Items.{first_triple};
 ghost use Rattle.automizer_top.specs.declared.reporting.Halt.TheVariants.{Fault, Memory};
 ghost use Rattle.automizer_top.specs.Answers.{answered, Asks, IsGraphOf, HasNoErrorWord, TextIsSafe, CheckedIsSafe, VerifiedIsSafe, BuiltIsSafe, IsJudged, IsRejected, decided_answer};
+ghost use Rattle.automizer_top.specs.EarlierViews.{IsGivenOver};
 ghost use Rattle.automizer_top.specs.Verdicts.{verdict_status};
 ghost use Rattle.trace_replay.specs.FailureText.{plain};
 ghost use Rattle.race_rounds.specs.Limits.{AreInRange};
@@ -23,8 +24,8 @@ ghost use Rattle.automizer_top.specs.Report.{IsFailureText, IsTypedText, Refuses
 
 use crate::answer::Answer;
 use crate::generated::summed;
-use crate::parts;
 use crate::words::{Mode, Options, Task, read_words};
+use crate::{earlier, parts};
 use boogie_parse::{Fault, parse};
 use boogie_tree::print;
 use boogie_types::{TypeFault, Typed, resolve};
@@ -35,10 +36,10 @@ use letter_acts::Icfg;
 use outer_io::{ReadFault, Shelf, read_all};
 use proof_check::{Reject, RejectCause, check};
 use proof_form::{Annotation, ProofFault, read_safe};
-use race_core::Shared;
+use race_core::{Entry, Shared};
 use race_rounds::Limits;
 use race_verdicts::{Verdict, verdict_of, verdict_text};
-use race_workers::{Gate, race};
+use race_workers::{Gate, race_from};
 use std::alloc::{AllocError, Global};
 use std::sync::Wait;
 use std::thread::Threads;
@@ -319,22 +320,24 @@ fn checked<H: Shelf>(
     judged_within(alloc, shelf, &icfg, second)
 }
 
-/// The verdict on a program with its text, by a race over its graph.
+/// The verdict on a program with its text, by a race over its graph, which begins with the entry that is given, where one is.
 pub(crate) fn raced<R: Threads + Wait + Sync, G: Gate + Sync>(
     rt: &R,
     alloc: Global,
     program: &Typed,
     icfg: &Icfg,
     limits: Limits,
+    first: Option<Entry<Certified>>,
     gate: &G,
 ) -> Result<Decision, AllocError>
     requires graph { IsGraphOf (typed_program program.now) icfg.now }
     requires limits { AreInRange limits }
-    ensures reported { IfOk result (λ d. ReportsVerdict limits (typed_program program.now) (decided_answer d)) }
+    requires given { IfSome first (IsGivenOver (typed_program program.now)) }
+    ensures reported { IfOk result (λ d. ReportsVerdict first limits (typed_program program.now) (decided_answer d)) }
     ensures short { IfOk result (λ d. length d.text.items ≤ SECOND_LIMIT) }
     ensures safe { IfOk result (λ d. verdict_status d.verdict ≡ 0 → HasNoErrorWord icfg.now) }
 {
-    let race = race(rt, alloc, program, icfg, limits, gate)?;
+    let race = race_from(rt, alloc, program, icfg, limits, first, gate)?;
     let verdict = verdict_of(alloc, program, icfg, &race)?;
     let text = verdict_text(alloc, race.version(), &verdict)?;
     // Contracts alone speak of these.
@@ -347,18 +350,20 @@ pub(crate) fn raced<R: Threads + Wait + Sync, G: Gate + Sync>(
     })
 }
 
-/// What is answered to a program and its graph, where the verdict is asked for.
-fn decided<R: Threads + Wait + Sync, G: Gate + Sync>(
+/// What is answered to a program and its graph, where the verdict is asked for, of a race that begins with the entry that is given, where one is.
+pub(crate) fn decided<R: Threads + Wait + Sync, G: Gate + Sync>(
     rt: &R,
     alloc: Global,
     program: &Typed,
     icfg: &Icfg,
     limits: Limits,
+    first: Option<Entry<Certified>>,
     gate: &G,
 ) -> Result<Answer, AllocError>
     requires graph { IsGraphOf (typed_program program.now) icfg.now }
     requires limits { AreInRange limits }
-    ensures reported { IfOk result (λ a. ReportsVerdict limits (typed_program program.now) (answered a)) }
+    requires given { IfSome first (IsGivenOver (typed_program program.now)) }
+    ensures reported { IfOk result (λ a. ReportsVerdict first limits (typed_program program.now) (answered a)) }
     ensures short { IfOk result (λ a. length (answered a).bytes ≤ SECOND_LIMIT) }
     ensures safe { IfOk result (λ a. (answered a).status ≡ 0 → HasNoErrorWord icfg.now) }
 {
@@ -366,7 +371,7 @@ fn decided<R: Threads + Wait + Sync, G: Gate + Sync>(
         text,
         verdict,
         race,
-    } = raced(rt, alloc, program, icfg, limits, gate)?;
+    } = raced(rt, alloc, program, icfg, limits, first, gate)?;
     Ok(Answer::Decided {
         text,
         verdict,
@@ -395,7 +400,7 @@ fn verified<R: Threads + Wait + Sync, G: Gate + Sync>(
         Ok(icfg) => icfg,
         Err(answer) => return Ok(answer),
     };
-    decided(rt, alloc, &program, &icfg, options.limits, gate)
+    decided(rt, alloc, &program, &icfg, options.limits, None, gate)
 }
 
 /// What is answered to a program and to a failure.
@@ -457,23 +462,33 @@ fn replayed<H: Shelf>(
     Ok(outcome(alloc, &program, &failure)?)
 }
 
-/// What is answered to a program text whose verdict, or with the flag that of each of its parts, is asked for.
-fn verified_by<R: Threads + Wait + Sync, G: Gate + Sync>(
+/// What is answered to a program text whose verdict, or with the flag that of each of its parts, is asked for, and to an earlier annotation, where one
+/// is named.
+fn verified_by<R: Threads + Wait + Sync, H: Shelf, G: Gate + Sync>(
     rt: &R,
     alloc: Global,
+    shelf: &mut H,
     text: &[u8],
     options: &Options<'_>,
     gate: &G,
-) -> Result<Answer, AllocError>
+) -> Result<Answer, Halt>
     requires text { length text.now ≤ PROGRAM_LIMIT }
     requires limits { AreInRange options.now.limits }
-    ensures reported { IfOk result (λ a. ReportsVerifyBy options.now.modular options.now.entry.now options.now.limits text.now (answered a)) }
+    ensures texts { H.texts shelf.new ≡ H.texts shelf.old }
+    ensures reported { IfOk result (λ a. IfSome (H.texts shelf.old) (λ shown. ReportsVerifyBy options.now.modular (option_map (λ name. name.now) options.now.reuse) shown
+        options.now.entry.now options.now.limits text.now (answered a))) }
     ensures safe { IfOk result (λ a. (answered a).status ≡ 0 → TextIsSafe options.now.entry.now text.now) }
+    ensures no_usage { IfOk result (λ a. (answered a).status ≢ 4) }
+    ensures fault { result ≡ Err Halt.Fault → Rose (H.faults shelf.old) (H.faults shelf.new) }
+    ensures no_fault { result ≢ Err Halt.Fault → H.faults shelf.new ≡ H.faults shelf.old }
+    ensures never_falls { H.faults shelf.old ≤ H.faults shelf.new }
 {
     if options.modular {
-        parts::verified(rt, alloc, text, options, gate)
-    } else {
-        verified(rt, alloc, text, options, gate)
+        return Ok(parts::verified(rt, alloc, text, options, gate)?);
+    }
+    match options.reuse {
+        None => Ok(verified(rt, alloc, text, options, gate)?),
+        Some(old) => earlier::verified(rt, alloc, shelf, text, old, options, gate),
     }
 }
 
@@ -553,7 +568,7 @@ fn reported_on_texts<R: Threads + Wait + Sync, H: Shelf, G: Gate + Sync>(
     };
     match *mode {
         Mode::Print { program: _ } => Ok(printed(alloc, &text)?),
-        Mode::Verify { program: _ } => Ok(verified_by(rt, alloc, &text, options, gate)?),
+        Mode::Verify { program: _ } => verified_by(rt, alloc, shelf, &text, options, gate),
         Mode::Check { program: _, second } => checked_by(alloc, shelf, &text, second, options),
         Mode::Replay { program: _, second } => replayed_by(alloc, shelf, &text, second, options),
     }

@@ -12,6 +12,7 @@ ghost use Rattle.lowered_graph.specs.Lowered.{lowered};
 ghost use Rattle.proof_form.specs.Annotations.{Content, safe_text};
 ghost use Rattle.coarse_lines.specs.CoarseLetters.{coarse_letters};
 ghost use Rattle.race_core.specs.declared.ends.Cause.{Cause};
+ghost use Rattle.race_core.specs.declared.events.Entry.{Entry};
 ghost use Rattle.race_core.specs.Races.{Race};
 ghost use Rattle.itp_automaton.specs.Certified.{Certificate};
 ghost use Rattle.race_verdicts.specs.declared.verdicts.Verdict.{Verdict};
@@ -28,7 +29,7 @@ ghost use Rattle.automizer_top.specs.CommandLine as line;
 ghost use Rattle.automizer_top.specs.CommandLine.{Settings, requested};
 ghost use Rattle.automizer_top.specs.ReportTexts.{Answer, verdict_answer, summary_answer, accepted_answer, replayed_answer};
 ghost use Rattle.automizer_top.specs.Report.{Ask, Reports, ReportsVerdict, ReportsBig};
-ghost use Rattle.automizer_top.specs.ReportClaims.{Answers, IsHandedOver, WhereTold, TookFront, Closes, ClosesAtFront, PrintsProgram, ProgramIsSafe, ProgramFails, IsTypingRefusal, IsVerdictOn, PrintsFailure, GeneratedIsSafe};
+ghost use Rattle.automizer_top.specs.ReportClaims.{Answers, IsHandedOver, WhereTold, TookFront, Closes, ClosesAtFront, PrintsProgram, ProgramIsSafe, ProgramFails, IsTypingRefusal, IsVerdictOn, RefusesEarlier, PrintsFailure, GeneratedIsSafe};
 
 use crate::reporting::{Halt, reported};
 use itp_automaton::Certified;
@@ -140,24 +141,28 @@ pub fn one_report()
 {}
 
 /// What `verify` writes is confirmed where its bytes are handed over with the same program and the same entry, and with `--modular` in both words or in
-/// none: `check` accepts each `safe`, and `replay` replays each `unsafe`, whatever the other options.
+/// none: `check` accepts each `safe`, and `replay` replays each `unsafe`, whatever the other options. Status 1 says `unsafe`, or that the text of an
+/// earlier annotation is none.
 pub fn verdicts_are_confirmed()
     ensures accepted { (words again : List (List ℕ)) (r s : Settings) (program second : List ℕ) (before after : List (List ℕ × List ℕ)) (a b : Answer) →
         Ask words r (line.Verify program) → Ask again s (line.Check program second) → Reports words before a → a.status ≡ 0 →
         IsHandedOver program second r s before after a → Reports again after b → b ≡ accepted_answer }
     ensures replayed { (words again : List (List ℕ)) (r s : Settings) (program second : List ℕ) (before after : List (List ℕ × List ℕ)) (a b : Answer) →
         Ask words r (line.Verify program) → Ask again s (line.Replay program second) → Reports words before a → a.status ≡ 1 →
-        IsHandedOver program second r s before after a → Reports again after b → (id : AssertId) × (b ≡ replayed_answer id) }
+        IsHandedOver program second r s before after a → Reports again after b → RefusesEarlier r before a ⊎ ((id : AssertId) × (b ≡ replayed_answer id)) }
 {}
 
-/// What `verify` says is so, whatever the limits. Its statuses 0, 1 and 2 are those of a verdict on the typed program of the text. Status 0 is
-/// answered only where no run of that program, of any length and any call stack, fails an assertion; and status 1 only where a run fails one, with
-/// values that replay it.
+/// What `verify` says is so, whatever the limits, and whatever entry the race began with. Its statuses 0, 1 and 2 are those of a verdict on the typed
+/// program of the text, but for status 1 where the text of an earlier annotation is none. A verdict has status 0 only where no run of that program, of
+/// any length and any call stack, fails an assertion; and status 1 only where a run fails one, with values that replay it.
 pub fn verdicts_are_true()
     ensures told { (words : List (List ℕ)) (texts : List (List ℕ × List ℕ)) (s : Settings) (program : List ℕ) (a : Answer) →
-        Ask words s (line.Verify program) → s.modular ≡ false → Reports words texts a → a.status < 3 → (t : TypedProgram) × IsVerdictOn words texts t a }
-    ensures safe { (l : Limits) (t : TypedProgram) (a : Answer) → IsTrue (is_valid t) → ReportsVerdict l t a → a.status ≡ 0 → IsSafe t }
-    ensures fails { (l : Limits) (t : TypedProgram) (a : Answer) → ReportsVerdict l t a → a.status ≡ 1 → PrintsFailure t a }
+        Ask words s (line.Verify program) → s.modular ≡ false → Reports words texts a → a.status < 3 →
+        RefusesEarlier s texts a ⊎ ((t : TypedProgram) × IsVerdictOn words texts t a) }
+    ensures safe { (given : Option (Entry Certificate)) (l : Limits) (t : TypedProgram) (a : Answer) → IsTrue (is_valid t) → ReportsVerdict given l t a →
+        a.status ≡ 0 → IsSafe t }
+    ensures fails { (given : Option (Entry Certificate)) (l : Limits) (t : TypedProgram) (a : Answer) → ReportsVerdict given l t a → a.status ≡ 1 →
+        PrintsFailure t a }
 {
     certified_words_are_infeasible();
     lowering_is_faithful();
@@ -181,8 +186,9 @@ pub fn part_verdicts_are_true()
 /// Of two verdicts on one program, whatever the limits, not one is `safe` and the other `unsafe`; and where the program has no error
 /// word, the verdict is `safe` after no round.
 pub fn verdicts_agree()
-    ensures one { (l m : Limits) (t : TypedProgram) (a b : Answer) → ReportsVerdict l t a → ReportsVerdict m t b → a.status ≡ 0 → b.status ≡ 1 → ⊥ }
-    ensures at_once { (l : Limits) (t : TypedProgram) (a : Answer) → ReportsVerdict l t a → ((w : List Letter) → Accepts (lowered t).automaton w → ⊥) →
+    ensures one { (given other : Option (Entry Certificate)) (l m : Limits) (t : TypedProgram) (a b : Answer) → ReportsVerdict given l t a →
+        ReportsVerdict other m t b → a.status ≡ 0 → b.status ≡ 1 → ⊥ }
+    ensures at_once { (given : Option (Entry Certificate)) (l : Limits) (t : TypedProgram) (a : Answer) → ReportsVerdict given l t a → ((w : List Letter) → Accepts (lowered t).automaton w → ⊥) →
         (w : Content) × (a.bytes ≡ safe_text 0 (coarse_letters (lowered t) w) w) × (a.status ≡ 0) }
 {
     certified_words_are_infeasible();
@@ -191,9 +197,9 @@ pub fn verdicts_agree()
 /// What no verdict says: that the rounds are over, where the program has no more error words than rounds; and that Decide has neither
 /// a refutation nor a whole point, where the rows of each error word bound a column or the difference of two.
 pub fn verdicts_are_complete()
-    ensures rounds { (l : Limits) (t : TypedProgram) (a : Answer) (ws : List (List Letter)) → ReportsVerdict l t a → HasWordsAmong (lowered t).automaton ws → length ws ≤ l.rounds →
-        SaysUnknown Cause.Rounds a → ⊥ }
-    ensures whole { (l : Limits) (t : TypedProgram) (a : Answer) → ReportsVerdict l t a → HasDifferenceRows t → SaysUnknown Cause.Whole a → ⊥ }
+    ensures rounds { (given : Option (Entry Certificate)) (l : Limits) (t : TypedProgram) (a : Answer) (ws : List (List Letter)) → ReportsVerdict given l t a →
+        HasWordsAmong (lowered t).automaton ws → length ws ≤ l.rounds → SaysUnknown Cause.Rounds a → ⊥ }
+    ensures whole { (given : Option (Entry Certificate)) (l : Limits) (t : TypedProgram) (a : Answer) → ReportsVerdict given l t a → HasDifferenceRows t → SaysUnknown Cause.Whole a → ⊥ }
 {
     rounds_are_enough();
 }
@@ -202,6 +208,6 @@ pub fn verdicts_are_complete()
 /// and the race are those of the verdict.
 pub fn summaries_are_verdicts()
     ensures { (l : Limits) (count : ℕ) (a : Answer) → ReportsBig l count a →
-        (t : TypedProgram) × (r : Race Certificate) × (v : Verdict) × (resolved_program (generated count) (codes "main") ≡ Some t) × ReportsVerdict l t (verdict_answer r v)
+        (t : TypedProgram) × (r : Race Certificate) × (v : Verdict) × (resolved_program (generated count) (codes "main") ≡ Some t) × ReportsVerdict None l t (verdict_answer r v)
         × (a ≡ summary_answer count r v) }
 {}

@@ -58,6 +58,8 @@ pub(crate) struct Options<'a> {
     pub limits: Limits,
     /// Whether each procedure is verified by itself.
     pub modular: bool,
+    /// The name of the text of an earlier annotation, where one is named.
+    pub reuse: Option<&'a str>,
 }
 
 /// What the words ask for.
@@ -81,6 +83,14 @@ fn option<'a>(alloc: Global, id: &'a str, default: &'a str) -> Arg<'a>
     ensures local { result.global ≡ false }
 {
     Arg::new(alloc, id).long(id).default_value(default)
+}
+
+/// An option that has no value where it is left out.
+fn choice<'a>(alloc: Global, id: &'a str) -> Arg<'a>
+    ensures rule { rule_of result ≡ line.choice id.entry.now }
+    ensures local { result.global ≡ false }
+{
+    Arg::new(alloc, id).long(id)
 }
 
 /// A flag.
@@ -113,7 +123,8 @@ fn command<'a>(alloc: Global) -> Result<Command<'a>, AllocError>
         .arg(option(alloc, "rounds", "1000"))?
         .arg(option(alloc, "workers", "4"))?
         .arg(option(alloc, "depth", "16"))?
-        .arg(flag(alloc, "modular"))
+        .arg(flag(alloc, "modular"))?
+        .arg(choice(alloc, "reuse"))
 }
 
 /// The values that the words give to the arguments, or why the command refuses them.
@@ -227,7 +238,7 @@ fn is_set(matches: &ArgMatches<'_>, id: &str) -> Option<bool>
     Some(text == "true")
 }
 
-/// The values of the options, each number in its range.
+/// The values of the options, each number in its range, and not both `--modular` and `--reuse`.
 fn options_of<'a>(matches: &ArgMatches<'a>) -> Option<Options<'a>>
     ensures value { line.settings_of (rows_of (found_of matches.now)) ≡ option_map settings result }
     ensures limits { IfSome result (λ o. AreInRange o.limits) }
@@ -237,6 +248,10 @@ fn options_of<'a>(matches: &ArgMatches<'a>) -> Option<Options<'a>>
     let workers = number(value(matches, "workers")?, 1, 64)?;
     let depth = number(value(matches, "depth")?, 0, 64)?;
     let modular = is_set(matches, "modular")?;
+    let reuse = value(matches, "reuse");
+    if modular && reuse.is_some() {
+        return None;
+    }
     let limits = Limits {
         rounds: u64::from(rounds),
         workers,
@@ -246,6 +261,7 @@ fn options_of<'a>(matches: &ArgMatches<'a>) -> Option<Options<'a>>
         entry,
         limits,
         modular,
+        reuse,
     })
 }
 

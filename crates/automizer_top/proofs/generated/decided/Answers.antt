@@ -1,9 +1,10 @@
+use Rattle.std.proofs.Common.{None}
 use Rattle.typing_rules.specs.TypedParts.{typed_program}
 use Rattle.automizer_top.proofs.BigLaws.{summary_reported, verdict_is_proved}
 use Rattle.automizer_top.proofs.generated.decided.Goals as goal
 
 pub verdict_of-requires-clause-race : goal.verdict_of-requires-clause-race
-verdict_of-requires-clause-race g c = (c.args.limits, c.in_ok-race.ensures.race)
+verdict_of-requires-clause-race g c = (None, c.args.limits, c.in_ok-race.ensures.race)
 
 pub confirm-requires : goal.confirm-requires
 confirm-requires g c = verdict_is_proved (typed_program c.args.program.now) c.args.icfg.now c.in_ok-race.race c.in_ok-verdict.verdict c.requires.graph c.in_ok-verdict.ensures

@@ -2,8 +2,8 @@ use Rattle.std.proofs.Common.{◌≡◌, Ok, ap, sym, subst, arith}
 use Rattle.automizer_top.specs.declared.words.Mode.{Mode}
 use Rattle.automizer_top.specs.Answers.{answered}
 use Rattle.automizer_top.specs.ReportTexts.{Answer}
-use Rattle.automizer_top.proofs.ReportLaws.{program_reported, check_answered, check_is_safe, replay_answered, print_reported, IsNoVerify, unverified, IsNoCheck, unchecked, verify_reported, verify_is_safe}
-use Rattle.automizer_top.proofs.UsageLaws.{print_not_four, verify_by_not_four}
+use Rattle.automizer_top.proofs.ReportLaws.{program_reported, check_answered, check_is_safe, replay_answered, print_reported, IsNoVerify, unverified, IsNoCheck, unchecked, verify_answered, verify_is_safe}
+use Rattle.automizer_top.proofs.UsageLaws.{print_not_four}
 use Rattle.automizer_top.proofs.reporting.reported_on_texts.Goals as goal
 
 pub returns-in_default-clause-reported : goal.returns-in_default-clause-reported
@@ -44,21 +44,17 @@ returns-clause-reported g c = λ words ask.
 
 pub returns-in-Verify-clause-reported : goal.returns-in-Verify-clause-reported
 returns-in-Verify-clause-reported g c = λ words ask.
-    verify_reported words c.args.mode.now c.args.options.now c.in-Verify.program c.program.result.now c.in-Some.text.items (answered c.in_ok-verified_by-in-Verify.field-0)
+    verify_answered words c.args.mode.now c.args.options.now c.in-Verify.program c.program.result.now c.in-Some.text.items c.verified_by.result
     (g.H.Shelf.texts c.args.shelf.now) ask c.in-Verify.is c.program.ensures
     (rw c.in-Some.is at c.in_ok-text.ensures.found)
-    (rw (← c.deref-in-Verify.ensures.value) c.in_ok-verified_by-in-Verify.ensures.reported)
-
-pub returns-in-Verify-clause-no_usage : goal.returns-in-Verify-clause-no_usage
-returns-in-Verify-clause-no_usage g c =
-    verify_by_not_four c.args.options.now.modular c.args.options.now.entry.now c.args.options.now.limits c.deref-in-Verify.result.now (answered c.in_ok-verified_by-in-Verify.field-0) c.in_ok-verified_by-in-Verify.ensures.reported
+    (rw (← c.in_ok-text.ensures.texts, ← c.deref-in-Verify.ensures.value) c.verified_by.ensures.reported)
 
 pub returns-in-Verify-clause-verified : goal.returns-in-Verify-clause-verified
 returns-in-Verify-clause-verified g c = λ words ask.
-    verify_is_safe words c.args.mode.now c.args.options.now c.program.result.now c.in-Some.text.items (answered c.in_ok-verified_by-in-Verify.field-0)
+    verify_is_safe words c.args.mode.now c.args.options.now c.program.result.now c.in-Some.text.items c.verified_by.result
     (g.H.Shelf.texts c.args.shelf.now) ask c.program.ensures
     (rw c.in-Some.is at c.in_ok-text.ensures.found)
-    (rw (← c.deref-in-Verify.ensures.value) c.in_ok-verified_by-in-Verify.ensures.safe)
+    (rw (← c.deref-in-Verify.ensures.value) c.verified_by.ensures.safe)
 
 pub returns-in-Print-clause-verified : goal.returns-in-Print-clause-verified
 returns-in-Print-clause-verified g c = λ words ask.
@@ -84,7 +80,7 @@ returns-in-Print-clause-accepted g c = λ words ask.
 
 pub returns-in-Verify-clause-accepted : goal.returns-in-Verify-clause-accepted
 returns-in-Verify-clause-accepted g c = λ words ask.
-    unchecked words c.args.mode.now c.args.options.now (Ok c.in_ok-verified_by-in-Verify.field-0) (g.H.Shelf.texts c.args.shelf.now) ask
+    unchecked words c.args.mode.now c.args.options.now c.verified_by.result (g.H.Shelf.texts c.args.shelf.now) ask
     (subst (λ (m : Mode). IsNoCheck m) (sym c.in-Verify.is) tt)
 
 pub returns-clause-accepted : goal.returns-clause-accepted

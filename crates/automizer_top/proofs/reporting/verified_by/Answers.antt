@@ -1,13 +1,18 @@
-use Rattle.std.proofs.Common.{Bool, sym, subst}
-use Rattle.std.specs.Prelude.{IfOk}
 use Rattle.automizer_top.specs.Answers.{answered}
-use Rattle.automizer_top.specs.Report.{ReportsVerifyBy}
+use Rattle.automizer_top.proofs.EarlierLaws.{by_parts, by_program, by_earlier}
 use Rattle.automizer_top.proofs.reporting.verified_by.Goals as goal
 
 pub returns-then-options-clause-reported : goal.returns-then-options-clause-reported
 returns-then-options-clause-reported g c =
-    subst (λ (m : Bool). IfOk c.verified.result (λ a. ReportsVerifyBy m c.args.options.now.entry.now c.args.options.now.limits c.args.text.now (answered a))) (sym c.if-options.true) c.verified.ensures.reported
+    by_parts c.args.options.now.modular c.args.options.now.reuse c.args.options.now.entry.now c.args.options.now.limits c.args.text.now (answered c.in_ok-verified.field-0)
+    (g.H.Shelf.texts c.args.shelf.now) c.if-options.true c.in_ok-verified.ensures.reported
 
-pub returns-else-options-clause-reported : goal.returns-else-options-clause-reported
-returns-else-options-clause-reported g c =
-    subst (λ (m : Bool). IfOk c.verified-else-options.result (λ a. ReportsVerifyBy m c.args.options.now.entry.now c.args.options.now.limits c.args.text.now (answered a))) (sym c.if-options.false) c.verified-else-options.ensures.reported
+pub returns-in_ok-verified-in-None-clause-reported : goal.returns-in_ok-verified-in-None-clause-reported
+returns-in_ok-verified-in-None-clause-reported g c =
+    by_program c.args.options.now.modular c.args.options.now.reuse c.args.options.now.entry.now c.args.options.now.limits c.args.text.now (answered c.in_ok-verified-in-None.field-0)
+    (g.H.Shelf.texts c.args.shelf.now) c.if-options.false c.in-None.is c.in_ok-verified-in-None.ensures.reported
+
+pub returns-in-Some-clause-reported : goal.returns-in-Some-clause-reported
+returns-in-Some-clause-reported g c =
+    by_earlier c.args.options.now.modular c.args.options.now.reuse c.in-Some.old c.args.options.now.entry.now c.args.options.now.limits c.args.text.now c.verified-in-Some.result
+    (g.H.Shelf.texts c.args.shelf.now) c.if-options.false c.in-Some.is c.verified-in-Some.ensures.reported
