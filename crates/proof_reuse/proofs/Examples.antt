@@ -135,7 +135,7 @@ module _ (m : Automaton) where
 
   -- false stays by each letter
   false_stays : IsCandidate main old (Inside (truth_of 0 false) 0 (truth_of 0 false))
-  false_stays = record { agrees = (in_main_truth, in_main_truth); origin = inr (inr (refl, refl)) }
+  false_stays = record { agrees = (in_main_truth, in_main_truth); origin = inr (inr (inl (refl, refl))) }
 
   -- no line leads from true to false
   abbrev Renewed : form.Triple → Type 0

@@ -63,7 +63,13 @@ KeepsFalse (Call from letter to) = IsTruthOf false from × IsTruthOf false to
 KeepsFalse (Back exit before letter to) =
     ((IsTruthOf false exit × IsTruthOf true before) ⊎ (IsTruthOf true exit × IsTruthOf false before)) × IsTruthOf false to
 
--- A candidate: its letter is any of the program whose kind and scopes fit, and it renews a line, is true throughout, or keeps false.
+-- a call from a predicate that is found to true: what is known before it is kept until the return, and the callee begins with nothing
+abbrev pub BeginsTrue : Graph → Content → Triple → Type 0
+BeginsTrue g old (Inside from letter to) = ⊥
+BeginsTrue g old (Call from letter to) = Member (found_preds g old) from × IsTruthOf true to
+BeginsTrue g old (Back exit before letter to) = ⊥
+
+-- A candidate: its letter is any of the program whose kind and scopes fit, and it renews a line, is true throughout, keeps false, or begins with true.
 pub record IsCandidate (g : Graph) (old : Content) (t : Triple) : Type 0 where
   pub agrees : Agrees (alphabet_of g) t
-  pub origin : RenewsLine g old t ⊎ (IsTrueThroughout t ⊎ KeepsFalse t)
+  pub origin : RenewsLine g old t ⊎ (IsTrueThroughout t ⊎ (KeepsFalse t ⊎ BeginsTrue g old t))

@@ -1,5 +1,5 @@
 -- The triples that are tried by a letter, by the numbers of their predicates among those that are found.
-use Rattle.std.specs.Prelude.{◌≡◌, ℕ, zero, suc, Bool, false, ◌&&◌, nat_eq, List, [], ◌∷◌, map, filter, Option, None, Some, slice_get, if◌then◌else◌}
+use Rattle.std.specs.Prelude.{◌≡◌, ℕ, zero, suc, Bool, false, ◌&&◌, nat_eq, List, [], ◌∷◌, ◌++◌, map, filter, Option, None, Some, slice_get, if◌then◌else◌}
 use Rattle.std.specs.List.{AllByRecursion, flat_map, filter_map}
 use Rattle.nwa_base.specs.Members.{Member, SameMembers}
 use Rattle.letter_acts.specs.Acts.{PlainAct, inside_act, call_act, back_act}
@@ -63,6 +63,14 @@ pair_fits preds p q c = is_in preds p c.0 && is_in preds q c.1
 abbrev pub pair_choices : List Scoped → List (ℕ × ℕ) → ℕ → ℕ → List (ℕ × ℕ)
 pair_choices preds pairs p q = (0, 0) ∷ ((1, 1) ∷ flat_map (pair_sources (numbers_in preds p)) (filter (pair_fits preds p q) pairs))
 
+-- each predicate of a procedure with true
+abbrev pub begun_pairs : List Scoped → ℕ → List (ℕ × ℕ)
+begun_pairs preds p = map (λ k. (k, 0)) (numbers_in preds p)
+
+-- the same of a call, which may also begin with true whatever is known before it
+abbrev pub call_pair_choices : List Scoped → List (ℕ × ℕ) → ℕ → ℕ → List (ℕ × ℕ)
+call_pair_choices preds pairs p q = pair_choices preds pairs p q ++ begun_pairs preds p
+
 abbrev pub three_sources : List ℕ → List ℕ → (ℕ × ℕ × ℕ) → List (ℕ × ℕ × ℕ)
 three_sources exits befores c = flat_map (λ x. map (λ b. (x, b, c.2)) (sources befores c.1)) (sources exits c.0)
 
@@ -95,7 +103,7 @@ return_choices t l (Some (back_act c targets)) = []
 abbrev pub act_choices : List PlainAct → Taken → ℕ → Option PlainAct → List Listed
 act_choices acts t l None = []
 act_choices acts t l (Some (inside_act p written helpers rows)) = map (inside_listed l) (pair_choices t.preds t.insides p p)
-act_choices acts t l (Some (call_act caller callee helpers rows)) = map (call_listed l) (pair_choices t.preds t.calls caller callee)
+act_choices acts t l (Some (call_act caller callee helpers rows)) = map (call_listed l) (call_pair_choices t.preds t.calls caller callee)
 act_choices acts t l (Some (back_act c targets)) = return_choices t l (slice_get acts c)
 
 -- the choices by a letter

@@ -98,6 +98,31 @@ pub(crate) fn pair_choices(
     Ok(choices)
 }
 
+/// The numbers, each with true.
+fn begun(alloc: Global, numbers: &[usize]) -> Result<Vec<(usize, usize)>, AllocError>
+    ensures { IfOk result (λ v. v.items ≡ map (λ k. (k, 0)) numbers.now) }
+{
+    numbers.iter().map(|number| (*number, 0)).collect(alloc)
+}
+
+/// What is tried by a call: the same, and each predicate before it with true behind it, since what is known before a call is
+/// kept until the return.
+pub(crate) fn call_pair_choices(
+    alloc: Global,
+    preds: &[Scoped],
+    pairs: &[(usize, usize)],
+    caller: u32,
+    callee: u32,
+) -> Result<IndexSet<(usize, usize)>, AllocError>
+    ensures { IfOk result (λ s. SameMembers s.keys (spec.call_pair_choices preds.now pairs.now caller callee)) }
+{
+    let here = numbers_in(alloc, preds, caller)?;
+    let more = begun(alloc, &here)?;
+    let mut choices = pair_choices(alloc, preds, pairs, caller, callee)?;
+    add_pairs(&mut choices, more)?;
+    Ok(choices)
+}
+
 /// The source at the exit and the target, with each of the sources before the call.
 fn with_befores(
     alloc: Global,

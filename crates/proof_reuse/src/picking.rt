@@ -12,7 +12,7 @@ ghost use Rattle.proof_reuse.specs.Choices as spec;
 ghost use Rattle.proof_reuse.specs.Choices.{IsPicked, ArePicked, AreCandidatesBy, IsTakenFrom};
 ghost use Rattle.proof_reuse.specs.Views.{taken};
 
-use crate::choosing::{pair_choices, three_choices};
+use crate::choosing::{call_pair_choices, pair_choices, three_choices};
 use crate::taking::Earlier;
 use letter_acts::{Act, Icfg};
 use proof_names::{Listed, triple_at};
@@ -88,10 +88,10 @@ fn call_choices(
     caller: u32,
     callee: u32,
 ) -> Result<Vec<Listed>, AllocError>
-    ensures { IfOk result (λ v. SameMembers v.items (map (spec.call_listed letter) (spec.pair_choices earlier.now.preds.items earlier.now.calls.keys caller callee))) }
+    ensures { IfOk result (λ v. SameMembers v.items (map (spec.call_listed letter) (spec.call_pair_choices earlier.now.preds.items earlier.now.calls.keys caller callee))) }
 {
     let pairs = earlier.calls.as_slice();
-    let choices = pair_choices(alloc, &earlier.preds, pairs, caller, callee)?;
+    let choices = call_pair_choices(alloc, &earlier.preds, pairs, caller, callee)?;
     calls(alloc, choices.as_slice(), letter)
 }
 
