@@ -19,7 +19,7 @@ for path in $(grep -oE '(examples|docs|bench)/[A-Za-z0-9_./-]+' README.md | sort
   [ -e "${path%.}" ] || wrong "README.md names $path, which is not there"
 done
 differs=$(.ci/crates.py) || wrong "docs/ARCHITECTURE.md says other crates than crates.txt: $differs"
-twice=$(.ci/equal.py --most 2 4) || wrong "more is said twice than before (.ci/equal.py --list): $twice"
+twice=$(.ci/equal.py --most 4 5) || wrong "more is said twice than before (.ci/equal.py --list): $twice"
 names=$(.ci/names.py) || wrong "one name means several things on the way from the top call's contract: $names"
 cannot=$(.ci/edits.py) || wrong "an edit cannot be applied: $cannot"
 for path in automizer tools/unproved.py bench/gate.py; do
