@@ -50,6 +50,11 @@ if [ -x "$program" ]; then
     [ "$(sed -n 1p "$text")" = "$first" ] || wrong "$path is not verified as $first"
     "$program" "$mode" "$path" "$text" --modular >"$text.answer" || wrong "what is said of the parts of $path is not confirmed"
   done
+  # One begins with the annotation of an earlier version.
+  timeout 60 "$program" verify examples/reuse/after.bpl --workers 1 --reuse examples/reuse/before.proof >"$text"
+  [ "$(sed -n 1,2p "$text" | tr '\n' ' ')" = 'safe rounds 1 ' ] || wrong 'examples/reuse/after.bpl takes another number of rounds with the annotation of before.bpl'
+  "$program" check examples/reuse/before.bpl examples/reuse/before.proof >"$text.answer" || wrong 'examples/reuse/before.proof is not accepted'
+  "$program" check examples/reuse/after.bpl "$text" >"$text.answer" || wrong 'the annotation of examples/reuse/after.bpl is not accepted'
   rm -f "$text" "$text.answer"
 fi
 # The script runs it too, where no source is newer, through a link from another folder, and names of files are those of that folder.
