@@ -7,9 +7,9 @@ way. For each both verdicts, the part that is not safe, the rounds of each part 
 calls, made alternately. Where Boogie is installed (the command `boogie`), it verifies the same program in the same run. It takes each call by its
 contract, as parts do, and each loop by its invariants, so a loop without invariants may be safe by parts and is not by Boogie.
 
-Then a chain of procedures with contracts is verified by parts, by one worker, beside `big` of the same length: both times and their ratio, the
-quickest of several calls, made alternately. The status is 1 where a verdict is wrong or is not confirmed, or where a program is safe by parts and
-not as a whole."""
+Then a chain of procedures with contracts is verified by parts, by one worker, beside `big` of the same length: both times, on the clock and on the
+processors, and their ratios, the quickest of several calls, made alternately. The status is 1 where a verdict is wrong or is not confirmed, or
+where a program is safe by parts and not as a whole."""
 import argparse
 import pathlib
 import re
@@ -107,23 +107,24 @@ def chain(length: int) -> str:
     return "".join(text)
 
 
-def timed(words: list[str], begins: bytes, best: float | None) -> float:
-    """The seconds of a call that answers so, or those of a quicker one."""
+def timed(words: list[str], begins: bytes) -> Took:
+    """A call that answers so."""
     took = Took(words, 600)
     if took.status != 0 or not took.text.startswith(begins):
         sys.exit(f"{' '.join(words)} is not safe: {took.text[:80]!r}")
-    return took.clock if best is None else min(best, took.clock)
+    return took
 
 
 def compare_chain(program: str, length: int, work: pathlib.Path) -> None:
     """Verifies a chain with contracts by parts, beside `big` of its length."""
-    path, one = work / "chain.bpl", ["--workers", "1"]
+    path, one, parts, big = work / "chain.bpl", ["--workers", "1"], [], []
     path.write_text(chain(length), encoding="ascii")
-    parts = big = None
     for _ in range(RUNS):
-        parts = timed([program, "verify", str(path), "--modular", *one], b"modular %d\n" % (length + 1), parts)
-        big = timed([program, "big", str(length), *one], b"big %d\nsafe\n" % length, big)
-    print(f"a chain of {length} with contracts by parts {parts:.2f} s, big {length} {big:.2f} s, ratio {parts / big:.2f}")
+        parts.append(timed([program, "verify", str(path), "--modular", *one], b"modular %d\n" % (length + 1)))
+        big.append(timed([program, "big", str(length), *one], b"big %d\nsafe\n" % length))
+    for name in ("clock", "processors"):
+        by_parts, whole = (min(getattr(took, name) for took in found) for found in (parts, big))
+        print(f"a chain of {length} with contracts by parts {by_parts:.2f} s, big {length} {whole:.2f} s, ratio {by_parts / whole:.2f}, on the {name}")
 
 
 def main() -> None:
