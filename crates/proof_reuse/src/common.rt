@@ -1,6 +1,6 @@
 //! A word of both languages.
 
-ghost use Rattle.std.specs.Prelude.{◌≡◌, ◌↔◌, Ok, None, List, IfOk, IfSome};
+ghost use Rattle.std.specs.Prelude.{◌≡◌, ◌↔◌, Ok, None, List, IfOk, IfSome, MatchOption};
 ghost use Rattle.nwa_base.specs.declared.letters.Letter.{Letter};
 ghost use Rattle.nwa_base.specs.Acceptance.{Accepts};
 ghost use Rattle.letter_acts.specs.Invariant.{alphabet_of};
@@ -8,7 +8,7 @@ ghost use Rattle.itp_automaton.specs.Certified.{IsCertified};
 
 use itp_automaton::Certified;
 use letter_acts::Icfg;
-use nwa_base::{Nwa, accepts};
+use nwa_base::{Nwa, Word, accepts};
 use nwa_difference::difference;
 use nwa_emptiness::{Found, find};
 use race_core::Entry;
@@ -22,6 +22,25 @@ fn common(alloc: Global, first: &Nwa, second: &Nwa) -> Result<Nwa, AllocError>
     difference(alloc, first, &others)
 }
 
+/// A word that both accept; `None` exactly where there is none.
+fn common_word(alloc: Global, first: &Nwa, second: &Nwa) -> Result<Option<Word>, AllocError>
+    ensures { IfOk result (λ o. MatchOption o
+        ((w : List Letter) → Accepts first.now w → Accepts second.now w → ⊥)
+        (λ w. Accepts first.now w × Accepts second.now w)) }
+{
+    let both = common(alloc, first, second)?;
+    match find(alloc, &both, 0)? {
+        Found::Word(word) => {
+            // The differences leave open whether it is accepted, so it is read.
+            if !accepts(alloc, second, &word)? {
+                unreachable!()
+            }
+            Ok(Some(word))
+        }
+        Found::Empty => Ok(None),
+    }
+}
+
 /// An entry of the automaton, with a word that it and the program accept; `None` exactly where there is none.
 pub fn first(
     alloc: Global,
@@ -32,17 +51,11 @@ pub fn first(
     ensures entry { IfOk result (λ r. IfSome r (λ e. (e.evidence ≡ reused) × Accepts icfg.now.automaton e.word × Accepts reused.automaton e.word)) }
     ensures none { result ≡ Ok None → (w : List Letter) → Accepts icfg.now.automaton w → Accepts reused.automaton w → ⊥ }
 {
-    let both = common(alloc, icfg.nwa(), reused.nwa())?;
-    match find(alloc, &both, 0)? {
-        Found::Word(word) => {
-            if !accepts(alloc, reused.nwa(), &word)? {
-                unreachable!()
-            }
-            Ok(Some(Entry {
-                word,
-                evidence: reused,
-            }))
-        }
-        Found::Empty => Ok(None),
+    match common_word(alloc, icfg.nwa(), reused.nwa())? {
+        Some(word) => Ok(Some(Entry {
+            word,
+            evidence: reused,
+        })),
+        None => Ok(None),
     }
 }

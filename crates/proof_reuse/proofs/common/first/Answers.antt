@@ -1,27 +1,14 @@
-use Rattle.std.proofs.Common.{◌∙◌, refl, sym, subst}
-use Rattle.std.proofs.lemmas.Bool.{false≢true}
-use Rattle.nwa_base.specs.Automata.{Automaton}
-use Rattle.nwa_base.specs.Acceptance.{Accepts}
-use Rattle.nwa_emptiness.specs.Found.{IsFound}
-use Rattle.proof_reuse.proofs.CommonLaws.{none_left}
+use Rattle.std.proofs.Common.{refl}
+use Rattle.proof_reuse.proofs.CommonLaws.{common_word, no_common_word}
 use Rattle.proof_reuse.proofs.common.first.Goals as goal
 
-pub unreachable-requires : goal.unreachable-requires
-unreachable-requires c =
-    let found = subst (IsFound c.in_ok-both.both) c.in-Word.is c.in_ok-word.ensures in
-    ((c.in_ok-both.ensures c.in-Word.word).0 found).1
-    (λ k. false≢true (sym c.if-not-branch.true ∙
-    c.in_ok-accepts-in-Word.ensures.accepts.1 (subst (λ (m : Automaton). Accepts m c.in-Word.word) (c.nwa-2.ensures.value ∙ sym c.nwa-in-Word.ensures.value) k)))
+pub returns-in-Some-clause-entry : goal.returns-in-Some-clause-entry
+returns-in-Some-clause-entry c =
+    let both = common_word c.nwa.result.now c.nwa-2.result.now c.args.icfg.now.automaton c.args.reused.automaton c.in_ok-word.field-0 c.in-Some.word c.in_ok-word.ensures
+    c.nwa.ensures.value c.nwa-2.ensures.value c.in-Some.is in
+    (refl, both.0, both.1)
 
-pub returns-else-not-branch-clause-entry : goal.returns-else-not-branch-clause-entry
-returns-else-not-branch-clause-entry c =
-    let found = subst (IsFound c.in_ok-both.both) c.in-Word.is c.in_ok-word.ensures in (
-      refl,
-      subst (λ (m : Automaton). Accepts m c.in-Word.word) c.nwa.ensures.value ((c.in_ok-both.ensures c.in-Word.word).0 found).0,
-      subst (λ (m : Automaton). Accepts m c.in-Word.word) c.nwa-in-Word.ensures.value (c.in_ok-accepts-in-Word.ensures.accepts.0 c.if-not-branch.false),
-    )
-
-pub returns-in-Empty-clause-none : goal.returns-in-Empty-clause-none
-returns-in-Empty-clause-none c = λ e w a b.
-    none_left (c.in_ok-both.ensures w) ((subst (IsFound c.in_ok-both.both) c.in-Empty.is c.in_ok-word.ensures) w) (subst (λ (m : Automaton). Accepts m w) (sym c.nwa.ensures.value) a)
-    (subst (λ (m : Automaton). Accepts m w) (sym c.nwa-2.ensures.value) b)
+pub returns-in-None-clause-none : goal.returns-in-None-clause-none
+returns-in-None-clause-none c = λ e.
+    no_common_word c.nwa.result.now c.nwa-2.result.now c.args.icfg.now.automaton c.args.reused.automaton c.in_ok-word.field-0 c.in_ok-word.ensures c.nwa.ensures.value
+    c.nwa-2.ensures.value c.in-None.is
