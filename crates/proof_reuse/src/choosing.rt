@@ -5,6 +5,7 @@ ghost use Rattle.std.specs.List.{flat_map};
 ghost use Rattle.nwa_base.specs.Members.{SameMembers};
 ghost use Rattle.proof_reuse.specs.Choices as spec;
 
+use crate::limits::bounded;
 use crate::sets::{add_pair, add_pairs, add_three, add_threes};
 use indexmap::IndexSet;
 use std::alloc::{AllocError, Global};
@@ -88,6 +89,7 @@ pub(crate) fn pair_choices(
     ensures { IfOk result (λ s. SameMembers s.keys (spec.pair_choices preds.now pairs.now from to)) }
 {
     let here = numbers_in(alloc, preds, from)?;
+    bounded(pairs.len().saturating_mul(here.len().saturating_add(1)))?;
     let mut choices = kept_pairs(alloc)?;
     for pair in pairs {
         if pair_fits(preds, from, to, *pair) {
@@ -199,6 +201,11 @@ pub(crate) fn three_choices(
 {
     let exits = numbers_in(alloc, preds, callee)?;
     let befores = numbers_in(alloc, preds, caller)?;
+    let sources = exits
+        .len()
+        .saturating_add(1)
+        .saturating_mul(befores.len().saturating_add(1));
+    bounded(threes.len().saturating_mul(sources))?;
     let mut choices = kept_threes(alloc)?;
     for three in threes {
         if three_fits(preds, callee, caller, *three) {

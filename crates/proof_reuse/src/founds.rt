@@ -6,6 +6,7 @@ ghost use Rattle.proof_form.specs.Lines as form;
 ghost use Rattle.proof_reuse.specs.Numbers.{AddsFound, AreFound, IsPut};
 
 use crate::finding::pred_found;
+use crate::limits::MOST_PREDICATES;
 use itp_automaton::state_of;
 use letter_acts::Icfg;
 use proof_form::PredLine;
@@ -29,6 +30,9 @@ fn put(preds: &mut Vec<Scoped>, found: Scoped) -> Result<usize, AllocError>
         return Ok(place);
     }
     let place = preds.len();
+    if place >= MOST_PREDICATES {
+        return Err(AllocError);
+    }
     preds.push(found)?;
     Ok(place)
 }

@@ -5,6 +5,7 @@ mod choosing;
 mod common;
 mod finding;
 mod founds;
+mod limits;
 mod lines;
 mod numbers;
 mod picking;

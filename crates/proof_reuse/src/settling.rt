@@ -9,6 +9,7 @@ ghost use Rattle.proof_reuse.specs.Choices.{IsTakenFrom};
 ghost use Rattle.proof_reuse.specs.Settling.{IsSettling};
 ghost use Rattle.proof_reuse.specs.Views.{taken};
 
+use crate::limits::{MOST_CANDIDATES, left_of};
 use crate::picking::candidates_by;
 use crate::taking::Earlier;
 use hoare_check::prove_all;
@@ -27,6 +28,8 @@ struct Work {
     waiting: Vec<Triple>,
     /// The proofs.
     proofs: Vec<Proof>,
+    /// How many more candidates are tried at most.
+    left: usize,
 }
 
 /// Adds the proofs that were found.
@@ -55,12 +58,14 @@ fn settle<R: Threads + Sync>(
     let Work {
         waiting,
         mut proofs,
+        left,
     } = work;
     let tried = prove_all(rt, alloc, icfg, waiting)?;
     keep(tried, &mut proofs)?;
     Ok(Work {
         waiting: Vec::new(alloc),
         proofs,
+        left,
     })
 }
 
@@ -96,6 +101,7 @@ fn settle_letter<R: Threads + Sync>(
     ensures agree { IfOk result (λ new. AllByRecursion (Agrees (alphabet_of icfg.now)) new.waiting.items) }
 {
     let mut candidates = candidates_by(alloc, icfg, earlier, letter)?;
+    work.left = left_of(work.left, candidates.len())?;
     work.waiting.append(&mut candidates)?;
     settle_many(rt, alloc, icfg, work)
 }
@@ -115,6 +121,7 @@ pub(crate) fn settle_all<R: Threads + Sync>(
     let mut work = Work {
         waiting: Vec::new(alloc),
         proofs: Vec::new(alloc),
+        left: MOST_CANDIDATES,
     };
     for letter in 0..count {
         work = settle_letter(rt, alloc, icfg, earlier, letter, work)?;
