@@ -1,5 +1,5 @@
-// The lift of before.bpl now begins on the first floor, and a key lets it pass to the ground floor at once.
-// By verify: safe. By verify --reuse before.proof: safe, within 1 round.
+// The lift of before.bpl has got a key, which lets it pass to the ground at once.
+// By verify: safe. By verify --reuse before.proof: safe, after 1 round.
 const top: int;
 axiom 1 <= top;
 var floor: int;
@@ -19,7 +19,7 @@ procedure main()
 {
   var up, key: bool;
 
-  floor := 1;
+  floor := 0;
   while (*) {
     havoc up, key;
     if (key) {
