@@ -8,7 +8,7 @@ use std::alloc::AllocError;
 pub(crate) const MOST_PREDICATES: usize = 4096;
 
 /// How many candidates are tried at most.
-pub(crate) const MOST_CANDIDATES: usize = 131_072;
+pub(crate) const MOST_CANDIDATES: usize = 1_048_576;
 
 /// Refuses more candidates by one letter than are tried at all.
 pub(crate) fn bounded(candidates: usize) -> Result<(), AllocError>
