@@ -2,6 +2,7 @@
 use Rattle.std.proofs.Common.{◌≡◌, ℕ, ◌^◌, ◌<◌, ◌≤◌, ℤ, List, length, Bool, true, false, Option, None, Some, inl, inr, ◌⊎◌, ap, refl, sym, ◌∙◌, subst, arith}
 use Rattle.std.specs.Prelude.{IsTrue}
 use Rattle.std.proofs.lemmas.Bool.{false≢true}
+use Rattle.std.proofs.lemmas.Option.{none-some}
 use Rattle.outer_io.specs.Texts.{text_named}
 use Rattle.boogie_run.specs.declared.types.AssertId.{AssertId}
 use Rattle.typed_tree.specs.TypedTree.{TypedProgram}
@@ -42,6 +43,7 @@ record IsVerdictOf (s : Settings) (program : List ℕ) (texts : Texts) (a : Answ
   pub typed : IsTypedText s.entry text meant
   pub lowers : first_fault meant ≡ None
   pub given : Option (Entry Certificate)
+  pub begins : s.reuse ≡ None → given ≡ None
   pub verdict : ReportsVerdict given s.limits meant a
   pub short : length a.bytes ≤ second_limit
 
@@ -56,7 +58,7 @@ of_text : (s : Settings) (program text : List ℕ) (texts : Texts) (a : Answer) 
 of_text s program text texts a found (refused r) l = absurd (not_three a.status (typed_is_three s.entry text a r) l)
 of_text s program text texts a found (of_typed t w (unlowered r)) l = absurd (not_three a.status (lowering_is_three t a r) l)
 of_text s program text texts a found (of_typed t w (of_lowered none (v, few))) l =
-    record { text = text; meant = t; found = found; typed = w; lowers = none; given = None; verdict = v; short = few }
+    record { text = text; meant = t; found = found; typed = w; lowers = none; given = None; begins = λ e. refl; verdict = v; short = few }
 
 -- an answer with a status below 3: the text of an earlier annotation is none, or it is a verdict
 abbrev IsTold : Settings → List ℕ → Texts → Answer → Type 0
@@ -69,7 +71,7 @@ of_two_texts s program text old texts a named found (of_typed t w (unlowered r))
 of_two_texts s program text old texts a named found (of_typed t w (of_lowered none (second_too_long x e past is))) l = absurd (not_three a.status (ap (λ (b : Answer). b.status) is) l)
 of_two_texts s program text old texts a named found (of_typed t w (of_lowered none (of_second x e few (no_earlier line wrong is)))) l = inl (old, x, line, named, e, wrong, is)
 of_two_texts s program text old texts a named found (of_typed t w (of_lowered none (of_second x e few (of_earlier coarse w' c given spelled reused first v short)))) l =
-    inr (record { text = text; meant = t; found = found; typed = w; lowers = none; given = given; verdict = v; short = short })
+    inr (record { text = text; meant = t; found = found; typed = w; lowers = none; given = given; begins = λ none. absurd (none-some old (sym none ∙ named)); verdict = v; short = short })
 
 -- without the flag it is the whole program that is answered for
 whole_verify : (m : Bool) (reuse : Option (List ℕ)) (s : Settings) (program text : List ℕ) (texts : Texts) (a : Answer) → m ≡ false → s.reuse ≡ reuse → text_named program texts ≡ Some text →
@@ -102,7 +104,7 @@ verdict_of words s program texts a ask off (verifying u p t asked found verify) 
 told_on : (words : List (List ℕ)) (texts : Texts) (s : Settings) (program : List ℕ) (a : Answer) → Ask words s (Verify program) → IsTold s program texts a →
     RefusesEarlier s texts a ⊎ ((t : TypedProgram) × IsVerdictOn words texts t a)
 told_on words texts s program a ask (inl r) = inl r
-told_on words texts s program a ask (inr d) = inr (d.meant, (s, program, d.text, ask, d.found, d.typed, d.given, d.verdict))
+told_on words texts s program a ask (inr d) = inr (d.meant, (s, program, d.text, ask, d.found, d.typed, d.given, d.begins, d.verdict))
 
 -- so it is one on the program of the text, if it does not refuse an earlier annotation
 pub verdict_told : (words : List (List ℕ)) (texts : Texts) (s : Settings) (program : List ℕ) (a : Answer) → Ask words s (Verify program) → s.modular ≡ false → Reports words texts a → a.status < 3 →

@@ -167,44 +167,48 @@ replay_by_once : (m : Bool) (entry text : List ℕ) (second : Option (List ℕ))
 replay_by_once false entry text second a b r s = replay_once entry text second a b r s
 replay_by_once true entry text second a b r s = replay_parts_once entry text second a b r s
 
--- a verdict, whatever entry its race began with
-abbrev IsSomeVerdict : Limits → TypedProgram → Answer → Type 0
-IsSomeVerdict l t a = (given : Option (Entry Certificate)) × ReportsVerdict given l t a
+-- a verdict, of a race that began with no entry where no earlier annotation is named
+abbrev IsSomeVerdict : Option (List ℕ) → Limits → TypedProgram → Answer → Type 0
+IsSomeVerdict reuse l t a = (given : Option (Entry Certificate)) × (reuse ≡ None → given ≡ None) × ReportsVerdict given l t a
+
+not_none : (reuse : Option (List ℕ)) (old : List ℕ) (given : Option (Entry Certificate)) → reuse ≡ Some old → reuse ≡ None → given ≡ None
+not_none reuse old given some none = absurd (none-some old (sym none ∙ some))
 
 -- both are verdicts on the program of the text
-abbrev BothVerdicts : List ℕ → Limits → List ℕ → Answer → Answer → Type 0
-BothVerdicts entry l text a b = (t : TypedProgram) × IsTypedText entry text t × IsSomeVerdict l t a × IsSomeVerdict l t b
+abbrev BothVerdicts : Option (List ℕ) → List ℕ → Limits → List ℕ → Answer → Answer → Type 0
+BothVerdicts reuse entry l text a b = (t : TypedProgram) × IsTypedText entry text t × IsSomeVerdict reuse l t a × IsSomeVerdict reuse l t b
 
 -- what was found for a program text is one answer, two broken typing rules, or two verdicts
-in_order : (entry : List ℕ) (l : Limits) (text : List ℕ) (a b : Answer) → ((a ≡ b) ⊎ BothVerdicts entry l text a b) ⊎ ((a ≡ b) ⊎ BothIllTyped a b) →
-    (a ≡ b) ⊎ (BothIllTyped a b ⊎ BothVerdicts entry l text a b)
-in_order entry l text a b (inl (inl e)) = inl e
-in_order entry l text a b (inl (inr v)) = inr (inr v)
-in_order entry l text a b (inr (inl e)) = inl e
-in_order entry l text a b (inr (inr h)) = inr (inl h)
+in_order : (reuse : Option (List ℕ)) (entry : List ℕ) (l : Limits) (text : List ℕ) (a b : Answer) → ((a ≡ b) ⊎ BothVerdicts reuse entry l text a b) ⊎ ((a ≡ b) ⊎ BothIllTyped a b) →
+    (a ≡ b) ⊎ (BothIllTyped a b ⊎ BothVerdicts reuse entry l text a b)
+in_order reuse entry l text a b (inl (inl e)) = inl e
+in_order reuse entry l text a b (inl (inr v)) = inr (inr v)
+in_order reuse entry l text a b (inr (inl e)) = inl e
+in_order reuse entry l text a b (inr (inr h)) = inr (inl h)
 
-verify_once : (entry : List ℕ) (l : Limits) (text : List ℕ) (a b : Answer) → ReportsVerify entry l text a → ReportsVerify entry l text b →
-    (a ≡ b) ⊎ (BothIllTyped a b ⊎ BothVerdicts entry l text a b)
-verify_once entry l text a b r s =
-    in_order entry l text a b (typed_once entry text (λ t. ReportsLowered t (λ g c. ReportsVerdict None l t c × (length c.bytes ≤ second_limit))) ((a ≡ b) ⊎ BothVerdicts entry l text a b) a b
-    (λ t w. lowered_once t (λ g c. ReportsVerdict None l t c × (length c.bytes ≤ second_limit)) (BothVerdicts entry l text a b) a b (λ v u. (t, w, (None, v.0), (None, u.0)))) r s)
+verify_once : (reuse : Option (List ℕ)) (entry : List ℕ) (l : Limits) (text : List ℕ) (a b : Answer) → ReportsVerify entry l text a → ReportsVerify entry l text b →
+    (a ≡ b) ⊎ (BothIllTyped a b ⊎ BothVerdicts reuse entry l text a b)
+verify_once reuse entry l text a b r s =
+    in_order reuse entry l text a b (typed_once entry text (λ t. ReportsLowered t (λ g c. ReportsVerdict None l t c × (length c.bytes ≤ second_limit))) ((a ≡ b) ⊎ BothVerdicts reuse entry l text a b) a b
+    (λ t w. lowered_once t (λ g c. ReportsVerdict None l t c × (length c.bytes ≤ second_limit)) (BothVerdicts reuse entry l text a b) a b (λ v u. (t, w, (None, (λ e. refl), v.0), (None, (λ e. refl), u.0)))) r s)
 
 -- the same with an earlier annotation
-reuse_once : (l : Limits) (t : TypedProgram) (x : List ℕ) (a b : Answer) → length x ≤ second_limit → ReportsReuse l t x a → ReportsReuse l t x b →
-    (a ≡ b) ⊎ (IsSomeVerdict l t a × IsSomeVerdict l t b)
-reuse_once l t x a b few (no_earlier line wrong is) (no_earlier other wrong' is') = inl (is ∙ ap syntax_answer (one_first_wrong (lines_of x) line other wrong wrong') ∙ sym is')
-reuse_once l t x a b few (no_earlier line wrong is) (of_earlier coarse old c given spelled reused first v short) = absurd (wrong_or_not x coarse line old few spelled wrong)
-reuse_once l t x a b few (of_earlier coarse old c given spelled reused first v short) (no_earlier line wrong is) = absurd (wrong_or_not x coarse line old few spelled wrong)
-reuse_once l t x a b few (of_earlier coarse old c given spelled reused first v short) (of_earlier coarse' old' c' given' spelled' reused' first' v' short') = inr ((given, v), (given', v'))
+reuse_once : (reuse : Option (List ℕ)) (named : List ℕ) → reuse ≡ Some named → (l : Limits) (t : TypedProgram) (x : List ℕ) (a b : Answer) → length x ≤ second_limit → ReportsReuse l t x a → ReportsReuse l t x b →
+    (a ≡ b) ⊎ (IsSomeVerdict reuse l t a × IsSomeVerdict reuse l t b)
+reuse_once reuse named some l t x a b few (no_earlier line wrong is) (no_earlier other wrong' is') = inl (is ∙ ap syntax_answer (one_first_wrong (lines_of x) line other wrong wrong') ∙ sym is')
+reuse_once reuse named some l t x a b few (no_earlier line wrong is) (of_earlier coarse old c given spelled reused first v short) = absurd (wrong_or_not x coarse line old few spelled wrong)
+reuse_once reuse named some l t x a b few (of_earlier coarse old c given spelled reused first v short) (no_earlier line wrong is) = absurd (wrong_or_not x coarse line old few spelled wrong)
+reuse_once reuse named some l t x a b few (of_earlier coarse old c given spelled reused first v short) (of_earlier coarse' old' c' given' spelled' reused' first' v' short') =
+    inr ((given, not_none reuse named given some, v), (given', not_none reuse named given' some, v'))
 
-verify_with_once : (entry : List ℕ) (l : Limits) (text : List ℕ) (second : Option (List ℕ)) (a b : Answer) → ReportsVerifyWith entry l text second a → ReportsVerifyWith entry l text second b →
-    (a ≡ b) ⊎ (BothIllTyped a b ⊎ BothVerdicts entry l text a b)
-verify_with_once entry l text second a b r s =
-    in_order entry l text a b (typed_once entry text (λ t. ReportsLowered t (λ g. ReportsSecond second (ReportsReuse l t))) ((a ≡ b) ⊎ BothVerdicts entry l text a b) a b
-    (λ t w h k. joined t w (lowered_once t (λ g. ReportsSecond second (ReportsReuse l t)) ((a ≡ b) ⊎ ((a ≡ b) ⊎ (IsSomeVerdict l t a × IsSomeVerdict l t b))) a b
-    (second_or second (ReportsReuse l t) ((a ≡ b) ⊎ (IsSomeVerdict l t a × IsSomeVerdict l t b)) a b (λ x few. reuse_once l t x a b few)) h k)) r s)
+verify_with_once : (reuse : Option (List ℕ)) (named : List ℕ) → reuse ≡ Some named → (entry : List ℕ) (l : Limits) (text : List ℕ) (second : Option (List ℕ)) (a b : Answer) → ReportsVerifyWith entry l text second a → ReportsVerifyWith entry l text second b →
+    (a ≡ b) ⊎ (BothIllTyped a b ⊎ BothVerdicts reuse entry l text a b)
+verify_with_once reuse named some entry l text second a b r s =
+    in_order reuse entry l text a b (typed_once entry text (λ t. ReportsLowered t (λ g. ReportsSecond second (ReportsReuse l t))) ((a ≡ b) ⊎ BothVerdicts reuse entry l text a b) a b
+    (λ t w h k. joined t w (lowered_once t (λ g. ReportsSecond second (ReportsReuse l t)) ((a ≡ b) ⊎ ((a ≡ b) ⊎ (IsSomeVerdict reuse l t a × IsSomeVerdict reuse l t b))) a b
+    (second_or second (ReportsReuse l t) ((a ≡ b) ⊎ (IsSomeVerdict reuse l t a × IsSomeVerdict reuse l t b)) a b (λ x few. reuse_once reuse named some l t x a b few)) h k)) r s)
   where
-    joined : (t : TypedProgram) → IsTypedText entry text t → (a ≡ b) ⊎ ((a ≡ b) ⊎ ((a ≡ b) ⊎ (IsSomeVerdict l t a × IsSomeVerdict l t b))) → (a ≡ b) ⊎ BothVerdicts entry l text a b
+    joined : (t : TypedProgram) → IsTypedText entry text t → (a ≡ b) ⊎ ((a ≡ b) ⊎ ((a ≡ b) ⊎ (IsSomeVerdict reuse l t a × IsSomeVerdict reuse l t b))) → (a ≡ b) ⊎ BothVerdicts reuse entry l text a b
     joined t w (inl e) = inl e
     joined t w (inr (inl e)) = inl e
     joined t w (inr (inr (inl e))) = inl e
@@ -244,10 +248,10 @@ wider words texts a b (inl e) = inl e
 wider words texts a b (inr h) = inr (inl h)
 
 both : (words : List (List ℕ)) (texts : List (List ℕ × List ℕ)) (s : Settings) (p text : List ℕ) (a b : Answer) → Ask words s (Verify p) → text_named p texts ≡ Some text →
-    (a ≡ b) ⊎ (BothIllTyped a b ⊎ BothVerdicts s.entry s.limits text a b) → AreOne words texts a b
+    (a ≡ b) ⊎ (BothIllTyped a b ⊎ BothVerdicts s.reuse s.entry s.limits text a b) → AreOne words texts a b
 both words texts s p text a b asked found (inl e) = inl e
 both words texts s p text a b asked found (inr (inl h)) = inr (inl h)
-both words texts s p text a b asked found (inr (inr h)) = inr (inr (inl (h.0, (s, p, text, asked, found, h.1, h.2.0, h.2.1), (s, p, text, asked, found, h.1, h.3.0, h.3.1))))
+both words texts s p text a b asked found (inr (inr h)) = inr (inr (inl (h.0, (s, p, text, asked, found, h.1, h.2.0, h.2.1, h.2.2), (s, p, text, asked, found, h.1, h.3.0, h.3.1, h.3.2))))
 
 both_parts : (words : List (List ℕ)) (texts : List (List ℕ × List ℕ)) (s : Settings) (p text : List ℕ) (a b : Answer) → s.modular ≡ true → Ask words s (Verify p) → text_named p texts ≡ Some text →
     (a ≡ b) ⊎ (BothIllTyped a b ⊎ BothPartVerdicts s.entry s.limits text a b) → AreOne words texts a b
@@ -256,12 +260,12 @@ both_parts words texts s p text a b m asked found (inr (inl h)) = inr (inl h)
 both_parts words texts s p text a b m asked found (inr (inr h)) =
     inr (inr (inr (inr (h.0, (s, p, text, asked, m, found, h.1, h.2), (s, p, text, asked, m, found, h.1, h.3)))))
 
-both_by : (words : List (List ℕ)) (texts : List (List ℕ × List ℕ)) (s : Settings) (p text : List ℕ) (a b : Answer) (m : Bool) (reuse : Option (List ℕ)) → s.modular ≡ m → Ask words s (Verify p) →
+both_by : (words : List (List ℕ)) (texts : List (List ℕ × List ℕ)) (s : Settings) (p text : List ℕ) (a b : Answer) (m : Bool) (reuse : Option (List ℕ)) → s.modular ≡ m → s.reuse ≡ reuse → Ask words s (Verify p) →
     text_named p texts ≡ Some text → ReportsVerifyBy m reuse texts s.entry s.limits text a → ReportsVerifyBy m reuse texts s.entry s.limits text b → AreOne words texts a b
-both_by words texts s p text a b false None m asked found r k = both words texts s p text a b asked found (verify_once s.entry s.limits text a b r k)
-both_by words texts s p text a b false (Some old) m asked found r k =
-    both words texts s p text a b asked found (verify_with_once s.entry s.limits text (text_named old texts) a b r k)
-both_by words texts s p text a b true reuse m asked found r k = both_parts words texts s p text a b m asked found (verify_parts_once s.entry s.limits text a b r k)
+both_by words texts s p text a b false None m named asked found r k = both words texts s p text a b asked found (verify_once s.reuse s.entry s.limits text a b r k)
+both_by words texts s p text a b false (Some old) m named asked found r k =
+    both words texts s p text a b asked found (verify_with_once s.reuse old named s.entry s.limits text (text_named old texts) a b r k)
+both_by words texts s p text a b true reuse m named asked found r k = both_parts words texts s p text a b m asked found (verify_parts_once s.entry s.limits text a b r k)
 
 -- the same text was found
 same_found : (texts : List (List ℕ × List ℕ)) (p q t u : List ℕ) → p ≡ q → text_named p texts ≡ Some t → text_named q texts ≡ Some u → u ≡ t
@@ -329,7 +333,7 @@ report_once words texts a b (verifying s p t asked found verify) (verifying s' q
     let same = same_task words s s' (Verify p) (Verify q) asked asked' in
     let settings : s' ≡ s = sym (same_settings words s s' (Verify p) (Verify q) asked asked') in
     let text : u ≡ t = same_found texts p q t u (ap program_of same) found found' in
-    both_by words texts s p t a b s.modular s.reuse refl asked found verify
+    both_by words texts s p t a b s.modular s.reuse refl refl asked found verify
     (subst (λ (v : Settings). ReportsVerifyBy v.modular v.reuse texts v.entry v.limits t b) settings
     (subst (λ (z : List ℕ). ReportsVerifyBy s'.modular s'.reuse texts s'.entry s'.limits z b) text verify'))
 report_once words texts a b (usage none is) (generating s count asked big) = absurd (nothing_asked words s (Big count) none asked)

@@ -1,5 +1,5 @@
 -- What contracts and laws say by the report: what words ask for, what an answer is, and what has become of it.
-use Rattle.std.specs.Prelude.{◌≡◌, ◌⊎◌, ℕ, List, ◌++◌, Option, Some, codes, IfSome}
+use Rattle.std.specs.Prelude.{◌≡◌, ◌⊎◌, ℕ, List, ◌++◌, Option, None, Some, codes, IfSome}
 use Rattle.outer_io.specs.Lines.{lines_of}
 use Rattle.outer_io.specs.Texts.{text_named, GainsFront}
 use Rattle.boogie_tree.specs.Tree.{Declaration}
@@ -27,10 +27,10 @@ use Rattle.automizer_top.specs.Report.{Ask, IsTypedText, IsFailureText, ReportsV
 abbrev pub IsTypingRefusal : Answer → Type 0
 IsTypingRefusal a = (f : TypeFault) × (a ≡ answer (type_refusal f) 3)
 
--- the answer is a verdict on this program
+-- the answer is a verdict on this program, of a race that began with no entry where no earlier annotation is named
 abbrev pub IsVerdictOn : List (List ℕ) → List (List ℕ × List ℕ) → TypedProgram → Answer → Type 0
 IsVerdictOn words texts t a = (s : Settings) × (program text : List ℕ) × Ask words s (Verify program) × (text_named program texts ≡ Some text)
-    × IsTypedText s.entry text t × (given : Option (Entry Certificate)) × ReportsVerdict given s.limits t a
+    × IsTypedText s.entry text t × (given : Option (Entry Certificate)) × (s.reuse ≡ None → given ≡ None) × ReportsVerdict given s.limits t a
 
 -- an earlier annotation is named, and its text is none: this is its first wrong line
 abbrev pub RefusesEarlier : Settings → List (List ℕ × List ℕ) → Answer → Type 0
