@@ -83,12 +83,12 @@ fn nodes_found(
     requires { IsTrue (list_all (λ n. form.is_predicate_node (form.plain_predicate_node n)) nodes.now) }
     ensures { IfOk result (λ o. option_map (λ v. v.items) o ≡ all_some (map (λ n. spec.node_found frame.now (form.plain_predicate_node n)) nodes.now)) }
 {
-    let mut found = Vec::with_capacity(alloc, nodes.len())?;
-    for node in nodes {
-        match node_found(alloc, frame, node)? {
-            Some(node) => found.push(node)?,
-            None => return Ok(None),
-        }
+    let mut found = Vec::new(alloc);
+    for spelled in nodes {
+        let Some(node) = node_found(alloc, frame, spelled)? else {
+            return Ok(None);
+        };
+        found.push(node)?;
     }
     Ok(Some(found))
 }

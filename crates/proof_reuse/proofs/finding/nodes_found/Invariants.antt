@@ -3,5 +3,5 @@ use Rattle.proof_names.proofs.AllLaws.{Found}
 use Rattle.proof_reuse.specs.Found.{node_found}
 use Rattle.proof_reuse.proofs.finding.nodes_found.Given as goal
 
-abbrev pub invariant-loop-node : goal.invariant-loop-node
-invariant-loop-node l = Found (λ n. node_found l.frame (plain_predicate_node n)) l.nodes l.node-index l.found.items
+abbrev pub invariant-loop-spelled : goal.invariant-loop-spelled
+invariant-loop-spelled l = Found (λ n. node_found l.frame (plain_predicate_node n)) l.nodes l.spelled-index l.found.items
