@@ -1,0 +1,5 @@
+pub mod Turns
+pub mod Lassos
+pub mod Ranks
+pub mod RankingSystem
+pub mod Outcomes

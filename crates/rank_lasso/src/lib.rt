@@ -1,0 +1,9 @@
+//! Ranking functions for lassos: a lasso of a program is a list of letters from its start and a loop behind it. A linear rank that
+//! each turn of the loop lowers, and that is bounded before each, shows that no run goes through the loop for ever.
+#![tactic(auto)]
+
+mod lassos;
+mod rankings;
+
+pub use lassos::{Lasso, LassoFault};
+pub use rankings::{Ranked, Ranking};
