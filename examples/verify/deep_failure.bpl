@@ -1,5 +1,5 @@
 // A counter that is one too large after a hundred turns: the failure is two hundred letters deep, and a walk finds it.
-// By verify: unsafe, within 0 rounds.
+// By verify: unsafe, within 4 rounds.
 procedure main()
 {
   var turns, sum: int;
