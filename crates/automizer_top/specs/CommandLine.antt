@@ -21,8 +21,8 @@ abbrev pub option : List ℕ → List ℕ → Rule
 option id default = record (new_rule id) { long = Some id; defaults = default ∷ [] }
 
 -- an option `--ID VALUE` that has no value where it is left out
-abbrev pub choice : List ℕ → Rule
-choice id = record (new_rule id) { long = Some id }
+abbrev pub optional : List ℕ → Rule
+optional id = record (new_rule id) { long = Some id }
 
 -- a flag `--ID`
 abbrev pub flag : List ℕ → Rule
@@ -32,7 +32,7 @@ flag id = record (new_rule id) { long = Some id; action = Some SetTrue }
 abbrev pub arguments : List Rule
 arguments = positional (codes "mode") true ∷ positional (codes "program") true ∷ positional (codes "second") false
     ∷ option (codes "entry") (codes "main") ∷ option (codes "rounds") (codes "1000") ∷ option (codes "workers") (codes "4")
-    ∷ option (codes "depth") (codes "16") ∷ flag (codes "modular") ∷ choice (codes "reuse") ∷ []
+    ∷ option (codes "depth") (codes "16") ∷ flag (codes "modular") ∷ optional (codes "reuse") ∷ []
 
 -- no word is the program's name, and no flag asks for help or the version
 abbrev pub bare_command : App

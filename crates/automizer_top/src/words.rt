@@ -86,8 +86,8 @@ fn option<'a>(alloc: Global, id: &'a str, default: &'a str) -> Arg<'a>
 }
 
 /// An option that has no value where it is left out.
-fn choice<'a>(alloc: Global, id: &'a str) -> Arg<'a>
-    ensures rule { rule_of result ≡ line.choice id.entry.now }
+fn optional<'a>(alloc: Global, id: &'a str) -> Arg<'a>
+    ensures rule { rule_of result ≡ line.optional id.entry.now }
     ensures local { result.global ≡ false }
 {
     Arg::new(alloc, id).long(id)
@@ -124,7 +124,7 @@ fn command<'a>(alloc: Global) -> Result<Command<'a>, AllocError>
         .arg(option(alloc, "workers", "4"))?
         .arg(option(alloc, "depth", "16"))?
         .arg(flag(alloc, "modular"))?
-        .arg(choice(alloc, "reuse"))
+        .arg(optional(alloc, "reuse"))
 }
 
 /// The values that the words give to the arguments, or why the command refuses them.

@@ -20,7 +20,7 @@ use std::thread::Threads;
 
 /// The automaton of the candidates of an earlier annotation that hold in this program. Its states are true and false of each
 /// procedure and the predicates that are found again. Its edges are candidates, among them each that Decide refutes without
-/// cuts within the numbers that fit.
+/// cuts within the numbers that fit. Where it asks for too much, by `limits.rt`, it is want of memory.
 pub fn reuse<R: Threads + Sync>(
     rt: &R,
     alloc: Global,

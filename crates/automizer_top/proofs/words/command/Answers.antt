@@ -1,7 +1,7 @@
 use Rattle.std.proofs.Common.{◌≡◌, ◌∙◌, codes, true, false, refl, ap₂}
 use Rattle.std.proofs.lemmas.Result.{IfOk-weaker}
 use Rattle.clap.specs.Simple.{App, with_rule}
-use Rattle.automizer_top.specs.CommandLine.{positional, option, flag, choice, bare_command, command}
+use Rattle.automizer_top.specs.CommandLine.{positional, option, flag, optional, bare_command, command}
 use Rattle.automizer_top.proofs.words.command.Goals as goal
 
 -- the command with its arguments added one by one
@@ -9,7 +9,7 @@ abbrev with_arguments : App
 with_arguments = with_rule (with_rule (with_rule (with_rule (with_rule (with_rule (with_rule (with_rule (with_rule bare_command
     (positional (codes "mode") true)) (positional (codes "program") true)) (positional (codes "second") false))
     (option (codes "entry") (codes "main"))) (option (codes "rounds") (codes "1000"))) (option (codes "workers") (codes "4")))
-    (option (codes "depth") (codes "16"))) (flag (codes "modular"))) (choice (codes "reuse"))
+    (option (codes "depth") (codes "16"))) (flag (codes "modular"))) (optional (codes "reuse"))
 
 whole : with_arguments ≡ command
 unfolding command
@@ -25,4 +25,4 @@ returns c =
     let six = c.in_ok-arg-6.ensures.shape c.option-3.ensures.local ∙ ap₂ with_rule five c.option-3.ensures.rule in
     let seven = c.in_ok-arg-7.ensures.shape c.option-4.ensures.local ∙ ap₂ with_rule six c.option-4.ensures.rule in
     let eight = c.in_ok-arg-8.ensures.shape c.flag.ensures.local ∙ ap₂ with_rule seven c.flag.ensures.rule in
-    IfOk-weaker c.arg-9.result _ _ (λ r h. h.shape c.choice.ensures.local ∙ ap₂ with_rule eight c.choice.ensures.rule ∙ whole) c.arg-9.ensures
+    IfOk-weaker c.arg-9.result _ _ (λ r h. h.shape c.optional.ensures.local ∙ ap₂ with_rule eight c.optional.ensures.rule ∙ whole) c.arg-9.ensures
