@@ -19,13 +19,14 @@ use Rattle.letter_acts.proofs.ListLemmas.{all_weaker, all_append}
 use Rattle.frame_rows.specs.Rows.{columns_from, renamed, bounds, bounds_of, types_of, types_at}
 use Rattle.path_rows.specs.Versions.{PathStage, Part, part_rows, inside_part, part_of, written_over}
 use Rattle.path_rows.specs.Paths.{first_stage, path_along}
-use Rattle.path_rows.specs.Stages.{AreVersions, InsideFits}
+use Rattle.path_rows.specs.Stages.{InsideFits}
 use Rattle.path_rows.proofs.ListLemmas.{length-columns_from}
 use Rattle.path_rows.proofs.SolvedLaws.{Below, below_more, below_columns}
 use Rattle.path_rows.proofs.DifferLemmas.{index_below, columns_distinct, columns_within, columns_at, written_cases}
 use Rattle.path_rows.proofs.SaidLaws.{acted}
 use Rattle.path_rows.proofs.StageLemmas.{inside_fits, inside_versions}
 use Rattle.rank_lasso.specs.Turns.{inside_letter, inside_letters, AreInside, stage_after, Turn, turn_of}
+use Rattle.rank_lasso.specs.Stages.{AreFirstOrNew, StageIs}
 use Rattle.rank_lasso.proofs.TurnLaws.{InsideAct, inside_act_of, inside_part_of}
 
 -- ---- terms and rows below a number
@@ -88,16 +89,6 @@ inside_below frame written helpers rows st f b =
 
 -- ---- from one stage on
 
--- each version is the first of its column, or was made behind the first ones
-abbrev pub AreFirstOrNew : ℕ → List ℕ → Type 0
-AreFirstOrNew width here = (j : ℕ) → j < width → (slice_index here j ≡ j) ⊎ (width ≤ slice_index here j)
-
--- what is known where a path has come to
-pub record StageIs (frame : Columns) (st : PathStage) : Type 0 where
-  pub versions : AreVersions st.made frame st.here
-  pub wide : length frame ≤ st.made
-  pub fresh : AreFirstOrNew (length frame) st.here
-
 pub first_is : (frame : Columns) → StageIs frame (first_stage frame)
 first_is frame = record {
   versions = record {
@@ -123,33 +114,28 @@ inside_is frame written helpers rows st h = record {
   fresh = fresh_written (length frame) st.made st.here written (length written) h.wide h.fresh;
 }
 
--- what one letter keeps
-pub record LetterKeeps (g : Graph) (p n : ℕ) (st : PathStage) : Type 0 where
-  pub act : InsideAct (alphabet_of g) p n
-  pub acted : InsideIsActed (alphabet_of g) p act.written act.helpers act.rows
+-- what one letter keeps that does this
+pub record LetterKeeps (g : Graph) (p n : ℕ) (st : PathStage) (act : InsideAct (alphabet_of g) p n) : Type 0 where
   pub fits : InsideFits act.written act.helpers act.rows st.made st.here
   pub part : part_of (alphabet_of g) (inside_letter n) st ≡ inside_part (frame_of (alphabet_of g) p) act.written act.helpers act.rows st
   pub after : StageIs (frame_of (alphabet_of g) p) (part_of (alphabet_of g) (inside_letter n) st).after
   pub more : st.made ≤ (part_of (alphabet_of g) (inside_letter n) st).after.made
-  pub rows : RowsBelow (part_of (alphabet_of g) (inside_letter n) st).after.made (part_rows (part_of (alphabet_of g) (inside_letter n) st))
+  pub below : RowsBelow (part_of (alphabet_of g) (inside_letter n) st).after.made (part_rows (part_of (alphabet_of g) (inside_letter n) st))
 
-pub letter_keeps : (g : Graph) → IsGraph g → (p n : ℕ) (st : PathStage) → AreInside (alphabet_of g) p (n ∷ []) → StageIs (frame_of (alphabet_of g) p) st → LetterKeeps g p n st
-letter_keeps g ok p n st i h =
+pub letter_keeps : (g : Graph) → IsGraph g → (p n : ℕ) (st : PathStage) (a : InsideAct (alphabet_of g) p n) → StageIs (frame_of (alphabet_of g) p) st → LetterKeeps g p n st a
+letter_keeps g ok p n st a h =
     let al : Alphabet = alphabet_of g in
     let frame : Columns = frame_of al p in
-    let a = inside_act_of al p n i.0 in
     let kept : InsideIsActed al p a.written a.helpers a.rows = acted g ok (inside_letter n) (inside_act p a.written a.helpers a.rows) a.is in
     let fits : InsideFits a.written a.helpers a.rows st.made st.here = inside_fits al p a.written a.helpers a.rows st.made st.here kept h.versions in
     let is = inside_part_of al p n a st in
     let part : Part = inside_part frame a.written a.helpers a.rows st in
     record {
-      act = a;
-      acted = kept;
       fits = fits;
       part = is;
       after = subst (λ (r : Part). StageIs frame r.after) (sym is) (inside_is frame a.written a.helpers a.rows st h);
       more = subst (λ (r : Part). st.made ≤ r.after.made) (sym is) (omega arith);
-      rows = subst (λ (r : Part). RowsBelow r.after.made (part_rows r)) (sym is) (inside_below frame a.written a.helpers a.rows st fits h.versions.below);
+      below = subst (λ (r : Part). RowsBelow r.after.made (part_rows r)) (sym is) (inside_below frame a.written a.helpers a.rows st fits h.versions.below);
     }
 
 -- what letters keep
@@ -163,7 +149,7 @@ pub stage_keeps : (g : Graph) → IsGraph g → (p : ℕ) (ns : List ℕ) (n : �
 stage_keeps g ok p [] n st i h = record { after = h; more = omega arith; rows = tt }
 stage_keeps g ok p (m ∷ ns) n st i h =
     let al : Alphabet = alphabet_of g in
-    let one = letter_keeps g ok p m st (i.0, tt) h in
+    let one = letter_keeps g ok p m st (inside_act_of al p m i.0) h in
     let after : PathStage = (part_of al (inside_letter m) st).after in
     let rest = stage_keeps g ok p ns (suc n) after i.1 one.after in
     let end : ℕ = (stage_after al after (inside_letters ns)).made in
@@ -171,7 +157,7 @@ stage_keeps g ok p (m ∷ ns) n st i h =
       after = rest.after;
       more = let a = one.more in let b = rest.more in omega (arith, a, b);
       rows = all_append (λ r. IsBelow end r.terms) (part_rows (part_of al (inside_letter m) st)) (path_along al (suc n) after (inside_letters ns)).rows
-          (rows_more after.made end (part_rows (part_of al (inside_letter m) st)) rest.more one.rows) rest.rows;
+          (rows_more after.made end (part_rows (part_of al (inside_letter m) st)) rest.more one.below) rest.rows;
     }
 
 -- ---- the turn

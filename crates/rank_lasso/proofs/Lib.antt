@@ -1,3 +1,4 @@
+pub mod WalkSets
 pub mod WalkLaws
 pub mod TurnLaws
 pub mod KeptLaws

@@ -136,7 +136,7 @@ unnamed : (c n : ℕ) (rows : List LinearRow) → n ≤ c → RowsBelow n rows �
 unnamed c n [] l h = tt
 unnamed c n (r ∷ rows) l h = (coefficient_past c n r.terms l h.0, unnamed c n rows l h.1)
 
-weighted_below : (n m : ℕ) (zs : List ℤ) → n + length zs ≤ m → IsBelow m (weighted n zs)
+pub weighted_below : (n m : ℕ) (zs : List ℤ) → n + length zs ≤ m → IsBelow m (weighted n zs)
 weighted_below n m [] l = tt
 weighted_below n m (z ∷ zs) l = (omega (arith, l), weighted_below (suc n) m zs (omega (arith, l)))
 

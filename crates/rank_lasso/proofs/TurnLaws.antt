@@ -56,6 +56,12 @@ inside_act_of al p n h = by_act (slice_get al.acts n) refl h
     by_act (Some (call_act caller callee helpers rows)) e h = absurd h
     by_act (Some (back_act c targets)) e h = absurd h
 
+-- the same where it is known what it does
+pub known_act : (al : Alphabet) (p n q : ℕ) (written : List ℕ) (helpers : ℕ) (rows : List LinearRow) → StaysIn p (slice_get al.acts n) →
+    slice_get al.acts n ≡ Some (inside_act q written helpers rows) → act_of al (inside_letter n) ≡ Some (inside_act p written helpers rows)
+known_act al p n q written helpers rows h e =
+    ap (named_act (inside_letter n)) e ∙ same_inside n q written helpers rows ∙ ap (λ (k : ℕ). Some (inside_act k written helpers rows)) (subst (StaysIn p) e h)
+
 -- the part that it makes
 pub inside_part_of : (al : Alphabet) (p n : ℕ) (a : InsideAct al p n) (st : PathStage) →
     part_of al (inside_letter n) st ≡ inside_part (frame_of al p) a.written a.helpers a.rows st

@@ -75,11 +75,15 @@ WherePoint (point values) P = P values
 
 -- ---- the answers
 
--- all numbers of the search fit: those of Decide, those of the elimination of the ranking system, and those of a rank
-pub record RankFits (g : Graph) (l : PlainLasso) (depth : ℕ) : Type 0 where
-  pub decide_fits : DecisionFits depth (whole_turn g l)
+-- all numbers of a linear rank fit: those of the elimination of the ranking system, and those of the rank at its point
+pub record LinearFits (g : Graph) (l : PlainLasso) : Type 0 where
   pub elimination_fits : EliminationFits (unknowns (loop_turn g l)) (ranking_system (loop_turn g l))
   pub rank_fits : WherePoint (elimination (unknowns (loop_turn g l)) (ranking_system (loop_turn g l))) (ScaledRankFits (loop_turn g l))
+
+-- and so do those of Decide
+pub record RankFits (g : Graph) (l : PlainLasso) (depth : ℕ) : Type 0 where
+  pub decide_fits : DecisionFits depth (whole_turn g l)
+  pub linear_fits : LinearFits g l
 
 -- no rational point meets the ranking system of the loop, and Decide does not refute the stem and one turn
 pub record HasNoRank (g : Graph) (l : PlainLasso) (depth : ℕ) : Type 0 where

@@ -3,7 +3,10 @@
 #![tactic(auto)]
 
 mod lassos;
+pub mod laws;
+mod placing;
 mod rankings;
 
 pub use lassos::{Lasso, LassoFault};
+pub use placing::placed;
 pub use rankings::{Ranked, Ranking};
