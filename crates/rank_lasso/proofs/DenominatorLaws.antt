@@ -1,5 +1,5 @@
 -- Rational points: a point over another denominator is the same point.
-use Rattle.std.proofs.Common.{◌≡◌, ◌∙◌, ℕ, ℤ, pos, ◌+ℤ◌, ◌*ℤ◌, ◌≤ℤ◌, ◌<ℤ◌, List, [], ◌∷◌, refl, sym, ap, arith}
+use Rattle.std.proofs.Common.{◌≡◌, ◌∙◌, ℕ, ℤ, pos, ◌+ℤ◌, ◌*ℤ◌, ◌≤ℤ◌, ◌<ℤ◌, List, [], ◌∷◌, sym, ap, arith}
 use Rattle.std.proofs.lemmas.Int.{ints}
 use Rattle.math_facts.specs.Terms.{dot}
 use Rattle.math_facts.proofs.Whole.{product_comm, product_assoc, product_monotone, product_zero_left, product_zero_right, distrib_right, distrib_left, product_swap, cancel_order, positive_cancel}

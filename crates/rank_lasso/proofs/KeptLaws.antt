@@ -1,8 +1,7 @@
 -- What a turn of inside letters keeps: its rows name its columns, and the versions of the frame's columns before and after it are columns of
 -- its own, no two of them equal. A version after it is the one before it, or one that was made behind those.
-use Rattle.std.proofs.Common.{◌≡◌, ◌⊎◌, ◌∙◌, ℕ, zero, suc, ◌+◌, ◌<◌, ◌≤◌, Bool, true, false, ℤ, pos, negsuc, ◌+ℤ◌, List, [], ◌∷◌, ◌++◌, length, Option, None, Some, nat_eq, nat_lt, if◌then◌else◌, inl, inr, refl, sym, ap, subst, arith}
+use Rattle.std.proofs.Common.{◌≡◌, ◌∙◌, ℕ, suc, ◌+◌, ◌<◌, ◌≤◌, Bool, true, false, ℤ, pos, negsuc, ◌+ℤ◌, List, [], ◌∷◌, ◌++◌, length, Option, None, Some, nat_eq, nat_lt, if◌then◌else◌, inl, inr, refl, sym, subst, arith}
 use Rattle.std.specs.Prelude.{map, slice_index}
-use Rattle.std.specs.List.{AllByRecursion}
 use Rattle.std.proofs.lemmas.List.{length-map}
 use Rattle.boogie_tree.specs.declared.tree.Ty.{Ty}
 use Rattle.boogie_tree.specs.declared.tree.Ty.TheVariants as types
@@ -10,8 +9,6 @@ use Rattle.math_facts.specs.Terms.{IsBelow}
 use Rattle.math_facts.proofs.TermLaws.{IsBelow_more}
 use Rattle.lin_rows.specs.Rows.{LinearRow, RowsBelow}
 use Rattle.lin_rows.specs.Sums.{is_zero, led_by, added_at, summed}
-use Rattle.nwa_base.specs.declared.letters.Letter.{Letter}
-use Rattle.nwa_base.specs.Members.{Member}
 use Rattle.letter_acts.specs.Frames.{Columns}
 use Rattle.letter_acts.specs.Acts.{inside_act, Alphabet, frame_of}
 use Rattle.letter_acts.specs.Invariant.{Graph, IsGraph, alphabet_of, InsideIsActed, type_at}

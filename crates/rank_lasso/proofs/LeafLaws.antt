@@ -1,11 +1,10 @@
 -- Leaves made of a list of multipliers, one for each row, and a row added behind these: when they combine to `0 <= c` with `c < 0`.
-use Rattle.std.proofs.Common.{◌≡◌, ◌∙◌, ℕ, zero, suc, ◌+◌, ◌<◌, Bool, true, false, ℤ, pos, negsuc, ◌+ℤ◌, ◌*ℤ◌, ◌≤ℤ◌, ◌<ℤ◌, List, [], ◌∷◌, ◌++◌, length, nat_lt, if◌then◌else◌, refl, sym, ap, subst, arith, append_assoc, length-append}
+use Rattle.std.proofs.Common.{◌≡◌, ◌∙◌, ℕ, zero, suc, ◌+◌, Bool, true, false, ℤ, pos, negsuc, ◌+ℤ◌, ◌*ℤ◌, ◌≤ℤ◌, ◌<ℤ◌, List, [], ◌∷◌, ◌++◌, length, nat_lt, if◌then◌else◌, refl, sym, ap, subst, arith, append_assoc, length-append}
 use Rattle.std.specs.Prelude.{map}
 use Rattle.std.specs.List.{AllByRecursion}
 use Rattle.std.proofs.lemmas.Int.{ints}
 use Rattle.std.proofs.lemmas.Bool.{lt-ltb}
-use Rattle.std.proofs.lemmas.List.{length-map}
-use Rattle.math_facts.specs.Terms.{coefficient, dot, scaled}
+use Rattle.math_facts.specs.Terms.{coefficient, dot}
 use Rattle.math_facts.proofs.Whole.{product_comm, product_one_left}
 use Rattle.math_facts.proofs.TermLaws.{dot-append, coefficient-scaled}
 use Rattle.math_facts.proofs.Division.{floor_below}
@@ -20,7 +19,7 @@ use Rattle.lin_rows.proofs.SummedLaws.{dot-summed}
 use Rattle.lin_rows.proofs.TighteningLaw.{content_divides, scaled-divided}
 use Rattle.fm_elim.specs.Worth.{Combines}
 use Rattle.fm_elim.proofs.Lists.{all_append}
-use Rattle.fm_elim.proofs.Multipliers.{combined_as_dot, zero_is}
+use Rattle.fm_elim.proofs.Multipliers.{combined_as_dot}
 use Rattle.frame_rows.specs.Rows.{columns_from}
 use Rattle.rank_lasso.specs.RankingSystem.{weighted, taken_by}
 

@@ -1,10 +1,9 @@
 -- What a ranking says: states obey no more turns of a loop than its rank allows, so none obey it for ever.
-use Rattle.std.proofs.Common.{◌≡◌, ◌↔◌, ◌∙◌, ℕ, zero, suc, ◌+◌, ◌<◌, ℤ, pos, ◌+ℤ◌, ◌-ℤ◌, ◌*ℤ◌, neg_ℤ, ◌≤ℤ◌, ◌<ℤ◌, List, [], ◌∷◌, ◌++◌, length, refl, sym, ap, subst, arith}
+use Rattle.std.proofs.Common.{◌≡◌, ◌∙◌, ℕ, zero, suc, ℤ, pos, ◌+ℤ◌, ◌-ℤ◌, ◌*ℤ◌, neg_ℤ, ◌≤ℤ◌, ◌<ℤ◌, List, [], ◌∷◌, ◌++◌, length, refl, sym, ap, subst, arith}
 use Rattle.std.specs.Prelude.{map, slice_index, unsigned_abs}
 use Rattle.std.specs.List.{AllByRecursion}
 use Rattle.std.specs.Int.{int_max}
 use Rattle.std.proofs.lemmas.Int.{ints, clamps, by_lt_z}
-use Rattle.std.proofs.lemmas.List.{length-map}
 use Rattle.math_facts.specs.Terms.{dot, opposite, IsBelow}
 use Rattle.math_facts.proofs.TermLaws.{dot-append, dot-opposite}
 use Rattle.lin_rows.specs.declared.types.RowKind.TheVariants.{Le}
@@ -17,12 +16,10 @@ use Rattle.farkas_check.specs.Nodes.{PlainNode}
 use Rattle.farkas_check.proofs.Sound.{none_met}
 use Rattle.letter_acts.specs.Acts.{Alphabet, frame_of}
 use Rattle.letter_acts.specs.Invariant.{Graph, IsGraph, alphabet_of}
-use Rattle.letter_acts.proofs.PointLemmas.{state_length}
-use Rattle.frame_rows.specs.Rows.{columns_from}
 use Rattle.path_rows.proofs.ListLemmas.{all_joined, read_at, length-columns_from}
 use Rattle.rank_lasso.specs.Turns.{AreInside, Turn, turn_of, LeadsAlong, IsSolvedTurn}
 use Rattle.rank_lasso.specs.Lassos.{PlainLasso, AreOfEntry, entry_proc, loop_turn, whole_turn}
-use Rattle.rank_lasso.specs.Ranks.{PlainRanking, ranked_by, excluded_by, IsRankingOver, at_versions, unfallen, unbounded, turn_goal, RefutesTurn, turn_with, RefutesWith, Ranks, rank_of, times, AreFew, HasFewTurns, GoesForEver, LassoEnds}
+use Rattle.rank_lasso.specs.Ranks.{PlainRanking, ranked_by, excluded_by, IsRankingOver, at_versions, unfallen, unbounded, turn_goal, RefutesTurn, turn_with, Ranks, rank_of, times, AreFew, HasFewTurns, GoesForEver, LassoEnds}
 use Rattle.rank_lasso.proofs.WalkLaws.{leads_joined, leads_split}
 use Rattle.rank_lasso.proofs.TurnLaws.{turns_are_solved}
 use Rattle.rank_lasso.proofs.KeptLaws.{turn_keeps}

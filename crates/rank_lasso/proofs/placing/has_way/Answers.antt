@@ -1,4 +1,4 @@
-use Rattle.std.proofs.Common.{◌≡◌, ◌∙◌, sym}
+use Rattle.std.proofs.Common.{◌∙◌, sym}
 use Rattle.std.proofs.lemmas.Bool.{false≢true}
 use Rattle.rank_lasso.specs.Lassos.{plain_lasso}
 use Rattle.rank_lasso.proofs.WalkSets.{no_stem, no_loop}
