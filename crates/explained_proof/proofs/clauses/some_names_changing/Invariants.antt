@@ -1,0 +1,9 @@
+use Rattle.std.proofs.Common.{◌≡◌, false, take}
+use Rattle.std.specs.List.{list_any}
+use Rattle.row_expressions.specs.Views as scopes
+use Rattle.fact_expressions.specs.Views as facts
+use Rattle.explained_proof.specs.Clauses as spec
+use Rattle.explained_proof.proofs.clauses.some_names_changing.Given as goal
+
+abbrev pub invariant-loop-row : goal.invariant-loop-row
+invariant-loop-row l = list_any (spec.row_names_changing (scopes.scope l.scope)) (facts.rows (take l.row-index l.rows)) ≡ false

@@ -1,0 +1,17 @@
+use Rattle.std.proofs.Common.{◌≡◌, [], rules}
+use Rattle.std.proofs.lemmas.List.{nil_from_length}
+use Rattle.boogie_tree.specs.declared.tree.Stmt.{the_lemmas}
+use Rattle.boogie_tree.specs.View as tree
+use Rattle.explained_proof.specs.Statements as spec
+use Rattle.explained_proof.proofs.TakenLaws.{taken_on, taken_all}
+use Rattle.explained_proof.proofs.statements.assertions_of.Goals as goal
+
+pub loop-clause-preserved : goal.loop-clause-preserved
+loop-clause-preserved c =
+    taken_on tree.statement spec.asserted tree.expression c.loop-clause.list.items c.push.new.self.items _ c.in-Some.clause c.next.new.self.rest.items c.loop-clause.clause-iterator.rest.items _
+    c.in-Some.ensures.steps.0 c.in_ok-push.ensures.items (search (rules, the_lemmas)) c.loop-clause.invariant
+
+pub returns : goal.returns
+returns c =
+    let none : c.loop-clause.clause-iterator.rest.items ≡ [] = nil_from_length _ (search rules) in
+    taken_all tree.statement spec.asserted tree.expression c.loop-clause.list.items c.loop-clause.clause-iterator.rest.items _ none c.loop-clause.invariant

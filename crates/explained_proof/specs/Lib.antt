@@ -1,0 +1,9 @@
+pub mod Tightened
+pub mod Known
+pub mod Clauses
+pub mod Backwards
+pub mod Statements
+pub mod Fitting
+pub mod Explained
+pub mod Laws
+pub mod Views
