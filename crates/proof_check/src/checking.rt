@@ -118,6 +118,18 @@ fn check_covering(icfg: &Icfg, proof: &Annotation, plan: &Plan<'_>) -> Result<()
     }
 }
 
+/// The checks that go by the plan, behind the others, which pass.
+fn check_plan(icfg: &Icfg, proof: &Annotation, plan: &Plan<'_>) -> Result<(), Reject>
+    requires names { Names icfg.now proof.now plan.now }
+    requires triples { (item : ℕ) → PassesIn icfg.now proof.now plan.now RejectCause.BadTriple item }
+    requires start { (item : ℕ) → PassesIn icfg.now proof.now plan.now RejectCause.NoStart item }
+    requires errors { (item : ℕ) → PassesIn icfg.now proof.now plan.now RejectCause.OpenError item }
+    ensures { AreOutcomes icfg.now proof.now plan.now result }
+{
+    check_steps(icfg, proof, plan)?;
+    check_covering(icfg, proof, plan)
+}
+
 /// The checks of what the lines name.
 fn check_outline(
     alloc: Global,
@@ -133,8 +145,7 @@ fn check_outline(
     check_start(icfg, proof, outline)?;
     check_errors(icfg, proof, outline)?;
     let plan = Plan::new(alloc, outline)?;
-    check_steps(icfg, proof, &plan)?;
-    check_covering(icfg, proof, &plan)
+    check_plan(icfg, proof, &plan)
 }
 
 /// Checks an annotation of the graph. `Ok` comes exactly where it proves the graph, want of memory apart; then no word that the
