@@ -1,14 +1,15 @@
 -- States: predicates, each once.
-use Rattle.std.proofs.Common.{◌≡◌, ◌∙◌, ◌⊎◌, ℕ, zero, suc, ◌+◌, ◌<◌, ◌≤◌, Bool, true, false, List, [], ◌∷◌, ◌++◌, length, take, get_or, Some, refl, sym, ap, subst, inl, inr, arith}
+use Rattle.std.proofs.Common.{◌≡◌, ◌∙◌, ◌⊎◌, ℕ, zero, suc, ◌+◌, ◌<◌, ◌≤◌, Bool, true, false, List, [], ◌∷◌, ◌++◌, length, take, get_or, Some, append_assoc, add-one, refl, sym, ap, subst, inl, inr, arith}
 use Rattle.std.specs.Prelude.{slice_get}
 use Rattle.std.proofs.lemmas.List.{take_more}
 use Rattle.nwa_base.specs.Members.{Member}
 use Rattle.nwa_base.proofs.MemberLemmas.{member_front, member_rest, member_split}
 use Rattle.letter_acts.specs.Invariant.{AreDistinct}
+use Rattle.triple_rows.specs.declared.predicates.PredNode.TheVariants.{Truth}
 use Rattle.triple_rows.specs.declared.triples.Scoped.{Scoped}
 use Rattle.itp_automaton.specs.Making.{AreStates}
 use Rattle.triple_rows.specs.Triples.{truth_of}
-use Rattle.itp_automaton.specs.States.{AddsState}
+use Rattle.itp_automaton.specs.States.{AddsState, truths_below}
 
 -- ---- members by their places
 
@@ -125,3 +126,40 @@ last_or_front xs y x h n m = elim (member_split xs (y ∷ []) x m) [
   | inl k ↦ h k
   | inr k ↦ elim k [ inl e ↦ n e | inr none ↦ none ]
 ]
+
+-- ---- true and false of each procedure, in the order of their numbers
+
+truth_is_below : (n : ℕ) (s : Scoped) → Member (truths_below n) s → s.proc < n
+truth_is_below zero s m = absurd m
+truth_is_below (suc n) s m = elim (member_split (truths_below n) (truth_of n true ∷ truth_of n false ∷ []) s m) [
+  | inl k ↦ let h = truth_is_below n s k in omega arith
+  | inr k ↦ elim k [
+    | inl e ↦ let h : n ≡ s.proc = ap (λ (x : Scoped). x.proc) e in omega arith
+    | inr j ↦ elim j [ inl e ↦ let h : n ≡ s.proc = ap (λ (x : Scoped). x.proc) e in omega arith | inr none ↦ absurd none ]
+  ]
+]
+
+not_below : (n : ℕ) (b : Bool) → Member (truths_below n) (truth_of n b) → ⊥
+not_below n b m = let h : n < n = truth_is_below n (truth_of n b) m in omega arith
+
+true_is_not_false : (n : ℕ) → truth_of n true ≡ truth_of n false → ⊥
+true_is_not_false n e = let h : Truth true ∷ [] ≡ Truth false ∷ [] = ap (λ (s : Scoped). s.pred) e in cc
+
+-- no two of them are equal
+pub truths_are_states : (n : ℕ) → AreStates n [] (truths_below n)
+truths_are_states zero = record { once = tt; truths = λ p b lt. absurd (omega (arith, lt)); given = λ s m. absurd m; only = λ s m. absurd m }
+truths_are_states (suc n) =
+    let old = truths_below n in
+    let mid = old ++ truth_of n true ∷ [] in
+    let new = mid ++ truth_of n false ∷ [] in
+    let differ : Member mid (truth_of n false) → ⊥ = last_or_front old (truth_of n true) (truth_of n false) (not_below n false) (true_is_not_false n) in
+    let h : AreStates (n + 1) [] new = truths_more n old mid new (truths_are_states n) (added old (truth_of n true) (not_below n true)) (added mid (truth_of n false) differ) in
+    subst (λ (k : ℕ). AreStates k [] (truths_below (suc n))) (add-one n)
+    (subst (λ (l : List Scoped). AreStates (n + 1) [] l) (append_assoc old (truth_of n true ∷ []) (truth_of n false ∷ [])) h)
+
+-- those of one more procedure
+pub truths_next : (n : ℕ) (old mid new : List Scoped) (s t : Scoped) → old ≡ truths_below n → s ≡ truth_of n true → t ≡ truth_of n false → mid ≡ old ++ s ∷ [] → new ≡ mid ++ t ∷ [] →
+    new ≡ truths_below (n + 1)
+truths_next n old mid new s t e f g h k =
+    k ∙ (λ i. h i ++ g i ∷ []) ∙ (λ i. (e i ++ f i ∷ []) ++ truth_of n false ∷ []) ∙ append_assoc (truths_below n) (truth_of n true ∷ []) (truth_of n false ∷ []) ∙
+    ap truths_below (sym (add-one n))
