@@ -14,7 +14,6 @@ use Rattle.letter_acts.specs.Ways.{Leads, Goes}
 use Rattle.letter_acts.specs.Feasible.{IsFeasible, machine}
 use Rattle.letter_acts.proofs.MachineLemmas.{machine_runs}
 use Rattle.triple_rows.specs.declared.triples.Scoped.{Scoped}
-use Rattle.triple_rows.specs.declared.triples.Triple.TheVariants as triples
 use Rattle.triple_rows.specs.Predicates.{Formula, formula_of, FormulaHolds}
 use Rattle.triple_rows.specs.Triples.{ScopedHolds, InsideAgrees, CallAgrees, ReturnAgrees, BackAgrees}
 use Rattle.itp_automaton.specs.Certified.{Certificate, IsTruthAt, IsCertified}

@@ -14,6 +14,7 @@ ghost use Rattle.itp_automaton.specs.Edges.{MarksFalse, IsBuilt};
 
 use crate::automata::Certified;
 use crate::edges::{add_edge, added};
+use crate::finding::Predicates;
 use crate::states::{state_number, truth};
 use letter_acts::Icfg;
 use nwa_base::{Nwa, empty};
@@ -21,7 +22,7 @@ use std::alloc::{AllocError, Global};
 use triple_rows::{PredNode, Proof, Scoped};
 
 /// The state that is true of the procedure in which the graph starts.
-fn start_of(alloc: Global, icfg: &Icfg, states: &[Scoped]) -> Result<u32, AllocError>
+fn start_of(alloc: Global, icfg: &Icfg, states: &Predicates) -> Result<u32, AllocError>
     requires { (p : ℕ) (b : Bool) → p < length icfg.now.frames → Member states.now (truth_of p b) }
     ensures valid { OnOk result (Keeps icfg.now) }
     ensures start { IfOk result (λ q. (p : ℕ) × IsPlaceOf icfg.now.place_procs p 0 × (slice_get states.now q ≡ Some (truth_of p true))) }
@@ -56,18 +57,19 @@ fn mark(nwa: &mut Nwa, q: u32, state: &Scoped) -> Result<(), AllocError>
 }
 
 /// The automaton of the states, with its start and final states, without edges.
-fn begun(alloc: Global, icfg: &Icfg, states: &[Scoped]) -> Result<Nwa, AllocError>
+fn begun(alloc: Global, icfg: &Icfg, states: &Predicates) -> Result<Nwa, AllocError>
     requires { (p : ℕ) (b : Bool) → p < length icfg.now.frames → Member states.now (truth_of p b) }
     ensures valid { OnOk result (Keeps icfg.now) }
     ensures built { IfOk result (λ m. IsBuilt icfg.now states.now [] m) }
 {
     let start = start_of(alloc, icfg, states)?;
-    let Ok(count) = u32::try_from(states.len()) else {
+    let list = states.as_slice();
+    let Ok(count) = u32::try_from(list.len()) else {
         return Err(AllocError);
     };
     let mut nwa = added(empty(alloc, count, start))?;
     for q in 0..count {
-        mark(&mut nwa, q, &states[q as usize])?;
+        mark(&mut nwa, q, &list[q as usize])?;
     }
     Ok(nwa)
 }
@@ -75,7 +77,7 @@ fn begun(alloc: Global, icfg: &Icfg, states: &[Scoped]) -> Result<Nwa, AllocErro
 /// Adds the edges of the proofs; false where one names a predicate that is no state.
 fn add_edges(
     icfg: &Icfg,
-    states: &[Scoped],
+    states: &Predicates,
     nwa: &mut Nwa,
     proofs: &[Proof],
 ) -> Result<bool, AllocError>
@@ -98,7 +100,7 @@ fn add_edges(
 fn nwa_of(
     alloc: Global,
     icfg: &Icfg,
-    states: &[Scoped],
+    states: &Predicates,
     proofs: &[Proof],
 ) -> Result<Option<Nwa>, AllocError>
     requires truths { (p : ℕ) (b : Bool) → p < length icfg.now.frames → Member states.now (truth_of p b) }
@@ -120,19 +122,19 @@ fn nwa_of(
 pub(crate) fn assembled(
     alloc: Global,
     icfg: &Icfg,
-    states: Vec<Scoped>,
+    states: Predicates,
     proofs: Vec<Proof>,
 ) -> Result<Option<Certified>, AllocError>
-    requires truths { (p : ℕ) (b : Bool) → p < length icfg.now.frames → Member states.items (truth_of p b) }
+    requires truths { (p : ℕ) (b : Bool) → p < length icfg.now.frames → Member states (truth_of p b) }
     requires proofs { AllByRecursion (IsProofFor (alphabet_of icfg.now)) proofs.items }
-    ensures found { IfOk result (λ o. IsSome o ↔ AllByRecursion (λ p. NamesStates states.items p.triple) proofs.items) }
+    ensures found { IfOk result (λ o. IsSome o ↔ AllByRecursion (λ p. NamesStates states p.triple) proofs.items) }
     ensures certified { IfOk result (λ o. IfSome o (IsCertified (alphabet_of icfg.now))) }
-    ensures preds { IfOk result (λ o. IfSome o (λ c. c.preds ≡ states.items)) }
+    ensures preds { IfOk result (λ o. IfSome o (λ c. c.preds ≡ states)) }
     ensures proofs { IfOk result (λ o. IfSome o (λ c. c.proofs ≡ proofs.items)) }
-    ensures built { IfOk result (λ o. IfSome o (λ c. IsBuilt icfg.now states.items proofs.items c.automaton)) }
+    ensures built { IfOk result (λ o. IfSome o (λ c. IsBuilt icfg.now states proofs.items c.automaton)) }
 {
     match nwa_of(alloc, icfg, &states, &proofs)? {
-        Some(nwa) => Ok(Some(Certified::new(states, proofs, nwa))),
+        Some(nwa) => Ok(Some(Certified::new(states.into_vec(), proofs, nwa))),
         None => Ok(None),
     }
 }

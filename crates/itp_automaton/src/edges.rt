@@ -7,6 +7,7 @@ ghost use Rattle.triple_rows.specs.Triples.{Agrees};
 ghost use Rattle.itp_automaton.specs.Settling.{NamesStates};
 ghost use Rattle.itp_automaton.specs.Edges.{AddsInside, AddsCall, AddsBack, AddsEdge};
 
+use crate::finding::Predicates;
 use crate::letters::letter_at;
 use crate::states::state_number;
 use letter_acts::Icfg;
@@ -30,7 +31,7 @@ pub(crate) fn added<T: Drop>(answer: Result<T, NwaFault>) -> Result<T, AllocErro
 /// Adds the edge of an inside triple; false where it names a predicate that is no state.
 fn add_inside(
     icfg: &Icfg,
-    states: &[Scoped],
+    states: &Predicates,
     nwa: &mut Nwa,
     letter: u32,
     before: &Scoped,
@@ -55,7 +56,7 @@ fn add_inside(
 /// Adds the edge of a call triple; false where it names a predicate that is no state.
 fn add_call(
     icfg: &Icfg,
-    states: &[Scoped],
+    states: &Predicates,
     nwa: &mut Nwa,
     letter: u32,
     before: &Scoped,
@@ -80,7 +81,7 @@ fn add_call(
 /// Adds the edge of a return triple; false where it names a predicate that is no state.
 fn add_back(
     icfg: &Icfg,
-    states: &[Scoped],
+    states: &Predicates,
     nwa: &mut Nwa,
     letter: u32,
     exit: &Scoped,
@@ -109,7 +110,7 @@ fn add_back(
 /// Adds the edge of a triple that agrees with its letter; false where it names a predicate that is no state.
 pub(crate) fn add_edge(
     icfg: &Icfg,
-    states: &[Scoped],
+    states: &Predicates,
     nwa: &mut Nwa,
     triple: &Triple,
 ) -> Result<bool, AllocError>

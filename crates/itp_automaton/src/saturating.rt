@@ -34,7 +34,7 @@ pub fn saturate<R: Threads + Sync>(
     ensures edges { IfOk result (HasEdges (alphabet_of icfg.now) proofs.items) }
 {
     let states = states_with(alloc, icfg.frames().len(), preds)?;
-    let all = settle_all(rt, alloc, icfg, &states, proofs)?;
+    let all = settle_all(rt, alloc, icfg, states.as_slice(), proofs)?;
     match assembled(alloc, icfg, states, all)? {
         Some(certified) => Ok(certified),
         None => unreachable!(),

@@ -1,60 +1,22 @@
 //! The states: predicates, each once.
 
-ghost use Rattle.std.specs.Prelude.{◌≡◌, ◌<◌, ◌^◌, Some, [], IfOk, IfSome, OnOk, OnErr, MatchOption, length, slice_get};
+ghost use Rattle.std.specs.Prelude.{◌≡◌, ◌<◌, ◌^◌, Some, [], IfOk, OnOk, OnErr, MatchOption, length, slice_get};
 ghost use Rattle.nwa_base.specs.Members.{Member};
 ghost use Rattle.triple_rows.specs.Predicates.{SpellsPredicate};
 ghost use Rattle.itp_automaton.specs.Making.{AreStates};
 ghost use Rattle.triple_rows.specs.Triples.{truth_of};
 ghost use Rattle.itp_automaton.specs.States.{AddsState, truths_below};
 
-use crate::equality::is_same;
+use crate::finding::Predicates;
 use std::alloc::{AllocError, Global};
 use triple_rows::{PredNode, Scoped, pred};
 
-/// The state that is the predicate.
-pub fn state_of(states: &[Scoped], pred: &Scoped) -> Option<usize>
-    ensures { MatchOption result (Member states.now pred.now → ⊥) (λ q. (slice_get states.now q ≡ Some pred.now) × SpellsPredicate pred.now.pred) }
-{
-    for (q, state) in states.iter().enumerate() {
-        if is_same(state, pred) {
-            return Some(q);
-        }
-    }
-    None
-}
-
-/// Where true, or false, of a procedure stands where the states begin with these of each procedure, in order: that place is tried.
-fn truth_place(states: &[Scoped], pred: &Scoped) -> Option<usize>
-    ensures { IfSome result (λ q. (slice_get states.now q ≡ Some pred.now) × SpellsPredicate pred.now.pred) }
-{
-    let [PredNode::Truth(value)] = pred.pred.nodes() else {
-        return None;
-    };
-    let first = pred.proc as usize * 2;
-    let place = if *value { first } else { first + 1 };
-    if place < states.len() && is_same(&states[place], pred) {
-        Some(place)
-    } else {
-        None
-    }
-}
-
-/// The state that is the predicate.
-fn find(states: &[Scoped], pred: &Scoped) -> Option<usize>
-    ensures { MatchOption result (Member states.now pred.now → ⊥) (λ q. (slice_get states.now q ≡ Some pred.now) × SpellsPredicate pred.now.pred) }
-{
-    match truth_place(states, pred) {
-        Some(place) => Some(place),
-        None => state_of(states, pred),
-    }
-}
-
-/// The number of that state. No memory is left for it only where there are more states than 32 bits count.
-pub(crate) fn state_number(states: &[Scoped], pred: &Scoped) -> Result<Option<u32>, AllocError>
+/// The number of the state that is the predicate. No memory is left for it only where there are more states than 32 bits count.
+pub(crate) fn state_number(states: &Predicates, pred: &Scoped) -> Result<Option<u32>, AllocError>
     ensures number { IfOk result (λ o. MatchOption o (Member states.now pred.now → ⊥) (λ q. (slice_get states.now q ≡ Some pred.now) × SpellsPredicate pred.now.pred)) }
     ensures many { OnErr result (2 ^ 32 < length states.now) }
 {
-    match find(states, pred) {
+    match states.place_of(pred) {
         None => Ok(None),
         Some(q) => match u32::try_from(q) {
             Ok(number) => Ok(Some(number)),
@@ -64,10 +26,10 @@ pub(crate) fn state_number(states: &[Scoped], pred: &Scoped) -> Result<Option<u3
 }
 
 /// Adds a predicate, unless it is there.
-fn add_state(states: &mut Vec<Scoped>, state: Scoped) -> Result<(), AllocError>
-    ensures { OnOk result (AddsState states.old.items state states.new.items) }
+fn add_state(states: &mut Predicates, state: Scoped) -> Result<(), AllocError>
+    ensures { OnOk result (AddsState states.old state states.new) }
 {
-    match find(states, &state) {
+    match states.place_of(&state) {
         Some(_) => Ok(()),
         None => {
             states.push(state)?;
@@ -88,13 +50,13 @@ pub(crate) fn truth(alloc: Global, proc: u32, value: bool) -> Result<Scoped, All
 }
 
 /// True and false of so many procedures. No two of them are equal, so none is searched for.
-fn truths(alloc: Global, procedures: usize) -> Result<Vec<Scoped>, AllocError>
-    ensures { IfOk result (λ states. states.items ≡ truths_below procedures) }
+fn truths(alloc: Global, procedures: usize) -> Result<Predicates, AllocError>
+    ensures { IfOk result (λ states. states ≡ truths_below procedures) }
 {
     let Ok(count) = u32::try_from(procedures) else {
         return Err(AllocError);
     };
-    let mut states = Vec::new(alloc);
+    let mut states = Predicates::new(alloc);
     for proc in 0..count {
         states.push(truth(alloc, proc, true)?)?;
         states.push(truth(alloc, proc, false)?)?;
@@ -107,8 +69,8 @@ pub(crate) fn states_with(
     alloc: Global,
     procedures: usize,
     preds: Vec<Scoped>,
-) -> Result<Vec<Scoped>, AllocError>
-    ensures { IfOk result (λ states. AreStates procedures preds.items states.items) }
+) -> Result<Predicates, AllocError>
+    ensures { IfOk result (AreStates procedures preds.items) }
 {
     let mut states = truths(alloc, procedures)?;
     for pred in preds {

@@ -8,4 +8,4 @@ pub loop-pred-init : goal.loop-pred-init
 loop-pred-init c = subst (λ (l : List Scoped). AreStates c.args.procedures [] l) (sym c.in_ok-states.ensures) (truths_are_states c.args.procedures)
 
 pub loop-pred-preserved : goal.loop-pred-preserved
-loop-pred-preserved c = states_more c.args.procedures c.loop-pred.yielded c.in-Some.pred c.loop-pred.states.items c.add_state.new.states.items c.loop-pred.invariant c.in_ok-add_state.ensures
+loop-pred-preserved c = states_more c.args.procedures c.loop-pred.yielded c.in-Some.pred c.loop-pred.states c.add_state.new.states c.loop-pred.invariant c.in_ok-add_state.ensures

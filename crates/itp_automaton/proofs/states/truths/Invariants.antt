@@ -3,4 +3,4 @@ use Rattle.itp_automaton.specs.States.{truths_below}
 use Rattle.itp_automaton.proofs.states.truths.Given as goal
 
 abbrev pub invariant-loop-proc : goal.invariant-loop-proc
-invariant-loop-proc l = l.states.items ≡ truths_below l.proc
+invariant-loop-proc l = l.states ≡ truths_below l.proc

@@ -2,7 +2,7 @@ use Rattle.std.proofs.Common.{◌≡◌, ℕ, ◌+◌, ◌<◌, List, length, ta
 use Rattle.std.proofs.lemmas.Bool.{false≢true}
 use Rattle.nwa_base.specs.Members.{Member}
 use Rattle.itp_automaton.proofs.StateLaws.{last_or_front, take_next}
-use Rattle.itp_automaton.proofs.states.state_of.Goals as goal
+use Rattle.itp_automaton.proofs.finding.state_of.Goals as goal
 
 none_more : {X : Type 0} (xs : List X) (q : ℕ) (x y : X) → q < length xs → y ≡ get_or xs q y → (Member (take q xs) x → ⊥) → (y ≡ x → ⊥) → Member (take (q + 1) xs) x → ⊥
 none_more xs q x y lt e h n m = last_or_front (take q xs) y x h n (subst (λ l. Member l x) (take_next xs q y lt e) m)
