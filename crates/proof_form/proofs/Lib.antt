@@ -21,6 +21,7 @@ pub mod PredicateLaws
 pub mod ReadLaws
 pub mod RefutationLaws
 pub mod RunLaws
+pub mod SharedLaws
 pub mod SpelledLaws
 pub mod StandingLaws
 pub mod StandingSteps
