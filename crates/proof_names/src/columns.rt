@@ -45,8 +45,9 @@ fn in_32_bits(place: usize) -> Option<u32>
     }
 }
 
-/// The column of the frame that the text names.
-pub(crate) fn column_named(frame: &[(Column, VarInfo)], text: &[u8]) -> Option<u32>
+/// The number of the column of the frame that the text names: the first of that kind and name. `None` exactly where there is none,
+/// or where its number has more than 32 bits.
+pub fn column_named(frame: &[(Column, VarInfo)], text: &[u8]) -> Option<u32>
     ensures { result ≡ spec.column_named frame.now text.now }
 {
     match column_place(frame, text) {

@@ -13,10 +13,11 @@ mod refutations;
 mod steps;
 mod triples;
 
-pub use columns::procedure_named;
+pub use columns::{column_named, procedure_named};
 pub use fault::NameFault;
 pub use naming::outline;
 pub use numbers::{index_in, number_in, short_in};
 pub use outlines::{Listed, NamedNode, NamedStep, NamedTriple, Outline};
 pub use predicates::{pred_named, terms_named};
+pub use refutations::refutation_of;
 pub use triples::triple_at;

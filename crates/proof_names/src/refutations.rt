@@ -96,11 +96,9 @@ fn nodes_of(alloc: Global, nodes: &[RNode]) -> Result<Option<Vec<Node>>, AllocEr
     Ok(Some(named))
 }
 
-/// The refutation of the nodes, `None` where a row has no number of 32 bits.
-pub(crate) fn refutation_of(
-    alloc: Global,
-    nodes: &[RNode],
-) -> Result<Option<Refutation>, AllocError>
+/// The refutation of the nodes, with the numbers that their numerals stand for. `None` exactly where a row or the column of a cut
+/// has no number of 32 bits, or a multiplier or the number of a cut does not fit. An error comes only where memory ran out.
+pub fn refutation_of(alloc: Global, nodes: &[RNode]) -> Result<Option<Refutation>, AllocError>
     requires { IsTrue (form.is_refutation (map form.plain_refutation_node nodes.now)) }
     ensures { IfOk result (λ o. o ≡ spec.refutation_of (map form.plain_refutation_node nodes.now)) }
 {
