@@ -46,6 +46,11 @@ right_viewed R g [] (y ∷ ys) h = absurd h
 right_viewed R g (x ∷ xs) [] h = absurd h
 right_viewed R g (x ∷ xs) (y ∷ ys) h = (h.0, right_viewed R g xs ys h.1)
 
+-- all have been gone through
+pub all_related : {V W X Y : Type 0} (R : X → Y → Type 0) (f : V → X) (g : W → Y) (xs : List V) (ys : List W) (zs : List Y) (i : ℕ) → map g ys ≡ zs → Correspond (λ x y. R (f x) (g y)) xs (take i ys) → length ys ≤ i →
+    Correspond R (map f xs) zs
+all_related R f g xs ys zs i e c l = subst (λ ls. Correspond R (map f xs) ls) e (views R f g xs ys (correspond_end (λ x y. R (f x) (g y)) xs ys i c l))
+
 -- what follows from each pair
 pub weaker : {X Y : Type 0} (R S : X → Y → Type 0) → ((x : X) (y : Y) → R x y → S x y) → (xs : List X) (ys : List Y) → Correspond R xs ys → Correspond S xs ys
 weaker R S f [] [] h = tt

@@ -1,14 +1,8 @@
 -- What lines that spell a draft name: its numbers, each in its scope.
-use Rattle.std.proofs.Common.{◌≡◌, ◌∙◌, ◌≢◌, ℕ, suc, true, List, [], ◌∷◌, ◌++◌, Option, Some, refl, sym, ap, subst, arith}
-use Rattle.std.specs.Prelude.{ℤ, pos, ◌<ℤ◌, map, slice_get, IsSome}
+use Rattle.std.proofs.Common.{◌≡◌, ◌∙◌, ℕ, suc, true, List, [], ◌∷◌, Option, Some, refl, sym, ap, subst, arith}
+use Rattle.std.specs.Prelude.{map, slice_get, IsSome}
 use Rattle.std.specs.List.{AllByRecursion}
-use Rattle.std.proofs.lemmas.Int.{ints}
-use Rattle.lin_rows.specs.declared.systems.System.{System}
-use Rattle.lin_rows.specs.Rows.{LinearRow}
-use Rattle.lin_rows.specs.Combinations.{Contradicts}
-use Rattle.farkas_check.specs.Nodes as nodes
-use Rattle.farkas_check.specs.Nodes.{PlainNode}
-use Rattle.farkas_check.specs.Refutes.{Goal, Refute, CasesRefute, goal_with_member, with_row, at_most, above, goal_of}
+use Rattle.farkas_check.specs.Refutes.{goal_of}
 use Rattle.letter_acts.specs.Invariant.{Graph, alphabet_of}
 use Rattle.triple_rows.specs.declared.triples.Scoped.{Scoped}
 use Rattle.triple_rows.proofs.ListLaws.{all_mapped, all_at, within, something_at}
@@ -31,35 +25,16 @@ use Rattle.proof_names.specs.Items.{Names, pred_at, place_at}
 use Rattle.proof_names.proofs.PairLaws.{same_at, map_same}
 use Rattle.proof_spell.specs.declared.drafts.Shown.{Shown}
 use Rattle.proof_spell.specs.Correspond.{Correspond}
-use Rattle.proof_spell.specs.Drafts.{PlainShown, Draft, draft, plain, AscendFrom, IsWithin, MayBeShown, MayStand, MayBeSpelled, IsEntryOf, node_place}
+use Rattle.proof_spell.specs.Drafts.{PlainShown, Draft, draft, plain, AscendFrom, MayBeShown, MayStand, MayBeSpelled, IsEntryOf, node_place}
 use Rattle.proof_spell.specs.Nodes.{HasNumbers}
 use Rattle.proof_spell.specs.Spelled.{SpellsPred, SpellsTriple, SpellsNode, SpellsStep, Spells, IsOutlined, Outlines}
 use Rattle.proof_spell.proofs.CorrespondLaws.{viewed, views, paired, at_place, all_pass, counted}
+use Rattle.proof_spell.proofs.RefutationLaws.{have_numbers}
 
 -- ---- a refutation has numbers that a line can spell
 
-not_below : pos 0 <ℤ pos 0 → ⊥
-not_below l = omega (arith, ints)
-
-leaf_has : (rows : List LinearRow) (parts : List (ℕ × ℤ)) → Contradicts rows parts → parts ≢ []
-leaf_has rows [] c = λ e. not_below c.bound_negative
-leaf_has rows (p ∷ ps) c = λ e. absurd (cc)
-
-have_numbers : (columns : ℕ) (ns : List PlainNode) (goals : List Goal) → Refute ns goals → AllByRecursion (IsWithin columns) ns → AllByRecursion HasNumbers ns
-have_numbers columns [] goals r w = tt
-have_numbers columns (n ∷ ns) [] r w = absurd r
-have_numbers columns (nodes.leaf parts ∷ ns) (g ∷ gs) r w = ((leaf_has g.rows parts r.0, w.0), have_numbers columns ns gs r.1 w.1)
-have_numbers columns (nodes.cut c k ∷ ns) (g ∷ gs) r w = (r.0, have_numbers columns ns (with_row g (at_most c k) ∷ with_row g (above c k) ∷ gs) r.2 w.1)
-have_numbers columns (nodes.cases n ∷ ns) (g ∷ gs) r w = by_groups g.groups (λ goals h. have_numbers columns ns goals h w.1) r
-  where
-    by_groups : (groups : List (List System)) → ((goals : List Goal) → Refute ns goals → AllByRecursion HasNumbers ns) → CasesRefute (λ goals. Refute ns (goals ++ gs)) n g.rows groups →
-        AllByRecursion HasNumbers (nodes.cases n ∷ ns)
-    by_groups [] f r = absurd r
-    by_groups (members ∷ groups) f r = (tt, f (map (goal_with_member (record { rows = g.rows; groups = groups })) members ++ gs) r.1)
-
 pub shown_has_numbers : (g : Graph) (preds : List Scoped) (t : PlainShown) → MayBeShown g preds t → AllByRecursion HasNumbers t.proof
-shown_has_numbers g preds t m =
-    have_numbers (width (alphabet_of g) (slice_get g.acts (letter_in t.listed))) t.proof (goal_of m.refuted.system ∷ []) m.refuted.refutes m.within
+shown_has_numbers g preds t m = have_numbers t.proof (goal_of m.refuted.system ∷ []) m.refuted.refutes
 
 -- ---- predicates and places by number
 

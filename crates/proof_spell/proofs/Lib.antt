@@ -1,8 +1,8 @@
-mod NumeralLaws
-mod CorrespondLaws
+pub mod NumeralLaws
+pub mod CorrespondLaws
 mod ShapeLaws
-mod NameLaws
+pub mod NameLaws
 mod AtomLaws
-mod RefutationLaws
+pub mod RefutationLaws
 mod TripleLaws
 mod DraftLaws

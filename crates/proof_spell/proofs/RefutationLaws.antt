@@ -1,12 +1,17 @@
 -- The nodes of refutations: what spells them is of the grammar, names them again, and is one whole tree.
-use Rattle.std.proofs.Common.{◌≡◌, ◌∙◌, ◌≢◌, ℕ, zero, suc, ◌+◌, ◌^◌, ◌<◌, true, List, [], ◌∷◌, Option, None, Some, refl, sym, ap, arith}
-use Rattle.std.specs.Prelude.{ℤ, pos, map, nat_le}
+use Rattle.std.proofs.Common.{◌≡◌, ◌∙◌, ◌≢◌, ℕ, zero, suc, ◌+◌, ◌^◌, ◌<◌, true, List, [], ◌∷◌, ◌++◌, Option, None, Some, refl, sym, ap, arith}
+use Rattle.std.specs.Prelude.{ℤ, pos, ◌<ℤ◌, map, nat_le}
 use Rattle.std.specs.List.{AllByRecursion}
 use Rattle.std.specs.Option.{option_map}
 use Rattle.std.proofs.lemmas.Bool.{le-leb, eqb-true, false≢true}
+use Rattle.std.proofs.lemmas.Int.{ints}
 use Rattle.math_facts.specs.Fits.{Fits}
+use Rattle.lin_rows.specs.declared.systems.System.{System}
+use Rattle.lin_rows.specs.Rows.{LinearRow}
+use Rattle.lin_rows.specs.Combinations.{Contradicts}
 use Rattle.farkas_check.specs.Nodes as nodes
 use Rattle.farkas_check.specs.Nodes.{PlainNode, branches, are_trees}
+use Rattle.farkas_check.specs.Refutes.{Goal, Refute, CasesRefute, goal_with_member, with_row, at_most, above}
 use Rattle.proof_form.specs.declared.numerals.Numeral.{Numeral}
 use Rattle.proof_form.specs.Trees.{tree_count, have_parts}
 use Rattle.proof_form.specs.Refutations as form
@@ -17,7 +22,7 @@ use Rattle.proof_names.specs.Refutations.{part_fits, refutation_is_named, named_
 use Rattle.proof_spell.specs.Correspond.{Correspond}
 use Rattle.proof_spell.specs.Drafts.{IsWithin}
 use Rattle.proof_spell.specs.Spelled.{Writes}
-use Rattle.proof_spell.specs.Nodes.{SpellsPart, SpellsBranch}
+use Rattle.proof_spell.specs.Nodes.{HasNumbers, SpellsPart, SpellsBranch}
 use Rattle.proof_spell.proofs.NumeralLaws.{writes_short, writes_number}
 use Rattle.proof_spell.proofs.CorrespondLaws.{all_pass, all_values}
 
@@ -90,3 +95,25 @@ refutation_fits columns [] [] c h = refl
 refutation_fits columns [] (m ∷ ms) c h = refl
 refutation_fits columns (n ∷ ns) [] c h = absurd c
 refutation_fits columns (n ∷ ns) (m ∷ ms) c h = rw (c.0.fits columns h.0, refutation_fits columns ns ms c.1 h.1) refl
+
+-- ---- a refutation has numbers that can be written
+
+not_below : pos 0 <ℤ pos 0 → ⊥
+not_below l = omega (arith, ints)
+
+leaf_has : (rows : List LinearRow) (parts : List (ℕ × ℤ)) → Contradicts rows parts → parts ≢ []
+leaf_has rows [] c = λ e. not_below c.bound_negative
+leaf_has rows (p ∷ ps) c = λ e. absurd (cc)
+
+-- what refutes has a part in each leaf, and its multipliers and the numbers of its cuts fit
+pub have_numbers : (ns : List PlainNode) (goals : List Goal) → Refute ns goals → AllByRecursion HasNumbers ns
+have_numbers [] goals r = tt
+have_numbers (n ∷ ns) [] r = absurd r
+have_numbers (nodes.leaf parts ∷ ns) (g ∷ gs) r = ((leaf_has g.rows parts r.0, r.0.multipliers_fit), have_numbers ns gs r.1)
+have_numbers (nodes.cut c k ∷ ns) (g ∷ gs) r = (r.0, have_numbers ns (with_row g (at_most c k) ∷ with_row g (above c k) ∷ gs) r.2)
+have_numbers (nodes.cases n ∷ ns) (g ∷ gs) r = by_groups g.groups (λ goals h. have_numbers ns goals h) r
+  where
+    by_groups : (groups : List (List System)) → ((goals : List Goal) → Refute ns goals → AllByRecursion HasNumbers ns) → CasesRefute (λ goals. Refute ns (goals ++ gs)) n g.rows groups →
+        AllByRecursion HasNumbers (nodes.cases n ∷ ns)
+    by_groups [] f r = absurd r
+    by_groups (members ∷ groups) f r = (tt, f (map (goal_with_member (record { rows = g.rows; groups = groups })) members ++ gs) r.1)

@@ -8,14 +8,12 @@ use Rattle.farkas_check.specs.Nodes.{PlainNode}
 use Rattle.farkas_check.specs.Nodes as nodes
 use Rattle.proof_form.specs.declared.numerals.Numeral.{Numeral}
 use Rattle.proof_form.specs.declared.refutations.RNode.{RNode}
-use Rattle.proof_form.specs.declared.lines.StepLine.TheVariants as steps
 use Rattle.proof_form.specs.Numerals.{numeral_is_below}
 use Rattle.proof_form.specs.NumberValues.{value}
 use Rattle.proof_form.specs.Refutations as form
 use Rattle.proof_form.specs.Lines.{ascend, is_named, inside_triple, call_triple, back_triple}
 use Rattle.proof_form.proofs.OrderLaws.{below_by_value}
 use Rattle.proof_names.specs.declared.outlines.Listed.TheVariants.{Inside, Call, Back}
-use Rattle.proof_names.specs.declared.outlines.NamedStep.TheVariants as named
 use Rattle.proof_names.specs.Numbers.{index_in, short_in}
 use Rattle.proof_names.specs.Options.{both}
 use Rattle.proof_spell.specs.Correspond.{Correspond}

@@ -17,8 +17,9 @@ fn mark(column: Column) -> u8
     }
 }
 
-/// The text that names a column.
-pub(crate) fn column_text(alloc: Global, column: &(Column, VarInfo)) -> Result<Text, AllocError>
+/// The text that names a column: `g:`, `o:` or `l:` for a constant or global, an old value or a local, and its name. In a
+/// frame where no two columns are named alike it names this one. An error comes only where memory ran out.
+pub fn column_text(alloc: Global, column: &(Column, VarInfo)) -> Result<Text, AllocError>
     ensures { IfOk result (λ t. t ≡ spec.column_text column.now) }
 {
     let mut text = Vec::new(alloc);

@@ -11,5 +11,8 @@ mod spelling;
 mod steps;
 mod triples;
 
+pub use columns::column_text;
 pub use drafts::Shown;
+pub use numerals::integer;
+pub use refutations::node_lines;
 pub use spelling::spell;

@@ -1,8 +1,9 @@
 //! The numerals of numbers.
 
-ghost use Rattle.std.specs.Prelude.{◌≡◌, pos, IfOk};
+ghost use Rattle.std.specs.Prelude.{◌≡◌, Some, pos, IfOk};
 ghost use Rattle.std.specs.Fmt.{decimal};
 ghost use Rattle.math_facts.specs.Fits.{Fits};
+ghost use Rattle.proof_names.specs.Numbers.{number_in};
 ghost use Rattle.proof_spell.specs.Spelled.{Writes, WritesIndex, WritesShort};
 
 use boogie_tree::Text;
@@ -56,10 +57,11 @@ pub(crate) fn move_numerals(
     Ok((from, letter, to))
 }
 
-/// The numeral of a number.
-pub(crate) fn integer(alloc: Global, number: i128) -> Result<Numeral, AllocError>
+/// The numeral of a number, which is read as the number again. An error comes only where memory ran out.
+pub fn integer(alloc: Global, number: i128) -> Result<Numeral, AllocError>
     requires { Fits number }
-    ensures { IfOk result (λ n. Writes n number) }
+    ensures writes { IfOk result (λ n. Writes n number) }
+    ensures read { IfOk result (λ n. number_in n ≡ Some number) }
 {
     Ok(Numeral {
         negative: number < 0,

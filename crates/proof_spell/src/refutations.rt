@@ -1,10 +1,11 @@
-//! The refutations of triples.
+//! Refutations as they are written.
 
-ghost use Rattle.std.specs.Prelude.{IfOk, IsTrue};
+ghost use Rattle.std.specs.Prelude.{◌≡◌, IfOk, IsTrue, Some, map};
 ghost use Rattle.std.specs.List.{AllByRecursion};
 ghost use Rattle.math_facts.specs.Fits.{Fits};
 ghost use Rattle.farkas_check.specs.Nodes.{plain, is_tree};
 ghost use Rattle.proof_form.specs.Refutations as form;
+ghost use Rattle.proof_names.specs.Refutations.{refutation_of};
 ghost use Rattle.proof_spell.specs.Correspond.{Correspond};
 ghost use Rattle.proof_spell.specs.Nodes.{HasNumbers, SpellsPart, SpellsBranch};
 
@@ -50,11 +51,15 @@ fn node_line(alloc: Global, node: &Node) -> Result<RNode, AllocError>
     }
 }
 
-/// The nodes of a refutation.
-pub(crate) fn node_lines(alloc: Global, refutation: &Refutation) -> Result<Vec<RNode>, AllocError>
+/// The nodes of a refutation as they are written, in its order: those of a refutation in the grammar, which name this one again. Each
+/// leaf must have a part, and each multiplier and each number of a cut must fit, as they do where a system is refuted. An error comes
+/// only where memory ran out.
+pub fn node_lines(alloc: Global, refutation: &Refutation) -> Result<Vec<RNode>, AllocError>
     requires { AllByRecursion HasNumbers refutation.now }
     ensures spells { IfOk result (λ v. Correspond (λ n. SpellsBranch (form.plain_refutation_node n)) v.items refutation.now) }
     ensures whole { IsTrue (is_tree refutation.now) }
+    ensures valid { IfOk result (λ v. IsTrue (form.is_refutation (map form.plain_refutation_node v.items))) }
+    ensures named { IfOk result (λ v. refutation_of (map form.plain_refutation_node v.items) ≡ Some refutation.now) }
 {
     let nodes = refutation.nodes();
     let mut lines = Vec::with_capacity(alloc, nodes.len())?;

@@ -22,7 +22,7 @@ integer-requires c =
 pub returns : goal.returns
 returns c =
     let f : FitsSigned w128 c.bound.result = search rules in
-    let w : Writes c.in_ok-bound.bound c.bound.result = simp to_z-of_z at c.in_ok-bound.ensures in
+    let w : Writes c.in_ok-bound.bound c.bound.result = simp to_z-of_z at c.in_ok-bound.ensures.writes in
     atom_spelled c.args.frame.now c.in_ok-bound.bound c.in_ok-terms.terms.items c.args.row.now c.terms.ensures.valid c.requires.atom
     (subst (Writes c.in_ok-bound.bound) c.bound.ensures w)
     (subst (λ l. Correspond (SpellsTerm c.args.frame.now) c.in_ok-terms.terms.items l) c.terms.ensures.value c.in_ok-terms.ensures)

@@ -9,4 +9,4 @@ returns c =
     let l : c.args.term.0 < 2 ^ 32 = search rules in
     let f : FitsSigned w128 c.args.term.1 = search rules in
     term_spelled c.args.frame.now c.in_ok-coefficient.coefficient c.in_ok-column.column c.args.term c.index-frame-term.result c.requires.readable c.requires.within l
-    (simp to_z-of_z at c.in_ok-coefficient.ensures) c.index-frame-term.is c.in_ok-column.ensures
+    (simp to_z-of_z at c.in_ok-coefficient.ensures.writes) c.index-frame-term.is c.in_ok-column.ensures

@@ -1,11 +1,13 @@
 use Rattle.std.proofs.Common.{List, subst, sym}
+use Rattle.std.specs.Prelude.{map}
 use Rattle.std.specs.List.{AllByRecursion}
 use Rattle.triple_rows.proofs.ListLaws.{all_mapped}
 use Rattle.farkas_check.specs.Nodes.{plain, PlainNode}
 use Rattle.proof_form.specs.Refutations as form
 use Rattle.proof_spell.specs.Correspond.{Correspond}
 use Rattle.proof_spell.specs.Nodes.{HasNumbers, SpellsBranch}
-use Rattle.proof_spell.proofs.CorrespondLaws.{correspond_more, correspond_end, all_got, right_viewed}
+use Rattle.proof_spell.proofs.CorrespondLaws.{correspond_more, correspond_end, all_got, right_viewed, all_related}
+use Rattle.proof_spell.proofs.RefutationLaws.{refutation_valid, refutation_named}
 use Rattle.proof_spell.proofs.refutations.node_lines.Goals as goal
 
 pub node_line-requires : goal.node_line-requires
@@ -24,3 +26,15 @@ returns-clause-spells c =
     subst (λ (l : List PlainNode). Correspond (λ n. SpellsBranch (form.plain_refutation_node n)) c.loop-node.lines.items l) c.nodes-nodes.ensures.value
     (right_viewed (λ n. SpellsBranch (form.plain_refutation_node n)) plain c.loop-node.lines.items c.nodes-nodes.result.now
     (correspond_end (λ n m. SpellsBranch (form.plain_refutation_node n) (plain m)) c.loop-node.lines.items c.nodes-nodes.result.now c.loop-node.node-index c.loop-node.invariant c.loop-node-test.false))
+
+pub returns-clause-valid : goal.returns-clause-valid
+returns-clause-valid c =
+    refutation_valid (map form.plain_refutation_node c.loop-node.lines.items) c.args.refutation.now
+    (all_related SpellsBranch form.plain_refutation_node plain c.loop-node.lines.items c.nodes-nodes.result.now c.args.refutation.now c.loop-node.node-index c.nodes-nodes.ensures.value c.loop-node.invariant
+    c.loop-node-test.false) c.nodes-nodes.ensures.whole
+
+pub returns-clause-named : goal.returns-clause-named
+returns-clause-named c =
+    refutation_named (map form.plain_refutation_node c.loop-node.lines.items) c.args.refutation.now
+    (all_related SpellsBranch form.plain_refutation_node plain c.loop-node.lines.items c.nodes-nodes.result.now c.args.refutation.now c.loop-node.node-index c.nodes-nodes.ensures.value c.loop-node.invariant
+    c.loop-node-test.false)
