@@ -78,64 +78,77 @@ fn avoiding(alloc: Global, nwa: &Nwa, state: u32, letter: Letter) -> Result<Nwa,
     Ok(left)
 }
 
-/// A word of the automaton, with the automaton; `None` where it accepts none.
-fn with_word(alloc: Global, left: Nwa, worker: u32) -> Result<Option<(Word, Nwa)>, AllocError> {
-    match find(alloc, &left, worker)? {
-        Found::Word(word) => Ok(Some((word, left))),
-        Found::Empty => Ok(None),
-    }
-}
-
-/// A word of the automaton that goes another way than the given one at a fork, and what is left of the automaton without that fork;
-/// `None` where there is none.
-fn other_word(
+/// What is left of an automaton without one of the forks on the way of a word; `None` where there is no fork. `seed` varies which.
+fn without_fork(
     alloc: Global,
     nwa: &Nwa,
     word: &Word,
-    worker: u32,
     seed: u64,
-) -> Result<Option<(Word, Nwa)>, AllocError> {
+) -> Result<Option<Nwa>, AllocError> {
     let Some((state, letter)) = fork(alloc, nwa, word, seed)? else {
         return Ok(None);
     };
     match avoiding(alloc, nwa, state, letter) {
-        Ok(left) => with_word(alloc, left, worker),
+        Ok(left) => Ok(Some(left)),
         Err(NwaFault::Memory) => Err(AllocError),
         Err(NwaFault::BadState | NwaFault::BadLetter) => Ok(None),
     }
 }
 
-/// Replaces a word of the automaton by one that goes another way at a fork, and the automaton by what is left of it without that fork.
-/// Whether there is such a fork.
-fn leave_once(
-    alloc: Global,
-    way: &mut (Word, Nwa),
-    worker: u32,
-    seed: u64,
-) -> Result<bool, AllocError> {
-    match other_word(alloc, &way.1, &way.0, worker, seed)? {
-        Some(other) => {
-            *way = other;
-            Ok(true)
-        }
-        None => Ok(false),
+/// A word of the automaton; `None` where it accepts none.
+fn word_in(alloc: Global, nwa: &Nwa, worker: u32) -> Result<Option<Word>, AllocError> {
+    match find(alloc, nwa, worker)? {
+        Found::Word(word) => Ok(Some(word)),
+        Found::Empty => Ok(None),
     }
 }
 
-/// The same at further forks, as many as the number of the worker says, where there are so many.
-fn leave_more(
+/// A word of the automaton that goes another way than the given one at a fork, which is taken from the automaton; `None` where there is
+/// none.
+fn leave_once(
     alloc: Global,
-    way: &mut (Word, Nwa),
+    left: &mut Nwa,
+    word: &Word,
     worker: u32,
     seed: u64,
-) -> Result<(), AllocError> {
+) -> Result<Option<Word>, AllocError> {
+    let Some(less) = without_fork(alloc, left, word, seed)? else {
+        return Ok(None);
+    };
+    *left = less;
+    word_in(alloc, left, worker)
+}
+
+/// The word, or one that goes another way at further forks, as many as the number of the worker says, where there are so many.
+fn leave_more(
+    alloc: Global,
+    left: &mut Nwa,
+    word: Word,
+    worker: u32,
+    seed: u64,
+) -> Result<Word, AllocError> {
+    let mut word = word;
     for more in 1..worker.min(MOST_FORKS) {
         let seed = seed.wrapping_add(u64::from(more).wrapping_mul(5));
-        if !leave_once(alloc, way, worker, seed)? {
-            break;
+        match leave_once(alloc, left, &word, worker, seed)? {
+            Some(other) => word = other,
+            None => break,
         }
     }
-    Ok(())
+    Ok(word)
+}
+
+/// A word of what is left of an automaton without a fork, which leaves further forks; `None` where it accepts none.
+fn leave(
+    alloc: Global,
+    left: &mut Nwa,
+    worker: u32,
+    seed: u64,
+) -> Result<Option<Word>, AllocError> {
+    match word_in(alloc, left, worker)? {
+        Some(word) => Ok(Some(leave_more(alloc, left, word, worker, seed)?)),
+        None => Ok(None),
+    }
 }
 
 /// A word that goes other ways than the given one, at as many forks as the number of the worker says, where there are so many; `None`
@@ -151,9 +164,8 @@ pub(crate) fn deviating(
         return Ok(None);
     }
     let seed = version.wrapping_add(u64::from(worker)).wrapping_mul(7);
-    let Some(mut way) = other_word(alloc, kept, word, worker, seed)? else {
-        return Ok(None);
-    };
-    leave_more(alloc, &mut way, worker, seed)?;
-    Ok(Some(way.0))
+    match without_fork(alloc, kept, word, seed)? {
+        Some(mut left) => leave(alloc, &mut left, worker, seed),
+        None => Ok(None),
+    }
 }

@@ -65,15 +65,22 @@ fn add_backs(icfg: &Icfg, nwa: &Nwa, exact: &mut Nwa) -> Result<(), NwaFault>
     Ok(())
 }
 
+/// Adds the final states of an automaton, and those of its edges that are by no coarse letter.
+fn add_exact(icfg: &Icfg, nwa: &Nwa, exact: &mut Nwa) -> Result<(), NwaFault>
+    ensures { OnOk result (exact.new ≡ record exact.old { finals = exact.old.finals ++ nwa.now.finals; insides = exact.old.insides ++ exact_edges icfg.now nwa.now.insides; calls = exact.old.calls ++ exact_edges icfg.now nwa.now.calls; backs = exact.old.backs ++ exact_backs icfg.now nwa.now.backs }) }
+{
+    add_finals(nwa, exact)?;
+    add_insides(icfg, nwa, exact)?;
+    add_calls(icfg, nwa, exact)?;
+    add_backs(icfg, nwa, exact)
+}
+
 /// The automaton without its edges by coarse letters.
 fn without_coarse(alloc: Global, icfg: &Icfg, nwa: &Nwa) -> Result<Nwa, NwaFault>
     ensures { IfOk result (λ m. m ≡ exact_part icfg.now nwa.now) }
 {
     let mut exact = empty(alloc, nwa.states(), nwa.start())?;
-    add_finals(nwa, &mut exact)?;
-    add_insides(icfg, nwa, &mut exact)?;
-    add_calls(icfg, nwa, &mut exact)?;
-    add_backs(icfg, nwa, &mut exact)?;
+    add_exact(icfg, nwa, &mut exact)?;
     Ok(exact)
 }
 

@@ -77,6 +77,27 @@ fn automaton_chosen<R: Threads + Sync>(
     automaton_under(rt, alloc, icfg, path, &first)
 }
 
+/// The automaton under the refutation that is chosen, else under the one that was found.
+fn automaton_found<R: Threads + Sync>(
+    rt: &R,
+    alloc: Global,
+    icfg: &Icfg,
+    path: &PathSystem,
+    refutation: &Refutation,
+    depth: u32,
+    choice: Choice,
+) -> Result<Option<Certified>, AllocError>
+    requires path { IsPathOf icfg.now path.now }
+    requires refutation { IsRefutation icfg.now depth path.now.word refutation.now }
+    requires depth { depth ≤ 64 }
+    ensures { IfOk result (λ o. IfSome o (IsEvidence icfg.now path.now.word)) }
+{
+    match automaton_chosen(rt, alloc, icfg, path, refutation, depth, choice)? {
+        Some(automaton) => Ok(Some(automaton)),
+        None => automaton_under(rt, alloc, icfg, path, refutation),
+    }
+}
+
 /// The automaton under the refutation that is chosen, else under the one that was found, else under Decide's own, else why there is
 /// none.
 pub(crate) fn refine<R: Threads + Sync>(
@@ -94,10 +115,7 @@ pub(crate) fn refine<R: Threads + Sync>(
     ensures { (t : TypedProgram) → icfg.now ≡ lowered t → IfOk result (λ r. (n : ℕ) → IsRefined t limits n path.now.word r) }
 {
     let depth = limits.depth;
-    if let Some(automaton) = automaton_chosen(rt, alloc, icfg, path, refutation, depth, choice)? {
-        return Ok(Refined::Evidence(automaton));
-    }
-    if let Some(automaton) = automaton_under(rt, alloc, icfg, path, refutation)? {
+    if let Some(automaton) = automaton_found(rt, alloc, icfg, path, refutation, depth, choice)? {
         return Ok(Refined::Evidence(automaton));
     }
     match plain_path(alloc, path, depth) {

@@ -12,7 +12,7 @@ ghost use Rattle.typing_rules.specs.TypedParts.{typed_program};
 ghost use Rattle.lowered_graph.specs.Lowered.{lowered};
 ghost use Rattle.path_rows.specs.Paths.{IsPathOf};
 ghost use Rattle.path_decide.specs.Decided.{IsRefutation};
-ghost use Rattle.race_rounds.specs.Rounds.{SettlesWord, SettlesKept, settled_by_products, AllAreCoarse, rounds_with_others};
+ghost use Rattle.race_rounds.specs.Rounds.{SettlesWord, SettlesKept, ends_by_products, settled_by_products, AllAreCoarse, rounds_with_others};
 
 use crate::exact::exact_word;
 use crate::failing::failing;
@@ -43,12 +43,12 @@ pub enum Settled {
 }
 
 /// Whether nothing is known of a word for its products.
-fn settled_by_products(settled: &Settled) -> bool
-    ensures { result ≡ settled_by_products settled.now }
+fn ends_by_products(end: &End) -> bool
+    ensures { result ≡ ends_by_products end.now }
 {
-    match settled {
-        Settled::Ended(End::Unknown { cause, .. }) => is_by_products(*cause),
-        Settled::Ended(End::Safe | End::Unsafe { .. }) | Settled::Removed(_) => false,
+    match end {
+        End::Unknown { cause, .. } => is_by_products(*cause),
+        End::Safe | End::Unsafe { .. } => false,
     }
 }
 
@@ -75,16 +75,40 @@ pub fn settle_kept<R: Threads + Sync>(
     ensures settles { IfOk result (SettlesKept (typed_program program.now) limits round.version kept.now) }
     ensures products { IfOk result (λ s. settled_by_products s ≡ true → round.version < rounds_with_others → AllAreCoarse icfg.now kept.now) }
 {
-    let settled = settle(rt, alloc, program, icfg, limits, round, word)?;
-    if round.version >= ROUNDS_WITH_OTHERS {
-        return Ok(settled);
+    match settle(rt, alloc, program, icfg, limits, round, word)? {
+        Settled::Removed(entry) => Ok(Settled::Removed(entry)),
+        Settled::Ended(end) => settle_end(rt, alloc, program, icfg, limits, round, kept, end),
     }
-    if !settled_by_products(&settled) {
-        return Ok(settled);
+}
+
+/// The end, or, in the first rounds, where nothing is known of its word for its products, what is made of a word without coarse letters, where there
+/// is one.
+fn settle_end<R: Threads + Sync>(
+    rt: &R,
+    alloc: Global,
+    program: &Typed,
+    icfg: &Icfg,
+    limits: Limits,
+    round: Round,
+    kept: &Nwa,
+    end: End,
+) -> Result<Settled, AllocError>
+    requires lowered { icfg.now ≡ lowered (typed_program program.now) }
+    requires words { (w : List Letter) → Accepts kept.now w → Accepts icfg.now.automaton w }
+    requires settles { SettlesKept (typed_program program.now) limits round.version kept.now (Settled.Ended end) }
+    requires depth { limits.depth ≤ 64 }
+    ensures settles { IfOk result (SettlesKept (typed_program program.now) limits round.version kept.now) }
+    ensures products { IfOk result (λ s. settled_by_products s ≡ true → round.version < rounds_with_others → AllAreCoarse icfg.now kept.now) }
+{
+    if round.version >= ROUNDS_WITH_OTHERS {
+        return Ok(Settled::Ended(end));
+    }
+    if !ends_by_products(&end) {
+        return Ok(Settled::Ended(end));
     }
     match exact_word(alloc, icfg, kept, round.worker)? {
         Found::Word(exact) => settle(rt, alloc, program, icfg, limits, round, exact),
-        Found::Empty => Ok(settled),
+        Found::Empty => Ok(Settled::Ended(end)),
     }
 }
 

@@ -11,26 +11,18 @@ use Rattle.race_rounds.proofs.NoPoints.{no_point}
 use Rattle.race_rounds.proofs.Says.{predicates_pass}
 use Rattle.race_rounds.proofs.refining.refine.Goals as goal
 
-pub automaton_under-requires-clause-cuts : goal.automaton_under-requires-clause-cuts
-automaton_under-requires-clause-cuts g c κs within = few_cuts c.args.limits.depth c.args.refutation.now c.requires.depth c.requires.refutation.tree
-
 pub returns-in-Some : goal.returns-in-Some
 returns-in-Some g c = λ t e n. subst (λ (x : Graph). IsEvidence x c.args.path.now.word c.in-Some.automaton) e
     (subst (λ (x : Option Certificate). IfSome x (IsEvidence c.args.icfg.now c.args.path.now.word)) c.in-Some.is c.in_ok-automaton.ensures)
 
-pub automaton_under-requires-in-Ok-Refuted-clause-cuts :
-    goal.automaton_under-requires-in-Ok-Refuted-clause-cuts
-automaton_under-requires-in-Ok-Refuted-clause-cuts g c κs within =
+pub automaton_under-requires-clause-cuts : goal.automaton_under-requires-clause-cuts
+automaton_under-requires-clause-cuts g c κs within =
     let found = subst (λ (a : Answer). IsAnswer c.args.icfg.now c.args.limits.depth c.args.path.now.word (Ok a)) c.in-Ok-Refuted.field-0-is (c.in-Ok-Refuted.ensures.answer c.args.icfg.now c.requires.path) in
     few_cuts c.args.limits.depth c.in-Ok-Refuted.own c.requires.depth found.tree
 
 pub returns-in-Some-2 : goal.returns-in-Some-2
 returns-in-Some-2 g c = λ t e n. subst (λ (x : Graph). IsEvidence x c.args.path.now.word c.in-Some-2.automaton) e
-    (subst (λ (x : Option Certificate). IfSome x (IsEvidence c.args.icfg.now c.args.path.now.word)) c.in-Some-2.is c.in_ok-automaton-2.ensures.evidence)
-
-pub returns-in-Some-3 : goal.returns-in-Some-3
-returns-in-Some-3 g c = λ t e n. subst (λ (x : Graph). IsEvidence x c.args.path.now.word c.in-Some-3.automaton) e
-    (subst (λ (x : Option Certificate). IfSome x (IsEvidence c.args.icfg.now c.args.path.now.word)) c.in-Some-3.is c.in_ok-automaton-in-Ok-Refuted.ensures.evidence)
+    (subst (λ (x : Option Certificate). IfSome x (IsEvidence c.args.icfg.now c.args.path.now.word)) c.in-Some-2.is c.in_ok-automaton-in-Ok-Refuted.ensures.evidence)
 
 pub returns-in-Ok-Refuted : goal.returns-in-Ok-Refuted
 returns-in-Ok-Refuted g c = λ t e n.
