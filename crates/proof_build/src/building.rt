@@ -22,14 +22,13 @@ use crate::needs::needed_by;
 use crate::spots::{named_nodes, named_steps};
 use crate::triples::triples_of;
 use crate::unions::union_of;
-use itp_automaton::Certified;
+use itp_automaton::{Certified, Predicates};
 use letter_acts::Icfg;
 use nwa_base::Nwa;
 use proof_form::Annotation;
 use proof_spell::{Shown, spell};
 use proof_unwind::{Unwound, by_place, unwind};
 use std::alloc::{AllocError, Global};
-use triple_rows::Scoped;
 
 /// The graph unwound by the union of the automata, its nodes in the order of their places.
 fn unwound_by(alloc: Global, icfg: &Icfg, union: &Nwa) -> Result<Unwound, AllocError>
@@ -45,7 +44,7 @@ fn unwound_by(alloc: Global, icfg: &Icfg, union: &Nwa) -> Result<Unwound, AllocE
 fn spelled(
     alloc: Global,
     icfg: &Icfg,
-    preds: &[Scoped],
+    preds: &Predicates,
     triples: &[Shown<'_>],
     unwound: &Unwound,
 ) -> Result<Annotation, AllocError>
@@ -55,7 +54,7 @@ fn spelled(
 {
     let nodes = named_nodes(alloc, &unwound.nodes)?;
     let steps = named_steps(alloc, &unwound.steps)?;
-    spell(alloc, icfg, preds, triples, &nodes, &steps)
+    spell(alloc, icfg, preds.as_slice(), triples, &nodes, &steps)
 }
 
 /// The annotation that the automata make, which `check` accepts. Its nodes are reached from the first one, and their places ascend; each triple
@@ -80,7 +79,7 @@ fn over_preds(
     alloc: Global,
     icfg: &Icfg,
     automata: &[&Certified],
-    preds: &[Scoped],
+    preds: &Predicates,
 ) -> Result<Annotation, AllocError>
     requires certified { AllByRecursion (IsCertified (alphabet_of icfg.now)) (map (λ c. c.now) automata.now) }
     requires covering { AreCovering icfg.now.automaton (map (λ c. c.now.automaton) automata.now) }
@@ -104,7 +103,7 @@ fn over_union(
     alloc: Global,
     icfg: &Icfg,
     automata: &[&Certified],
-    preds: &[Scoped],
+    preds: &Predicates,
     union: &Nwa,
 ) -> Result<Annotation, AllocError>
     requires certified { AllByRecursion (IsCertified (alphabet_of icfg.now)) (map (λ c. c.now) automata.now) }
@@ -130,7 +129,7 @@ fn over_nodes(
     alloc: Global,
     icfg: &Icfg,
     automata: &[&Certified],
-    preds: &[Scoped],
+    preds: &Predicates,
     union: &Nwa,
     unwound: &Unwound,
 ) -> Result<Annotation, AllocError>

@@ -12,7 +12,7 @@ ghost use Rattle.itp_automaton.specs.Making.{named_in};
 ghost use Rattle.proof_build.specs.Numbering.{HasBody, AreListed, IsNumbered, AreNumbered, AreAllNumbered, ListsMore};
 
 use crate::numbers::number_of;
-use itp_automaton::Certified;
+use itp_automaton::{Certified, Predicates};
 use letter_acts::Icfg;
 use std::alloc::{AllocError, Global};
 use triple_rows::{Proof, Scoped, Triple};
@@ -25,11 +25,11 @@ fn has_body(icfg: &Icfg, proc: u32) -> bool
 }
 
 /// Lists a predicate of a procedure with a body, unless it has a number.
-fn list_pred(icfg: &Icfg, preds: &mut Vec<Scoped>, scoped: &Scoped) -> Result<(), AllocError>
-    requires listed { AreListed icfg.now preds.old.items }
+fn list_pred(icfg: &Icfg, preds: &mut Predicates, scoped: &Scoped) -> Result<(), AllocError>
+    requires listed { AreListed icfg.now preds.old }
     requires over { IsOver (length (frame_of (alphabet_of icfg.now) scoped.now.proc)) (formula_of scoped.now.pred) }
-    ensures more { OnOk result (ListsMore icfg.now preds.old.items preds.new.items) }
-    ensures numbered { OnOk result (IsNumbered icfg.now preds.new.items scoped.now) }
+    ensures more { OnOk result (ListsMore icfg.now preds.old preds.new) }
+    ensures numbered { OnOk result (IsNumbered icfg.now preds.new scoped.now) }
 {
     if number_of(preds, scoped)?.is_none() && has_body(icfg, scoped.proc) {
         preds.push(scoped.copy()?)?;
@@ -38,11 +38,11 @@ fn list_pred(icfg: &Icfg, preds: &mut Vec<Scoped>, scoped: &Scoped) -> Result<()
 }
 
 /// Lists the predicates of a triple that agrees with its letter.
-fn list_triple(icfg: &Icfg, preds: &mut Vec<Scoped>, triple: &Triple) -> Result<(), AllocError>
-    requires listed { AreListed icfg.now preds.old.items }
+fn list_triple(icfg: &Icfg, preds: &mut Predicates, triple: &Triple) -> Result<(), AllocError>
+    requires listed { AreListed icfg.now preds.old }
     requires agrees { Agrees (alphabet_of icfg.now) triple.now }
-    ensures more { OnOk result (ListsMore icfg.now preds.old.items preds.new.items) }
-    ensures numbered { OnOk result (AllByRecursion (IsNumbered icfg.now preds.new.items) (named_in triple.now)) }
+    ensures more { OnOk result (ListsMore icfg.now preds.old preds.new) }
+    ensures numbered { OnOk result (AllByRecursion (IsNumbered icfg.now preds.new) (named_in triple.now)) }
 {
     match triple {
         Triple::Inside { from, to, .. } => {
@@ -67,11 +67,11 @@ fn list_triple(icfg: &Icfg, preds: &mut Vec<Scoped>, triple: &Triple) -> Result<
 }
 
 /// Lists the predicates of proofs.
-fn list_proofs(icfg: &Icfg, preds: &mut Vec<Scoped>, proofs: &[Proof]) -> Result<(), AllocError>
-    requires listed { AreListed icfg.now preds.old.items }
+fn list_proofs(icfg: &Icfg, preds: &mut Predicates, proofs: &[Proof]) -> Result<(), AllocError>
+    requires listed { AreListed icfg.now preds.old }
     requires proofs { AllByRecursion (IsProofFor (alphabet_of icfg.now)) proofs.now }
-    ensures more { OnOk result (ListsMore icfg.now preds.old.items preds.new.items) }
-    ensures numbered { OnOk result (AreNumbered icfg.now preds.new.items proofs.now) }
+    ensures more { OnOk result (ListsMore icfg.now preds.old preds.new) }
+    ensures numbered { OnOk result (AreNumbered icfg.now preds.new proofs.now) }
 {
     for proof in proofs {
         list_triple(icfg, preds, proof.triple())?;
@@ -84,13 +84,13 @@ pub(crate) fn listed_preds(
     alloc: Global,
     icfg: &Icfg,
     automata: &[&Certified],
-) -> Result<Vec<Scoped>, AllocError>
+) -> Result<Predicates, AllocError>
     requires { AllByRecursion (IsCertified (alphabet_of icfg.now)) (map (λ c. c.now) automata.now) }
-    ensures listed { IfOk result (λ v. AreListed icfg.now v.items) }
-    ensures numbered { IfOk result (λ v. AreAllNumbered icfg.now v.items (map (λ c. c.now) automata.now)) }
-    ensures none { IfOk result (λ v. automata.now ≡ [] → v.items ≡ []) }
+    ensures listed { IfOk result (AreListed icfg.now) }
+    ensures numbered { IfOk result (λ v. AreAllNumbered icfg.now v (map (λ c. c.now) automata.now)) }
+    ensures none { IfOk result (λ v. automata.now ≡ [] → v ≡ []) }
 {
-    let mut preds = Vec::new(alloc);
+    let mut preds = Predicates::new(alloc);
     for automaton in automata {
         list_proofs(icfg, &mut preds, automaton.proofs())?;
     }

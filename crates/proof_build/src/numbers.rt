@@ -5,7 +5,7 @@ ghost use Rattle.triple_rows.specs.declared.predicates.PredNode.TheVariants.{Tru
 ghost use Rattle.triple_rows.specs.Predicates.{truth, formula_of};
 ghost use Rattle.proof_build.specs.Numbering.{IsNumber, truth_number, AreNumbers, number_at};
 
-use itp_automaton::state_of;
+use itp_automaton::Predicates;
 use std::alloc::{AllocError, Global};
 use triple_rows::{Pred, PredNode, Scoped};
 
@@ -21,7 +21,7 @@ fn number_of_truth(pred: &Pred) -> Option<u32>
 }
 
 /// The number of a predicate, if it has one. No memory is left for it only where 32 bits do not count the predicates.
-pub(crate) fn number_of(preds: &[Scoped], scoped: &Scoped) -> Result<Option<u32>, AllocError>
+pub(crate) fn number_of(preds: &Predicates, scoped: &Scoped) -> Result<Option<u32>, AllocError>
     ensures number { IfOk result (IsNumber preds.now scoped.now) }
     ensures truths { IfOk result (λ o. (b : Bool) → formula_of scoped.now.pred ≡ truth b → o ≡ Some (truth_number b)) }
     ensures many { OnErr result (2 ^ 32 < 2 + length preds.now) }
@@ -29,7 +29,7 @@ pub(crate) fn number_of(preds: &[Scoped], scoped: &Scoped) -> Result<Option<u32>
     if let Some(number) = number_of_truth(&scoped.pred) {
         return Ok(Some(number));
     }
-    let Some(index) = state_of(preds, scoped) else {
+    let Some(index) = preds.place_of(scoped) else {
         return Ok(None);
     };
     match u32::try_from(index) {
@@ -41,7 +41,7 @@ pub(crate) fn number_of(preds: &[Scoped], scoped: &Scoped) -> Result<Option<u32>
 /// The number of each state, if it has one.
 pub(crate) fn numbers_of(
     alloc: Global,
-    preds: &[Scoped],
+    preds: &Predicates,
     states: &[Scoped],
 ) -> Result<Vec<Option<u32>>, AllocError>
     ensures numbers { IfOk result (λ v. AreNumbers preds.now states.now (number_at v.items)) }

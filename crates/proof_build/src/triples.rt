@@ -7,7 +7,7 @@ ghost use Rattle.proof_build.specs.Listing.{AreItsNumbers, IsFirst, AreNumbersOf
 
 use crate::noted::Noted;
 use crate::numbers::number_of;
-use itp_automaton::Certified;
+use itp_automaton::{Certified, Predicates};
 use proof_names::Listed;
 use proof_spell::Shown;
 use std::alloc::{AllocError, Global};
@@ -15,7 +15,7 @@ use triple_rows::{Proof, Scoped, Triple};
 
 /// The numbers of an inside triple, if its predicates have numbers.
 fn listed_inside(
-    preds: &[Scoped],
+    preds: &Predicates,
     from: &Scoped,
     letter: u32,
     to: &Scoped,
@@ -34,7 +34,7 @@ fn listed_inside(
 
 /// The numbers of a call triple, if its predicates have numbers.
 fn listed_call(
-    preds: &[Scoped],
+    preds: &Predicates,
     from: &Scoped,
     letter: u32,
     to: &Scoped,
@@ -53,7 +53,7 @@ fn listed_call(
 
 /// The numbers of a return triple, if its predicates have numbers.
 fn listed_back(
-    preds: &[Scoped],
+    preds: &Predicates,
     exit: &Scoped,
     before: &Scoped,
     letter: u32,
@@ -76,7 +76,7 @@ fn listed_back(
 }
 
 /// The numbers of a triple, if its predicates have numbers.
-fn listed(preds: &[Scoped], triple: &Triple) -> Result<Option<Listed>, AllocError>
+fn listed(preds: &Predicates, triple: &Triple) -> Result<Option<Listed>, AllocError>
     ensures { IfOk result (AreItsNumbers preds.now triple.now) }
 {
     match triple {
@@ -103,7 +103,7 @@ fn is_first(needed: &Noted, seen: &mut Noted, listed: Listed) -> Result<bool, Al
 
 /// The triples and that of the proof with its refutation, if it is needed and not there yet.
 fn with_proof<'a>(
-    preds: &[Scoped],
+    preds: &Predicates,
     needed: &Noted,
     seen: &mut Noted,
     mut triples: Vec<Shown<'a>>,
@@ -128,7 +128,7 @@ fn with_proof<'a>(
 
 /// The triples and those of the proofs that are needed and not there yet, each with its refutation.
 fn with_proofs<'a>(
-    preds: &[Scoped],
+    preds: &Predicates,
     needed: &Noted,
     seen: &mut Noted,
     mut triples: Vec<Shown<'a>>,
@@ -147,7 +147,7 @@ fn with_proofs<'a>(
 /// The triples of the proofs that are needed, each once.
 pub(crate) fn triples_of<'a>(
     alloc: Global,
-    preds: &[Scoped],
+    preds: &Predicates,
     needed: &Noted,
     automata: &[&'a Certified],
 ) -> Result<Vec<Shown<'a>>, AllocError>

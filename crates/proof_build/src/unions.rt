@@ -7,10 +7,9 @@ ghost use Rattle.proof_build.specs.Numbering.{number_at};
 ghost use Rattle.proof_build.specs.Unions.{numbered, numbered_back, with_edges, IsUnionOf};
 
 use crate::numbers::{at, numbers_of};
-use itp_automaton::Certified;
+use itp_automaton::{Certified, Predicates};
 use nwa_base::{Letter, Nwa, NwaFault, empty};
 use std::alloc::{AllocError, Global};
-use triple_rows::Scoped;
 
 /// What an automaton answers where its states are there and each letter has its kind.
 fn added<T: Drop>(answer: Result<T, NwaFault>) -> Result<T, AllocError>
@@ -111,11 +110,11 @@ fn add_edges(union: &mut Nwa, numbers: &[Option<u32>], automaton: &Nwa) -> Resul
 }
 
 /// The states for so many listed predicates, true and false: it starts with true, and false is final.
-fn begun(alloc: Global, preds: &[Scoped]) -> Result<Nwa, AllocError>
+fn begun(alloc: Global, preds: &Predicates) -> Result<Nwa, AllocError>
     ensures union { IfOk result (IsUnionOf preds.now []) }
     ensures states { IfOk result (λ u. u.states ≡ 2 + length preds.now) }
 {
-    let states = match u32::try_from(preds.len()) {
+    let states = match u32::try_from(preds.as_slice().len()) {
         Ok(count) if count < u32::MAX - 1 => count + 2,
         _ => return Err(AllocError),
     };
@@ -127,7 +126,7 @@ fn begun(alloc: Global, preds: &[Scoped]) -> Result<Nwa, AllocError>
 /// The union of the automata, with the edges between states that have numbers.
 pub(crate) fn union_of(
     alloc: Global,
-    preds: &[Scoped],
+    preds: &Predicates,
     automata: &[&Certified],
 ) -> Result<Nwa, AllocError>
     ensures { IfOk result (IsUnionOf preds.now (map (λ c. c.now) automata.now)) }
@@ -140,7 +139,7 @@ pub(crate) fn union_of(
 /// Adds the edges of the automata between states that have numbers.
 fn add_automata(
     alloc: Global,
-    preds: &[Scoped],
+    preds: &Predicates,
     automata: &[&Certified],
     union: &mut Nwa,
 ) -> Result<(), AllocError>

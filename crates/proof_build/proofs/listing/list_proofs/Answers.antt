@@ -16,13 +16,13 @@ list_triple-requires-clause-agrees c =
     (all_at (IsProofFor (alphabet_of c.args.icfg.now)) c.args.proofs.now c.loop-proof.proof-index c.proof-item.result c.loop-proof-test.true c.proof-item.is c.requires.proofs).agrees
 
 pub loop-proof-init : goal.loop-proof-init
-loop-proof-init c = record { more = no_more c.args.icfg.now c.args.preds.now.items c.requires.listed; numbered = tt }
+loop-proof-init c = record { more = no_more c.args.icfg.now c.args.preds.now c.requires.listed; numbered = tt }
 
 pub loop-proof-preserved : goal.loop-proof-preserved
 loop-proof-preserved c = record {
-  more = more_on c.args.icfg.now c.args.preds.now.items c.loop-proof.preds.items c.list_triple.new.preds.items c.loop-proof.invariant.more c.in_ok-list_triple.ensures.more;
-  numbered = all_next (λ p. AllByRecursion (IsNumbered c.args.icfg.now c.list_triple.new.preds.items) (named_in p.triple)) c.args.proofs.now c.loop-proof.proof-index c.proof-item.result
+  more = more_on c.args.icfg.now c.args.preds.now c.loop-proof.preds c.list_triple.new.preds c.loop-proof.invariant.more c.in_ok-list_triple.ensures.more;
+  numbered = all_next (λ p. AllByRecursion (IsNumbered c.args.icfg.now c.list_triple.new.preds) (named_in p.triple)) c.args.proofs.now c.loop-proof.proof-index c.proof-item.result
       c.loop-proof-test.true c.proof-item.is
-      (proofs_stay c.args.icfg.now c.loop-proof.preds.items c.list_triple.new.preds.items (take c.loop-proof.proof-index c.args.proofs.now) c.in_ok-list_triple.ensures.more c.loop-proof.invariant.numbered)
-      (subst (λ (t : Triple). AllByRecursion (IsNumbered c.args.icfg.now c.list_triple.new.preds.items) (named_in t)) c.triple.ensures.value c.in_ok-list_triple.ensures.numbered);
+      (proofs_stay c.args.icfg.now c.loop-proof.preds c.list_triple.new.preds (take c.loop-proof.proof-index c.args.proofs.now) c.in_ok-list_triple.ensures.more c.loop-proof.invariant.numbered)
+      (subst (λ (t : Triple). AllByRecursion (IsNumbered c.args.icfg.now c.list_triple.new.preds) (named_in t)) c.triple.ensures.value c.in_ok-list_triple.ensures.numbered);
 }

@@ -18,17 +18,17 @@ list_proofs-requires-clause-proofs c =
 pub loop-automaton-preserved : goal.loop-automaton-preserved
 loop-automaton-preserved c = record {
   listed = c.in_ok-list_proofs.ensures.more.listed;
-  numbered = subst (λ (cs : List Certificate). AreAllNumbered c.args.icfg.now c.list_proofs.new.preds.items cs)
+  numbered = subst (λ (cs : List Certificate). AreAllNumbered c.args.icfg.now c.list_proofs.new.preds cs)
       (sym (images_next (λ (r : Bor Certificate). r.now) c.args.automata.now c.loop-automaton.automaton-index c.automaton-item.result c.automaton-item.result c.loop-automaton-test.true c.automaton-item.is))
-      (all_push (λ (d : Certificate). AreNumbered c.args.icfg.now c.list_proofs.new.preds.items d.proofs)
+      (all_push (λ (d : Certificate). AreNumbered c.args.icfg.now c.list_proofs.new.preds d.proofs)
       (map (λ (r : Bor Certificate). r.now) (take c.loop-automaton.automaton-index c.args.automata.now)) c.automaton-item.result.now
-      (certificates_stay c.args.icfg.now c.loop-automaton.preds.items c.list_proofs.new.preds.items (map (λ (r : Bor Certificate). r.now) (take c.loop-automaton.automaton-index c.args.automata.now))
+      (certificates_stay c.args.icfg.now c.loop-automaton.preds c.list_proofs.new.preds (map (λ (r : Bor Certificate). r.now) (take c.loop-automaton.automaton-index c.args.automata.now))
       c.in_ok-list_proofs.ensures.more c.loop-automaton.invariant.numbered)
-      (subst (λ (ps : List PlainProof). AreNumbered c.args.icfg.now c.list_proofs.new.preds.items ps) c.proofs.ensures.value c.in_ok-list_proofs.ensures.numbered));
+      (subst (λ (ps : List PlainProof). AreNumbered c.args.icfg.now c.list_proofs.new.preds ps) c.proofs.ensures.value c.in_ok-list_proofs.ensures.numbered));
   none = λ e. let k : length c.args.automata.now ≡ 0 = ap length e in absurd (omega (arith, k, c.loop-automaton-test.true));
 }
 
 pub returns-clause-numbered : goal.returns-clause-numbered
 returns-clause-numbered c =
-    subst (λ (cs : List Certificate). AreAllNumbered c.args.icfg.now c.loop-automaton.preds.items cs)
+    subst (λ (cs : List Certificate). AreAllNumbered c.args.icfg.now c.loop-automaton.preds cs)
     (images_end (λ (r : Bor Certificate). r.now) c.args.automata.now c.loop-automaton.automaton-index c.loop-automaton-test.false) c.loop-automaton.invariant.numbered

@@ -5,7 +5,7 @@ use Rattle.proof_build.proofs.listing.listed_preds.Given as goal
 
 abbrev pub invariant-loop-automaton : goal.invariant-loop-automaton
 invariant-loop-automaton l = record {
-  listed : AreListed l.icfg l.preds.items;
-  numbered : AreAllNumbered l.icfg l.preds.items (map (λ c. c.now) (take l.automaton-index l.automata));
-  none : l.automata ≡ [] → l.preds.items ≡ [];
+  listed : AreListed l.icfg l.preds;
+  numbered : AreAllNumbered l.icfg l.preds (map (λ c. c.now) (take l.automaton-index l.automata));
+  none : l.automata ≡ [] → l.preds ≡ [];
 }
