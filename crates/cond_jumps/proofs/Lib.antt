@@ -28,4 +28,5 @@ mod ShapeFaults
 mod ListTurns
 mod TotalTurns
 mod SumFaults
+mod ComparedAnswers
 pub mod AssignAnswers

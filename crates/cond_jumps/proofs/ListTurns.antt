@@ -19,13 +19,6 @@ mapped_turn f xs i x done new whole y l h e k w =
     (λ j. e j ++ map f (drop (i + 1) xs)) ∙ append_assoc done (y ∷ []) (map f (drop (i + 1) xs)) ∙ (λ j. done ++ k j ∷ map f (drop (i + 1) xs))
     ∙ sym (ap (λ us. done ++ map f us) (dropped xs i x l h)) ∙ w
 
--- one member more is copied
-pub copied_turn : {X : Type 0} (xs : List X) (i : ℕ) (x y : X) (done new whole : List X) → i < length xs → x ≡ get_or xs i x → new ≡ done ++ y ∷ [] → y ≡ x →
-    done ++ drop i xs ≡ whole → new ++ drop (i + 1) xs ≡ whole
-copied_turn xs i x y done new whole l h e k w =
-    (λ j. e j ++ drop (i + 1) xs) ∙ append_assoc done (y ∷ []) (drop (i + 1) xs) ∙ (λ j. done ++ k j ∷ drop (i + 1) xs)
-    ∙ sym (ap (λ us. done ++ us) (dropped xs i x l h)) ∙ w
-
 -- a conjunction is joined to one more of a list
 pub joined_turn : (c : Conjunction) (w : ℕ) (xs : List Conj) (i : ℕ) (x y : Conj) (done new : List Conj) (whole : List Conjunction) → i < length xs → x ≡ get_or xs i x →
     new ≡ done ++ y ∷ [] → conjunction y ≡ joined c (moved w c.helpers (conjunction x)) →

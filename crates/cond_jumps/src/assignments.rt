@@ -2,46 +2,28 @@
 
 ghost use Rattle.std.specs.Prelude.{◌≡◌, ◌+◌, ◌≤◌, ◌<◌, ℕ, true, false, IfOk, IsOk, Err, length, map};
 ghost use Rattle.typed_tree.specs.TypedView.{expression};
-ghost use Rattle.cond_jumps.specs.Conjunctions.{Just, is_wide, all_fit};
-ghost use Rattle.cond_jumps.specs.Comparisons.{compared, equal};
+ghost use Rattle.cond_jumps.specs.Conjunctions.{Plan, Just, With, is_wide, all_fit};
+ghost use Rattle.cond_jumps.specs.Comparisons.{truth_of_column};
 ghost use Rattle.cond_jumps.specs.Conjs.{conjunctions};
-ghost use Rattle.cond_jumps.specs.Forms.{column};
 ghost use Rattle.cond_jumps.specs.Frames.{frame_environment};
-ghost use Rattle.cond_jumps.specs.ListView.{IsPlanAnswer};
+ghost use Rattle.cond_jumps.specs.ListView.{IsPlanList, IsPlanAnswer};
 ghost use Rattle.cond_jumps.specs.Lists.{assign_plan, assign_width, assign_list};
 ghost use Rattle.cond_jumps.specs.Paths.{is_truth, paths, linear, gets, assigns};
 ghost use Rattle.cond_jumps.specs.WidthView.{IsWidthAnswer};
 
-use crate::comparisons::{always, compared, named};
+use crate::comparisons::{always, named};
 use crate::conj::Conj;
+use crate::equations::equation;
 use crate::fault::JumpFault;
 use crate::joining::with;
-use crate::linear::linear;
 use crate::lists::{is_truth, lists};
 use crate::refusal::Refusal;
-use crate::sums::{Sum, joined, later};
+use crate::sums::{joined, later};
 use crate::widths::{width_then, width_with, widths};
 use boogie_tree::Column;
 use letter_acts::Frame;
-use lin_rows::RowKind;
 use std::alloc::Global;
 use typed_tree::TExpr;
-
-/// The list of a column that gets the value of a whole-number expression.
-fn sum_list(
-    alloc: Global,
-    frame: &Frame,
-    value: &TExpr,
-    target: u32,
-    base: u32,
-) -> Result<Vec<Conj>, Refusal>
-    ensures { IsPlanAnswer (Just (compared equal (column target)
-        (linear (frame_environment frame.now.columns.items) false (expression value.now)))) base result }
-{
-    let a = Sum::column(alloc, target)?;
-    let b = linear(alloc, frame, false, value, later(base, a.helpers)?)?;
-    compared(alloc, RowKind::Eq, 0, a, b)
-}
 
 /// The list of a column that gets the truth value of a condition.
 fn truth_list(
@@ -58,11 +40,24 @@ fn truth_list(
         (linear (frame_environment frame.now.columns.items) false (expression value.now)) target) base result }
 {
     let made = lists(alloc, frame, false, value, true, true, base)?;
-    let one = named(alloc, target, true)?;
-    let zero = named(alloc, target, false)?;
-    let hit = with(alloc, base, made.wanted.as_slice(), one.as_slice())?;
-    let miss = with(alloc, base, made.other.as_slice(), zero.as_slice())?;
+    let hit = with_truth(alloc, &made.wanted, target, true, base)?;
+    let miss = with_truth(alloc, &made.other, target, false, base)?;
     Ok(joined(hit, miss)?)
+}
+
+/// A list, and in each of its conjunctions that the target has the truth value.
+fn with_truth(
+    alloc: Global,
+    list: &Vec<Conj>,
+    target: u32,
+    want: bool,
+    base: u32,
+) -> Result<Vec<Conj>, Refusal>
+    requires { target < base }
+    ensures { (p : Plan) → IsPlanList p base list.now → IsPlanAnswer (With p (Just (truth_of_column target want))) base result }
+{
+    let truth = named(alloc, target, want)?;
+    Ok(with(alloc, base, list.as_slice(), truth.as_slice())?)
 }
 
 /// The list of a column that gets the value of an expression.
@@ -82,7 +77,7 @@ fn gets_list(
     if is_truth(frame, false, value)? {
         truth_list(alloc, frame, value, target, base)
     } else {
-        sum_list(alloc, frame, value, target, base)
+        equation(alloc, frame, target, value, base)
     }
 }
 

@@ -56,7 +56,7 @@ fn only(list: Vec<Conj>) -> Conj
 }
 
 /// The list of a column that has the value of a whole-number expression.
-fn equation(
+pub(crate) fn equation(
     alloc: Global,
     frame: &Frame,
     number: u32,

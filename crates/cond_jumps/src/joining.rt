@@ -1,6 +1,6 @@
 //! One list of conjunctions with another: each of one joined to each of the other, whose helpers are moved behind.
 
-ghost use Rattle.std.specs.Prelude.{◌≡◌, IfOk, ◌∷◌, ◌++◌, map};
+ghost use Rattle.std.specs.Prelude.{◌≡◌, IfOk, OnOk, ◌∷◌, ◌++◌, map};
 ghost use Rattle.lin_rows.specs.Rows.{LinearRow};
 ghost use Rattle.cond_jumps.specs.Conjunctions.{joined};
 ghost use Rattle.cond_jumps.specs.Conjs.{conjunction, conjunctions};
@@ -10,7 +10,7 @@ ghost use Rattle.cond_jumps.specs.Moving.{moved_column, moved_terms, moved_row, 
 use crate::conj::Conj;
 use crate::sums;
 use crate::sums::later;
-use lin_rows::{Row, RowFault, row};
+use lin_rows::{Row, RowFault, copied_rows, row};
 use std::alloc::{AllocError, Global};
 
 /// The number of a column, `by` more from the column `base` on.
@@ -53,45 +53,53 @@ fn moved_row(alloc: Global, base: u32, by: u32, given: &Row) -> Result<Row, Allo
     }
 }
 
+/// Puts rows with their columns moved behind others.
+fn add_moved(
+    alloc: Global,
+    base: u32,
+    by: u32,
+    rows: &mut Vec<Row>,
+    others: &[Row],
+) -> Result<(), AllocError>
+    ensures { OnOk result (rows.new.items ≡ rows.old.items ++ map (moved_row base by) others.now) }
+{
+    for other in others {
+        rows.push(moved_row(alloc, base, by, other)?)?;
+    }
+    Ok(())
+}
+
 /// The rows of the first, and behind them those of the second, moved behind the helpers of the first.
 fn joined(alloc: Global, base: u32, first: &Conj, second: &Conj) -> Result<Conj, AllocError>
     ensures { IfOk result (λ c. conjunction c ≡ joined (conjunction first.now) (moved base first.now.helpers (conjunction second.now))) }
 {
     let helpers = later(first.helpers, second.helpers)?;
-    let mut rows = copied(alloc, first.rows.as_slice())?;
-    for given in &second.rows {
-        rows.push(moved_row(alloc, base, first.helpers, given)?)?;
-    }
+    let mut rows = copied_rows(alloc, first.rows.as_slice())?;
+    add_moved(
+        alloc,
+        base,
+        first.helpers,
+        &mut rows,
+        second.rows.as_slice(),
+    )?;
     Ok(Conj { rows, helpers })
 }
 
-/// Equal rows.
-fn copied(alloc: Global, rows: &[Row]) -> Result<Vec<Row>, AllocError>
-    ensures { IfOk result (λ copies. copies.items ≡ rows.now) }
-{
-    let mut copies = Vec::with_capacity(alloc, rows.len())?;
-    for given in rows {
-        copies.push(given.copy()?)?;
-    }
-    Ok(copies)
-}
-
-/// The list, and behind it the conjunction joined to each of the second.
+/// Puts the conjunction joined to each of the second behind the list.
 fn with_each(
     alloc: Global,
     base: u32,
-    list: Vec<Conj>,
+    list: &mut Vec<Conj>,
     first: &Conj,
     second: &[Conj],
-) -> Result<Vec<Conj>, AllocError>
-    ensures { IfOk result (λ cs. conjunctions cs.items ≡
-        conjunctions list.items ++ map (joined (conjunction first.now)) (map (moved base first.now.helpers) (conjunctions second.now))) }
+) -> Result<(), AllocError>
+    ensures { OnOk result (conjunctions list.new.items ≡
+        conjunctions list.old.items ++ map (joined (conjunction first.now)) (map (moved base first.now.helpers) (conjunctions second.now))) }
 {
-    let mut list = list;
     for conj in second {
         list.push(joined(alloc, base, first, conj)?)?;
     }
-    Ok(list)
+    Ok(())
 }
 
 /// Each of the first list joined to each of the second, the first outermost.
@@ -105,7 +113,7 @@ pub fn with(
 {
     let mut list = Vec::with_capacity(alloc, first.len())?;
     for conj in first {
-        list = with_each(alloc, base, list, conj, second)?;
+        with_each(alloc, base, &mut list, conj, second)?;
     }
     Ok(list)
 }
@@ -126,7 +134,7 @@ fn joined_behind(alloc: Global, first: &Conj, second: Conj) -> Result<Conj, Allo
     ensures { IfOk result (λ c. conjunction c ≡ joined (conjunction first.now) (conjunction second)) }
 {
     let helpers = later(first.helpers, second.helpers)?;
-    let rows = copied(alloc, first.rows.as_slice())?;
+    let rows = copied_rows(alloc, first.rows.as_slice())?;
     Ok(Conj {
         rows: sums::joined(rows, second.rows)?,
         helpers,

@@ -1,13 +1,15 @@
 //! The sums of whole-number expressions.
 
 ghost use Rattle.std.specs.Prelude.{◌≡◌, true, IfOk, pos, neg_ℤ, unsigned_abs};
+ghost use Rattle.boogie_tree.specs.declared.span.Span.{Span};
+ghost use Rattle.typed_tree.specs.TypedTree.{Bin};
 ghost use Rattle.typed_tree.specs.TypedView.{expression};
 ghost use Rattle.typed_tree.specs.AffineForm.{divisor_of, read_at};
 ghost use Rattle.cond_jumps.specs.CodeView.{IsDivisorFound, combination, is_combination, is_division};
 ghost use Rattle.cond_jumps.specs.Frames.{frame_environment, column_place_in, linear_at};
 ghost use Rattle.cond_jumps.specs.Forms.{linear_number};
 ghost use Rattle.cond_jumps.specs.LongView.{long};
-ghost use Rattle.cond_jumps.specs.Paths.{constant_of, linear};
+ghost use Rattle.cond_jumps.specs.Paths.{constant_of, constant_operation, linear};
 ghost use Rattle.cond_jumps.specs.SumView.{sum_of, IsSumAnswer, IsBoxedAnswer, IsPartAnswer};
 
 use crate::columns::place;
@@ -30,13 +32,25 @@ fn constant(alloc: Global, expr: &TExpr) -> Result<Long, AllocError>
         TExprKind::Bin(op, left, right) => {
             let first = constant(alloc, left)?;
             let second = constant(alloc, right)?;
-            match op {
-                Op::Add => Long::plus(alloc, &first, &second),
-                Op::Sub => Long::minus(alloc, &first, &second),
-                Op::Mul => Long::times(alloc, &second, &first),
-                _ => Long::new(alloc, 0),
-            }
+            constant_operation(alloc, *op, &first, &second)
         }
+        _ => Long::new(alloc, 0),
+    }
+}
+
+/// The constant that an operation makes of those of its operands.
+fn constant_operation(
+    alloc: Global,
+    op: Op,
+    first: &Long,
+    second: &Long,
+) -> Result<Long, AllocError>
+    ensures { IfOk result (λ l. long l ≡ constant_operation op (long first.now) (long second.now)) }
+{
+    match op {
+        Op::Add => Long::plus(alloc, first, second),
+        Op::Sub => Long::minus(alloc, first, second),
+        Op::Mul => Long::times(alloc, second, first),
         _ => Long::new(alloc, 0),
     }
 }
@@ -214,6 +228,7 @@ pub fn linear(
 }
 
 /// The same sum on the heap, since this recurses as deep as expressions are nested, and a sum is large.
+#[cycle(linear)]
 fn boxed_linear(
     alloc: Global,
     frame: &Frame,
@@ -242,13 +257,30 @@ fn boxed_linear(
             if !is_division(*op) {
                 return number(alloc, 0);
             }
-            match divisor(alloc, right)? {
-                None => number(alloc, 0),
-                Some(k) => {
-                    let x = boxed_linear(alloc, frame, old, left, next)?;
-                    part_of(alloc, *op, &k, x, next)
-                }
-            }
+            division(alloc, frame, old, *op, left, right, next)
+        }
+    }
+}
+
+/// An expression divided by a literal, or what remains; 0 where the divisor is no literal.
+#[cycle(linear)]
+fn division(
+    alloc: Global,
+    frame: &Frame,
+    old: bool,
+    op: Op,
+    left: &TExpr,
+    right: &TExpr,
+    next: u32,
+) -> Result<Box<Sum>, Refusal>
+    requires { is_division op ≡ true }
+    ensures { (at : Span) → IsBoxedAnswer (linear (frame_environment frame.now.columns.items) old (Bin at op (expression left.now) (expression right.now)) next) result }
+{
+    match divisor(alloc, right)? {
+        None => number(alloc, 0),
+        Some(k) => {
+            let x = boxed_linear(alloc, frame, old, left, next)?;
+            part_of(alloc, op, &k, x, next)
         }
     }
 }

@@ -97,13 +97,13 @@ fn alike_lists(
     alloc: Global,
     base: u32,
     both: bool,
-    a: Lists,
-    b: Lists,
+    a: &Lists,
+    b: &Lists,
 ) -> Result<Lists, AllocError>
-    ensures { (p s q r : Plan) → IsEvenPlan base q → IsEvenPlan base r → ArePlanLists p s base a → ArePlanLists q r base b →
+    ensures { (p s q r : Plan) → IsEvenPlan base q → IsEvenPlan base r → ArePlanLists p s base a.now → ArePlanLists q r base b.now →
         IfOk result (ArePlanLists (crossed p s q r) (asked both (crossed p s r q)) base) }
 {
-    let wanted = crossed(alloc, base, &a, b.wanted.as_slice(), b.other.as_slice())?;
+    let wanted = crossed(alloc, base, a, b.wanted.as_slice(), b.other.as_slice())?;
     if !both {
         return Ok(Lists {
             wanted,
@@ -112,7 +112,7 @@ fn alike_lists(
     }
     Ok(Lists {
         wanted,
-        other: crossed(alloc, base, &a, b.other.as_slice(), b.wanted.as_slice())?,
+        other: crossed(alloc, base, a, b.other.as_slice(), b.wanted.as_slice())?,
     })
 }
 
@@ -136,7 +136,7 @@ pub fn together(
     match shape {
         Shape::Both(_, _) => both_lists(alloc, base, both, a, b),
         Shape::Over(_, _) => over_lists(alloc, base, both, a, b),
-        Shape::Alike(_) => alike_lists(alloc, base, both, a, b),
+        Shape::Alike(_) => alike_lists(alloc, base, both, &a, &b),
         Shape::Sums => unreachable!(),
     }
 }

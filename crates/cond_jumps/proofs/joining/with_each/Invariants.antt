@@ -7,4 +7,4 @@ use Rattle.cond_jumps.proofs.joining.with_each.Given as goal
 abbrev pub invariant-loop-conj : goal.invariant-loop-conj
 invariant-loop-conj l =
     conjunctions l.list.items ++ map (joined (conjunction l.first)) (map (moved l.base l.first.helpers) (conjunctions (drop l.conj-index l.second))) ≡
-    conjunctions l.initial.list.items ++ map (joined (conjunction l.first)) (map (moved l.base l.first.helpers) (conjunctions l.second))
+    conjunctions l.fn.list.items ++ map (joined (conjunction l.first)) (map (moved l.base l.first.helpers) (conjunctions l.second))
