@@ -19,6 +19,7 @@ pub use boogie_run::{AssertId, Choice};
 pub use causes::{ReplayCause, ReplayFault};
 pub use choosing::{choices_of, other_choices_of};
 pub use failure::{Failure, FailureFault, Trail};
+pub use numerals::number_of;
 pub use reading::read_failure;
 pub use replaying::replay;
 pub use writing::write_failure;

@@ -41,8 +41,8 @@ fn digit_count(bytes: &[u8]) -> usize
     bytes.iter().take_while(|b| b.is_ascii_digit()).count()
 }
 
-/// The number that the digits are, where they are its one spelling.
-fn number_of(digits: &[u8]) -> Option<u128>
+/// The number that the digits are, where they are its one spelling and it has 128 bits.
+pub fn number_of(digits: &[u8]) -> Option<u128>
     requires { AllByRecursion (λ d. is_digit d ≡ true) digits.now }
     ensures { MatchOption result ((n : ℕ) → n < 2 ^ 128 → digits.now ≢ decimal n) (λ n. (n < 2 ^ 128) × (digits.now ≡ decimal n)) }
 {
