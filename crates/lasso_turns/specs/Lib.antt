@@ -1,0 +1,4 @@
+pub mod Turns
+pub mod Stages
+pub mod Made
+pub mod Claims
