@@ -1,0 +1,9 @@
+pub mod DenominatorLaws
+pub mod TighteningLaws
+pub mod LeafLaws
+pub mod SystemLaws
+pub mod SystemFits
+pub mod MakingLaws
+pub mod TakenLaws
+pub mod RankAtLaws
+pub mod PointLaws

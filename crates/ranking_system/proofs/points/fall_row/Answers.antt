@@ -1,0 +1,20 @@
+use Rattle.std.proofs.Common.{◌++◌, ◌-ℤ◌, pos, length, get_or, FitsSigned, refl, rules}
+use Rattle.std.specs.Int.{w128}
+use Rattle.std.proofs.lemmas.Int.{to_z-of_z}
+use Rattle.math_facts.specs.Terms.{opposite}
+use Rattle.lin_rows.proofs.PointLemmas.{IsBelow_at}
+use Rattle.lasso_turns.specs.Claims.{at_versions}
+use Rattle.ranking_system.proofs.TakenLaws.{falls_next, fits_at, negated_is_kept}
+use Rattle.ranking_system.proofs.points.fall_row.Goals as goal
+
+pub bounds-after-column : goal.bounds-after-column
+bounds-after-column c = IsBelow_at (length c.args.after.now) c.args.terms.now c.loop-column.column-index (0, pos 0) c.loop-column-test.true c.requires.within
+
+pub loop-column-preserved : goal.loop-column-preserved
+loop-column-preserved c =
+    let f : FitsSigned w128 (get_or c.args.terms.now c.loop-column.column-index (0, pos 0)).1 = search rules in
+    let g : FitsSigned w128 (pos 0 -ℤ (get_or c.args.terms.now c.loop-column.column-index (0, pos 0)).1) = negated_is_kept (get_or c.args.terms.now c.loop-column.column-index (0, pos 0)).1
+    (fits_at c.args.terms.now (opposite (at_versions c.args.after.now c.args.terms.now)) c.loop-column.column-index (0, pos 0) c.requires.fits.each c.loop-column-test.true) in
+    falls_next c.args.after.now c.args.terms.now c.loop-column.column-index c.loop-column.given.items c.push.new.self.items
+    (c.args.terms.now ++ opposite (at_versions c.args.after.now c.args.terms.now)) _ _ c.loop-column-test.true c.loop-column.invariant
+    (simp to_z-of_z at c.in_ok-push.ensures.items) refl refl

@@ -1,0 +1,2 @@
+pub mod RankingSystem
+pub mod Scaled
