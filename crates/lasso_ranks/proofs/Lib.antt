@@ -1,0 +1,5 @@
+pub mod WalkSets
+pub mod RankLaws
+pub mod CheckLaws
+pub mod SearchLaws
+mod Examples
