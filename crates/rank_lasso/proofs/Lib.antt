@@ -1,10 +1,14 @@
-pub mod WalkSets
-pub mod WalkLaws
-pub mod TurnLaws
-pub mod KeptLaws
-pub mod RankLaws
-pub mod DenominatorLaws
-pub mod TighteningLaws
-pub mod LeafLaws
-pub mod SystemLaws
+mod Cuts
+mod Items
+mod Contents
+mod LetterLaws
+mod TermLaws
+mod TreeLaws
+mod LineLaws
+mod FaultLaws
+mod KindLaws
+mod AscendLaws
+mod NamingLaws
+mod WritingLaws
+pub mod OneText
 mod Examples

@@ -1,7 +1,7 @@
-pub mod Turns
-pub mod Lassos
-pub mod Walks
-pub mod Stages
-pub mod Ranks
-pub mod RankingSystem
-pub mod Outcomes
+pub mod LassoText
+pub mod RankingText
+pub mod Naming
+pub mod Lines
+pub mod Forms
+pub mod Writing
+pub mod Faults

@@ -1,12 +1,21 @@
-//! Ranking functions for lassos: a lasso of a program is a list of letters from its start and a loop behind it. A linear rank that
-//! each turn of the loop lowers, and that is bounded before each, shows that no run goes through the loop for ever.
+//! Ranking functions for lassos: their texts, read and written, and, from `lasso_ranks`, the search for one and the check.
 #![tactic(auto)]
 
-mod lassos;
+mod cutting;
+mod forms;
+mod lasso_reading;
 pub mod laws;
-mod placing;
-mod rankings;
+mod letters;
+mod lines;
+mod naming;
+mod numerals;
+mod ranking_lines;
+mod ranking_reading;
+mod ranking_writing;
+mod terms;
+mod trees;
 
-pub use lassos::{Lasso, LassoFault};
-pub use placing::placed;
-pub use rankings::{Ranked, Ranking};
+pub use lasso_ranks::{Lasso, LassoFault, Ranked, Ranking, check_rank, placed, rank};
+pub use lasso_reading::read_lasso;
+pub use ranking_reading::read_ranking;
+pub use ranking_writing::write_ranking;

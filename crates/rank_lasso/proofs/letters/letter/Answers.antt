@@ -1,0 +1,14 @@
+use Rattle.std.proofs.Common.{sym}
+use Rattle.boogie_tree.specs.Names.{is_digit}
+use Rattle.proof_form.proofs.ListLaws.{each_passes}
+use Rattle.rank_lasso.proofs.LetterLaws.{not_digits, letter_of}
+use Rattle.rank_lasso.proofs.letters.letter.Goals as goal
+
+pub returns-then-not-all_digits : goal.returns-then-not-all_digits
+returns-then-not-all_digits c = not_digits c.args.word.now (sym c.if-not-all_digits.ensures)
+
+pub number_of-requires : goal.number_of-requires
+number_of-requires c = each_passes is_digit c.args.word.now (sym c.if-not-all_digits.ensures)
+
+pub returns : goal.returns
+returns c = letter_of c.args.word.now c.in_ok-number_of.field-0 c.try_from.result c.ok.result c.try_from.ensures c.ok.ensures.value c.in_ok-number_of.ensures

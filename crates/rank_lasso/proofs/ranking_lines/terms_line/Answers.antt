@@ -1,0 +1,16 @@
+use Rattle.std.proofs.Common.{refl}
+use Rattle.std.specs.List.{flat_map}
+use Rattle.proof_form.specs.Predicates.{term_text}
+use Rattle.rank_lasso.specs.Lines.{AreTerms, rank_kind}
+use Rattle.rank_lasso.proofs.LineLaws.{no_line, other_content, unread}
+use Rattle.rank_lasso.proofs.ranking_lines.terms_line.Goals as goal
+
+pub returns-in_default-clause-fault : goal.returns-in_default-clause-fault
+returns-in_default-clause-fault c = (refl, no_line rank_kind c.args.text.now c.in_default.ensures)
+
+pub returns-in_default-2-clause-fault : goal.returns-in_default-2-clause-fault
+returns-in_default-2-clause-fault c = (
+  refl,
+  other_content rank_kind c.args.text.now c.in-Some.content.now c.in-Some.rest.now c.in-Some.ensures.0 c.in-Some.ensures.1
+      (unread (λ v. v.items) AreTerms (flat_map term_text) c.in-Some.content.now c.in_ok-terms.field-0 c.in_default-2.is c.in_ok-terms.ensures),
+)
