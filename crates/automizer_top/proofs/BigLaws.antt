@@ -28,7 +28,7 @@ use Rattle.automizer_top.specs.declared.reporting.Halt.{Halt}
 use Rattle.automizer_top.specs.declared.words.Mode.{Mode}
 use Rattle.automizer_top.specs.declared.words.Mode.TheVariants as modes
 use Rattle.automizer_top.specs.declared.words.Options as read
-use Rattle.automizer_top.specs.CommandLine.{Task, Check, Replay, Print, Verify, Big, Settings}
+use Rattle.automizer_top.specs.CommandLine.{Check, Replay, Print, Verify, Big, Lasso, Ranked, Settings}
 use Rattle.automizer_top.specs.Answers.{answered, Asks, IsGraphOf, HasNoErrorWord, VerdictProves, CheckedIsSafe, VerifiedIsSafe, BuiltIsSafe}
 use Rattle.automizer_top.specs.Asked.{settings}
 use Rattle.automizer_top.specs.ReportTexts.{Answer, verdict_answer, summary_answer}
@@ -129,6 +129,8 @@ not_big words (modes.Check program second) o s count ask big = only_one words (s
 not_big words (modes.Replay program second) o s count ask big = only_one words (settings o) s (Replay program.now second.now) (Big count) ask big (λ (e : 1 ≡ 4). omega arith)
 not_big words (modes.Print program) o s count ask big = only_one words (settings o) s (Print program.now) (Big count) ask big (λ (e : 2 ≡ 4). omega arith)
 not_big words (modes.Verify program) o s count ask big = only_one words (settings o) s (Verify program.now) (Big count) ask big (λ (e : 3 ≡ 4). omega arith)
+not_big words (modes.Lasso program second) o s count ask big = only_one words (settings o) s (Lasso program.now second.now) (Big count) ask big (λ (e : 5 ≡ 4). omega arith)
+not_big words (modes.Ranked program second) o s count ask big = only_one words (settings o) s (Ranked program.now second.now) (Big count) ask big (λ (e : 6 ≡ 4). omega arith)
 
 pub unbuilt : (words : List (List ℕ)) (mode : Mode) (o : read.Options) (r : Result code.Answer Halt) → Asks words mode o →
     IfOk r (λ a. (answered a).status ≡ 0 → BuiltIsSafe words)

@@ -2,7 +2,7 @@
 use Rattle.std.proofs.Common.{◌≡◌, ◌<◌, ℕ, arith}
 use Rattle.race_verdicts.specs.declared.verdicts.Verdict.TheVariants as verdicts
 use Rattle.automizer_top.specs.declared.answer.Answer as code
-use Rattle.automizer_top.specs.declared.answer.Answer.TheVariants.{Usage, TooLong, Refused, IllTyped, TooWide, TooBig, Free, Printed, Syntax, Accepted, Rejected, Replayed, Stopped, Decided, PartsDecided, PartDecided}
+use Rattle.automizer_top.specs.declared.answer.Answer.TheVariants.{Usage, TooLong, Refused, IllTyped, TooWide, TooBig, Free, Printed, Syntax, Accepted, Rejected, Replayed, Stopped, Ranking, NoRanking, NoNumber, Decided, PartsDecided, PartDecided}
 use Rattle.automizer_top.specs.Answers.{answered}
 
 below_five : (a : code.Answer) → (answered a).status < 5
@@ -19,6 +19,9 @@ below_five Accepted = omega arith
 below_five (Rejected line cause) = omega arith
 below_five (Replayed id) = omega arith
 below_five (Stopped step cause) = omega arith
+below_five (Ranking text) = omega arith
+below_five NoRanking = omega arith
+below_five NoNumber = omega arith
 below_five (Decided text (verdicts.Safe coarse annotation) race) = omega arith
 below_five (Decided text (verdicts.Unsafe failure) race) = omega arith
 below_five (Decided text (verdicts.Unknown cause word) race) = omega arith

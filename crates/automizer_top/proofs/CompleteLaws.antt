@@ -15,14 +15,14 @@ use Rattle.race_core.specs.Races.{Race}
 use Rattle.itp_automaton.specs.Certified.{Certificate, IsFeasibleFor}
 use Rattle.race_rounds.specs.declared.limits.Limits.{Limits}
 use Rattle.race_rounds.specs.Ends.{EndMeets, no_word, one_word}
-use Rattle.race_rounds.specs.Rounds.{automaton_in, IsRaceOf}
+use Rattle.race_rounds.specs.Rounds.{automaton_in}
 use Rattle.race_completeness.specs.Words.{HasWordsAmong}
 use Rattle.race_completeness.specs.Laws.{RoundsAreEnough}
 use Rattle.race_verdicts.specs.declared.verdicts.Verdict.{Verdict}
 use Rattle.race_verdicts.specs.declared.verdicts.Verdict.TheVariants.{Safe, Unsafe, Unknown}
 use Rattle.race_verdicts.specs.Verdicts.{IsVerdict}
 use Rattle.race_verdicts.specs.Texts.{verdict_text, unknown_text}
-use Rattle.automizer_top.specs.ReportTexts.{Answer, verdict_answer}
+use Rattle.automizer_top.specs.ReportTexts.{Answer}
 use Rattle.automizer_top.specs.Report.{ReportsVerdict}
 use Rattle.automizer_top.specs.Completeness.{HasDifferenceRows, SaysUnknown}
 

@@ -23,13 +23,14 @@ use Rattle.race_verdicts.specs.declared.verdicts.Verdict.{Verdict}
 use Rattle.race_verdicts.specs.declared.verdicts.Verdict.TheVariants.{Safe, Unsafe, Unknown}
 use Rattle.race_verdicts.specs.Verdicts.{IsVerdict, IsFailureOf}
 use Rattle.automizer_top.specs.ReportTexts.{Answer, accepted_answer, replayed_answer, verdict_answer}
-use Rattle.automizer_top.specs.Report.{second_limit, Ask, IsTypedText, refused, of_typed, unlowered, of_lowered, second_too_long, of_second, IsSafeText, ReportsProof, of_annotation, accepted, IsFailureText, replayed, ReportsVerdict, ReportsCheck, ReportsReplay, ReportsVerify, ReportsCheckBy, ReportsReplayBy, ReportsVerifyBy, Reports, usage, printing, checking, replaying, verifying, generating}
+use Rattle.automizer_top.specs.Report.{second_limit, Ask, IsTypedText, refused, of_typed, unlowered, of_lowered, second_too_long, of_second, IsSafeText, ReportsProof, of_annotation, accepted, IsFailureText, replayed, ReportsVerdict, ReportsCheck, ReportsReplay, ReportsVerify, ReportsCheckBy, ReportsReplayBy, ReportsVerifyBy, Reports, checking, replaying}
 use Rattle.automizer_top.specs.Earlier.{no_earlier, of_earlier, ReportsVerifyWith}
 use Rattle.automizer_top.specs.ReportClaims.{IsVerdictOn, RefusesEarlier, IsHandedOver}
 use Rattle.automizer_top.proofs.RefusalLaws.{typed_is_three, lowering_is_three}
-use Rattle.automizer_top.specs.CommandLine.{Check, Replay, Print, Verify, Big, Settings}
-use Rattle.automizer_top.proofs.RequestLaws.{program_of, same_task, same_settings, only_one, nothing_asked, rounds_fit}
-use Rattle.automizer_top.proofs.ReportUnique.{AreOne, report_once}
+use Rattle.automizer_top.specs.CommandLine.{Check, Replay, Verify, Settings}
+use Rattle.automizer_top.proofs.RequestLaws.{rounds_fit}
+use Rattle.automizer_top.proofs.TaskLaws.{task_reported}
+use Rattle.automizer_top.proofs.ReportUnique.{AreOne, report_once, one_of_task}
 
 abbrev pub Texts : Type 0
 Texts = List (List ℕ × List ℕ)
@@ -90,16 +91,9 @@ whole_replay true entry text second a off r = absurd (false≢true (sym off))
 
 verdict_of : (words : List (List ℕ)) (s : Settings) (program : List ℕ) (texts : Texts) (a : Answer) → Ask words s (Verify program) → s.modular ≡ false → Reports words texts a → a.status < 3 →
     IsTold s program texts a
-verdict_of words s program texts a ask off (usage none is) l = absurd (nothing_asked words s (Verify program) none ask)
-verdict_of words s program texts a ask off (printing u p t asked found print) l = absurd (only_one words s u (Verify program) (Print p) ask asked (λ (e : 3 ≡ 2). omega arith))
-verdict_of words s program texts a ask off (checking u p x t asked found check) l = absurd (only_one words s u (Verify program) (Check p x) ask asked (λ (e : 3 ≡ 0). omega arith))
-verdict_of words s program texts a ask off (replaying u p x t asked found replay) l = absurd (only_one words s u (Verify program) (Replay p x) ask asked (λ (e : 3 ≡ 1). omega arith))
-verdict_of words s program texts a ask off (generating u count asked big) l = absurd (only_one words s u (Verify program) (Big count) ask asked (λ (e : 3 ≡ 4). omega arith))
-verdict_of words s program texts a ask off (verifying u p t asked found verify) l =
-    let name : p ≡ program = ap program_of (same_task words u s (Verify p) (Verify program) asked ask) in
-    let settings : u ≡ s = same_settings words u s (Verify p) (Verify program) asked ask in
-    whole_verify s.modular s.reuse s program t texts a off refl (subst (λ (n : List ℕ). text_named n texts ≡ Some t) name found)
-    (subst (λ (v : Settings). ReportsVerifyBy v.modular v.reuse texts v.entry v.limits t a) settings verify) l
+verdict_of words s program texts a ask off given l =
+    let r = task_reported words texts a s (Verify program) ask given in
+    whole_verify s.modular s.reuse s program r.0 texts a off refl r.1 r.2 l
 
 told_on : (words : List (List ℕ)) (texts : Texts) (s : Settings) (program : List ℕ) (a : Answer) → Ask words s (Verify program) → IsTold s program texts a →
     RefusesEarlier s texts a ⊎ ((t : TypedProgram) × IsVerdictOn words texts t a)
@@ -154,13 +148,8 @@ check_answer again r s program second before after a off ask few d z h =
 -- words that ask for a check have no two verdicts, and an answer of status 0 is no typing refusal
 pub one_of_check : (words : List (List ℕ)) (s : Settings) (program second : List ℕ) (texts : Texts) (a b : Answer) → Ask words s (Check program second) → a.status ≡ 0 →
     AreOne words texts a b → b ≡ a
-one_of_check words s program second texts a b ask z (inl e) = sym e
-one_of_check words s program second texts a b ask z (inr (inl h)) = absurd (let e : 3 ≡ 0 = sym (ap (λ (c : Answer). c.status) h.0.1) ∙ z in omega arith)
-one_of_check words s program second texts a b ask z (inr (inr (inl v))) =
-    absurd (only_one words s v.1.0 (Check program second) (Verify v.1.1) ask v.1.3 (λ (e : 0 ≡ 3). omega arith))
-one_of_check words s program second texts a b ask z (inr (inr (inr (inl v)))) = absurd (only_one words s v.0 (Check program second) (Big v.1) ask v.2 (λ (e : 0 ≡ 4). omega arith))
-one_of_check words s program second texts a b ask z (inr (inr (inr (inr v)))) =
-    absurd (only_one words s v.1.0 (Check program second) (Verify v.1.1) ask v.1.3 (λ (e : 0 ≡ 3). omega arith))
+one_of_check words s program second texts a b ask z one =
+    one_of_task words texts s (Check program second) a b ask (λ (e : 0 ≡ 3). omega arith) (λ (e : 0 ≡ 4). omega arith) (λ (e : 0 ≡ 5). omega arith) z one
 
 -- status 0 refuses no earlier annotation
 told_zero : (s : Settings) (program : List ℕ) (texts : Texts) (a : Answer) → IsTold s program texts a → a.status ≡ 0 → IsVerdictOf s program texts a
@@ -206,13 +195,8 @@ replay_answer again r s program second before after a off ask d u h =
 
 pub one_of_replay : (words : List (List ℕ)) (s : Settings) (program second : List ℕ) (texts : Texts) (a b : Answer) → Ask words s (Replay program second) → a.status ≡ 0 →
     AreOne words texts a b → b ≡ a
-one_of_replay words s program second texts a b ask z (inl e) = sym e
-one_of_replay words s program second texts a b ask z (inr (inl h)) = absurd (let e : 3 ≡ 0 = sym (ap (λ (c : Answer). c.status) h.0.1) ∙ z in omega arith)
-one_of_replay words s program second texts a b ask z (inr (inr (inl v))) =
-    absurd (only_one words s v.1.0 (Replay program second) (Verify v.1.1) ask v.1.3 (λ (e : 1 ≡ 3). omega arith))
-one_of_replay words s program second texts a b ask z (inr (inr (inr (inl v)))) = absurd (only_one words s v.0 (Replay program second) (Big v.1) ask v.2 (λ (e : 1 ≡ 4). omega arith))
-one_of_replay words s program second texts a b ask z (inr (inr (inr (inr v)))) =
-    absurd (only_one words s v.1.0 (Replay program second) (Verify v.1.1) ask v.1.3 (λ (e : 1 ≡ 3). omega arith))
+one_of_replay words s program second texts a b ask z one =
+    one_of_task words texts s (Replay program second) a b ask (λ (e : 1 ≡ 3). omega arith) (λ (e : 1 ≡ 4). omega arith) (λ (e : 1 ≡ 5). omega arith) z one
 
 pub replay_replays : (words again : List (List ℕ)) (r s : Settings) (program second : List ℕ) (before after : Texts) (a b : Answer) → r.modular ≡ false → Ask words r (Verify program) →
     Ask again s (Replay program second) → Reports words before a → a.status ≡ 1 → IsHandedOver program second r s before after a → Reports again after b →

@@ -4,12 +4,17 @@ pub mod PrintedTexts
 pub mod VerdictTexts
 pub mod ParsedNames
 pub mod RequestLaws
+pub mod TaskLaws
 pub mod TypedTexts
 pub mod SafetyLaws
 pub mod RefusalLaws
+pub mod GraphTexts
+pub mod LassoOnce
+pub mod RankingLaws
 pub mod PartAnswers
 pub mod PartFunctions
 pub mod ReportLaws
+pub mod RankingWords
 pub mod UsageLaws
 pub mod VerdictLaws
 pub mod EarlierLaws
@@ -20,6 +25,7 @@ pub mod ProofOnce
 pub mod PartOnce
 pub mod ReportUnique
 pub mod ConfirmedLaws
+pub mod RankingConfirmed
 pub mod PartFronts
 pub mod PartLines
 pub mod PartLoops

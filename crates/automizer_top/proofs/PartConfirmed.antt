@@ -10,15 +10,16 @@ use Rattle.modular_cut.specs.FreeConditions.{free_spans}
 use Rattle.lowered_graph.specs.Lowered.{lowered}
 use Rattle.coarse_lines.specs.CoarseLetters.{coarse_letters}
 use Rattle.race_rounds.specs.declared.limits.Limits.{Limits}
-use Rattle.automizer_top.specs.CommandLine.{Check, Replay, Print, Verify, Big, Settings}
+use Rattle.automizer_top.specs.CommandLine.{Check, Replay, Verify, Settings}
 use Rattle.automizer_top.specs.PartTexts.{modular_line, part_line, front_lines, front_text, rest_text}
 use Rattle.automizer_top.specs.ReportTexts.{Answer, accepted_answer, replayed_answer}
-use Rattle.automizer_top.specs.Report.{second_limit, Ask, IsTypedText, refused, of_typed, of_second, IsSafeText, replayed, ReportsVerdict, ReportsCheckBy, ReportsReplayBy, ReportsVerifyBy, Reports, usage, printing, checking, replaying, verifying, generating}
+use Rattle.automizer_top.specs.Report.{second_limit, Ask, IsTypedText, refused, of_typed, of_second, IsSafeText, replayed, ReportsVerdict, ReportsCheckBy, ReportsReplayBy, ReportsVerifyBy, Reports, checking, replaying}
 use Rattle.automizer_top.specs.Parts.{free, of_parts, first_part_fault, part_unlowered, parts_lowered, AreSafe, part_texts, ReportsParts, all_safe, one_is_not, ReportsVerifyParts, ProvesPart, right_part, ChecksParts, of_part_proofs, ReportsPartProofs, ReportsCheckParts, of_part_failure, ReportsReplayParts}
 use Rattle.automizer_top.specs.ReportClaims.{RefusesEarlier, IsHandedOver}
 use Rattle.automizer_top.specs.PartClaims.{AreVerdictsOn}
 use Rattle.automizer_top.proofs.RefusalLaws.{typed_is_three}
-use Rattle.automizer_top.proofs.RequestLaws.{program_of, same_task, same_settings, only_one, nothing_asked, rounds_fit}
+use Rattle.automizer_top.proofs.RequestLaws.{rounds_fit}
+use Rattle.automizer_top.proofs.TaskLaws.{task_reported}
 use Rattle.automizer_top.proofs.ReportUnique.{report_once}
 use Rattle.automizer_top.proofs.ConfirmedLaws.{Texts, safe_of, safe_spelled, one_of_check, IsUnsafeOf, unsafe_of, one_of_replay, check_accepts, replay_replays}
 use Rattle.automizer_top.proofs.ProofOnce.{fits_in_memory}
@@ -64,16 +65,9 @@ parts_replay false entry text second a on r = absurd (false≢true on)
 
 verdicts_of : (words : List (List ℕ)) (s : Settings) (program : List ℕ) (texts : Texts) (a : Answer) → Ask words s (Verify program) → s.modular ≡ true → Reports words texts a → a.status < 3 →
     ArePartsOf s program texts a
-verdicts_of words s program texts a ask on (usage none is) l = absurd (nothing_asked words s (Verify program) none ask)
-verdicts_of words s program texts a ask on (printing u p t asked found print) l = absurd (only_one words s u (Verify program) (Print p) ask asked (λ (e : 3 ≡ 2). omega arith))
-verdicts_of words s program texts a ask on (checking u p x t asked found check) l = absurd (only_one words s u (Verify program) (Check p x) ask asked (λ (e : 3 ≡ 0). omega arith))
-verdicts_of words s program texts a ask on (replaying u p x t asked found replay) l = absurd (only_one words s u (Verify program) (Replay p x) ask asked (λ (e : 3 ≡ 1). omega arith))
-verdicts_of words s program texts a ask on (generating u count asked big) l = absurd (only_one words s u (Verify program) (Big count) ask asked (λ (e : 3 ≡ 4). omega arith))
-verdicts_of words s program texts a ask on (verifying u p t asked found verify) l =
-    let name : p ≡ program = ap program_of (same_task words u s (Verify p) (Verify program) asked ask) in
-    let settings : u ≡ s = same_settings words u s (Verify p) (Verify program) asked ask in
-    of_text s program t texts a (subst (λ (n : List ℕ). text_named n texts ≡ Some t) name found)
-    (parts_verify s.modular s.reuse texts s.entry s.limits t a on (subst (λ (v : Settings). ReportsVerifyBy v.modular v.reuse texts v.entry v.limits t a) settings verify)) l
+verdicts_of words s program texts a ask on given l =
+    let r = task_reported words texts a s (Verify program) ask given in
+    of_text s program r.0 texts a r.1 (parts_verify s.modular s.reuse texts s.entry s.limits r.0 a on r.2) l
 
 -- so they are verdicts on the parts of the program of the text
 pub parts_told : (words : List (List ℕ)) (texts : Texts) (s : Settings) (program : List ℕ) (a : Answer) → Ask words s (Verify program) → s.modular ≡ true → Reports words texts a → a.status < 3 →

@@ -20,20 +20,22 @@ use Rattle.automizer_top.specs.declared.reporting.Halt.{Halt}
 use Rattle.automizer_top.specs.declared.words.Mode.{Mode}
 use Rattle.automizer_top.specs.declared.words.Mode.TheVariants as modes
 use Rattle.automizer_top.specs.declared.words.Options.{Options}
-use Rattle.automizer_top.specs.CommandLine.{Task, Check, Replay, Print, Verify, Settings}
+use Rattle.automizer_top.specs.CommandLine.{Task, Check, Replay, Print, Verify, Lasso, Ranked, Settings}
 use Rattle.automizer_top.specs.Asked.{of_texts, settings, program_name}
 use Rattle.automizer_top.specs.Refusals.{refusal}
-use Rattle.automizer_top.specs.Answers.{answered, Asks, IsGraphOf, HasNoErrorWord, TextIsSafe, CheckedIsSafe, VerifiedIsSafe, BuiltIsSafe}
+use Rattle.automizer_top.specs.Answers.{answered, Asks, IsGraphOf, HasNoErrorWord, TextIsSafe, CheckedIsSafe, VerifiedIsSafe, BuiltIsSafe, RankedIsGraph}
 use Rattle.automizer_top.specs.ReportTexts.{Answer, answer, too_long_answer, accepted_answer}
-use Rattle.automizer_top.specs.Report.{program_limit, second_limit, Ask, too_long, no_program, ReportsPrint, refused_print, printed, RefusesTyped, refused_text, IsTypedText, refused, of_typed, RefusesLowering, unlowered, of_lowered, ReportsSecond, second_too_long, of_second, ReportsProof, ReportsCheck, ReportsFailure, no_failure, replayed, stopped, ReportsReplay, ReportsVerify, ReportsCheckBy, ReportsReplayBy, ReportsVerifyBy, Reports, usage, printing, checking, replaying, verifying, generating}
+use Rattle.automizer_top.specs.Report.{program_limit, second_limit, Ask, too_long, no_program, ReportsPrint, refused_print, printed, RefusesTyped, refused_text, IsTypedText, refused, of_typed, unlowered, of_lowered, ReportsSecond, second_too_long, of_second, ReportsCheck, ReportsFailure, no_failure, replayed, stopped, ReportsReplay, ReportsVerify, ReportsCheckBy, ReportsReplayBy, ReportsVerifyBy, Reports, usage, printing, checking, replaying, verifying, seeking, ranking, generating}
 use Rattle.automizer_top.specs.Earlier.{ReportsReuse, no_earlier, of_earlier, ReportsVerifyWith}
 use Rattle.automizer_top.specs.PartClaims.{PartFails}
+use Rattle.automizer_top.specs.RankingClaims.{AskedLassoEnds, RankedLassoEnds}
 use Rattle.automizer_top.specs.ReportClaims.{GeneratedIsSafe, PrintsProgram, AsksForCheck, AsksForVerdict, ProgramIsSafe, ProgramFails, WhereTold}
 use Rattle.automizer_top.proofs.PrintedTexts.{begins_otherwise}
 use Rattle.automizer_top.proofs.VerdictTexts.{verdict_begins}
 use Rattle.automizer_top.proofs.SafetyLaws.{graph_is_safe}
 use Rattle.automizer_top.proofs.RefusalLaws.{typed_is_not_zero, lowering_is_not_zero, refused_is_not_zero, too_long_is_not_zero, IsAccepted, proof_zero, second_letter, e_is_not_c, typed_begins, lowering_begins, refused_begins, too_long_begins, proof_begins, failure_begins}
 use Rattle.automizer_top.proofs.PartAnswers.{verify_parts_zero, verify_parts_begins, check_parts_zero, check_parts_begins, replay_parts_zero, replay_parts_begins}
+use Rattle.automizer_top.proofs.RankingLaws.{lasso_zero, lasso_begins, ranked_zero, ranked_begins}
 use Rattle.automizer_top.proofs.RequestLaws.{only_one, program_of, same_task, same_settings}
 use Rattle.automizer_top.proofs.TypedTexts.{one_typed}
 
@@ -41,7 +43,7 @@ abbrev Texts : Type 0
 Texts = List (List ℕ × List ℕ)
 
 -- what holds of all texts holds of those that are told
-told : (P : Texts → Type 0) (texts : Option Texts) → ((shown : Texts) → P shown) → IfSome texts P
+pub told : (P : Texts → Type 0) (texts : Option Texts) → ((shown : Texts) → P shown) → IfSome texts P
 told P None h = tt
 told P (Some shown) h = h shown
 
@@ -82,29 +84,6 @@ pub second_answered : (name text : List ℕ) (to_text : List ℕ → Answer → 
 second_answered name text to_text a None h r = tt
 second_answered name text to_text a (Some shown) h r = of_second text h.0 h.1 r
 
--- ---- what is answered to a program text and to an annotation
-
--- the program is refused, whatever the second text
-pub refused_reported : (entry : List ℕ) (program name : List ℕ) (a : Answer) (texts : Option Texts) → RefusesTyped entry program a → IfSome texts (λ shown. ReportsCheck entry program (text_named name shown) a)
-refused_reported entry program name a texts h = told (λ shown. ReportsCheck entry program (text_named name shown) a) texts (λ shown. refused h)
-
--- it cannot be lowered
-pub lowering_reported : (entry : List ℕ) (program name : List ℕ) (t : TypedProgram) (a : Answer) (texts : Option Texts) → IsTypedText entry program t → RefusesLowering t a →
-    IfSome texts (λ shown. ReportsCheck entry program (text_named name shown) a)
-lowering_reported entry program name t a texts w h = told (λ shown. ReportsCheck entry program (text_named name shown) a) texts (λ shown. of_typed t w (unlowered h))
-
-of_graph : (entry : List ℕ) (program : List ℕ) (second : Option (List ℕ)) (t : TypedProgram) (g : Graph) (a : Answer) → IsTypedText entry program t → IsGraphOf t g →
-    ReportsSecond second (ReportsProof g) a → ReportsCheck entry program second a
-of_graph entry program second t g a w h r = of_typed t w (of_lowered h.fits (subst (λ (x : Graph). ReportsSecond second (ReportsProof x) a) h.value r))
-
--- it has a graph, and this is answered to that and to the second text
-pub graph_reported : (entry program name : List ℕ) (t : TypedProgram) (g : Graph) (r : Result code.Answer Halt) (texts : Option Texts) → IsTypedText entry program t → IsGraphOf t g →
-    IfOk r (λ a. IfSome texts (λ shown. ReportsSecond (text_named name shown) (ReportsProof g) (answered a))) →
-    IfOk r (λ a. IfSome texts (λ shown. ReportsCheck entry program (text_named name shown) (answered a)))
-graph_reported entry program name t g (Err e) texts w k r = tt
-graph_reported entry program name t g (Ok a) None w k r = tt
-graph_reported entry program name t g (Ok a) (Some shown) w k r = of_graph entry program (text_named name shown) t g (answered a) w k r
-
 -- ---- what is answered to a program text and to a failure
 
 -- the program is refused, whatever the second text
@@ -144,6 +123,8 @@ too_long_asked words (modes.Replay program second) o text shown ask e past =
 too_long_asked words (modes.Print program) o text shown ask e past = printing (settings o) program.now text ask e (refused_print (too_long past refl))
 too_long_asked words (modes.Verify program) o text shown ask e past =
     verifying (settings o) program.now text ask e (refused_verify o.modular (settings o).reuse shown o.entry.now o.limits text too_long_answer (refused_text (too_long past refl)))
+too_long_asked words (modes.Lasso program second) o text shown ask e past = seeking (settings o) program.now second.now text ask e (refused (refused_text (too_long past refl)))
+too_long_asked words (modes.Ranked program second) o text shown ask e past = ranking (settings o) program.now second.now text ask e (refused (refused_text (too_long past refl)))
 
 -- the program text is past its limit
 pub program_reported : (words : List (List ℕ)) (mode : Mode) (o : Options) (name : List ℕ) (texts : Option (List (List ℕ × List ℕ))) → Asks words mode o → name ≡ program_name mode →
@@ -159,11 +140,11 @@ program_reported words mode o name (Some shown) ask same h = by_text (text_named
         too_long_asked words mode o text shown ask (ap (λ (n : List ℕ). text_named n shown) (sym same) ∙ e) past
 
 -- the words ask for this, where the mode is known
-asks_for : (words : List (List ℕ)) (mode known : Mode) (o : Options) → Asks words mode o → mode ≡ known → Asks words known o
+pub asks_for : (words : List (List ℕ)) (mode known : Mode) (o : Options) → Asks words mode o → mode ≡ known → Asks words known o
 asks_for words mode known o ask is = subst (λ (m : Mode). Asks words m o) is ask
 
 -- the text of that name, where the mode is known
-text_of : (mode known : Mode) (name text : List ℕ) (shown : Texts) → mode ≡ known → name ≡ program_name mode → text_named name shown ≡ Some text →
+pub text_of : (mode known : Mode) (name text : List ℕ) (shown : Texts) → mode ≡ known → name ≡ program_name mode → text_named name shown ≡ Some text →
     text_named (program_name known) shown ≡ Some text
 text_of mode known name text shown is same h = ap (λ (n : List ℕ). text_named n shown) (sym (same ∙ ap program_name is)) ∙ h
 
@@ -291,24 +272,38 @@ verified_is_safe words texts s program text a m reuse asked found r z safe =
     let asks : AsksForVerdict words texts w.0 = record { settings = s; program = program; asked = asked; text = text; found = found; typed = w.1 } in
     (w.0, inr asks, safe w.0 asks)
 
-failing : (words : List (List ℕ)) (texts : Texts) → ProgramFails words texts ⊎ PartFails words texts → ProgramFails words texts ⊎ (GeneratedIsSafe words ⊎ PartFails words texts)
-failing words texts (inl f) = inl f
-failing words texts (inr f) = inr (inr f)
+-- what is worth saying of a status 0
+abbrev pub ZeroSays : List (List ℕ) → Texts → Type 0
+ZeroSays words texts = PrintsProgram words texts ⊎ (ProgramIsSafe words texts ⊎ (ProgramFails words texts ⊎ (GeneratedIsSafe words ⊎ (PartFails words texts
+    ⊎ (AskedLassoEnds words texts ⊎ RankedLassoEnds words texts)))))
 
--- an answer of status 0 is a printed program, or is safe, or fails
-reports_safe : (words : List (List ℕ)) (texts : Texts) (a : Answer) → Reports words texts a → (a ≡ accepted_answer → CheckedIsSafe words texts) →
-    (a.status ≡ 0 → VerifiedIsSafe words texts) → (a.status ≡ 0 → BuiltIsSafe words) → a.status ≡ 0 →
-    PrintsProgram words texts ⊎ (ProgramIsSafe words texts ⊎ (ProgramFails words texts ⊎ (GeneratedIsSafe words ⊎ PartFails words texts)))
-reports_safe words texts a (usage none is) safe verified built z = absurd (let e : 4 ≡ 0 = sym (ap (λ (b : Answer). b.status) is) ∙ z in omega arith)
-reports_safe words texts a (printing s program text asked found print) safe verified built z = inl (printed_by words texts s program text a asked found print z)
-reports_safe words texts a (checking s program second text asked found check) safe verified built z =
-    inr (inl (accepted_is_safe words texts s program second text a asked found (check_by_zero s.modular s.entry text (text_named second texts) a check z) safe))
-reports_safe words texts a (replaying s program second text asked found replay) safe verified built z =
-    inr (inr (failing words texts (replayed_one words texts s program second text a s.modular refl asked found replay z)))
-reports_safe words texts a (verifying s program text asked found verify) safe verified built z =
-    inr (inl (verified_is_safe words texts s program text a s.modular s.reuse asked found verify z (verified z)))
-reports_safe words texts a (generating s count asked big) safe verified built z =
-    inr (inr (inr (inl (s, count, big.program, asked, big.typed, built z s count big.program asked big.typed))))
+failing : (words : List (List ℕ)) (texts : Texts) → ProgramFails words texts ⊎ PartFails words texts → ZeroSays words texts
+failing words texts (inl f) = inr (inr (inl f))
+failing words texts (inr f) = inr (inr (inr (inr (inl f))))
+
+-- what the functions of the report know of the words beyond it
+pub record IsKnown (words : List (List ℕ)) (texts : Texts) (a : Answer) : Type 0 where
+  pub accepted : a ≡ accepted_answer → CheckedIsSafe words texts
+  pub verified : a.status ≡ 0 → VerifiedIsSafe words texts
+  pub built : a.status ≡ 0 → BuiltIsSafe words
+  pub ranked : a.status ≡ 0 → RankedIsGraph words texts
+
+-- an answer of status 0 is a printed program, or is safe, or fails, or it is a lasso that ends
+reports_safe : (words : List (List ℕ)) (texts : Texts) (a : Answer) → Reports words texts a → IsKnown words texts a → a.status ≡ 0 → ZeroSays words texts
+reports_safe words texts a (usage none is) known z = absurd (let e : 4 ≡ 0 = sym (ap (λ (b : Answer). b.status) is) ∙ z in omega arith)
+reports_safe words texts a (printing s program text asked found print) known z = inl (printed_by words texts s program text a asked found print z)
+reports_safe words texts a (checking s program second text asked found check) known z =
+    inr (inl (accepted_is_safe words texts s program second text a asked found (check_by_zero s.modular s.entry text (text_named second texts) a check z) known.accepted))
+reports_safe words texts a (replaying s program second text asked found replay) known z =
+    failing words texts (replayed_one words texts s program second text a s.modular refl asked found replay z)
+reports_safe words texts a (verifying s program text asked found verify) known z =
+    inr (inl (verified_is_safe words texts s program text a s.modular s.reuse asked found verify z (known.verified z)))
+reports_safe words texts a (generating s count asked big) known z =
+    inr (inr (inr (inl (s, count, big.program, asked, big.typed, known.built z s count big.program asked big.typed))))
+reports_safe words texts a (seeking s program second text asked found seek) known z =
+    inr (inr (inr (inr (inr (inl (lasso_zero words texts s program second text a found (known.ranked z) asked seek z))))))
+reports_safe words texts a (ranking s program second text asked found check) known z =
+    inr (inr (inr (inr (inr (inr (ranked_zero words texts s program second text a found (known.ranked z) asked check z))))))
 
 check_begins : (entry : List ℕ) (text : List ℕ) (second : Option (List ℕ)) (a : Answer) → ReportsCheck entry text second a → second_letter a ≡ 99 → IsAccepted entry text a
 check_begins entry text second a (refused r) begin = absurd (typed_begins entry text a r begin)
@@ -354,15 +349,24 @@ verify_by_begins false None texts entry l text a r begin = verify_begins entry l
 verify_by_begins false (Some old) texts entry l text a r begin = verify_with_begins entry l text (text_named old texts) a r begin
 verify_by_begins true reuse texts entry l text a r begin = verify_parts_begins entry l text a r begin
 
--- an answer that begins as `accepted` does is safe
-reports_begin : (words : List (List ℕ)) (texts : Texts) (a : Answer) → Reports words texts a → (a ≡ accepted_answer → CheckedIsSafe words texts) → second_letter a ≡ 99 → ProgramIsSafe words texts
-reports_begin words texts a (usage none is) safe begin = absurd (let e : 115 ≡ 99 = sym (ap second_letter is) ∙ begin in omega arith)
-reports_begin words texts a (printing s program text asked found print) safe begin = absurd (print_begins text a print begin)
-reports_begin words texts a (checking s program second text asked found check) safe begin =
-    accepted_is_safe words texts s program second text a asked found (check_by_begins s.modular s.entry text (text_named second texts) a check begin) safe
-reports_begin words texts a (replaying s program second text asked found replay) safe begin = absurd (replay_by_begins s.modular s.entry text (text_named second texts) a replay begin)
-reports_begin words texts a (generating s count asked big) safe begin = absurd (let e : 105 ≡ 99 = sym (ap second_letter big.is) ∙ begin in omega arith)
-reports_begin words texts a (verifying s program text asked found verify) safe begin = absurd (verify_by_begins s.modular s.reuse texts s.entry s.limits text a verify begin)
+-- what is worth saying of `accepted`
+abbrev pub AcceptedSays : List (List ℕ) → Texts → Type 0
+AcceptedSays words texts = ProgramIsSafe words texts ⊎ RankedLassoEnds words texts
+
+-- an answer that begins as `accepted` does is safe, or it is a lasso that ends
+reports_begin : (words : List (List ℕ)) (texts : Texts) (a : Answer) → Reports words texts a → IsKnown words texts a → second_letter a ≡ 99 → AcceptedSays words texts
+reports_begin words texts a (usage none is) known begin = absurd (let e : 115 ≡ 99 = sym (ap second_letter is) ∙ begin in omega arith)
+reports_begin words texts a (printing s program text asked found print) known begin = absurd (print_begins text a print begin)
+reports_begin words texts a (checking s program second text asked found check) known begin =
+    inl (accepted_is_safe words texts s program second text a asked found (check_by_begins s.modular s.entry text (text_named second texts) a check begin) known.accepted)
+reports_begin words texts a (replaying s program second text asked found replay) known begin = absurd (replay_by_begins s.modular s.entry text (text_named second texts) a replay begin)
+reports_begin words texts a (generating s count asked big) known begin = absurd (let e : 105 ≡ 99 = sym (ap second_letter big.is) ∙ begin in omega arith)
+reports_begin words texts a (verifying s program text asked found verify) known begin = absurd (verify_by_begins s.modular s.reuse texts s.entry s.limits text a verify begin)
+reports_begin words texts a (seeking s program second text asked found seek) known begin =
+    absurd (lasso_begins s.entry s.limits.depth text (text_named second texts) a seek begin)
+reports_begin words texts a (ranking s program second text asked found check) known begin =
+    let z : a.status ≡ 0 = ap (λ (b : Answer). b.status) (ranked_begins s.entry text (text_named second texts) a check begin) in
+    inr (ranked_zero words texts s program second text a found (known.ranked z) asked check z)
 
 seam : (b xs : List ℕ) → get_or (b ++ xs) (suc (length b)) 0 ≡ get_or xs 1 0
 seam [] xs = refl
@@ -384,9 +388,12 @@ begins before bytes e =
     let same : before ++ bytes ≡ before ++ codes "accepted\n" = same_Some (before ++ bytes) (before ++ codes "accepted\n") e in
     sym (seam before bytes) ∙ ap (λ (xs : List ℕ). get_or xs (suc (length before)) 0) same ∙ seam before (codes "accepted\n")
 
+-- what is said where the sink has gained `accepted`
+abbrev pub WhereAccepted : List (List ℕ) → Option Texts → Option (List ℕ) → Option (List ℕ) → (Texts → Type 0) → Type 0
+WhereAccepted words texts old new P = WhereTold texts old (λ shown before. new ≡ Some (before ++ codes "accepted\n") → P shown)
+
 -- where nothing was taken, `accepted` was not
-pub nothing_is_safe : (words : List (List ℕ)) (texts : Option (List (List ℕ × List ℕ))) (taken : Option (List ℕ)) →
-    WhereTold texts taken (λ shown before. taken ≡ Some (before ++ codes "accepted\n") → ProgramIsSafe words shown)
+pub nothing_is_safe : (words : List (List ℕ)) (texts : Option Texts) (taken : Option (List ℕ)) → WhereAccepted words texts taken taken (AcceptedSays words)
 nothing_is_safe words None taken = tt
 nothing_is_safe words (Some shown) None = tt
 nothing_is_safe words (Some shown) (Some before) = λ e.
@@ -395,30 +402,48 @@ nothing_is_safe words (Some shown) (Some before) = λ e.
     let as_long : length before ≡ length (before ++ codes "accepted\n") = ap (λ (xs : List ℕ). length xs) same in
     absurd (omega arith)
 
--- where a front of an answer was taken, and is `accepted`, the program is safe
-pub front_is_safe : (words : List (List ℕ)) (texts : Option Texts) (old new : Option (List ℕ)) (a : Answer) →
-    IfSome texts (λ shown. Reports words shown a) → (a ≡ accepted_answer → IfSome texts (λ shown. CheckedIsSafe words shown)) → IfSome old (λ before. GainsFront a.bytes before new) →
-    WhereTold texts old (λ shown before. new ≡ Some (before ++ codes "accepted\n") → ProgramIsSafe words shown)
+-- the same of texts, where they are told
+abbrev pub KnownOf : List (List ℕ) → Option Texts → Answer → Type 0
+KnownOf words texts a = IfSome texts (λ shown. IsKnown words shown a)
+
+pub known_of : (words : List (List ℕ)) (texts : Option Texts) (a : Answer) → (a ≡ accepted_answer → IfSome texts (λ shown. CheckedIsSafe words shown)) →
+    (a.status ≡ 0 → IfSome texts (λ shown. VerifiedIsSafe words shown)) → (a.status ≡ 0 → BuiltIsSafe words) → (a.status ≡ 0 → IfSome texts (λ shown. RankedIsGraph words shown)) →
+    KnownOf words texts a
+known_of words None a s v b r = tt
+known_of words (Some shown) a s v b r = record { accepted = s; verified = v; built = b; ranked = r }
+
+-- where a front of an answer was taken, and is `accepted`, the program is safe, or the lasso ends
+pub front_is_safe : (words : List (List ℕ)) (texts : Option Texts) (old new : Option (List ℕ)) (a : Answer) → IfSome texts (λ shown. Reports words shown a) → KnownOf words texts a →
+    IfSome old (λ before. GainsFront a.bytes before new) → WhereAccepted words texts old new (AcceptedSays words)
 front_is_safe words None old new a r s g = tt
 front_is_safe words (Some shown) None new a r s g = tt
 front_is_safe words (Some shown) (Some before) new a r s (k, l, taken) = λ e.
     reports_begin words shown a r s (second_taken k a.bytes (begins before (take k a.bytes) (sym taken ∙ e)))
 
 -- and where all of it was
-pub whole_is_safe : (words : List (List ℕ)) (texts : Option Texts) (old new : Option (List ℕ)) (a : Answer) →
-    IfSome texts (λ shown. Reports words shown a) → (a ≡ accepted_answer → IfSome texts (λ shown. CheckedIsSafe words shown)) → IfSome old (λ before. new ≡ Some (before ++ a.bytes)) →
-    WhereTold texts old (λ shown before. new ≡ Some (before ++ codes "accepted\n") → ProgramIsSafe words shown)
+pub whole_is_safe : (words : List (List ℕ)) (texts : Option Texts) (old new : Option (List ℕ)) (a : Answer) → IfSome texts (λ shown. Reports words shown a) → KnownOf words texts a →
+    IfSome old (λ before. new ≡ Some (before ++ a.bytes)) → WhereAccepted words texts old new (AcceptedSays words)
 whole_is_safe words None old new a r s g = tt
 whole_is_safe words (Some shown) None new a r s g = tt
 whole_is_safe words (Some shown) (Some before) new a r s taken = λ e.
     reports_begin words shown a r s (begins before a.bytes (sym taken ∙ e))
 
--- an answer of status 0 is a printed program, or is safe, or fails
-pub zero_is_safe : (words : List (List ℕ)) (texts : Option Texts) (a : Answer) → IfSome texts (λ shown. Reports words shown a) →
-    (a ≡ accepted_answer → IfSome texts (λ shown. CheckedIsSafe words shown)) → (a.status ≡ 0 → IfSome texts (λ shown. VerifiedIsSafe words shown)) → (a.status ≡ 0 → BuiltIsSafe words) → a.status ≡ 0 →
-    IfSome texts (λ shown. PrintsProgram words shown ⊎ (ProgramIsSafe words shown ⊎ (ProgramFails words shown ⊎ (GeneratedIsSafe words ⊎ PartFails words shown))))
-zero_is_safe words None a r s v b z = tt
-zero_is_safe words (Some shown) a r s v b z = reports_safe words shown a r s v b z
+-- words that ask for a check ask for no ranking
+pub check_is_accepted : (words : List (List ℕ)) (texts : Option Texts) (old new : Option (List ℕ)) → WhereAccepted words texts old new (AcceptedSays words) →
+    (s : Settings) (program second : List ℕ) → Ask words s (Check program second) → WhereAccepted words texts old new (ProgramIsSafe words)
+check_is_accepted words None old new h s program second ask = tt
+check_is_accepted words (Some shown) None new h s program second ask = tt
+check_is_accepted words (Some shown) (Some before) new h s program second ask = λ e. safe (h e)
+  where
+    safe : AcceptedSays words shown → ProgramIsSafe words shown
+    safe (inl k) = k
+    safe (inr k) = absurd (only_one words s k.3.settings (Check program second) (Ranked k.3.program k.3.second) ask k.3.asked (λ (e : 0 ≡ 6). omega arith))
+
+-- what a status 0 says
+pub zero_is_safe : (words : List (List ℕ)) (texts : Option Texts) (a : Answer) → IfSome texts (λ shown. Reports words shown a) → KnownOf words texts a → a.status ≡ 0 →
+    IfSome texts (λ shown. ZeroSays words shown)
+zero_is_safe words None a r s z = tt
+zero_is_safe words (Some shown) a r s z = reports_safe words shown a r s z
 
 -- ---- what is accepted is safe
 
@@ -430,7 +455,7 @@ one_text : (x y : List ℕ) → Some x ≡ Some y → x ≡ y
 one_text x y e = cc
 
 -- what the text that was read means is what the words ask for
-meant_by : (words : List (List ℕ)) (mode : Mode) (o : Options) (name text : List ℕ) (shown : Texts) (s : Settings) (x : Task) (read : List ℕ) (t : TypedProgram) →
+pub meant_by : (words : List (List ℕ)) (mode : Mode) (o : Options) (name text : List ℕ) (shown : Texts) (s : Settings) (x : Task) (read : List ℕ) (t : TypedProgram) →
     Asks words mode o → name ≡ program_name mode → program_of (of_texts mode) ≡ program_name mode → text_named name shown ≡ Some text →
     Ask words s x → text_named (program_of x) shown ≡ Some read → IsTypedText s.entry read t → IsTypedText o.entry.now text t
 meant_by words mode o name text shown s x read t ask same is h asked found typed =
@@ -439,11 +464,13 @@ meant_by words mode o name text shown s x read t ask same is h asked found typed
     let entries : s.entry ≡ o.entry.now = sym (ap (λ (u : Settings). u.entry) (same_settings words (settings o) s (of_texts mode) x ask asked)) in
     subst (λ (e : List ℕ). IsTypedText e text t) entries (subst (λ (y : List ℕ). IsTypedText s.entry y t) same_texts typed)
 
-program_is : (mode : Mode) → program_of (of_texts mode) ≡ program_name mode
+pub program_is : (mode : Mode) → program_of (of_texts mode) ≡ program_name mode
 program_is (modes.Check program second) = refl
 program_is (modes.Replay program second) = refl
 program_is (modes.Print program) = refl
 program_is (modes.Verify program) = refl
+program_is (modes.Lasso program second) = refl
+program_is (modes.Ranked program second) = refl
 
 -- the words ask for the check of a program that is safe
 pub check_is_safe : (words : List (List ℕ)) (mode : Mode) (o : Options) (name text : List ℕ) (r : Result code.Answer Halt) (texts : Option Texts) →
@@ -463,6 +490,8 @@ IsNoVerify (modes.Check program second) = Unit {0}
 IsNoVerify (modes.Replay program second) = Unit {0}
 IsNoVerify (modes.Print program) = Unit {0}
 IsNoVerify (modes.Verify program) = ⊥
+IsNoVerify (modes.Lasso program second) = Unit {0}
+IsNoVerify (modes.Ranked program second) = Unit {0}
 
 not_verified : (words : List (List ℕ)) (mode : Mode) (o : Options) (s : Settings) (p : List ℕ) → Asks words mode o → IsNoVerify mode → Ask words s (Verify p) → ⊥
 not_verified words (modes.Check program second) o s p ask n v =
@@ -472,6 +501,10 @@ not_verified words (modes.Replay program second) o s p ask n v =
 not_verified words (modes.Print program) o s p ask n v =
     only_one words (settings o) s (Print program.now) (Verify p) ask v (λ (e : 2 ≡ 3). omega arith)
 not_verified words (modes.Verify program) o s p ask n v = n
+not_verified words (modes.Lasso program second) o s p ask n v =
+    only_one words (settings o) s (Lasso program.now second.now) (Verify p) ask v (λ (e : 5 ≡ 3). omega arith)
+not_verified words (modes.Ranked program second) o s p ask n v =
+    only_one words (settings o) s (Ranked program.now second.now) (Verify p) ask v (λ (e : 6 ≡ 3). omega arith)
 
 -- the words do not ask for a verdict, so nothing is to be shown of one
 pub unverified : (words : List (List ℕ)) (mode : Mode) (o : Options) (r : Result code.Answer Halt) (texts : Option Texts) → Asks words mode o → IsNoVerify mode →
@@ -486,6 +519,8 @@ IsNoCheck (modes.Check program second) = ⊥
 IsNoCheck (modes.Replay program second) = Unit {0}
 IsNoCheck (modes.Print program) = Unit {0}
 IsNoCheck (modes.Verify program) = Unit {0}
+IsNoCheck (modes.Lasso program second) = Unit {0}
+IsNoCheck (modes.Ranked program second) = Unit {0}
 
 not_checked : (words : List (List ℕ)) (mode : Mode) (o : Options) (s : Settings) (p q : List ℕ) → Asks words mode o → IsNoCheck mode → Ask words s (Check p q) → ⊥
 not_checked words (modes.Check program second) o s p q ask n k = n
@@ -493,6 +528,10 @@ not_checked words (modes.Replay program second) o s p q ask n k =
     only_one words (settings o) s (Replay program.now second.now) (Check p q) ask k (λ (e : 1 ≡ 0). omega arith)
 not_checked words (modes.Print program) o s p q ask n k = only_one words (settings o) s (Print program.now) (Check p q) ask k (λ (e : 2 ≡ 0). omega arith)
 not_checked words (modes.Verify program) o s p q ask n k = only_one words (settings o) s (Verify program.now) (Check p q) ask k (λ (e : 3 ≡ 0). omega arith)
+not_checked words (modes.Lasso program second) o s p q ask n k =
+    only_one words (settings o) s (Lasso program.now second.now) (Check p q) ask k (λ (e : 5 ≡ 0). omega arith)
+not_checked words (modes.Ranked program second) o s p q ask n k =
+    only_one words (settings o) s (Ranked program.now second.now) (Check p q) ask k (λ (e : 6 ≡ 0). omega arith)
 
 pub unchecked : (words : List (List ℕ)) (mode : Mode) (o : Options) (r : Result code.Answer Halt) (texts : Option Texts) → Asks words mode o → IsNoCheck mode →
     IfOk r (λ a. answered a ≡ accepted_answer → IfSome texts (λ shown. CheckedIsSafe words shown))

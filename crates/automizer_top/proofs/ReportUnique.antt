@@ -21,15 +21,20 @@ use Rattle.automizer_top.specs.LoweringRefusals.{lowering_refusal}
 use Rattle.race_core.specs.declared.events.Entry.{Entry}
 use Rattle.itp_automaton.specs.Certified.{Certificate}
 use Rattle.automizer_top.specs.ReportTexts.{Answer, answer, syntax_answer}
-use Rattle.automizer_top.specs.Report.{program_limit, second_limit, Ask, RefusesProgram, too_long, no_program, ReportsPrint, refused_print, printed, RefusesTyped, refused_text, ill_typed, IsTypedText, ReportsTyped, refused, of_typed, RefusesLowering, ReportsLowered, unlowered, of_lowered, ReportsSecond, second_too_long, of_second, ReportsProof, ReportsCheck, ReportsFailure, ReportsReplay, ReportsVerdict, ReportsVerify, ReportsCheckBy, ReportsReplayBy, ReportsVerifyBy, ReportsBig, Reports, usage, printing, checking, replaying, verifying, generating}
+use Rattle.automizer_top.specs.Report.{program_limit, second_limit, Ask, RefusesProgram, too_long, no_program, ReportsPrint, refused_print, printed, RefusesTyped, refused_text, ill_typed, IsTypedText, ReportsTyped, refused, of_typed, RefusesLowering, ReportsLowered, unlowered, of_lowered, ReportsSecond, second_too_long, of_second, ReportsProof, ReportsCheck, ReportsFailure, ReportsReplay, ReportsVerdict, ReportsVerify, ReportsCheckBy, ReportsReplayBy, ReportsVerifyBy, ReportsBig, Reports}
 use Rattle.modular_cut.specs.Parts.{parts_of}
 use Rattle.automizer_top.specs.Earlier.{ReportsReuse, no_earlier, of_earlier, ReportsVerifyWith}
 use Rattle.automizer_top.specs.Parts.{ReportsCut, ReportsLoweredParts, ReportsParts, ReportsVerifyParts, ReportsPartProofs, ReportsCheckParts, ReportsPartFailure, ReportsReplayParts}
 use Rattle.automizer_top.specs.PartClaims.{AreVerdictsOn}
 use Rattle.automizer_top.specs.ReportClaims.{IsTypingRefusal, IsVerdictOn}
 use Rattle.race_rounds.specs.declared.limits.Limits.{Limits}
-use Rattle.automizer_top.specs.CommandLine.{Check, Replay, Print, Verify, Big, Settings}
-use Rattle.automizer_top.proofs.RequestLaws.{program_of, second_of, same_task, same_settings, only_one, nothing_asked}
+use Rattle.lasso_ranks.specs.Lassos.{PlainLasso}
+use Rattle.automizer_top.specs.Rankings.{ReportsLassoText, ReportsLasso, ReportsRankingText, ReportsRanked}
+use Rattle.automizer_top.specs.RankingClaims.{AsksForLasso, IsFoundOn}
+use Rattle.automizer_top.specs.CommandLine.{Task, Check, Replay, Print, Verify, Big, Lasso, Ranked, Settings, Request, requested}
+use Rattle.automizer_top.proofs.RequestLaws.{kind_of, only_one}
+use Rattle.automizer_top.proofs.TaskLaws.{ReportsTask, task_reported, usage_reported}
+use Rattle.automizer_top.proofs.LassoOnce.{AreFound, lasso_text_once, ranking_text_once}
 use Rattle.automizer_top.proofs.TypedTexts.{one_typed}
 use Rattle.automizer_top.proofs.ProofOnce.{one_first_wrong, wrong_or_not, proof_once}
 use Rattle.automizer_top.proofs.ReplayedOnce.{failure_once}
@@ -100,12 +105,12 @@ lowered_not_refused : (t : TypedProgram) (a : Answer) → first_fault t ≡ None
 lowered_not_refused t a none h = none-some h.fault (sym none ∙ h.first)
 
 -- two answers to a typed program, where X holds of two answers to its graph
-lowered_once : (t : TypedProgram) (to_graph : Graph → Answer → Type 0) (X : Type 0) (a b : Answer) → (to_graph (lowered t) a → to_graph (lowered t) b → X) →
+lowered_once : (t : TypedProgram) (to_graph : Graph → Answer → Type 0) (X : Type 0) (a b : Answer) → (first_fault t ≡ None → to_graph (lowered t) a → to_graph (lowered t) b → X) →
     ReportsLowered t to_graph a → ReportsLowered t to_graph b → (a ≡ b) ⊎ X
 lowered_once t to_graph X a b once (unlowered r) (unlowered s) = inl (lowering_once t a b r s)
 lowered_once t to_graph X a b once (unlowered r) (of_lowered none s) = absurd (lowered_not_refused t a none r)
 lowered_once t to_graph X a b once (of_lowered none r) (unlowered s) = absurd (lowered_not_refused t b none s)
-lowered_once t to_graph X a b once (of_lowered none r) (of_lowered none' s) = inr (once r s)
+lowered_once t to_graph X a b once (of_lowered none r) (of_lowered none' s) = inr (once none r s)
 
 -- ---- second texts
 
@@ -114,11 +119,11 @@ too_long_or_not x y second e d past l = let lengths : length x ≡ length y = ap
 
 -- two answers to a second text, where X holds of two answers to what it is
 second_or : (second : Option (List ℕ)) (to_text : List ℕ → Answer → Type 0) (X : Type 0) (a b : Answer) →
-    ((x : List ℕ) → length x ≤ second_limit → to_text x a → to_text x b → X) → ReportsSecond second to_text a → ReportsSecond second to_text b → (a ≡ b) ⊎ X
+    ((x : List ℕ) → second ≡ Some x → length x ≤ second_limit → to_text x a → to_text x b → X) → ReportsSecond second to_text a → ReportsSecond second to_text b → (a ≡ b) ⊎ X
 second_or second to_text X a b once (second_too_long x e past is) (second_too_long y d past' is') = inl (is ∙ sym is')
 second_or second to_text X a b once (second_too_long x e past is) (of_second y d l s) = absurd (too_long_or_not x y second e d past l)
 second_or second to_text X a b once (of_second x e l r) (second_too_long y d past is) = absurd (too_long_or_not y x second d e past l)
-second_or second to_text X a b once (of_second x e l r) (of_second y d l' s) = inr (once x l r (subst (λ (z : List ℕ). to_text z b) (same_text y x second d e) s))
+second_or second to_text X a b once (of_second x e l r) (of_second y d l' s) = inr (once x e l r (subst (λ (z : List ℕ). to_text z b) (same_text y x second d e) s))
 
 one_of_two : (a b : Answer) → (a ≡ b) ⊎ (a ≡ b) → a ≡ b
 one_of_two a b (inl e) = e
@@ -126,7 +131,7 @@ one_of_two a b (inr e) = e
 
 second_once : (second : Option (List ℕ)) (to_text : List ℕ → Answer → Type 0) (a b : Answer) →
     ((x : List ℕ) → length x ≤ second_limit → to_text x a → to_text x b → a ≡ b) → ReportsSecond second to_text a → ReportsSecond second to_text b → a ≡ b
-second_once second to_text a b once r s = one_of_two a b (second_or second to_text (a ≡ b) a b once r s)
+second_once second to_text a b once r s = one_of_two a b (second_or second to_text (a ≡ b) a b (λ x e. once x) r s)
 
 -- ---- checks, replays and verdicts
 
@@ -138,7 +143,7 @@ check_once : (entry text : List ℕ) (second : Option (List ℕ)) (a b : Answer)
 check_once entry text second a b r s =
     one_of_three a b (typed_once entry text (λ t. ReportsLowered t (λ g. ReportsSecond second (ReportsProof g))) (a ≡ b) a b
     (λ t w h k. one_of_two a b (lowered_once t (λ g. ReportsSecond second (ReportsProof g)) (a ≡ b) a b
-    (second_once second (ReportsProof (lowered t)) a b (λ x. proof_once (lowered t) x a b)) h k)) r s)
+    (λ none. second_once second (ReportsProof (lowered t)) a b (λ x. proof_once (lowered t) x a b)) h k)) r s)
 
 replay_once : (entry text : List ℕ) (second : Option (List ℕ)) (a b : Answer) → ReportsReplay entry text second a → ReportsReplay entry text second b → (a ≡ b) ⊎ BothIllTyped a b
 replay_once entry text second a b r s =
@@ -178,19 +183,18 @@ not_none reuse old given some none = absurd (none-some old (sym none ∙ some))
 abbrev BothVerdicts : Option (List ℕ) → List ℕ → Limits → List ℕ → Answer → Answer → Type 0
 BothVerdicts reuse entry l text a b = (t : TypedProgram) × IsTypedText entry text t × IsSomeVerdict reuse l t a × IsSomeVerdict reuse l t b
 
--- what was found for a program text is one answer, two broken typing rules, or two verdicts
-in_order : (reuse : Option (List ℕ)) (entry : List ℕ) (l : Limits) (text : List ℕ) (a b : Answer) → ((a ≡ b) ⊎ BothVerdicts reuse entry l text a b) ⊎ ((a ≡ b) ⊎ BothIllTyped a b) →
-    (a ≡ b) ⊎ (BothIllTyped a b ⊎ BothVerdicts reuse entry l text a b)
-in_order reuse entry l text a b (inl (inl e)) = inl e
-in_order reuse entry l text a b (inl (inr v)) = inr (inr v)
-in_order reuse entry l text a b (inr (inl e)) = inl e
-in_order reuse entry l text a b (inr (inr h)) = inr (inl h)
+-- what was found for a program text is one answer, two broken typing rules, or both are of this kind
+in_order : (X : Type 0) (a b : Answer) → ((a ≡ b) ⊎ X) ⊎ ((a ≡ b) ⊎ BothIllTyped a b) → (a ≡ b) ⊎ (BothIllTyped a b ⊎ X)
+in_order X a b (inl (inl e)) = inl e
+in_order X a b (inl (inr v)) = inr (inr v)
+in_order X a b (inr (inl e)) = inl e
+in_order X a b (inr (inr h)) = inr (inl h)
 
 verify_once : (reuse : Option (List ℕ)) (entry : List ℕ) (l : Limits) (text : List ℕ) (a b : Answer) → ReportsVerify entry l text a → ReportsVerify entry l text b →
     (a ≡ b) ⊎ (BothIllTyped a b ⊎ BothVerdicts reuse entry l text a b)
 verify_once reuse entry l text a b r s =
-    in_order reuse entry l text a b (typed_once entry text (λ t. ReportsLowered t (λ g c. ReportsVerdict None l t c × (length c.bytes ≤ second_limit))) ((a ≡ b) ⊎ BothVerdicts reuse entry l text a b) a b
-    (λ t w. lowered_once t (λ g c. ReportsVerdict None l t c × (length c.bytes ≤ second_limit)) (BothVerdicts reuse entry l text a b) a b (λ v u. (t, w, (None, (λ e. refl), v.0), (None, (λ e. refl), u.0)))) r s)
+    in_order (BothVerdicts reuse entry l text a b) a b (typed_once entry text (λ t. ReportsLowered t (λ g c. ReportsVerdict None l t c × (length c.bytes ≤ second_limit))) ((a ≡ b) ⊎ BothVerdicts reuse entry l text a b) a b
+    (λ t w. lowered_once t (λ g c. ReportsVerdict None l t c × (length c.bytes ≤ second_limit)) (BothVerdicts reuse entry l text a b) a b (λ none v u. (t, w, (None, (λ e. refl), v.0), (None, (λ e. refl), u.0)))) r s)
 
 -- the same with an earlier annotation
 reuse_once : (reuse : Option (List ℕ)) (named : List ℕ) → reuse ≡ Some named → (l : Limits) (t : TypedProgram) (x : List ℕ) (a b : Answer) → length x ≤ second_limit → ReportsReuse l t x a → ReportsReuse l t x b →
@@ -204,9 +208,9 @@ reuse_once reuse named some l t x a b few (of_earlier coarse old c given spelled
 verify_with_once : (reuse : Option (List ℕ)) (named : List ℕ) → reuse ≡ Some named → (entry : List ℕ) (l : Limits) (text : List ℕ) (second : Option (List ℕ)) (a b : Answer) → ReportsVerifyWith entry l text second a → ReportsVerifyWith entry l text second b →
     (a ≡ b) ⊎ (BothIllTyped a b ⊎ BothVerdicts reuse entry l text a b)
 verify_with_once reuse named some entry l text second a b r s =
-    in_order reuse entry l text a b (typed_once entry text (λ t. ReportsLowered t (λ g. ReportsSecond second (ReportsReuse l t))) ((a ≡ b) ⊎ BothVerdicts reuse entry l text a b) a b
+    in_order (BothVerdicts reuse entry l text a b) a b (typed_once entry text (λ t. ReportsLowered t (λ g. ReportsSecond second (ReportsReuse l t))) ((a ≡ b) ⊎ BothVerdicts reuse entry l text a b) a b
     (λ t w h k. joined t w (lowered_once t (λ g. ReportsSecond second (ReportsReuse l t)) ((a ≡ b) ⊎ ((a ≡ b) ⊎ (IsSomeVerdict reuse l t a × IsSomeVerdict reuse l t b))) a b
-    (second_or second (ReportsReuse l t) ((a ≡ b) ⊎ (IsSomeVerdict reuse l t a × IsSomeVerdict reuse l t b)) a b (λ x few. reuse_once reuse named some l t x a b few)) h k)) r s)
+    (λ none. second_or second (ReportsReuse l t) ((a ≡ b) ⊎ (IsSomeVerdict reuse l t a × IsSomeVerdict reuse l t b)) a b (λ x e few. reuse_once reuse named some l t x a b few)) h k)) r s)
   where
     joined : (t : TypedProgram) → IsTypedText entry text t → (a ≡ b) ⊎ ((a ≡ b) ⊎ ((a ≡ b) ⊎ (IsSomeVerdict reuse l t a × IsSomeVerdict reuse l t b))) → (a ≡ b) ⊎ BothVerdicts reuse entry l text a b
     joined t w (inl e) = inl e
@@ -221,7 +225,7 @@ BothPartVerdicts entry l text a b = (t : TypedProgram) × IsTypedText entry text
 verify_parts_once : (entry : List ℕ) (l : Limits) (text : List ℕ) (a b : Answer) → ReportsVerifyParts entry l text a → ReportsVerifyParts entry l text b →
     (a ≡ b) ⊎ (BothIllTyped a b ⊎ BothPartVerdicts entry l text a b)
 verify_parts_once entry l text a b r s =
-    ordered (typed_once entry text (λ t. ReportsCut t (λ ps. ReportsLoweredParts ps (λ c. ReportsParts l ps c × (length c.bytes ≤ second_limit)))) ((a ≡ b) ⊎ BothPartVerdicts entry l text a b) a b
+    in_order (BothPartVerdicts entry l text a b) a b (typed_once entry text (λ t. ReportsCut t (λ ps. ReportsLoweredParts ps (λ c. ReportsParts l ps c × (length c.bytes ≤ second_limit)))) ((a ≡ b) ⊎ BothPartVerdicts entry l text a b) a b
     (λ t w h k. joined t (cut_once t (λ ps. ReportsLoweredParts ps (λ c. ReportsParts l ps c × (length c.bytes ≤ second_limit))) ((a ≡ b) ⊎ BothPartVerdicts entry l text a b) a b
     (lowered_parts_once (parts_of t) (λ c. ReportsParts l (parts_of t) c × (length c.bytes ≤ second_limit)) (BothPartVerdicts entry l text a b) a b (λ v u. (t, w, v.0, u.0))) h k)) r s)
   where
@@ -229,124 +233,131 @@ verify_parts_once entry l text a b r s =
     joined t (inl e) = inl e
     joined t (inr h) = h
 
-    ordered : ((a ≡ b) ⊎ BothPartVerdicts entry l text a b) ⊎ ((a ≡ b) ⊎ BothIllTyped a b) → (a ≡ b) ⊎ (BothIllTyped a b ⊎ BothPartVerdicts entry l text a b)
-    ordered (inl (inl e)) = inl e
-    ordered (inl (inr v)) = inr (inr v)
-    ordered (inr (inl e)) = inl e
-    ordered (inr (inr h)) = inr (inl h)
+-- ---- lassos and rankings
+
+-- both tell what the search for a ranking of one lasso in the second text has found
+record BothFound (entry : List ℕ) (depth : ℕ) (text : List ℕ) (second : Option (List ℕ)) (a b : Answer) : Type 0 where
+  meant : TypedProgram
+  typed : IsTypedText entry text meant
+  lowers : first_fault meant ≡ None
+  told : List ℕ
+  second_is : second ≡ Some told
+  found : AreFound depth (lowered meant) told a b
+
+lasso_once : (entry : List ℕ) (depth : ℕ) (text : List ℕ) (second : Option (List ℕ)) (a b : Answer) → ReportsLasso entry depth text second a → ReportsLasso entry depth text second b →
+    (a ≡ b) ⊎ (BothIllTyped a b ⊎ BothFound entry depth text second a b)
+lasso_once entry depth text second a b r s =
+    in_order Both a b (typed_once entry text (λ t. ReportsLowered t (λ g. ReportsSecond second (ReportsLassoText depth g))) ((a ≡ b) ⊎ Both) a b
+    (λ t w h k. joined (lowered_once t (λ g. ReportsSecond second (ReportsLassoText depth g)) ((a ≡ b) ⊎ Both) a b
+    (λ none u v. joined (second_or second (ReportsLassoText depth (lowered t)) ((a ≡ b) ⊎ Both) a b (λ x e few p q. found t w none x e (lasso_text_once depth (lowered t) x a b p q)) u v)) h k)) r s)
+  where
+    Both : Type 0
+    Both = BothFound entry depth text second a b
+
+    joined : (a ≡ b) ⊎ ((a ≡ b) ⊎ Both) → (a ≡ b) ⊎ Both
+    joined (inl e) = inl e
+    joined (inr h) = h
+
+    found : (t : TypedProgram) → IsTypedText entry text t → first_fault t ≡ None → (x : List ℕ) → second ≡ Some x → (a ≡ b) ⊎ AreFound depth (lowered t) x a b → (a ≡ b) ⊎ Both
+    found t w none x e (inl same) = inl same
+    found t w none x e (inr h) = inr (record { meant = t; typed = w; lowers = none; told = x; second_is = e; found = h })
+
+ranked_once : (entry text : List ℕ) (second : Option (List ℕ)) (a b : Answer) → ReportsRanked entry text second a → ReportsRanked entry text second b → (a ≡ b) ⊎ BothIllTyped a b
+ranked_once entry text second a b r s =
+    one_of_three a b (typed_once entry text (λ t. ReportsLowered t (λ g. ReportsSecond second (ReportsRankingText g))) (a ≡ b) a b
+    (λ t w h k. one_of_two a b (lowered_once t (λ g. ReportsSecond second (ReportsRankingText g)) (a ≡ b) a b
+    (λ none. second_once second (ReportsRankingText (lowered t)) a b (λ x few. ranking_text_once (lowered t) x a b)) h k)) r s)
 
 -- ---- the report
 
 -- one answer; or two broken typing rules; or two verdicts on one program; or two summaries of one generated program; or verdicts on the parts of one
--- program
+-- program; or two finds of the search for a ranking of one lasso
 abbrev pub AreOne : List (List ℕ) → List (List ℕ × List ℕ) → Answer → Answer → Type 0
 AreOne words texts a b = (a ≡ b) ⊎ (BothIllTyped a b ⊎ (((t : TypedProgram) × IsVerdictOn words texts t a × IsVerdictOn words texts t b) ⊎ (((s : Settings) × (count : ℕ) × Ask words s (Big count) × ReportsBig s.limits count a × ReportsBig s.limits count b)
-    ⊎ ((t : TypedProgram) × AreVerdictsOn words texts t a × AreVerdictsOn words texts t b))))
+    ⊎ (((t : TypedProgram) × AreVerdictsOn words texts t a × AreVerdictsOn words texts t b)
+    ⊎ ((t : TypedProgram) × (l : PlainLasso) × IsFoundOn words texts t l a × IsFoundOn words texts t l b)))))
 
-wider : (words : List (List ℕ)) (texts : List (List ℕ × List ℕ)) (a b : Answer) → (a ≡ b) ⊎ BothIllTyped a b → AreOne words texts a b
-wider words texts a b (inl e) = inl e
-wider words texts a b (inr h) = inr (inl h)
+module _ (words : List (List ℕ)) (texts : List (List ℕ × List ℕ)) (s : Settings) (p text : List ℕ) (a b : Answer) (found : text_named p texts ≡ Some text) where
+  wider : (a ≡ b) ⊎ BothIllTyped a b → AreOne words texts a b
+  wider (inl e) = inl e
+  wider (inr h) = inr (inl h)
 
-both : (words : List (List ℕ)) (texts : List (List ℕ × List ℕ)) (s : Settings) (p text : List ℕ) (a b : Answer) → Ask words s (Verify p) → text_named p texts ≡ Some text →
-    (a ≡ b) ⊎ (BothIllTyped a b ⊎ BothVerdicts s.reuse s.entry s.limits text a b) → AreOne words texts a b
-both words texts s p text a b asked found (inl e) = inl e
-both words texts s p text a b asked found (inr (inl h)) = inr (inl h)
-both words texts s p text a b asked found (inr (inr h)) = inr (inr (inl (h.0, (s, p, text, asked, found, h.1, h.2.0, h.2.1, h.2.2), (s, p, text, asked, found, h.1, h.3.0, h.3.1, h.3.2))))
+  both : Ask words s (Verify p) → (a ≡ b) ⊎ (BothIllTyped a b ⊎ BothVerdicts s.reuse s.entry s.limits text a b) → AreOne words texts a b
+  both asked (inl e) = inl e
+  both asked (inr (inl h)) = inr (inl h)
+  both asked (inr (inr h)) = inr (inr (inl (h.0, (s, p, text, asked, found, h.1, h.2.0, h.2.1, h.2.2), (s, p, text, asked, found, h.1, h.3.0, h.3.1, h.3.2))))
 
-both_parts : (words : List (List ℕ)) (texts : List (List ℕ × List ℕ)) (s : Settings) (p text : List ℕ) (a b : Answer) → s.modular ≡ true → Ask words s (Verify p) → text_named p texts ≡ Some text →
-    (a ≡ b) ⊎ (BothIllTyped a b ⊎ BothPartVerdicts s.entry s.limits text a b) → AreOne words texts a b
-both_parts words texts s p text a b m asked found (inl e) = inl e
-both_parts words texts s p text a b m asked found (inr (inl h)) = inr (inl h)
-both_parts words texts s p text a b m asked found (inr (inr h)) =
-    inr (inr (inr (inr (h.0, (s, p, text, asked, m, found, h.1, h.2), (s, p, text, asked, m, found, h.1, h.3)))))
+  both_parts : s.modular ≡ true → Ask words s (Verify p) → (a ≡ b) ⊎ (BothIllTyped a b ⊎ BothPartVerdicts s.entry s.limits text a b) → AreOne words texts a b
+  both_parts m asked (inl e) = inl e
+  both_parts m asked (inr (inl h)) = inr (inl h)
+  both_parts m asked (inr (inr h)) = inr (inr (inr (inr (inl (h.0, (s, p, text, asked, m, found, h.1, h.2), (s, p, text, asked, m, found, h.1, h.3))))))
 
-both_by : (words : List (List ℕ)) (texts : List (List ℕ × List ℕ)) (s : Settings) (p text : List ℕ) (a b : Answer) (m : Bool) (reuse : Option (List ℕ)) → s.modular ≡ m → s.reuse ≡ reuse → Ask words s (Verify p) →
-    text_named p texts ≡ Some text → ReportsVerifyBy m reuse texts s.entry s.limits text a → ReportsVerifyBy m reuse texts s.entry s.limits text b → AreOne words texts a b
-both_by words texts s p text a b false None m named asked found r k = both words texts s p text a b asked found (verify_once s.reuse s.entry s.limits text a b r k)
-both_by words texts s p text a b false (Some old) m named asked found r k =
-    both words texts s p text a b asked found (verify_with_once s.reuse old named s.entry s.limits text (text_named old texts) a b r k)
-both_by words texts s p text a b true reuse m named asked found r k = both_parts words texts s p text a b m asked found (verify_parts_once s.entry s.limits text a b r k)
+  both_by : (m : Bool) (reuse : Option (List ℕ)) → s.modular ≡ m → s.reuse ≡ reuse → Ask words s (Verify p) →
+      ReportsVerifyBy m reuse texts s.entry s.limits text a → ReportsVerifyBy m reuse texts s.entry s.limits text b → AreOne words texts a b
+  both_by false None m named asked r k = both asked (verify_once s.reuse s.entry s.limits text a b r k)
+  both_by false (Some old) m named asked r k = both asked (verify_with_once s.reuse old named s.entry s.limits text (text_named old texts) a b r k)
+  both_by true reuse m named asked r k = both_parts m asked (verify_parts_once s.entry s.limits text a b r k)
+
+  both_found : (x : List ℕ) → Ask words s (Lasso p x) → (a ≡ b) ⊎ (BothIllTyped a b ⊎ BothFound s.entry s.limits.depth text (text_named x texts) a b) → AreOne words texts a b
+  both_found x asked (inl e) = inl e
+  both_found x asked (inr (inl h)) = inr (inl h)
+  both_found x asked (inr (inr h)) =
+      let asks : AsksForLasso words texts s h.meant h.found.lasso = record {
+        program = p;
+        second = x;
+        asked = asked;
+        text = text;
+        found = found;
+        typed = h.typed;
+        lowers = h.lowers;
+        told = h.told;
+        second_is = h.second_is;
+        read = h.found.read;
+        is_lasso = h.found.is_lasso;
+      } in
+      inr (inr (inr (inr (inr (h.meant, h.found.lasso, (s, asks, h.found.first), (s, asks, h.found.second))))))
 
 -- the same text was found
-same_found : (texts : List (List ℕ × List ℕ)) (p q t u : List ℕ) → p ≡ q → text_named p texts ≡ Some t → text_named q texts ≡ Some u → u ≡ t
-same_found texts p q t u e found found' = same_text u t (text_named p texts) (subst (λ (n : List ℕ). text_named n texts ≡ Some u) (sym e) found') found
+same_found : (texts : List (List ℕ × List ℕ)) (p t u : List ℕ) → text_named p texts ≡ Some t → text_named p texts ≡ Some u → u ≡ t
+same_found texts p t u found found' = same_text u t (text_named p texts) found' found
 
-one_count : (m n : ℕ) → Big m ≡ Big n → m ≡ n
-one_count m n e = cc
+-- two answers to one task
+task_once : (words : List (List ℕ)) (texts : List (List ℕ × List ℕ)) (s : Settings) (x : Task) (a b : Answer) → Ask words s x → ReportsTask texts s x a → ReportsTask texts s x b →
+    AreOne words texts a b
+task_once words texts s (Print p) a b asked (t, found, r) (u, found', k) =
+    inl (print_once t a b r (subst (λ (z : List ℕ). ReportsPrint z b) (same_found texts p t u found found') k))
+task_once words texts s (Check p x) a b asked (t, found, r) (u, found', k) =
+    wider words texts s p t a b found (check_by_once s.modular s.entry t (text_named x texts) a b r
+    (subst (λ (z : List ℕ). ReportsCheckBy s.modular s.entry z (text_named x texts) b) (same_found texts p t u found found') k))
+task_once words texts s (Replay p x) a b asked (t, found, r) (u, found', k) =
+    wider words texts s p t a b found (replay_by_once s.modular s.entry t (text_named x texts) a b r
+    (subst (λ (z : List ℕ). ReportsReplayBy s.modular s.entry z (text_named x texts) b) (same_found texts p t u found found') k))
+task_once words texts s (Verify p) a b asked (t, found, r) (u, found', k) =
+    both_by words texts s p t a b found s.modular s.reuse refl refl asked r
+    (subst (λ (z : List ℕ). ReportsVerifyBy s.modular s.reuse texts s.entry s.limits z b) (same_found texts p t u found found') k)
+task_once words texts s (Big count) a b asked r k = inr (inr (inr (inl (s, count, asked, r, k))))
+task_once words texts s (Lasso p x) a b asked (t, found, r) (u, found', k) =
+    both_found words texts s p t a b found x asked (lasso_once s.entry s.limits.depth t (text_named x texts) a b r
+    (subst (λ (z : List ℕ). ReportsLasso s.entry s.limits.depth z (text_named x texts) b) (same_found texts p t u found found') k))
+task_once words texts s (Ranked p x) a b asked (t, found, r) (u, found', k) =
+    wider words texts s p t a b found (ranked_once s.entry t (text_named x texts) a b r
+    (subst (λ (z : List ℕ). ReportsRanked s.entry z (text_named x texts) b) (same_found texts p t u found found') k))
 
--- The report allows one answer at most, but that any of several broken typing rules may be named, and any of several verdicts told.
+-- The report allows one answer at most, but that any of several broken typing rules may be named, any of several verdicts told, and any of several
+-- finds of a search.
 pub report_once : (words : List (List ℕ)) (texts : List (List ℕ × List ℕ)) (a b : Answer) → Reports words texts a → Reports words texts b → AreOne words texts a b
-report_once words texts a b (usage none is) (usage none' is') = inl (is ∙ sym is')
-report_once words texts a b (usage none is) (printing s p t asked found print) = absurd (nothing_asked words s (Print p) none asked)
-report_once words texts a b (usage none is) (checking s p x t asked found check) = absurd (nothing_asked words s (Check p x) none asked)
-report_once words texts a b (usage none is) (replaying s p x t asked found replay) = absurd (nothing_asked words s (Replay p x) none asked)
-report_once words texts a b (usage none is) (verifying s p t asked found verify) = absurd (nothing_asked words s (Verify p) none asked)
-report_once words texts a b (printing s p t asked found print) (usage none is) = absurd (nothing_asked words s (Print p) none asked)
-report_once words texts a b (printing s p t asked found print) (printing s' q u asked' found' print') =
-    let same = same_task words s s' (Print p) (Print q) asked asked' in
-    let text : u ≡ t = same_found texts p q t u (ap program_of same) found found' in
-    inl (print_once t a b print (subst (λ (x : List ℕ). ReportsPrint x b) text print'))
-report_once words texts a b (printing s p t asked found print) (checking s' q x u asked' found' check) =
-    absurd (only_one words s s' (Print p) (Check q x) asked asked' (λ (e : 2 ≡ 0). omega arith))
-report_once words texts a b (printing s p t asked found print) (replaying s' q x u asked' found' replay) =
-    absurd (only_one words s s' (Print p) (Replay q x) asked asked' (λ (e : 2 ≡ 1). omega arith))
-report_once words texts a b (printing s p t asked found print) (verifying s' q u asked' found' verify) =
-    absurd (only_one words s s' (Print p) (Verify q) asked asked' (λ (e : 2 ≡ 3). omega arith))
-report_once words texts a b (checking s p x t asked found check) (usage none is) = absurd (nothing_asked words s (Check p x) none asked)
-report_once words texts a b (checking s p x t asked found check) (printing s' q u asked' found' print) =
-    absurd (only_one words s s' (Check p x) (Print q) asked asked' (λ (e : 0 ≡ 2). omega arith))
-report_once words texts a b (checking s p x t asked found check) (replaying s' q y u asked' found' replay) =
-    absurd (only_one words s s' (Check p x) (Replay q y) asked asked' (λ (e : 0 ≡ 1). omega arith))
-report_once words texts a b (checking s p x t asked found check) (verifying s' q u asked' found' verify) =
-    absurd (only_one words s s' (Check p x) (Verify q) asked asked' (λ (e : 0 ≡ 3). omega arith))
-report_once words texts a b (checking s p x t asked found check) (checking s' q y u asked' found' check') =
-    let same = same_task words s s' (Check p x) (Check q y) asked asked' in
-    let settings : s' ≡ s = sym (same_settings words s s' (Check p x) (Check q y) asked asked') in
-    let text : u ≡ t = same_found texts p q t u (ap program_of same) found found' in
-    wider words texts a b (check_by_once s.modular s.entry t (text_named x texts) a b check
-    (subst (λ (v : Settings). ReportsCheckBy v.modular v.entry t (text_named x texts) b) settings
-    (subst (λ (z : List ℕ). ReportsCheckBy s'.modular s'.entry z (text_named x texts) b) text
-    (subst (λ (n : List ℕ). ReportsCheckBy s'.modular s'.entry u (text_named n texts) b) (sym (ap second_of same)) check'))))
-report_once words texts a b (replaying s p x t asked found replay) (usage none is) = absurd (nothing_asked words s (Replay p x) none asked)
-report_once words texts a b (replaying s p x t asked found replay) (printing s' q u asked' found' print) =
-    absurd (only_one words s s' (Replay p x) (Print q) asked asked' (λ (e : 1 ≡ 2). omega arith))
-report_once words texts a b (replaying s p x t asked found replay) (checking s' q y u asked' found' check) =
-    absurd (only_one words s s' (Replay p x) (Check q y) asked asked' (λ (e : 1 ≡ 0). omega arith))
-report_once words texts a b (replaying s p x t asked found replay) (verifying s' q u asked' found' verify) =
-    absurd (only_one words s s' (Replay p x) (Verify q) asked asked' (λ (e : 1 ≡ 3). omega arith))
-report_once words texts a b (replaying s p x t asked found replay) (replaying s' q y u asked' found' replay') =
-    let same = same_task words s s' (Replay p x) (Replay q y) asked asked' in
-    let settings : s' ≡ s = sym (same_settings words s s' (Replay p x) (Replay q y) asked asked') in
-    let text : u ≡ t = same_found texts p q t u (ap program_of same) found found' in
-    wider words texts a b (replay_by_once s.modular s.entry t (text_named x texts) a b replay
-    (subst (λ (v : Settings). ReportsReplayBy v.modular v.entry t (text_named x texts) b) settings
-    (subst (λ (z : List ℕ). ReportsReplayBy s'.modular s'.entry z (text_named x texts) b) text
-    (subst (λ (n : List ℕ). ReportsReplayBy s'.modular s'.entry u (text_named n texts) b) (sym (ap second_of same)) replay'))))
-report_once words texts a b (verifying s p t asked found verify) (usage none is) = absurd (nothing_asked words s (Verify p) none asked)
-report_once words texts a b (verifying s p t asked found verify) (printing s' q u asked' found' print) =
-    absurd (only_one words s s' (Verify p) (Print q) asked asked' (λ (e : 3 ≡ 2). omega arith))
-report_once words texts a b (verifying s p t asked found verify) (checking s' q y u asked' found' check) =
-    absurd (only_one words s s' (Verify p) (Check q y) asked asked' (λ (e : 3 ≡ 0). omega arith))
-report_once words texts a b (verifying s p t asked found verify) (replaying s' q y u asked' found' replay) =
-    absurd (only_one words s s' (Verify p) (Replay q y) asked asked' (λ (e : 3 ≡ 1). omega arith))
-report_once words texts a b (verifying s p t asked found verify) (verifying s' q u asked' found' verify') =
-    let same = same_task words s s' (Verify p) (Verify q) asked asked' in
-    let settings : s' ≡ s = sym (same_settings words s s' (Verify p) (Verify q) asked asked') in
-    let text : u ≡ t = same_found texts p q t u (ap program_of same) found found' in
-    both_by words texts s p t a b s.modular s.reuse refl refl asked found verify
-    (subst (λ (v : Settings). ReportsVerifyBy v.modular v.reuse texts v.entry v.limits t b) settings
-    (subst (λ (z : List ℕ). ReportsVerifyBy s'.modular s'.reuse texts s'.entry s'.limits z b) text verify'))
-report_once words texts a b (usage none is) (generating s count asked big) = absurd (nothing_asked words s (Big count) none asked)
-report_once words texts a b (printing s p t asked found print) (generating s' count asked' big) = absurd (only_one words s s' (Print p) (Big count) asked asked' (λ (e : 2 ≡ 4). omega arith))
-report_once words texts a b (checking s p x t asked found check) (generating s' count asked' big) = absurd (only_one words s s' (Check p x) (Big count) asked asked' (λ (e : 0 ≡ 4). omega arith))
-report_once words texts a b (replaying s p x t asked found replay) (generating s' count asked' big) = absurd (only_one words s s' (Replay p x) (Big count) asked asked' (λ (e : 1 ≡ 4). omega arith))
-report_once words texts a b (verifying s p t asked found verify) (generating s' count asked' big) = absurd (only_one words s s' (Verify p) (Big count) asked asked' (λ (e : 3 ≡ 4). omega arith))
-report_once words texts a b (generating s count asked big) (usage none is) = absurd (nothing_asked words s (Big count) none asked)
-report_once words texts a b (generating s count asked big) (printing s' p t asked' found' print) = absurd (only_one words s s' (Big count) (Print p) asked asked' (λ (e : 4 ≡ 2). omega arith))
-report_once words texts a b (generating s count asked big) (checking s' p x t asked' found' check) = absurd (only_one words s s' (Big count) (Check p x) asked asked' (λ (e : 4 ≡ 0). omega arith))
-report_once words texts a b (generating s count asked big) (replaying s' p x t asked' found' replay) = absurd (only_one words s s' (Big count) (Replay p x) asked asked' (λ (e : 4 ≡ 1). omega arith))
-report_once words texts a b (generating s count asked big) (verifying s' p t asked' found' verify) = absurd (only_one words s s' (Big count) (Verify p) asked asked' (λ (e : 4 ≡ 3). omega arith))
-report_once words texts a b (generating s count asked big) (generating s' count' asked' big') =
-    let same : count' ≡ count = sym (one_count count count' (same_task words s s' (Big count) (Big count') asked asked')) in
-    let settings : s' ≡ s = sym (same_settings words s s' (Big count) (Big count') asked asked') in
-    inr (inr (inr (inl (s, count, asked, big, subst (λ (u : Settings). ReportsBig u.limits count b) settings (subst (λ (n : ℕ). ReportsBig s'.limits n b) same big')))))
+report_once words texts a b r k = by_request (requested words) refl
+  where
+    by_request : (q : Option Request) → requested words ≡ q → AreOne words texts a b
+    by_request None none = inl (usage_reported words texts a none r ∙ sym (usage_reported words texts b none k))
+    by_request (Some q) asked = task_once words texts q.settings q.task a b asked (task_reported words texts a q.settings q.task asked r) (task_reported words texts b q.settings q.task asked k)
+
+-- Where the words ask for a task of which several answers are never told, an answer of the status 0 is the only one.
+pub one_of_task : (words : List (List ℕ)) (texts : List (List ℕ × List ℕ)) (s : Settings) (x : Task) (a b : Answer) → Ask words s x → (kind_of x ≡ 3 → ⊥) → (kind_of x ≡ 4 → ⊥) →
+    (kind_of x ≡ 5 → ⊥) → a.status ≡ 0 → AreOne words texts a b → b ≡ a
+one_of_task words texts s x a b ask three four five z (inl e) = sym e
+one_of_task words texts s x a b ask three four five z (inr (inl h)) = absurd (let e : 3 ≡ 0 = sym (ap (λ (c : Answer). c.status) h.0.1) ∙ z in omega arith)
+one_of_task words texts s x a b ask three four five z (inr (inr (inl v))) = absurd (only_one words s v.1.0 x (Verify v.1.1) ask v.1.3 three)
+one_of_task words texts s x a b ask three four five z (inr (inr (inr (inl v)))) = absurd (only_one words s v.0 x (Big v.1) ask v.2 four)
+one_of_task words texts s x a b ask three four five z (inr (inr (inr (inr (inl v))))) = absurd (only_one words s v.1.0 x (Verify v.1.1) ask v.1.3 three)
+one_of_task words texts s x a b ask three four five z (inr (inr (inr (inr (inr v))))) = absurd (only_one words s v.2.0 x (Lasso v.2.1.program v.2.1.second) ask v.2.1.asked five)

@@ -8,7 +8,7 @@ use Rattle.std.proofs.lemmas.Bool.{and_parts, leb-true}
 use Rattle.std.proofs.lemmas.Option.{same_Some, none-some, cond_some}
 use Rattle.clap.specs.Kinds.{Kinds}
 use Rattle.clap.specs.Walk.{Row, first_of}
-use Rattle.automizer_top.specs.CommandLine.{Task, Check, Replay, Print, Verify, Big, Settings, Request, is_number_in, number_in_bounds, is_given, go_together, task_of, settings_of, request_of, request_by, faults, values, requested}
+use Rattle.automizer_top.specs.CommandLine.{Task, Check, Replay, Print, Verify, Big, Lasso, Ranked, Settings, Request, is_number_in, number_in_bounds, is_given, go_together, task_of, settings_of, request_of, request_by, faults, values, requested}
 use Rattle.automizer_top.specs.Report.{Ask}
 
 -- the name of the program text
@@ -18,14 +18,8 @@ program_of (Replay program second) = program
 program_of (Print program) = program
 program_of (Verify program) = program
 program_of (Big count) = []
-
--- the name of the second text
-abbrev pub second_of : Task → List ℕ
-second_of (Check program second) = second
-second_of (Replay program second) = second
-second_of (Print program) = program
-second_of (Verify program) = program
-second_of (Big count) = []
+program_of (Lasso program second) = program
+program_of (Ranked program second) = program
 
 abbrev pub kind_of : Task → ℕ
 kind_of (Check program second) = 0
@@ -33,6 +27,8 @@ kind_of (Replay program second) = 1
 kind_of (Print program) = 2
 kind_of (Verify program) = 3
 kind_of (Big count) = 4
+kind_of (Lasso program second) = 5
+kind_of (Ranked program second) = 6
 
 one_request : (words : List (List ℕ)) (q r : Request) → requested words ≡ Some q → requested words ≡ Some r → q ≡ r
 one_request words q r e f = same_Some q r (sym e ∙ f)

@@ -1,15 +1,12 @@
 -- What a verdict is worth, and that it can be written.
-use Rattle.std.proofs.Common.{◌≡◌, ◌+◌, ◌≤◌, ℕ, List, length, ◌∷◌, [], Option, None, ap, refl, sym, ◌∙◌, subst, arith}
-use Rattle.std.specs.Prelude.{IsTrue, Result, Ok, Err, IfOk, IfSome}
+use Rattle.std.proofs.Common.{◌≡◌, ◌+◌, ◌≤◌, ℕ, List, length, ◌∷◌, [], Option, None, ap, sym, ◌∙◌, subst, arith}
+use Rattle.std.specs.Prelude.{Result, Ok, Err, IfOk, IfSome}
 use Rattle.std.specs.declared.alloc.AllocError.{AllocError}
-use Rattle.nwa_base.specs.declared.letters.Letter.{Letter}
 use Rattle.nwa_base.specs.Acceptance.{Accepts}
-use Rattle.letter_acts.specs.Feasible.{IsFeasible}
-use Rattle.letter_acts.specs.Invariant.{Graph, IsGraph, alphabet_of}
+use Rattle.letter_acts.specs.Invariant.{Graph, IsGraph}
 use Rattle.letter_acts.specs.Kept.{Keeps}
 use Rattle.typed_tree.specs.TypedTree.{TypedProgram}
 use Rattle.lowered_graph.specs.Lowered.{lowered}
-use Rattle.proof_form.specs.Annotations.{Content, is_annotation}
 use Rattle.proof_check.specs.Proves.{Proves}
 use Rattle.proof_check.proofs.ProvedLaws.{proved_infeasible}
 use Rattle.race_core.specs.Histories.{IsLegal}
@@ -23,8 +20,7 @@ use Rattle.race_verdicts.specs.declared.verdicts.Verdict.{Verdict}
 use Rattle.race_verdicts.specs.declared.verdicts.Verdict.TheVariants.{Safe, Unsafe, Unknown}
 use Rattle.race_verdicts.specs.Verdicts.{IsVerdict}
 use Rattle.race_verdicts.specs.Texts.{verdict_text, ChoicesFit}
-use Rattle.automizer_top.specs.Verdicts.{IsClosedRace, verdict_status}
-use Rattle.automizer_top.specs.ReportTexts.{Answer, verdict_answer}
+use Rattle.automizer_top.specs.Verdicts.{verdict_status}
 use Rattle.automizer_top.specs.Report.{second_limit, IsTypedText, ReportsVerdict, ReportsVerify, of_typed, of_lowered}
 use Rattle.automizer_top.specs.Answers.{answered, IsGraphOf, HasNoErrorWord, TextIsSafe}
 use Rattle.automizer_top.specs.EarlierViews.{IsGivenOver}

@@ -1,7 +1,8 @@
 -- The code's answers and questions as contracts see them.
-use Rattle.std.specs.Prelude.{◌≡◌, ◌<◌, ◌^◌, ℕ, List, [], ◌∷◌, None, Some, codes}
+use Rattle.std.specs.Prelude.{◌≡◌, ◌⊎◌, ◌<◌, ◌^◌, ℕ, List, [], ◌∷◌, None, Some, codes}
+use Rattle.outer_io.specs.Texts.{text_named}
 use Rattle.automizer_top.specs.declared.answer.Answer.{Answer}
-use Rattle.automizer_top.specs.declared.answer.Answer.TheVariants.{Usage, TooLong, Refused, IllTyped, TooWide, TooBig, Free, Printed, Syntax, Accepted, Rejected, Replayed, Stopped, Decided, PartsDecided, PartDecided}
+use Rattle.automizer_top.specs.declared.answer.Answer.TheVariants.{Usage, TooLong, Refused, IllTyped, TooWide, TooBig, Free, Printed, Syntax, Accepted, Rejected, Replayed, Stopped, Ranking, NoRanking, NoNumber, Decided, PartsDecided, PartDecided}
 use Rattle.automizer_top.specs.declared.reporting.Decision.{Decision}
 use Rattle.automizer_top.specs.declared.words.Mode.{Mode}
 use Rattle.automizer_top.specs.declared.words.Options.{Options}
@@ -13,7 +14,8 @@ use Rattle.boogie_run.specs.Runs.{IsSafe}
 use Rattle.nwa_base.specs.declared.letters.Letter.{Letter}
 use Rattle.nwa_base.specs.Acceptance.{Accepts}
 use Rattle.letter_acts.specs.Feasible.{IsFeasible}
-use Rattle.letter_acts.specs.Invariant.{Graph, alphabet_of}
+use Rattle.letter_acts.specs.Invariant.{Graph, IsGraph, alphabet_of}
+use Rattle.letter_acts.specs.Kept.{Keeps}
 use Rattle.lowered_graph.specs.Items as items
 use Rattle.lowered_graph.specs.Items.{first_fault}
 use Rattle.lowered_graph.specs.Lowered.{lowered}
@@ -29,7 +31,7 @@ use Rattle.automizer_top.specs.LoweringRefusals.{lowering_refusal}
 use Rattle.automizer_top.specs.Verdicts.{verdict_status}
 use Rattle.boogie_types.specs.Resolved.{resolved_program}
 use Rattle.generated_program.specs.Generated.{generated}
-use Rattle.automizer_top.specs.CommandLine.{Settings, Big}
+use Rattle.automizer_top.specs.CommandLine.{Settings, Big, Lasso, Ranked}
 use Rattle.automizer_top.specs.ReportTexts as written
 use Rattle.automizer_top.specs.Report as report
 use Rattle.automizer_top.specs.ReportClaims as claims
@@ -48,6 +50,9 @@ answered Accepted = written.accepted_answer
 answered (Rejected line cause) = written.failed_answer line cause
 answered (Replayed id) = written.replayed_answer id
 answered (Stopped step cause) = written.stopped_answer step cause
+answered (Ranking text) = written.answer text.items 0
+answered NoRanking = written.no_ranking_answer
+answered NoNumber = written.no_number_answer
 answered (Decided text verdict race) = record { bytes = text.items; status = verdict_status verdict; races = race ∷ [] }
 answered (PartsDecided text races) = record { bytes = text.items; status = 0; races = races.items }
 answered (PartDecided text verdict races) = record { bytes = text.items; status = verdict_status verdict; races = races.items }
@@ -77,6 +82,9 @@ IsJudged g coarse w (Rejected line cause) = FailsOnLine g coarse w line cause ×
 IsJudged g coarse w (Replayed id) = ⊥
 IsJudged g coarse w (Stopped step cause) = ⊥
 IsJudged g coarse w (Decided text verdict race) = ⊥
+IsJudged g coarse w (Ranking text) = ⊥
+IsJudged g coarse w NoRanking = ⊥
+IsJudged g coarse w NoNumber = ⊥
 IsJudged g coarse w (PartsDecided text races) = ⊥
 IsJudged g coarse w (PartDecided text verdict races) = ⊥
 
@@ -89,6 +97,17 @@ pub record IsGraphOf (t : TypedProgram) (g : Graph) : Type 0 where
   pub value : g ≡ lowered t
   pub fits : first_fault t ≡ None
   pub faithful : IsFaithful t g
+
+-- the graph of the program of the text, where runs begin at the procedure `entry`; an `Icfg` has kept it
+pub record IsGraphOfText (entry text : List ℕ) (g : Graph) : Type 0 where
+  pub meant : TypedProgram
+  pub typed : report.IsTypedText entry text meant
+  pub of_program : IsGraphOf meant g
+  pub kept : Keeps g
+
+-- the text is refused before it has a graph
+abbrev pub IsRefusedText : List ℕ → List ℕ → written.Answer → Type 0
+IsRefusedText entry text = report.ReportsTyped entry text (λ t. report.ReportsLowered t (λ g a. ⊥))
 
 -- no word that the automaton accepts is feasible
 abbrev pub HasNoErrorWord : Graph → Type 0
@@ -115,3 +134,21 @@ BuiltIsSafe words = (s : Settings) (count : ℕ) (t : TypedProgram) → report.A
 -- the program whose check the words ask for is safe
 abbrev pub CheckedIsSafe : List (List ℕ) → List (List ℕ × List ℕ) → Type 0
 CheckedIsSafe words texts = (t : TypedProgram) → claims.AsksForCheck words texts t → IsSafe t
+
+-- the graph of the program of the text is one, if it keeps the typing rules
+abbrev pub TextIsGraph : List ℕ → List ℕ → Type 0
+TextIsGraph entry text = (t : TypedProgram) → report.IsTypedText entry text t → IsGraph (lowered t)
+
+-- The words ask for a ranking of a lasso of this program, or for its check; the program stands in the texts and keeps the typing rules.
+pub record AsksOfLasso (words : List (List ℕ)) (texts : List (List ℕ × List ℕ)) (t : TypedProgram) : Type 0 where
+  pub settings : Settings
+  pub program : List ℕ
+  pub second : List ℕ
+  pub asked : report.Ask words settings (Lasso program second) ⊎ report.Ask words settings (Ranked program second)
+  pub text : List ℕ
+  pub found : text_named program texts ≡ Some text
+  pub typed : report.IsTypedText settings.entry text t
+
+-- the graph of the program for a lasso of which the words ask is one
+abbrev pub RankedIsGraph : List (List ℕ) → List (List ℕ × List ℕ) → Type 0
+RankedIsGraph words texts = (t : TypedProgram) → AsksOfLasso words texts t → IsGraph (lowered t)

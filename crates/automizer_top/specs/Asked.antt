@@ -1,7 +1,7 @@
 -- What the code read of the words, as contracts see it.
 use Rattle.std.specs.Prelude.{ℕ, ◌≤◌, List, option_map}
 use Rattle.automizer_top.specs.declared.words.Mode.{Mode}
-use Rattle.automizer_top.specs.declared.words.Mode.TheVariants.{Check, Replay, Print, Verify}
+use Rattle.automizer_top.specs.declared.words.Mode.TheVariants.{Check, Replay, Print, Verify, Lasso, Ranked}
 use Rattle.automizer_top.specs.declared.words.Task.{Task}
 use Rattle.automizer_top.specs.declared.words.Task.TheVariants.{Texts, Generated}
 use Rattle.automizer_top.specs.declared.words.Options.{Options}
@@ -13,6 +13,8 @@ of_texts (Check program second) = line.Check program.now second.now
 of_texts (Replay program second) = line.Replay program.now second.now
 of_texts (Print program) = line.Print program.now
 of_texts (Verify program) = line.Verify program.now
+of_texts (Lasso program second) = line.Lasso program.now second.now
+of_texts (Ranked program second) = line.Ranked program.now second.now
 
 abbrev pub task : Task → line.Task
 task (Texts mode) = of_texts mode
@@ -35,3 +37,5 @@ program_name (Check program second) = program.now
 program_name (Replay program second) = program.now
 program_name (Print program) = program.now
 program_name (Verify program) = program.now
+program_name (Lasso program second) = program.now
+program_name (Ranked program second) = program.now

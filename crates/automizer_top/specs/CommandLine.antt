@@ -61,6 +61,8 @@ pub data Task : Type 0 where
   Print : List ℕ → Task
   Verify : List ℕ → Task
   Big : ℕ → Task
+  Lasso : List ℕ → List ℕ → Task
+  Ranked : List ℕ → List ℕ → Task
 
 -- The name of the procedure at which runs begin, the limits of a race, whether each procedure is verified by itself, and the name of the text of
 -- an earlier annotation, where one is named.
@@ -95,7 +97,9 @@ task_of_one mode program =
 abbrev pub task_of_two : List ℕ → List ℕ → List ℕ → Option Task
 task_of_two mode program second =
     if bytes_eq mode (codes "check") then Some (Check program second)
-    else (if bytes_eq mode (codes "replay") then Some (Replay program second) else None)
+    else (if bytes_eq mode (codes "replay") then Some (Replay program second)
+    else (if bytes_eq mode (codes "lasso") then Some (Lasso program second)
+    else (if bytes_eq mode (codes "ranked") then Some (Ranked program second) else None)))
 
 abbrev pub task_by : List ℕ → List ℕ → Option (List ℕ) → Option Task
 task_by mode program None = task_of_one mode program

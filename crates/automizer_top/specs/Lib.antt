@@ -9,10 +9,12 @@ pub mod ReportTexts
 pub mod ReportCases
 pub mod PartTexts
 pub mod Earlier
+pub mod Rankings
 pub mod Parts
 pub mod Report
 pub mod ReportClaims
 pub mod PartClaims
+pub mod RankingClaims
 pub mod Answers
 pub mod PartViews
 pub mod EarlierViews

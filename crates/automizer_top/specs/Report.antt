@@ -2,10 +2,11 @@
 use Rattle.std.specs.Prelude.{◌≡◌, ℕ, Bool, true, false, List, Option, None, Some}
 use Rattle.outer_io.specs.Texts.{text_named}
 use Rattle.race_rounds.specs.declared.limits.Limits.{Limits}
-use Rattle.automizer_top.specs.CommandLine.{Check, Replay, Print, Verify, Big, Settings, requested}
+use Rattle.automizer_top.specs.CommandLine.{Check, Replay, Print, Verify, Big, Lasso, Ranked, Settings, requested}
 use Rattle.automizer_top.specs.ReportTexts.{Answer, answer, usage_line}
 use Rattle.automizer_top.specs.Earlier.{ReportsVerifyWith}
 use Rattle.automizer_top.specs.Parts.{ReportsVerifyParts, ReportsCheckParts, ReportsReplayParts}
+use Rattle.automizer_top.specs.Rankings.{ReportsLasso, ReportsRanked}
 pub use Rattle.automizer_top.specs.ReportCases.{program_limit, second_limit, Ask, RefusesProgram, ReportsPrint, IsIllTyped, RefusesTyped, IsTypedText, ReportsTyped, RefusesLowering, ReportsLowered, ReportsSecond, IsSafeText, ReportsAnnotation, ReportsProof, ReportsCheck, IsFailureText, ReportsFailure, ReportsReplay, ReportsVerdict, ReportsVerify, ReportsBig, too_long, no_program, refused_print, printed, refused_text, ill_typed, refused, of_typed, unlowered, of_lowered, second_too_long, of_second, wrong_line, missing_line, accepted, rejected, no_annotation, of_annotation, no_failure, replayed, stopped}
 
 -- of the whole program, or with the flag `--modular` of its parts
@@ -34,4 +35,8 @@ pub data Reports (words : List (List ℕ)) (texts : List (List ℕ × List ℕ))
       ReportsReplayBy s.modular s.entry text (text_named second texts) a → Reports words texts a
   verifying : (s : Settings) (program text : List ℕ) → Ask words s (Verify program) → text_named program texts ≡ Some text →
       ReportsVerifyBy s.modular s.reuse texts s.entry s.limits text a → Reports words texts a
+  seeking : (s : Settings) (program second text : List ℕ) → Ask words s (Lasso program second) → text_named program texts ≡ Some text →
+      ReportsLasso s.entry s.limits.depth text (text_named second texts) a → Reports words texts a
+  ranking : (s : Settings) (program second text : List ℕ) → Ask words s (Ranked program second) → text_named program texts ≡ Some text →
+      ReportsRanked s.entry text (text_named second texts) a → Reports words texts a
   generating : (s : Settings) (count : ℕ) → Ask words s (Big count) → ReportsBig s.limits count a → Reports words texts a

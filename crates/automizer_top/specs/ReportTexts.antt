@@ -6,6 +6,8 @@ use Rattle.proof_check.specs.declared.rejects.RejectCause.{RejectCause}
 use Rattle.proof_check.specs.declared.rejects.RejectCause.TheVariants as rejects
 use Rattle.trace_replay.specs.declared.causes.ReplayCause.{ReplayCause}
 use Rattle.trace_replay.specs.declared.causes.ReplayCause.TheVariants as causes
+use Rattle.lasso_ranks.specs.declared.lassos.LassoFault.{LassoFault}
+use Rattle.lasso_ranks.specs.declared.lassos.LassoFault.TheVariants as lasso_faults
 use Rattle.race_core.specs.Races.{Race}
 use Rattle.itp_automaton.specs.Certified.{Certificate}
 use Rattle.race_verdicts.specs.declared.verdicts.Verdict.{Verdict}
@@ -76,6 +78,23 @@ replayed_answer id = answer (codes "replayed assertion " ++ (decimal id.number +
 -- the values do not lead to a failure
 abbrev pub stopped_answer : ℕ → ReplayCause → Answer
 stopped_answer step cause = answer (rejected_line step (stop_name cause)) 1
+
+-- ---- to a lasso, or to a ranking of one
+
+-- no linear rank of the loop has a proof without cuts, and the stem and one turn are not refuted
+abbrev pub no_ranking_answer : Answer
+no_ranking_answer = answer (codes "unknown ranking\n") 2
+
+-- a number of the search for a ranking does not fit
+abbrev pub no_number_answer : Answer
+no_number_answer = answer (codes "unknown number\n") 2
+
+-- why the text is none of a lasso or a ranking, or its letters make no lasso; without bytes for want of memory, which no text has
+abbrev pub fault_answer : LassoFault → Answer
+fault_answer (lasso_faults.Syntax line) = syntax_answer line
+fault_answer (lasso_faults.BadName line) = failed_answer line rejects.BadName
+fault_answer (lasso_faults.BadStep line) = failed_answer line rejects.BadStep
+fault_answer lasso_faults.Memory = answer [] 1
 
 -- ---- of a race
 

@@ -52,6 +52,12 @@ pub(crate) enum Answer {
         step: u64,
         cause: ReplayCause,
     },
+    /// The text of a ranking that was found.
+    Ranking(Vec<u8>),
+    /// There is no linear rank of the loop, and the stem and one turn are not refuted.
+    NoRanking,
+    /// A number of the search for a ranking does not fit.
+    NoNumber,
     /// The text of a verdict, with the race that it is of.
     Decided {
         text: Vec<u8>,
@@ -97,6 +103,9 @@ impl Answer {
                 let name = stop_name(cause);
                 format!(in alloc; "rejected {step} {name}\n")?
             }
+            Answer::Ranking(text) => return Ok((text, Vec::new(alloc))),
+            Answer::NoRanking => String::from_str(alloc, "unknown ranking\n")?,
+            Answer::NoNumber => String::from_str(alloc, "unknown number\n")?,
             Answer::Decided {
                 text,
                 verdict: _,
@@ -127,10 +136,12 @@ impl Answer {
             Answer::Printed(_)
             | Answer::Accepted
             | Answer::Replayed(_)
+            | Answer::Ranking(_)
             | Answer::PartsDecided { .. } => 0,
             Answer::Syntax { line: _ }
             | Answer::Rejected { line: _, cause: _ }
             | Answer::Stopped { step: _, cause: _ } => 1,
+            Answer::NoRanking | Answer::NoNumber => 2,
             Answer::Decided { verdict, .. } => verdict_status(verdict),
             Answer::PartDecided { verdict, .. } => verdict_status(verdict),
         }

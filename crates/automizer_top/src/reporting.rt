@@ -4,13 +4,12 @@ ghost use Rattle.std.specs.List.{list_all};
 ghost use Rattle.outer_io.specs.Faults.{Rose};
 ghost use Rattle.outer_io.specs.Texts.{text_named};
 ghost use Rattle.boogie_tree.specs.Names.{is_name};
-ghost use Rattle.typed_tree.specs.TypedTree.{TypedProgram};
 ghost use Rattle.typed_tree.specs.declared.fault.TypeFault.TheVariants as TypeFault;
 ghost use Rattle.typing_rules.specs.TypedParts.{typed_program};
 ghost use Rattle.coarse_lines.specs.CoarseLetters.{coarse_letters};
 ghost use Rattle.proof_names.specs.Items.{first_triple};
 ghost use Rattle.automizer_top.specs.declared.reporting.Halt.TheVariants.{Fault, Memory};
-ghost use Rattle.automizer_top.specs.Answers.{answered, Asks, IsGraphOf, HasNoErrorWord, TextIsSafe, CheckedIsSafe, VerifiedIsSafe, BuiltIsSafe, IsJudged, IsRejected, decided_answer};
+ghost use Rattle.automizer_top.specs.Answers.{answered, Asks, IsGraphOf, IsGraphOfText, IsRefusedText, HasNoErrorWord, TextIsSafe, CheckedIsSafe, VerifiedIsSafe, BuiltIsSafe, RankedIsGraph, IsJudged, IsRejected, decided_answer};
 ghost use Rattle.automizer_top.specs.EarlierViews.{IsGivenOver};
 ghost use Rattle.automizer_top.specs.Verdicts.{verdict_status};
 ghost use Rattle.trace_replay.specs.FailureText.{plain};
@@ -25,7 +24,7 @@ ghost use Rattle.automizer_top.specs.Report.{IsFailureText, IsTypedText, Refuses
 use crate::answer::Answer;
 use crate::generated::summed;
 use crate::words::{Mode, Options, Task, read_words};
-use crate::{earlier, parts};
+use crate::{earlier, parts, rankings};
 use boogie_parse::{Fault, parse};
 use boogie_tree::print;
 use boogie_types::{TypeFault, Typed, resolve};
@@ -259,18 +258,28 @@ fn judged(alloc: Global, icfg: &Icfg, text: &[u8]) -> Result<Answer, AllocError>
     }
 }
 
-/// The graph of the program of a text, or what is answered to the text and to an annotation where there is none.
-fn lowered_text(alloc: Global, text: &[u8], entry: &str) -> Result<Result<Icfg, Answer>, AllocError>
+/// The graph of the program of a text, or what is answered to the text, whatever the second text, where there is none.
+pub(crate) fn lowered_text(
+    alloc: Global,
+    text: &[u8],
+    entry: &str,
+) -> Result<Result<Icfg, Answer>, AllocError>
     requires { length text.now ≤ PROGRAM_LIMIT }
     ensures { IfOk result (λ r. MatchResult r
-        (λ g. (t : TypedProgram) × IsTypedText entry.now text.now t × IsGraphOf t g)
-        (λ a. ((second : List ℕ) (texts : Option (List (List ℕ × List ℕ))) → IfSome texts (λ shown.
-        ReportsCheck entry.now text.now (text_named second shown) (answered a))) × ((answered a).status ≡ 3))) }
+        (IsGraphOfText entry.now text.now)
+        (λ a. IsRefusedText entry.now text.now (answered a))) }
 {
-    match typed(alloc, text, entry)? {
-        Ok(program) => graph(alloc, &program),
-        Err(answer) => Ok(Err(answer)),
-    }
+    let program = match typed(alloc, text, entry)? {
+        Ok(program) => program,
+        Err(answer) => return Ok(Err(answer)),
+    };
+    let icfg = match graph(alloc, &program)? {
+        Ok(icfg) => icfg,
+        Err(answer) => return Ok(Err(answer)),
+    };
+    // Contracts alone speak of what a graph keeps.
+    let _edges = icfg.nwa();
+    Ok(Ok(icfg))
 }
 
 /// What is answered to a graph and to the annotation in the text of that name.
@@ -558,6 +567,8 @@ fn reported_on_texts<R: Threads + Wait + Sync, H: Shelf, G: Gate + Sync>(
         IfOk result (λ a. answered a ≡ accepted_answer → IfSome (H.texts shelf.old) (λ shown. CheckedIsSafe words shown)) }
     ensures verified { (words : List (List ℕ)) → Asks words mode.now options.now →
         IfOk result (λ a. (answered a).status ≡ 0 → IfSome (H.texts shelf.old) (λ shown. VerifiedIsSafe words shown)) }
+    ensures ranked { (words : List (List ℕ)) → Asks words mode.now options.now →
+        IfOk result (λ a. (answered a).status ≡ 0 → IfSome (H.texts shelf.old) (λ shown. RankedIsGraph words shown)) }
     ensures no_usage { IfOk result (λ a. (answered a).status ≢ 4) }
     ensures fault { result ≡ Err Halt.Fault → Rose (H.faults shelf.old) (H.faults shelf.new) }
     ensures no_fault { result ≢ Err Halt.Fault → H.faults shelf.new ≡ H.faults shelf.old }
@@ -571,6 +582,10 @@ fn reported_on_texts<R: Threads + Wait + Sync, H: Shelf, G: Gate + Sync>(
         Mode::Verify { program: _ } => verified_by(rt, alloc, shelf, &text, options, gate),
         Mode::Check { program: _, second } => checked_by(alloc, shelf, &text, second, options),
         Mode::Replay { program: _, second } => replayed_by(alloc, shelf, &text, second, options),
+        Mode::Lasso { program: _, second } => rankings::found(alloc, shelf, &text, second, options),
+        Mode::Ranked { program: _, second } => {
+            rankings::checked(alloc, shelf, &text, second, options.entry)
+        }
     }
 }
 
@@ -590,6 +605,8 @@ pub(crate) fn reported<R: Threads + Wait + Sync, H: Shelf, G: Gate + Sync>(
     ensures verified { IfOk result (λ a. (answered a).status ≡ 0 → IfSome (H.texts shelf.old) (λ shown.
         VerifiedIsSafe (map string_bytes words.now) shown)) }
     ensures built { IfOk result (λ a. (answered a).status ≡ 0 → BuiltIsSafe (map string_bytes words.now)) }
+    ensures ranked { IfOk result (λ a. (answered a).status ≡ 0 → IfSome (H.texts shelf.old) (λ shown.
+        RankedIsGraph (map string_bytes words.now) shown)) }
     ensures usage { IfOk result (λ a. ((answered a).status ≡ 4 → requested (map string_bytes words.now) ≡ None)
         × (requested (map string_bytes words.now) ≡ None → (answered a).status ≡ 4)) }
     ensures fault { result ≡ Err Halt.Fault → Rose (H.faults shelf.old) (H.faults shelf.new) }

@@ -2,6 +2,7 @@ ghost use Rattle.std.specs.Prelude.{false, true, ◌≡◌, ◌≢◌, ◌<◌, 
 ghost use Rattle.std.specs.String.{string_bytes};
 ghost use Rattle.std.specs.List.{AllByRecursion};
 ghost use Rattle.outer_io.specs.Faults.{Rose};
+ghost use Rattle.outer_io.specs.Texts.{text_named};
 ghost use Rattle.boogie_run.specs.declared.types.AssertId.{AssertId};
 ghost use Rattle.boogie_types.specs.Resolved.{resolved_program};
 ghost use Rattle.generated_program.specs.Generated.{generated};
@@ -20,10 +21,12 @@ ghost use Rattle.typing_rules.specs.ValidProgram.{is_valid};
 ghost use Rattle.boogie_run.specs.Runs.{IsSafe};
 ghost use Rattle.race_rounds.specs.declared.limits.Limits.{Limits};
 ghost use Rattle.race_completeness.specs.Words.{HasWordsAmong};
+ghost use Rattle.lasso_ranks.specs.Lassos.{PlainLasso};
 ghost use Rattle.modular_cut.specs.Parts.{parts_of};
 ghost use Rattle.modular_cut.specs.View.{IsValidPart};
 ghost use Rattle.automizer_top.specs.Parts.{ReportsParts};
 ghost use Rattle.automizer_top.specs.PartClaims.{AreVerdictsOn, PrintsPartFailure, PartFails};
+ghost use Rattle.automizer_top.specs.RankingClaims.{AskedLassoEnds, RankedLassoEnds, IsFoundOn};
 ghost use Rattle.automizer_top.specs.Completeness.{HasDifferenceRows, SaysUnknown};
 ghost use Rattle.automizer_top.specs.CommandLine as line;
 ghost use Rattle.automizer_top.specs.CommandLine.{Settings, requested};
@@ -84,11 +87,17 @@ pub fn run<R: Threads + Wait + Sync, H: Shelf, K: Sink, G: Gate + Sync>(
         × (requested (map string_bytes words.now) ≡ None → result ≢ 5 → result ≢ 6 → result ≡ 4) }
 
     // Status 0 says that a program was printed, that no run of a checked, verified or generated one fails an assertion, also where that was shown part by
-    // part, or that one was replayed that does; or with `--modular` that one of a part was. `accepted` says the second.
+    // part, or that one was replayed that does, or with `--modular` that one of a part was; or that no states obey a lasso for ever, of which a ranking
+    // was found or checked. `accepted` says the second, or the last of a ranking that was checked; and the second where a check was asked for.
     ensures accepted_is_safe { result ≡ 0 → IfSome (H.texts shelf.old) (λ shown.
         PrintsProgram (map string_bytes words.now) shown ⊎ (ProgramIsSafe (map string_bytes words.now) shown ⊎ (ProgramFails (map string_bytes words.now) shown
-        ⊎ (GeneratedIsSafe (map string_bytes words.now) ⊎ PartFails (map string_bytes words.now) shown)))) }
+        ⊎ (GeneratedIsSafe (map string_bytes words.now) ⊎ (PartFails (map string_bytes words.now) shown
+        ⊎ (AskedLassoEnds (map string_bytes words.now) shown ⊎ RankedLassoEnds (map string_bytes words.now) shown)))))) }
     ensures accepted_text_is_safe { WhereTold (H.texts shelf.old) (K.taken sink.old) (λ shown before.
+        K.taken sink.new ≡ Some (before ++ codes "accepted\n") →
+        ProgramIsSafe (map string_bytes words.now) shown ⊎ RankedLassoEnds (map string_bytes words.now) shown) }
+    ensures checked_is_safe { (s : Settings) (program second : List ℕ) → Ask (map string_bytes words.now) s (line.Check program second) →
+        WhereTold (H.texts shelf.old) (K.taken sink.old) (λ shown before.
         K.taken sink.new ≡ Some (before ++ codes "accepted\n") → ProgramIsSafe (map string_bytes words.now) shown) }
 
     // Status 5 comes only from the outside, and a count that rises gives it.
@@ -132,12 +141,14 @@ pub fn reports_are_answers()
 {}
 
 /// The report allows one answer at most, so each output comes exactly where its case holds; but of several typing rules that a
-/// program breaks any may be named, and of several verdicts on one program, on its parts, or on the generated one, any may be told.
+/// program breaks any may be named, and of several verdicts on one program, on its parts, or on the generated one, any may be told; and of what the
+/// search for a ranking of one lasso finds.
 pub fn one_report()
     ensures { (words : List (List ℕ)) (texts : List (List ℕ × List ℕ)) (a b : Answer) → Reports words texts a → Reports words texts b →
         (a ≡ b) ⊎ ((IsTypingRefusal a × IsTypingRefusal b) ⊎ (((t : TypedProgram) × IsVerdictOn words texts t a × IsVerdictOn words texts t b)
         ⊎ (((s : Settings) × (count : ℕ) × Ask words s (line.Big count) × ReportsBig s.limits count a × ReportsBig s.limits count b)
-        ⊎ ((t : TypedProgram) × AreVerdictsOn words texts t a × AreVerdictsOn words texts t b)))) }
+        ⊎ (((t : TypedProgram) × AreVerdictsOn words texts t a × AreVerdictsOn words texts t b)
+        ⊎ ((t : TypedProgram) × (l : PlainLasso) × IsFoundOn words texts t l a × IsFoundOn words texts t l b))))) }
 {}
 
 /// What `verify` writes is confirmed where its bytes are handed over with the same program and the same entry, and with `--modular` in both words or in
@@ -150,6 +161,15 @@ pub fn verdicts_are_confirmed()
     ensures replayed { (words again : List (List ℕ)) (r s : Settings) (program second : List ℕ) (before after : List (List ℕ × List ℕ)) (a b : Answer) →
         Ask words r (line.Verify program) → Ask again s (line.Replay program second) → Reports words before a → a.status ≡ 1 →
         IsHandedOver program second r s before after a → Reports again after b → RefusesEarlier r before a ⊎ ((id : AssertId) × (b ≡ replayed_answer id)) }
+{}
+
+/// What `lasso` writes with status 0 `ranked` accepts, where its bytes are handed over with the same program and the same entry, whatever the other
+/// options.
+pub fn rankings_are_accepted()
+    ensures { (words again : List (List ℕ)) (r s : Settings) (program lasso second : List ℕ) (before after : List (List ℕ × List ℕ)) (a b : Answer) →
+        Ask words r (line.Lasso program lasso) → Ask again s (line.Ranked program second) → Reports words before a → a.status ≡ 0 →
+        s.entry ≡ r.entry → text_named program after ≡ text_named program before → text_named second after ≡ Some a.bytes →
+        Reports again after b → b ≡ accepted_answer }
 {}
 
 /// What `verify` says is so, whatever the limits, and whatever entry the race began with. Its statuses 0, 1 and 2 are those of a verdict on the typed

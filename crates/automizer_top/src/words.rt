@@ -24,6 +24,10 @@ pub(crate) enum Mode<'a> {
     Print { program: &'a str },
     /// `verify PROGRAM`
     Verify { program: &'a str },
+    /// `lasso PROGRAM SECOND`
+    Lasso { program: &'a str, second: &'a str },
+    /// `ranked PROGRAM SECOND`
+    Ranked { program: &'a str, second: &'a str },
 }
 
 impl<'a> Mode<'a> {
@@ -34,6 +38,8 @@ impl<'a> Mode<'a> {
         match self {
             Mode::Check { program, second: _ }
             | Mode::Replay { program, second: _ }
+            | Mode::Lasso { program, second: _ }
+            | Mode::Ranked { program, second: _ }
             | Mode::Print { program }
             | Mode::Verify { program } => program,
         }
@@ -184,6 +190,8 @@ fn task_of_two<'a>(mode: &str, program: &'a str, second: &'a str) -> Option<Task
     match mode {
         "check" => Some(Task::Texts(Mode::Check { program, second })),
         "replay" => Some(Task::Texts(Mode::Replay { program, second })),
+        "lasso" => Some(Task::Texts(Mode::Lasso { program, second })),
+        "ranked" => Some(Task::Texts(Mode::Ranked { program, second })),
         _ => None,
     }
 }

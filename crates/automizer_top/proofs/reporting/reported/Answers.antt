@@ -7,6 +7,7 @@ use Rattle.automizer_top.specs.ReportTexts.{Answer}
 use Rattle.automizer_top.specs.Report.{Ask}
 use Rattle.automizer_top.proofs.UsageLaws.{asks_by, asks_texts, asks_big, used_by_code, used_by_summary}
 use Rattle.automizer_top.proofs.BigLaws.{big_reported, big_built, no_check, no_verdict, unbuilt}
+use Rattle.automizer_top.proofs.RankingWords.{no_ranking}
 use Rattle.automizer_top.proofs.reporting.reported.Goals as goal
 
 pub returns-in-Texts-clause-reported : goal.returns-in-Texts-clause-reported
@@ -29,6 +30,13 @@ returns-in-Texts-clause-verified g c =
     asks_by (map string_bytes c.args.words.now) c.in_ok-request.field-0 c.in-Some.request c.in-Some.is c.in_ok-request.ensures.value in
     let texts : Asks (map string_bytes c.args.words.now) c.in-Texts.mode c.in-Some.request.options = asks_texts (map string_bytes c.args.words.now) c.in-Some.request c.in-Texts.mode c.in-Texts.is ask in
     c.reported_on_texts.ensures.verified (map string_bytes c.args.words.now) texts
+
+pub returns-in-Texts-clause-ranked : goal.returns-in-Texts-clause-ranked
+returns-in-Texts-clause-ranked g c =
+    let ask : requested (map string_bytes c.args.words.now) ≡ Some (asked c.in-Some.request) =
+    asks_by (map string_bytes c.args.words.now) c.in_ok-request.field-0 c.in-Some.request c.in-Some.is c.in_ok-request.ensures.value in
+    let texts : Asks (map string_bytes c.args.words.now) c.in-Texts.mode c.in-Some.request.options = asks_texts (map string_bytes c.args.words.now) c.in-Some.request c.in-Texts.mode c.in-Texts.is ask in
+    c.reported_on_texts.ensures.ranked (map string_bytes c.args.words.now) texts
 
 pub returns-in-Texts-clause-built : goal.returns-in-Texts-clause-built
 returns-in-Texts-clause-built g c =
@@ -64,6 +72,13 @@ returns-in_ok-summed-in-Generated-clause-verified g c =
     let big : Ask (map string_bytes c.args.words.now) (settings c.in-Some.request.options) (Big c.in-Generated.count) = asks_big (map string_bytes c.args.words.now) c.in-Some.request c.in-Generated.count c.in-Generated.is ask in
     λ z. no_verdict (map string_bytes c.args.words.now) (settings c.in-Some.request.options) c.in-Generated.count (g.H.Shelf.texts c.args.shelf.now) big
 
+pub returns-in_ok-summed-in-Generated-clause-ranked : goal.returns-in_ok-summed-in-Generated-clause-ranked
+returns-in_ok-summed-in-Generated-clause-ranked g c =
+    let ask : requested (map string_bytes c.args.words.now) ≡ Some (asked c.in-Some.request) =
+    asks_by (map string_bytes c.args.words.now) c.in_ok-request.field-0 c.in-Some.request c.in-Some.is c.in_ok-request.ensures.value in
+    let big : Ask (map string_bytes c.args.words.now) (settings c.in-Some.request.options) (Big c.in-Generated.count) = asks_big (map string_bytes c.args.words.now) c.in-Some.request c.in-Generated.count c.in-Generated.is ask in
+    λ z. no_ranking (map string_bytes c.args.words.now) (settings c.in-Some.request.options) c.in-Generated.count (g.H.Shelf.texts c.args.shelf.now) big
+
 pub returns-in_ok-summed-in-Generated-clause-built : goal.returns-in_ok-summed-in-Generated-clause-built
 returns-in_ok-summed-in-Generated-clause-built g c =
     let ask : requested (map string_bytes c.args.words.now) ≡ Some (asked c.in-Some.request) =
@@ -87,3 +102,6 @@ returns-in_default-clause-verified g c = λ z. absurd (omega arith)
 
 pub returns-in_default-clause-built : goal.returns-in_default-clause-built
 returns-in_default-clause-built g c = λ z. absurd (omega arith)
+
+pub returns-in_default-clause-ranked : goal.returns-in_default-clause-ranked
+returns-in_default-clause-ranked g c = λ z. absurd (omega arith)

@@ -1,5 +1,4 @@
 use Rattle.std.proofs.Common.{◌∙◌, ◌++◌, ℕ, List, ap, codes}
-use Rattle.std.specs.String.{string_bytes}
 use Rattle.automizer_top.specs.Summary.{head_lines, count_line}
 use Rattle.automizer_top.proofs.SummaryLaws.{five_written}
 use Rattle.automizer_top.proofs.summary.lines.Goals as goal

@@ -1,5 +1,5 @@
 use Rattle.std.proofs.Common.{rules}
-use Rattle.automizer_top.proofs.NumberLaws.{padded_is_none, unread_is_none, outside_is_none, read_is_some}
+use Rattle.automizer_top.proofs.NumberLaws.{padded_is_none, unread_is_none, read_is_some}
 use Rattle.automizer_top.proofs.words.number.Goals as goal
 
 pub returns-then-is_padded-clause-value : goal.returns-then-is_padded-clause-value

@@ -1,0 +1,21 @@
+use Rattle.std.proofs.lemmas.Result.{IfOk-weaker}
+use Rattle.lasso_ranks.specs.Lassos.{plain_lasso}
+use Rattle.automizer_top.specs.Rankings.{IsLassoText, ReportsLassoText, no_lasso_text, no_lasso, of_lasso}
+use Rattle.automizer_top.proofs.RankingLaws.{fault_told}
+use Rattle.automizer_top.proofs.rankings.sought_by.Goals as goal
+
+pub returns-in-Err : goal.returns-in-Err
+returns-in-Err c =
+    fault_told c.in-Err.fault c.faulty.result (ReportsLassoText c.args.depth c.args.icfg.now c.args.text.now) c.faulty.ensures.answer c.faulty.ensures.no_memory
+    (λ a no is. no_lasso_text c.in-Err.fault c.in-Err.ensures.fault no is)
+
+pub returns-in-Ok-placed : goal.returns-in-Ok-placed
+returns-in-Ok-placed c =
+    let text : IsLassoText c.args.text.now (plain_lasso c.in-Ok.lasso) = record { writable = c.in-Ok.ensures.found.0; spelled = c.in-Ok.ensures.found.1 } in
+    IfOk-weaker c.sought.result _ _ (λ a h. of_lasso (plain_lasso c.in-Ok.lasso) text c.in-Ok-placed.ensures.lasso h) c.sought.ensures
+
+pub returns : goal.returns
+returns c =
+    let text : IsLassoText c.args.text.now (plain_lasso c.in-Ok.lasso) = record { writable = c.in-Ok.ensures.found.0; spelled = c.in-Ok.ensures.found.1 } in
+    fault_told c.in-Err-placed.fault c.faulty-in-Err-placed.result (ReportsLassoText c.args.depth c.args.icfg.now c.args.text.now) c.faulty-in-Err-placed.ensures.answer c.faulty-in-Err-placed.ensures.no_memory
+    (λ a no is. no_lasso (plain_lasso c.in-Ok.lasso) c.in-Err-placed.fault text c.in-Err-placed.ensures.fault no is)
