@@ -55,6 +55,21 @@ if [ -x "$program" ]; then
   [ "$(sed -n 1,2p "$text" | tr '\n' ' ')" = 'safe rounds 1 ' ] || wrong 'examples/reuse/after.bpl takes another number of rounds with the annotation of before.bpl'
   "$program" check examples/reuse/before.bpl examples/reuse/before.proof >"$text.answer" || wrong 'examples/reuse/before.proof is not accepted'
   "$program" check examples/reuse/after.bpl "$text" >"$text.answer" || wrong 'the annotation of examples/reuse/after.bpl is not accepted'
+  # Of each lasso that is said which its program tells, and what is found is accepted.
+  for path in examples/lasso/*.lasso; do
+    loop=${path%.lasso}.bpl
+    said=$(sed -nE 's|^// .*By lasso: ([a-z ]+)[.].*|\1|p' "$loop")
+    timeout 60 "$program" lasso "$loop" "$path" >"$text"
+    case "$said" in
+      unknown*) [ "$(cat "$text")" = "$said" ] || wrong "of $path is not said $said" ;;
+      *)
+        [ "$(awk 'NR == 4 { print $1 }' "$text")" = "$said" ] || wrong "of $path is not said $said"
+        "$program" ranked "$loop" "$text" >"$text.answer" || wrong "the ranking of $path is not accepted" ;;
+    esac
+  done
+  "$program" ranked examples/lasso/countdown.bpl examples/lasso/countdown.ranking >"$text.answer" || wrong 'examples/lasso/countdown.ranking is not accepted'
+  said=$("$program" ranked examples/lasso/countdown.bpl examples/lasso/countdown.wrong)
+  [ "$said" = 'rejected 7 BadTriple' ] || wrong "of examples/lasso/countdown.wrong is said: $said"
   rm -f "$text" "$text.answer"
 fi
 # The script runs it too, where no source is newer, through a link from another folder, and names of files are those of that folder.

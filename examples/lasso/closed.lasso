@@ -1,0 +1,4 @@
+lasso 1
+stem 0 1
+loop 2 4
+end

@@ -1,0 +1,4 @@
+lasso 1
+stem 0
+loop 1 3 4
+end
