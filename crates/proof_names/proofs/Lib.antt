@@ -9,6 +9,7 @@ pub mod WidthLaws
 mod NodeLaws
 pub mod TripleLaws
 pub mod PairLaws
+pub mod OnceLaws
 mod SoFarLaws
 pub mod ItemLaws
 pub mod OutlineLaws

@@ -4,6 +4,7 @@
 
 mod columns;
 mod fault;
+pub mod laws;
 mod naming;
 mod nodes;
 mod numbers;
