@@ -1,6 +1,6 @@
 //! The six checks, in their order.
 
-ghost use Rattle.std.specs.Prelude.{◌≡◌, ℕ, Err, List, OnOk, IfSome, IsTrue};
+ghost use Rattle.std.specs.Prelude.{◌≡◌, ℕ, Err, List, IfOk, OnOk, IfSome, IsTrue};
 ghost use Rattle.nwa_base.specs.declared.letters.Letter.{Letter};
 ghost use Rattle.nwa_base.specs.Acceptance.{Accepts};
 ghost use Rattle.letter_acts.specs.Feasible.{IsFeasible};
@@ -148,6 +148,27 @@ fn check_outline(
     check_plan(icfg, proof, &plan)
 }
 
+/// Checks an annotation as `check` does, and answers what its lines name.
+pub fn named_proof(alloc: Global, icfg: &Icfg, proof: &Annotation) -> Result<Outline, Reject>
+    ensures named { IfOk result (λ o. Names icfg.now proof.now (sketch o)) }
+    ensures proves { OnOk result (Proves icfg.now proof.now) }
+    ensures accepts { Proves icfg.now proof.now → (item : ℕ) (cause : RejectCause) → result ≡ Err (Reject.At item cause) → ⊥ }
+    ensures first { (item : ℕ) (cause : RejectCause) → result ≡ Err (Reject.At item cause) → IsFirst icfg.now proof.now item cause }
+    ensures infeasible { OnOk result ((w : List Letter) → Accepts icfg.now.automaton w → IsFeasible (alphabet_of icfg.now) w → ⊥) }
+{
+    match outline(alloc, icfg, proof) {
+        Ok(outline) => {
+            check_outline(alloc, icfg, proof, &outline)?;
+            Ok(outline)
+        }
+        Err(NameFault::At(item)) => Err(Reject::At {
+            item,
+            cause: RejectCause::BadName,
+        }),
+        Err(NameFault::Memory) => Err(Reject::Memory),
+    }
+}
+
 /// Checks an annotation of the graph. `Ok` comes exactly where it proves the graph, want of memory apart; then no word that the
 /// automaton accepts is feasible. `At` names the first check that fails, at its first item.
 pub fn check(alloc: Global, icfg: &Icfg, proof: &Annotation) -> Result<(), Reject>
@@ -156,12 +177,6 @@ pub fn check(alloc: Global, icfg: &Icfg, proof: &Annotation) -> Result<(), Rejec
     ensures first { (item : ℕ) (cause : RejectCause) → result ≡ Err (Reject.At item cause) → IsFirst icfg.now proof.now item cause }
     ensures infeasible { OnOk result ((w : List Letter) → Accepts icfg.now.automaton w → IsFeasible (alphabet_of icfg.now) w → ⊥) }
 {
-    match outline(alloc, icfg, proof) {
-        Ok(outline) => check_outline(alloc, icfg, proof, &outline),
-        Err(NameFault::At(item)) => Err(Reject::At {
-            item,
-            cause: RejectCause::BadName,
-        }),
-        Err(NameFault::Memory) => Err(Reject::Memory),
-    }
+    named_proof(alloc, icfg, proof)?;
+    Ok(())
 }

@@ -11,5 +11,5 @@ mod refuting;
 mod rejects;
 mod sound;
 
-pub use checking::check;
+pub use checking::{check, named_proof};
 pub use rejects::{Reject, RejectCause};
