@@ -1,10 +1,15 @@
 //! How the steps of a letter are made of its rows: which column gets its number when depends on the rows alone, and not on numbers.
 
-use crate::letters::{Entry, Form, Kind, Letters, Procedure, Rest, Span, Step};
+use crate::letters::{
+    Entry, Form, Kind, Letters, Pair, Procedure, Rest, Says, Span, Step, members,
+};
 use boogie_tree::{Column, Ty};
 use letter_acts::Frame;
 use lin_rows::{Row, RowKind};
 use std::alloc::{AllocError, Global};
+
+/// How many terms a row has at most that is narrow.
+const MOST_NARROW_TERMS: usize = 1 << 20;
 
 /// The rows of a letter while its steps are made.
 #[derive(Drop)]
@@ -154,18 +159,24 @@ impl<'a> Draft<'a> {
         match (self.open(row), row.kind()) {
             (Open::Nothing, kind) => {
                 let rest = add_rest(letters, row, None)?;
-                letters.steps.push(Step::Tested { kind, rest })?;
+                let says = match kind {
+                    RowKind::Le => Says::NotNegative,
+                    RowKind::Eq => Says::Zero,
+                };
+                let step = row_step(letters, rest, says);
+                letters.steps.push(step)?;
                 self.finish(number);
                 Ok(false)
             }
             (Open::One(place, coefficient), RowKind::Eq) => {
                 let column = self.column(place);
                 let rest = add_rest(letters, row, Some(column))?;
-                letters.steps.push(Step::Forced {
+                let says = Says::Forces {
                     column,
                     coefficient,
-                    rest,
-                })?;
+                };
+                let step = row_step(letters, rest, says);
+                letters.steps.push(step)?;
                 self.finish(number);
                 self.close(place);
                 Ok(true)
@@ -184,16 +195,17 @@ impl<'a> Draft<'a> {
         self.sought.iter().position(|column| column.1)
     }
 
-    /// Adds the step that gives a column a number within the bounds of the inequalities in which it is alone.
+    /// Adds the step that gives a column a number within the bounds of the inequalities in which it is alone, if there are any.
     fn choose(&mut self, letters: &mut Letters, place: usize) -> Result<(), AllocError> {
         let first = letters.bounds.len();
         self.add_bounds(letters, place)?;
         let bounds = Span::new(first, letters.bounds.len());
+        let column = self.column(place);
         let ty = self.sought.get(place).map_or(Ty::Int, |sought| sought.0);
-        letters.steps.push(Step::Chosen {
-            column: self.column(place),
-            ty,
-            bounds,
+        letters.steps.push(if bounds.is_empty() {
+            Step::Free { column, ty }
+        } else {
+            Step::Chosen { column, ty, bounds }
         })?;
         self.close(place);
         Ok(())
@@ -218,17 +230,58 @@ impl<'a> Draft<'a> {
 /// What is left of a row's bound without its terms, but for that of one column.
 fn add_rest(letters: &mut Letters, row: &Row, without: Option<usize>) -> Result<Rest, AllocError> {
     let first = letters.terms.len();
+    let mut is_narrow = row.terms().len() <= MOST_NARROW_TERMS && is_narrow_bound(row.bound());
     for &(column, coefficient) in row.terms() {
         let column = column as usize;
         if without != Some(column) {
             letters.terms.push((column, coefficient))?;
+            let narrow = i32::try_from(coefficient).ok();
+            is_narrow &= narrow.is_some();
+            letters
+                .narrow_terms
+                .push((column, i64::from(narrow.unwrap_or(0))))?;
         }
     }
     let terms = Span::new(first, letters.terms.len());
     Ok(Rest {
         bound: row.bound(),
         terms,
+        is_narrow,
     })
+}
+
+/// The step of a row, the last terms of all being those of its rest.
+fn row_step(letters: &Letters, rest: Rest, says: Says) -> Step {
+    match pair_of(letters, &rest, &says) {
+        Some(pair) => Step::Short { pair, rest, says },
+        None => Step::Row { rest, says },
+    }
+}
+
+/// The rest as a pair, where it is narrow and has two terms at most.
+fn pair_of(letters: &Letters, rest: &Rest, says: &Says) -> Option<Pair> {
+    if !rest.is_narrow {
+        return None;
+    }
+    let bound = i64::try_from(rest.bound).ok()?;
+    let (first, second) = match (members(&letters.narrow_terms, rest.terms), says) {
+        (&[], Says::Forces { column, .. }) => ((*column, 0), (*column, 0)),
+        (&[first], _) => (first, (first.0, 0)),
+        (&[first, second], _) => (first, second),
+        _ => return None,
+    };
+    Some(Pair {
+        bound,
+        first: first.0,
+        first_coefficient: first.1,
+        second: second.0,
+        second_coefficient: second.1,
+    })
+}
+
+/// Whether the bound of a row is that of one that may be narrow.
+fn is_narrow_bound(bound: i128) -> bool {
+    i64::try_from(bound).is_ok()
 }
 
 /// What is done at the start: each column of its frame gets a free number, and an old one that of its global.

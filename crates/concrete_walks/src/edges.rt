@@ -1,6 +1,7 @@
 //! Edges on which a walk may go on, in arrays.
 
 use crate::leading::Leading;
+use crate::letters::{Span, members};
 use nwa_base::{Letter, Nwa};
 use std::alloc::{AllocError, Global};
 
@@ -17,24 +18,20 @@ pub(crate) struct Edge {
 
 /// Where the edges of a place stand.
 #[derive(Clone, Copy)]
-struct Stand {
-    /// Its edges inside begin here,
-    inside: usize,
-    /// then come its calls,
-    call: usize,
-    /// up to here.
-    end: usize,
-    /// Its returns begin here,
-    back: usize,
-    /// up to here.
-    back_end: usize,
+pub(crate) struct Stand {
+    pub forward: Span,
+    pub ending: Span,
+    pub backs: Span,
 }
 
 /// The edges of an automaton, those that leave a place side by side.
 #[derive(Drop)]
 pub(crate) struct Edges {
     stands: Vec<Stand>,
+    /// Those by inside letters, and then those by calls.
     forward: Vec<Edge>,
+    /// Those by inside letters that lead to a failure, once more.
+    ending: Vec<Edge>,
     /// The returns, each with the place before its call, ascending by it.
     backs: Vec<(u32, Edge)>,
 }
@@ -45,6 +42,7 @@ impl Edges {
         Edges {
             stands: Vec::new(alloc),
             forward: Vec::new(alloc),
+            ending: Vec::new(alloc),
             backs: Vec::new(alloc),
         }
     }
@@ -55,32 +53,29 @@ impl Edges {
         self.add_places(alloc, nwa, &leading)
     }
 
-    /// The edges that leave a place by inside letters.
-    pub fn inside(&self, place: u32) -> &[Edge] {
-        match self.stands.get(place as usize) {
-            Some(stand) => self.forward.get(stand.inside..stand.call).unwrap_or(&[]),
-            None => &[],
-        }
+    /// Where the edges of a place stand.
+    pub fn stand(&self, place: u32) -> Option<&Stand> {
+        self.stands.get(place as usize)
     }
 
-    /// The edges that leave a place by inside letters, and then those by calls.
-    pub fn forward(&self, place: u32) -> &[Edge] {
-        match self.stands.get(place as usize) {
-            Some(stand) => self.forward.get(stand.inside..stand.end).unwrap_or(&[]),
-            None => &[],
-        }
+    /// The edge by an inside letter to a failure with that number among those that stand there.
+    pub fn ending(&self, stand: &Stand, number: usize) -> Option<&Edge> {
+        self.ending.get(stand.ending.first.wrapping_add(number))
     }
 
-    /// The edges that leave a place by returns, where `before` is the place before the innermost open call, if one is open.
-    pub fn backs(&self, place: u32, before: Option<u32>) -> &[(u32, Edge)] {
-        let (Some(stand), Some(before)) = (self.stands.get(place as usize), before) else {
-            return &[];
-        };
-        let all = self.backs.get(stand.back..stand.back_end).unwrap_or(&[]);
-        let first = all.partition_point(|back| back.0 < before);
-        let rest = all.get(first..).unwrap_or(&[]);
-        let count = rest.partition_point(|back| back.0 == before);
-        rest.get(..count).unwrap_or(&[])
+    /// The edge by an inside letter or a call with that number among those that stand there.
+    pub fn forward(&self, stand: &Stand, number: usize) -> Option<&Edge> {
+        self.forward.get(stand.forward.first.wrapping_add(number))
+    }
+
+    /// The edges by returns that stand there, where `before` is the place before the innermost open call, if one is open.
+    pub fn backs(&self, stand: &Stand, before: Option<&u32>) -> &[(u32, Edge)] {
+        match before {
+            Some(&before) if !stand.backs.is_empty() => {
+                backs_after(members(&self.backs, stand.backs), before)
+            }
+            _ => &[],
+        }
     }
 
     /// Adds the edges of all places.
@@ -105,18 +100,27 @@ impl Edges {
         place: u32,
         backs: &[(u32, u32, usize)],
     ) -> Result<(), AllocError> {
-        let (inside, back) = (self.forward.len(), self.backs.len());
+        let (forward, ending) = (self.forward.len(), self.ending.len());
+        let back = self.backs.len();
         self.add_forward(nwa, leading, nwa.insides_leaving(place))?;
-        let call = self.forward.len();
+        self.add_ending(forward)?;
         self.add_forward(nwa, leading, nwa.calls_leaving(place))?;
         self.add_backs(nwa, leading, place, backs)?;
         self.stands.push(Stand {
-            inside,
-            call,
-            end: self.forward.len(),
-            back,
-            back_end: self.backs.len(),
+            forward: Span::new(forward, self.forward.len()),
+            ending: Span::new(ending, self.ending.len()),
+            backs: Span::new(back, self.backs.len()),
         })?;
+        Ok(())
+    }
+
+    /// Adds those that lead to a failure once more, from a number on.
+    fn add_ending(&mut self, first: usize) -> Result<(), AllocError> {
+        for edge in self.forward.get(first..).unwrap_or(&[]) {
+            if edge.ends {
+                self.ending.push(*edge)?;
+            }
+        }
         Ok(())
     }
 
@@ -152,6 +156,14 @@ impl Edges {
         }
         Ok(())
     }
+}
+
+/// Those returns whose place before the call is that one.
+fn backs_after(backs: &[(u32, Edge)], before: u32) -> &[(u32, Edge)] {
+    let first = backs.partition_point(|back| back.0 < before);
+    let rest = backs.get(first..).unwrap_or(&[]);
+    let count = rest.partition_point(|back| back.0 == before);
+    rest.get(..count).unwrap_or(&[])
 }
 
 /// The edge by a letter to a place.

@@ -3,7 +3,6 @@
 use crate::drafting::{Callee, add_call, add_inside, add_procedure, add_return, add_start};
 use boogie_tree::Ty;
 use letter_acts::{Act, Frame, Icfg};
-use lin_rows::RowKind;
 use std::alloc::{AllocError, Global};
 
 /// Members of a list that stand side by side.
@@ -18,6 +17,24 @@ impl Span {
     pub fn new(first: usize, end: usize) -> Self {
         Span { first, end }
     }
+
+    /// Whether there are none.
+    pub fn is_empty(self) -> bool {
+        self.first >= self.end
+    }
+
+    /// How many there are.
+    pub fn len(self) -> usize {
+        self.end.saturating_sub(self.first)
+    }
+}
+
+/// The members that stand there.
+pub(crate) fn members<T>(items: &[T], span: Span) -> &[T] {
+    if span.is_empty() {
+        return &[];
+    }
+    items.get(span.first..span.end).unwrap_or(&[])
 }
 
 /// A bound, from which terms are taken away.
@@ -25,42 +42,47 @@ impl Span {
 pub(crate) struct Rest {
     pub bound: i128,
     pub terms: Span,
+    /// Whether the bound, the coefficients and the count of the terms are so small that no sum of products with numbers of 64 bits
+    /// passes 128 bits.
+    pub is_narrow: bool,
+}
+
+/// A bound, from which two terms at most are taken away, and which all fits 64 bits. Where a term is missing a coefficient is 0.
+#[derive(Clone, Copy)]
+pub(crate) struct Pair {
+    pub bound: i64,
+    pub first: usize,
+    pub first_coefficient: i64,
+    pub second: usize,
+    pub second_coefficient: i64,
+}
+
+/// What a row says of what is left of its bound.
+#[derive(Clone, Copy)]
+pub(crate) enum Says {
+    /// It is not negative.
+    NotNegative,
+    /// It is 0.
+    Zero,
+    /// It is the coefficient times the number of the column, which gets its number so.
+    Forces { column: usize, coefficient: i128 },
 }
 
 /// A step. The columns are those of the present frame, and behind them those that the letter seeks.
 #[derive(Clone, Copy)]
 pub(crate) enum Step {
     /// A column gets the number of another.
-    Copied {
-        column: usize,
-        from: usize,
-    },
+    Copied { column: usize, from: usize },
     /// A column gets a free number of its type.
-    Free {
-        column: usize,
-        ty: Ty,
-    },
-    /// An equality gives the column its number, by what is left of the bound and the column's coefficient.
-    Forced {
-        column: usize,
-        coefficient: i128,
-        rest: Rest,
-    },
+    Free { column: usize, ty: Ty },
+    /// A row holds.
+    Row { rest: Rest, says: Says },
+    /// A narrow row with two terms at most holds.
+    Short { pair: Pair, rest: Rest, says: Says },
     /// A column gets a number within bounds.
-    Chosen {
-        column: usize,
-        ty: Ty,
-        bounds: Span,
-    },
-    /// A row holds, by what is left of its bound.
-    Tested {
-        kind: RowKind,
-        rest: Rest,
-    },
+    Chosen { column: usize, ty: Ty, bounds: Span },
     /// The number of a column is 0 or 1.
-    IsBoolean {
-        column: usize,
-    },
+    IsBoolean { column: usize },
 }
 
 /// How a column of a callee's frame gets its number.
@@ -112,9 +134,13 @@ pub(crate) struct Letters {
     forms: Vec<Form>,
     /// By the procedure's number.
     procedures: Vec<Procedure>,
+    /// How many columns there are at most with those that a letter seeks.
+    widest: usize,
     pub entries: Vec<Entry>,
     pub steps: Vec<Step>,
     pub terms: Vec<(usize, i128)>,
+    /// The same terms for the rests that are narrow; what stands for other ones is of no use.
+    pub narrow_terms: Vec<(usize, i64)>,
     /// Coefficients of a column, and what is left of the bounds of inequalities for it.
     pub bounds: Vec<(i128, Rest)>,
     pub moves: Vec<(usize, usize)>,
@@ -127,22 +153,29 @@ impl Letters {
             start: None,
             forms: Vec::new(alloc),
             procedures: Vec::new(alloc),
+            widest: 0,
             entries: Vec::new(alloc),
             steps: Vec::new(alloc),
             terms: Vec::new(alloc),
+            narrow_terms: Vec::new(alloc),
             bounds: Vec::new(alloc),
             moves: Vec::new(alloc),
         }
     }
 
     /// What is done at the start.
-    pub fn start(&self) -> Option<Form> {
-        self.start
+    pub fn start(&self) -> Option<&Form> {
+        self.start.as_ref()
+    }
+
+    /// How many columns there are at most with those that a letter seeks.
+    pub fn widest(&self) -> usize {
+        self.widest
     }
 
     /// What a letter does.
-    pub fn form(&self, letter: u32) -> Option<Form> {
-        self.forms.get(letter as usize).copied()
+    pub fn form(&self, letter: u32) -> Option<&Form> {
+        self.forms.get(letter as usize)
     }
 
     /// Adds what is done at the start of a program, and what each of its letters does.
@@ -150,10 +183,13 @@ impl Letters {
         self.add_procedures(icfg.frames())?;
         let proc = item(icfg.place_procs(), icfg.nwa().start());
         if let Some(frame) = proc.and_then(|proc| item(icfg.frames(), *proc)) {
-            self.start = Some(add_start(self, frame)?);
+            let form = add_start(self, frame)?;
+            self.widest = self.widest.max(form.all);
+            self.start = Some(form);
         }
         for act in icfg.acts() {
             let form = self.formed(alloc, icfg, act)?;
+            self.widest = self.widest.max(form.all);
             self.forms.push(form)?;
         }
         Ok(())

@@ -3,6 +3,7 @@
 #![tactic(auto)]
 
 mod choices;
+mod columns;
 mod drafting;
 mod edges;
 mod leading;

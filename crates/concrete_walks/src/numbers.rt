@@ -1,14 +1,14 @@
 //! The numbers of a walk.
 
 use crate::choices::Choices;
-use crate::letters::{Entry, Form, Kind, Letters, Procedure, Rest, Span, Step};
-use lin_rows::RowKind;
+use crate::columns::Columns;
+use crate::letters::{Entry, Form, Kind, Letters, Procedure, Rest, Says, Span, Step, members};
 use std::alloc::{AllocError, Global};
 
 /// The numbers of all frames, those of a callee behind those of its caller, and behind the present frame what a letter seeks.
 #[derive(Drop)]
 pub(crate) struct Numbers {
-    all: Vec<i128>,
+    columns: Columns,
     /// Where the present frame begins.
     base: usize,
     /// Where the frames before the open calls begin, the last opened at the end.
@@ -19,7 +19,7 @@ impl Numbers {
     /// No numbers.
     pub fn new(alloc: Global) -> Self {
         Numbers {
-            all: Vec::new(alloc),
+            columns: Columns::new(alloc),
             base: 0,
             callers: Vec::new(alloc),
         }
@@ -29,9 +29,13 @@ impl Numbers {
     pub fn start(&mut self, letters: &Letters, choices: &mut Choices) -> Result<(), AllocError> {
         self.base = 0;
         self.callers.clear();
+        self.columns.make_room(letters.widest())?;
         if let Some(form) = letters.start() {
-            self.make_room(form)?;
-            let _done = self.take_steps(letters, choices, form);
+            for step in members(&letters.steps, form.steps) {
+                if self.take_any_step(letters, choices, step).is_none() {
+                    break;
+                }
+            }
         }
         Ok(())
     }
@@ -46,65 +50,57 @@ impl Numbers {
         let Some(form) = letters.form(letter) else {
             return Ok(false);
         };
-        match form.kind {
-            Kind::Inside => self.take_inside(letters, choices, form),
-            Kind::Call(callee) => self.take_call(letters, choices, form, callee),
+        if let Kind::Call(callee) = &form.kind {
+            self.enter(letters, choices, callee, self.callee_base(form));
+        }
+        if !self.take_steps(letters, choices, form.steps) {
+            return Ok(false);
+        }
+        match &form.kind {
+            Kind::Inside => {
+                if !form.moves.is_empty() {
+                    self.give(letters, form.moves, self.base);
+                }
+                Ok(true)
+            }
+            Kind::Call(_) => {
+                self.callers.push(self.base)?;
+                self.base = self.callee_base(form);
+                let end = self.base.saturating_add(letters.widest());
+                self.columns.make_room(end)?;
+                Ok(true)
+            }
             Kind::Back(callee) => Ok(self.take_back(letters, form, callee)),
             Kind::Missing => Ok(false),
         }
     }
 
-    /// A step inside a procedure: what was found is moved to the written columns.
-    fn take_inside(
-        &mut self,
-        letters: &Letters,
-        choices: &mut Choices,
-        form: Form,
-    ) -> Result<bool, AllocError> {
-        self.make_room(form)?;
-        if self.take_steps(letters, choices, form).is_none() {
-            return Ok(false);
-        }
-        self.give(letters, form.moves, self.base);
-        Ok(true)
-    }
-
-    /// A call: the columns that were sought are the callee's frame.
-    fn take_call(
-        &mut self,
-        letters: &Letters,
-        choices: &mut Choices,
-        form: Form,
-        callee: Procedure,
-    ) -> Result<bool, AllocError> {
-        self.make_room(form)?;
-        let entered = self.base.saturating_add(form.known);
-        self.enter(letters, choices, callee, entered);
-        if self.take_steps(letters, choices, form).is_none() {
-            return Ok(false);
-        }
-        self.callers.push(self.base)?;
-        self.base = entered;
-        Ok(true)
+    /// Where the callee's frame begins at a call: behind the present one, where what is sought begins.
+    fn callee_base(&self, form: &Form) -> usize {
+        self.base.saturating_add(form.known)
     }
 
     /// The columns of a callee, whose frame begins there, get their numbers, but for those that its call seeks.
-    fn enter(&mut self, letters: &Letters, choices: &mut Choices, callee: Procedure, frame: usize) {
+    fn enter(
+        &mut self,
+        letters: &Letters,
+        choices: &mut Choices,
+        callee: &Procedure,
+        frame: usize,
+    ) {
         let entries = members(&letters.entries, callee.entries);
         for (column, entry) in entries.iter().enumerate() {
-            let number = match *entry {
-                Entry::Global(global) => self.number(global),
-                Entry::Free(ty) => Some(choices.value(ty)),
-                Entry::Sought => None,
-            };
-            if let Some(number) = number {
-                self.set(frame, column, number);
+            let place = frame.wrapping_add(column);
+            match *entry {
+                Entry::Global(global) => self.columns.copy(self.base.wrapping_add(global), place),
+                Entry::Free(ty) => self.columns.set(place, choices.value(ty)),
+                Entry::Sought => {}
             }
         }
     }
 
     /// A return: the caller's frame gets the globals, and into the targets the results of the callee.
-    fn take_back(&mut self, letters: &Letters, form: Form, callee: Procedure) -> bool {
+    fn take_back(&mut self, letters: &Letters, form: &Form, callee: &Procedure) -> bool {
         let Some(caller) = self.callers.pop() else {
             return false;
         };
@@ -114,93 +110,138 @@ impl Numbers {
         true
     }
 
-    /// Makes room for all columns that a letter names.
-    fn make_room(&mut self, form: Form) -> Result<(), AllocError> {
-        let end = self.base.saturating_add(form.all);
-        if self.all.len() < end {
-            self.all.resize(end, 0)?;
-        }
-        Ok(())
-    }
-
     /// Moves numbers of the present frame, and of what was found behind it, to the frame that begins there.
     fn give(&mut self, letters: &Letters, moves: Span, frame: usize) {
         for &(column, target) in members(&letters.moves, moves) {
-            if let Some(number) = self.number(column) {
-                self.set(frame, target, number);
-            }
+            self.columns
+                .copy(self.base.wrapping_add(column), frame.wrapping_add(target));
         }
     }
 
     /// The number of a column of the present frame, or behind it.
     fn number(&self, column: usize) -> Option<i128> {
-        self.all.get(self.base.wrapping_add(column)).copied()
+        self.columns.get(self.base.wrapping_add(column))
     }
 
-    /// Gives a column of the frame that begins there its number.
-    fn set(&mut self, frame: usize, column: usize, number: i128) {
-        if let Some(place) = self.all.get_mut(frame.wrapping_add(column)) {
-            *place = number;
-        }
+    /// Gives a column of the present frame, or behind it, its number.
+    fn set(&mut self, column: usize, number: i128) {
+        self.columns.set(self.base.wrapping_add(column), number);
     }
 
-    /// Takes the steps of a letter; None where a row cannot hold, or a number does not fit.
-    fn take_steps(&mut self, letters: &Letters, choices: &mut Choices, form: Form) -> Option<()> {
-        for step in members(&letters.steps, form.steps) {
-            self.take_step(letters, choices, step)?;
-        }
-        Some(())
-    }
-
-    /// Takes one step.
-    fn take_step(&mut self, letters: &Letters, choices: &mut Choices, step: &Step) -> Option<()> {
-        match *step {
-            Step::Copied { column, from } => {
-                let number = self.number(from)?;
-                self.set(self.base, column, number);
-                Some(())
-            }
-            Step::Free { column, ty } => {
-                let number = choices.value(ty);
-                self.set(self.base, column, number);
-                Some(())
-            }
-            Step::Forced {
-                column,
-                coefficient,
-                rest,
-            } => {
-                let number = quotient(self.left(letters, rest)?, coefficient)?;
-                self.set(self.base, column, number);
-                Some(())
-            }
-            Step::Chosen { column, ty, bounds } => {
-                let (low, high) = self.bounds(letters, bounds)?;
-                let number = choices.value_within(ty, low, high)?;
-                self.set(self.base, column, number);
-                Some(())
-            }
-            Step::Tested { kind, rest } => {
-                let left = self.left(letters, rest)?;
-                let holds = match kind {
-                    RowKind::Le => left >= 0,
-                    RowKind::Eq => left == 0,
-                };
-                if holds { Some(()) } else { None }
-            }
-            Step::IsBoolean { column } => {
-                let number = self.number(column)?;
-                if number == 0 || number == 1 {
-                    Some(())
-                } else {
-                    None
+    /// Takes steps; false where a row cannot hold, or a number does not fit.
+    fn take_steps(&mut self, letters: &Letters, choices: &mut Choices, steps: Span) -> bool {
+        let all = letters.steps.as_slice();
+        for at in steps.first..steps.end {
+            if let Some(step) = all.get(at) {
+                if !self.take_step(letters, choices, step) {
+                    return false;
                 }
             }
         }
+        true
     }
 
-    /// What is left of a bound; None where a number does not fit.
-    fn left(&self, letters: &Letters, rest: Rest) -> Option<i128> {
+    /// Takes one step. Nearly all are free numbers and narrow rows over numbers that are not wide: these are taken here, and the others
+    /// apart.
+    fn take_step(&mut self, letters: &Letters, choices: &mut Choices, step: &Step) -> bool {
+        let (left, says) = match step {
+            Step::Short { pair, says, .. } => (self.columns.pair_left(self.base, pair), says),
+            Step::Row { rest, says } if rest.is_narrow => {
+                let terms = letters.narrow_terms.as_slice();
+                let left = self
+                    .columns
+                    .narrow_left(self.base, rest.bound, terms, rest.terms);
+                (left, says)
+            }
+            Step::Free { column, ty } => {
+                self.set(*column, choices.value(*ty));
+                return true;
+            }
+            _ => return self.take_any_step(letters, choices, step).is_some(),
+        };
+        match left {
+            Some(left) => self.use_narrow(says, left),
+            None => self.take_any_step(letters, choices, step).is_some(),
+        }
+    }
+
+    /// Whether what is left of a bound is as the row says; a column may get its number so. What is left is that of a narrow row, so that
+    /// its opposite fits.
+    fn use_narrow(&mut self, says: &Says, left: i128) -> bool {
+        match says {
+            Says::NotNegative => left >= 0,
+            Says::Zero => left == 0,
+            Says::Forces {
+                column,
+                coefficient,
+            } => match *coefficient {
+                1 => {
+                    self.set(*column, left);
+                    true
+                }
+                -1 => {
+                    self.set(*column, left.wrapping_neg());
+                    true
+                }
+                _ => self.force(*column, *coefficient, left),
+            },
+        }
+    }
+
+    /// Gives a column the whole number that times the coefficient is that number, if there is one.
+    fn force(&mut self, column: usize, coefficient: i128, number: i128) -> bool {
+        match quotient(number, coefficient) {
+            Some(number) => {
+                self.set(column, number);
+                true
+            }
+            None => false,
+        }
+    }
+
+    /// Takes one step, of whatever kind and with whatever numbers.
+    fn take_any_step(
+        &mut self,
+        letters: &Letters,
+        choices: &mut Choices,
+        step: &Step,
+    ) -> Option<()> {
+        let holds = match step {
+            Step::Copied { column, from } => {
+                let number = self.number(*from)?;
+                self.set(*column, number);
+                true
+            }
+            Step::Free { column, ty } => {
+                self.set(*column, choices.value(*ty));
+                true
+            }
+            Step::Row { rest, says } | Step::Short { rest, says, .. } => {
+                let left = self.left(letters, rest)?;
+                match says {
+                    Says::NotNegative => left >= 0,
+                    Says::Zero => left == 0,
+                    Says::Forces {
+                        column,
+                        coefficient,
+                    } => self.force(*column, *coefficient, left),
+                }
+            }
+            Step::Chosen { column, ty, bounds } => {
+                let (low, high) = self.bounds(letters, *bounds)?;
+                self.set(*column, choices.value_within(*ty, low, high)?);
+                true
+            }
+            Step::IsBoolean { column } => {
+                let number = self.number(*column)?;
+                number == 0 || number == 1
+            }
+        };
+        if holds { Some(()) } else { None }
+    }
+
+    /// What is left of a bound, whatever the row and the numbers; None where a number does not fit.
+    fn left(&self, letters: &Letters, rest: &Rest) -> Option<i128> {
         let mut left = rest.bound;
         for &(column, coefficient) in members(&letters.terms, rest.terms) {
             let number = self.number(column)?;
@@ -217,9 +258,9 @@ impl Numbers {
     fn bounds(&self, letters: &Letters, bounds: Span) -> Option<(Option<i128>, Option<i128>)> {
         let mut low = None;
         let mut high = None;
-        for &(coefficient, rest) in members(&letters.bounds, bounds) {
-            let end = self.left(letters, rest)?.checked_div_euclid(coefficient)?;
-            if coefficient > 0 {
+        for (coefficient, rest) in members(&letters.bounds, bounds) {
+            let end = floor(self.left(letters, rest)?, *coefficient)?;
+            if *coefficient > 0 {
                 high = Some(high.map_or(end, |other: i128| other.min(end)));
             } else {
                 low = Some(low.map_or(end, |other: i128| other.max(end)));
@@ -229,23 +270,42 @@ impl Numbers {
     }
 }
 
+/// The number through the coefficient, so that the remainder is not negative; None where it does not fit.
+fn floor(number: i128, coefficient: i128) -> Option<i128> {
+    match coefficient {
+        1 => Some(number),
+        -1 => number.checked_neg(),
+        _ => number.checked_div_euclid(coefficient),
+    }
+}
+
 /// The whole number that times the coefficient is that number, if there is one.
 fn quotient(number: i128, coefficient: i128) -> Option<i128> {
     match coefficient {
         1 => Some(number),
         -1 => number.checked_neg(),
-        _ => {
-            let quotient = number.checked_div_euclid(coefficient)?;
-            if coefficient.checked_mul(quotient)? == number {
-                Some(quotient)
-            } else {
-                None
-            }
-        }
+        _ => match (i64::try_from(number), i64::try_from(coefficient)) {
+            (Ok(number), Ok(coefficient)) => narrow_quotient(number, coefficient),
+            _ => wide_quotient(number, coefficient),
+        },
     }
 }
 
-/// The members that stand there.
-fn members<T>(items: &[T], span: Span) -> &[T] {
-    items.get(span.first..span.end).unwrap_or(&[])
+/// The same for numbers that are not wide.
+fn narrow_quotient(number: i64, coefficient: i64) -> Option<i128> {
+    if number.checked_rem(coefficient)? == 0 {
+        Some(i128::from(number.checked_div(coefficient)?))
+    } else {
+        None
+    }
+}
+
+/// The same for numbers that may be wide.
+fn wide_quotient(number: i128, coefficient: i128) -> Option<i128> {
+    let quotient = number.checked_div_euclid(coefficient)?;
+    if coefficient.checked_mul(quotient)? == number {
+        Some(quotient)
+    } else {
+        None
+    }
 }

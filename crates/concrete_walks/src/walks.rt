@@ -4,7 +4,7 @@ ghost use Rattle.std.specs.Prelude.{IfOk, IfSome};
 ghost use Rattle.nwa_base.specs.Acceptance.{Accepts};
 
 use crate::choices::Choices;
-use crate::edges::Edge;
+use crate::edges::{Edge, Edges, Stand};
 use crate::numbers::Numbers;
 use crate::programs::Program;
 use nwa_base::{Kind, Letter, Nwa, Word, accepts, word};
@@ -61,7 +61,10 @@ impl Lengths {
 /// A walk: its letters, where it ends, the places before the calls that are open there, the last one at the end, and its numbers.
 #[derive(Drop)]
 pub(crate) struct Walk {
+    /// Its letters, and behind them some of longer walks before.
     letters: Vec<Letter>,
+    /// How many letters it has.
+    count: usize,
     place: u32,
     callers: Vec<u32>,
     numbers: Numbers,
@@ -72,6 +75,7 @@ impl Walk {
     pub fn new(alloc: Global) -> Self {
         Walk {
             letters: Vec::new(alloc),
+            count: 0,
             place: 0,
             callers: Vec::new(alloc),
             numbers: Numbers::new(alloc),
@@ -87,7 +91,7 @@ impl Walk {
         length: u32,
         tries: &mut u64,
     ) -> Result<bool, AllocError> {
-        self.letters.clear();
+        self.count = 0;
         self.callers.clear();
         self.place = program.start;
         self.numbers.start(&program.letters, choices)?;
@@ -105,27 +109,29 @@ impl Walk {
 
     /// Takes a letter that leads on, if one can be taken, and answers its edge: one to a failure first, else those from which one can
     /// be reached in order from a random one on.
-    fn next(
+    fn next<'a>(
         &mut self,
-        program: &Program,
+        program: &'a Program,
         choices: &mut Choices,
         tries: &mut u64,
-    ) -> Result<Option<Edge>, AllocError> {
-        for edge in program.edges.inside(self.place) {
-            if edge.ends && self.attempt(program, choices, tries, edge)? {
-                return Ok(Some(*edge));
-            }
-        }
-        let forward = program.edges.forward(self.place);
-        let before = self.callers.last().copied();
-        let backs = program.edges.backs(self.place, before);
-        let count = forward.len().saturating_add(backs.len());
-        let first = choices.below(count);
-        for turn in 0..count {
-            let number = first.wrapping_add(turn) % count;
-            if let Some(edge) = edge_at(forward, backs, number) {
+    ) -> Result<Option<&'a Edge>, AllocError> {
+        let Some(stand) = program.edges.stand(self.place) else {
+            return Ok(None);
+        };
+        let backs = program.edges.backs(stand, self.callers.last());
+        let ending = stand.ending.len();
+        let count = stand.forward.len().saturating_add(backs.len());
+        let mut number = 0;
+        for turn in 0..ending.saturating_add(count) {
+            let edge = if turn < ending {
+                program.edges.ending(stand, turn)
+            } else {
+                number = number_in_turn(choices, number, count, turn == ending);
+                edge_at(&program.edges, stand, backs, number)
+            };
+            if let Some(edge) = edge {
                 if edge.leads && self.attempt(program, choices, tries, edge)? {
-                    return Ok(Some(*edge));
+                    return Ok(Some(edge));
                 }
             }
         }
@@ -145,7 +151,7 @@ impl Walk {
     }
 
     /// Goes on along an edge whose letter was taken.
-    fn follow(&mut self, edge: Edge) -> Result<(), AllocError> {
+    fn follow(&mut self, edge: &Edge) -> Result<(), AllocError> {
         match edge.letter.kind {
             Kind::Inside => {}
             Kind::Call => self.callers.push(self.place)?,
@@ -153,8 +159,17 @@ impl Walk {
                 let _before = self.callers.pop();
             }
         }
-        self.letters.push(edge.letter)?;
         self.place = edge.to;
+        self.add_letter(edge.letter)
+    }
+
+    /// Puts a letter behind those of the walk.
+    fn add_letter(&mut self, letter: Letter) -> Result<(), AllocError> {
+        match self.letters.get_mut(self.count) {
+            Some(place) => *place = letter,
+            None => self.letters.push(letter)?,
+        }
+        self.count = self.count.saturating_add(1);
         Ok(())
     }
 
@@ -162,7 +177,8 @@ impl Walk {
     pub fn word(&self, alloc: Global, nwa: &Nwa) -> Result<Option<Word>, AllocError>
         ensures { IfOk result (λ o. IfSome o (Accepts nwa.now)) }
     {
-        match word(Vec::from_slice(alloc, &self.letters)?) {
+        let letters = self.letters.get(..self.count).unwrap_or(&[]);
+        match word(Vec::from_slice(alloc, letters)?) {
             Some(word) => {
                 if accepts(alloc, nwa, &word)? {
                     Ok(Some(word))
@@ -175,11 +191,25 @@ impl Walk {
     }
 }
 
+/// The number of the edge that is tried next: a random one first, then that behind the last one, and behind the last of all the first.
+fn number_in_turn(choices: &mut Choices, last: usize, count: usize, is_first: bool) -> usize {
+    if is_first {
+        return choices.below(count);
+    }
+    let next = last.wrapping_add(1);
+    if next < count { next } else { 0 }
+}
+
 /// The edge with a number: first those forward, then the returns.
-fn edge_at<'a>(forward: &'a [Edge], backs: &'a [(u32, Edge)], number: usize) -> Option<&'a Edge> {
-    match forward.get(number) {
-        Some(edge) => Some(edge),
-        None => match backs.get(number.saturating_sub(forward.len())) {
+fn edge_at<'a>(
+    edges: &'a Edges,
+    stand: &Stand,
+    backs: &'a [(u32, Edge)],
+    number: usize,
+) -> Option<&'a Edge> {
+    match number.checked_sub(stand.forward.len()) {
+        None => edges.forward(stand, number),
+        Some(number) => match backs.get(number) {
             Some(back) => Some(&back.1),
             None => None,
         },
