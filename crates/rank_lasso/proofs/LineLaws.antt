@@ -1,5 +1,6 @@
 -- Lines at the front of a text, by their kinds.
-use Rattle.std.proofs.Common.{◌≡◌, ◌≢◌, ℕ, length, List, [], ◌∷◌, ◌++◌, Option, Some, None, refl, sym, ◌∙◌, subst, arith}
+use Rattle.std.proofs.Common.{◌≡◌, ◌≢◌, ℕ, Bool, true, nat_eq, length, List, [], ◌∷◌, ◌++◌, Option, Some, None, refl, sym, ap, ◌∙◌, subst, arith}
+use Rattle.std.proofs.lemmas.Bool.{eqb-true}
 use Rattle.rank_lasso.specs.LassoText.{letters_text}
 use Rattle.rank_lasso.specs.Lines.{HasNo, line_text, Spells, ReadsAll, LineKind, AreSomeShort, IsContent, Lacks}
 use Rattle.rank_lasso.proofs.Cuts.{same_line}
@@ -37,3 +38,7 @@ read_as {V = V} view P text bytes (Some w) v e h =
 pub no_members : {A : Type 0} (xs : List A) → length xs ≡ 0 → xs ≡ []
 no_members [] e = refl
 no_members (x ∷ xs) e = absurd (omega arith)
+
+-- nothing stands behind the word
+pub bare_read : (word text content rest : List ℕ) (b : Bool) → b ≡ nat_eq (length content) 0 → b ≡ true → text ≡ line_text word content ++ rest → text ≡ line_text word [] ++ rest
+bare_read word text content rest b e f is = is ∙ ap (λ c. line_text word c ++ rest) (no_members content (eqb-true (length content) 0 (sym e ∙ f)))

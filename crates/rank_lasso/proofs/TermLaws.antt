@@ -1,5 +1,5 @@
 -- Terms at the front of bytes.
-use Rattle.std.proofs.Common.{◌≡◌, ◌≢◌, ℕ, false, List, ◌∷◌, ◌++◌, IsTrue, refl, sym, ap, ◌∙◌, append_assoc}
+use Rattle.std.proofs.Common.{◌≡◌, ◌≢◌, ℕ, true, false, List, ◌∷◌, ◌++◌, IsTrue, refl, sym, ap, ◌∙◌, append_assoc}
 use Rattle.std.proofs.lemmas.Bool.{false≢true}
 use Rattle.proof_form.specs.declared.numerals.Numeral.{Numeral}
 use Rattle.proof_form.specs.Names.{is_column}
@@ -20,6 +20,10 @@ NoTerm bytes = (t : Numeral × List ℕ) (more : List ℕ) → IsTrue (is_rank_t
 
 regrouped : (t : Numeral × List ℕ) (more : List ℕ) → term_text t ++ more ≡ 32 ∷ (numeral_text t.0 ++ (32 ∷ (t.1 ++ more)))
 regrouped t more = ap (λ x. 32 ∷ x) (append_assoc (numeral_text t.0) (32 ∷ t.1) more)
+
+-- no word stands there
+pub no_first_word : (bytes : List ℕ) → ((rest : List ℕ) → bytes ≢ 32 ∷ rest) → NoTerm bytes
+no_first_word bytes none t more h b e = none (numeral_text t.0 ++ (32 ∷ (t.1 ++ more))) (e ∙ regrouped t more)
 
 -- the two words of a term
 record TwoWords (number rest : List ℕ) (t : Numeral × List ℕ) (more : List ℕ) : Type 0 where
@@ -58,3 +62,12 @@ no_column bytes number rest column behind w v f t more h b e =
 pub no_coefficient : (bytes number rest : List ℕ) → IsWord bytes number rest → (Spells IsNumeral numeral_text number → ⊥) → NoTerm bytes
 no_coefficient bytes number rest w none t more h b e =
     none (t.0, (both_hold (is_numeral t.0) (is_column t.1) h).0, (two_words bytes number rest w t more h e).numeral)
+
+-- a term is
+pub term_read : (bytes number rest column behind : List ℕ) (n : Numeral) → IsWord bytes number rest → IsWord rest column behind → is_column column ≡ true → is_numeral n ≡ true →
+    number ≡ numeral_text n → IsTrue (is_rank_term (n, column)) × IsBreak behind × (bytes ≡ term_text (n, column) ++ behind)
+term_read bytes number rest column behind n w v c h e = (
+  rw (h, c) refl,
+  v.1,
+  w.2 ∙ ap (λ x. 32 ∷ (x ++ rest)) e ∙ ap (λ x. 32 ∷ (numeral_text n ++ x)) v.2 ∙ sym (regrouped (n, column) behind),
+)

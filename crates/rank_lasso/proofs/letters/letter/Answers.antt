@@ -1,4 +1,4 @@
-use Rattle.std.proofs.Common.{sym}
+use Rattle.std.proofs.Common.{sym, arith}
 use Rattle.boogie_tree.specs.Names.{is_digit}
 use Rattle.proof_form.proofs.ListLaws.{each_passes}
 use Rattle.rank_lasso.proofs.LetterLaws.{not_digits, letter_of}
@@ -12,3 +12,6 @@ number_of-requires c = each_passes is_digit c.args.word.now (sym c.if-not-all_di
 
 pub returns : goal.returns
 returns c = letter_of c.args.word.now c.in_ok-number_of.field-0 c.try_from.result c.ok.result c.try_from.ensures c.ok.ensures.value c.in_ok-number_of.ensures
+
+pub returns-in_err-number_of : goal.returns-in_err-number_of
+returns-in_err-number_of c = rw c.from_residual.ensures (λ n l. c.in_err-number_of.ensures n (omega arith))
