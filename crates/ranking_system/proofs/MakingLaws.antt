@@ -70,12 +70,10 @@ column_next f i start now new r h e g =
     e ∙ ap (λ (v : List LinearRow). v ++ r ∷ []) h ∙ append_assoc start (map f (columns_from 0 i)) (r ∷ []) ∙
     ap (λ (q : LinearRow). start ++ (map f (columns_from 0 i) ++ q ∷ [])) g ∙ sym (ap (λ (v : List LinearRow). start ++ v) more)
 
--- rows that are made in four parts
-pub rows_made : (falls bounded ends one two three four : List LinearRow) (r : LinearRow) → one ≡ falls → two ≡ one ++ bounded → three ≡ two ++ r ∷ [] → four ≡ three ++ ends →
-    four ≡ falls ++ (bounded ++ (r ∷ ends))
-rows_made falls bounded ends one two three four r e f g h =
-    h ∙ ap (λ (v : List LinearRow). v ++ ends) (g ∙ ap (λ (v : List LinearRow). v ++ r ∷ []) (f ∙ ap (λ (v : List LinearRow). v ++ bounded) e)) ∙
-    append_assoc (falls ++ bounded) (r ∷ []) ends ∙ append_assoc falls bounded (r ∷ ends)
+-- rows that are made in three parts
+pub rows_made : (falls bounded ends one two three : List LinearRow) → one ≡ falls → two ≡ one ++ bounded → three ≡ two ++ ends → three ≡ falls ++ (bounded ++ ends)
+rows_made falls bounded ends one two three e f g =
+    g ∙ ap (λ (v : List LinearRow). v ++ ends) (f ∙ ap (λ (v : List LinearRow). v ++ bounded) e) ∙ append_assoc falls bounded ends
 
 -- the signs of the next row
 pub signs_next : (j : ℕ) (rows : List LinearRow) (i : ℕ) (d : LinearRow) (now new whole : List LinearRow) → i < length rows →

@@ -178,6 +178,11 @@ falls_next after terms i now new whole c z l h e f g =
     ap (λ (y : ℤ). now ++ (slice_index after t.0, y) ∷ rest) (g ∙ negated_is t.1 t.1 refl) ∙
     ap (λ (v : List (ℕ × ℤ)). now ++ opposite (at_versions after v)) (sym (split_at terms i (0, pos 0) l)) ∙ h
 
+pub falls_end : (after : List ℕ) (terms : List (ℕ × ℤ)) (i : ℕ) (now whole : List (ℕ × ℤ)) → length terms ≤ i →
+    now ++ opposite (at_versions after (drop i terms)) ≡ whole → now ≡ whole
+falls_end after terms i now whole l h =
+    sym (append-nil now) ∙ ap (λ (v : List (ℕ × ℤ)). now ++ opposite (at_versions after v)) (sym (dropped i terms l)) ∙ h
+
 pub fits_at : (a b : List (ℕ × ℤ)) (i : ℕ) (d : ℕ × ℤ) → AllByRecursion (λ t. Fits t.1) (a ++ b) → i < length a → Fits (get_or a i d).1
 fits_at [] b i d h l = absurd (omega (arith, l))
 fits_at (t ∷ a) b zero d h l = h.0

@@ -34,13 +34,11 @@ pub fn ranking_rows(alloc: Global, turn: &MadeTurn, rows: &[Row]) -> Result<Vec<
     ensures { IfOk result (λ v. v.items ≡ ranking_rows (plain_turn turn.now) rows.now) }
 {
     know_rows(rows);
-    let mut before = Vec::new(alloc);
-    add_columns(&mut before, 0, turn.width)?;
+    let before = first_columns(alloc, turn.width)?;
     let mut made = Vec::new(alloc);
     add_falls(alloc, rows, &before, &turn.here, turn.made, &mut made)?;
     add_bounded(alloc, rows, &before, turn.made, &mut made)?;
-    made.push(falls_by_one(alloc, rows)?)?;
-    add_signs(alloc, rows, &mut made)?;
+    add_ends(alloc, rows, &mut made)?;
     Ok(made)
 }
 
@@ -51,6 +49,16 @@ fn know_rows(rows: &[Row])
     for row in rows {
         let _terms = row.terms();
     }
+}
+
+/// So many columns.
+fn first_columns(alloc: Global, count: usize) -> Result<Vec<Col>, AllocError>
+    requires { count ≤ 2 ^ 32 }
+    ensures { IfOk result (λ v. v.items ≡ columns_from 0 count) }
+{
+    let mut columns = Vec::new(alloc);
+    add_columns(&mut columns, 0, count)?;
+    Ok(columns)
 }
 
 /// Adds, for each column below a number, the row that says what the rows add up to there for the fall.
@@ -127,6 +135,16 @@ fn bounded_at(alloc: Global, rows: &[Row], before: &[Col], column: Col) -> Resul
     fitting_row(alloc, &given, RowKind::Eq, 0)
 }
 
+/// Adds that the bounds add up to -1 at most, and that the multipliers of inequalities are at least 0.
+fn add_ends(alloc: Global, rows: &[Row], made: &mut Vec<Row>) -> Result<(), AllocError>
+    requires valid { AllByRecursion IsRow rows.now }
+    requires room { length rows.now + length rows.now ≤ 2 ^ 32 }
+    ensures { OnOk result (made.new.items ≡ made.old.items ++ (falls_by_one rows.now ∷ signs 0 (length rows.now) rows.now)) }
+{
+    made.push(falls_by_one(alloc, rows)?)?;
+    add_signs(alloc, rows, made)
+}
+
 /// The bounds add up to -1 at most.
 fn falls_by_one(alloc: Global, rows: &[Row]) -> Result<Row, AllocError>
     requires valid { AllByRecursion IsRow rows.now }
@@ -190,10 +208,16 @@ fn add_standing(
     ensures { OnOk result (given.new.items ≡ given.old.items ++ weighted first (map (λ v. if nat_eq v column then factor else pos 0) versions.now)) }
 {
     for (i, version) in versions.iter().enumerate() {
-        let stands = if *version == column { factor } else { 0 };
-        given.push(((first + i) as u32, stands))?;
+        given.push(((first + i) as u32, standing(*version, column, factor)))?;
     }
     Ok(())
+}
+
+/// The factor, if the version is the column, and else 0.
+fn standing(version: Col, column: Col, factor: i128) -> i128
+    ensures { result ≡ (if nat_eq version column then factor else pos 0) }
+{
+    if version == column { factor } else { 0 }
 }
 
 /// Adds that the two multipliers of each inequality are at least 0.

@@ -1,11 +1,15 @@
-use Rattle.std.proofs.Common.{◌++◌, ◌-ℤ◌, pos, length, get_or, FitsSigned, refl, rules}
+use Rattle.std.proofs.Common.{◌≡◌, ◌∙◌, ℕ, ℤ, List, ◌++◌, ◌-ℤ◌, pos, length, get_or, FitsSigned, refl, sym, subst, rules}
+use Rattle.std.specs.Prelude.{IfOk}
 use Rattle.std.specs.Int.{w128}
 use Rattle.std.proofs.lemmas.Int.{to_z-of_z}
 use Rattle.math_facts.specs.Terms.{opposite}
+use Rattle.lin_rows.specs.declared.types.RowKind.TheVariants.{Le}
+use Rattle.lin_rows.specs.Sums.{row_of, SumsFit}
 use Rattle.lin_rows.proofs.PointLemmas.{IsBelow_at}
 use Rattle.lasso_turns.specs.Claims.{at_versions}
-use Rattle.ranking_system.proofs.TakenLaws.{falls_next, fits_at, negated_is_kept}
+use Rattle.ranking_system.proofs.TakenLaws.{falls_next, falls_end, fits_at, negated_is_kept}
 use Rattle.ranking_system.proofs.points.fall_row.Goals as goal
+use Rattle.ranking_system.proofs.points.fall_row.Goals.{After-deref}
 
 pub bounds-after-column : goal.bounds-after-column
 bounds-after-column c = IsBelow_at (length c.args.after.now) c.args.terms.now c.loop-column.column-index (0, pos 0) c.loop-column-test.true c.requires.within
@@ -18,3 +22,16 @@ loop-column-preserved c =
     falls_next c.args.after.now c.args.terms.now c.loop-column.column-index c.loop-column.given.items c.push.new.self.items
     (c.args.terms.now ++ opposite (at_versions c.args.after.now c.args.terms.now)) _ _ c.loop-column-test.true c.loop-column.invariant
     (simp to_z-of_z at c.in_ok-push.ensures.items) refl refl
+
+given : (c : After-deref) → c.deref.result.now ≡ c.args.terms.now ++ opposite (at_versions c.args.after.now c.args.terms.now)
+given c =
+    c.deref.ensures.value ∙
+    falls_end c.args.after.now c.args.terms.now c.loop-column.column-index c.loop-column.given.items (c.args.terms.now ++ opposite (at_versions c.args.after.now c.args.terms.now))
+    c.loop-column-test.false c.loop-column.invariant
+
+pub fitting_row-requires : goal.fitting_row-requires
+fitting_row-requires c = subst (λ (v : List (ℕ × ℤ)). SumsFit v (pos 0)) (sym (given c)) c.requires.fits
+
+pub returns : goal.returns
+returns c =
+    subst (λ (v : List (ℕ × ℤ)). IfOk c.fitting_row.result (λ r. r ≡ row_of v Le (pos 0))) (given (goal.at.returns c).After-deref) c.fitting_row.ensures.value
