@@ -2,12 +2,13 @@
 use Rattle.std.proofs.Common.{◌≡◌, ◌≢◌, ℕ, zero, suc, ◌*◌, ◌/◌, ◌%◌, ◌^◌, ◌<◌, ◌≤◌, Bool, true, false, ℤ, pos, negsuc, ◌*ℤ◌, neg_ℤ, ◌<ℤ◌, FitsSigned, ap, refl, sym, ◌∙◌, subst, arith}
 use Rattle.std.specs.Prelude.{unsigned_abs, int_div}
 use Rattle.std.specs.Int.{IsGcd, ◌∣◌, int_div_euclid, w128}
-use Rattle.std.proofs.Math.Nat.{mul-div_cancel', pos_of_dvd_of_pos, le_of_dvd, mod-eq-zero_of_dvd}
+use Rattle.std.proofs.Math.Nat.{mul-div_cancel', pos_of_dvd_of_pos, le_of_dvd, mod-eq-zero_of_dvd, dvd-mul_left}
 use Rattle.std.proofs.lemmas.Int.{ints}
-use Rattle.math_facts.proofs.Whole.{product_neg_left, product_neg_right, product_neg_neg}
+use Rattle.math_facts.proofs.Whole.{product_neg_left, product_neg_right, product_neg_neg, product_one_left}
 use Rattle.math_facts.proofs.Division.{exact, exact-int_div}
 use Rattle.frac.specs.Signs.{differ_in_sign, with_sign}
 use Rattle.frac.specs.Fractions.{Fraction, IsLowest, IsFraction, IsRatio, IsTooLarge}
+use Rattle.frac.specs.Reduced.{Reduces}
 use Rattle.frac.proofs.Divisors.{coprime_quotients}
 use Rattle.frac.proofs.LowestTerms.{too_large}
 
@@ -107,3 +108,17 @@ pub reduced_too_large : (n d : ℤ) (g : ℕ) → d ≢ pos 0 → IsGcd (unsigne
 reduced_too_large n d g z h past =
     too_large (reduced n d g) n d z (reduced_lowest n d g z h) (reduced_ratio n d g h)
     (λ f. past (subst (λ (x : ℕ). x < 2 ^ 127) (with_sign_abs (differ_in_sign n d) (unsigned_abs n / g)) f.0, f.1))
+
+-- ---- a number and 1
+
+one_divides : (n : ℕ) → 1 ∣ n
+one_divides n = subst (λ (m : ℕ). 1 ∣ m) (let e : n * 1 ≡ n = omega arith in e) (dvd-mul_left 1 n)
+
+-- they share no divisor but 1
+pub reduced_by_one : (a : ℤ) → Reduces a (pos 1) (pos 1) a (pos 1)
+reduced_by_one a = record {
+  positive = omega (arith, ints);
+  divisor = (one_divides (unsigned_abs a), one_divides 1, λ d e f. f);
+  first = product_one_left a;
+  second = product_one_left (pos 1);
+}

@@ -1,6 +1,6 @@
 //! Whole numbers: greatest common divisors, quotients without rest, and sums and products that fit.
 
-ghost use Rattle.std.specs.Prelude.{◌≡◌, ◌^◌, ◌<◌, ℤ, pos, ◌+ℤ◌, ◌*ℤ◌, ◌<ℤ◌, unsigned_abs};
+ghost use Rattle.std.specs.Prelude.{◌≡◌, ◌^◌, ◌<◌, ℤ, pos, ◌+ℤ◌, ◌*ℤ◌, ◌<ℤ◌, unsigned_abs, IsTrue};
 ghost use Rattle.std.specs.Int.{IsGcd, int_div_euclid, ◌∣◌};
 ghost use Rattle.std.specs.Result.{OkIff};
 ghost use Rattle.math_facts.specs.Fits.{Fits};
@@ -8,7 +8,7 @@ ghost use Rattle.frac.specs.Reduced.{Reduces};
 ghost use Rattle.frac.specs.Signs.{differ_in_sign, with_sign};
 
 use crate::types::Past;
-use math_facts::greatest_divisor;
+use math_facts::{checked_product, greatest_divisor};
 
 /// The greatest common divisor of a number and a positive one.
 pub fn common_divisor(a: i128, b: i128) -> i128
@@ -26,7 +26,7 @@ pub fn quotient(a: i128, divisor: i128) -> i128
     ensures value { result ≡ int_div_euclid a divisor }
     ensures exact { divisor *ℤ result ≡ a }
 {
-    a / divisor
+    if divisor == 1 { a } else { a / divisor }
 }
 
 /// Two numbers divided by their greatest common divisor.
@@ -42,12 +42,26 @@ pub fn reduce(a: i128, b: i128) -> Reduced
     requires { pos 0 <ℤ b }
     ensures { Reduces a b result.divisor result.first result.second }
 {
+    if b == 1 {
+        return Reduced {
+            divisor: 1,
+            first: a,
+            second: 1,
+        };
+    }
     let divisor = common_divisor(a, b);
     Reduced {
         divisor,
         first: quotient(a, divisor),
         second: quotient(b, divisor),
     }
+}
+
+/// Whether a number fits.
+pub fn fits(a: i128) -> bool
+    ensures { IsTrue result → Fits a }
+{
+    a != i128::MIN
 }
 
 /// `a + b`, where it fits.
@@ -64,7 +78,7 @@ pub fn plus(a: i128, b: i128) -> Result<i128, Past>
 pub fn times(a: i128, b: i128) -> Result<i128, Past>
     ensures { OkIff result (Fits (a *ℤ b)) (a *ℤ b) }
 {
-    match a.checked_mul(b) {
+    match checked_product(a, b) {
         Some(product) if product != i128::MIN => Ok(product),
         _ => Err(Past),
     }

@@ -1,7 +1,9 @@
-use Rattle.std.proofs.Common.{rules, FitsSigned}
+use Rattle.std.proofs.Common.{rules, ◌≡◌, ◌∙◌, ℤ, pos, to_z, FitsSigned, ap, sym, subst}
 use Rattle.std.specs.Prelude.{unsigned_abs}
 use Rattle.std.specs.Int.{w128, IsGcd}
 use Rattle.std.proofs.lemmas.Int.{to_z-of_z}
+use Rattle.frac.specs.Reduced.{Reduces}
+use Rattle.frac.proofs.Reducing.{reduced_by_one}
 use Rattle.frac.proofs.numbers.reduce.Goals as goal
 use Rattle.frac.proofs.numbers.reduce.Goals.{After-common_divisor-divisor}
 
@@ -36,3 +38,10 @@ returns c =
       first = simp to_z-of_z at c.quotient.ensures.exact;
       second = simp to_z-of_z at c.quotient-2.ensures.exact;
     })
+
+pub returns-then-b-eq1 : goal.returns-then-b-eq1
+returns-then-b-eq1 c =
+    let f : FitsSigned w128 c.args.a = c.ranges.a in
+    let g : FitsSigned w128 c.args.b = c.ranges.b in
+    let one : c.args.b ≡ pos 1 = sym (to_z-of_z w128 c.args.b g) ∙ ap (to_z w128) c.if-b-eq1.true in
+    simp to_z-of_z (subst (λ (z : ℤ). Reduces c.args.a z (pos 1) c.args.a (pos 1)) (sym one) (reduced_by_one c.args.a))
