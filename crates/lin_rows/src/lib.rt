@@ -24,7 +24,7 @@ pub use numbers::plus_times;
 pub use points::{all_hold, holds, sum_at};
 pub use sums::add_scaled;
 pub use systems::{System, copied_rows};
-pub use tightening::tighten;
+pub use tightening::{is_tight, tighten};
 pub use types::{Col, Past, Row, RowFault, RowKind};
 
 /// Rows with a contradicting combination hold together at no whole point (Farkas, 1902).

@@ -4,6 +4,8 @@ ghost use Rattle.std.specs.Prelude.{ℤ, ◌+ℤ◌, ◌*ℤ◌, SomeIff};
 ghost use Rattle.math_facts.specs.Fits.{Fits};
 ghost use Rattle.lin_rows.specs.Negating.{below_opposite};
 
+use math_facts::checked_product;
+
 /// `a + b`, where it fits.
 pub fn plus(a: i128, b: i128) -> Option<i128>
     ensures { SomeIff result (Fits (a +ℤ b)) (a +ℤ b) }
@@ -16,7 +18,7 @@ pub fn plus(a: i128, b: i128) -> Option<i128>
 pub fn times(a: i128, b: i128) -> Option<i128>
     ensures { SomeIff result (Fits (a *ℤ b)) (a *ℤ b) }
 {
-    let product = a.checked_mul(b)?;
+    let product = checked_product(a, b)?;
     if product != i128::MIN {
         Some(product)
     } else {

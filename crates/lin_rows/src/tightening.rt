@@ -3,7 +3,7 @@ ghost use Rattle.std.specs.List.{AllByRecursion};
 ghost use Rattle.lin_rows.specs.Rows.{IsCoefficient, IsRow, Holds};
 ghost use Rattle.lin_rows.specs.Tightening.{all_divisible, content, divided, tightened};
 
-use crate::types::{Col, Row, RowKind, Terms};
+use crate::types::{Col, Row, RowKind, Terms, copied_terms};
 use math_facts::greatest_divisor;
 use std::alloc::{AllocError, Global};
 
@@ -16,7 +16,7 @@ pub fn tighten(alloc: Global, row: &Row) -> Result<Row, AllocError>
 {
     let divisor = content(row.terms());
     if divisor <= 1 {
-        let terms = Terms::from_slice(alloc, row.terms())?;
+        let terms = copied_terms(alloc, row.terms())?;
         return Ok(Row::new(terms, row.kind(), row.bound()));
     }
     if row.kind() == RowKind::Eq && row.bound().unsigned_abs() % divisor != 0 {
@@ -25,6 +25,14 @@ pub fn tighten(alloc: Global, row: &Row) -> Result<Row, AllocError>
     let divisor = divisor as i128;
     let terms = divided(alloc, row.terms(), divisor)?;
     Ok(Row::new(terms, row.kind(), row.bound().div_euclid(divisor)))
+}
+
+/// Whether the coefficients of a row are seen to have no common divisor, so that the row is its own tightened row.
+pub fn is_tight(row: &Row) -> bool
+    ensures same { IsTrue result → tightened row.now ≡ row.now }
+    ensures valid { IsRow row.now }
+{
+    content(row.terms()) <= 1
 }
 
 /// The greatest number that divides each coefficient; 0 where there is no term.

@@ -1,7 +1,7 @@
 ghost use Rattle.std.specs.Prelude.{◌≡◌, IfOk};
 
 use smallvec::SmallVec;
-use std::alloc::{AllocError, AllocFailed};
+use std::alloc::{AllocError, AllocFailed, Global};
 use std::marker::Model;
 use thiserror::Error;
 
@@ -52,8 +52,19 @@ impl<T: Drop> From<AllocFailed<T>> for RowFault {
     }
 }
 
-/// Terms of a row, of which up to four need no allocation.
-pub(crate) type Terms = SmallVec<(Col, i128), 4>;
+/// Terms of a row, of which up to two need no allocation: most rows have no more, and rows are moved often.
+pub(crate) type Terms = SmallVec<(Col, i128), 2>;
+
+/// A copy of terms. One or two need no list that grows.
+pub(crate) fn copied_terms(alloc: Global, terms: &[(Col, i128)]) -> Result<Terms, AllocError>
+    ensures { IfOk result (λ copy. copy.items ≡ terms.now) }
+{
+    match terms {
+        [one] => Ok(Terms::from_buf_and_len(alloc, [*one, *one], 1)),
+        [one, other] => Ok(Terms::from_buf(alloc, [*one, *other])),
+        _ => Terms::from_slice(alloc, terms),
+    }
+}
 
 /// A row over whole numbers. Its terms ascend by column, no coefficient is 0, and all numbers fit.
 #[derive(Drop)]
@@ -97,7 +108,7 @@ impl Row {
         ensures value { IfOk result (λ r. r ≡ self.now) }
         ensures valid { IsRow self.now }
     {
-        let terms = Terms::from_slice(*self.terms.allocator(), self.terms.as_slice())?;
+        let terms = copied_terms(*self.terms.allocator(), self.terms.as_slice())?;
         Ok(Row {
             terms,
             kind: self.kind,

@@ -30,7 +30,7 @@ exact_of c =
 pub returns-then-divisor-le1-clause-value : goal.returns-then-divisor-le1-clause-value
 returns-then-divisor-le1-clause-value c =
     let f : FitsSigned w128 c.bound.result = search rules in
-    (rw (c.in_ok-terms.ensures.ok, c.terms-then-divisor-le1.ensures.value, c.kind.ensures, c.bound.ensures) at (simp to_z-of_z at c.new.ensures)) ∙
+    (rw (c.in_ok-terms.ensures, c.terms-then-divisor-le1.ensures.value, c.kind.ensures, c.bound.ensures) at (simp to_z-of_z at c.new.ensures)) ∙
     sym (tightened_stays c.args.row.now (rw (content_of (goal.at.returns-then-divisor-le1-clause-value c).After-content-divisor) c.if-divisor-le1.true))
 
 pub returns-then-divisor-le1-clause-same_points : goal.returns-then-divisor-le1-clause-same_points
@@ -87,7 +87,7 @@ returns-clause-same_points c = λ point. holds_tightened point c.args.row.now c.
 pub new-requires : goal.new-requires
 new-requires c =
     let f : FitsSigned w128 c.bound.result = search rules in
-    simp to_z-of_z (rw (c.in_ok-terms.ensures.ok, c.terms-then-divisor-le1.ensures.value, c.kind.ensures, c.bound.ensures) c.terms.ensures.valid)
+    simp to_z-of_z (rw (c.in_ok-terms.ensures, c.terms-then-divisor-le1.ensures.value, c.kind.ensures, c.bound.ensures) c.terms.ensures.valid)
 
 pub returns-then-divisor-le1-clause-valid : goal.returns-then-divisor-le1-clause-valid
 returns-then-divisor-le1-clause-valid c =
