@@ -1,12 +1,13 @@
 -- The test of one leaf, part by part: each step keeps what the parts that are left have to do.
-use Rattle.std.proofs.Common.{◌≡◌, ◌↔◌, ℕ, zero, suc, ◌+◌, ◌<◌, ◌≤◌, ℤ, pos, ◌+ℤ◌, ◌<ℤ◌, List, [], ◌∷◌, length, drop, get_or, sym, refl, subst, arith}
+use Rattle.std.proofs.Common.{◌≡◌, ◌↔◌, ◌∙◌, ℕ, zero, suc, ◌+◌, ◌<◌, ◌≤◌, ℤ, pos, ◌+ℤ◌, ◌<ℤ◌, List, [], ◌∷◌, length, drop, map, get_or, ap, sym, refl, subst, arith}
 use Rattle.std.specs.List.{AllByRecursion}
 use Rattle.std.proofs.lemmas.Int.{ints}
-use Rattle.std.proofs.lemmas.List.{drop_more, drop_all}
+use Rattle.std.proofs.lemmas.List.{drop_more, drop_all, length-map}
 use Rattle.math_facts.specs.Fits.{Fits}
 use Rattle.math_facts.specs.Terms.{coefficient}
 use Rattle.lin_rows.specs.declared.types.RowKind.{RowKind}
 use Rattle.lin_rows.specs.Rows.{LinearRow, AscendsFrom}
+use Rattle.lin_rows.specs.Tightening.{tightened}
 use Rattle.lin_rows.specs.Combinations.{row_at, Multiplies, IsPart, combined, RunFits, Contradicts}
 use Rattle.farkas_check.specs.Leaves.{PartSum, columns_of, MayFollow, RowFits, AddsRow, CanAdd, AddsPart, IsContradiction}
 
@@ -175,3 +176,29 @@ pub ContradictsFrom-drop_all : (rows : List LinearRow) (next : ℕ) (sum : PartS
     length parts ≤ i → ContradictsFrom rows next sum (drop i parts) ↔ IsContradiction sum
 ContradictsFrom-drop_all rows next sum parts i l =
     subst (λ (rest : List (ℕ × ℤ)). ContradictsFrom rows next sum rest ↔ IsContradiction sum) (sym (drop_all i parts l)) (ContradictsFrom_end rows next sum)
+
+-- ---- rows that are still to be tightened
+
+-- the tight form of the row that was read at a number
+pub tightened_read : (rows : List LinearRow) (n : ℕ) (row tight : LinearRow) → n < length rows → row ≡ get_or rows n row → tight ≡ tightened row →
+    tight ≡ get_or (map tightened rows) n tight
+tightened_read [] n row tight l e f = absurd (omega arith)
+tightened_read (r ∷ rs) zero row tight l e f = f ∙ ap tightened e
+tightened_read (r ∷ rs) (suc n) row tight l e f = tightened_read rs n row tight (omega arith) e f
+
+-- a part whose row is tightened and added to the sum
+pub AddsPart_tightened : (rows : List LinearRow) (next : ℕ) (sum : PartSum) (n : ℕ) (m : ℤ) (row tight : LinearRow) (new : PartSum) →
+    next ≤ n → n < length rows → row ≡ get_or rows n row → tight ≡ tightened row → Fits m × Multiplies m tight.kind × AddsRow sum m tight new →
+    AddsPart (map tightened rows) next sum (n, m) (n + 1) new
+AddsPart_tightened rows next sum n m row tight new a l e f b =
+    let read : tight ≡ get_or (map tightened rows) n tight = tightened_read rows n row tight l e f in
+    let exists : n < length (map tightened rows) = rw (length-map rows tightened) l in
+    AddsPart-read (map tightened rows) next sum n m tight new read (MayFollow-read (map tightened rows) next n m tight tight.kind a exists read refl b.1 b.0) b.2
+
+-- and one that cannot be added
+pub CanAdd_not_tightened : (rows : List LinearRow) (next : ℕ) (sum : PartSum) (n : ℕ) (m : ℤ) (row tight : LinearRow) →
+    n < length rows → row ≡ get_or rows n row → tight ≡ tightened row → (Fits m → Multiplies m tight.kind → RowFits sum m tight → ⊥) →
+    CanAdd (map tightened rows) next sum (n, m) → ⊥
+CanAdd_not_tightened rows next sum n m row tight l e f none a =
+    let read : tight ≡ get_or (map tightened rows) n tight = tightened_read rows n row tight l e f in
+    CanAdd_not (map tightened rows) next sum n m tight read (none a.follows.fits (MayFollow-multiplies (map tightened rows) next n m tight tight.kind read refl a.follows)) a

@@ -299,6 +299,7 @@ impl<'a> Walk<'a> {
             (goals_left self.new ≡ goals_of rest.entry (goal_at_hand self.old) ++ goals_left self.old) }
     {
         self.wait(rest)?;
+        self.rows.reserve(member.rows.len())?;
         push_tightened(self.alloc, &mut self.rows, &member.rows)?;
         push_groups(&mut self.groups, &member.groups)?;
         Ok(())
