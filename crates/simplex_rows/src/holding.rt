@@ -1,10 +1,10 @@
 //! Columns that are moved towards values, and kept there.
 
 use crate::forms::{Form, Term, Variable, coefficient_of};
-use crate::numbers::{product, ratio, whole};
+use crate::numbers::{less, multiplied, product, ratio, whole};
 use crate::tableau::{Line, Solved, Tableau, Violated};
 use crate::types::{Parts, Stop};
-use frac::{Frac, add, cmp, mul, num, sub};
+use frac::{Frac, cmp, num};
 use lin_rows::{Col, RowKind};
 use std::cmp::Ordering;
 
@@ -61,24 +61,25 @@ impl<'a> Tableau<'a> {
 
     /// Takes out of a line what is no variable of the forms, and gives it the value at hand.
     fn take_variables_out(&self, line: &mut Line) -> Result<(), Stop> {
+        let mut spare = Vec::new(self.alloc);
         for Solved { column, zero } in &self.solved {
-            line.substitute(self.alloc, Variable::Column(*column), zero.as_slice())?;
+            line.substitute(&mut spare, Variable::Column(*column), zero.as_slice())?;
         }
         for other in &self.lines {
-            self.take_row_out(line, other)?;
+            self.take_row_out(line, other, &mut spare)?;
         }
         line.value = self.value_at_hand(line)?;
         Ok(())
     }
 
-    /// Takes the row of another line out of a line.
-    fn take_row_out(&self, line: &mut Line, other: &Line) -> Result<(), Stop> {
+    /// Takes the row of another line out of a line. The form is overwritten.
+    fn take_row_out(&self, line: &mut Line, other: &Line, spare: &mut Form) -> Result<(), Stop> {
         let variable = Variable::Sum(other.row);
         if coefficient_of(line.form.as_slice(), variable) == 0 {
             return Ok(());
         }
         let zero = self.zero_of(other)?;
-        line.substitute(self.alloc, variable, zero.as_slice())
+        line.substitute(spare, variable, zero.as_slice())
     }
 
     /// The value of a line at the values of its variables.
@@ -169,8 +170,8 @@ impl<'a> Tableau<'a> {
 
     /// How far the variable with that coefficient moves until the line has the bound of its row.
     pub(crate) fn way_to_bound(&self, line: &Line, coefficient: i128) -> Result<Frac, Stop> {
-        let missing = sub(&whole(self.bound(line.row)?)?, &line.value)?;
-        Ok(mul(&missing, &ratio(line.denominator, coefficient)?)?)
+        let missing = less(self.bound(line.row)?, &line.value)?;
+        multiplied(&missing, &ratio(line.denominator, coefficient)?)
     }
 
     /// Makes a variable of the row that fixes a column, which has the value that is said. It is forced where no other may move.

@@ -5,6 +5,7 @@ use crate::tableau::{Tableau, Way};
 use crate::types::{Parts, Picked, Stop};
 use frac::{Frac, den, floor, is_whole, num};
 use lin_rows::{Col, Row, RowKind};
+use math_facts::checked_product;
 use std::alloc::{AllocError, Global};
 
 /// A proposal for the picked point of rows over the columns below `columns`: multipliers that are to refute the rows as they are
@@ -318,7 +319,7 @@ fn is_passed(room: i128, sign: i128) -> bool {
 
 /// `a - b*c`.
 fn less_product(a: i128, b: i128, c: i128) -> Result<i128, Stop> {
-    let Some(product) = b.checked_mul(c) else {
+    let Some(product) = checked_product(b, c) else {
         return Err(Stop::Past);
     };
     a.checked_sub(product).ok_or(Stop::Past)

@@ -1,12 +1,15 @@
 //! The tableau: what rows add up to, as forms over variables that may be moved.
 
-use crate::forms::{Form, Term, Variable, coefficient_of, combined, form_of, reduce};
-use crate::numbers::{product, ratio, whole};
+use crate::forms::{
+    Form, Term, Variable, coefficient_of, combine, drop_term, form_of, negate, put_term, reduce,
+};
+use crate::numbers::{added, multiplied, opposite, product, ratio, whole};
 use crate::types::{Parts, Stop};
-use frac::{Frac, add, den, div, floor, is_whole, mul, num, sub};
+use frac::{Frac, den, floor, is_whole, num};
 use lin_rows::{Col, Row, RowKind};
 use std::alloc::Global;
 use std::cmp::Ordering;
+use std::mem::swap;
 
 /// What a row adds up to, where it is no variable of the forms: a form, divided by one positive denominator, and the value
 /// at hand.
@@ -19,27 +22,55 @@ pub(crate) struct Line {
 }
 
 impl Line {
+    /// How far the value moves where a variable does that has that coefficient.
+    fn step(&self, coefficient: i128, moved: &Frac) -> Result<Frac, Stop> {
+        if self.denominator == 1 && is_whole(moved) {
+            whole(product(coefficient, num(moved))?)
+        } else {
+            multiplied(&ratio(coefficient, self.denominator)?, moved)
+        }
+    }
+
     /// Moves the value.
     fn move_by(&mut self, step: &Frac) -> Result<(), Stop> {
-        self.value = add(&self.value, step)?;
+        self.value = added(&self.value, step)?;
         Ok(())
     }
 
-    /// Takes away so many times a form that is 0.
-    fn subtract(&mut self, alloc: Global, times: &Frac, zero: &[Term]) -> Result<(), Stop> {
-        let (own, less) = (den(times), product(-1, num(times))?);
-        self.form = combined(alloc, own, self.form.as_slice(), less, zero)?;
-        self.denominator = product(own, self.denominator)?;
+    /// Takes away `n/d` times a form that is 0. The other form is overwritten.
+    fn subtract(&mut self, spare: &mut Form, n: i128, d: i128, zero: &[Term]) -> Result<(), Stop> {
+        match d {
+            // most forms have the coefficient 1 or -1 of what is taken out by them
+            1 => self.add_times(spare, 1, opposite(n)?, zero),
+            -1 => self.add_times(spare, 1, n, zero),
+            _ => {
+                let times = ratio(n, d)?;
+                self.add_times(spare, den(&times), opposite(num(&times))?, zero)
+            }
+        }
+    }
+
+    /// Adds so many times a form that is 0 to so many times its own. The other form is overwritten.
+    fn add_times(
+        &mut self,
+        spare: &mut Form,
+        own: i128,
+        times: i128,
+        zero: &[Term],
+    ) -> Result<(), Stop> {
+        combine(spare, own, self.form.as_slice(), times, zero)?;
+        swap(&mut self.form, spare);
         if own != 1 {
+            self.denominator = product(own, self.denominator)?;
             reduce(&mut self.form, &mut self.denominator);
         }
         Ok(())
     }
 
-    /// Takes a variable out, by a form that is 0 and has that coefficient of it, and moves it.
+    /// Takes a variable out, by a form that is 0 and has that coefficient of it, and moves it. The other form is overwritten.
     fn take_out(
         &mut self,
-        alloc: Global,
+        spare: &mut Form,
         by: Term,
         zero: &[Term],
         moved: &Frac,
@@ -48,21 +79,23 @@ impl Line {
         if other == 0 {
             return Ok(());
         }
-        self.move_by(&mul(&ratio(other, self.denominator)?, moved)?)?;
-        self.subtract(alloc, &ratio(other, by.1)?, zero)
+        if num(moved) != 0 {
+            let step = self.step(other, moved)?;
+            self.move_by(&step)?;
+        }
+        self.subtract(spare, other, by.1, zero)
     }
 
-    /// Takes a variable out, by a form that is 0. The value stays as it is.
+    /// Takes a variable out, by a form that is 0. The value stays as it is. The other form is overwritten.
     pub(crate) fn substitute(
         &mut self,
-        alloc: Global,
+        spare: &mut Form,
         variable: Variable,
         zero: &[Term],
     ) -> Result<(), Stop> {
         let other = coefficient_of(self.form.as_slice(), variable);
         if other != 0 {
-            let times = ratio(other, coefficient_of(zero, variable))?;
-            self.subtract(alloc, &times, zero)?;
+            self.subtract(spare, other, coefficient_of(zero, variable), zero)?;
         }
         Ok(())
     }
@@ -107,13 +140,18 @@ pub struct Tableau<'a> {
     pub(crate) fixed: Vec<i128>,
     pub(crate) lines: Vec<Line>,
     pub(crate) solved: Vec<Solved>,
+    /// What a form is made in that takes the place of another.
+    spare: Form,
 }
 
 /// How the value compares with a whole number.
 fn compared(value: &Frac, bound: i128) -> Ordering {
-    match floor(value).cmp(&bound) {
-        Ordering::Equal if !is_whole(value) => Ordering::Greater,
-        order => order,
+    if is_whole(value) {
+        num(value).cmp(&bound)
+    } else if floor(value) < bound {
+        Ordering::Less
+    } else {
+        Ordering::Greater
     }
 }
 
@@ -126,6 +164,7 @@ impl<'a> Tableau<'a> {
             fixed: Vec::new(alloc),
             lines: Vec::new(alloc),
             solved: Vec::new(alloc),
+            spare: Vec::new(alloc),
         };
         push_lines(alloc, &mut tableau.lines, rows)?;
         Ok(tableau)
@@ -234,9 +273,22 @@ impl<'a> Tableau<'a> {
             return Err(Stop::Past);
         };
         let moved = self.way_to_bound(line, by.1)?;
-        let zero = self.zero_of(line)?;
-        self.drop_line(place);
+        let zero = self.take_zero(place)?;
         self.exchange(by, zero, &moved)
+    }
+
+    /// Takes a line's form out, with its own row taken away, which is 0. The line is gone.
+    fn take_zero(&mut self, place: usize) -> Result<Form, Stop> {
+        if place >= self.lines.len() {
+            return Err(Stop::Past);
+        }
+        let Line {
+            row,
+            form,
+            denominator,
+            ..
+        } = self.lines.swap_remove(place);
+        with_own(form, row, denominator)
     }
 
     /// Takes a variable out of all lines, by a form that is 0, and moves it. It becomes a line, or a column that is solved for.
@@ -247,20 +299,21 @@ impl<'a> Tableau<'a> {
                 self.solved.push(Solved { column, zero })?;
                 Ok(())
             }
-            Variable::Sum(row) => self.take_line(row, by.1, zero.as_slice(), moved),
+            Variable::Sum(row) => self.take_line(row, by.1, zero, moved),
         }
     }
 
     /// The line's form with its own row taken away, which is 0.
     pub(crate) fn zero_of(&self, line: &Line) -> Result<Form, Stop> {
-        let own = [(Variable::Sum(line.row), line.denominator)];
-        combined(self.alloc, 1, line.form.as_slice(), -1, &own)
+        let mut form = Vec::with_capacity(self.alloc, line.form.len().saturating_add(1))?;
+        form.extend_from_slice(line.form.as_slice())?;
+        with_own(form, line.row, line.denominator)
     }
 
     /// Takes a variable out of all lines, by a form that is 0 and has that coefficient of it, and moves it.
     fn substitute(&mut self, by: Term, zero: &[Term], moved: &Frac) -> Result<(), Stop> {
         for line in &mut self.lines {
-            line.take_out(self.alloc, by, zero, moved)?;
+            line.take_out(&mut self.spare, by, zero, moved)?;
         }
         Ok(())
     }
@@ -270,14 +323,21 @@ impl<'a> Tableau<'a> {
         &mut self,
         row: u32,
         coefficient: i128,
-        zero: &[Term],
+        zero: Form,
         moved: &Frac,
     ) -> Result<(), Stop> {
-        let sign = if coefficient < 0 { 1 } else { -1 };
-        let denominator = product(-sign, coefficient)?;
-        let value = add(&whole(self.bound(row)?)?, moved)?;
-        let own = [(Variable::Sum(row), denominator)];
-        let form = combined(self.alloc, sign, zero, 1, &own)?;
+        let is_negative = coefficient < 0;
+        let denominator = if is_negative {
+            opposite(coefficient)?
+        } else {
+            coefficient
+        };
+        let value = added(&whole(self.bound(row)?)?, moved)?;
+        let mut form = zero;
+        drop_term(&mut form, Variable::Sum(row));
+        if !is_negative {
+            negate(&mut form)?;
+        }
         self.lines.push(Line {
             row,
             form,
@@ -301,8 +361,10 @@ impl<'a> Tableau<'a> {
     /// The values at hand of the columns below a number.
     pub fn point(&self, columns: u32) -> Result<Vec<Frac>, Stop> {
         let mut values = Vec::with_capacity(self.alloc, columns as usize)?;
-        push_zeros(&mut values, columns)?;
-        self.put_solutions(&mut values)?;
+        if columns > 0 {
+            push_zeros(&mut values, columns)?;
+            self.put_solutions(&mut values)?;
+        }
         Ok(values)
     }
 
@@ -346,18 +408,24 @@ impl<'a> Tableau<'a> {
 /// Adds a line for each row at the end, with the value 0.
 fn push_lines(alloc: Global, lines: &mut Vec<Line>, rows: &[Row]) -> Result<(), Stop> {
     lines.reserve(rows.len())?;
+    let zero = whole(0)?;
     for (number, row) in rows.iter().enumerate() {
-        lines.push(line_of(alloc, number, row)?)?;
+        lines.push(line_of(alloc, number, row, zero)?)?;
     }
     Ok(())
 }
 
-/// The line of a row, with the value 0.
-fn line_of(alloc: Global, number: usize, row: &Row) -> Result<Line, Stop> {
+/// The form with its own row taken away, which is 0.
+fn with_own(mut form: Form, row: u32, denominator: i128) -> Result<Form, Stop> {
+    put_term(&mut form, (Variable::Sum(row), opposite(denominator)?))?;
+    Ok(form)
+}
+
+/// The line of a row, with a value.
+fn line_of(alloc: Global, number: usize, row: &Row, value: Frac) -> Result<Line, Stop> {
     let Ok(number) = u32::try_from(number) else {
         return Err(Stop::Past);
     };
-    let value = whole(0)?;
     Ok(Line {
         row: number,
         form: form_of(alloc, row)?,
@@ -379,8 +447,9 @@ fn parts_of(alloc: Global, form: &[Term], sign: i128) -> Result<Parts, Stop> {
 
 /// Adds so many zeros at the end.
 fn push_zeros(values: &mut Vec<Frac>, count: u32) -> Result<(), Stop> {
+    let zero = whole(0)?;
     for _ in 0..count {
-        values.push(whole(0)?)?;
+        values.push(zero)?;
     }
     Ok(())
 }
@@ -395,9 +464,9 @@ fn solution(column: Col, zero: &[Term], values: &[Frac], sums: &[Frac]) -> Resul
             Variable::Sum(row) => sums.get(*row as usize),
         };
         if let Some(at) = at {
-            rest = add(&rest, &mul(&whole(*coefficient)?, at)?)?;
+            rest = added(&rest, &multiplied(&whole(*coefficient)?, at)?)?;
         }
     }
     let own = coefficient_of(zero, Variable::Column(column));
-    Ok(mul(&rest, &ratio(-1, own)?)?)
+    multiplied(&rest, &ratio(-1, own)?)
 }
