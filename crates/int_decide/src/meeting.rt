@@ -9,7 +9,7 @@ ghost use Rattle.int_decide.specs.Picking.{IsOver, AreOver};
 
 use frac::{Frac, den, num};
 use lin_rows::{Row, RowKind, sum_at};
-use math_facts::greatest_divisor;
+use math_facts::{checked_product, greatest_divisor};
 use std::alloc::{AllocError, Global};
 
 /// Whether the point with these values, one for each column, is seen to meet the rows.
@@ -48,8 +48,11 @@ fn common_denominator(values: &[Frac]) -> Option<i128>
 fn common_multiple(a: i128, b: i128) -> Option<i128>
     ensures { IfSome result (λ d. pos 0 <ℤ d) }
 {
+    if b == 1 && a > 0 {
+        return Some(a);
+    }
     let shared = i128::try_from(greatest_divisor(a.unsigned_abs(), b.unsigned_abs())).ok()?;
-    let multiple = a.checked_div(shared)?.checked_mul(b)?;
+    let multiple = checked_product(a.checked_div(shared)?, b)?;
     if multiple > 0 { Some(multiple) } else { None }
 }
 
@@ -71,13 +74,24 @@ fn numerators_over(
     Ok(Some(numerators))
 }
 
-/// The numerator of the value over that denominator.
+/// The numerator of the value over that denominator, which is its own for most values.
 fn numerator_over(value: &Frac, denominator: i128) -> Option<i128>
     ensures { IfSome result (λ p. IsOver denominator value.now p) }
 {
+    if den(value) == denominator {
+        Some(num(value))
+    } else {
+        multiplied_numerator(value, denominator)
+    }
+}
+
+/// The numerator of the value over that denominator, by a division.
+fn multiplied_numerator(value: &Frac, denominator: i128) -> Option<i128>
+    ensures { IfSome result (λ p. IsOver denominator value.now p) }
+{
     let times = denominator.checked_div(den(value))?;
-    let multiple = times.checked_mul(den(value))?;
-    let numerator = num(value).checked_mul(times)?;
+    let multiple = checked_product(times, den(value))?;
+    let numerator = checked_product(num(value), times)?;
     if multiple == denominator {
         Some(numerator)
     } else {
@@ -103,7 +117,7 @@ fn holds_over(row: &Row, denominator: i128, numerators: &[i128]) -> bool
 {
     let (Some(sum), Some(bound)) = (
         sum_at(row.terms(), numerators),
-        row.bound().checked_mul(denominator),
+        checked_product(row.bound(), denominator),
     ) else {
         return false;
     };

@@ -1,6 +1,6 @@
 //! Refutations without cuts: found, or shown to be none.
 
-ghost use Rattle.std.specs.Prelude.{◌≡◌, ◌<◌, ◌^◌, [], IfOk, IfSome, map};
+ghost use Rattle.std.specs.Prelude.{◌≡◌, ◌<◌, ◌^◌, [], IfOk, IfSome, IsTrue, map};
 ghost use Rattle.std.specs.List.{AllByRecursion};
 ghost use Rattle.lin_rows.specs.Rows.{IsRow};
 ghost use Rattle.lin_rows.specs.Systems.{rows_of, groups_of};
@@ -16,7 +16,7 @@ use crate::types::{Answer, DecideFault, Uncut};
 use crate::values::{first_broken, numerators};
 use farkas_check::Node;
 use frac::Frac;
-use lin_rows::{Row, System, tighten};
+use lin_rows::{Row, System, is_tight, tighten};
 use simplex_rows::{Found, Parts, try_solve};
 use std::alloc::{AllocError, Global};
 
@@ -57,8 +57,24 @@ fn of_rows(alloc: Global, system: &System, columns: u32) -> Result<Option<Uncut>
     if !system.groups.is_empty() {
         return Ok(None);
     }
+    if are_tight(&system.rows) {
+        return of_tight_rows(alloc, system, &system.rows, columns);
+    }
     let rows = tight_rows(alloc, &system.rows)?;
     of_tight_rows(alloc, system, &rows, columns)
+}
+
+/// Whether each row is seen to be its own tightened row.
+fn are_tight(rows: &[Row]) -> bool
+    ensures same { IsTrue result → map tightened rows.now ≡ rows.now }
+    ensures valid { IsTrue result → AllByRecursion IsRow rows.now }
+{
+    for row in rows {
+        if !is_tight(row) {
+            return false;
+        }
+    }
+    true
 }
 
 /// Tight forms of the rows.
