@@ -15,6 +15,13 @@ pub(crate) struct Uses {
     equalities: u32,
 }
 
+/// No rows.
+const NO_USES: Uses = Uses {
+    positive: 0,
+    negative: 0,
+    equalities: 0,
+};
+
 /// One more, or one less.
 fn moved(count: u32, more: bool) -> u32 {
     if more {
@@ -50,33 +57,30 @@ impl Uses {
 #[derive(Drop)]
 struct Waiting {
     uses: Vec<Uses>,
+    /// The columns below this number are still to be looked at, the last one first.
+    below: Col,
+    /// Those that come before them.
     columns: Vec<Col>,
 }
 
 impl Waiting {
     /// Those of no rows, over the columns below a number, all of which are to be looked at.
     fn new(alloc: Global, columns: u32) -> Result<Self, Stop> {
-        let mut waiting = Waiting {
-            uses: Vec::new(alloc),
+        Ok(Waiting {
+            uses: vec![in alloc; NO_USES; columns as usize]?,
+            below: columns,
             columns: Vec::new(alloc),
-        };
-        waiting.add_columns(columns)?;
-        Ok(waiting)
+        })
     }
 
-    /// Adds the columns below a number, which no row has.
-    fn add_columns(&mut self, columns: u32) -> Result<(), Stop> {
-        self.uses.reserve(columns as usize)?;
-        self.columns.reserve(columns as usize)?;
-        for column in 0..columns {
-            self.uses.push(Uses {
-                positive: 0,
-                negative: 0,
-                equalities: 0,
-            })?;
-            self.columns.push(column)?;
+    /// The next column, which is to be looked at no more then.
+    fn next(&mut self) -> Option<Col> {
+        let next = self.columns.pop();
+        if next.is_none() && self.below > 0 {
+            self.below -= 1;
+            return Some(self.below);
         }
-        Ok(())
+        next
     }
 
     /// Counts one more or one less row.
@@ -109,8 +113,8 @@ impl Waiting {
 /// Drops the rows of columns that may be moved so that all their rows are met, until there is no such column.
 pub(crate) fn drop_met(alloc: Global, lines: &mut Lines, columns: u32) -> Result<(), Stop> {
     let mut waiting = Waiting::new(alloc, columns)?;
-    for slot in lines.rows() {
-        if let Some(row) = slot {
+    for number in 0..lines.len() {
+        if let Some(row) = lines.row(number) {
             waiting.count(row, true);
         }
     }
@@ -120,7 +124,7 @@ pub(crate) fn drop_met(alloc: Global, lines: &mut Lines, columns: u32) -> Result
 /// Drops the rows of the columns that wait, and of those that come to wait, where they may be moved so that all their rows are met.
 fn drop_waiting(lines: &mut Lines, waiting: &mut Waiting) -> Result<(), Stop> {
     for _look in 0..u64::MAX {
-        let Some(column) = waiting.columns.pop() else {
+        let Some(column) = waiting.next() else {
             break;
         };
         if waiting.is_free(column) {
@@ -132,8 +136,12 @@ fn drop_waiting(lines: &mut Lines, waiting: &mut Waiting) -> Result<(), Stop> {
 
 /// Drops the rows that have a column.
 fn drop_users(lines: &mut Lines, column: Col, waiting: &mut Waiting) -> Result<(), Stop> {
-    for number in &lines.take_users(column) {
-        drop_user(lines, *number, column, waiting)?;
+    let mut users = lines.take_users(column);
+    for _user in 0..lines.most_users() {
+        let Some(number) = lines.next_user(&mut users) else {
+            break;
+        };
+        drop_user(lines, number, column, waiting)?;
     }
     Ok(())
 }
@@ -146,7 +154,7 @@ fn drop_user(
     waiting: &mut Waiting,
 ) -> Result<(), Stop> {
     match lines.take_with(number, column) {
-        Some(row) => waiting.drop_row(&row),
+        Some(row) => waiting.drop_row(row),
         None => Ok(()),
     }
 }

@@ -14,6 +14,7 @@ mod refuting;
 mod searching;
 mod shrinking;
 mod types;
+mod users;
 
 pub use late_trees::late;
 pub use lemma_trees::{Calls, lemmas};

@@ -4,7 +4,7 @@ use crate::dropping::drop_met;
 use crate::lines::{Lines, Step};
 use crate::types::{Parts, Stop};
 use lin_rows::Row;
-use math_facts::greatest_divisor;
+use math_facts::{checked_product, greatest_divisor};
 use simplex_rows::{Found, try_solve};
 use std::alloc::{AllocError, Global};
 
@@ -69,8 +69,8 @@ fn refute(
 
 /// The multiplier of a row that no point meets.
 fn sign_of(lines: &Lines, number: u32) -> i128 {
-    match lines.rows().get(number as usize) {
-        Some(Some(row)) if row.bound() > 0 => -1,
+    match lines.row(number as usize) {
+        Some(row) if row.bound() > 0 => -1,
         _ => 1,
     }
 }
@@ -83,10 +83,9 @@ fn set_multiplier(multipliers: &mut [i128], number: u32, multiplier: i128) {
 }
 
 /// Sets the multipliers that refute the rows that are left.
-fn solve(alloc: Global, lines: &mut Lines, multipliers: &mut [i128]) -> Result<(), Stop> {
-    let mut numbers = Vec::new(alloc);
-    let mut rest = Vec::new(alloc);
-    lines.take_rest(&mut numbers, &mut rest)?;
+fn solve(alloc: Global, lines: &Lines, multipliers: &mut [i128]) -> Result<(), Stop> {
+    let numbers = lines.rest(alloc)?;
+    let rest = lines.copies(alloc, &numbers)?;
     solve_rest(alloc, &numbers, &rest, multipliers)
 }
 
@@ -124,7 +123,7 @@ fn carry_back(multipliers: &mut [i128], steps: &[Step]) -> Result<(), Stop> {
         let Some(multiplier) = multipliers.get(step.to as usize) else {
             return Err(Stop::Nothing);
         };
-        let Some(product) = multiplier.checked_mul(step.times) else {
+        let Some(product) = checked_product(*multiplier, step.times) else {
             return Err(Stop::Nothing);
         };
         let Some(from) = multipliers.get_mut(step.from as usize) else {
@@ -142,7 +141,9 @@ fn carry_back(multipliers: &mut [i128], steps: &[Step]) -> Result<(), Stop> {
 fn divide(multipliers: &mut [i128]) {
     let mut divisor = 0;
     for multiplier in multipliers.iter() {
-        divisor = greatest_divisor(divisor, multiplier.unsigned_abs());
+        if *multiplier != 0 {
+            divisor = greatest_divisor(divisor, multiplier.unsigned_abs());
+        }
         if divisor == 1 {
             return;
         }
