@@ -8,4 +8,5 @@ pub mod WayLemmas
 pub mod ReadingLemmas
 pub mod TracingLemmas
 pub mod StateLemmas
+mod NumberHashLemmas
 mod LoopLemmas

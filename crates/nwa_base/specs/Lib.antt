@@ -1,3 +1,4 @@
+pub mod NumberHashes
 pub mod Groups
 pub mod Members
 pub mod Letters

@@ -2,15 +2,17 @@
 
 ghost use Rattle.std.specs.Prelude.{◌≡◌, ◌↔◌, [], ◌∷◌, ◌++◌, IsTrue, OnOk, OnErr};
 
+use crate::number_hasher::NumberHasher;
 use std::alloc::{AllocError, Global};
 use std::collections::HashSet;
+use std::hash::BuildHasherDefault;
 use std::marker::Model;
 
 /// Final states, in the order in which they were set.
 #[derive(Drop)]
 pub struct Finals {
     list: Vec<u32>,
-    set: HashSet<u32>,
+    set: HashSet<u32, BuildHasherDefault<NumberHasher>>,
 }
 
 impl Model for Finals {
@@ -34,7 +36,7 @@ impl Finals {
     {
         Finals {
             list: Vec::new(alloc),
-            set: HashSet::new(alloc),
+            set: HashSet::with_hasher(alloc, BuildHasherDefault::new()),
         }
     }
 

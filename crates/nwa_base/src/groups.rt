@@ -4,15 +4,16 @@ ghost use Rattle.std.specs.HashMap.{get};
 ghost use Rattle.nwa_base.specs.Groups.{grouped};
 ghost use Rattle.std.specs.Prelude.{◌≡◌, List, [], ◌∷◌, ◌++◌, OnOk, OnErr, if◌then◌else◌};
 
+use crate::number_hasher::NumberHasher;
 use std::alloc::{AllocError, Global};
 use std::collections::HashMap;
-use std::hash::Hash;
+use std::hash::{BuildHasherDefault, Hash};
 
 /// Values in groups, each found by its key. Contracts see the list of values of each key.
 #[derive(Drop)]
 pub struct Groups<K: Eq + Hash + Drop, V: Drop> {
     alloc: Global,
-    by_key: HashMap<K, Vec<V>>,
+    by_key: HashMap<K, Vec<V>, BuildHasherDefault<NumberHasher>>,
 }
 
 impl<K: Eq + Hash + Drop, V: Drop> Groups<K, V> {
@@ -22,7 +23,7 @@ impl<K: Eq + Hash + Drop, V: Drop> Groups<K, V> {
     {
         Groups {
             alloc,
-            by_key: HashMap::new(alloc),
+            by_key: HashMap::with_hasher(alloc, BuildHasherDefault::new()),
         }
     }
 

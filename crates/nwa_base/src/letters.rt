@@ -1,3 +1,9 @@
+ghost use Rattle.std.proofs.Common.{rules};
+ghost use Rattle.std.specs.Cmp.Rules.{hashing};
+ghost use Rattle.std.specs.Hash as fed;
+
+use std::hash::{Hash, Hasher};
+
 /// What a letter does to calls.
 #[derive(Clone, Copy, Debug, PartialEq, Eq, Hash)]
 pub enum Kind {
@@ -10,7 +16,7 @@ pub enum Kind {
 }
 
 /// A letter of a nested word.
-#[derive(Clone, Copy, Debug, PartialEq, Eq, Hash)]
+#[derive(Clone, Copy, Debug, PartialEq, Eq)]
 pub struct Letter {
     /// The number of the letter.
     pub id: u32,
@@ -18,4 +24,15 @@ pub struct Letter {
     pub kind: Kind,
     /// Of a return the number of the call letter that it names, else 0.
     pub call: u32,
+}
+
+impl Hash for Letter {
+    // letters with one number rarely differ otherwise
+    ghost hash_input = { λ a. fed.u32 a.id };
+
+    ghost respects_eq = { Prim.search (hashing, rules) };
+
+    fn hash<H: Hasher>(&self, state: &mut H) {
+        state.write_u32(self.id);
+    }
 }

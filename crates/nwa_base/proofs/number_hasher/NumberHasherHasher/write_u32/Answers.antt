@@ -1,0 +1,6 @@
+use Rattle.std.proofs.Common.{◌∙◌}
+use Rattle.nwa_base.proofs.NumberHashLemmas.{after_u32}
+use Rattle.nwa_base.proofs.number_hasher.NumberHasherHasher.write_u32.Goals as goal
+
+pub returns : goal.returns
+returns c = λ i. record { state = (c.mixed-self.ensures ∙ after_u32 c.args.self.now.state c.args.i c.ranges.i.fits) i }
