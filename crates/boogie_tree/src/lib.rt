@@ -4,7 +4,7 @@
 pub mod laws;
 mod level;
 pub mod names;
-mod printing;
+pub mod printing;
 mod span;
 mod text;
 mod tree;

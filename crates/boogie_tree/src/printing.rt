@@ -1,3 +1,5 @@
+//! The canonical text of a program, whole, and of its pieces, each put behind a text.
+
 mod declarations;
 mod expressions;
 mod lines;
@@ -11,6 +13,11 @@ ghost use Rattle.boogie_tree.specs.View as view;
 
 use crate::tree::Program;
 use declarations::declaration;
+pub use declarations::{results, signature};
+pub use expressions::expression;
+pub use lines::{guard, indentation, leaving, targets};
+pub use lists::{expressions as listed_expressions, names as listed_names};
+pub use pieces::{append, literal, truth, variable};
 use std::alloc::{AllocError, Global};
 
 /// The canonical text of a program: one line for each item, two spaces further in for each open block, and parentheses

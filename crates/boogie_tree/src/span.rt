@@ -2,7 +2,7 @@ ghost use Rattle.std.specs.Prelude.{◌≡◌};
 ghost use Rattle.boogie_tree.specs.Spans.{stands_before};
 
 /// A place in a text. Lines count line feeds from 1, columns count bytes from 1.
-#[derive(Clone, Copy, Debug, PartialEq, Eq)]
+#[derive(Clone, Copy, Debug, PartialEq, Eq, Hash)]
 pub struct Span {
     pub line: u32,
     pub col: u32,

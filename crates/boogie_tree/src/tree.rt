@@ -159,7 +159,7 @@ pub struct Program {
 }
 
 /// A variable of a typed program, by its number in its set.
-#[derive(Clone, Copy, Debug, PartialEq, Eq)]
+#[derive(Clone, Copy, Debug, PartialEq, Eq, Hash)]
 pub enum Column {
     /// A constant or global, in order of declaration.
     Global(u32),

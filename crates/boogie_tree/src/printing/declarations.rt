@@ -42,7 +42,12 @@ fn head(out: &mut Vec<u8>, word: &[u8], declared: &Proc) -> Result<(), AllocErro
 }
 
 /// The first line of a procedure up to its parameters.
-fn signature(out: &mut Vec<u8>, word: &[u8], name: &Name, params: &[Vary]) -> Result<(), AllocError>
+pub fn signature(
+    out: &mut Vec<u8>,
+    word: &[u8],
+    name: &Name,
+    params: &[Vary],
+) -> Result<(), AllocError>
     ensures { OnOk result (out.new.items ≡ out.old.items ++ signature_text word.now name.now params.now) }
 {
     append(out, word)?;
@@ -54,7 +59,7 @@ fn signature(out: &mut Vec<u8>, word: &[u8], name: &Name, params: &[Vary]) -> Re
 }
 
 /// The results behind the parameters, where there are some.
-fn results(out: &mut Vec<u8>, results: &[Vary]) -> Result<(), AllocError>
+pub fn results(out: &mut Vec<u8>, results: &[Vary]) -> Result<(), AllocError>
     ensures { OnOk result (out.new.items ≡ out.old.items ++ results_text results.now) }
 {
     if results.is_empty() {

@@ -9,7 +9,7 @@ use std::alloc::AllocError;
 
 /// Puts the expression behind the text.
 #[cycle(expressions)]
-pub(super) fn expression(out: &mut Vec<u8>, expr: &Expr) -> Result<(), AllocError>
+pub fn expression(out: &mut Vec<u8>, expr: &Expr) -> Result<(), AllocError>
     ensures { OnOk result (out.new.items ≡ out.old.items ++ expression_text (view.expression expr.now)) }
 {
     match &expr.kind {

@@ -16,7 +16,7 @@ pub(super) fn inside(depth: usize) -> Result<usize, AllocError>
 }
 
 /// Puts the spaces before a line in so many open blocks behind the text.
-pub(super) fn indentation(out: &mut Vec<u8>, depth: usize) -> Result<(), AllocError>
+pub fn indentation(out: &mut Vec<u8>, depth: usize) -> Result<(), AllocError>
     ensures { OnOk result (out.new.items ≡ out.old.items ++ indent depth) }
 {
     for _block in 0..depth {
@@ -92,7 +92,7 @@ pub(super) fn call(
 {
     indentation(out, depth)?;
     append(out, b"call ")?;
-    call_targets(out, targets)?;
+    self::targets(out, targets)?;
     append(out, callee.text.bytes())?;
     append(out, b"(")?;
     expressions(out, arguments)?;
@@ -100,7 +100,7 @@ pub(super) fn call(
 }
 
 /// What stands before the procedure of a call.
-fn call_targets(out: &mut Vec<u8>, targets: &[Name]) -> Result<(), AllocError>
+pub fn targets(out: &mut Vec<u8>, targets: &[Name]) -> Result<(), AllocError>
     ensures { OnOk result (out.new.items ≡ out.old.items ++ targets_text targets.now) }
 {
     if targets.is_empty() {
@@ -108,6 +108,16 @@ fn call_targets(out: &mut Vec<u8>, targets: &[Name]) -> Result<(), AllocError>
     }
     names(out, targets)?;
     append(out, b" := ")
+}
+
+/// What decides a branch or a loop.
+pub fn guard(out: &mut Vec<u8>, guard: &Guard) -> Result<(), AllocError>
+    ensures { OnOk result (out.new.items ≡ out.old.items ++ guard_text (view.guard guard.now)) }
+{
+    match guard {
+        Guard::Any => append(out, b"*"),
+        Guard::Cond(condition) => expression(out, condition),
+    }
 }
 
 /// A line that opens `if` or `while`, given with the parenthesis, up to the given end.
@@ -122,10 +132,7 @@ pub(super) fn guard_line(
 {
     indentation(out, depth)?;
     append(out, word)?;
-    match guard {
-        Guard::Any => append(out, b"*")?,
-        Guard::Cond(condition) => expression(out, condition)?,
-    }
+    self::guard(out, guard)?;
     append(out, end)?;
     append(out, b"\n")
 }
@@ -148,7 +155,19 @@ pub(super) fn condition(
 }
 
 /// A `break`, with its label if it has one.
-pub(super) fn leaving(
+pub fn leaving(out: &mut Vec<u8>, label: &Option<Name>) -> Result<(), AllocError>
+    ensures { OnOk result (out.new.items ≡ out.old.items ++ break_text label.now) }
+{
+    append(out, b"break")?;
+    if let Some(label) = label {
+        append(out, b" ")?;
+        append(out, label.text.bytes())?;
+    }
+    append(out, b";")
+}
+
+/// The line of a `break`.
+pub(super) fn leaving_line(
     out: &mut Vec<u8>,
     depth: usize,
     label: &Option<Name>,
@@ -156,12 +175,8 @@ pub(super) fn leaving(
     ensures { OnOk result (out.new.items ≡ out.old.items ++ line depth (break_text label.now)) }
 {
     indentation(out, depth)?;
-    append(out, b"break")?;
-    if let Some(label) = label {
-        append(out, b" ")?;
-        append(out, label.text.bytes())?;
-    }
-    append(out, b";\n")
+    leaving(out, label)?;
+    append(out, b"\n")
 }
 
 /// A label on a line of its own.

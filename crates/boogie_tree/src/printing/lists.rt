@@ -65,7 +65,7 @@ fn more<T: Item>(out: &mut Vec<u8>, items: &[T]) -> Result<(), AllocError>
 }
 
 /// Puts the names behind the text.
-pub(super) fn names(out: &mut Vec<u8>, names: &[Name]) -> Result<(), AllocError>
+pub fn names(out: &mut Vec<u8>, names: &[Name]) -> Result<(), AllocError>
     ensures { OnOk result (out.new.items ≡ out.old.items ++ names_text names.now) }
 {
     list(out, names)
@@ -79,7 +79,7 @@ pub(super) fn variables(out: &mut Vec<u8>, variables: &[Vary]) -> Result<(), All
 }
 
 /// Puts the expressions behind the text.
-pub(super) fn expressions(out: &mut Vec<u8>, expressions: &[Expr]) -> Result<(), AllocError>
+pub fn expressions(out: &mut Vec<u8>, expressions: &[Expr]) -> Result<(), AllocError>
     ensures { OnOk result (out.new.items ≡ out.old.items ++ expressions_text (map view.expression expressions.now)) }
 {
     list(out, expressions)

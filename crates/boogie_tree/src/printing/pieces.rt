@@ -6,14 +6,14 @@ use crate::tree::{Op, Ty, Vary};
 use std::alloc::AllocError;
 
 /// Puts the bytes behind the text.
-pub(super) fn append(out: &mut Vec<u8>, bytes: &[u8]) -> Result<(), AllocError>
+pub fn append(out: &mut Vec<u8>, bytes: &[u8]) -> Result<(), AllocError>
     ensures { OnOk result (out.new.items ≡ out.old.items ++ bytes.now) }
 {
     out.extend_from_slice(bytes)
 }
 
 /// Puts the number behind the text, in decimal.
-pub(super) fn literal(out: &mut Vec<u8>, n: i128) -> Result<(), AllocError>
+pub fn literal(out: &mut Vec<u8>, n: i128) -> Result<(), AllocError>
     ensures { OnOk result (out.new.items ≡ out.old.items ++ signed_decimal n) }
 {
     let digits = n.to_string(*out.allocator())?;
@@ -21,7 +21,7 @@ pub(super) fn literal(out: &mut Vec<u8>, n: i128) -> Result<(), AllocError>
 }
 
 /// Puts `true` or `false` behind the text.
-pub(super) fn truth(out: &mut Vec<u8>, truth: bool) -> Result<(), AllocError>
+pub fn truth(out: &mut Vec<u8>, truth: bool) -> Result<(), AllocError>
     ensures { OnOk result (out.new.items ≡ out.old.items ++ truth_text truth) }
 {
     append(out, if truth { b"true" } else { b"false" })
@@ -58,7 +58,7 @@ pub(super) fn operator(out: &mut Vec<u8>, op: Op) -> Result<(), AllocError>
 }
 
 /// Puts a name with its type behind the text.
-pub(super) fn variable(out: &mut Vec<u8>, variable: &Vary) -> Result<(), AllocError>
+pub fn variable(out: &mut Vec<u8>, variable: &Vary) -> Result<(), AllocError>
     ensures { OnOk result (out.new.items ≡ out.old.items ++ variable_text variable.now) }
 {
     append(out, variable.name.text.bytes())?;

@@ -3,7 +3,7 @@ ghost use Rattle.boogie_tree.specs.Printing.{statement_text, block_text, invaria
 ghost use Rattle.boogie_tree.specs.View as view;
 
 use super::lines::{
-    assignment, call, claim_line, condition, guard_line, inside, label, leaving, names_line,
+    assignment, call, claim_line, condition, guard_line, inside, label, leaving_line, names_line,
     plain_line,
 };
 use crate::tree::{Guard, Inv, Stmt};
@@ -34,7 +34,7 @@ fn statement(out: &mut Vec<u8>, depth: usize, statement: &Stmt) -> Result<(), Al
             block(out, inner, body)?;
             plain_line(out, depth, b"}")
         }
-        Stmt::Break(_, label) => leaving(out, depth, label),
+        Stmt::Break(_, label) => leaving_line(out, depth, label),
         Stmt::Goto(_, labels) => names_line(out, depth, b"goto ", labels),
         Stmt::Return(_) => plain_line(out, depth, b"return;"),
         Stmt::Label(name) => label(out, depth, name),
