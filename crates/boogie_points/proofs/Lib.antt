@@ -10,3 +10,4 @@ pub mod LabelLaws
 mod EitherLaws
 mod CountSteps
 mod SearchSteps
+pub mod SiteLaws

@@ -8,3 +8,4 @@ pub mod Numbered
 pub mod Stacks
 pub mod Seeking
 pub mod AtStatement
+pub mod Sites

@@ -10,6 +10,7 @@ mod going;
 mod numbers;
 mod points;
 mod seeking;
+mod sites;
 mod starting;
 
 pub use acting::action_at;
@@ -18,4 +19,5 @@ pub use conditions::procedure_at;
 pub use going::go_on;
 pub use numbers::Numbers;
 pub use points::{Point, Stage, pass_call, targets};
+pub use sites::{clause_at, span_at};
 pub use starting::{entry_point, start_point};
