@@ -40,8 +40,8 @@ fn front(values: &[i128], count: usize) -> &[i128]
     }
 }
 
-/// The globals that a procedure modifies.
-fn modifies_at(program: &Typed, proc: u32) -> &[u32]
+/// The numbers of the globals that a procedure modifies; none where there is no such procedure.
+pub fn modifies_at(program: &Typed, proc: u32) -> &[u32]
     ensures { result.now ≡ spec.modifies_of (slice_get (typed_program program.now).procs proc) }
 {
     match program.procs().get(proc as usize) {

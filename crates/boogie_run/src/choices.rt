@@ -38,8 +38,8 @@ fn below(value: i128, bound: usize) -> Result<i128, RunFault>
     }
 }
 
-/// The locals of a procedure.
-pub(crate) fn locals_at(program: &Typed, proc: u32) -> &[VarInfo]
+/// The locals of a procedure; none where there is no such procedure.
+pub fn locals_at(program: &Typed, proc: u32) -> &[VarInfo]
     ensures { result.now ≡ spec.locals_at (typed_program program.now) proc }
 {
     match program.procs().get(proc as usize) {

@@ -2,6 +2,7 @@
 
 ghost use Rattle.std.specs.Prelude.{◌≡◌, ◌<◌, length};
 ghost use Rattle.typing_rules.specs.TypedParts.{TypedParts};
+ghost use Rattle.boogie_points.specs.View.{point_of};
 ghost use Rattle.boogie_run.specs.RunView.{frame_of, frames_of, config_with, config_of, FitsProgram};
 
 use boogie_points::{Numbers, Point};
@@ -33,6 +34,13 @@ impl<'a> RunFrame<'a> {
         ensures { result.now ≡ (frame_of self.now).locals }
     {
         self.locals.as_slice()
+    }
+
+    /// Where it stands.
+    pub fn point(&self) -> &Point<'a>
+        ensures { point_of result.now ≡ (frame_of self.now).point }
+    {
+        &self.point
     }
 
     /// The constants and globals at its entry.

@@ -41,7 +41,8 @@ pub(crate) fn member(values: &[i128], n: u32) -> i128
     if n < values.len() { values[n] } else { 0 }
 }
 
-fn column(env: Env<'_>, column: Column) -> i128
+/// What the column holds, 0 where it is not there.
+pub(crate) fn column(env: Env<'_>, column: Column) -> i128
     ensures { result ≡ spec.column_value (state env.entry) column }
 {
     match column {

@@ -8,10 +8,14 @@ mod configurations;
 mod evaluation;
 mod frames;
 pub mod laws;
+mod observing;
 mod stepping;
 mod types;
 mod writing;
 
+pub use calls::modifies_at;
+pub use choices::locals_at;
 pub use configurations::{Config, RunFrame};
+pub use observing::{calling, happens, held, holds, open_calls, running};
 pub use stepping::{needs, start, step};
 pub use types::{AssertId, Choice, Moved, Need, RunFault};

@@ -47,7 +47,7 @@ pub fn start(alloc: Global, program: &Typed) -> Result<Config<'_>, AllocError>
 }
 
 /// What happens where the frame that runs stands.
-fn action_here<'a>(config: &Config<'a>) -> Action<'a>
+pub(crate) fn action_here<'a>(config: &Config<'a>) -> Action<'a>
     requires { FitsProgram config.now.program.now config.now }
     ensures { action_view result ≡ told (happening config.now) }
 {
