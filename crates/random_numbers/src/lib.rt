@@ -3,8 +3,8 @@
 
 ghost use Rattle.std.specs.Prelude.{◌<◌};
 
-/// A generator of numbers that look random.
-#[derive(Drop)]
+/// A generator of numbers that look random. A copy makes the same numbers.
+#[derive(Clone, Copy)]
 pub struct Random {
     state: u64,
 }
@@ -17,8 +17,8 @@ impl Random {
         }
     }
 
-    /// The next number.
-    fn next(&mut self) -> u64 {
+    /// The next number. Its high bits look more random than its low ones.
+    pub fn next(&mut self) -> u64 {
         self.state ^= self.state << 13;
         self.state ^= self.state >> 7;
         self.state ^= self.state << 17;
