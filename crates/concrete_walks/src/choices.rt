@@ -10,42 +10,61 @@ use std::alloc::{AllocError, Global};
 #[derive(Drop)]
 pub(crate) struct Choices {
     random: Random,
-    /// The bounds of rows and their opposites, ascending, each once.
-    constants: Vec<i128>,
+    /// The bounds of rows and their opposites, each with the numbers beside it.
+    numbers: Vec<i128>,
 }
 
 impl Choices {
     /// The choices of a seed in a program.
     pub fn new(alloc: Global, icfg: &Icfg, seed: u64) -> Result<Self, AllocError> {
-        let mut constants = Vec::new(alloc);
+        let mut bounds = Vec::new(alloc);
         for act in icfg.acts() {
-            add_bounds(&mut constants, rows_of(act))?;
+            add_bounds(&mut bounds, rows_of(act))?;
         }
-        constants.sort_unstable();
-        constants.dedup();
+        bounds.sort_unstable();
+        bounds.dedup();
+        let mut numbers = Vec::new(alloc);
+        for &bound in bounds.as_slice() {
+            add_around(&mut numbers, bound)?;
+        }
         Ok(Choices {
             random: Random::new(seed),
-            constants,
+            numbers,
         })
     }
 
-    /// A number below a count; 0 where the count is 0.
+    /// What is chosen next depends on this alone.
+    pub fn mark(&self) -> Random {
+        self.random
+    }
+
+    /// Goes back to where that was what is chosen next.
+    pub fn go_back(&mut self, mark: Random) {
+        self.random = mark;
+    }
+
+    /// A number below a count; 0 where the count is 0 or 1.
     pub fn below(&mut self, count: usize) -> usize {
-        self.random.below(count)
+        if count < 2 {
+            return 0;
+        }
+        part(self.random.next(), count)
     }
 
     /// A value for a column of that type that is free: 0 or 1 of a boolean one; else 0, 1, 2 or -1, or a number of the program's
     /// rows, or one beside it.
     pub fn value(&mut self, ty: Ty) -> i128 {
+        let drawn = self.random.next();
+        // the highest bit is not among those that say which number it is
+        let (first, rest) = (drawn >> 63, drawn << 1);
         if ty == Ty::Bool {
-            return self.random.below(2) as i128;
+            return i128::from(first);
         }
-        if self.random.below(2) == 0 {
-            return self.random.below(4) as i128 - 1;
+        if first == 0 {
+            return i128::from(rest >> 62) - 1;
         }
-        let place = self.random.below(self.constants.len());
-        let constant = self.constants.get(place).copied().unwrap_or(0);
-        constant.saturating_add(self.random.below(3) as i128 - 1)
+        let place = part(rest, self.numbers.len());
+        self.numbers.get(place).copied().unwrap_or(0)
     }
 
     /// A value between two bounds, where there is one: a free one that lies there, else the bound that is nearest to it.
@@ -71,6 +90,19 @@ fn rows_of(act: &Act) -> &[Row] {
         Act::Call { rows, .. } => rows.as_slice(),
         Act::Back { .. } => &[],
     }
+}
+
+/// The number below a count that is the same part of it as the random number is of 2^64.
+fn part(random: u64, count: usize) -> usize {
+    (u128::from(random).wrapping_mul(count as u128) >> 64) as usize
+}
+
+/// Adds a number and those beside it.
+fn add_around(numbers: &mut Vec<i128>, number: i128) -> Result<(), AllocError> {
+    numbers.push(number.saturating_sub(1))?;
+    numbers.push(number)?;
+    numbers.push(number.saturating_add(1))?;
+    Ok(())
 }
 
 /// Adds the bounds of rows and their opposites.

@@ -178,6 +178,17 @@ impl Letters {
         self.forms.get(letter as usize)
     }
 
+    /// Where the locals of a procedure's frame begin: behind its globals and its old columns.
+    pub fn locals(&self, procedure: &Procedure) -> usize {
+        let mut count: usize = 0;
+        for entry in members(&self.entries, procedure.entries) {
+            if matches!(entry, Entry::Global(_)) {
+                count = count.wrapping_add(1);
+            }
+        }
+        count
+    }
+
     /// Adds what is done at the start of a program, and what each of its letters does.
     pub fn add_all(&mut self, alloc: Global, icfg: &Icfg) -> Result<(), AllocError> {
         self.add_procedures(icfg.frames())?;

@@ -8,6 +8,7 @@ mod drafting;
 mod edges;
 mod leading;
 mod letters;
+mod loops;
 mod numbers;
 mod programs;
 mod walkers;

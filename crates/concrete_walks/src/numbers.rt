@@ -3,6 +3,7 @@
 use crate::choices::Choices;
 use crate::columns::Columns;
 use crate::letters::{Entry, Form, Kind, Letters, Procedure, Rest, Says, Span, Step, members};
+use crate::loops::mixed;
 use std::alloc::{AllocError, Global};
 
 /// The numbers of all frames, those of a callee behind those of its caller, and behind the present frame what a letter seeks.
@@ -32,12 +33,73 @@ impl Numbers {
         self.columns.make_room(letters.widest())?;
         if let Some(form) = letters.start() {
             for step in members(&letters.steps, form.steps) {
-                if self.take_any_step(letters, choices, step).is_none() {
-                    break;
-                }
+                self.start_with(letters, choices, step);
             }
         }
         Ok(())
+    }
+
+    /// The numbers of all frames, of which the present one has so many columns, mixed in.
+    pub fn mixed_in(&self, mix: i128, width: usize) -> i128 {
+        let mut mix = mix;
+        for &base in self.callers.as_slice() {
+            mix = mixed(mix, base as i128);
+        }
+        for place in 0..self.base.saturating_add(width) {
+            mix = mixed(mix, self.columns.get(place).unwrap_or(0));
+        }
+        mix
+    }
+
+    /// The numbers that the start makes: one for each column of its frame.
+    pub fn made_at_start(&self, alloc: Global, letters: &Letters) -> Result<Vec<i128>, AllocError> {
+        let mut made = Vec::new(alloc);
+        if let Some(form) = letters.start() {
+            self.add_made(0, form.all, &mut made)?;
+        }
+        Ok(made)
+    }
+
+    /// The numbers that a letter has made which was taken just now, in the order of the columns that it makes in the rows of a word: an
+    /// inside letter makes what it writes, and its helpers; a call the locals of the callee, the helpers, and the callee's old columns.
+    pub fn made_by(
+        &self,
+        alloc: Global,
+        letters: &Letters,
+        letter: u32,
+    ) -> Result<Vec<i128>, AllocError> {
+        let mut made = Vec::new(alloc);
+        let Some(form) = letters.form(letter) else {
+            return Ok(made);
+        };
+        match &form.kind {
+            Kind::Inside => self.add_made(form.known, form.all, &mut made)?,
+            Kind::Call(callee) => {
+                let locals = letters.locals(callee);
+                self.add_made(locals, form.all.saturating_sub(form.known), &mut made)?;
+                self.add_made(callee.globals.len(), locals, &mut made)?;
+            }
+            Kind::Back(_) | Kind::Missing => {}
+        }
+        Ok(made)
+    }
+
+    /// Adds the numbers of columns of the present frame, or behind it, from one up to another.
+    fn add_made(&self, first: usize, end: usize, made: &mut Vec<i128>) -> Result<(), AllocError> {
+        for column in first..end {
+            made.push(self.number(column).unwrap_or(0))?;
+        }
+        Ok(())
+    }
+
+    /// Takes a step of the start, which gives a column its number.
+    fn start_with(&mut self, letters: &Letters, choices: &mut Choices, step: &Step) {
+        match step {
+            Step::Free { column, ty } => self.columns.set(*column, choices.value(*ty)),
+            _ => {
+                let _number = self.take_any_step(letters, choices, step);
+            }
+        }
     }
 
     /// Takes a letter, where its rows can be met; otherwise the numbers of the frames stay.

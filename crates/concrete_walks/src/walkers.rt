@@ -41,8 +41,8 @@ impl Walker {
         })
     }
 
-    /// Walks over the program, until a walk reaches a final state or some `moves` letters were tried, and answers the word along which
-    /// that walk went. After it has found one it walks no more.
+    /// Walks over the program, until a walk reaches a final state or some `moves` letters were tried, each walk counted as one more,
+    /// and answers the word along which that walk went, without loops. After it has found one it walks no more.
     pub fn slice(
         &mut self,
         alloc: Global,
@@ -62,18 +62,26 @@ impl Walker {
                 break;
             }
             let length = self.lengths.length();
-            let before = tries;
+            let mark = self.choices.mark();
             let (program, choices) = (&self.program, &mut self.choices);
             if self.walk.go(program, choices, length, &mut tries)? {
+                choices.go_back(mark);
+                self.walk.straighten(alloc, program, choices)?;
                 // the walk is one over the program from which the walker was made, so its word is tested in this one
                 if let Some(word) = self.walk.word(alloc, icfg.nwa())? {
                     self.found = true;
                     return Ok(Some(word));
                 }
             }
-            self.lengths
-                .count_walk(tries.saturating_sub(before) >= u64::from(length));
+            if self.walk.has(length) {
+                self.lengths.count_cut_off();
+            }
         }
         Ok(None)
+    }
+
+    /// Once it has found a word, the numbers of the walk that went along it, by the columns of the word's rows.
+    pub fn numbers(&self) -> &[i128] {
+        self.walk.made()
     }
 }

@@ -5,56 +5,40 @@ ghost use Rattle.nwa_base.specs.Acceptance.{Accepts};
 
 use crate::choices::Choices;
 use crate::edges::{Edge, Edges, Stand};
+use crate::loops::{Passed, mixed};
 use crate::numbers::Numbers;
 use crate::programs::Program;
 use nwa_base::{Kind, Letter, Nwa, Word, accepts, word};
 use std::alloc::{AllocError, Global};
 
-/// How many letters the first walks may have.
-const FIRST_LENGTH: u32 = 50;
+/// How many letters the shortest walks may have.
+const LEAST_LENGTH: u32 = 50;
 
-/// How many letters a walk may have at most.
-const GREATEST_LENGTH: u32 = 5000;
+/// How often that may be doubled.
+const MOST_DOUBLINGS: u32 = 6;
 
-/// After so many walks they may be a quarter longer.
-const WALKS_OF_A_LENGTH: u32 = 50;
-
-/// A walk that was cut off counts as so many.
-const WALKS_FOR_ONE_CUT_OFF: u32 = 10;
-
-/// How long walks may be.
+/// How long walks may be. Of those that are cut off every second may be twice as long, every fourth four times, and so on, so that
+/// walks of each length take about as many letters, and failures that lie deep are found without knowing how deep.
 #[derive(Clone, Copy)]
 pub(crate) struct Lengths {
-    length: u32,
-    /// How many walks of this length were made.
-    walks: u32,
+    /// How many walks were cut off, and one more.
+    number: u32,
 }
 
 impl Lengths {
     /// Those of the first walk.
     pub fn new() -> Self {
-        Lengths {
-            length: FIRST_LENGTH,
-            walks: 0,
-        }
+        Lengths { number: 1 }
     }
 
     /// How many letters the next walk may have.
     pub fn length(self) -> u32 {
-        self.length
+        LEAST_LENGTH << self.number.trailing_zeros().min(MOST_DOUBLINGS)
     }
 
-    /// One walk more was made, which was cut off or not.
-    pub fn count_walk(&mut self, is_cut_off: bool) {
-        let count = if is_cut_off { WALKS_FOR_ONE_CUT_OFF } else { 1 };
-        self.walks = self.walks.saturating_add(count);
-        if self.walks >= WALKS_OF_A_LENGTH {
-            self.walks = 0;
-            self.length = self
-                .length
-                .saturating_add(self.length / 4)
-                .min(GREATEST_LENGTH);
-        }
+    /// One walk more was cut off.
+    pub fn count_cut_off(&mut self) {
+        self.number = self.number.wrapping_add(1);
     }
 }
 
@@ -68,6 +52,8 @@ pub(crate) struct Walk {
     place: u32,
     callers: Vec<u32>,
     numbers: Numbers,
+    /// Of a straight one the numbers that its start and its letters made.
+    made: Vec<i128>,
 }
 
 impl Walk {
@@ -79,11 +65,17 @@ impl Walk {
             place: 0,
             callers: Vec::new(alloc),
             numbers: Numbers::new(alloc),
+            made: Vec::new(alloc),
         }
     }
 
+    /// Of a straight one the numbers that its start and its letters made, by the columns of the rows of its word.
+    pub fn made(&self) -> &[i128] {
+        self.made.as_slice()
+    }
+
     /// Walks anew from the start for at most so many letters. Whether the walk reaches a failure. `tries` counts the letters that were
-    /// tried.
+    /// tried, and the walk as one more.
     pub fn go(
         &mut self,
         program: &Program,
@@ -91,10 +83,8 @@ impl Walk {
         length: u32,
         tries: &mut u64,
     ) -> Result<bool, AllocError> {
-        self.count = 0;
-        self.callers.clear();
-        self.place = program.start;
-        self.numbers.start(&program.letters, choices)?;
+        *tries = tries.saturating_add(1);
+        self.begin(program, choices)?;
         for _ in 0..length {
             let Some(edge) = self.next(program, choices, tries)? else {
                 return Ok(false);
@@ -105,6 +95,51 @@ impl Walk {
             }
         }
         Ok(false)
+    }
+
+    /// Goes the same way again, as long as before, where the choices are the same, and leaves out of its letters those between equal
+    /// situations. Then the numbers that it made are known.
+    pub fn straighten(
+        &mut self,
+        alloc: Global,
+        program: &Program,
+        choices: &mut Choices,
+    ) -> Result<(), AllocError> {
+        let mut passed = Passed::new(alloc);
+        let (count, mut tries) = (self.count, 0);
+        self.begin(program, choices)?;
+        let made = self.numbers.made_at_start(alloc, &program.letters)?;
+        passed.add(self.situation(program), made)?;
+        for _ in 0..count {
+            let Some(edge) = self.next(program, choices, &mut tries)? else {
+                break;
+            };
+            let made = self
+                .numbers
+                .made_by(alloc, &program.letters, edge.letter.id)?;
+            self.follow(edge)?;
+            passed.add(self.situation(program), made)?;
+        }
+        self.made.clear();
+        self.count = passed.straighten(self.letters.as_mut_slice(), &mut self.made)?;
+        Ok(())
+    }
+
+    /// All by which a walk goes on, mixed: its place, those before the open calls, and the numbers.
+    fn situation(&self, program: &Program) -> i128 {
+        let mut mix = mixed(0, i128::from(self.place));
+        for &caller in self.callers.as_slice() {
+            mix = mixed(mix, i128::from(caller));
+        }
+        self.numbers.mixed_in(mix, program.width(self.place))
+    }
+
+    /// Begins anew at the start.
+    fn begin(&mut self, program: &Program, choices: &mut Choices) -> Result<(), AllocError> {
+        self.count = 0;
+        self.callers.clear();
+        self.place = program.start;
+        self.numbers.start(&program.letters, choices)
     }
 
     /// Takes a letter that leads on, if one can be taken, and answers its edge: one to a failure first, else those from which one can
@@ -148,6 +183,11 @@ impl Walk {
     ) -> Result<bool, AllocError> {
         *tries = tries.saturating_add(1);
         self.numbers.take(&program.letters, choices, edge.letter.id)
+    }
+
+    /// Whether it has so many letters.
+    pub fn has(&self, length: u32) -> bool {
+        self.count >= length as usize
     }
 
     /// Goes on along an edge whose letter was taken.
