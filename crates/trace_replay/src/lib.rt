@@ -21,5 +21,5 @@ pub use choosing::{choices_of, other_choices_of};
 pub use failure::{Failure, FailureFault, Trail};
 pub use numerals::number_of;
 pub use reading::read_failure;
-pub use replaying::replay;
+pub use replaying::{Turn, one_step, replay};
 pub use writing::write_failure;

@@ -54,7 +54,7 @@ pub fn replay(alloc: Global, program: &Typed, trail: &Trail) -> Result<AssertId,
 
 /// What one step makes of a run that takes given choices.
 #[derive(Clone, Copy)]
-pub(crate) enum Turn<'a> {
+pub enum Turn<'a> {
     /// It goes on; these choices are left.
     GoesOn(&'a [Choice]),
     /// An assertion fails, and no choice is left.
@@ -66,7 +66,7 @@ pub(crate) enum Turn<'a> {
 }
 
 /// Makes one step, with the next of the choices that are left, where it takes one.
-pub(crate) fn one_step<'a>(
+pub fn one_step<'a>(
     program: &Typed,
     config: &mut Config<'_>,
     left: &'a [Choice],
