@@ -1,0 +1,8 @@
+pub mod LineLemmas
+pub mod TableLemmas
+pub mod SourceLemmas
+pub mod ReadingLemmas
+pub mod KeepingLemmas
+pub mod ChoosingLemmas
+pub mod StepLemmas
+pub mod RunLemmas
