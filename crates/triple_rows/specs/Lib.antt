@@ -1,4 +1,5 @@
 pub mod Predicates
+pub mod Nodes
 pub mod Reading
 pub mod Systems
 pub mod Drafts

@@ -3,6 +3,7 @@ ghost use Rattle.std.specs.Prelude.{◌≡◌, IfOk};
 use lin_rows::Row;
 use std::alloc::AllocError;
 use std::marker::Model;
+use std::sync::Arc;
 
 /// A node of a predicate. The trees of its parts stand after it, in order.
 #[derive(Drop)]
@@ -31,22 +32,32 @@ impl PredNode {
     }
 }
 
-/// A predicate over the columns of a frame, a tree that is kept as its prefix list.
+/// The nodes of a predicate.
+#[derive(Drop)]
+pub(crate) enum Nodes {
+    /// Those of a predicate that was made of them.
+    Own(Vec<PredNode>),
+    /// Those that copies share.
+    Shared(Arc<Vec<PredNode>>),
+}
+
+/// A predicate over the columns of a frame, a tree that is kept as its prefix list. Its copies share their nodes, and copies of these take no memory.
 #[derive(Drop)]
 pub struct Pred {
-    nodes: Vec<PredNode>,
+    nodes: Nodes,
 }
 
 impl Model for Pred {
     ghost use Rattle.std.specs.Prelude.{List};
     ghost use Rattle.triple_rows.specs.declared.predicates.PredNode.{PredNode};
     ghost use Rattle.triple_rows.specs.Predicates.{SpellsPredicate};
+    ghost use Rattle.triple_rows.specs.Nodes.{nodes_in};
 
     ghost Value = { List PredNode };
 
-    ghost view = { λ p. p.nodes.items };
+    ghost view = { λ p. nodes_in p.nodes };
 
-    ghost invariant = { λ p. SpellsPredicate p.nodes.items };
+    ghost invariant = { λ p. SpellsPredicate (nodes_in p.nodes) };
 }
 
 impl Pred {
@@ -57,7 +68,9 @@ impl Pred {
         requires { SpellsPredicate nodes.items }
         ensures { result ≡ nodes.items }
     {
-        Pred { nodes }
+        Pred {
+            nodes: Nodes::Own(nodes),
+        }
     }
 
     /// The nodes, each before the trees of its parts.
@@ -65,15 +78,23 @@ impl Pred {
         ensures value { result.now ≡ self.now }
         ensures valid { SpellsPredicate self.now }
     {
-        self.nodes.as_slice()
+        match &self.nodes {
+            Nodes::Own(nodes) => nodes.as_slice(),
+            Nodes::Shared(nodes) => nodes.as_slice(),
+        }
     }
 
     /// An equal predicate.
     pub fn copy(&self) -> Result<Self, AllocError>
         ensures { IfOk result (λ p. p ≡ self.now) }
     {
-        let nodes = copied_nodes(&self.nodes)?;
-        Ok(Pred { nodes })
+        let nodes = match &self.nodes {
+            Nodes::Own(nodes) => Arc::new(*nodes.allocator(), copied_nodes(nodes)?)?,
+            Nodes::Shared(nodes) => nodes.clone()?,
+        };
+        Ok(Pred {
+            nodes: Nodes::Shared(nodes),
+        })
     }
 }
 

@@ -18,7 +18,7 @@ pub(crate) fn shifted_columns(
     requires { from + count ≤ 2 ^ 32 }
     ensures table { IfOk result (λ v. IsTable count (λ c. from + c) v.items) }
 {
-    let mut columns = Vec::new(alloc);
+    let mut columns = Vec::with_capacity(alloc, count)?;
     add_columns(&mut columns, from, count)?;
     Ok(columns)
 }
