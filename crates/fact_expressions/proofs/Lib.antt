@@ -6,3 +6,9 @@ pub mod FitLaws
 pub mod EntryLaws
 mod RangeLaws
 pub mod SayingLaws
+pub mod Truths
+pub mod TreeWorth
+pub mod FactWorth
+pub mod OrderWorth
+pub mod RowsWorth
+pub mod SaidWorth

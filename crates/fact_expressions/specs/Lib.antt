@@ -4,3 +4,4 @@ pub mod Disjunctions
 pub mod EntryRows
 pub mod Conclusions
 pub mod Views
+pub mod Worth

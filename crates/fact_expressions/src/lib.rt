@@ -5,6 +5,7 @@ mod conjunctions;
 mod disjunctions;
 mod entry_rows;
 mod equality;
+pub mod laws;
 mod saying;
 mod splitting;
 mod trees;
