@@ -18,13 +18,13 @@ use Rattle.farkas_check.specs.Trees.{leaf_tree}
 use Rattle.int_decide.specs.Answers.{RefutesWithin}
 use Rattle.int_decide.proofs.Tight.{tightened_stays, no_content}
 
-row_at_map : (f : LinearRow → LinearRow) (rows : List LinearRow) (k : ℕ) → k < length rows → row_at (map f rows) k ≡ f (row_at rows k)
+pub row_at_map : (f : LinearRow → LinearRow) (rows : List LinearRow) (k : ℕ) → k < length rows → row_at (map f rows) k ≡ f (row_at rows k)
 row_at_map f [] k l = absurd (omega arith)
 row_at_map f (r ∷ rs) zero l = refl
 row_at_map f (r ∷ rs) (suc k) l = row_at_map f rs k (omega arith)
 
 -- the row at a place, by the list's own word
-row_at_is : (rows : List LinearRow) (k : ℕ) (r : LinearRow) → k < length rows → r ≡ get_or rows k r → row_at rows k ≡ r
+pub row_at_is : (rows : List LinearRow) (k : ℕ) (r : LinearRow) → k < length rows → r ≡ get_or rows k r → row_at rows k ≡ r
 row_at_is [] k r l e = absurd (omega arith)
 row_at_is (x ∷ xs) zero r l e = sym e
 row_at_is (x ∷ xs) (suc k) r l e = row_at_is xs k r (omega arith) e

@@ -1,5 +1,5 @@
 -- Two halves at once: there is a system with the rows and groups of both, and what is known of the halves says what Decide does with it.
-use Rattle.std.proofs.Common.{◌≡◌, ◌∙◌, ◌+◌, ◌<◌, ◌^◌, ℕ, zero, suc, pos, List, [], ◌∷◌, ◌++◌, length, length-append, Option, None, Some, IfSome, refl, sym, ap, subst, arith}
+use Rattle.std.proofs.Common.{◌≡◌, ◌∙◌, ◌+◌, ◌<◌, ◌^◌, ℕ, ℤ, zero, suc, pos, List, [], ◌∷◌, ◌++◌, map, length, length-append, Option, None, Some, IfSome, refl, sym, ap, subst, arith}
 use Rattle.std.specs.declared.vec.Vec.{Vec}
 use Rattle.std.specs.declared.alloc.Global.{Global}
 use Rattle.lin_rows.specs.declared.systems.System.{System, System-F, out-System, roll-System, out-roll-System}
@@ -7,7 +7,11 @@ use Rattle.lin_rows.specs.Rows.{LinearRow, RowsBelow}
 use Rattle.lin_rows.specs.Systems.{rows_of, groups_of, members_of, Meets, SaysSame, RelatedInPairs}
 use Rattle.lin_rows.proofs.SystemLaws.{members_of-append, same_open}
 use Rattle.letter_acts.specs.Acts.{Alphabet}
+use Rattle.lin_rows.specs.Combinations.{Contradicts}
+use Rattle.lin_rows.specs.Tightening.{tightened}
 use Rattle.farkas_check.specs.Nodes.{PlainNode, leaf}
+use Rattle.farkas_check.specs.Refutes.{Refutes}
+use Rattle.farkas_check.specs.Trees.{leaf_tree}
 use Rattle.int_decide.specs.Sizes.{SystemBelow, AllMembers}
 use Rattle.int_decide.specs.Worth.{IsRefuted as IsRefutation}
 use Rattle.int_decide.specs.WithoutCuts.{IsNotRefuted}
@@ -26,7 +30,7 @@ use Rattle.triple_rows.proofs.PlainLaws.{system_met}
 use Rattle.hoare_check.specs.declared.halves.Half.{Half}
 use Rattle.hoare_check.specs.Counts.{IsCount}
 use Rattle.hoare_check.specs.Decided.{RefutesUncut}
-use Rattle.hoare_check.specs.Halves.{IsFalseRow, IsHalf, IsJoint, IsDecidedUncut, IsUncutRefutation, MayDecide, MayRefute, MayFind, IsMetInBoth}
+use Rattle.hoare_check.specs.Halves.{IsFalseRow, IsHalf, IsJoint, IsDecidedUncut, IsUncutRefutation, MayDecide, MayRefute, MayFind, IsMetInBoth, IsBare}
 use Rattle.hoare_check.proofs.FalseRowLaws.{never_refutes}
 use Rattle.hoare_check.proofs.UnrefutedLaws.{rows_fit}
 use Rattle.hoare_check.proofs.ProvingLaws.{uncut_proves}
@@ -103,6 +107,29 @@ module _ (n : ℕ) (p q : PlainSystem) (first second : Half) (h : IsHalf n p fir
       let r : RefutesWithin 0 j.0 nodes = subst (RefutesWithin 0 j.0) (sym e) (never_refutes j.0 place at.0 at.1) in
       record { fits = halves_fit; system = j.0; is_system = joint_is_system p q first.system second.system j.0 h.is_system k.is_system j.1; refutes = r.refutes; tree = r.tree }
 
+  -- rows that contradict one another refute both at once
+  pub leaf_refutes : (parts : List (ℕ × ℤ)) (nodes : List PlainNode) → Contradicts (map tightened (rows_of first.system ++ rows_of second.system)) parts → nodes ≡ leaf parts ∷ [] →
+      IsUncutRefutation (both_systems p q) nodes
+  leaf_refutes parts nodes f e =
+      let j = halves_joint in
+      let at : Contradicts (map tightened (rows_of j.0)) parts = subst (λ (rs : List LinearRow). Contradicts (map tightened rs) parts) (sym j.1.rows) f in
+      record {
+        fits = halves_fit;
+        system = j.0;
+        is_system = joint_is_system p q first.system second.system j.0 h.is_system k.is_system j.1;
+        refutes = subst (λ (ns : List PlainNode). Refutes ns j.0) (sym e) (at, tt);
+        tree = record { tree = leaf_tree parts; prefix = sym e; few_cuts = omega arith };
+      }
+
+  -- where the first says nothing, what Decide does not refute alone it does not refute
+  pub bare_refuses : IsBare first.system → IsNotRefuted n second.system → IsDecidedUncut n (both_systems p q) → ⊥
+  bare_refuses b u d =
+      let r = d.refuted second.system (joint_is_system p q first.system second.system second.system h.is_system k.is_system (record {
+        rows = sym (ap (λ (rs : List LinearRow). rs ++ rows_of second.system) b.0);
+        groups = sym (ap (λ (gs : List (List System)). gs ++ groups_of second.system) b.1);
+      })) in
+      u (subst IsRefutation (sym r.refuted) tt) r.numbers
+
   joint_below : (s : System) → IsJoint first.system second.system s → SystemBelow n s
   joint_below s j =
       let a = SystemBelow_open n first.system h.small.below in
@@ -133,6 +160,10 @@ module _ (n : ℕ) (p q : PlainSystem) (first second : Half) (h : IsHalf n p fir
   pub found_of_both : (s : System) (found : Option (List PlainNode)) → IsSystem (both_systems p q) s → MayDecide first.columns s found → MayRefute n (both_systems p q) found
   found_of_both s None is u = λ d. let r = d.refuted s is in subst (λ (m : ℕ). IsNotRefuted m s) h.columns u (subst IsRefutation (sym r.refuted) tt) r.numbers
   found_of_both s (Some nodes) is r = record { fits = halves_fit; system = s; is_system = is; refutes = r.refutes; tree = r.tree }
+
+-- a half that a point meets is not refuted alone
+pub met_alone : (n : ℕ) (p : PlainSystem) (half : Half) → IsHalf n p half → (point : ℕ → ℤ) → Meets point half.system → IsNotRefuted n half.system
+met_alone n p half h point m = λ r f. refuted_has_no_point n 0 half.system point (rows_fit p half.system h.fits h.is_system) h.small.below r m
 
 -- ---- one half that does not fit
 

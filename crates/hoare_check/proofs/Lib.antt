@@ -6,3 +6,4 @@ mod UnrefutedLaws
 mod PieceLaws
 mod FalseRowLaws
 mod JointLaws
+mod LeafLaws

@@ -1,10 +1,10 @@
 -- Halves of systems, and what is found out about the system of two of them at once.
-use Rattle.std.specs.Prelude.{◌≡◌, ◌++◌, ℕ, ℤ, ◌<◌, ◌^◌, List, length, Option, None, Some, IfSome}
+use Rattle.std.specs.Prelude.{◌≡◌, ◌++◌, ℕ, ℤ, ◌<◌, ◌^◌, List, [], length, map, true, Option, None, Some, IfSome}
 use Rattle.lin_rows.specs.declared.systems.System.{System, out-System}
 use Rattle.lin_rows.specs.Rows.{LinearRow}
-use Rattle.lin_rows.specs.Combinations.{row_at}
+use Rattle.lin_rows.specs.Combinations.{row_at, Contradicts}
 use Rattle.lin_rows.specs.Systems.{rows_of, groups_of, Meets}
-use Rattle.lin_rows.specs.Tightening.{never}
+use Rattle.lin_rows.specs.Tightening.{never, tightened}
 use Rattle.letter_acts.specs.Acts.{Alphabet}
 use Rattle.farkas_check.specs.Nodes.{PlainNode}
 use Rattle.farkas_check.specs.Refutes.{Refutes}
@@ -18,6 +18,7 @@ use Rattle.triple_rows.specs.Halves.{said_before, said_after}
 use Rattle.triple_rows.specs.Triples.{IsRefuted}
 use Rattle.triple_rows.specs.Systems.{PlainSystem, PlainFits, IsSystem}
 use Rattle.hoare_check.specs.declared.halves.Half.{Half}
+use Rattle.hoare_check.specs.declared.leaves.Leaf.{Leaf}
 use Rattle.hoare_check.specs.Decided.{IsRefutedByDecide, RefutesUncut, IsProofFor}
 
 -- the row at this place is `0 <= -1`
@@ -30,18 +31,34 @@ pub record IsSmall (n : ℕ) (s : System) : Type 0 where
   pub rows : length (rows_of s) < 2 ^ 32
   pub groups : length (out-System s).groups.items < 2 ^ 32
 
--- Half of a system over n columns: it has the rows and groups of this plain system, whose numbers fit, and its columns are below n.
+-- the rows of the system and those behind them contradict one another as the leaf says
+abbrev pub IsLeafOf : System → Leaf → Type 0
+IsLeafOf s l = Contradicts (map tightened (rows_of s ++ l.others.items)) l.parts.items
+
+-- Half of a system over n columns: it has the rows and groups of this plain system, whose numbers fit, and its columns are below n. What is
+-- known of it alone is true.
 pub record IsHalf (n : ℕ) (p : PlainSystem) (half : Half) : Type 0 where
   pub fits : PlainFits p
   pub is_system : IsSystem p half.system
   pub small : IsSmall n half.system
   pub columns : half.columns ≡ n
   pub false_row : IfSome half.false_row (IsFalseRow (rows_of half.system))
+  pub leaf : IfSome half.leaf (IsLeafOf half.system)
+  pub is_open : half.is_open ≡ true → IsNotRefuted n half.system
 
 -- half of a system, or none where a number of the plain system does not fit
 abbrev pub MayBeHalf : ℕ → PlainSystem → Option Half → Type 0
 MayBeHalf n p None = PlainFits p → ⊥
 MayBeHalf n p (Some half) = IsHalf n p half
+
+-- the system has neither rows nor groups
+abbrev pub IsBare : System → Type 0
+IsBare s = (rows_of s ≡ []) × (groups_of s ≡ [])
+
+-- the row at a place of a list is that at another, where others stand behind the first ones, of which there are so many
+abbrev pub IsCarried : ℕ → List LinearRow → List LinearRow → ℕ → ℕ → Type 0
+IsCarried count from to place k = (front : List LinearRow) → length front ≡ count →
+    (k < length (front ++ to)) × (row_at (front ++ from) place ≡ row_at (front ++ to) k)
 
 -- the system has the rows and groups of the first, and then those of the second
 pub record IsJoint (a b s : System) : Type 0 where

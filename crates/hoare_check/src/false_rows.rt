@@ -28,7 +28,7 @@ pub(crate) fn leaf_of_false_row(
 pub(crate) fn leaf_of(alloc: Global, place: u32) -> Result<Refutation, AllocError>
     ensures { IfOk result (λ nodes. nodes ≡ leaf ((place, pos 1) ∷ []) ∷ []) }
 {
-    let mut nodes = Vec::new(alloc);
+    let mut nodes = Vec::with_capacity(alloc, 1)?;
     nodes.push(Node::Leaf(Vec::from_slice(alloc, &[(place, 1)])?))?;
     match tree(nodes) {
         Some(refutation) => Ok(refutation),

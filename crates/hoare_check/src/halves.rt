@@ -1,18 +1,19 @@
 //! Halves of systems: what triples with the same sources share, and what those by the same letter to the same target do. Each is
-//! made once, and a whole point that meets two halves refuses the triple of both.
+//! made once, and so is what its rows say alone. A whole point that meets two halves refuses the triple of both.
 
-ghost use Rattle.std.specs.Prelude.{◌++◌, ◌<◌, ◌^◌, ℕ, IfOk, IfSome, IsTrue, length};
+ghost use Rattle.std.specs.Prelude.{◌≡◌, ◌++◌, ◌<◌, ◌^◌, ℕ, IfOk, IfSome, IsTrue, length};
 ghost use Rattle.lin_rows.specs.Systems.{rows_of};
 ghost use Rattle.letter_acts.specs.Invariant.{alphabet_of};
 ghost use Rattle.triple_rows.specs.Systems.{PlainSystem, PlainFits, IsSystem, both_systems};
 ghost use Rattle.triple_rows.specs.Triples.{Agrees};
 ghost use Rattle.letter_acts.specs.Acts.{Alphabet};
 ghost use Rattle.triple_rows.specs.declared.triples.Triple.{Triple};
-ghost use Rattle.hoare_check.specs.Halves.{IsFalseRow, IsSmall, IsHalf, IsJoint, MayDecide, MayRefute, IsSourceHalf, IsTargetHalf, MayFind, IsMetInBoth};
+ghost use Rattle.hoare_check.specs.Halves.{IsFalseRow, IsSmall, IsHalf, IsJoint, MayDecide, MayRefute, IsSourceHalf, IsTargetHalf, MayFind, IsBare};
 
 use crate::counting::{columns_of, plus};
 use crate::false_rows::{false_row, leaf_of};
-use crate::meeting::is_met;
+use crate::leaves::{Leaf, by_leaves};
+use crate::points::Points;
 use farkas_check::Refutation;
 use int_decide::{Uncut, decide_uncut, measure};
 use letter_acts::Icfg;
@@ -29,6 +30,10 @@ pub struct Half {
     pub(crate) columns: u32,
     /// The number of its first row `0 <= -1`.
     pub(crate) false_row: Option<u32>,
+    /// Rows of it, and of others behind them, that contradict one another.
+    pub(crate) leaf: Option<Leaf>,
+    /// Whether it is known that Decide without cuts does not refute it alone.
+    pub(crate) is_open: bool,
 }
 
 /// Whether the columns of a system are seen to be below the count, and it has fewer than 2^32 rows and groups.
@@ -60,6 +65,8 @@ fn half_of(system: System, columns: u32) -> Result<Half, AllocError>
         system,
         columns,
         false_row,
+        leaf: None,
+        is_open: false,
     })
 }
 
@@ -101,13 +108,14 @@ pub fn target_half(alloc: Global, icfg: &Icfg, triple: &Triple) -> Result<Option
 }
 
 /// A refutation without cuts of the system of a triple with these halves, which is a proof of it. `None` only where Decide does not
-/// refute it so within the numbers that fit. It is not decided where one of the points meets both halves; a point that Decide finds
-/// is added.
+/// refute it so within the numbers that fit. It is not decided where one of the points meets both halves, the source at hand and the
+/// target with this number; a point that Decide finds is added.
 pub fn refuted_at_once(
     alloc: Global,
     source: &Option<Half>,
     target: &Option<Half>,
-    points: &mut Vec<Vec<i128>>,
+    number: usize,
+    points: &mut Points,
 ) -> Result<Option<Refutation>, AllocError>
     ensures { IfOk result (λ found. (al : Alphabet) (t : Triple) → Agrees al t → IsSourceHalf al t source.now → IsTargetHalf al t target.now → MayFind al t found) }
 {
@@ -115,7 +123,7 @@ pub fn refuted_at_once(
         None => Ok(None),
         Some(first) => match target {
             None => Ok(None),
-            Some(second) => refuted_of_halves(alloc, first, second, points),
+            Some(second) => refuted_of_halves(alloc, first, second, number, points),
         },
     }
 }
@@ -125,17 +133,31 @@ fn refuted_of_halves(
     alloc: Global,
     first: &Half,
     second: &Half,
-    points: &mut Vec<Vec<i128>>,
+    number: usize,
+    points: &mut Points,
 ) -> Result<Option<Refutation>, AllocError>
     ensures { IfOk result (λ found. (n : ℕ) (p q : PlainSystem) → IsHalf n p first.now → IsHalf n q second.now → MayRefute n (both_systems p q) found) }
 {
     if let Some(place) = false_place(first, second) {
         return Ok(Some(leaf_of(alloc, place)?));
     }
-    if is_met_in_both(&first.system, &second.system, points) {
+    if let Some(refutation) = by_leaves(alloc, first, second)? {
+        return Ok(Some(refutation));
+    }
+    if second.is_open && is_bare(&first.system) {
+        return Ok(None);
+    }
+    if points.refuse(&first.system, &second.system, number)? {
         return Ok(None);
     }
     decided_at_once(alloc, first, second, points)
+}
+
+/// Whether a system has neither rows nor groups.
+pub(crate) fn is_bare(system: &System) -> bool
+    ensures { IsTrue result → IsBare system.now }
+{
+    system.rows.is_empty() && system.groups.is_empty()
 }
 
 /// Where the rows of two halves have the row `0 <= -1`, the second's behind the first's.
@@ -151,24 +173,12 @@ fn false_place(first: &Half, second: &Half) -> Option<u32>
     }
 }
 
-/// Whether one of the points is seen to meet both systems. The last ones, which often are of the same source, are tried first.
-fn is_met_in_both(first: &System, second: &System, points: &[Vec<i128>]) -> bool
-    ensures { IsTrue result → IsMetInBoth first.now second.now }
-{
-    for point in points.iter().rev() {
-        if is_met(first, point) && is_met(second, point) {
-            return true;
-        }
-    }
-    false
-}
-
 /// What Decide without cuts finds of the system of two halves.
 fn decided_at_once(
     alloc: Global,
     first: &Half,
     second: &Half,
-    points: &mut Vec<Vec<i128>>,
+    points: &mut Points,
 ) -> Result<Option<Refutation>, AllocError>
     ensures { IfOk result (λ found. (n : ℕ) (p q : PlainSystem) → IsHalf n p first.now → IsHalf n q second.now → MayRefute n (both_systems p q) found) }
 {
@@ -177,11 +187,11 @@ fn decided_at_once(
 }
 
 /// What Decide without cuts finds of a system. A point that it finds is added.
-fn decided(
+pub(crate) fn decided(
     alloc: Global,
     system: &System,
     columns: u32,
-    points: &mut Vec<Vec<i128>>,
+    points: &mut Points,
 ) -> Result<Option<Refutation>, AllocError>
     ensures { IfOk result (MayDecide columns system.now) }
 {
@@ -192,7 +202,7 @@ fn decided(
     match decide_uncut(alloc, system, columns)? {
         Uncut::Refuted(refutation) => Ok(Some(refutation)),
         Uncut::Met(point) => {
-            points.push(point)?;
+            points.add(point)?;
             Ok(None)
         }
         Uncut::Unrefuted => Ok(None),
@@ -200,8 +210,9 @@ fn decided(
 }
 
 /// Both systems at once: the rows of the first and then those of the second, and their groups likewise.
-fn joined(first: &System, second: &System) -> Result<System, AllocError>
-    ensures { IfOk result (λ s. (p q : PlainSystem) → IsSystem p first.now → IsSystem q second.now → IsSystem (both_systems p q) s) }
+pub(crate) fn joined(first: &System, second: &System) -> Result<System, AllocError>
+    ensures rows { IfOk result (λ s. rows_of s ≡ rows_of first.now ++ rows_of second.now) }
+    ensures system { IfOk result (λ s. (p q : PlainSystem) → IsSystem p first.now → IsSystem q second.now → IsSystem (both_systems p q) s) }
 {
     let front = first.copy()?;
     let back = second.copy()?;
