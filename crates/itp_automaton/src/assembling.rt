@@ -38,7 +38,7 @@ fn start_of(alloc: Global, icfg: &Icfg, states: &Predicates) -> Result<u32, Allo
 }
 
 /// Whether the predicate is false.
-fn is_false(pred: &Scoped) -> bool
+pub(crate) fn is_false(pred: &Scoped) -> bool
     ensures { IsTrue result ↔ (pred.now.pred ≡ Truth false ∷ []) }
 {
     matches!(pred.pred.nodes(), [PredNode::Truth(false)])

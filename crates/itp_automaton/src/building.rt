@@ -19,7 +19,7 @@ use nested_itp::Interpolants;
 use nwa_base::Word;
 use std::alloc::{AllocError, Global};
 use std::thread::Threads;
-use triple_rows::{Proof, Scoped, proof};
+use triple_rows::{Proof, Scoped};
 
 /// Equal predicates.
 fn copied_preds(alloc: Global, preds: &[Scoped]) -> Result<Vec<Scoped>, AllocError>
@@ -33,26 +33,21 @@ fn copied_preds(alloc: Global, preds: &[Scoped]) -> Result<Vec<Scoped>, AllocErr
 }
 
 /// An equal proof.
-fn copied_proof(alloc: Global, icfg: &Icfg, known: &Proof) -> Result<Proof, AllocError>
-    requires { IsProofFor (alphabet_of icfg.now) known.now }
+fn copied_proof(known: &Proof) -> Result<Proof, AllocError>
     ensures { IfOk result (λ copy. copy ≡ known.now) }
 {
     let triple = known.triple().copy()?;
     let refutation = known.refutation().copy()?;
-    match proof(alloc, icfg, triple, refutation)? {
-        Some(copy) => Ok(copy),
-        None => unreachable!(),
-    }
+    Ok(Proof::new(triple, refutation))
 }
 
 /// Equal proofs.
-fn copied_proofs(alloc: Global, icfg: &Icfg, proofs: &[Proof]) -> Result<Vec<Proof>, AllocError>
-    requires { AllByRecursion (IsProofFor (alphabet_of icfg.now)) proofs.now }
+fn copied_proofs(alloc: Global, proofs: &[Proof]) -> Result<Vec<Proof>, AllocError>
     ensures { IfOk result (λ copies. copies.items ≡ proofs.now) }
 {
     let mut copies = Vec::with_capacity(alloc, proofs.len())?;
     for known in proofs {
-        copies.push(copied_proof(alloc, icfg, known)?)?;
+        copies.push(copied_proof(known)?)?;
     }
     Ok(copies)
 }
@@ -77,7 +72,7 @@ fn build_along<R: Threads + Sync>(
     // Contracts alone speak of these.
     let (_graph, _word) = (icfg.nwa(), word);
     let states = copied_preds(alloc, preds)?;
-    let known = copied_proofs(alloc, icfg, proofs)?;
+    let known = copied_proofs(alloc, proofs)?;
     Ok(saturate(rt, alloc, icfg, states, known)?)
 }
 

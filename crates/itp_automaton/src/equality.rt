@@ -4,7 +4,7 @@ ghost use Rattle.std.specs.Prelude.{◌≡◌, ◌↔◌, IsTrue};
 ghost use Rattle.triple_rows.specs.Predicates.{SpellsPredicate};
 ghost use Rattle.triple_rows.specs.declared.triples.Triple.TheVariants as triples;
 
-use lin_rows::{Col, Row, RowKind};
+use hoare_check::is_same_row;
 use triple_rows::{PredNode, Scoped, Triple};
 
 /// Whether the predicates are equal, with their procedures.
@@ -34,51 +34,10 @@ fn same_node(a: &PredNode, b: &PredNode) -> bool
 {
     match (a, b) {
         (PredNode::Truth(x), PredNode::Truth(y)) => *x == *y,
-        (PredNode::Atom(x), PredNode::Atom(y)) => same_row(x, y),
+        (PredNode::Atom(x), PredNode::Atom(y)) => is_same_row(x, y),
         (PredNode::And(x), PredNode::And(y)) | (PredNode::Or(x), PredNode::Or(y)) => *x == *y,
         _ => false,
     }
-}
-
-fn same_row(a: &Row, b: &Row) -> bool
-    ensures { IsTrue result ↔ (a.now ≡ b.now) }
-{
-    if !same_kind(a.kind(), b.kind()) || !same_number(a.bound(), b.bound()) {
-        return false;
-    }
-    same_terms(a.terms(), b.terms())
-}
-
-fn same_terms(a: &[(Col, i128)], b: &[(Col, i128)]) -> bool
-    ensures { IsTrue result ↔ (a.now ≡ b.now) }
-{
-    if a.len() != b.len() {
-        return false;
-    }
-    for (i, term) in a.iter().enumerate() {
-        if !same_term(*term, b[i]) {
-            return false;
-        }
-    }
-    true
-}
-
-fn same_term(a: (Col, i128), b: (Col, i128)) -> bool
-    ensures { IsTrue result ↔ (a ≡ b) }
-{
-    a.0 == b.0 && a.1 == b.1
-}
-
-fn same_kind(a: RowKind, b: RowKind) -> bool
-    ensures { IsTrue result ↔ (a ≡ b) }
-{
-    a == b
-}
-
-fn same_number(a: i128, b: i128) -> bool
-    ensures { IsTrue result ↔ (a ≡ b) }
-{
-    a == b
 }
 
 /// Whether this is the inside triple.

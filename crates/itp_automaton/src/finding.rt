@@ -6,8 +6,8 @@ ghost use Rattle.triple_rows.specs.Predicates.{SpellsPredicate};
 
 use crate::equality::is_same;
 use lin_rows::Row;
+use nwa_base::mixed;
 use std::alloc::{AllocError, Global};
-use std::collections::HashMap;
 use std::marker::Model;
 use triple_rows::{PredNode, Scoped};
 
@@ -23,12 +23,21 @@ pub fn state_of(states: &[Scoped], pred: &Scoped) -> Option<usize>
     None
 }
 
+/// The place of no predicate.
+const NOWHERE: usize = usize::MAX;
+
+/// How long the table of places is at first: a power of two, as it stays.
+const LEAST: usize = 64;
+
+/// How many entries of the table a predicate is searched in.
+const TRIES: usize = 8;
+
 /// Predicates in a list.
 #[derive(Drop)]
 pub struct Predicates {
     list: Vec<Scoped>,
-    /// Where the first predicate with a fingerprint stands, of those that are neither true nor false.
-    places: HashMap<u64, usize>,
+    /// Where predicates stand that are neither true nor false: each at the first free entry from that of its fingerprint on.
+    table: Vec<usize>,
 }
 
 impl Model for Predicates {
@@ -41,7 +50,7 @@ impl Model for Predicates {
 }
 
 impl Predicates {
-    ghost use Rattle.std.specs.Prelude.{[], ◌∷◌, ◌++◌, OnOk};
+    ghost use Rattle.std.specs.Prelude.{[], ◌∷◌, ◌++◌, IsTrue, OnOk};
 
     /// No predicates.
     pub fn new(alloc: Global) -> Self
@@ -49,7 +58,7 @@ impl Predicates {
     {
         Predicates {
             list: Vec::new(alloc),
-            places: HashMap::new(alloc),
+            table: Vec::new(alloc),
         }
     }
 
@@ -81,15 +90,31 @@ impl Predicates {
     fn likely(&self, pred: &Scoped) -> Option<usize>
         ensures { IfSome result (λ q. (slice_get self.now q ≡ Some pred.now) × SpellsPredicate pred.now.pred) }
     {
-        let place = match truth_place(pred) {
-            Some(place) => place,
-            None => *self.places.get(&fingerprint(pred))?,
-        };
-        if place < self.list.len() && is_same(&self.list[place], pred) {
-            Some(place)
-        } else {
-            None
+        if let Some(place) = truth_place(pred) {
+            return if self.stands_at(place, pred) {
+                Some(place)
+            } else {
+                None
+            };
         }
+        let number = fingerprint(pred);
+        for step in 0..TRIES {
+            let place = *self.table.get(entry(number, step, self.table.len()))?;
+            if place == NOWHERE {
+                return None;
+            }
+            if self.stands_at(place, pred) {
+                return Some(place);
+            }
+        }
+        None
+    }
+
+    /// Whether the predicate stands at the place.
+    fn stands_at(&self, place: usize, pred: &Scoped) -> bool
+        ensures { IsTrue result → (slice_get self.now place ≡ Some pred.now) × SpellsPredicate pred.now.pred }
+    {
+        place < self.list.len() && is_same(&self.list[place], pred)
     }
 
     /// Adds a predicate at the end.
@@ -103,15 +128,45 @@ impl Predicates {
         Ok(())
     }
 
-    /// Notes that the next predicate has this fingerprint, unless one before has it.
+    /// Notes that the next predicate has this fingerprint.
     fn note(&mut self, number: u64) -> Result<(), AllocError>
         ensures { OnOk result (self.new ≡ self.old) }
     {
-        if !self.places.contains_key(&number) {
-            self.places.insert(number, self.list.len())?;
+        if self.table.len() / 4 <= self.list.len() {
+            self.table = noted(&self.list, self.table.len().saturating_mul(4).max(LEAST))?;
         }
+        put(&mut self.table, number, self.list.len());
         Ok(())
     }
+}
+
+/// A table of so many entries with the places of the predicates in a list.
+fn noted(list: &Vec<Scoped>, count: usize) -> Result<Vec<usize>, AllocError> {
+    let mut table = vec![in *list.allocator(); NOWHERE; count]?;
+    for (place, pred) in list.iter().enumerate() {
+        if truth_place(pred).is_none() {
+            put(&mut table, fingerprint(pred), place);
+        }
+    }
+    Ok(table)
+}
+
+/// Puts a place at the first free entry from that of a fingerprint on, if one of those is free that are searched.
+fn put(table: &mut Vec<usize>, number: u64, place: usize) {
+    let count = table.len();
+    for step in 0..TRIES {
+        if let Some(found) = table.get_mut(entry(number, step, count)) {
+            if *found == NOWHERE {
+                *found = place;
+                return;
+            }
+        }
+    }
+}
+
+/// The entry of a fingerprint, or one that is so many steps behind it, in a table of so many, a power of two.
+fn entry(number: u64, step: usize, count: usize) -> usize {
+    ((number >> 32) as usize).wrapping_add(step) & count.wrapping_sub(1)
 }
 
 /// Where true, or false, of a procedure stands in a list that begins with true and false of each procedure, in order.
@@ -149,8 +204,4 @@ fn with_row(before: u64, row: &Row) -> u64 {
 fn low_bits(number: i128) -> u64 {
     let low = (number.unsigned_abs() & 0x7FFF_FFFF_FFFF_FFFF) as u64;
     if number < 0 { !low } else { low }
-}
-
-fn mixed(sum: u64, more: u64) -> u64 {
-    (sum ^ more).wrapping_mul(0x9e37_79b9_7f4a_7c15)
 }

@@ -1,16 +1,20 @@
 //! Triples over the states, tried until all are settled: proved, or not refuted without cuts.
 
-ghost use Rattle.std.specs.Prelude.{◌≡◌, ◌<◌, ◌++◌, Ok, IfOk, OnOk, length, map};
+ghost use Rattle.std.specs.Prelude.{◌≡◌, ◌<◌, ◌++◌, ℕ, Ok, IfOk, OnOk, length, map};
 ghost use Rattle.std.specs.List.{AllByRecursion, AllZip, flat_map};
 ghost use Rattle.letter_acts.specs.Invariant.{alphabet_of};
 ghost use Rattle.triple_rows.specs.declared.triples.Scoped.{Scoped};
-ghost use Rattle.hoare_check.specs.Halves.{IsSourceHalf};
+ghost use Rattle.triple_rows.specs.Systems.{PlainSystem};
+ghost use Rattle.hoare_check.specs.Halves.{IsSourceHalf, MayBeHalf};
 ghost use Rattle.itp_automaton.specs.Settling.{IsWithin, triple_from, state_at, AgreesTo, AreSources, IsStateIn, Adds, IsTarget, AreTargets, SettlesTriple, SettlesTargets, SettlesSources, SettledBelow, AreAllBelow, IsFoundBy};
 
+use crate::assembling::is_false;
 use crate::counting::count_triples;
 use crate::listing::{by_letter, is_listed, places_of};
 use crate::sources::{Source, sources_of, states_in};
-use hoare_check::{Half, refuted_at_once, source_half, target_half};
+use hoare_check::{
+    Half, Points, refuted_at_once, source_half, target_half, tried_alone, tried_with,
+};
 use letter_acts::Icfg;
 use rayon::prelude::*;
 use std::alloc::{AllocError, Global};
@@ -23,6 +27,8 @@ const LEAST: usize = 512;
 /// A target of the triples by a letter.
 #[derive(Drop)]
 pub(crate) struct Target {
+    /// Which of the targets it is.
+    pub(crate) number: usize,
     /// The number of the state.
     pub(crate) state: usize,
     /// What the letter, the denied target and the bounds say.
@@ -71,6 +77,8 @@ fn target_at(
     proc: u32,
     source: Source,
     q: usize,
+    number: usize,
+    points: &mut Points,
 ) -> Result<Target, AllocError>
     requires within { IsWithin (length states.now) source }
     requires agrees { AgreesTo (alphabet_of icfg.now) states.now letter proc source }
@@ -81,8 +89,13 @@ fn target_at(
     // Contracts alone speak of it.
     let _proc = proc;
     let triple = triple_from(states, source, letter, &states[q])?;
-    let half = target_half(alloc, icfg, &triple)?;
-    Ok(Target { state: q, half })
+    let made = target_half(alloc, icfg, &triple)?;
+    let half = tried_alone(alloc, made, points)?;
+    Ok(Target {
+        number,
+        state: q,
+        half,
+    })
 }
 
 /// The targets of the triples by a letter from a source: the states in the scope of a procedure.
@@ -93,6 +106,7 @@ fn targets_of(
     letter: u32,
     proc: u32,
     source: Source,
+    points: &mut Points,
 ) -> Result<Vec<Target>, AllocError>
     requires within { IsWithin (length states.now) source }
     requires agrees { AgreesTo (alphabet_of icfg.now) states.now letter proc source }
@@ -101,10 +115,34 @@ fn targets_of(
     let found = states_in(alloc, icfg, states, proc)?;
     let mut targets = Vec::with_capacity(alloc, found.len())?;
     for q in &found {
-        let target = target_at(alloc, icfg, states, letter, proc, source, *q)?;
+        let number = targets.len();
+        let target = target_at(
+            alloc, icfg, states, letter, proc, source, *q, number, points,
+        )?;
         targets.push(target)?;
     }
     Ok(targets)
+}
+
+/// The target that is false.
+fn falsum_of<'a>(states: &[Scoped], targets: &'a [Target]) -> Option<&'a Target> {
+    targets.iter().find(|target| matches!(states.get(target.state), Some(state) if is_false(state)))
+}
+
+/// The half of a source, with what is found of it and the target that is false.
+fn with_falsum(
+    alloc: Global,
+    half: Option<Half>,
+    falsum: Option<&Target>,
+    points: &mut Points,
+) -> Result<Option<Half>, AllocError>
+    ensures { IfOk result (λ found. (n : ℕ) (p : PlainSystem) → MayBeHalf n p half → MayBeHalf n p found) }
+{
+    points.begin_source();
+    match falsum {
+        Some(target) => tried_with(alloc, half, target.half.as_ref(), target.number, points),
+        None => Ok(half),
+    }
 }
 
 /// What the source of triples by a letter says, whatever their target: it is made of the triple to a state among the targets.
@@ -116,6 +154,8 @@ fn source_at(
     proc: u32,
     source: Source,
     sample: usize,
+    falsum: Option<&Target>,
+    points: &mut Points,
 ) -> Result<Option<Half>, AllocError>
     requires within { IsWithin (length states.now) source }
     requires agrees { AgreesTo (alphabet_of icfg.now) states.now letter proc source }
@@ -125,7 +165,8 @@ fn source_at(
     // Contracts alone speak of it.
     let _proc = proc;
     let triple = triple_from(states, source, letter, &states[sample])?;
-    source_half(alloc, icfg, &triple)
+    let made = source_half(alloc, icfg, &triple)?;
+    with_falsum(alloc, made, falsum, points)
 }
 
 /// Settles the triple from a source, whose half this is, by a letter to a target: adds its proof, unless it is known, where Decide
@@ -141,7 +182,7 @@ fn settle_pair(
     target: &Target,
     known: &[Proof],
     places: &[usize],
-    points: &mut Vec<Vec<i128>>,
+    points: &mut Points,
     found: &mut Vec<Proof>,
 ) -> Result<(), AllocError>
     requires within { IsWithin (length states.now) source }
@@ -157,7 +198,7 @@ fn settle_pair(
     if is_listed(known, places, states, source, letter, after) {
         return Ok(());
     }
-    match refuted_at_once(alloc, half, &target.half, points)? {
+    match refuted_at_once(alloc, half, &target.half, target.number, points)? {
         Some(refutation) => {
             let triple = triple_from(states, source, letter, after)?;
             found.push(Proof::new(triple, refutation))?;
@@ -179,7 +220,7 @@ fn settle_source(
     targets: &[Target],
     known: &[Proof],
     places: &[usize],
-    points: &mut Vec<Vec<i128>>,
+    points: &mut Points,
     found: &mut Vec<Proof>,
 ) -> Result<(), AllocError>
     requires within { IsWithin (length states.now) source }
@@ -208,6 +249,7 @@ fn settle_sources(
     targets: &[Target],
     known: &[Proof],
     places: &[usize],
+    points: &mut Points,
 ) -> Result<Vec<Proof>, AllocError>
     requires within { AllByRecursion (IsWithin (length states.now)) sources.now }
     requires agree { AllByRecursion (AgreesTo (alphabet_of icfg.now) states.now letter proc) sources.now }
@@ -218,22 +260,14 @@ fn settle_sources(
         return Ok(Vec::new(alloc));
     }
     let mut found = Vec::new(alloc);
-    let mut points = Vec::new(alloc);
     let sample = targets[0].state;
+    let falsum = falsum_of(states, targets);
     for source in sources {
-        let half = source_at(alloc, icfg, states, letter, proc, *source, sample)?;
+        let half = source_at(
+            alloc, icfg, states, letter, proc, *source, sample, falsum, points,
+        )?;
         settle_source(
-            alloc,
-            icfg,
-            states,
-            letter,
-            proc,
-            *source,
-            &half,
-            targets,
-            known,
-            places,
-            &mut points,
+            alloc, icfg, states, letter, proc, *source, &half, targets, known, places, points,
             &mut found,
         )?;
     }
@@ -258,9 +292,19 @@ fn settle_triples(
         return Ok(Vec::new(alloc));
     }
     // They are targets from each source.
-    let targets = targets_of(alloc, icfg, states, letter, proc, sources[0])?;
+    let mut points = Points::new(alloc);
+    let targets = targets_of(alloc, icfg, states, letter, proc, sources[0], &mut points)?;
     settle_sources(
-        alloc, icfg, states, letter, proc, sources, &targets, known, places,
+        alloc,
+        icfg,
+        states,
+        letter,
+        proc,
+        sources,
+        &targets,
+        known,
+        places,
+        &mut points,
     )
 }
 

@@ -49,6 +49,13 @@ pub(crate) fn truth(alloc: Global, proc: u32, value: bool) -> Result<Scoped, All
     Ok(Scoped { proc, pred })
 }
 
+/// The same, whose copies share what it is made of.
+fn shared_truth(alloc: Global, proc: u32, value: bool) -> Result<Scoped, AllocError>
+    ensures { IfOk result (λ s. s ≡ truth_of proc value) }
+{
+    truth(alloc, proc, value)?.copy()
+}
+
 /// True and false of so many procedures. No two of them are equal, so none is searched for.
 fn truths(alloc: Global, procedures: usize) -> Result<Predicates, AllocError>
     ensures { IfOk result (λ states. states ≡ truths_below procedures) }
@@ -58,8 +65,8 @@ fn truths(alloc: Global, procedures: usize) -> Result<Predicates, AllocError>
     };
     let mut states = Predicates::new(alloc);
     for proc in 0..count {
-        states.push(truth(alloc, proc, true)?)?;
-        states.push(truth(alloc, proc, false)?)?;
+        states.push(shared_truth(alloc, proc, true)?)?;
+        states.push(shared_truth(alloc, proc, false)?)?;
     }
     Ok(states)
 }

@@ -9,9 +9,6 @@ use Rattle.itp_automaton.specs.Making.{NameStatesFor, HasStates, HasEdges}
 use Rattle.itp_automaton.proofs.RunLaws.{accepts_along, along_states}
 use Rattle.itp_automaton.proofs.building.build_along.Goals as goal
 
-pub copied_proofs-requires : goal.copied_proofs-requires
-copied_proofs-requires g c = c.requires.along.proved
-
 pub saturate-requires-clause-proofs : goal.saturate-requires-clause-proofs
 saturate-requires-clause-proofs g c κs o =
     subst (AllByRecursion (IsProofFor (alphabet_of c.args.icfg.now))) (sym c.in_ok-known.ensures) c.requires.along.proved

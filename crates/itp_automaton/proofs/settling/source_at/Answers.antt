@@ -4,6 +4,8 @@ use Rattle.letter_acts.specs.Invariant.{alphabet_of}
 use Rattle.triple_rows.specs.declared.triples.Scoped.{Scoped}
 use Rattle.triple_rows.specs.declared.triples.Triple.{Triple}
 use Rattle.triple_rows.specs.Triples.{Agrees}
+use Rattle.triple_rows.specs.Cuts.{columns_of}
+use Rattle.triple_rows.specs.Halves.{said_before}
 use Rattle.hoare_check.specs.Halves.{IsSourceHalf}
 use Rattle.itp_automaton.specs.Settling.{state_at, triple_from}
 use Rattle.itp_automaton.proofs.StateLaws.{got_at}
@@ -22,6 +24,7 @@ source_half-requires c =
 pub returns : goal.returns
 returns c =
     let al = alphabet_of c.args.icfg.now in
-    IfOk-then c.source_half.result _ _ c.source_half.ensures (λ half h after.
+    let triple = c.in_ok-triple.triple in
+    IfOk-then c.with_falsum.result _ _ c.with_falsum.ensures (λ half h after.
     source_half_of al c.args.states.now c.args.source c.args.letter c.index-states-sample.result after half
-    (subst (λ (t : Triple). IsSourceHalf al t half) c.in_ok-triple.ensures h))
+    (subst (λ (t : Triple). IsSourceHalf al t half) c.in_ok-triple.ensures (h (columns_of al triple) (said_before al triple) c.in_ok-made.ensures)))
