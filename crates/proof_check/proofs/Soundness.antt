@@ -27,12 +27,9 @@ use Rattle.proof_names.specs.declared.outlines.NamedStep.TheVariants as steps
 use Rattle.proof_names.specs.Naming.{scoped_at, triple_at}
 use Rattle.proof_names.specs.Outlines.{OutlineNode, Sketch}
 use Rattle.proof_check.specs.Steps.{IsNode, IsOf, IsOpen, Lists, StepIsSound, ReturnIsSound, IsSound, HasSteps, HasBacks}
+use Rattle.proof_check.specs.Described.{HoldsAt, Describes}
 use Rattle.proof_check.specs.Proves.{HasStart}
 use Rattle.proof_check.proofs.NamedLaws.{inside_two, call_two, back_three}
-
--- the predicate with this number holds of the situation
-abbrev HoldsAt : (ℕ → Option Scoped) → ℕ → Situation → Type 0
-HoldsAt preds k s = (sc : Scoped) × (scoped_at preds s.proc k ≡ Some sc) × ScopedHolds sc s
 
 -- a listed triple, which is named and valid
 pub record IsProved (g : Graph) (preds : ℕ → Option Scoped) (numbers : Listed) : Type 0 where
@@ -48,11 +45,6 @@ pub record Facts (g : Graph) (preds : ℕ → Option Scoped) (s : Sketch) : Type
   pub sound : (t : NamedStep) → Member s.steps t → IsSound g s t
   pub steps : (n : ℕ) (x : OutlineNode) → IsNode s n x → IsOpen x → HasSteps g s n x
   pub backs : (n : ℕ) (x : OutlineNode) → IsNode s n x → IsOpen x → HasBacks g s n x
-
--- the node is at the place, and each of its predicates holds of the situation
-record Describes (preds : ℕ → Option Scoped) (x : OutlineNode) (c : ℕ × Situation) : Type 0 where
-  at : c.0 ≡ x.place
-  holds : (k : ℕ) → Member x.preds k → HoldsAt preds k c.1
 
 -- a configuration on the stack is described by a node from which a step leads by the call letter to the entry node of the callee
 record IsOpenCall (g : Graph) (preds : ℕ → Option Scoped) (s : Sketch) (entry : ℕ) (c : ℕ × Situation) (n : ℕ) (x : OutlineNode) : Type 0 where
@@ -77,11 +69,11 @@ true_holds : (preds : ℕ → Option Scoped) (s : Situation) → HoldsAt preds 0
 true_holds preds s = (truth_of s.proc true, refl, (refl, tt))
 
 -- a node that describes something lacks false
-describes_open : (preds : ℕ → Option Scoped) (x : OutlineNode) (c : ℕ × Situation) → Describes preds x c → IsOpen x
+pub describes_open : (preds : ℕ → Option Scoped) (x : OutlineNode) (c : ℕ × Situation) → Describes preds x c → IsOpen x
 describes_open preds x c d h = false_holds_not preds c.1 (d.holds 1 h)
 
 -- a source that is true or in the node holds
-source_holds : (preds : ℕ → Option Scoped) (x : OutlineNode) (c : ℕ × Situation) (q : ℕ) → Describes preds x c → IsOf q x → HoldsAt preds q c.1
+pub source_holds : (preds : ℕ → Option Scoped) (x : OutlineNode) (c : ℕ × Situation) (q : ℕ) → Describes preds x c → IsOf q x → HoldsAt preds q c.1
 source_holds preds x c q d (inl e) = subst (λ (k : ℕ). HoldsAt preds k c.1) (sym e) (true_holds preds c.1)
 source_holds preds x c q d (inr h) = d.holds q h
 
@@ -105,7 +97,7 @@ inside_named : (al : Alphabet) (a : Letter) (o : Option PlainAct) (s t : Situati
 inside_named al a None s t h = absurd h
 inside_named al a (Some act) s t h = inside_if al act (same_letter a (letter_of a.id act)) s t h
 
-letter_inside : (g : Graph) (a : Letter) (s t : Situation) → ActInside (alphabet_of g) (act_of (alphabet_of g) a) s t → ActInside (alphabet_of g) (slice_get g.acts a.id) s t
+pub letter_inside : (g : Graph) (a : Letter) (s t : Situation) → ActInside (alphabet_of g) (act_of (alphabet_of g) a) s t → ActInside (alphabet_of g) (slice_get g.acts a.id) s t
 letter_inside g a s t h = inside_named (alphabet_of g) a (slice_get g.acts a.id) s t h
 
 calls_if : (al : Alphabet) (act : PlainAct) (b : Bool) (s t : Situation) → ActCalls al (if b then Some act else None) s t → ActCalls al (Some act) s t
@@ -116,7 +108,7 @@ calls_named : (al : Alphabet) (a : Letter) (o : Option PlainAct) (s t : Situatio
 calls_named al a None s t h = absurd h
 calls_named al a (Some act) s t h = calls_if al act (same_letter a (letter_of a.id act)) s t h
 
-letter_calls : (g : Graph) (a : Letter) (s t : Situation) → ActCalls (alphabet_of g) (act_of (alphabet_of g) a) s t → ActCalls (alphabet_of g) (slice_get g.acts a.id) s t
+pub letter_calls : (g : Graph) (a : Letter) (s t : Situation) → ActCalls (alphabet_of g) (act_of (alphabet_of g) a) s t → ActCalls (alphabet_of g) (slice_get g.acts a.id) s t
 letter_calls g a s t h = calls_named (alphabet_of g) a (slice_get g.acts a.id) s t h
 
 returns_if : (al : Alphabet) (act : PlainAct) (b : Bool) (x c t : Situation) → ActReturns al (if b then Some act else None) x c t → ActReturns al (Some act) x c t
@@ -127,7 +119,7 @@ returns_named : (al : Alphabet) (a : Letter) (o : Option PlainAct) (x c t : Situ
 returns_named al a None x c t h = absurd h
 returns_named al a (Some act) x c t h = returns_if al act (same_letter a (letter_of a.id act)) x c t h
 
-letter_returns : (g : Graph) (a : Letter) (x c t : Situation) → ActReturns (alphabet_of g) (act_of (alphabet_of g) a) x c t → ActReturns (alphabet_of g) (slice_get g.acts a.id) x c t
+pub letter_returns : (g : Graph) (a : Letter) (x c t : Situation) → ActReturns (alphabet_of g) (act_of (alphabet_of g) a) x c t → ActReturns (alphabet_of g) (slice_get g.acts a.id) x c t
 letter_returns g a x c t h = returns_named (alphabet_of g) a (slice_get g.acts a.id) x c t h
 
 -- ---- inside letters
@@ -138,7 +130,7 @@ inside_situations g p written helpers rows o s t e h =
     let k : ActInside (alphabet_of g) (Some (inside_act p written helpers rows)) s t = subst (λ (a : Option PlainAct). ActInside (alphabet_of g) a s t) e h in
     (k.0.0, k.1.0)
 
-inside_shown : (g : Graph) (preds : ℕ → Option Scoped) (p l q r : ℕ) (written : List ℕ) (helpers : ℕ) (rows : List LinearRow) (s t : Situation) →
+pub inside_shown : (g : Graph) (preds : ℕ → Option Scoped) (p l q r : ℕ) (written : List ℕ) (helpers : ℕ) (rows : List LinearRow) (s t : Situation) →
     slice_get g.acts l ≡ Some (inside_act p written helpers rows) → ActInside (alphabet_of g) (slice_get g.acts l) s t →
     IsProved g preds (Inside q l r) → HoldsAt preds q s → HoldsAt preds r t
 inside_shown g preds p l q r written helpers rows s t e h v hold =
@@ -180,7 +172,7 @@ call_situations g caller callee helpers rows o s t e h =
     let k : ActCalls (alphabet_of g) (Some (call_act caller callee helpers rows)) s t = subst (λ (a : Option PlainAct). ActCalls (alphabet_of g) a s t) e h in
     (k.0.0, k.1.0)
 
-call_shown : (g : Graph) (preds : ℕ → Option Scoped) (caller callee l q r helpers : ℕ) (rows : List LinearRow) (s t : Situation) →
+pub call_shown : (g : Graph) (preds : ℕ → Option Scoped) (caller callee l q r helpers : ℕ) (rows : List LinearRow) (s t : Situation) →
     slice_get g.acts l ≡ Some (call_act caller callee helpers rows) → ActCalls (alphabet_of g) (slice_get g.acts l) s t →
     IsProved g preds (Call q l r) → HoldsAt preds q s → HoldsAt preds r t
 call_shown g preds caller callee l q r helpers rows s t e h v hold =
@@ -240,7 +232,7 @@ back_situations : (g : Graph) (c : ℕ) (targets : List ℕ) (caller callee help
 back_situations g c targets caller callee helpers rows o x b t e f h =
     return_situations g targets caller callee helpers rows (slice_get g.acts c) x b t f (subst (λ (a : Option PlainAct). ActReturns (alphabet_of g) a x b t) e h)
 
-back_shown : (g : Graph) (preds : ℕ → Option Scoped) (l x b r c : ℕ) (targets : List ℕ) (caller callee helpers : ℕ) (rows : List LinearRow) (at_exit at_call at_end : Situation) →
+pub back_shown : (g : Graph) (preds : ℕ → Option Scoped) (l x b r c : ℕ) (targets : List ℕ) (caller callee helpers : ℕ) (rows : List LinearRow) (at_exit at_call at_end : Situation) →
     slice_get g.acts l ≡ Some (back_act c targets) → slice_get g.acts c ≡ Some (call_act caller callee helpers rows) →
     ActReturns (alphabet_of g) (slice_get g.acts l) at_exit at_call at_end → IsProved g preds (Back x b l r) →
     HoldsAt preds x at_exit → HoldsAt preds b at_call → HoldsAt preds r at_end
