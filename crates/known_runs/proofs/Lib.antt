@@ -1,0 +1,11 @@
+pub mod NodeSteps
+pub mod SeenSteps
+pub mod Staying
+pub mod Frames
+pub mod ImportWays
+pub mod Ways
+pub mod SeenValues
+pub mod Shown
+pub mod Assumed
+pub mod Begun
+pub mod Describing
