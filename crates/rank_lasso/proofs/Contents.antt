@@ -17,7 +17,7 @@ use Rattle.proof_form.proofs.RefutationLaws.{refutation_reads}
 use Rattle.proof_form.proofs.RunLaws.{both_hold, all_weaker, numeral_bytes, numeral_of_text, column_is_word}
 use Rattle.rank_lasso.specs.LassoText.{letters_text, AreShort}
 use Rattle.rank_lasso.specs.RankingText.{is_rank_term, IsProofForm}
-use Rattle.rank_lasso.specs.Lines.{differs, HasNo, Content, nothing, letters, some_letters, terms, number, tree, AreTerms, IsContent}
+use Rattle.rank_lasso.specs.Lines.{differs, HasNo, Content, nothing, letters, some_letters, terms, number, natural, tree, AreTerms, IsContent}
 use Rattle.rank_lasso.proofs.Cuts.{same_word}
 use Rattle.rank_lasso.proofs.Items.{IsOneItem, AreBegun, same_items}
 
@@ -45,6 +45,9 @@ digits_differ end h (d ∷ ds) k = rw (digit_differs end h d k.0, digits_differ 
 -- the digits of a number
 pub decimal_has_no : (end n : ℕ) → is_digit end ≡ false → n < 2 ^ 32 → HasNo end (decimal n)
 decimal_has_no end n h l = digits_differ end h (decimal n) (decimal_digits n (omega arith))
+
+number_has_no_end : (n : ℕ) → n < 2 ^ 64 → HasNo 10 (decimal n)
+number_has_no_end n l = digits_differ 10 refl (decimal n) (decimal_digits n (omega arith))
 
 -- a numeral
 number_byte_differs : (b : ℕ) → is_number_byte b ≡ true → differs 32 b ≡ true
@@ -89,6 +92,7 @@ content_has_no_end letters bytes h = rw (h.2) (all_texts (differs 10) (λ n. n <
 content_has_no_end some_letters bytes h = rw (h.2) (all_texts (differs 10) (λ n. n < 2 ^ 32) (λ n. 32 ∷ decimal n) (λ n l. decimal_has_no 10 n refl l) h.0 h.1.0)
 content_has_no_end terms bytes h = rw (h.2) (all_texts (differs 10) (λ t. IsTrue (is_rank_term t)) term_text term_has_no_end h.0 h.1)
 content_has_no_end number bytes h = rw (h.2) (numeral_has_no_end h.0 h.1)
+content_has_no_end natural bytes h = rw (h.2) (number_has_no_end h.0 h.1)
 content_has_no_end tree bytes h = rw (h.2) (all_weaker is_inside (differs 10) inside_differs (refutation_text h.0) (plain_refutation h.0 h.1.tree))
 
 -- ---- what is told by its text

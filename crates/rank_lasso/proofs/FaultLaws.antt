@@ -1,6 +1,7 @@
 -- The first line that cannot stand there, of texts whose lines have given kinds.
 use Rattle.std.proofs.Common.{◌≡◌, ◌⊎◌, ℕ, zero, suc, ◌<◌, ◌≤◌, true, false, not, nat_eq, List, [], ◌∷◌, ◌++◌, take, inl, inr, refl, sym, ap, ◌∙◌, arith, append_assoc}
 use Rattle.std.specs.List.{AllByRecursion, concat}
+use Rattle.std.specs.Fmt.{decimal}
 use Rattle.std.proofs.lemmas.List.{append-nil}
 use Rattle.outer_io.specs.Lines.{lines_of}
 use Rattle.trace_replay.proofs.TextLines.{no_newline, no_newline-append, IsLine, line_first, lines_first, concat-lines_of}
@@ -9,7 +10,7 @@ use Rattle.proof_form.specs.declared.numerals.Numeral.{Numeral}
 use Rattle.proof_form.specs.Numerals.{numeral_text}
 use Rattle.proof_form.specs.Refutations.{leaf, refutation_text}
 use Rattle.rank_lasso.specs.LassoText.{letters_text}
-use Rattle.rank_lasso.specs.Lines.{HasNo, line_text, Content, nothing, letters, some_letters, terms, number, tree, IsContent, LineKind, Stops, GoesOn}
+use Rattle.rank_lasso.specs.Lines.{HasNo, line_text, Content, nothing, letters, some_letters, terms, number, natural, tree, IsContent, LineKind, Stops, GoesOn}
 use Rattle.rank_lasso.specs.Faults.{IsFirstFaultAs}
 use Rattle.rank_lasso.proofs.Contents.{content_has_no_end}
 
@@ -67,6 +68,7 @@ example letters = []
 example some_letters = letters_text (0 ∷ [])
 example terms = []
 example number = numeral_text zero_numeral
+example natural = decimal 0
 example tree = refutation_text (leaf ((zero_numeral, zero_numeral) ∷ []) ∷ [])
 
 is_example : (c : Content) → IsContent c (example c)
@@ -75,6 +77,7 @@ is_example letters = ([], tt, refl)
 is_example some_letters = (0 ∷ [], ((omega arith, tt), λ e. let n : ⊥ = cc in n), refl)
 is_example terms = ([], tt, refl)
 is_example number = (zero_numeral, refl, refl)
+is_example natural = (0, omega arith, refl)
 is_example tree = (leaf ((zero_numeral, zero_numeral) ∷ []) ∷ [], record { tree = refl; short = refl }, refl)
 
 abbrev examples : List LineKind → List (List ℕ)
@@ -138,4 +141,16 @@ first_fault AreOfForm ks hs v w made parts text n m s t l = record {
     | inl a ↦ fails ks v text n s (suc n) (omega arith) b.0 a b.2
     | inr a ↦ fails hs w text m t (suc n) (omega arith) b.0 a b.2
   ];
+}
+
+-- of several kinds of texts none goes farther than the first
+pub first_fault_among : {A : Type 0} (AreOfForm : List (List ℕ) → Type 0) (ks : List LineKind) (hs : A → List LineKind) → AreWords ks → ((a : A) → AreWords (hs a)) →
+    ((lines : List (List ℕ)) → AreOfKinds ks lines → AreOfForm lines) → ((lines : List (List ℕ)) → AreOfForm lines → (a : A) × AreOfKinds (hs a) lines) →
+    (text : List ℕ) (n : ℕ) → Stops GoesOn ks text n → ((a : A) → (m : ℕ) × Stops GoesOn (hs a) text m × (m ≤ n)) → IsFirstFaultAs AreOfForm text (suc n)
+first_fault_among AreOfForm ks hs v w made parts text n s t = record {
+  before = λ j h. let b = begins ks v text n s j (omega arith) in (b.0, made b.0 b.1, b.2);
+  here = λ b.
+      let p = parts b.0 b.1 in
+      let m = t p.0 in
+      fails (hs p.0) (w p.0) text m.0 m.1 (suc n) (omega (arith, m.2)) b.0 p.1 b.2;
 }

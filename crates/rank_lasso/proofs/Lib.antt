@@ -1,11 +1,11 @@
-mod Cuts
+pub mod Cuts
 mod Items
-mod Contents
-mod LetterLaws
+pub mod Contents
+pub mod LetterLaws
 mod TermLaws
 mod TreeLaws
-mod LineLaws
-mod FaultLaws
+pub mod LineLaws
+pub mod FaultLaws
 mod KindLaws
 mod AscendLaws
 mod NamingLaws

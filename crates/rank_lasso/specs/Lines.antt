@@ -1,6 +1,7 @@
 -- The lines of texts by their kinds: a word, and what stands behind it.
-use Rattle.std.specs.Prelude.{◌≡◌, ◌≢◌, ◌⊎◌, ℕ, zero, suc, ◌+◌, Bool, not, nat_eq, IsTrue, List, [], ◌∷◌, ◌++◌, codes, Option, None, Some}
+use Rattle.std.specs.Prelude.{◌≡◌, ◌≢◌, ◌⊎◌, ℕ, zero, suc, ◌+◌, ◌^◌, ◌<◌, Bool, not, nat_eq, IsTrue, List, [], ◌∷◌, ◌++◌, codes, Option, None, Some}
 use Rattle.std.specs.List.{AllByRecursion, flat_map, list_all}
+use Rattle.std.specs.Fmt.{decimal}
 use Rattle.std.specs.Borrow.{Bor}
 use Rattle.proof_form.specs.declared.numerals.Numeral.{Numeral}
 use Rattle.proof_form.specs.Numerals.{is_numeral, numeral_text}
@@ -65,6 +66,7 @@ pub data Content : Type 0 where
   some_letters : Content
   terms : Content
   number : Content
+  natural : Content
   tree : Content
 
 -- one letter or more, of 32 bits
@@ -85,6 +87,7 @@ IsContent letters bytes = Spells AreShort letters_text bytes
 IsContent some_letters bytes = Spells AreSomeShort letters_text bytes
 IsContent terms bytes = Spells AreTerms (flat_map term_text) bytes
 IsContent number bytes = Spells IsNumeral numeral_text bytes
+IsContent natural bytes = Spells (λ n. n < 2 ^ 64) decimal bytes
 IsContent tree bytes = Spells IsProofForm refutation_text bytes
 
 pub record LineKind : Type 0 where

@@ -6,7 +6,7 @@ ghost use Rattle.proof_form.specs.Reading.{run_at};
 ghost use Rattle.rank_lasso.specs.Lines.{differs, ReadsWord, ReadsLine};
 
 /// What stands behind the word on the line that begins with it, and what stands behind that line.
-pub(crate) fn line_at<'a>(text: &'a [u8], word: &[u8]) -> Option<(&'a [u8], &'a [u8])>
+pub fn line_at<'a>(text: &'a [u8], word: &[u8]) -> Option<(&'a [u8], &'a [u8])>
     ensures { ReadsLine word.now text.now result }
 {
     let rest = text.strip_prefix(word)?;

@@ -11,7 +11,7 @@ use std::alloc::{AllocError, Global};
 use trace_replay::number_of;
 
 /// The letters that the bytes are, a space before each.
-pub(crate) fn letters_of(alloc: Global, bytes: &[u8]) -> Result<Option<Vec<u32>>, AllocError>
+pub fn letters_of(alloc: Global, bytes: &[u8]) -> Result<Option<Vec<u32>>, AllocError>
     ensures { IfOk result (ReadsAll (λ v. v.items) AreShort letters_text bytes.now) }
 {
     let mut letters = Vec::new(alloc);

@@ -15,7 +15,9 @@ mod ranking_writing;
 mod terms;
 mod trees;
 
+pub use cutting::line_at;
 pub use lasso_ranks::{Lasso, LassoFault, Ranked, Ranking, check_rank, placed, rank};
 pub use lasso_reading::read_lasso;
+pub use letters::letters_of;
 pub use ranking_reading::read_ranking;
 pub use ranking_writing::write_ranking;
