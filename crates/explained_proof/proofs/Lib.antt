@@ -6,3 +6,7 @@ mod StatementLaws
 mod ProcedureLaws
 mod PlaceLaws
 mod MoreLaws
+pub mod KnownWorth
+pub mod FrameWorth
+pub mod ClauseWorth
+pub mod ReadingWorth

@@ -7,3 +7,5 @@ pub mod Fitting
 pub mod Explained
 pub mod Laws
 pub mod Views
+pub mod Worth
+pub mod Readings
