@@ -1,0 +1,13 @@
+pub mod Conditions
+pub mod Reading
+pub mod Naming
+pub mod Saying
+pub mod Nodes
+pub mod Following
+pub mod Holding
+pub mod Beginning
+pub mod Required
+pub mod LoopWalk
+pub mod Sited
+pub mod LabelWalk
+pub mod Labels
