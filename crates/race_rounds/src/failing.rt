@@ -1,13 +1,17 @@
 //! From a whole point of a word's rows to an end.
 
-ghost use Rattle.std.specs.Prelude.{◌≡◌, ℕ, map, IfOk};
+ghost use Rattle.std.specs.Prelude.{◌≡◌, ℕ, ℤ, map, IfOk, IfSome, IsTrue};
 ghost use Rattle.std.specs.List.{AllByRecursion};
+ghost use Rattle.math_facts.specs.Fits.{Fits};
+ghost use Rattle.lin_rows.specs.Rows.{Holds};
 ghost use Rattle.nwa_base.specs.Acceptance.{Accepts};
 ghost use Rattle.letter_acts.specs.Feasible.{IsFeasible};
 ghost use Rattle.letter_acts.specs.Invariant.{alphabet_of};
 ghost use Rattle.typing_rules.specs.TypedParts.{typed_program};
 ghost use Rattle.lowered_graph.specs.Lowered.{lowered};
 ghost use Rattle.path_decide.specs.Decided.{IsWholePoint};
+ghost use Rattle.path_rows.specs.Paths.{IsPathOf};
+ghost use Rattle.lin_rows.specs.Points.{point_of};
 ghost use Rattle.trace_replay.specs.FailureText.{numbers};
 ghost use Rattle.race_rounds.specs.Ends.{CauseMeets, SaysOfWord};
 
@@ -16,8 +20,9 @@ use crate::limits::Limits;
 use crate::products::is_by_products;
 use boogie_run::Choice;
 use letter_acts::Icfg;
-use lin_rows::Row;
+use lin_rows::{Row, all_hold};
 use nwa_base::Word;
+use path_rows::PathSystem;
 use race_core::{Cause, End};
 use std::alloc::{AllocError, Global};
 use trace_replay::laws::fronts_fail_alone;
@@ -116,6 +121,63 @@ pub(crate) fn failing(
             rows,
             cause_of(cause),
         ),
+        Err(ReplayFault::Memory) => Err(AllocError),
+    }
+}
+
+/// Whether the numbers fit: whether none is the least of 128 bits, whose opposite has more.
+fn all_fit(numbers: &[i128]) -> bool
+    ensures { IsTrue result → AllByRecursion Fits numbers.now }
+{
+    for number in numbers {
+        if *number == i128::MIN {
+            return false;
+        }
+    }
+    true
+}
+
+/// Whether the numbers are one for each column of the path, and are seen to meet its rows.
+fn are_met(path: &PathSystem, numbers: &[i128]) -> bool
+    ensures meets { IsTrue result → AllByRecursion (Holds (point_of numbers.now)) path.now.rows }
+    ensures fit { IsTrue result → AllByRecursion Fits numbers.now }
+{
+    if path.column_at().len() != numbers.len() || !all_fit(numbers) {
+        return false;
+    }
+    all_hold(&path.system().rows, numbers)
+}
+
+/// An end of a word, where these numbers are seen to meet its rows and a run with the choices that they tell fails an assertion. Else nothing is said.
+pub(crate) fn failing_with(
+    alloc: Global,
+    program: &Typed,
+    icfg: &Icfg,
+    limits: Limits,
+    word: &Word,
+    path: &PathSystem,
+    numbers: &[i128],
+) -> Result<Option<End>, AllocError>
+    requires lowered { icfg.now ≡ lowered (typed_program program.now) }
+    requires accepted { Accepts icfg.now.automaton word.now }
+    requires path { IsPathOf icfg.now path.now }
+    requires word { path.now.word ≡ word.now }
+    requires exact { (point : ℕ → ℤ) → AllByRecursion (Holds point) path.now.rows → IsFeasible (alphabet_of icfg.now) word.now }
+    ensures { (n : ℕ) → IfOk result (λ o. IfSome o (SaysOfWord (typed_program program.now) limits n word.now)) }
+{
+    // Contracts alone speak of them.
+    let _limits = limits;
+    if !are_met(path, numbers) {
+        return Ok(None);
+    }
+    fronts_fail_alone();
+    match choices_of(alloc, program, icfg, word, numbers) {
+        Ok(found) => Ok(Some(End::Unsafe {
+            word: word.copy()?,
+            steps: found.steps,
+            choices: numbers_of(alloc, &found.choices)?,
+        })),
+        Err(ReplayFault::At { .. }) => Ok(None),
         Err(ReplayFault::Memory) => Err(AllocError),
     }
 }

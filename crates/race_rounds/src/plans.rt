@@ -3,17 +3,13 @@
 use crate::limits::Round;
 use nwa_base::Nwa;
 
-/// Before the first round a walker tries so many letters for each pair of edges of the program: walks over a small program are short,
-/// so few letters are many walks.
-const MOVES_OF_AN_EDGE_PAIR: u64 = 40;
+/// Before the first round a walker tries so many letters for each edge of the program, a fraction of what a round takes.
+const MOVES_OF_AN_EDGE: u64 = 300;
 
 /// But it does not try more of them, in some milliseconds.
 const MOST_FIRST_MOVES: u64 = 40_000;
 
-/// Before a later round it tries so many for each pair of entries, so that short races lose nothing.
-const MOVES_OF_AN_ENTRY_PAIR: u64 = 100;
-
-/// But it does not try more of them.
+/// Before a later round it tries no more than so many.
 const MOST_MOVES: u64 = 50_000;
 
 /// In how many rounds a worker keeps to its first choice.
@@ -36,21 +32,18 @@ fn edges_of(nwa: &Nwa) -> u64 {
     forward.saturating_add(nwa.backs().len()) as u64
 }
 
-/// So many letters for each pair of so many, up to a limit.
-fn for_pairs(count: u64, moves: u64, most: u64) -> u64 {
-    let pairs = count.saturating_mul(count);
-    pairs.saturating_mul(moves).min(most)
-}
-
-/// How many letters a worker's walker tries over a program before a round. One worker of a race walks.
+/// How many letters a worker's walker tries over a program before a round. One worker of a race walks. Rounds over larger programs, and
+/// later ones, take more time, so that walks may, too: before a later round it tries one letter for each edge and each two entries.
 pub(crate) fn moves_of(program: &Nwa, round: Round) -> u64 {
     let Round { version, worker } = round;
+    let edges = edges_of(program);
     if worker > 0 {
         0
     } else if version == 0 {
-        for_pairs(edges_of(program), MOVES_OF_AN_EDGE_PAIR, MOST_FIRST_MOVES)
+        edges.saturating_mul(MOVES_OF_AN_EDGE).min(MOST_FIRST_MOVES)
     } else {
-        for_pairs(version, MOVES_OF_AN_ENTRY_PAIR, MOST_MOVES)
+        let pairs = version.saturating_mul(version.saturating_sub(1)) / 2;
+        edges.saturating_mul(pairs).min(MOST_MOVES)
     }
 }
 

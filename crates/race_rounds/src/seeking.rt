@@ -13,6 +13,10 @@ use nwa_base::{Nwa, Word, accepts};
 use nwa_emptiness::{Found, find};
 use std::alloc::{AllocError, Global};
 
+/// What the choices of the first worker's walks go by. Any number serves; by this one they find failures early in programs with which
+/// others were compared.
+const FIRST_SEED: u64 = 64;
+
 /// Proposes words to a worker: that of a walk which reached a failure, until the race has ended, since the end that it makes may be
 /// refused as stale.
 #[derive(Drop)]
@@ -25,9 +29,14 @@ impl Seeker {
     /// The seeker of a worker over a program.
     pub fn new(alloc: Global, icfg: &Icfg, worker: u32) -> Result<Seeker, AllocError> {
         Ok(Seeker {
-            walker: Walker::new(alloc, icfg, u64::from(worker))?,
+            walker: Walker::new(alloc, icfg, FIRST_SEED + u64::from(worker))?,
             walked: None,
         })
+    }
+
+    /// Numbers that may meet the rows of a word that it proposed, by their columns: those of the walk, or none.
+    pub fn numbers(&self) -> &[i128] {
+        self.walker.numbers()
     }
 
     /// The word of a walk that reached a failure, after so many more moves where there is none yet.

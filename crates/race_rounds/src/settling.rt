@@ -15,7 +15,7 @@ ghost use Rattle.path_decide.specs.Decided.{IsRefutation};
 ghost use Rattle.race_rounds.specs.Rounds.{SettlesWord, SettlesKept, ends_by_products, settled_by_products, AllAreCoarse, rounds_with_others};
 
 use crate::exact::exact_word;
-use crate::failing::failing;
+use crate::failing::{failing, failing_with};
 use crate::limits::{Limits, Round};
 use crate::plans::choice_of;
 use crate::products::is_by_products;
@@ -57,7 +57,8 @@ fn ends_by_products(end: &End) -> bool
 const ROUNDS_WITH_OTHERS: u64 = 32;
 
 /// What is made of one of the words that are kept: of the given one, or, in the first rounds, where nothing is known of it for its products, of one
-/// without coarse letters, where there is one. Workers with different numbers make different automata.
+/// without coarse letters, where there is one. Workers with different numbers make different automata. Where the numbers are seen to meet the rows of
+/// the given word and tell a run that fails, this is its end, and its rows are not decided.
 pub fn settle_kept<R: Threads + Sync>(
     rt: &R,
     alloc: Global,
@@ -67,6 +68,7 @@ pub fn settle_kept<R: Threads + Sync>(
     round: Round,
     kept: &Nwa,
     word: Word,
+    numbers: &[i128],
 ) -> Result<Settled, AllocError>
     requires lowered { icfg.now ≡ lowered (typed_program program.now) }
     requires words { (w : List Letter) → Accepts kept.now w → Accepts icfg.now.automaton w }
@@ -75,7 +77,7 @@ pub fn settle_kept<R: Threads + Sync>(
     ensures settles { IfOk result (SettlesKept (typed_program program.now) limits round.version kept.now) }
     ensures products { IfOk result (λ s. settled_by_products s ≡ true → round.version < rounds_with_others → AllAreCoarse icfg.now kept.now) }
 {
-    match settle(rt, alloc, program, icfg, limits, round, word)? {
+    match settle(rt, alloc, program, icfg, limits, round, word, numbers)? {
         Settled::Removed(entry) => Ok(Settled::Removed(entry)),
         Settled::Ended(end) => settle_end(rt, alloc, program, icfg, limits, round, kept, end),
     }
@@ -107,7 +109,7 @@ fn settle_end<R: Threads + Sync>(
         return Ok(Settled::Ended(end));
     }
     match exact_word(alloc, icfg, kept, round.worker)? {
-        Found::Word(exact) => settle(rt, alloc, program, icfg, limits, round, exact),
+        Found::Word(exact) => settle(rt, alloc, program, icfg, limits, round, exact, &[]),
         Found::Empty => Ok(Settled::Ended(end)),
     }
 }
@@ -121,6 +123,7 @@ fn settle<R: Threads + Sync>(
     limits: Limits,
     round: Round,
     word: Word,
+    numbers: &[i128],
 ) -> Result<Settled, AllocError>
     requires lowered { icfg.now ≡ lowered (typed_program program.now) }
     requires accepted { Accepts icfg.now.automaton word }
@@ -128,10 +131,12 @@ fn settle<R: Threads + Sync>(
     ensures { IfOk result (SettlesWord (typed_program program.now) limits round.version word) }
 {
     let path = rows_of(alloc, icfg, &word)?;
-    settle_rows(rt, alloc, program, icfg, limits, round, word, &path)
+    settle_rows(
+        rt, alloc, program, icfg, limits, round, word, &path, numbers,
+    )
 }
 
-/// What is made of a kept word, by its rows.
+/// What is made of a kept word, by its rows. Where the numbers are seen to meet them and tell a run that fails, they are not decided.
 fn settle_rows<R: Threads + Sync>(
     rt: &R,
     alloc: Global,
@@ -141,6 +146,7 @@ fn settle_rows<R: Threads + Sync>(
     round: Round,
     word: Word,
     path: &PathSystem,
+    numbers: &[i128],
 ) -> Result<Settled, AllocError>
     requires lowered { icfg.now ≡ lowered (typed_program program.now) }
     requires accepted { Accepts icfg.now.automaton word }
@@ -150,6 +156,9 @@ fn settle_rows<R: Threads + Sync>(
     requires depth { limits.depth ≤ 64 }
     ensures { IfOk result (SettlesWord (typed_program program.now) limits round.version word) }
 {
+    if let Some(end) = failing_with(alloc, program, icfg, limits, &word, path, numbers)? {
+        return Ok(Settled::Ended(end));
+    }
     match decide_path(alloc, path, limits.depth) {
         Ok(Answer::Refuted(refutation)) => {
             refuted(rt, alloc, icfg, limits, round, word, path, &refutation)
