@@ -85,6 +85,7 @@ fn seek<G: Gate + Sync, R: Threads + Wait + Sync>(
         this_round,
         kept,
         word,
+        seeker.numbers(),
     )? {
         Settled::Ended(end) => Ok(finish(rt, job, number, pass, version, end)),
         Settled::Removed(entry) => Ok(Turn::Again(Some(entry))),
