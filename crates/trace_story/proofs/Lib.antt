@@ -1,0 +1,5 @@
+mod PlaceSites
+pub mod TraceLaws
+mod SiteSteps
+mod TellingLaws
+mod WorthLaws
