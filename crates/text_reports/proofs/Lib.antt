@@ -1,0 +1,9 @@
+pub mod ParsedNames
+pub mod TypedTexts
+pub mod SafetyLaws
+pub mod RefusalLaws
+pub mod TextLaws
+pub mod GraphTexts
+pub mod ReplayedOnce
+pub mod ProofOnce
+pub mod TextsOnce
