@@ -1,0 +1,8 @@
+pub mod CommandLaws
+pub mod ExplainLaws
+pub mod StoryOnce
+pub mod FailureLaws
+pub mod TraceOnce
+pub mod RunLaws
+pub mod ReportUnique
+pub mod MoreLaws
