@@ -31,10 +31,11 @@ use Rattle.race_rounds.specs.Rounds.{automaton_in, IsOwn, AreOwn, IsRaceOf}
 use Rattle.race_verdicts.specs.declared.verdicts.Verdict.{Verdict}
 use Rattle.race_verdicts.specs.declared.verdicts.Verdict.TheVariants.{Safe, Unsafe, Unknown}
 use Rattle.race_verdicts.specs.Verdicts.{IsVerdict}
-use Rattle.automizer_top.specs.ReportTexts.{Answer, verdict_answer}
+use Rattle.text_reports.specs.ReportTexts.{Answer}
+use Rattle.automizer_top.specs.ReportTexts.{verdict_answer}
 use Rattle.automizer_top.specs.Report.{ReportsVerdict}
 use Rattle.automizer_top.specs.ReportClaims.{PrintsFailure}
-use Rattle.automizer_top.proofs.SafetyLaws.{faithful_is_safe}
+use Rattle.text_reports.proofs.SafetyLaws.{faithful_is_safe}
 use Rattle.automizer_top.proofs.ConfirmedLaws.{unsafe_of}
 
 -- no word that a certified automaton accepts is feasible

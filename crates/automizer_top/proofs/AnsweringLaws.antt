@@ -5,7 +5,7 @@ use Rattle.std.proofs.lemmas.Bool.{false≢true}
 use Rattle.outer_io.specs.Texts.{GainsFront}
 use Rattle.race_core.specs.Races.{Race}
 use Rattle.itp_automaton.specs.Certified.{Certificate}
-use Rattle.automizer_top.specs.ReportTexts.{Answer}
+use Rattle.text_reports.specs.ReportTexts.{Answer}
 use Rattle.automizer_top.specs.Report.{Reports}
 use Rattle.automizer_top.specs.ReportClaims.{Closes, ClosesAtFront, WhereTold, TookFront}
 

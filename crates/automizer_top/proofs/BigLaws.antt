@@ -24,17 +24,19 @@ use Rattle.generated_program.specs.Laws.{IsTyped}
 use Rattle.automizer_top.specs.Verdicts.{verdict_status}
 use Rattle.automizer_top.specs.Summary.{summary_text}
 use Rattle.automizer_top.specs.declared.answer.Answer as code
-use Rattle.automizer_top.specs.declared.reporting.Halt.{Halt}
+use Rattle.text_reports.specs.declared.reading.Halt.{Halt}
 use Rattle.automizer_top.specs.declared.words.Mode.{Mode}
 use Rattle.automizer_top.specs.declared.words.Mode.TheVariants as modes
 use Rattle.automizer_top.specs.declared.words.Options as read
 use Rattle.automizer_top.specs.CommandLine.{Check, Replay, Print, Verify, Big, Lasso, Ranked, Settings}
-use Rattle.automizer_top.specs.Answers.{answered, Asks, IsGraphOf, HasNoErrorWord, VerdictProves, CheckedIsSafe, VerifiedIsSafe, BuiltIsSafe}
+use Rattle.text_reports.specs.Answers.{IsGraphOf, HasNoErrorWord}
+use Rattle.automizer_top.specs.Answers.{answered, Asks, VerdictProves, CheckedIsSafe, VerifiedIsSafe, BuiltIsSafe}
 use Rattle.automizer_top.specs.Asked.{settings}
-use Rattle.automizer_top.specs.ReportTexts.{Answer, verdict_answer, summary_answer}
+use Rattle.text_reports.specs.ReportTexts.{Answer}
+use Rattle.automizer_top.specs.ReportTexts.{verdict_answer, summary_answer}
 use Rattle.automizer_top.specs.Report.{Ask, Reports, generating, ReportsBig, ReportsVerdict, RefusesLowering}
 use Rattle.automizer_top.proofs.RequestLaws.{same_task, only_one}
-use Rattle.automizer_top.proofs.SafetyLaws.{graph_is_safe}
+use Rattle.text_reports.proofs.SafetyLaws.{graph_is_safe}
 
 pub summary_reported : (limits : Limits) (count : ℕ) (t : TypedProgram) (r : Race Certificate) (v : Verdict) (text : List ℕ) (left : ℕ) →
     resolved_program (generated count) (codes "main") ≡ Some t → first_fault t ≡ None → IsRaceOf t None limits r → IsVerdict t r v →

@@ -1,24 +1,15 @@
 -- No answer has the status 5 or 6.
 use Rattle.std.proofs.Common.{◌≡◌, ◌<◌, ℕ, arith}
 use Rattle.race_verdicts.specs.declared.verdicts.Verdict.TheVariants as verdicts
+use Rattle.text_reports.proofs.TextLaws.{below_four}
 use Rattle.automizer_top.specs.declared.answer.Answer as code
-use Rattle.automizer_top.specs.declared.answer.Answer.TheVariants.{Usage, TooLong, Refused, IllTyped, TooWide, TooBig, Free, Printed, Syntax, Accepted, Rejected, Replayed, Stopped, Ranking, NoRanking, NoNumber, Decided, PartsDecided, PartDecided}
+use Rattle.automizer_top.specs.declared.answer.Answer.TheVariants.{Usage, OnText, Free, Ranking, NoRanking, NoNumber, Decided, PartsDecided, PartDecided}
 use Rattle.automizer_top.specs.Answers.{answered}
 
 below_five : (a : code.Answer) → (answered a).status < 5
 below_five Usage = omega arith
-below_five TooLong = omega arith
-below_five (Refused f) = omega arith
-below_five (IllTyped f) = omega arith
-below_five (TooWide at) = omega arith
-below_five (TooBig at) = omega arith
+below_five (OnText a) = let b = below_four a in omega (arith, b)
 below_five (Free at) = omega arith
-below_five (Printed text) = omega arith
-below_five (Syntax line) = omega arith
-below_five Accepted = omega arith
-below_five (Rejected line cause) = omega arith
-below_five (Replayed id) = omega arith
-below_five (Stopped step cause) = omega arith
 below_five (Ranking text) = omega arith
 below_five NoRanking = omega arith
 below_five NoNumber = omega arith

@@ -22,11 +22,12 @@ use Rattle.race_rounds.specs.declared.limits.Limits.{Limits}
 use Rattle.race_verdicts.specs.declared.verdicts.Verdict.{Verdict}
 use Rattle.race_verdicts.specs.declared.verdicts.Verdict.TheVariants.{Safe, Unsafe, Unknown}
 use Rattle.race_verdicts.specs.Verdicts.{IsVerdict, IsFailureOf}
-use Rattle.automizer_top.specs.ReportTexts.{Answer, accepted_answer, replayed_answer, verdict_answer}
+use Rattle.text_reports.specs.ReportTexts.{Answer, accepted_answer, replayed_answer}
+use Rattle.automizer_top.specs.ReportTexts.{verdict_answer}
 use Rattle.automizer_top.specs.Report.{second_limit, Ask, IsTypedText, refused, of_typed, unlowered, of_lowered, second_too_long, of_second, IsSafeText, ReportsProof, of_annotation, accepted, IsFailureText, replayed, ReportsVerdict, ReportsCheck, ReportsReplay, ReportsVerify, ReportsCheckBy, ReportsReplayBy, ReportsVerifyBy, Reports, checking, replaying}
 use Rattle.automizer_top.specs.Earlier.{no_earlier, of_earlier, ReportsVerifyWith}
 use Rattle.automizer_top.specs.ReportClaims.{IsVerdictOn, RefusesEarlier, IsHandedOver}
-use Rattle.automizer_top.proofs.RefusalLaws.{typed_is_three, lowering_is_three}
+use Rattle.text_reports.proofs.RefusalLaws.{typed_is_three, lowering_is_three}
 use Rattle.automizer_top.specs.CommandLine.{Check, Replay, Verify, Settings}
 use Rattle.automizer_top.proofs.RequestLaws.{rounds_fit}
 use Rattle.automizer_top.proofs.TaskLaws.{task_reported}

@@ -15,9 +15,10 @@ use Rattle.race_core.specs.declared.events.Entry.{Entry}
 use Rattle.itp_automaton.specs.Certified.{Certificate, IsCertified}
 use Rattle.race_rounds.specs.declared.limits.Limits.{Limits}
 use Rattle.automizer_top.specs.declared.answer.Answer as code
-use Rattle.automizer_top.specs.declared.reporting.Halt.{Halt}
-use Rattle.automizer_top.specs.ReportTexts.{Answer}
-use Rattle.automizer_top.specs.Answers.{answered, IsGraphOf}
+use Rattle.text_reports.specs.declared.reading.Halt.{Halt}
+use Rattle.text_reports.specs.ReportTexts.{Answer}
+use Rattle.text_reports.specs.Answers.{IsGraphOf}
+use Rattle.automizer_top.specs.Answers.{answered}
 use Rattle.automizer_top.specs.Report.{second_limit, RefusesTyped, IsTypedText, refused, of_typed, RefusesLowering, unlowered, of_lowered, ReportsSecond, ReportsVerdict, ReportsVerify, ReportsVerifyBy}
 use Rattle.automizer_top.specs.Parts.{ReportsVerifyParts}
 use Rattle.automizer_top.specs.Earlier.{IsFirstEntry, ReportsReuse, no_earlier, of_earlier, ReportsVerifyWith}

@@ -13,7 +13,8 @@ use Rattle.rank_lasso.specs.RankingText.{RankingForm}
 use Rattle.rank_lasso.specs.Naming.{bad_line}
 use Rattle.rank_lasso.specs.Faults.{AreOfLasso, AreOfRanking, IsFirstFaultAs, IsLassoFault, IsReadAs, IsBadlyNamed, IsRankingFault}
 use Rattle.rank_lasso.proofs.OneText.{ranking_text-injective, rankings_have_no_fault, lasso_fault_is_memory, lasso_is_read, texts_have_one_ranking, ranking_fault_is_memory}
-use Rattle.automizer_top.specs.ReportTexts.{Answer, accepted_answer, failed_answer, fault_answer}
+use Rattle.text_reports.specs.ReportTexts.{Answer, accepted_answer, failed_answer}
+use Rattle.automizer_top.specs.ReportTexts.{fault_answer}
 use Rattle.automizer_top.specs.Rankings.{IsLassoText, ReportsSearch, ReportsLassoText, no_lasso_text, no_lasso, of_lasso, ReportsRankingText, no_ranking_text, ranks_no_lasso, ranking_holds, ranking_fails}
 
 -- ---- texts that are not of their form

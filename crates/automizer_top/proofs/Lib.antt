@@ -2,12 +2,8 @@ pub mod NumberLaws
 pub mod CommandLaws
 pub mod PrintedTexts
 pub mod VerdictTexts
-pub mod ParsedNames
 pub mod RequestLaws
 pub mod TaskLaws
-pub mod TypedTexts
-pub mod SafetyLaws
-pub mod RefusalLaws
 pub mod GraphTexts
 pub mod LassoOnce
 pub mod RankingLaws
@@ -20,8 +16,6 @@ pub mod VerdictLaws
 pub mod EarlierLaws
 pub mod BigLaws
 pub mod SummaryLaws
-pub mod ReplayedOnce
-pub mod ProofOnce
 pub mod PartOnce
 pub mod ReportUnique
 pub mod ConfirmedLaws

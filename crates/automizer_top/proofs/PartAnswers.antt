@@ -13,14 +13,14 @@ use Rattle.lowered_graph.specs.Lowered.{lowered}
 use Rattle.modular_cut.specs.Parts.{PlainPart, parts_of}
 use Rattle.race_rounds.specs.declared.limits.Limits.{Limits}
 use Rattle.automizer_top.specs.CommandLine.{Replay, Settings}
-use Rattle.automizer_top.specs.TypeRefusals.{rule_line}
-use Rattle.automizer_top.specs.LoweringRefusals.{lowering_refusal}
+use Rattle.text_reports.specs.TypeRefusals.{rule_line}
+use Rattle.text_reports.specs.LoweringRefusals.{lowering_refusal}
 use Rattle.automizer_top.specs.PartTexts.{part_line, text_behind, front_lines, front_text, rest_text}
-use Rattle.automizer_top.specs.ReportTexts.{Answer, answer, accepted_answer}
+use Rattle.text_reports.specs.ReportTexts.{Answer, answer, accepted_answer}
 use Rattle.automizer_top.specs.Report.{Ask, refused, of_typed, IsTypedText, second_too_long, of_second, ReportsFailure, no_failure, replayed, stopped}
 use Rattle.automizer_top.specs.Parts.{free, of_parts, part_unlowered, parts_lowered, ReportsParts, all_safe, one_is_not, ReportsVerifyParts, RejectsPart, no_part_annotation, part_rejected, no_part_line, wrong_part, right_part, ChecksParts, ReportsPartProofs, no_modular_line, of_part_proofs, ReportsCheckParts, part_in, ReportsPartFailure, no_part, no_part_failure, of_part_failure, ReportsReplayParts}
 use Rattle.automizer_top.specs.PartClaims.{PartFails}
-use Rattle.automizer_top.proofs.RefusalLaws.{typed_is_not_zero, too_long_is_not_zero, IsAccepted, second_letter, typed_begins, too_long_begins, failure_begins}
+use Rattle.text_reports.proofs.RefusalLaws.{typed_is_not_zero, too_long_is_not_zero, IsAccepted, second_letter, typed_begins, too_long_begins, failure_begins}
 
 abbrev status_of : Answer → ℕ
 status_of a = a.status

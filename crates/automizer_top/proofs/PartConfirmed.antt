@@ -12,17 +12,17 @@ use Rattle.coarse_lines.specs.CoarseLetters.{coarse_letters}
 use Rattle.race_rounds.specs.declared.limits.Limits.{Limits}
 use Rattle.automizer_top.specs.CommandLine.{Check, Replay, Verify, Settings}
 use Rattle.automizer_top.specs.PartTexts.{modular_line, part_line, front_lines, front_text, rest_text}
-use Rattle.automizer_top.specs.ReportTexts.{Answer, accepted_answer, replayed_answer}
+use Rattle.text_reports.specs.ReportTexts.{Answer, accepted_answer, replayed_answer}
 use Rattle.automizer_top.specs.Report.{second_limit, Ask, IsTypedText, refused, of_typed, of_second, IsSafeText, replayed, ReportsVerdict, ReportsCheckBy, ReportsReplayBy, ReportsVerifyBy, Reports, checking, replaying}
 use Rattle.automizer_top.specs.Parts.{free, of_parts, first_part_fault, part_unlowered, parts_lowered, AreSafe, part_texts, ReportsParts, all_safe, one_is_not, ReportsVerifyParts, ProvesPart, right_part, ChecksParts, of_part_proofs, ReportsPartProofs, ReportsCheckParts, of_part_failure, ReportsReplayParts}
 use Rattle.automizer_top.specs.ReportClaims.{RefusesEarlier, IsHandedOver}
 use Rattle.automizer_top.specs.PartClaims.{AreVerdictsOn}
-use Rattle.automizer_top.proofs.RefusalLaws.{typed_is_three}
+use Rattle.text_reports.proofs.RefusalLaws.{typed_is_three}
 use Rattle.automizer_top.proofs.RequestLaws.{rounds_fit}
 use Rattle.automizer_top.proofs.TaskLaws.{task_reported}
 use Rattle.automizer_top.proofs.ReportUnique.{report_once}
 use Rattle.automizer_top.proofs.ConfirmedLaws.{Texts, safe_of, safe_spelled, one_of_check, IsUnsafeOf, unsafe_of, one_of_replay, check_accepts, replay_replays}
-use Rattle.automizer_top.proofs.ProofOnce.{fits_in_memory}
+use Rattle.text_reports.proofs.ProofOnce.{fits_in_memory}
 use Rattle.automizer_top.proofs.PartFronts.{behind_append, safe_is_front}
 use Rattle.automizer_top.proofs.PartNames.{part_is_named}
 

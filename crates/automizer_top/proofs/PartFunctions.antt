@@ -14,24 +14,22 @@ use Rattle.lowered_graph.specs.Lowered.{lowered}
 use Rattle.modular_cut.specs.declared.cutting.Part.{Part}
 use Rattle.modular_cut.specs.Parts.{PlainPart, parts_of}
 use Rattle.modular_cut.specs.View.{plain_part}
-use Rattle.proof_form.specs.Annotations.{Content}
-use Rattle.proof_check.specs.declared.rejects.RejectCause.{RejectCause}
 use Rattle.race_core.specs.Races.{Race}
 use Rattle.itp_automaton.specs.Certified.{Certificate}
 use Rattle.race_rounds.specs.declared.limits.Limits.{Limits}
 use Rattle.automizer_top.specs.declared.answer.Answer as code
-use Rattle.automizer_top.specs.declared.reporting.Halt.{Halt}
 use Rattle.automizer_top.specs.declared.parts.LoweredParts.{LoweredParts}
 use Rattle.automizer_top.specs.declared.parts.Left.{Left}
 use Rattle.automizer_top.specs.PartTexts.{part_line, text_behind, front_text, rest_text}
-use Rattle.automizer_top.specs.ReportTexts.{Answer}
-use Rattle.automizer_top.specs.Answers.{answered, IsGraphOf, TextIsSafe, IsRejected, IsJudged}
+use Rattle.text_reports.specs.ReportTexts.{Answer}
+use Rattle.text_reports.specs.Answers.{IsGraphOf, TextIsSafe}
+use Rattle.automizer_top.specs.Answers.{answered}
 use Rattle.automizer_top.specs.Report.{second_limit, refused, of_typed, IsTypedText, RefusesTyped, RefusesLowering, ReportsSecond, ReportsVerdict}
-use Rattle.automizer_top.specs.Parts.{ReportsCut, free, of_parts, first_part_fault, ReportsLoweredParts, part_unlowered, parts_lowered, AreSafe, part_texts, races_of, ReportsParts, ReportsVerifyParts, ProvesPart, FailsOnLine, RejectsPart, no_part_annotation, part_rejected, ChecksPart, no_part_line, wrong_part, right_part, ChecksParts, ReportsPartProofs, ReportsCheckParts, part_in, ReportsPartFailure, ReportsReplayParts}
+use Rattle.automizer_top.specs.Parts.{ReportsCut, free, of_parts, first_part_fault, ReportsLoweredParts, part_unlowered, parts_lowered, AreSafe, part_texts, races_of, ReportsParts, ReportsVerifyParts, ProvesPart, RejectsPart, no_part_annotation, part_rejected, ChecksPart, no_part_line, wrong_part, right_part, ChecksParts, ReportsPartProofs, ReportsCheckParts, part_in, ReportsPartFailure, ReportsReplayParts}
 use Rattle.automizer_top.specs.PartViews.{AreParts, RefusesFree, AreGraphsOf, HaveNoErrorWord, RefusesUnlowered, RefusesParts, IsLoweredText, JudgesPart, ChecksOn}
-use Rattle.automizer_top.proofs.SafetyLaws.{graph_is_safe}
-use Rattle.automizer_top.proofs.TypedTexts.{one_typed}
-use Rattle.automizer_top.proofs.RefusalLaws.{typed_is_three}
+use Rattle.text_reports.proofs.SafetyLaws.{graph_is_safe}
+use Rattle.text_reports.proofs.TypedTexts.{one_typed}
+use Rattle.text_reports.proofs.RefusalLaws.{typed_is_three}
 
 -- ---- graphs of parts
 
@@ -161,12 +159,11 @@ pub refused_reported : (entry text name : List ℕ) (a : Answer) (texts : Option
 refused_reported entry text name a None r = tt
 refused_reported entry text name a (Some shown) r = refused_check entry text (text_named name shown) a r
 
-pub check_reported : (entry text name : List ℕ) (p : LoweredParts) (r : Result code.Answer Halt) (texts : Option Texts) → IsLoweredText entry text p →
-    IfOk r (λ a. IfSome texts (λ shown. ReportsSecond (text_named name shown) (ReportsPartProofs (map plain_part p.parts.items)) (answered a))) →
-    IfOk r (λ a. IfSome texts (λ shown. ReportsCheckParts entry text (text_named name shown) (answered a)))
-check_reported entry text name p (Err e) texts h r = tt
-check_reported entry text name p (Ok a) None h r = tt
-check_reported entry text name p (Ok a) (Some shown) h r = check_answered entry text (text_named name shown) p (answered a) h r
+pub check_reported : (entry text name : List ℕ) (p : LoweredParts) (a : Answer) (texts : Option Texts) → IsLoweredText entry text p →
+    IfSome texts (λ shown. ReportsSecond (text_named name shown) (ReportsPartProofs (map plain_part p.parts.items)) a) →
+    IfSome texts (λ shown. ReportsCheckParts entry text (text_named name shown) a)
+check_reported entry text name p a None h r = tt
+check_reported entry text name p a (Some shown) h r = check_answered entry text (text_named name shown) p a h r
 
 pub typed_unreplayed : (entry text name : List ℕ) (a : Answer) (texts : Option Texts) → RefusesTyped entry text a → IfSome texts (λ shown. ReportsReplayParts entry text (text_named name shown) a)
 typed_unreplayed entry text name a None r = tt
@@ -206,10 +203,6 @@ races_more [] b = append-nil b.races
 races_more (c ∷ bs) b = ap (λ (rs : List (Race Certificate)). c.races ++ rs) (races_more bs b) ∙ sym (append_assoc c.races (races_of bs) b.races)
 
 -- ---- annotations, part by part
-
--- what a wrong coarse line, a triple that lacks its line, or an item that fails says
-pub judged_so : (g : Graph) (coarse : List ℕ) (w : Content) (a : code.Answer) (line : ℕ) (cause : RejectCause) → IsRejected line cause a → FailsOnLine g coarse w line cause → IsJudged g coarse w a
-judged_so g coarse w a line cause h f = subst (IsJudged g coarse w) (sym h.0) (f, h.1)
 
 -- what is wrong in a part is answered, whatever is answered to the rest
 pub judges_any : (p : PlainPart) (left : Left) (to_rest : ℕ → List ℕ → Answer → Type 0) (a : Answer) → JudgesPart p left a → ChecksPart p left.before left.text.now to_rest a

@@ -15,9 +15,9 @@ use Rattle.itp_automaton.specs.Certified.{Certificate}
 use Rattle.race_rounds.specs.declared.limits.Limits.{Limits}
 use Rattle.automizer_top.specs.declared.parts.Left.{Left}
 use Rattle.automizer_top.specs.PartTexts.{modular_line, part_line, text_behind}
-use Rattle.automizer_top.specs.ReportTexts.{Answer, accepted_answer, syntax_answer}
+use Rattle.text_reports.specs.ReportTexts.{Answer, accepted_answer, syntax_answer}
 use Rattle.automizer_top.specs.Report.{RefusesLowering, ReportsVerdict}
-use Rattle.automizer_top.specs.Answers.{IsGraphOf, HasNoErrorWord}
+use Rattle.text_reports.specs.Answers.{IsGraphOf, HasNoErrorWord}
 use Rattle.automizer_top.specs.Parts.{AreSafe, part_texts, races_of, ReportsParts, all_safe, one_is_not, ChecksEnd, ChecksParts, ReportsPartProofs, of_part_proofs, part_in}
 use Rattle.automizer_top.specs.PartViews.{AreGraphsOf, HaveNoErrorWord, RefusesUnlowered, JudgesPart, ChecksOn, FindsPart}
 use Rattle.automizer_top.proofs.PartFunctions.{graphs_more, unlowered_at, graph_at, graphs_as_many, safe_more, texts_more, races_more, judges_any, goes_on, drop_at, take_at, split_at, all_more, get_map}

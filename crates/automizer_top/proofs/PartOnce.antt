@@ -25,14 +25,15 @@ use Rattle.proof_check.specs.Proves.{Proves}
 use Rattle.proof_check.proofs.UniqueLaws.{proved_no_first}
 use Rattle.trace_replay.specs.FailureFaults.{IsFirstFault}
 use Rattle.trace_replay.proofs.FailureLaws.{one_first_fault}
-use Rattle.automizer_top.specs.TypeRefusals.{rule_line}
-use Rattle.automizer_top.specs.LoweringRefusals.{lowering_refusal}
+use Rattle.text_reports.specs.TypeRefusals.{rule_line}
+use Rattle.text_reports.specs.LoweringRefusals.{lowering_refusal}
 use Rattle.automizer_top.specs.PartTexts.{modular_line, part_line, text_behind, through_end, behind_end, front_lines, front_text, rest_text}
-use Rattle.automizer_top.specs.ReportTexts.{Answer, answer, syntax_answer, failed_answer}
+use Rattle.text_reports.specs.ReportTexts.{Answer, answer, syntax_answer, failed_answer}
 use Rattle.automizer_top.specs.Report.{second_limit, IsFailureText, ReportsFailure}
-use Rattle.automizer_top.specs.Parts.{ReportsCut, free, of_parts, ReportsLoweredParts, part_unlowered, parts_lowered, ProvesPart, FailsOnLine, coarse_fails, triple_fails, item_fails, RejectsPart, no_part_annotation, part_rejected, ChecksPart, no_part_line, wrong_part, right_part, ChecksEnd, ChecksParts, ReportsPartProofs, no_modular_line, of_part_proofs, part_in, ReportsPartFailure, no_part, no_part_failure, of_part_failure}
-use Rattle.automizer_top.proofs.ProofOnce.{one_first_wrong, same_turn, not_below, same_place, no_place, one_content, wrong_or_not}
-use Rattle.automizer_top.proofs.ReplayedOnce.{failure_once, faulty_or_not}
+use Rattle.text_reports.specs.ReportCases.{FailsOnLine, coarse_fails, triple_fails, item_fails}
+use Rattle.automizer_top.specs.Parts.{ReportsCut, free, of_parts, ReportsLoweredParts, part_unlowered, parts_lowered, ProvesPart, RejectsPart, no_part_annotation, part_rejected, ChecksPart, no_part_line, wrong_part, right_part, ChecksEnd, ChecksParts, ReportsPartProofs, no_modular_line, of_part_proofs, part_in, ReportsPartFailure, no_part, no_part_failure, of_part_failure}
+use Rattle.text_reports.proofs.ProofOnce.{one_first_wrong, same_turn, not_below, same_place, no_place, one_content, wrong_or_not}
+use Rattle.text_reports.proofs.ReplayedOnce.{failure_once, faulty_or_not}
 use Rattle.automizer_top.proofs.PartAnswers.{behind_is}
 
 -- ---- the first free specification or invariant

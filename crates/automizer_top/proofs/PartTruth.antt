@@ -10,7 +10,7 @@ use Rattle.modular_cut.specs.Parts.{PlainPart, parts_of}
 use Rattle.modular_cut.specs.View.{IsValidPart}
 use Rattle.modular_cut.proofs.SafeParts.{safe_by_parts}
 use Rattle.race_rounds.specs.declared.limits.Limits.{Limits}
-use Rattle.automizer_top.specs.ReportTexts.{Answer}
+use Rattle.text_reports.specs.ReportTexts.{Answer}
 use Rattle.automizer_top.specs.Parts.{AreSafe, ReportsParts, all_safe, one_is_not}
 use Rattle.automizer_top.specs.PartClaims.{PrintsPartFailure}
 use Rattle.automizer_top.proofs.AgreeLaws.{CertifiedIsInfeasible, WhatReplaysFails, safe_is_true, unsafe_is_true}

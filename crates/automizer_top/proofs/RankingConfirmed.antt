@@ -6,10 +6,10 @@ use Rattle.lowered_graph.specs.Lowered.{lowered}
 use Rattle.lasso_ranks.specs.Lassos.{PlainLasso, IsLassoOf}
 use Rattle.rank_lasso.specs.Faults.{IsReadAs}
 use Rattle.automizer_top.specs.CommandLine.{Lasso, Ranked, Settings}
-use Rattle.automizer_top.specs.ReportTexts.{Answer, accepted_answer}
+use Rattle.text_reports.specs.ReportTexts.{Answer, accepted_answer}
 use Rattle.automizer_top.specs.Report.{second_limit, Ask, ReportsSecond, refused, of_typed, unlowered, of_lowered, second_too_long, of_second, Reports, ranking}
 use Rattle.automizer_top.specs.Rankings.{FindsRanking, ReportsLassoText, no_lasso_text, no_lasso, of_lasso, found_ranking, found_none, past_number, ReportsLasso, ReportsRankingText, ranking_holds, ReportsRanked}
-use Rattle.automizer_top.proofs.RefusalLaws.{typed_is_not_zero, lowering_is_not_zero, too_long_is_not_zero}
+use Rattle.text_reports.proofs.RefusalLaws.{typed_is_not_zero, lowering_is_not_zero, too_long_is_not_zero}
 use Rattle.automizer_top.proofs.RankingLaws.{faulty_is_one, one_is_not_zero, two_is_not_zero}
 use Rattle.automizer_top.proofs.TaskLaws.{task_reported}
 use Rattle.automizer_top.proofs.ReportUnique.{report_once, one_of_task}

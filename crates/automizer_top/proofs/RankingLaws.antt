@@ -14,14 +14,16 @@ use Rattle.lasso_ranks.specs.Ranks.{PlainRanking, IsRankingOver, Ranks, HasFewTu
 use Rattle.lasso_ranks.proofs.RankLaws.{ranks_say_few, few_turns_say_end}
 use Rattle.rank_lasso.specs.Faults.{IsReadAs}
 use Rattle.rank_lasso.proofs.OneText.{read_rankings_are_over}
-use Rattle.automizer_top.specs.declared.answer.Answer as code
+use Rattle.text_reports.specs.declared.answers.TextAnswer.{TextAnswer}
+use Rattle.text_reports.specs.Answers.{answer_of}
 use Rattle.automizer_top.specs.CommandLine.{Lasso, Ranked, Settings}
-use Rattle.automizer_top.specs.ReportTexts.{Answer, accepted_answer, fault_answer}
+use Rattle.text_reports.specs.ReportTexts.{Answer, accepted_answer}
+use Rattle.automizer_top.specs.ReportTexts.{fault_answer}
 use Rattle.automizer_top.specs.Report.{Ask, IsTypedText, refused, of_typed, unlowered, of_lowered, second_too_long, of_second}
 use Rattle.automizer_top.specs.Rankings.{IsLassoText, ReportsSearch, found_ranking, found_none, past_number, ReportsLassoText, no_lasso_text, no_lasso, of_lasso, ReportsLasso, ReportsRankingText, no_ranking_text, ranks_no_lasso, ranking_holds, ranking_fails, ReportsRanked}
 use Rattle.automizer_top.specs.RankingClaims.{AskedLassoEnds, RankedLassoEnds}
-use Rattle.automizer_top.specs.Answers.{answered, RankedIsGraph}
-use Rattle.automizer_top.proofs.RefusalLaws.{typed_is_not_zero, lowering_is_not_zero, too_long_is_not_zero, second_letter, typed_begins, lowering_begins, too_long_begins}
+use Rattle.automizer_top.specs.Answers.{RankedIsGraph}
+use Rattle.text_reports.proofs.RefusalLaws.{typed_is_not_zero, lowering_is_not_zero, too_long_is_not_zero, second_letter, typed_begins, lowering_begins, too_long_begins}
 
 abbrev Texts : Type 0
 Texts = List (List ℕ × List ℕ)
@@ -47,9 +49,9 @@ pub faulty_is_one : (f : LassoFault) (a : Answer) → a ≡ fault_answer f → a
 faulty_is_one f a is = ap status_of is ∙ fault_is_one f
 
 -- what holds of every answer to a fault holds of that which the code gives
-pub fault_told : (f : LassoFault) (r : Result code.Answer AllocError) (P : Answer → Type 0) → IfOk r (λ a. answered a ≡ fault_answer f) → IfOk r (λ a. f ≢ Memory) →
-    ((a : Answer) → f ≢ Memory → a ≡ fault_answer f → P a) → IfOk r (λ a. P (answered a))
-fault_told f (Ok a) P is room told = told (answered a) room is
+pub fault_told : (f : LassoFault) (r : Result TextAnswer AllocError) (P : Answer → Type 0) → IfOk r (λ a. answer_of a ≡ fault_answer f) → IfOk r (λ a. f ≢ Memory) →
+    ((a : Answer) → f ≢ Memory → a ≡ fault_answer f → P a) → IfOk r (λ a. P (answer_of a))
+fault_told f (Ok a) P is room told = told (answer_of a) room is
 fault_told f (Err e) P is room told = tt
 
 -- ---- a lasso that ends
@@ -188,9 +190,3 @@ pub lasso_text_not_four : (depth : ℕ) (g : Graph) (text : List ℕ) (a : Answe
 lasso_text_not_four depth g text a (no_lasso_text f p room is) = one_not_four a.status (faulty_is_one f a is)
 lasso_text_not_four depth g text a (no_lasso l f h p room is) = one_not_four a.status (faulty_is_one f a is)
 lasso_text_not_four depth g text a (of_lasso l h i s) = search_not_four depth g l a s
-
-pub ranking_text_not_four : (g : Graph) (text : List ℕ) (a : Answer) → ReportsRankingText g text a → a.status ≢ 4
-ranking_text_not_four g text a (no_ranking_text f p room is) = one_not_four a.status (faulty_is_one f a is)
-ranking_text_not_four g text a (ranks_no_lasso l r f h p room is) = one_not_four a.status (faulty_is_one f a is)
-ranking_text_not_four g text a (ranking_holds l r h i k is) = zero_not_four a.status (ap status_of is)
-ranking_text_not_four g text a (ranking_fails l r n h i k is) = one_not_four a.status (ap status_of is)

@@ -1,43 +1,33 @@
 -- Cases of the report, and what an accepted annotation is worth.
 use Rattle.std.proofs.lemmas.List.{length-append}
 use Rattle.std.proofs.Common.{◌≡◌, ℕ, zero, suc, ◌+◌, ◌<◌, ◌≤◌, List, [], ◌∷◌, ◌++◌, length, get_or, take, Bool, true, false, Option, None, Some, Err, ap, refl, sym, ◌∙◌, subst, arith, ◌⊎◌, inl, inr}
-use Rattle.std.specs.Prelude.{◌≢◌, Result, Ok, IfOk, IfSome, IsSome, codes}
+use Rattle.std.specs.Prelude.{Result, Ok, IfOk, IfSome, IsSome, codes}
 use Rattle.std.specs.Borrow.{Bor}
-use Rattle.std.specs.declared.alloc.AllocError.{AllocError}
 use Rattle.outer_io.specs.Texts.{text_named, GainsFront}
-use Rattle.boogie_tree.specs.Tree.{Declaration}
-use Rattle.boogie_tree.specs.Printing.{program_text}
-use Rattle.boogie_parse.specs.declared.fault.Fault.{Fault}
-use Rattle.boogie_parse.specs.declared.fault.Fault.TheVariants as faults
-use Rattle.boogie_parse.specs.GrammarLimits.{IsProgram}
-use Rattle.boogie_parse.specs.WholeText.{read_text}
 use Rattle.typed_tree.specs.TypedTree.{TypedProgram}
-use Rattle.letter_acts.specs.Invariant.{Graph}
 use Rattle.lowered_graph.specs.Lowered.{lowered}
 use Rattle.race_rounds.specs.declared.limits.Limits.{Limits}
 use Rattle.automizer_top.specs.declared.answer.Answer as code
-use Rattle.automizer_top.specs.declared.reporting.Halt.{Halt}
+use Rattle.text_reports.specs.declared.reading.Halt.{Halt}
 use Rattle.automizer_top.specs.declared.words.Mode.{Mode}
 use Rattle.automizer_top.specs.declared.words.Mode.TheVariants as modes
 use Rattle.automizer_top.specs.declared.words.Options.{Options}
 use Rattle.automizer_top.specs.CommandLine.{Task, Check, Replay, Print, Verify, Lasso, Ranked, Settings}
 use Rattle.automizer_top.specs.Asked.{of_texts, settings, program_name}
-use Rattle.automizer_top.specs.Refusals.{refusal}
-use Rattle.automizer_top.specs.Answers.{answered, Asks, IsGraphOf, HasNoErrorWord, TextIsSafe, CheckedIsSafe, VerifiedIsSafe, BuiltIsSafe, RankedIsGraph}
-use Rattle.automizer_top.specs.ReportTexts.{Answer, answer, too_long_answer, accepted_answer}
-use Rattle.automizer_top.specs.Report.{program_limit, second_limit, Ask, too_long, no_program, ReportsPrint, refused_print, printed, RefusesTyped, refused_text, IsTypedText, refused, of_typed, unlowered, of_lowered, ReportsSecond, second_too_long, of_second, ReportsCheck, ReportsFailure, no_failure, replayed, stopped, ReportsReplay, ReportsVerify, ReportsCheckBy, ReportsReplayBy, ReportsVerifyBy, Reports, usage, printing, checking, replaying, verifying, seeking, ranking, generating}
+use Rattle.text_reports.specs.Answers.{TextIsSafe}
+use Rattle.automizer_top.specs.Answers.{answered, Asks, CheckedIsSafe, VerifiedIsSafe, BuiltIsSafe, RankedIsGraph}
+use Rattle.text_reports.specs.ReportTexts.{Answer, too_long_answer, accepted_answer}
+use Rattle.automizer_top.specs.Report.{program_limit, Ask, too_long, ReportsPrint, refused_print, printed, RefusesTyped, refused_text, IsTypedText, refused, of_typed, unlowered, of_lowered, second_too_long, of_second, ReportsCheck, ReportsFailure, no_failure, replayed, stopped, ReportsReplay, ReportsVerify, ReportsCheckBy, ReportsReplayBy, ReportsVerifyBy, Reports, usage, printing, checking, replaying, verifying, seeking, ranking, generating}
 use Rattle.automizer_top.specs.Earlier.{ReportsReuse, no_earlier, of_earlier, ReportsVerifyWith}
 use Rattle.automizer_top.specs.PartClaims.{PartFails}
 use Rattle.automizer_top.specs.RankingClaims.{AskedLassoEnds, RankedLassoEnds}
 use Rattle.automizer_top.specs.ReportClaims.{GeneratedIsSafe, PrintsProgram, AsksForCheck, AsksForVerdict, ProgramIsSafe, ProgramFails, WhereTold}
 use Rattle.automizer_top.proofs.PrintedTexts.{begins_otherwise}
 use Rattle.automizer_top.proofs.VerdictTexts.{verdict_begins}
-use Rattle.automizer_top.proofs.SafetyLaws.{graph_is_safe}
-use Rattle.automizer_top.proofs.RefusalLaws.{typed_is_not_zero, lowering_is_not_zero, refused_is_not_zero, too_long_is_not_zero, IsAccepted, proof_zero, second_letter, e_is_not_c, typed_begins, lowering_begins, refused_begins, too_long_begins, proof_begins, failure_begins}
+use Rattle.text_reports.proofs.RefusalLaws.{typed_is_not_zero, lowering_is_not_zero, refused_is_not_zero, too_long_is_not_zero, IsAccepted, proof_zero, second_letter, e_is_not_c, typed_begins, lowering_begins, refused_begins, too_long_begins, proof_begins, failure_begins}
 use Rattle.automizer_top.proofs.PartAnswers.{verify_parts_zero, verify_parts_begins, check_parts_zero, check_parts_begins, replay_parts_zero, replay_parts_begins}
 use Rattle.automizer_top.proofs.RankingLaws.{lasso_zero, lasso_begins, ranked_zero, ranked_begins}
 use Rattle.automizer_top.proofs.RequestLaws.{only_one, program_of, same_task, same_settings}
-use Rattle.automizer_top.proofs.TypedTexts.{one_typed}
 
 abbrev Texts : Type 0
 Texts = List (List ℕ × List ℕ)
@@ -46,55 +36,6 @@ Texts = List (List ℕ × List ℕ)
 pub told : (P : Texts → Type 0) (texts : Option Texts) → ((shown : Texts) → P shown) → IfSome texts P
 told P None h = tt
 told P (Some shown) h = h shown
-
--- ---- what is answered to a program text
-
--- the text is no program
-pub fault_printed : (text : List ℕ) (f : Fault) (a : Answer) → length text ≤ program_limit → read_text text ≡ Err f → a ≡ answer (refusal f) 3 → ReportsPrint text a
-fault_printed text f a l e is = refused_print (no_program f l e is)
-
--- and this is what the code answered to its fault
-pub fault_answered : (text : List ℕ) (f : Fault) (r : Result code.Answer AllocError) → length text ≤ program_limit → (f ≢ faults.Memory → read_text text ≡ Err f) →
-    IfOk r (λ a. answered a ≡ answer (refusal f) 3) → IfOk r (λ a. f ≢ faults.Memory) → IfOk r (λ a. ReportsPrint text (answered a))
-fault_answered text f (Ok a) l read is no_memory = fault_printed text f (answered a) l (read no_memory) is
-fault_answered text f (Err e) l read is no_memory = tt
-
--- the text is a program
-pub program_printed : (text out : List ℕ) (ds : List Declaration) → length text ≤ program_limit → IsProgram text ds → out ≡ program_text ds → ReportsPrint text (answer out 0)
-program_printed text out ds l w is = printed ds l w (ap (λ (bytes : List ℕ). answer bytes 0) is)
-
--- ---- what is answered to a second text
-
--- it is past its limit
-pub second_refused : (name : List ℕ) (to_text : List ℕ → Answer → Type 0) (texts : Option Texts) →
-    IfSome texts (λ shown. IsSome (text_named name shown) × IfSome (text_named name shown) (λ text. second_limit < length text)) →
-    IfSome texts (λ shown. ReportsSecond (text_named name shown) to_text too_long_answer)
-second_refused name to_text None h = tt
-second_refused name to_text (Some shown) h = by_text (text_named name shown) refl h.0 h.1
-  where
-    by_text : (found : Option (List ℕ)) → text_named name shown ≡ found → IsSome found → IfSome found (λ text. second_limit < length text) →
-        ReportsSecond (text_named name shown) to_text too_long_answer
-    by_text None e some past = cc
-    by_text (Some text) e some past = second_too_long text e past refl
-
--- it is read, and gets this answer
-pub second_answered : (name text : List ℕ) (to_text : List ℕ → Answer → Type 0) (a : Answer) (texts : Option Texts) →
-    IfSome texts (λ shown. (text_named name shown ≡ Some text) × (length text ≤ second_limit)) → to_text text a →
-    IfSome texts (λ shown. ReportsSecond (text_named name shown) to_text a)
-second_answered name text to_text a None h r = tt
-second_answered name text to_text a (Some shown) h r = of_second text h.0 h.1 r
-
--- ---- what is answered to a program text and to a failure
-
--- the program is refused, whatever the second text
-pub refused_replayed : (entry : List ℕ) (program name : List ℕ) (a : Answer) (texts : Option Texts) → RefusesTyped entry program a → IfSome texts (λ shown. ReportsReplay entry program (text_named name shown) a)
-refused_replayed entry program name a texts h = told (λ shown. ReportsReplay entry program (text_named name shown) a) texts (λ shown. refused h)
-
--- it is typed, and this is answered to that and to the second text
-pub typed_replayed : (entry program name : List ℕ) (t : TypedProgram) (a : Answer) (texts : Option Texts) → IsTypedText entry program t →
-    IfSome texts (λ shown. ReportsSecond (text_named name shown) (ReportsFailure t) a) → IfSome texts (λ shown. ReportsReplay entry program (text_named name shown) a)
-typed_replayed entry program name t a None w r = tt
-typed_replayed entry program name t a (Some shown) w r = of_typed t w r
 
 -- ---- what is answered to words
 
@@ -446,10 +387,6 @@ zero_is_safe words None a r s z = tt
 zero_is_safe words (Some shown) a r s z = reports_safe words shown a r s z
 
 -- ---- what is accepted is safe
-
--- where the graph has no error word, the program of the text is safe
-pub text_is_safe : (entry : List ℕ) (text : List ℕ) (t : TypedProgram) (g : Graph) → IsTypedText entry text t → IsGraphOf t g → HasNoErrorWord g → TextIsSafe entry text
-text_is_safe entry text t g w h none = λ u k. graph_is_safe u g (subst (λ (v : TypedProgram). IsGraphOf v g) (sym (one_typed entry text t u w k)) h) none
 
 one_text : (x y : List ℕ) → Some x ≡ Some y → x ≡ y
 one_text x y e = cc

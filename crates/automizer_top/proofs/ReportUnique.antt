@@ -1,32 +1,24 @@
 -- The report allows one answer at most: its cases exclude each other.
-use Rattle.std.proofs.Common.{◌≡◌, ℕ, ◌<◌, ◌≤◌, List, length, Bool, true, false, refl, Option, None, Some, Ok, Err, inl, inr, ◌⊎◌, ap, sym, ◌∙◌, subst, arith}
-use Rattle.std.proofs.lemmas.Option.{none-some, same_Some}
+use Rattle.std.proofs.Common.{◌≡◌, ℕ, ◌≤◌, List, length, Bool, true, false, refl, Option, None, Some, inl, inr, ◌⊎◌, ap, sym, ◌∙◌, subst, arith}
+use Rattle.std.proofs.lemmas.Option.{none-some}
 use Rattle.outer_io.specs.Lines.{lines_of}
 use Rattle.outer_io.specs.Texts.{text_named}
 use Rattle.boogie_tree.specs.Tree.{Declaration}
 use Rattle.boogie_tree.specs.Printing.{program_text}
-use Rattle.boogie_parse.specs.declared.fault.Fault.{Fault}
-use Rattle.boogie_parse.specs.GrammarLimits.{IsProgram}
-use Rattle.boogie_parse.specs.WholeText.{read_text}
-use Rattle.boogie_parse.proofs.WholeText.{program_is_read, one_program}
+use Rattle.boogie_parse.proofs.WholeText.{one_program}
 use Rattle.typed_tree.specs.TypedTree.{TypedProgram}
-use Rattle.typing_rules.proofs.BrokenLaws.{program_refuted}
-use Rattle.boogie_types.specs.Resolved.{resolved_program}
-use Rattle.boogie_types.proofs.Excluded.{type_faults_exclude}
 use Rattle.letter_acts.specs.Invariant.{Graph}
-use Rattle.lowered_graph.specs.Items.{ItemFault, first_fault}
+use Rattle.lowered_graph.specs.Items.{first_fault}
 use Rattle.lowered_graph.specs.Lowered.{lowered}
-use Rattle.automizer_top.specs.Refusals.{refusal}
-use Rattle.automizer_top.specs.LoweringRefusals.{lowering_refusal}
 use Rattle.race_core.specs.declared.events.Entry.{Entry}
 use Rattle.itp_automaton.specs.Certified.{Certificate}
-use Rattle.automizer_top.specs.ReportTexts.{Answer, answer, syntax_answer}
-use Rattle.automizer_top.specs.Report.{program_limit, second_limit, Ask, RefusesProgram, too_long, no_program, ReportsPrint, refused_print, printed, RefusesTyped, refused_text, ill_typed, IsTypedText, ReportsTyped, refused, of_typed, RefusesLowering, ReportsLowered, unlowered, of_lowered, ReportsSecond, second_too_long, of_second, ReportsProof, ReportsCheck, ReportsFailure, ReportsReplay, ReportsVerdict, ReportsVerify, ReportsCheckBy, ReportsReplayBy, ReportsVerifyBy, ReportsBig, Reports}
+use Rattle.text_reports.specs.ReportTexts.{Answer, answer, syntax_answer}
+use Rattle.automizer_top.specs.Report.{second_limit, Ask, ReportsPrint, refused_print, printed, IsTypingRefusal, IsTypedText, ReportsTyped, ReportsLowered, ReportsSecond, ReportsProof, ReportsCheck, ReportsFailure, ReportsReplay, ReportsVerdict, ReportsVerify, ReportsCheckBy, ReportsReplayBy, ReportsVerifyBy, ReportsBig, Reports}
 use Rattle.modular_cut.specs.Parts.{parts_of}
 use Rattle.automizer_top.specs.Earlier.{ReportsReuse, no_earlier, of_earlier, ReportsVerifyWith}
 use Rattle.automizer_top.specs.Parts.{ReportsCut, ReportsLoweredParts, ReportsParts, ReportsVerifyParts, ReportsPartProofs, ReportsCheckParts, ReportsPartFailure, ReportsReplayParts}
 use Rattle.automizer_top.specs.PartClaims.{AreVerdictsOn}
-use Rattle.automizer_top.specs.ReportClaims.{IsTypingRefusal, IsVerdictOn}
+use Rattle.automizer_top.specs.ReportClaims.{IsVerdictOn}
 use Rattle.race_rounds.specs.declared.limits.Limits.{Limits}
 use Rattle.lasso_ranks.specs.Lassos.{PlainLasso}
 use Rattle.automizer_top.specs.Rankings.{ReportsLassoText, ReportsLasso, ReportsRankingText, ReportsRanked}
@@ -35,32 +27,11 @@ use Rattle.automizer_top.specs.CommandLine.{Task, Check, Replay, Print, Verify, 
 use Rattle.automizer_top.proofs.RequestLaws.{kind_of, only_one}
 use Rattle.automizer_top.proofs.TaskLaws.{ReportsTask, task_reported, usage_reported}
 use Rattle.automizer_top.proofs.LassoOnce.{AreFound, lasso_text_once, ranking_text_once}
-use Rattle.automizer_top.proofs.TypedTexts.{one_typed}
-use Rattle.automizer_top.proofs.ProofOnce.{one_first_wrong, wrong_or_not, proof_once}
-use Rattle.automizer_top.proofs.ReplayedOnce.{failure_once}
+use Rattle.text_reports.proofs.ProofOnce.{one_first_wrong, wrong_or_not, proof_once}
+use Rattle.text_reports.proofs.TextsOnce as texts_once
+use Rattle.text_reports.proofs.TextsOnce.{same_text, refused_once, program_not_refused}
+use Rattle.text_reports.proofs.ReplayedOnce.{failure_once}
 use Rattle.automizer_top.proofs.PartOnce.{cut_once, lowered_parts_once, part_proofs_once, part_failure_once}
-
-same_text : (a b : List ℕ) (o : Option (List ℕ)) → o ≡ Some a → o ≡ Some b → a ≡ b
-same_text a b o h k = unwrapped a b (sym h ∙ k)
-  where
-    unwrapped : (a b : List ℕ) → Some a ≡ Some b → a ≡ b
-    unwrapped a b e = cc
-
--- the fault that is read of a text
-same_fault : (text : List ℕ) (f g : Fault) → read_text text ≡ Err f → read_text text ≡ Err g → f ≡ g
-same_fault text f g r s = cc
-
-refused_once : (text : List ℕ) (a b : Answer) → RefusesProgram text a → RefusesProgram text b → a ≡ b
-refused_once text a b (too_long past is) (too_long past' is') = is ∙ sym is'
-refused_once text a b (too_long past is) (no_program f l r is') = absurd (omega arith)
-refused_once text a b (no_program f l r is) (too_long past is') = absurd (omega arith)
-refused_once text a b (no_program f l r is) (no_program g l' r' is') =
-    is ∙ ap (λ (h : Fault). answer (refusal h) 3) (same_fault text f g r r') ∙ sym is'
-
--- a program of the language is not refused
-program_not_refused : (text : List ℕ) (ds : List Declaration) (a : Answer) → length text ≤ program_limit → IsProgram text ds → RefusesProgram text a → ⊥
-program_not_refused text ds a l w (too_long past is) = omega arith
-program_not_refused text ds a l w (no_program f l' r is) = let read : read_text text ≡ Ok ds = program_is_read text ds w in cc
 
 print_once : (text : List ℕ) (a b : Answer) → ReportsPrint text a → ReportsPrint text b → a ≡ b
 print_once text a b (refused_print r) (refused_print r') = refused_once text a b r r'
@@ -72,58 +43,20 @@ print_once text a b (printed ds l w is) (printed es l' w' is') =
 abbrev BothIllTyped : Answer → Answer → Type 0
 BothIllTyped a b = IsTypingRefusal a × IsTypingRefusal b
 
-typed_refused_once : (entry : List ℕ) (text : List ℕ) (a b : Answer) → RefusesTyped entry text a → RefusesTyped entry text b → (a ≡ b) ⊎ BothIllTyped a b
-typed_refused_once entry text a b (refused_text r) (refused_text s) = inl (refused_once text a b r s)
-typed_refused_once entry text a b (refused_text r) (ill_typed ds f l w broken is) = absurd (program_not_refused text ds a l w r)
-typed_refused_once entry text a b (ill_typed ds f l w broken is) (refused_text r) = absurd (program_not_refused text ds b l w r)
-typed_refused_once entry text a b (ill_typed ds f l w broken is) (ill_typed es g l' w' broken' is') = inr ((f, is), (g, is'))
+-- ---- two answers of one kind to a program text, to a typed program and to a second text
 
--- the text of a typed program is not refused
-typed_not_refused : (entry : List ℕ) (text : List ℕ) (t : TypedProgram) (a : Answer) → IsTypedText entry text t → RefusesTyped entry text a → ⊥
-typed_not_refused entry text t a h (refused_text r) = program_not_refused text h.tree a h.short h.spelled r
-typed_not_refused entry text t a h (ill_typed ds f l w broken is) =
-    let typed : resolved_program ds entry ≡ Some t = ap (λ (es : List Declaration). resolved_program es entry) (one_program text ds h.tree w h.spelled) ∙ h.typed in
-    none-some t (sym (type_faults_exclude ds entry f program_refuted broken.1 broken.0) ∙ typed)
-
--- two answers to a program text, where X holds of two answers to its typed program
 typed_once : (entry text : List ℕ) (to_typed : TypedProgram → Answer → Type 0) (X : Type 0) (a b : Answer) →
     ((t : TypedProgram) → IsTypedText entry text t → to_typed t a → to_typed t b → X) → ReportsTyped entry text to_typed a → ReportsTyped entry text to_typed b →
     X ⊎ ((a ≡ b) ⊎ BothIllTyped a b)
-typed_once entry text to_typed X a b once (refused r) (refused s) = inr (typed_refused_once entry text a b r s)
-typed_once entry text to_typed X a b once (refused r) (of_typed t w s) = absurd (typed_not_refused entry text t a w r)
-typed_once entry text to_typed X a b once (of_typed t w r) (refused s) = absurd (typed_not_refused entry text t b w s)
-typed_once entry text to_typed X a b once (of_typed t w r) (of_typed u v s) =
-    inl (once t w r (subst (λ (x : TypedProgram). to_typed x b) (one_typed entry text t u w v) s))
+typed_once entry text to_typed = texts_once.typed_once entry text to_typed to_typed
 
--- ---- programs that are lowered
-
-lowering_once : (t : TypedProgram) (a b : Answer) → RefusesLowering t a → RefusesLowering t b → a ≡ b
-lowering_once t a b h k = h.is ∙ ap (λ (f : ItemFault). answer (lowering_refusal f) 3) (same_Some h.fault k.fault (sym h.first ∙ k.first)) ∙ sym k.is
-
--- a program that can be lowered is not refused so
-lowered_not_refused : (t : TypedProgram) (a : Answer) → first_fault t ≡ None → RefusesLowering t a → ⊥
-lowered_not_refused t a none h = none-some h.fault (sym none ∙ h.first)
-
--- two answers to a typed program, where X holds of two answers to its graph
 lowered_once : (t : TypedProgram) (to_graph : Graph → Answer → Type 0) (X : Type 0) (a b : Answer) → (first_fault t ≡ None → to_graph (lowered t) a → to_graph (lowered t) b → X) →
     ReportsLowered t to_graph a → ReportsLowered t to_graph b → (a ≡ b) ⊎ X
-lowered_once t to_graph X a b once (unlowered r) (unlowered s) = inl (lowering_once t a b r s)
-lowered_once t to_graph X a b once (unlowered r) (of_lowered none s) = absurd (lowered_not_refused t a none r)
-lowered_once t to_graph X a b once (of_lowered none r) (unlowered s) = absurd (lowered_not_refused t b none s)
-lowered_once t to_graph X a b once (of_lowered none r) (of_lowered none' s) = inr (once none r s)
+lowered_once t to_graph = texts_once.lowered_once t to_graph to_graph
 
--- ---- second texts
-
-too_long_or_not : (x y : List ℕ) (second : Option (List ℕ)) → second ≡ Some x → second ≡ Some y → second_limit < length x → length y ≤ second_limit → ⊥
-too_long_or_not x y second e d past l = let lengths : length x ≡ length y = ap (λ (bytes : List ℕ). length bytes) (same_text x y second e d) in omega arith
-
--- two answers to a second text, where X holds of two answers to what it is
 second_or : (second : Option (List ℕ)) (to_text : List ℕ → Answer → Type 0) (X : Type 0) (a b : Answer) →
     ((x : List ℕ) → second ≡ Some x → length x ≤ second_limit → to_text x a → to_text x b → X) → ReportsSecond second to_text a → ReportsSecond second to_text b → (a ≡ b) ⊎ X
-second_or second to_text X a b once (second_too_long x e past is) (second_too_long y d past' is') = inl (is ∙ sym is')
-second_or second to_text X a b once (second_too_long x e past is) (of_second y d l s) = absurd (too_long_or_not x y second e d past l)
-second_or second to_text X a b once (of_second x e l r) (second_too_long y d past is) = absurd (too_long_or_not y x second d e past l)
-second_or second to_text X a b once (of_second x e l r) (of_second y d l' s) = inr (once x e l r (subst (λ (z : List ℕ). to_text z b) (same_text y x second d e) s))
+second_or second to_text = texts_once.second_or second to_text to_text
 
 one_of_two : (a b : Answer) → (a ≡ b) ⊎ (a ≡ b) → a ≡ b
 one_of_two a b (inl e) = e

@@ -2,7 +2,8 @@
 use Rattle.std.proofs.Common.{◌≡◌, ℕ, List, None, Some, subst}
 use Rattle.outer_io.specs.Texts.{text_named}
 use Rattle.automizer_top.specs.CommandLine.{Task, Check, Replay, Print, Verify, Big, Lasso, Ranked, Settings, requested}
-use Rattle.automizer_top.specs.ReportTexts.{Answer, answer, usage_line}
+use Rattle.text_reports.specs.ReportTexts.{Answer, answer}
+use Rattle.automizer_top.specs.ReportTexts.{usage_line}
 use Rattle.automizer_top.specs.Report.{Ask, ReportsPrint, ReportsCheckBy, ReportsReplayBy, ReportsVerifyBy, ReportsBig, Reports, usage, printing, checking, replaying, verifying, seeking, ranking, generating}
 use Rattle.automizer_top.specs.Rankings.{ReportsLasso, ReportsRanked}
 use Rattle.automizer_top.proofs.RequestLaws.{same_task, same_settings, nothing_asked}

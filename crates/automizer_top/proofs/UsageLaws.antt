@@ -3,13 +3,13 @@ use Rattle.std.proofs.Common.{◌≡◌, ℕ, List, Option, None, Some, Ok, Err,
 use Rattle.std.specs.Prelude.{◌≢◌, Result, IfOk, option_map}
 use Rattle.std.proofs.lemmas.Option.{none-some}
 use Rattle.typed_tree.specs.TypedTree.{TypedProgram}
-use Rattle.letter_acts.specs.Invariant.{Graph}
-use Rattle.proof_form.specs.Annotations.{Content}
 use Rattle.race_rounds.specs.declared.limits.Limits.{Limits}
 use Rattle.race_verdicts.specs.declared.verdicts.Verdict.{Verdict}
 use Rattle.race_verdicts.specs.declared.verdicts.Verdict.TheVariants.{Safe, Unsafe, Unknown}
+use Rattle.text_reports.specs.declared.answers.TextAnswer.{TextAnswer}
+use Rattle.text_reports.specs.Answers.{answer_of}
 use Rattle.automizer_top.specs.declared.answer.Answer as code
-use Rattle.automizer_top.specs.declared.reporting.Halt.{Halt}
+use Rattle.text_reports.specs.declared.reading.Halt.{Halt}
 use Rattle.automizer_top.specs.declared.words.Mode.{Mode}
 use Rattle.automizer_top.specs.declared.words.Task.{Task}
 use Rattle.automizer_top.specs.declared.words.Task.TheVariants as tasks
@@ -18,12 +18,13 @@ use Rattle.automizer_top.specs.CommandLine.{Request, Big, requested}
 use Rattle.automizer_top.specs.Asked.{asked, task, settings}
 use Rattle.automizer_top.specs.Answers.{answered, Asks}
 use Rattle.automizer_top.specs.Verdicts.{verdict_status}
-use Rattle.automizer_top.specs.ReportTexts.{Answer}
-use Rattle.automizer_top.specs.Report.{Ask, RefusesProgram, too_long, no_program, ReportsPrint, refused_print, printed, RefusesTyped, refused, of_typed, RefusesLowering, unlowered, of_lowered, ReportsAnnotation, wrong_line, missing_line, accepted, rejected, ReportsProof, no_annotation, of_annotation, ReportsFailure, no_failure, replayed, stopped, ReportsVerify, ReportsBig}
+use Rattle.text_reports.specs.ReportTexts.{Answer}
+use Rattle.automizer_top.specs.Report.{Ask, RefusesTyped, refused, of_typed, RefusesLowering, unlowered, of_lowered, ReportsVerify, ReportsBig}
 use Rattle.modular_cut.specs.Parts.{PlainPart, parts_of}
 use Rattle.automizer_top.specs.Earlier.{ReportsReuse, no_earlier, of_earlier}
-use Rattle.automizer_top.specs.Parts.{free, of_parts, part_unlowered, parts_lowered, ReportsParts, all_safe, one_is_not, ReportsVerifyParts, ReportsPartFailure, no_part, no_part_failure, of_part_failure}
-use Rattle.automizer_top.proofs.RefusalLaws.{typed_is_three, lowering_is_three}
+use Rattle.automizer_top.specs.Parts.{free, of_parts, part_unlowered, parts_lowered, ReportsParts, all_safe, one_is_not, ReportsVerifyParts}
+use Rattle.text_reports.proofs.RefusalLaws.{typed_is_three, lowering_is_three}
+use Rattle.text_reports.proofs.TextLaws.{below_four}
 
 -- an answer of another status does not have the status 4
 not_three : (n : ℕ) → n ≡ 3 → n ≢ 4
@@ -38,34 +39,15 @@ not_zero n e = λ f. omega (arith, e, f)
 abbrev status_of : Answer → ℕ
 status_of a = a.status
 
-refused_not_four : (text : List ℕ) (a : Answer) → RefusesProgram text a → a.status ≢ 4
-refused_not_four text a (too_long past is) = not_three a.status (ap status_of is)
-refused_not_four text a (no_program f l r is) = not_three a.status (ap status_of is)
-
-pub print_not_four : (text : List ℕ) (a : Answer) → ReportsPrint text a → a.status ≢ 4
-print_not_four text a (refused_print r) = refused_not_four text a r
-print_not_four text a (printed ds l w is) = not_zero a.status (ap status_of is)
+-- no answer to a text has it
+pub on_text_not_four : (a : TextAnswer) → (answer_of a).status ≢ 4
+on_text_not_four a = λ e. let b = below_four a in omega (arith, b, e)
 
 pub typed_not_four : (entry text : List ℕ) (a : Answer) → RefusesTyped entry text a → a.status ≢ 4
 typed_not_four entry text a r = not_three a.status (typed_is_three entry text a r)
 
 pub lowering_not_four : (t : TypedProgram) (a : Answer) → RefusesLowering t a → a.status ≢ 4
 lowering_not_four t a r = not_three a.status (lowering_is_three t a r)
-
-annotation_not_four : (g : Graph) (coarse : List ℕ) (w : Content) (a : Answer) → ReportsAnnotation g coarse w a → a.status ≢ 4
-annotation_not_four g coarse w a (wrong_line place e is) = not_one a.status (ap status_of is)
-annotation_not_four g coarse w a (missing_line place e f is) = not_one a.status (ap status_of is)
-annotation_not_four g coarse w a (accepted e p is) = not_zero a.status (ap status_of is)
-annotation_not_four g coarse w a (rejected item cause e first is) = not_one a.status (ap status_of is)
-
-pub proof_not_four : (g : Graph) (text : List ℕ) (a : Answer) → ReportsProof g text a → a.status ≢ 4
-proof_not_four g text a (no_annotation line wrong is) = not_one a.status (ap status_of is)
-proof_not_four g text a (of_annotation coarse w s r) = annotation_not_four g coarse w a r
-
-pub failure_not_four : (t : TypedProgram) (text : List ℕ) (a : Answer) → ReportsFailure t text a → a.status ≢ 4
-failure_not_four t text a (no_failure line fault is) = not_one a.status (ap status_of is)
-failure_not_four t text a (replayed f id h r is) = not_zero a.status (ap status_of is)
-failure_not_four t text a (stopped f step cause h s is) = not_one a.status (ap status_of is)
 
 verdict_not_four : (v : Verdict) → verdict_status v ≢ 4
 verdict_not_four (Safe coarse a) = λ e. omega (arith, e)
@@ -93,11 +75,6 @@ verify_parts_not_four entry l text a (of_typed t w (free at first is)) = not_thr
 verify_parts_not_four entry l text a (of_typed t w (of_parts none (part_unlowered f first is))) = not_three a.status (ap status_of is)
 verify_parts_not_four entry l text a (of_typed t w (of_parts none (parts_lowered lowers (v, few)))) = parts_not_four l (parts_of t) a v
 
-pub part_failure_not_four : (ps : List PlainPart) (text : List ℕ) (a : Answer) → ReportsPartFailure ps text a → a.status ≢ 4
-part_failure_not_four ps text a (no_part none is) = not_one a.status (ap status_of is)
-part_failure_not_four ps text a (no_part_failure p rest line named fault is) = not_one a.status (ap status_of is)
-part_failure_not_four ps text a (of_part_failure p rest f named h r) = failure_not_four p.program rest a r
-
 -- what was read of the words is what they ask for
 pub asks_by : (words : List (List ℕ)) (o : Option read.Request) (q : read.Request) → o ≡ Some q → option_map asked o ≡ requested words → requested words ≡ Some (asked q)
 asks_by words o q is e = sym e ∙ ap (option_map asked) is
@@ -113,9 +90,6 @@ pub used_by_code : (words : List (List ℕ)) (q : Request) (r : Result code.Answ
     IfOk r (λ a. IsUsage words (answered a).status)
 used_by_code words q (Ok a) ask other = used words q (answered a).status ask other
 used_by_code words q (Err e) ask other = tt
-
-pub used_by_print : (words : List (List ℕ)) (q : Request) (text : List ℕ) (a : Answer) → requested words ≡ Some q → ReportsPrint text a → IsUsage words a.status
-used_by_print words q text a ask r = used words q a.status ask (print_not_four text a r)
 
 pub used_by_verify : (words : List (List ℕ)) (q : Request) (entry : List ℕ) (l : Limits) (text : List ℕ) (a : Answer) → requested words ≡ Some q →
     ReportsVerify entry l text a → IsUsage words a.status

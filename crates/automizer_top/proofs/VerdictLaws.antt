@@ -22,10 +22,11 @@ use Rattle.race_verdicts.specs.Verdicts.{IsVerdict}
 use Rattle.race_verdicts.specs.Texts.{verdict_text, ChoicesFit}
 use Rattle.automizer_top.specs.Verdicts.{verdict_status}
 use Rattle.automizer_top.specs.Report.{second_limit, IsTypedText, ReportsVerdict, ReportsVerify, of_typed, of_lowered}
-use Rattle.automizer_top.specs.Answers.{answered, IsGraphOf, HasNoErrorWord, TextIsSafe}
+use Rattle.text_reports.specs.Answers.{IsGraphOf, HasNoErrorWord, TextIsSafe}
+use Rattle.automizer_top.specs.Answers.{answered}
 use Rattle.automizer_top.specs.EarlierViews.{IsGivenOver}
 use Rattle.automizer_top.specs.declared.answer.Answer as code
-use Rattle.automizer_top.proofs.ReportLaws.{text_is_safe}
+use Rattle.text_reports.proofs.TextLaws.{text_is_safe}
 
 kept_graph : (g : Graph) → Keeps g → IsGraph g
 unfolding Keeps

@@ -4,29 +4,13 @@ use Rattle.std.specs.Fmt.{decimal}
 use Rattle.std.specs.Str.{bytes_eq}
 use Rattle.std.specs.Str.Parse.{digits_value}
 use Rattle.clap.specs.Walk.{Row, Rule, first_of}
-use Rattle.clap.specs.Simple.{App, new_rule, new_shape, matches_of}
+use Rattle.clap.specs.Simple.{App, matches_of}
 use Rattle.clap.specs.Faults.{fault_of}
 use Rattle.clap.specs.Kinds.{Kinds}
-use Rattle.clap.specs.declared.builder.action.ArgAction.TheVariants.{SetTrue}
+use Rattle.command_words.specs.Rules.{positional, option, optional, flag, bare_command, is_given}
 use Rattle.race_rounds.specs.declared.limits.Limits.{Limits}
 
 -- ---- the command
-
--- a word that belongs to no option
-abbrev pub positional : List ℕ → Bool → Rule
-positional id required = record (new_rule id) { required = required }
-
--- an option `--ID VALUE`, with the value that it has where it is left out
-abbrev pub option : List ℕ → List ℕ → Rule
-option id default = record (new_rule id) { long = Some id; defaults = default ∷ [] }
-
--- an option `--ID VALUE` that has no value where it is left out
-abbrev pub optional : List ℕ → Rule
-optional id = record (new_rule id) { long = Some id }
-
--- a flag `--ID`
-abbrev pub flag : List ℕ → Rule
-flag id = record (new_rule id) { long = Some id; action = Some SetTrue }
 
 -- MODE PROGRAM [SECOND] [--entry NAME] [--rounds N] [--workers N] [--depth N] [--modular] [--reuse OLD]
 abbrev pub arguments : List Rule
@@ -34,15 +18,8 @@ arguments = positional (codes "mode") true ∷ positional (codes "program") true
     ∷ option (codes "entry") (codes "main") ∷ option (codes "rounds") (codes "1000") ∷ option (codes "workers") (codes "4")
     ∷ option (codes "depth") (codes "16") ∷ flag (codes "modular") ∷ optional (codes "reuse") ∷ []
 
--- no word is the program's name, and no flag asks for help or the version
-abbrev pub bare_command : App
-bare_command = record {
-  top = record (new_shape (codes "automizer")) { no_binary_name = true; disable_help_flag = true; disable_version_flag = true };
-  subs = [];
-}
-
 unfoldable pub command : App
-command = record bare_command { top = record bare_command.top { rules = arguments } }
+command = record (bare_command (codes "automizer")) { top = record (bare_command (codes "automizer")).top { rules = arguments } }
 
 -- the faults that the command finds in the words, none where it takes them
 unfoldable pub faults : List (List ℕ) → Kinds
@@ -109,10 +86,6 @@ task_by mode program (Some second) = task_of_two mode program second
 abbrev pub task_of : List Row → Option Task
 task_of rows = option_and_then (λ mode. option_and_then (λ program. task_by mode program (first_of (codes "second") rows))
     (first_of (codes "program") rows)) (first_of (codes "mode") rows)
-
--- the flag of that name is set
-abbrev pub is_given : List ℕ → List Row → Option Bool
-is_given id rows = option_map (λ text. bytes_eq text (codes "true")) (first_of id rows)
 
 -- no earlier annotation is of parts
 abbrev pub go_together : Bool → Option (List ℕ) → Bool

@@ -9,7 +9,7 @@ use Rattle.difference_rows.specs.Differences.{IsDifference}
 use Rattle.path_rows.specs.Paths.{path_of}
 use Rattle.race_core.specs.declared.ends.Cause.{Cause}
 use Rattle.race_verdicts.specs.Texts.{unknown_text}
-use Rattle.automizer_top.specs.ReportTexts.{Answer}
+use Rattle.text_reports.specs.ReportTexts.{Answer}
 
 -- the rows of each error word are difference rows
 abbrev pub HasDifferenceRows : TypedProgram → Type 0

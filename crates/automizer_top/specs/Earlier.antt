@@ -17,8 +17,9 @@ use Rattle.race_core.specs.declared.events.Entry.{Entry}
 use Rattle.itp_automaton.specs.Certified.{Certificate, IsCertified}
 use Rattle.itp_automaton.specs.Making.{HasStates, HasEdge}
 use Rattle.race_rounds.specs.declared.limits.Limits.{Limits}
-use Rattle.automizer_top.specs.ReportTexts.{Answer, syntax_answer}
-use Rattle.automizer_top.specs.ReportCases.{second_limit, ReportsTyped, ReportsLowered, ReportsSecond, IsSafeText, ReportsVerdict}
+use Rattle.text_reports.specs.ReportTexts.{Answer, syntax_answer}
+use Rattle.text_reports.specs.ReportCases.{second_limit, ReportsTyped, ReportsLowered, ReportsSecond, IsSafeText}
+use Rattle.automizer_top.specs.ReportCases.{ReportsVerdict}
 
 -- What a program leaves of an earlier annotation: an automaton that is certified for it, with the predicates that are found again, whose edges are
 -- candidates, among them each that Decide refutes without cuts within the numbers that fit.

@@ -10,8 +10,8 @@ use Rattle.proof_form.specs.Standing.{FirstWrongOfText}
 use Rattle.race_core.specs.declared.events.Entry.{Entry}
 use Rattle.itp_automaton.specs.Certified.{Certificate}
 use Rattle.race_rounds.specs.Rounds.{IsGiven}
-use Rattle.automizer_top.specs.ReportTexts.{Answer, syntax_answer}
-use Rattle.automizer_top.specs.ReportCases.{IsSafeText}
+use Rattle.text_reports.specs.ReportTexts.{Answer, syntax_answer}
+use Rattle.text_reports.specs.ReportCases.{IsSafeText}
 use Rattle.automizer_top.specs.Earlier.{IsReused, IsFirstEntry}
 
 -- The text is that of an annotation, and the graph leaves of it this entry, if it is one.

@@ -1,6 +1,3 @@
-pub mod Refusals
-pub mod TypeRefusals
-pub mod LoweringRefusals
 pub mod CommandLine
 pub mod Asked
 pub mod Verdicts

@@ -9,7 +9,7 @@ use Rattle.trace_replay.specs.Replays.{IsReplayed}
 use Rattle.automizer_top.specs.CommandLine.{Replay, Verify, Settings}
 use Rattle.automizer_top.specs.PartTexts.{part_line}
 use Rattle.automizer_top.specs.Parts.{ReportsParts}
-use Rattle.automizer_top.specs.ReportTexts.{Answer}
+use Rattle.text_reports.specs.ReportTexts.{Answer}
 use Rattle.automizer_top.specs.Report.{Ask, IsTypedText, IsFailureText}
 use Rattle.automizer_top.specs.ReportClaims.{PrintsFailure}
 

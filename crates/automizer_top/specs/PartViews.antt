@@ -13,13 +13,13 @@ use Rattle.modular_cut.specs.View.{plain_part}
 use Rattle.modular_cut.specs.FreeConditions.{free_spans, IsFirstFree}
 use Rattle.automizer_top.specs.declared.parts.LoweredParts.{LoweredParts}
 use Rattle.automizer_top.specs.declared.parts.Left.{Left}
-use Rattle.automizer_top.specs.TypeRefusals.{rule_line}
-use Rattle.automizer_top.specs.LoweringRefusals.{lowering_refusal}
+use Rattle.text_reports.specs.TypeRefusals.{rule_line}
+use Rattle.text_reports.specs.LoweringRefusals.{lowering_refusal}
 use Rattle.automizer_top.specs.PartTexts.{part_line, text_behind, front_lines, front_text, rest_text}
-use Rattle.automizer_top.specs.ReportTexts.{Answer, answer}
+use Rattle.text_reports.specs.ReportTexts.{Answer, answer}
 use Rattle.automizer_top.specs.Report.{ReportsTyped, IsTypedText}
 use Rattle.automizer_top.specs.Parts.{ReportsCut, first_part_fault, ReportsLoweredParts, ProvesPart, ChecksPart, part_in}
-use Rattle.automizer_top.specs.Answers.{IsGraphOf, HasNoErrorWord}
+use Rattle.text_reports.specs.Answers.{IsGraphOf, HasNoErrorWord}
 
 -- These are the parts of the program, none of its specifications and invariants is free, and it is safe where they are.
 pub record AreParts (t : TypedProgram) (ps : List Part) : Type 0 where

@@ -12,22 +12,20 @@ use Rattle.lowered_graph.specs.Items.{ItemFault, first_fault}
 use Rattle.lowered_graph.specs.Lowered.{lowered}
 use Rattle.proof_form.specs.Annotations.{Content}
 use Rattle.proof_form.specs.Standing.{FirstWrongOfText}
-use Rattle.coarse_lines.specs.CoarseLetters.{coarse_letters, first_wrong, first_missing}
-use Rattle.proof_names.specs.Items.{first_triple}
+use Rattle.coarse_lines.specs.CoarseLetters.{coarse_letters}
 use Rattle.proof_check.specs.declared.rejects.RejectCause.{RejectCause}
-use Rattle.proof_check.specs.declared.rejects.RejectCause.TheVariants as rejects
 use Rattle.proof_check.specs.Proves.{Proves}
-use Rattle.proof_check.specs.Checks.{IsFirst}
 use Rattle.trace_replay.specs.FailureText.{PlainFailure}
 use Rattle.trace_replay.specs.FailureFaults.{IsFirstFault}
 use Rattle.race_core.specs.Races.{Race}
 use Rattle.itp_automaton.specs.Certified.{Certificate}
 use Rattle.race_rounds.specs.declared.limits.Limits.{Limits}
-use Rattle.automizer_top.specs.TypeRefusals.{rule_line}
-use Rattle.automizer_top.specs.LoweringRefusals.{lowering_refusal}
+use Rattle.text_reports.specs.TypeRefusals.{rule_line}
+use Rattle.text_reports.specs.LoweringRefusals.{lowering_refusal}
 use Rattle.automizer_top.specs.PartTexts.{modular_line, part_line, text_behind, front_lines, front_text, rest_text}
-use Rattle.automizer_top.specs.ReportTexts.{Answer, answer, syntax_answer, accepted_answer, failed_answer}
-use Rattle.automizer_top.specs.ReportCases.{second_limit, ReportsTyped, ReportsSecond, IsSafeText, IsFailureText, ReportsFailure, ReportsVerdict}
+use Rattle.text_reports.specs.ReportTexts.{Answer, answer, syntax_answer, accepted_answer, failed_answer}
+use Rattle.text_reports.specs.ReportCases.{second_limit, ReportsTyped, ReportsSecond, IsSafeText, FailsOnLine, IsFailureText, ReportsFailure}
+use Rattle.automizer_top.specs.ReportCases.{ReportsVerdict}
 
 -- ---- the program is cut
 
@@ -97,13 +95,6 @@ pub record ProvesPart (g : Graph) (text : List ℕ) : Type 0 where
   pub spelled : IsSafeText text coarse annotation
   pub letters : coarse ≡ coarse_letters g annotation
   pub proves : Proves g annotation
-
--- The first check that fails of an annotation with lines of these coarse letters, and the line of its text that fails it. The cases exclude each other.
-pub data FailsOnLine (g : Graph) (coarse : List ℕ) (w : Content) (line : ℕ) (cause : RejectCause) : Type 0 where
-  coarse_fails : (place : ℕ) → first_wrong g coarse w ≡ Some place → line ≡ place + 4 → cause ≡ rejects.BadName → FailsOnLine g coarse w line cause
-  triple_fails : (place : ℕ) → first_wrong g coarse w ≡ None → first_missing g coarse w ≡ Some place →
-      line ≡ first_triple w + place + (length coarse + 4) → cause ≡ rejects.BadName → FailsOnLine g coarse w line cause
-  item_fails : (item : ℕ) → coarse ≡ coarse_letters g w → IsFirst g w item cause → line ≡ item + (length coarse + 4) → FailsOnLine g coarse w line cause
 
 -- What is answered to the graph of a part and to a text that proves it not, before which so many lines stand: the same as to that text by itself, but
 -- for the line, which counts from the first of all lines on. The cases exclude each other.

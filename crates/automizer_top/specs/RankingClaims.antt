@@ -8,7 +8,7 @@ use Rattle.lasso_ranks.specs.Lassos.{PlainLasso, IsLassoOf}
 use Rattle.lasso_ranks.specs.Ranks.{PlainRanking, HasFewTurns, LassoEnds}
 use Rattle.rank_lasso.specs.Faults.{IsReadAs}
 use Rattle.automizer_top.specs.CommandLine.{Lasso, Ranked, Settings}
-use Rattle.automizer_top.specs.ReportTexts.{Answer}
+use Rattle.text_reports.specs.ReportTexts.{Answer}
 use Rattle.automizer_top.specs.Report.{Ask, IsTypedText}
 use Rattle.automizer_top.specs.Rankings.{IsLassoText, ReportsSearch}
 

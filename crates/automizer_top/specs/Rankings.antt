@@ -10,8 +10,9 @@ use Rattle.lasso_ranks.specs.Outcomes.{DecideExcludes, RankFits, HasNoRank, IsRa
 use Rattle.rank_lasso.specs.LassoText.{IsWritable, lasso_text}
 use Rattle.rank_lasso.specs.Faults.{IsLassoFault, IsReadAs, IsRankingFault}
 use Rattle.proof_check.specs.declared.rejects.RejectCause.TheVariants as rejects
-use Rattle.automizer_top.specs.ReportTexts.{Answer, answer, accepted_answer, failed_answer, fault_answer, no_ranking_answer, no_number_answer}
-use Rattle.automizer_top.specs.ReportCases.{second_limit, ReportsTyped, ReportsLowered, ReportsSecond}
+use Rattle.text_reports.specs.ReportTexts.{Answer, answer, accepted_answer, failed_answer}
+use Rattle.automizer_top.specs.ReportTexts.{fault_answer, no_ranking_answer, no_number_answer}
+use Rattle.text_reports.specs.ReportCases.{second_limit, ReportsTyped, ReportsLowered, ReportsSecond}
 
 -- the text is that of this lasso
 pub record IsLassoText (text : List ℕ) (l : PlainLasso) : Type 0 where

@@ -3,11 +3,13 @@ use Rattle.std.specs.Prelude.{◌≡◌, ℕ, Bool, true, false, List, Option, N
 use Rattle.outer_io.specs.Texts.{text_named}
 use Rattle.race_rounds.specs.declared.limits.Limits.{Limits}
 use Rattle.automizer_top.specs.CommandLine.{Check, Replay, Print, Verify, Big, Lasso, Ranked, Settings, requested}
-use Rattle.automizer_top.specs.ReportTexts.{Answer, answer, usage_line}
+use Rattle.text_reports.specs.ReportTexts.{Answer, answer}
+use Rattle.automizer_top.specs.ReportTexts.{usage_line}
 use Rattle.automizer_top.specs.Earlier.{ReportsVerifyWith}
 use Rattle.automizer_top.specs.Parts.{ReportsVerifyParts, ReportsCheckParts, ReportsReplayParts}
 use Rattle.automizer_top.specs.Rankings.{ReportsLasso, ReportsRanked}
-pub use Rattle.automizer_top.specs.ReportCases.{program_limit, second_limit, Ask, RefusesProgram, ReportsPrint, IsIllTyped, RefusesTyped, IsTypedText, ReportsTyped, RefusesLowering, ReportsLowered, ReportsSecond, IsSafeText, ReportsAnnotation, ReportsProof, ReportsCheck, IsFailureText, ReportsFailure, ReportsReplay, ReportsVerdict, ReportsVerify, ReportsBig, too_long, no_program, refused_print, printed, refused_text, ill_typed, refused, of_typed, unlowered, of_lowered, second_too_long, of_second, wrong_line, missing_line, accepted, rejected, no_annotation, of_annotation, no_failure, replayed, stopped}
+pub use Rattle.text_reports.specs.ReportCases.{program_limit, second_limit, RefusesProgram, ReportsPrint, IsIllTyped, IsTypingRefusal, RefusesTyped, IsTypedText, ReportsTyped, RefusesLowering, ReportsLowered, ReportsSecond, IsSafeText, ReportsAnnotation, ReportsProof, ReportsCheck, IsFailureText, ReportsFailure, ReportsReplay, too_long, no_program, refused_print, printed, refused_text, ill_typed, refused, of_typed, unlowered, of_lowered, second_too_long, of_second, wrong_line, missing_line, accepted, rejected, no_annotation, of_annotation, no_failure, replayed, stopped}
+pub use Rattle.automizer_top.specs.ReportCases.{Ask, ReportsVerdict, ReportsVerify, ReportsBig}
 
 -- of the whole program, or with the flag `--modular` of its parts
 abbrev pub ReportsCheckBy : Bool → List ℕ → List ℕ → Option (List ℕ) → Answer → Type 0

@@ -5,7 +5,6 @@ use Rattle.outer_io.specs.Texts.{text_named, GainsFront}
 use Rattle.boogie_tree.specs.Tree.{Declaration}
 use Rattle.boogie_parse.specs.GrammarLimits.{IsProgram}
 use Rattle.typed_tree.specs.TypedTree.{TypedProgram}
-use Rattle.typed_tree.specs.declared.fault.TypeFault.{TypeFault}
 use Rattle.boogie_types.specs.Resolved.{resolved_program}
 use Rattle.boogie_run.specs.Runs.{Fails, IsSafe}
 use Rattle.boogie_run.specs.declared.types.AssertId.{AssertId}
@@ -17,15 +16,10 @@ use Rattle.race_core.specs.Races.{Race}
 use Rattle.itp_automaton.specs.Certified.{Certificate}
 use Rattle.generated_program.specs.Generated.{generated}
 use Rattle.automizer_top.specs.CommandLine.{Check, Replay, Print, Verify, Big, Settings}
-use Rattle.automizer_top.specs.TypeRefusals.{type_refusal}
-use Rattle.automizer_top.specs.ReportTexts.{Answer, answer, syntax_answer}
+use Rattle.text_reports.specs.ReportTexts.{Answer, syntax_answer}
 use Rattle.automizer_top.specs.Report.{Ask, IsTypedText, IsFailureText, ReportsVerdict, Reports}
 
 -- ---- what an answer is
-
--- the answer says that a typing rule is broken
-abbrev pub IsTypingRefusal : Answer → Type 0
-IsTypingRefusal a = (f : TypeFault) × (a ≡ answer (type_refusal f) 3)
 
 -- the answer is a verdict on this program, of a race that began with no entry where no earlier annotation is named
 abbrev pub IsVerdictOn : List (List ℕ) → List (List ℕ × List ℕ) → TypedProgram → Answer → Type 0

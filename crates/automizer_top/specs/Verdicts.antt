@@ -1,5 +1,5 @@
 -- Verdicts on programs, with the races that they are of.
-use Rattle.std.specs.Prelude.{◌≡◌, ℕ, ◌≤◌, List, length, Option}
+use Rattle.std.specs.Prelude.{ℕ, ◌≤◌, length, Option}
 use Rattle.typed_tree.specs.TypedTree.{TypedProgram}
 use Rattle.race_core.specs.declared.events.Entry.{Entry}
 use Rattle.race_core.specs.Histories.{Keeps, IsLegal}

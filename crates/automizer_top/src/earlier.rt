@@ -5,14 +5,14 @@ ghost use Rattle.outer_io.specs.Faults.{Rose};
 ghost use Rattle.outer_io.specs.Texts.{text_named};
 ghost use Rattle.typing_rules.specs.TypedParts.{typed_program};
 ghost use Rattle.race_rounds.specs.Limits.{AreInRange};
-ghost use Rattle.automizer_top.specs.declared.reporting.Halt.TheVariants.{Fault, Memory};
-ghost use Rattle.automizer_top.specs.Answers.{answered, IsGraphOf, HasNoErrorWord, TextIsSafe};
+ghost use Rattle.text_reports.specs.Answers.{answer_of, IsGraphOf, HasNoErrorWord, TextIsSafe};
+ghost use Rattle.automizer_top.specs.Answers.{answered};
 ghost use Rattle.automizer_top.specs.Earlier.{ReportsReuse, ReportsVerifyWith};
 ghost use Rattle.automizer_top.specs.EarlierViews.{IsLeftOf, RefusesText};
 ghost use Rattle.automizer_top.specs.Report.{ReportsSecond};
 
 use crate::answer::Answer;
-use crate::reporting::{Halt, PROGRAM_LIMIT, SECOND_LIMIT, decided, graph, text_within, typed};
+use crate::reporting::decided;
 use crate::words::Options;
 use boogie_types::Typed;
 use itp_automaton::Certified;
@@ -26,6 +26,7 @@ use race_workers::Gate;
 use std::alloc::{AllocError, Global};
 use std::sync::Wait;
 use std::thread::Threads;
+use text_reports::{Halt, PROGRAM_LIMIT, SECOND_LIMIT, TextAnswer, graph, text_within, typed};
 
 /// The entry with which a race over a graph begins by an earlier annotation, if there is one, or what is answered to a text that is none.
 fn entry_of<R: Threads + Sync>(
@@ -33,14 +34,14 @@ fn entry_of<R: Threads + Sync>(
     alloc: Global,
     icfg: &Icfg,
     text: &[u8],
-) -> Result<Result<Option<Entry<Certified>>, Answer>, AllocError>
+) -> Result<Result<Option<Entry<Certified>>, TextAnswer>, AllocError>
     requires text { length text.now ≤ SECOND_LIMIT }
-    ensures { IfOk result (λ r. MatchResult r (IsLeftOf icfg.now text.now) (λ a. RefusesText text.now (answered a))) }
+    ensures { IfOk result (λ r. MatchResult r (IsLeftOf icfg.now text.now) (λ a. RefusesText text.now (answer_of a))) }
 {
     let old = match read_safe(alloc, text) {
         Ok((_rounds, _coarse, old)) => old,
         Err(ProofFault::Syntax { line }) => {
-            return Ok(Err(Answer::Syntax {
+            return Ok(Err(TextAnswer::Syntax {
                 line: u128::from(line),
             }));
         }
@@ -69,7 +70,7 @@ fn decided_by<R: Threads + Wait + Sync, G: Gate + Sync>(
 {
     match entry_of(rt, alloc, icfg, text)? {
         Ok(first) => decided(rt, alloc, program, icfg, limits, first, gate),
-        Err(answer) => Ok(answer),
+        Err(answer) => Ok(Answer::OnText(answer)),
     }
 }
 
@@ -96,7 +97,7 @@ fn decided_within<R: Threads + Wait + Sync, H: Shelf, G: Gate + Sync>(
     ensures never_falls { H.faults shelf.old ≤ H.faults shelf.new }
 {
     let Some(text) = text_within(alloc, shelf, old, SECOND_LIMIT)? else {
-        return Ok(Answer::TooLong);
+        return Ok(Answer::OnText(TextAnswer::TooLong));
     };
     Ok(decided_by(rt, alloc, program, icfg, &text, limits, gate)?)
 }
@@ -124,11 +125,11 @@ pub(crate) fn verified<R: Threads + Wait + Sync, H: Shelf, G: Gate + Sync>(
 {
     let program = match typed(alloc, text, options.entry)? {
         Ok(program) => program,
-        Err(answer) => return Ok(answer),
+        Err(answer) => return Ok(Answer::OnText(answer)),
     };
     let icfg = match graph(alloc, &program)? {
         Ok(icfg) => icfg,
-        Err(answer) => return Ok(answer),
+        Err(answer) => return Ok(Answer::OnText(answer)),
     };
     decided_within(rt, alloc, shelf, &program, &icfg, old, options.limits, gate)
 }

@@ -9,12 +9,12 @@ ghost use Rattle.boogie_types.specs.Resolved.{resolved_program};
 ghost use Rattle.proof_check.specs.Proves.{Proves};
 ghost use Rattle.race_rounds.specs.Limits.{AreInRange};
 ghost use Rattle.generated_program.specs.Generated.{generated};
-ghost use Rattle.automizer_top.specs.Answers.{answered, IsGraphOf, HasNoErrorWord, VerdictProves};
+ghost use Rattle.text_reports.specs.Answers.{IsGraphOf, HasNoErrorWord};
+ghost use Rattle.automizer_top.specs.Answers.{answered, VerdictProves};
 ghost use Rattle.automizer_top.specs.Report.{ReportsBig};
 ghost use Rattle.automizer_top.specs.Verdicts.{verdict_status};
 
 use crate::answer::Answer;
-use crate::reporting::graph;
 use crate::summary::summary;
 use boogie_types::{TypeFault, Typed, resolve};
 use generated_program::{generated, generated_programs_are_lowered, generated_programs_are_typed};
@@ -27,6 +27,7 @@ use race_workers::{Gate, race};
 use std::alloc::{AllocError, Global};
 use std::sync::Wait;
 use std::thread::Threads;
+use text_reports::graph;
 
 /// The generated program keeps the typing rules, so that nothing but want of memory is said against it.
 fn want_of_memory(fault: TypeFault) -> AllocError

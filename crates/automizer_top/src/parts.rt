@@ -10,20 +10,17 @@ ghost use Rattle.typing_rules.specs.TypedParts.{typed_program};
 ghost use Rattle.modular_cut.specs.View.{plain_part};
 ghost use Rattle.race_rounds.specs.Limits.{AreInRange};
 ghost use Rattle.lowered_graph.specs.Lowered.{lowered};
-ghost use Rattle.automizer_top.specs.declared.reporting.Halt.TheVariants.{Fault, Memory};
-ghost use Rattle.automizer_top.specs.Answers.{answered, IsGraphOf, HasNoErrorWord, TextIsSafe};
+ghost use Rattle.text_reports.specs.Answers.{answer_of, IsGraphOf, HasNoErrorWord, TextIsSafe};
+ghost use Rattle.automizer_top.specs.Answers.{answered};
 ghost use Rattle.automizer_top.specs.PartTexts.{front_lines, front_text, rest_text};
 ghost use Rattle.automizer_top.specs.PartViews.{AreParts, RefusesFree, AreGraphsOf, HaveNoErrorWord, RefusesUnlowered, RefusesParts, IsLoweredText, JudgesPart, ChecksOn, FindsPart};
 ghost use Rattle.automizer_top.specs.Parts.{ReportsVerifyParts, ReportsParts, ReportsCheckParts, ReportsPartProofs, RejectsPart, ProvesPart, ReportsReplayParts, ReportsPartFailure};
-ghost use Rattle.automizer_top.specs.ReportTexts.{accepted_answer};
+ghost use Rattle.text_reports.specs.ReportTexts.{accepted_answer};
 ghost use Rattle.automizer_top.specs.Report.{ReportsSecond};
 
 use crate::answer::{Answer, verdict_status};
 use crate::part_texts::{Front, add_part, behind, behind_part_line, front_of, modular_line};
-use crate::reporting::{
-    Decision, Halt, PROGRAM_LIMIT, SECOND_LIMIT, confirmed, graph, raced, replayed_failure,
-    text_within, typed,
-};
+use crate::reporting::{Decision, raced};
 use crate::words::Options;
 use boogie_tree::Text;
 use boogie_types::Typed;
@@ -36,6 +33,10 @@ use race_workers::Gate;
 use std::alloc::{AllocError, Global};
 use std::sync::Wait;
 use std::thread::Threads;
+use text_reports::{
+    Halt, PROGRAM_LIMIT, SECOND_LIMIT, TextAnswer, confirmed, graph, replayed_failure, text_within,
+    typed,
+};
 use trace_replay::{FailureFault, read_failure};
 
 /// The parts of a program, or what is answered where one of its specifications or invariants is free.
@@ -53,10 +54,10 @@ fn parts_of(alloc: Global, program: &Typed) -> Result<Result<Vec<Part>, Answer>,
 }
 
 /// The graphs of parts, in order, or what is answered where one of them cannot be lowered.
-fn graphs_of(alloc: Global, parts: &[Part]) -> Result<Result<Vec<Icfg>, Answer>, AllocError>
+fn graphs_of(alloc: Global, parts: &[Part]) -> Result<Result<Vec<Icfg>, TextAnswer>, AllocError>
     ensures { IfOk result (λ r. MatchResult r
         (λ gs. AreGraphsOf (map plain_part parts.now) gs.items)
-        (λ a. RefusesUnlowered (map plain_part parts.now) (answered a))) }
+        (λ a. RefusesUnlowered (map plain_part parts.now) (answer_of a))) }
 {
     let mut graphs = Vec::with_capacity(alloc, parts.len())?;
     for part in parts {
@@ -88,7 +89,7 @@ fn lowered_text(
 {
     let program = match typed(alloc, text, entry)? {
         Ok(program) => program,
-        Err(answer) => return Ok(Err(answer)),
+        Err(answer) => return Ok(Err(Answer::OnText(answer))),
     };
     let parts = match parts_of(alloc, &program)? {
         Ok(parts) => parts,
@@ -96,7 +97,7 @@ fn lowered_text(
     };
     match graphs_of(alloc, &parts)? {
         Ok(graphs) => Ok(Ok(LoweredParts { parts, graphs })),
-        Err(answer) => Ok(Err(answer)),
+        Err(answer) => Ok(Err(Answer::OnText(answer))),
     }
 }
 
@@ -171,25 +172,25 @@ fn judged(
     icfg: &Icfg,
     text: &[u8],
     before: u128,
-) -> Result<Option<Answer>, AllocError>
+) -> Result<Option<TextAnswer>, AllocError>
     requires text { length text.now ≤ SECOND_LIMIT }
     requires before { before < 2 ^ 65 }
-    ensures reported { IfOk result (λ r. MatchOption r (ProvesPart icfg.now text.now) (λ a. RejectsPart icfg.now before text.now (answered a))) }
+    ensures reported { IfOk result (λ r. MatchOption r (ProvesPart icfg.now text.now) (λ a. RejectsPart icfg.now before text.now (answer_of a))) }
     ensures proved { IfOk result (λ r. r ≡ None → HasNoErrorWord icfg.now) }
-    ensures wrong { IfOk result (λ r. IfSome r (λ a. (answered a).status ≡ 1)) }
+    ensures wrong { IfOk result (λ r. IfSome r (λ a. (answer_of a).status ≡ 1)) }
 {
     let (coarse, proof) = match read_safe(alloc, text) {
         Ok((_rounds, coarse, proof)) => (coarse, proof),
         Err(ProofFault::Syntax { line }) => {
-            return Ok(Some(Answer::Syntax {
+            return Ok(Some(TextAnswer::Syntax {
                 line: before + u128::from(line),
             }));
         }
         Err(ProofFault::Memory) => return Err(AllocError),
     };
     match confirmed(alloc, icfg, &coarse, &proof)? {
-        Answer::Accepted => Ok(None),
-        Answer::Rejected { line, cause } => Ok(Some(Answer::Rejected {
+        TextAnswer::Accepted => Ok(None),
+        TextAnswer::Rejected { line, cause } => Ok(Some(TextAnswer::Rejected {
             line: before + line,
             cause,
         })),
@@ -210,16 +211,16 @@ fn checked_part<'a>(
     part: &Part,
     icfg: &Icfg,
     left: Left<'a>,
-) -> Result<Result<Left<'a>, Answer>, AllocError>
+) -> Result<Result<Left<'a>, TextAnswer>, AllocError>
     requires text { length left.text.now ≤ SECOND_LIMIT }
     requires before { left.before < 2 ^ 64 }
     requires graph { icfg.now ≡ lowered (plain_part part.now).program }
     ensures { IfOk result (λ r. MatchResult r
         (λ next. ChecksOn (plain_part part.now) icfg.now left.entry next)
-        (λ a. JudgesPart (plain_part part.now) left.entry (answered a))) }
+        (λ a. JudgesPart (plain_part part.now) left.entry (answer_of a))) }
 {
     let Some(text) = behind_part_line(left.text, &part.name) else {
-        return Ok(Err(Answer::Syntax {
+        return Ok(Err(TextAnswer::Syntax {
             line: left.before + 1,
         }));
     };
@@ -234,16 +235,15 @@ fn checked_part<'a>(
 }
 
 /// What is answered to parts with their graphs and to a second text, which should tell an annotation of each.
-fn proved(alloc: Global, lowered: &LoweredParts, text: &[u8]) -> Result<Answer, AllocError>
+fn proved(alloc: Global, lowered: &LoweredParts, text: &[u8]) -> Result<TextAnswer, AllocError>
     requires graphs { AreGraphsOf (map plain_part lowered.now.parts.items) lowered.now.graphs.items }
     requires text { length text.now ≤ SECOND_LIMIT }
-    ensures reported { IfOk result (λ a. ReportsPartProofs (map plain_part lowered.now.parts.items) text.now (answered a)) }
-    ensures accepted { IfOk result (λ a. answered a ≡ accepted_answer → HaveNoErrorWord lowered.now.graphs.items) }
-    ensures no_usage { IfOk result (λ a. (answered a).status ≢ 4) }
+    ensures reported { IfOk result (λ a. ReportsPartProofs (map plain_part lowered.now.parts.items) text.now (answer_of a)) }
+    ensures accepted { IfOk result (λ a. answer_of a ≡ accepted_answer → HaveNoErrorWord lowered.now.graphs.items) }
 {
     let line = modular_line(alloc, lowered.parts.len())?;
     let Some(rest) = behind(text, &line) else {
-        return Ok(Answer::Syntax { line: 1 });
+        return Ok(TextAnswer::Syntax { line: 1 });
     };
     let mut left = Left {
         text: rest,
@@ -256,9 +256,9 @@ fn proved(alloc: Global, lowered: &LoweredParts, text: &[u8]) -> Result<Answer, 
         }
     }
     if left.text.is_empty() {
-        Ok(Answer::Accepted)
+        Ok(TextAnswer::Accepted)
     } else {
-        Ok(Answer::Syntax {
+        Ok(TextAnswer::Syntax {
             line: left.before + 1,
         })
     }
@@ -270,19 +270,18 @@ fn proved_within<H: Shelf>(
     shelf: &mut H,
     lowered: &LoweredParts,
     second: &str,
-) -> Result<Answer, Halt>
+) -> Result<TextAnswer, Halt>
     requires graphs { AreGraphsOf (map plain_part lowered.now.parts.items) lowered.now.graphs.items }
     ensures texts { H.texts shelf.new ≡ H.texts shelf.old }
     ensures reported { IfOk result (λ a. IfSome (H.texts shelf.old) (λ shown.
-        ReportsSecond (text_named second.now shown) (ReportsPartProofs (map plain_part lowered.now.parts.items)) (answered a))) }
-    ensures accepted { IfOk result (λ a. answered a ≡ accepted_answer → HaveNoErrorWord lowered.now.graphs.items) }
-    ensures no_usage { IfOk result (λ a. (answered a).status ≢ 4) }
+        ReportsSecond (text_named second.now shown) (ReportsPartProofs (map plain_part lowered.now.parts.items)) (answer_of a))) }
+    ensures accepted { IfOk result (λ a. answer_of a ≡ accepted_answer → HaveNoErrorWord lowered.now.graphs.items) }
     ensures fault { result ≡ Err Halt.Fault → Rose (H.faults shelf.old) (H.faults shelf.new) }
     ensures no_fault { result ≢ Err Halt.Fault → H.faults shelf.new ≡ H.faults shelf.old }
     ensures never_falls { H.faults shelf.old ≤ H.faults shelf.new }
 {
     let Some(text) = text_within(alloc, shelf, second, SECOND_LIMIT)? else {
-        return Ok(Answer::TooLong);
+        return Ok(TextAnswer::TooLong);
     };
     Ok(proved(alloc, lowered, &text)?)
 }
@@ -309,7 +308,8 @@ pub(crate) fn checked<H: Shelf>(
         Ok(lowered) => lowered,
         Err(answer) => return Ok(answer),
     };
-    proved_within(alloc, shelf, &lowered, second)
+    let answer = proved_within(alloc, shelf, &lowered, second)?;
+    Ok(Answer::OnText(answer))
 }
 
 /// The number of the part that the first line of a text names, and what stands behind that line.
@@ -325,17 +325,17 @@ fn part_in<'a>(parts: &[Part], text: &'a [u8]) -> Option<(usize, &'a [u8])>
 }
 
 /// What is answered to parts and to a text that should name one of them and tell its failure.
-fn outcome(alloc: Global, parts: &[Part], text: &[u8]) -> Result<Answer, AllocError>
+fn outcome(alloc: Global, parts: &[Part], text: &[u8]) -> Result<TextAnswer, AllocError>
     requires { length text.now ≤ SECOND_LIMIT }
-    ensures { IfOk result (λ a. ReportsPartFailure (map plain_part parts.now) text.now (answered a)) }
+    ensures { IfOk result (λ a. ReportsPartFailure (map plain_part parts.now) text.now (answer_of a)) }
 {
     let Some((number, rest)) = part_in(parts, text) else {
-        return Ok(Answer::Syntax { line: 1 });
+        return Ok(TextAnswer::Syntax { line: 1 });
     };
     let failure = match read_failure(alloc, rest) {
         Ok(failure) => failure,
         Err(FailureFault::Syntax { line }) => {
-            return Ok(Answer::Syntax {
+            return Ok(TextAnswer::Syntax {
                 line: u128::from(line) + 1,
             });
         }
@@ -363,14 +363,14 @@ pub(crate) fn replayed<H: Shelf>(
 {
     let program = match typed(alloc, text, entry)? {
         Ok(program) => program,
-        Err(answer) => return Ok(answer),
+        Err(answer) => return Ok(Answer::OnText(answer)),
     };
     let parts = match parts_of(alloc, &program)? {
         Ok(parts) => parts,
         Err(answer) => return Ok(answer),
     };
     let Some(failure) = text_within(alloc, shelf, second, SECOND_LIMIT)? else {
-        return Ok(Answer::TooLong);
+        return Ok(Answer::OnText(TextAnswer::TooLong));
     };
-    Ok(outcome(alloc, &parts, &failure)?)
+    Ok(Answer::OnText(outcome(alloc, &parts, &failure)?))
 }

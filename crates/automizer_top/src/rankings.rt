@@ -8,13 +8,14 @@ ghost use Rattle.lasso_ranks.specs.Lassos.{plain_lasso, IsLassoOf};
 ghost use Rattle.lasso_ranks.specs.Ranks.{plain_ranking, IsRankingOver};
 ghost use Rattle.rank_lasso.specs.LassoText.{IsWritable};
 ghost use Rattle.rank_lasso.specs.Faults.{IsReadAs};
+ghost use Rattle.text_reports.specs.Answers.{answer_of};
 ghost use Rattle.automizer_top.specs.Answers.{answered, TextIsGraph};
-ghost use Rattle.automizer_top.specs.ReportTexts.{failed_answer, fault_answer};
+ghost use Rattle.text_reports.specs.ReportTexts.{failed_answer};
+ghost use Rattle.automizer_top.specs.ReportTexts.{fault_answer};
 ghost use Rattle.automizer_top.specs.Report.{ReportsSecond};
 ghost use Rattle.automizer_top.specs.Rankings.{ReportsSearch, ReportsLassoText, ReportsLasso, ReportsRankingText, ReportsRanked};
 
 use crate::answer::Answer;
-use crate::reporting::{Halt, PROGRAM_LIMIT, SECOND_LIMIT, lowered_text, text_within};
 use crate::words::Options;
 use letter_acts::Icfg;
 use outer_io::Shelf;
@@ -24,24 +25,25 @@ use rank_lasso::{
     write_ranking,
 };
 use std::alloc::{AllocError, Global};
+use text_reports::{Halt, PROGRAM_LIMIT, SECOND_LIMIT, TextAnswer, lowered_text, text_within};
 
 /// What is answered where this cause is found at this line.
-fn rejected(line: u64, cause: RejectCause) -> Answer
-    ensures { answered result ≡ failed_answer line cause }
+fn rejected(line: u64, cause: RejectCause) -> TextAnswer
+    ensures { answer_of result ≡ failed_answer line cause }
 {
-    Answer::Rejected {
+    TextAnswer::Rejected {
         line: u128::from(line),
         cause,
     }
 }
 
 /// What is answered to a text that is none of a lasso or a ranking, or whose letters make no lasso.
-fn faulty(fault: LassoFault) -> Result<Answer, AllocError>
-    ensures answer { IfOk result (λ a. answered a ≡ fault_answer fault) }
+fn faulty(fault: LassoFault) -> Result<TextAnswer, AllocError>
+    ensures answer { IfOk result (λ a. answer_of a ≡ fault_answer fault) }
     ensures no_memory { IfOk result (λ a. fault ≢ Memory) }
 {
     match fault {
-        LassoFault::Syntax { line } => Ok(Answer::Syntax {
+        LassoFault::Syntax { line } => Ok(TextAnswer::Syntax {
             line: u128::from(line),
         }),
         LassoFault::BadName { line } => Ok(rejected(line, RejectCause::BadName)),
@@ -73,11 +75,11 @@ fn sought_by(alloc: Global, icfg: &Icfg, text: &[u8], depth: u32) -> Result<Answ
 {
     let lasso = match read_lasso(alloc, text) {
         Ok(lasso) => lasso,
-        Err(fault) => return faulty(fault),
+        Err(fault) => return Ok(Answer::OnText(faulty(fault)?)),
     };
     match placed(alloc, icfg, &lasso) {
         Ok(()) => sought(alloc, icfg, &lasso, depth),
-        Err(fault) => faulty(fault),
+        Err(fault) => Ok(Answer::OnText(faulty(fault)?)),
     }
 }
 
@@ -98,7 +100,7 @@ fn sought_within<H: Shelf>(
     ensures never_falls { H.faults shelf.old ≤ H.faults shelf.new }
 {
     let Some(lasso) = text_within(alloc, shelf, second, SECOND_LIMIT)? else {
-        return Ok(Answer::TooLong);
+        return Ok(Answer::OnText(TextAnswer::TooLong));
     };
     Ok(sought_by(alloc, icfg, &lasso, depth)?)
 }
@@ -121,30 +123,34 @@ pub(crate) fn found<H: Shelf>(
     ensures no_fault { result ≢ Err Halt.Fault → H.faults shelf.new ≡ H.faults shelf.old }
     ensures never_falls { H.faults shelf.old ≤ H.faults shelf.new }
 {
-    let icfg = match lowered_text(alloc, text, options.entry)? {
-        Ok(icfg) => icfg,
-        Err(answer) => return Ok(answer),
-    };
-    sought_within(alloc, shelf, &icfg, second, options.limits.depth)
+    match lowered_text(alloc, text, options.entry)? {
+        Ok(icfg) => sought_within(alloc, shelf, &icfg, second, options.limits.depth),
+        Err(answer) => Ok(Answer::OnText(answer)),
+    }
 }
 
 /// What is answered to a graph, a lasso of it and its ranking.
-fn held(alloc: Global, icfg: &Icfg, lasso: &Lasso, ranking: &Ranking) -> Result<Answer, AllocError>
+fn held(
+    alloc: Global,
+    icfg: &Icfg,
+    lasso: &Lasso,
+    ranking: &Ranking,
+) -> Result<TextAnswer, AllocError>
     requires placed { IsLassoOf icfg.now (plain_lasso lasso.now) }
     requires over { IsRankingOver icfg.now (plain_ranking ranking.now) }
     ensures { (text : List ℕ) → IsReadAs icfg.now text (plain_lasso lasso.now) (plain_ranking ranking.now) →
-        IfOk result (λ a. ReportsRankingText icfg.now text (answered a)) }
+        IfOk result (λ a. ReportsRankingText icfg.now text (answer_of a)) }
 {
     match check_rank(alloc, icfg, lasso, ranking)? {
-        None => Ok(Answer::Accepted),
+        None => Ok(TextAnswer::Accepted),
         Some(line) => Ok(rejected(line, RejectCause::BadTriple)),
     }
 }
 
 /// What is answered to a graph and to the text of a ranking.
-fn held_by(alloc: Global, icfg: &Icfg, text: &[u8]) -> Result<Answer, AllocError>
+fn held_by(alloc: Global, icfg: &Icfg, text: &[u8]) -> Result<TextAnswer, AllocError>
     requires { length text.now ≤ SECOND_LIMIT }
-    ensures { IfOk result (λ a. ReportsRankingText icfg.now text.now (answered a)) }
+    ensures { IfOk result (λ a. ReportsRankingText icfg.now text.now (answer_of a)) }
 {
     let (lasso, ranking) = match read_ranking(alloc, icfg, text) {
         Ok(read) => read,
@@ -162,17 +168,16 @@ fn held_within<H: Shelf>(
     shelf: &mut H,
     icfg: &Icfg,
     second: &str,
-) -> Result<Answer, Halt>
+) -> Result<TextAnswer, Halt>
     ensures texts { H.texts shelf.new ≡ H.texts shelf.old }
     ensures reported { IfOk result (λ a. IfSome (H.texts shelf.old) (λ shown.
-        ReportsSecond (text_named second.now shown) (ReportsRankingText icfg.now) (answered a))) }
-    ensures no_usage { IfOk result (λ a. (answered a).status ≢ 4) }
+        ReportsSecond (text_named second.now shown) (ReportsRankingText icfg.now) (answer_of a))) }
     ensures fault { result ≡ Err Halt.Fault → Rose (H.faults shelf.old) (H.faults shelf.new) }
     ensures no_fault { result ≢ Err Halt.Fault → H.faults shelf.new ≡ H.faults shelf.old }
     ensures never_falls { H.faults shelf.old ≤ H.faults shelf.new }
 {
     let Some(ranking) = text_within(alloc, shelf, second, SECOND_LIMIT)? else {
-        return Ok(Answer::TooLong);
+        return Ok(TextAnswer::TooLong);
     };
     Ok(held_by(alloc, icfg, &ranking)?)
 }
@@ -184,20 +189,18 @@ pub(crate) fn checked<H: Shelf>(
     text: &[u8],
     second: &str,
     entry: &str,
-) -> Result<Answer, Halt>
+) -> Result<TextAnswer, Halt>
     requires { length text.now ≤ PROGRAM_LIMIT }
     ensures texts { H.texts shelf.new ≡ H.texts shelf.old }
     ensures reported { IfOk result (λ a. IfSome (H.texts shelf.old) (λ shown.
-        ReportsRanked entry.now text.now (text_named second.now shown) (answered a))) }
-    ensures graph { IfOk result (λ a. (answered a).status ≡ 0 → TextIsGraph entry.now text.now) }
-    ensures no_usage { IfOk result (λ a. (answered a).status ≢ 4) }
+        ReportsRanked entry.now text.now (text_named second.now shown) (answer_of a))) }
+    ensures graph { IfOk result (λ a. (answer_of a).status ≡ 0 → TextIsGraph entry.now text.now) }
     ensures fault { result ≡ Err Halt.Fault → Rose (H.faults shelf.old) (H.faults shelf.new) }
     ensures no_fault { result ≢ Err Halt.Fault → H.faults shelf.new ≡ H.faults shelf.old }
     ensures never_falls { H.faults shelf.old ≤ H.faults shelf.new }
 {
-    let icfg = match lowered_text(alloc, text, entry)? {
-        Ok(icfg) => icfg,
-        Err(answer) => return Ok(answer),
-    };
-    held_within(alloc, shelf, &icfg, second)
+    match lowered_text(alloc, text, entry)? {
+        Ok(icfg) => held_within(alloc, shelf, &icfg, second),
+        Err(answer) => Ok(answer),
+    }
 }

@@ -30,11 +30,12 @@ ghost use Rattle.automizer_top.specs.RankingClaims.{AskedLassoEnds, RankedLassoE
 ghost use Rattle.automizer_top.specs.Completeness.{HasDifferenceRows, SaysUnknown};
 ghost use Rattle.automizer_top.specs.CommandLine as line;
 ghost use Rattle.automizer_top.specs.CommandLine.{Settings, requested};
-ghost use Rattle.automizer_top.specs.ReportTexts.{Answer, verdict_answer, summary_answer, accepted_answer, replayed_answer};
-ghost use Rattle.automizer_top.specs.Report.{Ask, Reports, ReportsVerdict, ReportsBig};
-ghost use Rattle.automizer_top.specs.ReportClaims.{Answers, IsHandedOver, WhereTold, TookFront, Closes, ClosesAtFront, PrintsProgram, ProgramIsSafe, ProgramFails, IsTypingRefusal, IsVerdictOn, RefusesEarlier, PrintsFailure, GeneratedIsSafe};
+ghost use Rattle.text_reports.specs.ReportTexts.{Answer, accepted_answer, replayed_answer};
+ghost use Rattle.automizer_top.specs.ReportTexts.{verdict_answer, summary_answer};
+ghost use Rattle.automizer_top.specs.Report.{Ask, IsTypingRefusal, Reports, ReportsVerdict, ReportsBig};
+ghost use Rattle.automizer_top.specs.ReportClaims.{Answers, IsHandedOver, WhereTold, TookFront, Closes, ClosesAtFront, PrintsProgram, ProgramIsSafe, ProgramFails, IsVerdictOn, RefusesEarlier, PrintsFailure, GeneratedIsSafe};
 
-use crate::reporting::{Halt, reported};
+use crate::reporting::reported;
 use itp_automaton::Certified;
 use itp_automaton::laws::certified_words_are_infeasible;
 use lowered_graph::laws::lowering_is_faithful;
@@ -45,6 +46,7 @@ use race_workers::Gate;
 use std::alloc::{AllocError, Global};
 use std::sync::Wait;
 use std::thread::Threads;
+use text_reports::Halt;
 use trace_replay::laws::what_replays_fails;
 
 /// The status where a call on the shelf or on the sink failed.

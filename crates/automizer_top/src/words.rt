@@ -1,15 +1,14 @@
-ghost use Rattle.std.specs.Prelude.{false, ◌≡◌, ◌≢◌, ◌≤◌, [], map, IfOk, IfSome, MatchOption, option_map};
+ghost use Rattle.std.specs.Prelude.{◌≡◌, ◌≤◌, map, IfOk, IfSome, option_map};
 ghost use Rattle.std.specs.String.{string_bytes};
 ghost use Rattle.clap.specs.Matches.{found_of};
-ghost use Rattle.clap.specs.Walk.{first_of, rows_of, rule_of};
+ghost use Rattle.clap.specs.Walk.{rows_of};
 ghost use Rattle.clap.specs.Simple.{app_of};
-ghost use Rattle.clap.specs.Kinds.{FailsBy};
 ghost use Rattle.race_rounds.specs.Limits.{AreInRange};
 ghost use Rattle.automizer_top.specs.Asked.{asked, task, settings, program_name, IsCounted};
 ghost use Rattle.automizer_top.specs.CommandLine as line;
 
-use clap::error::ErrorKind;
-use clap::{Arg, ArgAction, ArgMatches, Command, Error};
+use clap::{ArgMatches, Command};
+use command_words::{bare_command, flag, is_set, matched, option, optional, positional, value};
 use race_rounds::Limits;
 use std::alloc::{AllocError, Global};
 
@@ -75,53 +74,11 @@ pub(crate) struct Request<'a> {
     pub options: Options<'a>,
 }
 
-/// A word that belongs to no option.
-fn positional<'a>(alloc: Global, id: &'a str, required: bool) -> Arg<'a>
-    ensures rule { rule_of result ≡ line.positional id.entry.now required }
-    ensures local { result.global ≡ false }
-{
-    Arg::new(alloc, id).required(required)
-}
-
-/// An option, with the value that it has where it is left out.
-fn option<'a>(alloc: Global, id: &'a str, default: &'a str) -> Arg<'a>
-    ensures rule { rule_of result ≡ line.option id.entry.now default.entry.now }
-    ensures local { result.global ≡ false }
-{
-    Arg::new(alloc, id).long(id).default_value(default)
-}
-
-/// An option that has no value where it is left out.
-fn optional<'a>(alloc: Global, id: &'a str) -> Arg<'a>
-    ensures rule { rule_of result ≡ line.optional id.entry.now }
-    ensures local { result.global ≡ false }
-{
-    Arg::new(alloc, id).long(id)
-}
-
-/// A flag.
-fn flag<'a>(alloc: Global, id: &'a str) -> Arg<'a>
-    ensures rule { rule_of result ≡ line.flag id.entry.now }
-    ensures local { result.global ≡ false }
-{
-    Arg::new(alloc, id).long(id).action(ArgAction::SetTrue)
-}
-
-/// The command without its arguments.
-fn bare_command<'a>(alloc: Global) -> Command<'a>
-    ensures { app_of result ≡ line.bare_command }
-{
-    Command::new(alloc, "automizer")
-        .no_binary_name(true)
-        .disable_help_flag(true)
-        .disable_version_flag(true)
-}
-
 /// The command that the words are read by.
 fn command<'a>(alloc: Global) -> Result<Command<'a>, AllocError>
     ensures { IfOk result (λ c. app_of c ≡ line.command) }
 {
-    bare_command(alloc)
+    bare_command(alloc, "automizer")
         .arg(positional(alloc, "mode", true))?
         .arg(positional(alloc, "program", true))?
         .arg(positional(alloc, "second", false))?
@@ -131,31 +88,6 @@ fn command<'a>(alloc: Global) -> Result<Command<'a>, AllocError>
         .arg(option(alloc, "depth", "16"))?
         .arg(flag(alloc, "modular"))?
         .arg(optional(alloc, "reuse"))
-}
-
-/// The values that the words give to the arguments, or why the command refuses them.
-fn parsed<'a>(alloc: Global, words: &'a [String]) -> Result<ArgMatches<'a>, Error>
-    ensures fault { FailsBy (line.faults (map string_bytes words.now)) result }
-    ensures found { IfOk result (λ m. rows_of (found_of m) ≡ line.values (map string_bytes words.now)) }
-{
-    let command = command(alloc)?;
-    command.try_get_matches_from(words)
-}
-
-/// The values that the words give to the arguments; none where the command refuses the words.
-#[tactic(auto, using(crate::proofs::CommandLaws::refused))]
-fn matched<'a>(alloc: Global, words: &'a [String]) -> Result<Option<ArgMatches<'a>>, AllocError>
-    ensures { IfOk result (λ r. MatchOption r
-        (line.faults (map string_bytes words.now) ≢ [])
-        (λ m. (line.faults (map string_bytes words.now) ≡ []) × (rows_of (found_of m) ≡ line.values (map string_bytes words.now)))) }
-{
-    match parsed(alloc, words) {
-        Ok(matches) => Ok(Some(matches)),
-        Err(error) => match error.kind() {
-            ErrorKind::OutOfMemory => Err(AllocError),
-            _ => Ok(None),
-        },
-    }
 }
 
 /// Whether there is no digit, or a plus or a superfluous zero stands first.
@@ -218,13 +150,6 @@ fn task_of_one<'a>(mode: &str, program: &'a str) -> Option<Task<'a>>
     }
 }
 
-/// The value of the argument of that name.
-fn value<'a>(matches: &ArgMatches<'a>, id: &str) -> Option<&'a str>
-    ensures { first_of id.now (rows_of (found_of matches.now)) ≡ option_map (λ text. text.now) result }
-{
-    matches.get_str(id)
-}
-
 /// What is to be done, by the values of the arguments.
 fn task_of<'a>(matches: &ArgMatches<'a>) -> Option<Task<'a>>
     ensures task { line.task_of (rows_of (found_of matches.now)) ≡ option_map task result }
@@ -236,14 +161,6 @@ fn task_of<'a>(matches: &ArgMatches<'a>) -> Option<Task<'a>>
         None => task_of_one(mode, program),
         Some(second) => task_of_two(mode, program, second),
     }
-}
-
-/// Whether the flag of that name is set.
-fn is_set(matches: &ArgMatches<'_>, id: &str) -> Option<bool>
-    ensures { line.is_given id.now (rows_of (found_of matches.now)) ≡ result }
-{
-    let text = value(matches, id)?;
-    Some(text == "true")
 }
 
 /// The values of the options, each number in its range, and not both `--modular` and `--reuse`.
@@ -293,7 +210,8 @@ pub(crate) fn read_words<'a>(
     ensures limits { IfOk result (λ r. IfSome r (λ q. AreInRange q.options.limits)) }
     ensures counted { IfOk result (λ r. IfSome r (λ q. IsCounted q.task)) }
 {
-    let Some(matches) = matched(alloc, words)? else {
+    let command = command(alloc)?;
+    let Some(matches) = matched(command, words)? else {
         return Ok(None);
     };
     Ok(request_of(&matches))

@@ -1,5 +1,5 @@
 use Rattle.typing_rules.specs.TypedParts.{typed_program}
-use Rattle.automizer_top.specs.Answers.{answered}
+use Rattle.text_reports.specs.Answers.{answer_of}
 use Rattle.automizer_top.specs.EarlierViews.{IsLeftOf, RefusesText}
 use Rattle.automizer_top.proofs.EarlierLaws.{left_is_given, reuse_reported, reuse_refused}
 use Rattle.automizer_top.proofs.earlier.decided_by.Goals as goal
@@ -17,5 +17,5 @@ returns-in-Ok-clause-reported g c =
 
 pub returns-in-Err-clause-reported : goal.returns-in-Err-clause-reported
 returns-in-Err-clause-reported g c =
-    let none : RefusesText c.args.text.now (answered c.in-Err.answer) = rw c.in-Err.is at c.in_ok-first.ensures in
-    reuse_refused c.args.limits (typed_program c.args.program.now) c.args.text.now (answered c.in-Err.answer) none
+    let none : RefusesText c.args.text.now (answer_of c.in-Err.answer) = rw c.in-Err.is at c.in_ok-first.ensures in
+    reuse_refused c.args.limits (typed_program c.args.program.now) c.args.text.now (answer_of c.in-Err.answer) none

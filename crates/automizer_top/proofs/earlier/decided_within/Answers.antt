@@ -1,7 +1,7 @@
 use Rattle.typing_rules.specs.TypedParts.{typed_program}
 use Rattle.automizer_top.specs.Answers.{answered}
 use Rattle.automizer_top.specs.Earlier.{ReportsReuse}
-use Rattle.automizer_top.proofs.ReportLaws.{second_refused, second_answered}
+use Rattle.text_reports.proofs.TextLaws.{second_refused, second_answered}
 use Rattle.automizer_top.proofs.earlier.decided_within.Goals as goal
 
 pub returns-in_default-clause-reported : goal.returns-in_default-clause-reported

@@ -1,9 +1,10 @@
 use Rattle.std.proofs.Common.{ap, arith}
-use Rattle.std.proofs.lemmas.Result.{IfOk-weaker}
+use Rattle.text_reports.specs.Answers.{answer_of}
 use Rattle.automizer_top.specs.Answers.{answered}
-use Rattle.automizer_top.specs.ReportTexts.{Answer}
+use Rattle.text_reports.specs.ReportTexts.{Answer}
 use Rattle.automizer_top.specs.PartViews.{RefusesParts, IsLoweredText}
 use Rattle.automizer_top.proofs.PartFunctions.{check_reported, refused_reported, refused_is_three, lowered_is_safe}
+use Rattle.automizer_top.proofs.UsageLaws.{on_text_not_four}
 use Rattle.automizer_top.proofs.parts.checked.Goals as goal
 
 pub proved_within-requires : goal.proved_within-requires
@@ -32,9 +33,12 @@ returns-in-Err-clause-no_usage g c = λ e.
 pub returns-clause-reported : goal.returns-clause-reported
 returns-clause-reported g c =
     let l : IsLoweredText c.args.entry.now c.args.text.now c.in-Ok.lowered = rw c.in-Ok.is at c.in_ok-lowered.ensures in
-    check_reported c.args.entry.now c.args.text.now c.args.second.now c.in-Ok.lowered c.proved_within.result (g.H.Shelf.texts c.args.shelf.now) l c.proved_within.ensures.reported
+    check_reported c.args.entry.now c.args.text.now c.args.second.now c.in-Ok.lowered (answer_of c.in_ok-answer.answer) (g.H.Shelf.texts c.args.shelf.now) l c.in_ok-answer.ensures.reported
 
 pub returns-clause-accepted : goal.returns-clause-accepted
-returns-clause-accepted g c =
+returns-clause-accepted g c = λ e.
     let l : IsLoweredText c.args.entry.now c.args.text.now c.in-Ok.lowered = rw c.in-Ok.is at c.in_ok-lowered.ensures in
-    IfOk-weaker c.proved_within.result _ _ (λ a h e. lowered_is_safe c.args.entry.now c.args.text.now c.in-Ok.lowered l (h e)) c.proved_within.ensures.accepted
+    lowered_is_safe c.args.entry.now c.args.text.now c.in-Ok.lowered l (c.in_ok-answer.ensures.accepted e)
+
+pub returns-clause-no_usage : goal.returns-clause-no_usage
+returns-clause-no_usage g c = on_text_not_four c.in_ok-answer.answer

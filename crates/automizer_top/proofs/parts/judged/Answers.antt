@@ -1,9 +1,11 @@
 use Rattle.std.proofs.Common.{◌≡◌, ℕ, ◌+◌, ◌∙◌, List, rules, refl, sym, ap, subst, arith}
-use Rattle.automizer_top.specs.declared.answer.Answer.TheVariants.{Accepted, Rejected}
-use Rattle.automizer_top.specs.Answers.{answered, IsJudged}
-use Rattle.automizer_top.specs.ReportTexts.{syntax_answer}
+use Rattle.text_reports.specs.declared.answers.TextAnswer.TheVariants.{Accepted, Rejected}
+use Rattle.text_reports.specs.Answers.{IsJudged}
+use Rattle.text_reports.specs.Answers.{answer_of}
+use Rattle.text_reports.specs.ReportTexts.{syntax_answer}
 use Rattle.automizer_top.specs.Report.{IsSafeText}
-use Rattle.automizer_top.specs.Parts.{FailsOnLine, no_part_annotation, part_rejected}
+use Rattle.text_reports.specs.ReportCases.{FailsOnLine}
+use Rattle.automizer_top.specs.Parts.{no_part_annotation, part_rejected}
 use Rattle.automizer_top.proofs.parts.judged.Goals as goal
 
 pub returns-in-Err-Syntax-clause-reported : goal.returns-in-Err-Syntax-clause-reported
@@ -19,7 +21,7 @@ returns-in-Accepted-clause-reported c =
     record { coarse = c.in-Ok.coarse.items; annotation = c.in-Ok.proof; spelled = text; letters = sym c.deref.ensures.value ∙ right.0; proves = right.1 }
 
 pub returns-in-Accepted-clause-proved : goal.returns-in-Accepted-clause-proved
-returns-in-Accepted-clause-proved c = λ e. c.in_ok-confirmed.ensures.accepted (ap answered c.in-Accepted.is)
+returns-in-Accepted-clause-proved c = λ e. c.in_ok-confirmed.ensures.accepted (ap answer_of c.in-Accepted.is)
 
 pub returns-in-Rejected-clause-reported : goal.returns-in-Rejected-clause-reported
 returns-in-Rejected-clause-reported c =

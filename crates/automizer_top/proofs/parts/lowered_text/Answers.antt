@@ -1,6 +1,7 @@
 use Rattle.typing_rules.specs.TypedParts.{typed_program}
 use Rattle.modular_cut.specs.View.{plain_part}
 use Rattle.std.proofs.Common.{map}
+use Rattle.text_reports.specs.Answers.{answer_of}
 use Rattle.automizer_top.specs.Answers.{answered}
 use Rattle.automizer_top.specs.Report.{IsTypedText, RefusesTyped}
 use Rattle.automizer_top.specs.PartViews.{AreParts, RefusesFree, AreGraphsOf, RefusesUnlowered}
@@ -9,8 +10,8 @@ use Rattle.automizer_top.proofs.parts.lowered_text.Goals as goal
 
 pub returns-in-Err : goal.returns-in-Err
 returns-in-Err c =
-    let r : RefusesTyped c.args.entry.now c.args.text.now (answered c.in-Err.answer) = rw c.in-Err.is at c.in_ok-program.ensures.typed in
-    typed_refused c.args.entry.now c.args.text.now (answered c.in-Err.answer) r
+    let r : RefusesTyped c.args.entry.now c.args.text.now (answer_of c.in-Err.answer) = rw c.in-Err.is at c.in_ok-program.ensures.typed in
+    typed_refused c.args.entry.now c.args.text.now (answer_of c.in-Err.answer) r
 
 pub parts_of-requires : goal.parts_of-requires
 parts_of-requires c = record { names = rw c.in-Ok.is at c.in_ok-program.ensures.names }
@@ -35,5 +36,5 @@ returns c =
     let t = typed_program c.in-Ok.program in
     let typed : IsTypedText c.args.entry.now c.args.text.now t = rw c.in-Ok.is at c.in_ok-program.ensures.typed in
     let parts : AreParts t c.in-Ok-2.parts.items = rw c.in-Ok-2.is at c.in_ok-parts.ensures in
-    let r : RefusesUnlowered (map plain_part c.deref.result.now) (answered c.in-Err-3.answer) = rw c.in-Err-3.is at c.in_ok-graphs.ensures in
-    unlowered_refused c.args.entry.now c.args.text.now t c.in-Ok-2.parts.items (answered c.in-Err-3.answer) typed parts (rw (← c.deref.ensures.value) r)
+    let r : RefusesUnlowered (map plain_part c.deref.result.now) (answer_of c.in-Err-3.answer) = rw c.in-Err-3.is at c.in_ok-graphs.ensures in
+    unlowered_refused c.args.entry.now c.args.text.now t c.in-Ok-2.parts.items (answer_of c.in-Err-3.answer) typed parts (rw (← c.deref.ensures.value) r)

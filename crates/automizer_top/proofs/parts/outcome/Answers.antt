@@ -3,8 +3,8 @@ use Rattle.std.proofs.lemmas.Result.{IfOk-weaker}
 use Rattle.trace_replay.specs.FailureText.{plain}
 use Rattle.modular_cut.specs.Parts.{PlainPart}
 use Rattle.modular_cut.specs.View.{plain_part}
-use Rattle.automizer_top.specs.Answers.{answered}
-use Rattle.automizer_top.specs.ReportTexts.{syntax_answer}
+use Rattle.text_reports.specs.Answers.{answer_of}
+use Rattle.text_reports.specs.ReportTexts.{syntax_answer}
 use Rattle.automizer_top.specs.Report.{IsFailureText, ReportsFailure}
 use Rattle.automizer_top.specs.Parts.{no_part, no_part_failure, of_part_failure}
 use Rattle.automizer_top.specs.PartViews.{FindsPart}
@@ -27,5 +27,5 @@ returns c =
     let text : IsFailureText c.in-Some.rest.now (plain c.in-Ok.failure) = record { bounds = read.0; spelled = read.1 } in
     IfOk-weaker c.replayed_failure.result _ _
     (λ a r. of_part_failure found.0 c.in-Some.rest.now (plain c.in-Ok.failure) found.2 text
-    (subst (λ (p : PlainPart). ReportsFailure p.program c.in-Some.rest.now (answered a)) (part_at c.args.parts.now c.in-Some.number c.index-parts-number.result found.0 found.1) r))
+    (subst (λ (p : PlainPart). ReportsFailure p.program c.in-Some.rest.now (answer_of a)) (part_at c.args.parts.now c.in-Some.number c.index-parts-number.result found.0 found.1) r))
     (c.replayed_failure.ensures c.in-Some.rest.now text)

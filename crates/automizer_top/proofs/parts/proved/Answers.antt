@@ -1,7 +1,7 @@
 use Rattle.std.proofs.Common.{◌≡◌, ◌<◌, ◌∙◌, ◌+◌, ℕ, List, Some, length, refl, sym, ap, subst, arith}
 use Rattle.modular_cut.specs.View.{plain_part}
-use Rattle.automizer_top.specs.Answers.{answered}
-use Rattle.automizer_top.specs.ReportTexts.{accepted_answer, syntax_answer}
+use Rattle.text_reports.specs.Answers.{answer_of}
+use Rattle.text_reports.specs.ReportTexts.{accepted_answer, syntax_answer}
 use Rattle.automizer_top.specs.PartTexts.{modular_line, text_behind}
 use Rattle.automizer_top.specs.PartViews.{JudgesPart, ChecksOn}
 use Rattle.automizer_top.proofs.PartOnce.{behind_is_short}
@@ -30,8 +30,8 @@ checked_part-requires-clause-graph c =
 
 pub returns-in-Err-clause-reported : goal.returns-in-Err-clause-reported
 returns-in-Err-clause-reported c =
-    let wrong : JudgesPart (plain_part c.index.result.now) c.loop-number.left (answered c.in-Err.answer) = rw c.in-Err.is at c.in_ok-next.ensures in
-    one_is_wrong c.args.lowered.now.parts.items c.args.lowered.now.graphs.items c.args.text.now c.loop-number.number c.loop-number.left c.index.result.now (answered c.in-Err.answer) (omega arith)
+    let wrong : JudgesPart (plain_part c.index.result.now) c.loop-number.left (answer_of c.in-Err.answer) = rw c.in-Err.is at c.in_ok-next.ensures in
+    one_is_wrong c.args.lowered.now.parts.items c.args.lowered.now.graphs.items c.args.text.now c.loop-number.number c.loop-number.left c.index.result.now (answer_of c.in-Err.answer) (omega arith)
     c.index.ensures c.loop-number.invariant wrong
 
 pub loop-number-preserved : goal.loop-number-preserved

@@ -1,34 +1,29 @@
 use Rattle.std.proofs.Common.{arith}
 use Rattle.std.proofs.lemmas.Result.{IfOk-weaker}
-use Rattle.automizer_top.specs.Answers.{answered, IsGraphOfText, IsRefusedText}
+use Rattle.text_reports.specs.Answers.{answer_of, IsGraphOfText, IsRefusedText}
 use Rattle.automizer_top.specs.Rankings.{ReportsRankingText}
-use Rattle.automizer_top.proofs.GraphTexts.{refused_reported, refused_text_is_three, graph_reported, text_is_graph}
+use Rattle.text_reports.proofs.GraphTexts.{refused_reported, refused_text_is_three, graph_reported}
+use Rattle.automizer_top.proofs.GraphTexts.{text_is_graph}
 use Rattle.automizer_top.proofs.rankings.checked.Goals as goal
 
 pub returns-in-Err-clause-reported : goal.returns-in-Err-clause-reported
 returns-in-Err-clause-reported g c =
-    let r : IsRefusedText c.args.entry.now c.args.text.now (answered c.in-Err.answer) = rw c.in-Err.is at c.in_ok-icfg.ensures in
-    refused_reported c.args.entry.now c.args.text.now c.args.second.now ReportsRankingText (answered c.in-Err.answer) (g.H.Shelf.texts c.args.shelf.now) r
+    let r : IsRefusedText c.args.entry.now c.args.text.now (answer_of c.in-Err.answer) = rw c.in-Err.is at c.in_ok-icfg.ensures in
+    refused_reported c.args.entry.now c.args.text.now c.args.second.now ReportsRankingText (answer_of c.in-Err.answer) (g.H.Shelf.texts c.args.shelf.now) r
 
 pub returns-in-Err-clause-graph : goal.returns-in-Err-clause-graph
 returns-in-Err-clause-graph g c = λ z.
-    let r : IsRefusedText c.args.entry.now c.args.text.now (answered c.in-Err.answer) = rw c.in-Err.is at c.in_ok-icfg.ensures in
-    let three = refused_text_is_three c.args.entry.now c.args.text.now (answered c.in-Err.answer) r in
+    let r : IsRefusedText c.args.entry.now c.args.text.now (answer_of c.in-Err.answer) = rw c.in-Err.is at c.in_ok-icfg.ensures in
+    let three = refused_text_is_three c.args.entry.now c.args.text.now (answer_of c.in-Err.answer) r in
     absurd (omega (arith, three, z))
 
-pub returns-in-Err-clause-no_usage : goal.returns-in-Err-clause-no_usage
-returns-in-Err-clause-no_usage g c = λ e.
-    let r : IsRefusedText c.args.entry.now c.args.text.now (answered c.in-Err.answer) = rw c.in-Err.is at c.in_ok-icfg.ensures in
-    let three = refused_text_is_three c.args.entry.now c.args.text.now (answered c.in-Err.answer) r in
-    omega (arith, three, e)
-
-pub returns-clause-reported : goal.returns-clause-reported
-returns-clause-reported g c =
+pub returns-in-Ok-clause-reported : goal.returns-in-Ok-clause-reported
+returns-in-Ok-clause-reported g c =
     let h : IsGraphOfText c.args.entry.now c.args.text.now c.in-Ok.icfg = rw c.in-Ok.is at c.in_ok-icfg.ensures in
-    graph_reported c.args.entry.now c.args.text.now c.args.second.now ReportsRankingText c.in-Ok.icfg c.held_within.result (g.H.Shelf.texts c.args.shelf.now) h
+    graph_reported c.args.entry.now c.args.text.now c.args.second.now ReportsRankingText answer_of c.in-Ok.icfg c.held_within.result (g.H.Shelf.texts c.args.shelf.now) h
     c.held_within.ensures.reported
 
-pub returns-clause-graph : goal.returns-clause-graph
-returns-clause-graph g c =
+pub returns-in-Ok-clause-graph : goal.returns-in-Ok-clause-graph
+returns-in-Ok-clause-graph g c =
     let h : IsGraphOfText c.args.entry.now c.args.text.now c.in-Ok.icfg = rw c.in-Ok.is at c.in_ok-icfg.ensures in
-    IfOk-weaker c.held_within.result _ _ (λ a other z. text_is_graph c.args.entry.now c.args.text.now c.in-Ok.icfg h) c.held_within.ensures.no_usage
+    IfOk-weaker c.held_within.result _ _ (λ a other z. text_is_graph c.args.entry.now c.args.text.now c.in-Ok.icfg h) c.held_within.ensures.reported

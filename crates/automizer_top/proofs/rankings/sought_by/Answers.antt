@@ -1,13 +1,10 @@
 use Rattle.std.proofs.lemmas.Result.{IfOk-weaker}
 use Rattle.lasso_ranks.specs.Lassos.{plain_lasso}
-use Rattle.automizer_top.specs.Rankings.{IsLassoText, ReportsLassoText, no_lasso_text, no_lasso, of_lasso}
-use Rattle.automizer_top.proofs.RankingLaws.{fault_told}
+use Rattle.automizer_top.specs.Rankings.{IsLassoText, no_lasso_text, no_lasso, of_lasso}
 use Rattle.automizer_top.proofs.rankings.sought_by.Goals as goal
 
 pub returns-in-Err : goal.returns-in-Err
-returns-in-Err c =
-    fault_told c.in-Err.fault c.faulty.result (ReportsLassoText c.args.depth c.args.icfg.now c.args.text.now) c.faulty.ensures.answer c.faulty.ensures.no_memory
-    (λ a no is. no_lasso_text c.in-Err.fault c.in-Err.ensures.fault no is)
+returns-in-Err c = no_lasso_text c.in-Err.fault c.in-Err.ensures.fault c.in_ok-faulty-in-Err.ensures.no_memory c.in_ok-faulty-in-Err.ensures.answer
 
 pub returns-in-Ok-placed : goal.returns-in-Ok-placed
 returns-in-Ok-placed c =
@@ -17,5 +14,4 @@ returns-in-Ok-placed c =
 pub returns : goal.returns
 returns c =
     let text : IsLassoText c.args.text.now (plain_lasso c.in-Ok.lasso) = record { writable = c.in-Ok.ensures.found.0; spelled = c.in-Ok.ensures.found.1 } in
-    fault_told c.in-Err-placed.fault c.faulty-in-Err-placed.result (ReportsLassoText c.args.depth c.args.icfg.now c.args.text.now) c.faulty-in-Err-placed.ensures.answer c.faulty-in-Err-placed.ensures.no_memory
-    (λ a no is. no_lasso (plain_lasso c.in-Ok.lasso) c.in-Err-placed.fault text c.in-Err-placed.ensures.fault no is)
+    no_lasso (plain_lasso c.in-Ok.lasso) c.in-Err-placed.fault text c.in-Err-placed.ensures.fault c.in_ok-faulty-in-Err-placed.ensures.no_memory c.in_ok-faulty-in-Err-placed.ensures.answer

@@ -1,6 +1,6 @@
 use Rattle.automizer_top.specs.Answers.{answered}
 use Rattle.automizer_top.specs.Rankings.{ReportsLassoText}
-use Rattle.automizer_top.proofs.ReportLaws.{second_refused, second_answered}
+use Rattle.text_reports.proofs.TextLaws.{second_refused, second_answered}
 use Rattle.automizer_top.proofs.RankingLaws.{lasso_text_not_four}
 use Rattle.automizer_top.proofs.rankings.sought_within.Goals as goal
 

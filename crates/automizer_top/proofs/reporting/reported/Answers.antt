@@ -3,7 +3,7 @@ use Rattle.std.specs.String.{string_bytes}
 use Rattle.automizer_top.specs.CommandLine.{Big, requested}
 use Rattle.automizer_top.specs.Asked.{asked, settings}
 use Rattle.automizer_top.specs.Answers.{Asks, answered}
-use Rattle.automizer_top.specs.ReportTexts.{Answer}
+use Rattle.text_reports.specs.ReportTexts.{Answer}
 use Rattle.automizer_top.specs.Report.{Ask}
 use Rattle.automizer_top.proofs.UsageLaws.{asks_by, asks_texts, asks_big, used_by_code, used_by_summary}
 use Rattle.automizer_top.proofs.BigLaws.{big_reported, big_built, no_check, no_verdict, unbuilt}

@@ -1,10 +1,11 @@
 use Rattle.std.proofs.Common.{◌≡◌, Ok, ap, sym, subst, arith}
 use Rattle.automizer_top.specs.declared.words.Mode.{Mode}
-use Rattle.automizer_top.specs.Answers.{answered}
-use Rattle.automizer_top.specs.ReportTexts.{Answer}
+use Rattle.text_reports.specs.Answers.{answer_of}
+use Rattle.automizer_top.specs.declared.answer.Answer.TheVariants.{OnText}
+use Rattle.text_reports.specs.ReportTexts.{Answer}
 use Rattle.automizer_top.proofs.ReportLaws.{program_reported, check_answered, check_is_safe, replay_answered, print_reported, IsNoVerify, unverified, IsNoCheck, unchecked, verify_answered, verify_is_safe}
 use Rattle.automizer_top.proofs.RankingWords.{lasso_answered, ranked_answered, text_is_of_words, IsNoRanking, unranked}
-use Rattle.automizer_top.proofs.UsageLaws.{print_not_four}
+use Rattle.automizer_top.proofs.UsageLaws.{on_text_not_four}
 use Rattle.automizer_top.proofs.reporting.reported_on_texts.Goals as goal
 
 pub returns-in_default-clause-reported : goal.returns-in_default-clause-reported
@@ -14,13 +15,16 @@ returns-in_default-clause-reported g c = λ words ask.
 
 pub returns-in-Print-clause-reported : goal.returns-in-Print-clause-reported
 returns-in-Print-clause-reported g c = λ words ask.
-    print_reported words c.args.mode.now c.args.options.now c.in-Print.program c.program.result.now c.in-Some.text.items (answered c.in_ok-printed-in-Print.field-0)
+    print_reported words c.args.mode.now c.args.options.now c.in-Print.program c.program.result.now c.in-Some.text.items (answer_of c.in_ok-printed-in-Print.field-0)
     (g.H.Shelf.texts c.args.shelf.now) ask c.in-Print.is c.program.ensures
     (rw c.in-Some.is at c.in_ok-text.ensures.found)
     (rw (← c.deref.ensures.value) c.in_ok-printed-in-Print.ensures)
 
 pub returns-in-Print-clause-no_usage : goal.returns-in-Print-clause-no_usage
-returns-in-Print-clause-no_usage g c = print_not_four c.deref.result.now (answered c.in_ok-printed-in-Print.field-0) c.in_ok-printed-in-Print.ensures
+returns-in-Print-clause-no_usage g c = on_text_not_four c.in_ok-printed-in-Print.field-0
+
+pub returns-clause-no_usage : goal.returns-clause-no_usage
+returns-clause-no_usage g c = on_text_not_four c.in_ok-answer-in-Ranked.answer
 
 pub returns-in-Check-clause-reported : goal.returns-in-Check-clause-reported
 returns-in-Check-clause-reported g c = λ words ask.
@@ -51,9 +55,9 @@ returns-in-Lasso-clause-reported g c = λ words ask.
 
 pub returns-clause-reported : goal.returns-clause-reported
 returns-clause-reported g c = λ words ask.
-    ranked_answered words c.args.mode.now c.args.options.now c.in-Ranked.program c.in-Ranked.second c.program.result.now c.in-Some.text.items c.checked.result ask c.program.ensures
+    ranked_answered words c.args.mode.now c.args.options.now c.in-Ranked.program c.in-Ranked.second c.program.result.now c.in-Some.text.items (Ok (OnText c.in_ok-answer-in-Ranked.answer)) ask c.program.ensures
     (g.H.Shelf.texts c.args.shelf.now) c.in-Ranked.is (rw c.in-Some.is at c.in_ok-text.ensures.found)
-    (rw (← c.in_ok-text.ensures.texts, ← c.deref-in-Ranked.ensures.value) c.checked.ensures.reported)
+    (rw (← c.in_ok-text.ensures.texts, ← c.deref-in-Ranked.ensures.value) c.in_ok-answer-in-Ranked.ensures.reported)
 
 pub returns-in-Verify-clause-reported : goal.returns-in-Verify-clause-reported
 returns-in-Verify-clause-reported g c = λ words ask.
@@ -71,7 +75,7 @@ returns-in-Verify-clause-verified g c = λ words ask.
 
 pub returns-in-Print-clause-verified : goal.returns-in-Print-clause-verified
 returns-in-Print-clause-verified g c = λ words ask.
-    unverified words c.args.mode.now c.args.options.now (Ok c.in_ok-printed-in-Print.field-0) (g.H.Shelf.texts c.args.shelf.now) ask
+    unverified words c.args.mode.now c.args.options.now (Ok (OnText c.in_ok-printed-in-Print.field-0)) (g.H.Shelf.texts c.args.shelf.now) ask
     (subst (λ (m : Mode). IsNoVerify m) (sym c.in-Print.is) tt)
 
 pub returns-in-Check-clause-verified : goal.returns-in-Check-clause-verified
@@ -91,14 +95,14 @@ returns-in-Lasso-clause-verified g c = λ words ask.
 
 pub returns-clause-verified : goal.returns-clause-verified
 returns-clause-verified g c = λ words ask.
-    unverified words c.args.mode.now c.args.options.now c.checked.result (g.H.Shelf.texts c.args.shelf.now) ask
+    unverified words c.args.mode.now c.args.options.now (Ok (OnText c.in_ok-answer-in-Ranked.answer)) (g.H.Shelf.texts c.args.shelf.now) ask
     (subst (λ (m : Mode). IsNoVerify m) (sym c.in-Ranked.is) tt)
 
 -- what is no check is not accepted
 
 pub returns-in-Print-clause-accepted : goal.returns-in-Print-clause-accepted
 returns-in-Print-clause-accepted g c = λ words ask.
-    unchecked words c.args.mode.now c.args.options.now (Ok c.in_ok-printed-in-Print.field-0) (g.H.Shelf.texts c.args.shelf.now) ask
+    unchecked words c.args.mode.now c.args.options.now (Ok (OnText c.in_ok-printed-in-Print.field-0)) (g.H.Shelf.texts c.args.shelf.now) ask
     (subst (λ (m : Mode). IsNoCheck m) (sym c.in-Print.is) tt)
 
 pub returns-in-Verify-clause-accepted : goal.returns-in-Verify-clause-accepted
@@ -118,14 +122,14 @@ returns-in-Lasso-clause-accepted g c = λ words ask.
 
 pub returns-clause-accepted : goal.returns-clause-accepted
 returns-clause-accepted g c = λ words ask.
-    unchecked words c.args.mode.now c.args.options.now c.checked.result (g.H.Shelf.texts c.args.shelf.now) ask
+    unchecked words c.args.mode.now c.args.options.now (Ok (OnText c.in_ok-answer-in-Ranked.answer)) (g.H.Shelf.texts c.args.shelf.now) ask
     (subst (λ (m : Mode). IsNoCheck m) (sym c.in-Ranked.is) tt)
 
 -- the graph of a program with a lasso
 
 pub returns-in-Print-clause-ranked : goal.returns-in-Print-clause-ranked
 returns-in-Print-clause-ranked g c = λ words ask.
-    unranked words c.args.mode.now c.args.options.now (Ok c.in_ok-printed-in-Print.field-0) (g.H.Shelf.texts c.args.shelf.now) ask
+    unranked words c.args.mode.now c.args.options.now (Ok (OnText c.in_ok-printed-in-Print.field-0)) (g.H.Shelf.texts c.args.shelf.now) ask
     (subst (λ (m : Mode). IsNoRanking m) (sym c.in-Print.is) tt)
 
 pub returns-in-Verify-clause-ranked : goal.returns-in-Verify-clause-ranked
@@ -151,9 +155,9 @@ returns-in-Lasso-clause-ranked g c = λ words ask.
 
 pub returns-clause-ranked : goal.returns-clause-ranked
 returns-clause-ranked g c = λ words ask.
-    text_is_of_words words c.args.mode.now c.args.options.now c.program.result.now c.in-Some.text.items c.checked.result (g.H.Shelf.texts c.args.shelf.now) ask c.program.ensures
+    text_is_of_words words c.args.mode.now c.args.options.now c.program.result.now c.in-Some.text.items (Ok (OnText c.in_ok-answer-in-Ranked.answer)) (g.H.Shelf.texts c.args.shelf.now) ask c.program.ensures
     (rw c.in-Some.is at c.in_ok-text.ensures.found)
-    (rw (← c.deref-in-Ranked.ensures.value) c.checked.ensures.graph)
+    (rw (← c.deref-in-Ranked.ensures.value) c.in_ok-answer-in-Ranked.ensures.graph)
 
 -- a text past its limit
 

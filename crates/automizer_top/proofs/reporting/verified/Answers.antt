@@ -1,38 +1,38 @@
 use Rattle.typing_rules.specs.TypedParts.{typed_program}
-use Rattle.automizer_top.specs.Answers.{answered, IsGraphOf}
+use Rattle.text_reports.specs.Answers.{answer_of, IsGraphOf}
 use Rattle.automizer_top.specs.Report.{IsTypedText, RefusesTyped, RefusesLowering, refused, of_typed, unlowered}
-use Rattle.automizer_top.proofs.RefusalLaws.{typed_is_not_zero, lowering_is_not_zero}
+use Rattle.text_reports.proofs.RefusalLaws.{typed_is_not_zero, lowering_is_not_zero}
 use Rattle.automizer_top.proofs.VerdictLaws.{decided_reported, decided_is_safe}
 use Rattle.automizer_top.proofs.reporting.verified.Goals as goal
 
 pub returns-in-Err-clause-reported : goal.returns-in-Err-clause-reported
 returns-in-Err-clause-reported g c =
-    let r : RefusesTyped c.args.options.now.entry.now c.args.text.now (answered c.in-Err.answer) = rw c.in-Err.is at c.in_ok-program.ensures.typed in
+    let r : RefusesTyped c.args.options.now.entry.now c.args.text.now (answer_of c.in-Err.answer) = rw c.in-Err.is at c.in_ok-program.ensures.typed in
     refused r
 
 pub returns-in-Err-clause-safe : goal.returns-in-Err-clause-safe
 returns-in-Err-clause-safe g c = λ z.
-    let r : RefusesTyped c.args.options.now.entry.now c.args.text.now (answered c.in-Err.answer) = rw c.in-Err.is at c.in_ok-program.ensures.typed in
-    absurd (typed_is_not_zero c.args.options.now.entry.now c.args.text.now (answered c.in-Err.answer) r z)
+    let r : RefusesTyped c.args.options.now.entry.now c.args.text.now (answer_of c.in-Err.answer) = rw c.in-Err.is at c.in_ok-program.ensures.typed in
+    absurd (typed_is_not_zero c.args.options.now.entry.now c.args.text.now (answer_of c.in-Err.answer) r z)
 
 pub returns-in-Err-2-clause-reported : goal.returns-in-Err-2-clause-reported
 returns-in-Err-2-clause-reported g c =
     let t = typed_program c.in-Ok.program in
     let typed : IsTypedText c.args.options.now.entry.now c.args.text.now t = rw c.in-Ok.is at c.in_ok-program.ensures.typed in
-    let r : RefusesLowering t (answered c.in-Err-2.answer) = rw c.in-Err-2.is at c.in_ok-icfg.ensures in
+    let r : RefusesLowering t (answer_of c.in-Err-2.answer) = rw c.in-Err-2.is at c.in_ok-icfg.ensures.graph in
     of_typed t typed (unlowered r)
 
 pub returns-in-Err-2-clause-safe : goal.returns-in-Err-2-clause-safe
 returns-in-Err-2-clause-safe g c = λ z.
     let t = typed_program c.in-Ok.program in
-    let r : RefusesLowering t (answered c.in-Err-2.answer) = rw c.in-Err-2.is at c.in_ok-icfg.ensures in
-    absurd (lowering_is_not_zero t (answered c.in-Err-2.answer) r z)
+    let r : RefusesLowering t (answer_of c.in-Err-2.answer) = rw c.in-Err-2.is at c.in_ok-icfg.ensures.graph in
+    absurd (lowering_is_not_zero t (answer_of c.in-Err-2.answer) r z)
 
 pub returns-clause-reported : goal.returns-clause-reported
 returns-clause-reported g c =
     let t = typed_program c.in-Ok.program in
     let typed : IsTypedText c.args.options.now.entry.now c.args.text.now t = rw c.in-Ok.is at c.in_ok-program.ensures.typed in
-    let graph : IsGraphOf t c.in-Ok-2.icfg = rw c.in-Ok-2.is at c.in_ok-icfg.ensures in
+    let graph : IsGraphOf t c.in-Ok-2.icfg = rw c.in-Ok-2.is at c.in_ok-icfg.ensures.graph in
     decided_reported c.args.options.now.entry.now c.args.options.now.limits c.args.text.now t c.in-Ok-2.icfg c.decided.result typed graph
     c.decided.ensures.reported c.decided.ensures.short
 
@@ -40,5 +40,5 @@ pub returns-clause-safe : goal.returns-clause-safe
 returns-clause-safe g c =
     let t = typed_program c.in-Ok.program in
     let typed : IsTypedText c.args.options.now.entry.now c.args.text.now t = rw c.in-Ok.is at c.in_ok-program.ensures.typed in
-    let graph : IsGraphOf t c.in-Ok-2.icfg = rw c.in-Ok-2.is at c.in_ok-icfg.ensures in
+    let graph : IsGraphOf t c.in-Ok-2.icfg = rw c.in-Ok-2.is at c.in_ok-icfg.ensures.graph in
     decided_is_safe c.args.options.now.entry.now c.args.text.now t c.in-Ok-2.icfg c.decided.result typed graph c.decided.ensures.safe

@@ -1,12 +1,13 @@
 use Rattle.std.proofs.Common.{◌≡◌, ◌∙◌, codes, true, false, refl, ap₂}
 use Rattle.std.proofs.lemmas.Result.{IfOk-weaker}
 use Rattle.clap.specs.Simple.{App, with_rule}
-use Rattle.automizer_top.specs.CommandLine.{positional, option, flag, optional, bare_command, command}
+use Rattle.command_words.specs.Rules.{positional, option, flag, optional, bare_command}
+use Rattle.automizer_top.specs.CommandLine.{command}
 use Rattle.automizer_top.proofs.words.command.Goals as goal
 
 -- the command with its arguments added one by one
 abbrev with_arguments : App
-with_arguments = with_rule (with_rule (with_rule (with_rule (with_rule (with_rule (with_rule (with_rule (with_rule bare_command
+with_arguments = with_rule (with_rule (with_rule (with_rule (with_rule (with_rule (with_rule (with_rule (with_rule (bare_command (codes "automizer"))
     (positional (codes "mode") true)) (positional (codes "program") true)) (positional (codes "second") false))
     (option (codes "entry") (codes "main"))) (option (codes "rounds") (codes "1000"))) (option (codes "workers") (codes "4")))
     (option (codes "depth") (codes "16"))) (flag (codes "modular"))) (optional (codes "reuse"))
