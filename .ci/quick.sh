@@ -22,7 +22,7 @@ differs=$(.ci/crates.py) || wrong "docs/ARCHITECTURE.md says other crates than c
 twice=$(.ci/equal.py --most 4 5) || wrong "more is said twice than before (.ci/equal.py --list): $twice"
 names=$(.ci/names.py) || wrong "one name means several things on the way from the top call's contract: $names"
 cannot=$(.ci/edits.py) || wrong "an edit cannot be applied: $cannot"
-for path in automizer tools/unproved.py bench/gate.py; do
+for path in automizer explain tools/unproved.py bench/gate.py; do
   [ -x "$path" ] || wrong "the script $path is not there"
 done
 # The examples are verified as they say, by the proved program, and each verdict is confirmed.
@@ -72,13 +72,46 @@ if [ -x "$program" ]; then
   [ "$said" = 'rejected 7 BadTriple' ] || wrong "of examples/lasso/countdown.wrong is said: $said"
   rm -f "$text" "$text.answer"
 fi
-# The script runs it too, where no source is newer, through a link from another folder, and names of files are those of that folder.
-if [ -x "$program" ] && [ -z "$(find crates/*/src -name '*.rt' -newer "$program" -print -quit)" ]; then
-  away=$(mktemp -d) || exit 1
+# What is explained of an example that is safe is a program that is safe, and the shipped texts and stories are what is printed.
+second=crates/explain/out/explain
+if [ -x "$program" ] && [ -x "$second" ]; then
+  text=$(mktemp) || exit 1
+  for path in examples/verify/*.bpl; do
+    grep -q '^// By verify: safe' "$path" || continue
+    timeout 60 "$program" verify "$path" --workers 1 >"$text"
+    timeout 60 "$second" "$path" "$text" >"$text.bpl" || wrong "$path is not explained"
+    timeout 60 "$program" verify "$text.bpl" --workers 1 >"$text"
+    [ "$(sed -n 1p "$text")" = safe ] || wrong "what is explained of $path is not verified as safe"
+  done
+  for path in examples/explain/*.explained.bpl; do
+    name=$(basename "$path" .explained.bpl)
+    of=$(ls examples/{explain,verify,check}/"$name.bpl" 2>/dev/null)
+    by=$(ls examples/{explain,check}/"$name.proof" 2>/dev/null)
+    "$second" "$of" "$by" | cmp -s - "$path" || wrong "$path is not what is explained of $of by $by"
+  done
+  for path in examples/explain/*.story; do
+    name=$(basename "$path" .story)
+    "$second" "examples/replay/$name.bpl" "examples/replay/$name.failure" | cmp -s - "$path" || wrong "$path is not the story of examples/replay/$name.failure"
+  done
+  for path in examples/explain/*.trace; do
+    name=$(basename "$path" .trace)
+    "$second" "examples/lasso/$name.bpl" "$path" | cmp -s - "${path%.trace}.told" || wrong "${path%.trace}.told is not the story of $path"
+  done
+  rm -f "$text" "$text.bpl"
+fi
+# The scripts run them too, where no source is newer, through a link from another folder, and names of files are those of that folder.
+is_new() { [ -x "$1" ] && [ -z "$(find crates/*/src -name '*.rt' -newer "$1" -print -quit)" ]; }
+away=$(mktemp -d) || exit 1
+cp examples/check/fill.bpl examples/check/fill.proof "$away"
+if is_new "$program"; then
   ln -s "$PWD/automizer" "$away/link"
-  cp examples/check/fill.bpl examples/check/fill.proof "$away"
   said=$(cd "$away" && ./link check fill.bpl fill.proof 2>&1)
   [ "$said" = accepted ] || wrong "./automizer through a link from another folder says: $said"
-  rm -rf "$away"
 fi
+if is_new "$second"; then
+  ln -s "$PWD/explain" "$away/second"
+  said=$(cd "$away" && ./second fill.bpl fill.proof 2>&1)
+  [ "$said" = "$(cat examples/explain/fill.explained.bpl)" ] || wrong "./explain through a link from another folder says: $said"
+fi
+rm -rf "$away"
 exit "$failed"

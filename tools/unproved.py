@@ -1,5 +1,6 @@
 #!/usr/bin/env python3
-"""unproved.py OUT NAME: builds the program `automizer` without proofs, optimised, as the file OUT/NAME, for the script ./automizer.
+"""unproved.py OUT NAME: builds a program without proofs, optimised, as the file OUT/NAME, for the scripts ./automizer and ./explain. NAME is the
+program's, or begins with that and a dash.
 
 `rt try` makes the whole program into one LLVM module before it compiles it for a run of its own. That module is taken, the try is ended, and the
 toolchain's linker compiles what is needed of the module. Says on the error stream what it does. Ends with status 0 where OUT/NAME stands (another
@@ -17,7 +18,6 @@ import tempfile
 import time
 
 TOP = os.path.dirname(os.path.dirname(os.path.abspath(__file__)))
-CRATE = f"{TOP}/crates/automizer"
 # What a program is linked with, as the toolchain's own linker program links it; an archive of its C code and the C library follow the module.
 BEFORE = "-m elf_x86_64 -pie --dynamic-linker /lib64/ld-linux-x86-64.so.2 --as-needed -z relro -z now -z noexecstack --eh-frame-hdr --gc-sections"
 COMPILED = "--lto-O2 -mllvm -no-trap-after-noreturn -mllvm -trap-unreachable"
@@ -33,21 +33,22 @@ class Failed(Exception):
     """Why there is no program."""
 
 
-def say(text):
-    print(f"automizer: {text}", file=sys.stderr, flush=True)
+def say(program, text):
+    print(f"{program}: {text}", file=sys.stderr, flush=True)
 
 
 class Life:
     """A line on the error stream that tells what is being done and for how long, every few seconds, where that stream is a terminal."""
 
-    def __init__(self):
+    def __init__(self, program):
+        self.program = program
         self.begun, self.last, self.shows = time.monotonic(), 0.0, sys.stderr.isatty()
 
     def tell(self, what):
         now = time.monotonic()
         if self.shows and now - self.last >= 2:
             self.last = now
-            print(f"\r\x1b[Kautomizer: {what}, {now - self.begun:.0f} s", end="", file=sys.stderr, flush=True)
+            print(f"\r\x1b[K{self.program}: {what}, {now - self.begun:.0f} s", end="", file=sys.stderr, flush=True)
 
     def end(self):
         if self.shows:
@@ -102,11 +103,11 @@ def whole_module(room):
     return None
 
 
-def make_module(room, life):
-    """Has the toolchain make the program's module, and keeps it as room/program.bc."""
+def make_module(crate, room, life):
+    """Has the toolchain make the module of a program, and keeps it as room/program.bc."""
     os.mkdir(f"{room}/try")
     with open(f"{room}/said", "w+b") as said:
-        run = subprocess.Popen(["rt", "try"], cwd=CRATE, env={**os.environ, "TMPDIR": f"{room}/try"}, stdin=subprocess.DEVNULL, stdout=said,
+        run = subprocess.Popen(["rt", "try"], cwd=crate, env={**os.environ, "TMPDIR": f"{room}/try"}, stdin=subprocess.DEVNULL, stdout=said,
                                stderr=said, start_new_session=True, preexec_fn=ends_with_us(signal.SIGTERM))
         try:
             while run.poll() is None and life.seconds() < MOST:
@@ -161,33 +162,40 @@ def link(room, life):
     run_tool(words, room, life)
 
 
-def answers(program):
-    """Whether the program accepts an annotation that proves a program."""
-    text = f"{CRATE}/data/p"
+def read(path):
+    with open(path, "rb") as it:
+        return it.read()
+
+
+def answers(crate, program):
+    """Whether the program answers as its crate says."""
+    words = read(f"{crate}/args").decode().splitlines()
     try:
-        ran = subprocess.run([program, "check", text, f"{CRATE}/data/q"], stdin=subprocess.DEVNULL, capture_output=True, timeout=60)
+        ran = subprocess.run([program, *words], cwd=f"{crate}/data", stdin=subprocess.DEVNULL, capture_output=True, timeout=60)
     except (OSError, subprocess.TimeoutExpired):
         return False
-    return ran.returncode == 0 and ran.stdout == b"accepted\n"
+    return ran.returncode == 0 and ran.stdout == read(f"{crate}/stdout")
 
 
-def build(out, name):
-    life = Life()
+def build(program, out, name):
+    crate = f"{TOP}/crates/{program}"
+    life = Life(program)
     with tempfile.TemporaryDirectory(prefix="building-", dir=out) as room:
         try:
-            make_module(room, life)
+            make_module(crate, room, life)
             link(room, life)
         finally:
             life.end()
-        if not answers(f"{room}/program"):
+        if not answers(crate, f"{room}/program"):
             raise Failed("the program that was linked does not answer as it should")
-        for old in glob.glob(f"{glob.escape(out)}/automizer-*"):
+        for old in glob.glob(f"{glob.escape(out)}/{program}-*"):
             os.remove(old)
         os.rename(f"{room}/program", f"{out}/{name}")
     return life.seconds()
 
 
 def main(out, name):
+    program = name.split("-")[0]
     for number in (signal.SIGTERM, signal.SIGHUP, signal.SIGINT):
         signal.signal(number, lambda number, _: sys.exit(128 + number))
     # (a lock on the folder itself leaves no file behind)
@@ -195,20 +203,20 @@ def main(out, name):
     try:
         fcntl.flock(lock, fcntl.LOCK_EX | fcntl.LOCK_NB)
     except BlockingIOError:
-        say("another run of this script is building the program; waiting for it")
+        say(program, "another run of this script is building a program; waiting for it")
         fcntl.flock(lock, fcntl.LOCK_EX)
     if os.path.exists(f"{out}/{name}"):
         return 0
-    say("building an optimised program without proofs, once for these sources: some two to four minutes on four processors, and 4 GB of memory")
+    say(program, "building an optimised program without proofs, once for these sources: some two to four minutes on four processors, and 4 GB of memory")
     try:
         os.makedirs(out, exist_ok=True)
         # Whoever left these was killed, since this run has the lock.
         for left in glob.glob(f"{glob.escape(out)}/building-*/"):
             shutil.rmtree(left, ignore_errors=True)
-        say(f"built in {build(out, name):.0f} s")
+        say(program, f"built in {build(program, out, name):.0f} s")
         return 0
     except (Failed, OSError) as error:
-        say(f"that failed: {error}")
+        say(program, f"that failed: {error}")
         return 1
     finally:
         try:
