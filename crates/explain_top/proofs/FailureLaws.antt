@@ -1,5 +1,5 @@
 -- The explanation of a failure: there is one, it follows a replay, and with status 0 the program fails.
-use Rattle.std.proofs.Common.{◌≡◌, ℕ, ◌≤◌, Bool, List, length, Some, inl, inr, ◌⊎◌, ap, refl, sym, ◌∙◌, subst}
+use Rattle.std.proofs.Common.{◌≡◌, ℕ, ◌≤◌, Bool, List, length, Some, inl, inr, ◌⊎◌, ap, refl, sym, ◌∙◌, subst, arith}
 use Rattle.std.proofs.lemmas.Option.{same_Some}
 use Rattle.boogie_tree.specs.Tree.{Declaration}
 use Rattle.boogie_parse.proofs.WholeText.{one_program}
@@ -14,11 +14,13 @@ use Rattle.run_story.specs.Story.{IsStory}
 use Rattle.text_reports.specs.ReportTexts.{Answer, answer, replayed_answer}
 use Rattle.text_reports.specs.ReportCases as checks
 use Rattle.text_reports.specs.ReportCases.{second_limit, IsTypedText, IsFailureText, ReportsFailure, ReportsReplay, ReportsLowered, unlowered, of_lowered, ReportsSecond}
+use Rattle.text_reports.proofs.RefusalLaws.{typed_is_not_zero, lowering_is_not_zero, too_long_is_not_zero}
 use Rattle.text_reports.proofs.ReplayedOnce.{failure_once}
 use Rattle.text_reports.proofs.TextsOnce.{typed_once, second_or, AreIllTyped}
 use Rattle.explain_top.specs.Report.{ExplainsFailure, no_failure, stopped, of_failure, Kind, OfFailure, kind_of, Explains, ReportsExplain}
 use Rattle.explain_top.specs.Claims.{TellsReplay, IsUnlowered}
 use Rattle.explain_top.proofs.ExplainLaws.{one_is_not_zero}
+use Rattle.explain_top.proofs.Statuses.{zero_or_not}
 use Rattle.explain_top.proofs.StoryOnce.{one_story}
 
 module _ (program : List ℕ) (all : Bool) (t : TypedProgram) (x : List ℕ) where
@@ -114,9 +116,65 @@ module _ (entry program second : List ℕ) (all : Bool) (a b : Answer) (kind : k
   in_order (inr (inl e)) = inr (inl e)
   in_order (inr (inr broken)) = inr (inr (inl broken))
 
-  pub follows_replay : ReportsReplay entry program (Some second) a → ReportsExplain entry all program (Some second) b →
+  replayed_alike : ReportsReplay entry program (Some second) a → ReportsExplain entry all program (Some second) b →
       Tells ⊎ ((a ≡ b) ⊎ (AreIllTyped a b ⊎ IsUnlowered entry program b))
-  follows_replay r s =
+  replayed_alike r s =
       in_order (typed_once entry program (λ t. ReportsSecond (Some second) (ReportsFailure t))
       (λ t. ReportsLowered t (λ g. ReportsSecond (Some second) (λ text. Explains (kind_of text) program all t g text)))
       (Tells ⊎ ((a ≡ b) ⊎ IsUnlowered entry program b)) a b lowered_follows r s)
+
+  -- ---- answers to a replay and to an explanation that are equal have another status than 0
+
+  one_of : (c : Answer) → (a ≡ c) ⊎ (a ≡ c) → a ≡ c
+  one_of c (inl e) = e
+  one_of c (inr e) = e
+
+  same_replay : (id : AssertId) → ReportsReplay entry program (Some second) a → ReportsReplay entry program (Some second) (replayed_answer id) → a ≡ replayed_answer id
+  same_replay id r k =
+      by_case (typed_once entry program (λ t. ReportsSecond (Some second) (ReportsFailure t)) (λ t. ReportsSecond (Some second) (ReportsFailure t)) (a ≡ replayed_answer id)
+      a (replayed_answer id) (λ t w h j. one_of (replayed_answer id)
+      (second_or (Some second) (ReportsFailure t) (ReportsFailure t) (a ≡ replayed_answer id) a (replayed_answer id) (λ x e l. failure_once t x a (replayed_answer id)) h j)) r k)
+    where
+      by_case : (a ≡ replayed_answer id) ⊎ ((a ≡ replayed_answer id) ⊎ AreIllTyped a (replayed_answer id)) → a ≡ replayed_answer id
+      by_case (inl e) = e
+      by_case (inr (inl e)) = e
+      by_case (inr (inr h)) = absurd (let d : 0 ≡ 3 = ap (λ (c : Answer). c.status) h.1.1 in omega arith)
+
+  failure_zero : ReportsReplay entry program (Some second) a → (t : TypedProgram) → IsTypedText entry program t → length second ≤ second_limit →
+      ExplainsFailure program all t second b → b.status ≡ 0 → Tells
+  failure_zero r t w l (no_failure line wrong is) z = absurd (one_is_not_zero b (ap (λ (c : Answer). c.status) is) z)
+  failure_zero r t w l (stopped f step cause h s is) z = absurd (one_is_not_zero b (ap (λ (c : Answer). c.status) is) z)
+  failure_zero r t w l (of_failure f id ds story h spelled told is) z =
+      record {
+        meant = t;
+        tree = ds;
+        failure = f;
+        assertion = id;
+        story = story;
+        typed = w;
+        spelled = spelled;
+        read = h;
+        of_run = told;
+        is_replayed = same_replay id r (checks.of_typed t w (checks.of_second second refl l (replays program all t second ds f id story h told)));
+        is_told = is;
+      }
+
+  tells_zero : ReportsReplay entry program (Some second) a → ReportsExplain entry all program (Some second) b → b.status ≡ 0 → Tells
+  tells_zero r (checks.refused k) z = absurd (typed_is_not_zero entry program b k z)
+  tells_zero r (checks.of_typed t w (unlowered k)) z = absurd (lowering_is_not_zero t b k z)
+  tells_zero r (checks.of_typed t w (of_lowered none (checks.second_too_long x e past is))) z = absurd (too_long_is_not_zero b is z)
+  tells_zero r (checks.of_typed t w (of_lowered none (checks.of_second x e l k))) z =
+      let same : x ≡ second = same_Some x second (sym e) in
+      let told : Explains (kind_of second) program all t (lowered t) second b = subst (λ (y : List ℕ). Explains (kind_of y) program all t (lowered t) y b) same k in
+      failure_zero r t w (subst (λ (y : List ℕ). length y ≤ second_limit) same l) (subst (λ (o : Kind). Explains o program all t (lowered t) second b) kind told) z
+
+  pub follows_replay : ReportsReplay entry program (Some second) a → ReportsExplain entry all program (Some second) b →
+      Tells ⊎ (((a ≡ b) × (b.status ≡ 0 → ⊥)) ⊎ (AreIllTyped a b ⊎ IsUnlowered entry program b))
+  follows_replay r s = told_apart (replayed_alike r s) (zero_or_not b.status)
+    where
+      told_apart : Tells ⊎ ((a ≡ b) ⊎ (AreIllTyped a b ⊎ IsUnlowered entry program b)) → (b.status ≡ 0) ⊎ (b.status ≡ 0 → ⊥) →
+          Tells ⊎ (((a ≡ b) × (b.status ≡ 0 → ⊥)) ⊎ (AreIllTyped a b ⊎ IsUnlowered entry program b))
+      told_apart (inl x) d = inl x
+      told_apart (inr (inl e)) (inl z) = inl (tells_zero r s z)
+      told_apart (inr (inl e)) (inr other) = inr (inl (e, other))
+      told_apart (inr (inr y)) d = inr (inr y)

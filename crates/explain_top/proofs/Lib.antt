@@ -6,3 +6,4 @@ pub mod TraceOnce
 pub mod RunLaws
 pub mod ReportUnique
 pub mod MoreLaws
+mod Statuses

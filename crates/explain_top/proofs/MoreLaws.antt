@@ -13,13 +13,14 @@ use Rattle.explained_proof.specs.Laws.{ExplainedSaysMore}
 use Rattle.text_reports.specs.ReportTexts.{Answer, syntax_answer, accepted_answer}
 use Rattle.text_reports.specs.ReportCases as checks
 use Rattle.text_reports.specs.ReportCases.{second_limit, IsTypingRefusal, IsSafeText, IsTypedText, ReportsAnnotation, ReportsProof, ReportsCheck, ReportsLowered, unlowered, of_lowered, ReportsSecond, second_too_long, of_second, ReportsTyped, refused, of_typed}
-use Rattle.text_reports.proofs.RefusalLaws.{typed_is_not_zero, lowering_is_not_zero, too_long_is_not_zero, annotation_zero}
+use Rattle.text_reports.proofs.RefusalLaws.{typed_is_not_zero, lowering_is_not_zero, too_long_is_not_zero, annotation_zero, proof_zero}
 use Rattle.text_reports.proofs.ProofOnce.{one_first_wrong, one_content, wrong_or_not, proof_once}
 use Rattle.text_reports.proofs.TextsOnce.{graph_and_second}
 use Rattle.explain_top.specs.CommandLine.{Request, requested}
 use Rattle.explain_top.specs.Report.{ExplainsAnnotation, not_accepted, accepted, explained_program, ExplainsProof, no_annotation, of_annotation, Kind, OfProof, kind_of, Explains, ReportsExplain, Reports, usage, explaining}
 use Rattle.explain_top.specs.Claims.{SaysMoreThan}
 use Rattle.explain_top.proofs.ExplainLaws.{one_is_not_zero}
+use Rattle.explain_top.proofs.Statuses.{zero_or_not}
 
 -- ---- a check of the same texts
 
@@ -68,9 +69,9 @@ as_proof entry all program second a kind (of_typed t w (of_lowered none (of_seco
     let of_proof : kind_of x ≡ OfProof = subst IsOfProof e kind in
     of_typed t w (of_lowered none (of_second x e l (subst (λ (k : Kind). Explains k program all t (lowered t) x a) of_proof r)))
 
-pub follows_check : ExplainedSaysMore → (entry program : List ℕ) (all : Bool) (second : Option (List ℕ)) (a b : Answer) → IsOfProof second →
+checked_alike : ExplainedSaysMore → (entry program : List ℕ) (all : Bool) (second : Option (List ℕ)) (a b : Answer) → IsOfProof second →
     ReportsCheck entry program second a → ReportsExplain entry all program second b → Explained program a b ⊎ ((a ≡ b) ⊎ (IsTypingRefusal a × IsTypingRefusal b))
-follows_check more entry program all second a b kind r s =
+checked_alike more entry program all second a b kind r s =
     in_order (Explained program a b) (IsTypingRefusal a × IsTypingRefusal b) a b
     (graph_and_second entry program second (λ t g x. ReportsProof g x) (λ t g x. ExplainsProof program t x g) (Explained program a b ⊎ (a ≡ b)) a b
     (λ t x w l. follows_proof more program t (lowered t) x a b l) r (as_proof entry all program second b kind s))
@@ -108,3 +109,24 @@ answer_says_more more words texts r second a asked named kind (explaining q text
       subst (λ (p : Request). text_named p.program texts ≡ Some text) same found,
       explain_says_more more q.entry text (text_named q.answer texts) a (as_proof q.entry q.all text (text_named q.answer texts) a of_proof e) zero,
     )
+
+-- ---- answers to a check and to an explanation that are equal have another status than 0
+
+check_zero : (entry program : List ℕ) (second : Option (List ℕ)) (a : Answer) → ReportsCheck entry program second a → a.status ≡ 0 → a ≡ accepted_answer
+check_zero entry program second a (refused r) zero = absurd (typed_is_not_zero entry program a r zero)
+check_zero entry program second a (of_typed t w (unlowered r)) zero = absurd (lowering_is_not_zero t a r zero)
+check_zero entry program second a (of_typed t w (of_lowered none (second_too_long x e past is))) zero = absurd (too_long_is_not_zero a is zero)
+check_zero entry program second a (of_typed t w (of_lowered none (of_second x e l r))) zero = proof_zero (lowered t) x a r zero
+
+pub follows_check : ExplainedSaysMore → (entry program : List ℕ) (all : Bool) (second : Option (List ℕ)) (a b : Answer) → IsOfProof second →
+    ReportsCheck entry program second a → ReportsExplain entry all program second b →
+    Explained program a b ⊎ (((a ≡ b) × (b.status ≡ 0 → ⊥)) ⊎ (IsTypingRefusal a × IsTypingRefusal b))
+follows_check more entry program all second a b kind r s = told_apart (checked_alike more entry program all second a b kind r s) (zero_or_not b.status)
+  where
+    told_apart : Explained program a b ⊎ ((a ≡ b) ⊎ (IsTypingRefusal a × IsTypingRefusal b)) → (b.status ≡ 0) ⊎ (b.status ≡ 0 → ⊥) →
+        Explained program a b ⊎ (((a ≡ b) × (b.status ≡ 0 → ⊥)) ⊎ (IsTypingRefusal a × IsTypingRefusal b))
+    told_apart (inl x) d = inl x
+    told_apart (inr (inl e)) (inl z) =
+        inl (check_zero entry program second a r (ap (λ (c : Answer). c.status) e ∙ z), explain_says_more more entry program second b (as_proof entry all program second b kind s) z)
+    told_apart (inr (inl e)) (inr other) = inr (inl (e, other))
+    told_apart (inr (inr y)) d = inr (inr y)

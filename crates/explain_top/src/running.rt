@@ -82,22 +82,22 @@ pub fn one_report()
     nodes_are_named_once();
 }
 
-/// A program and an annotation of it are explained exactly where `check` accepts them, by a program that says more; else this is answered that
-/// `check` answers.
+/// A program and an annotation of it are explained exactly where `check` accepts them, by a program that says more; else both answer the same, with
+/// another status than 0.
 pub fn explanations_follow_checks()
     ensures { (entry program : List ℕ) (all : Bool) (second : Option (List ℕ)) (a b : Answer) → IfSome second (λ text. kind_of text ≡ OfProof) →
         ReportsCheck entry program second a → ReportsExplain entry all program second b →
-        ((a ≡ accepted_answer) × SaysMoreThan program b) ⊎ ((a ≡ b) ⊎ (IsTypingRefusal a × IsTypingRefusal b)) }
+        ((a ≡ accepted_answer) × SaysMoreThan program b) ⊎ (((a ≡ b) × (b.status ≢ 0)) ⊎ (IsTypingRefusal a × IsTypingRefusal b)) }
 {
     explained_programs_say_more();
 }
 
-/// A program and a failure of it are explained exactly where `replay` finds that it fails, by the story of that run; else this is answered that
-/// `replay` answers, but for a program that cannot be lowered, which is refused.
+/// A program and a failure of it are explained exactly where `replay` finds that it fails, by the story of that run; else both answer the same, with
+/// another status than 0, but for a program that cannot be lowered, which is refused.
 pub fn explanations_follow_replays()
     ensures { (entry program second : List ℕ) (all : Bool) (a b : Answer) → kind_of second ≡ OfFailure →
         ReportsReplay entry program (Some second) a → ReportsExplain entry all program (Some second) b →
-        TellsReplay entry program second all a b ⊎ ((a ≡ b) ⊎ ((IsTypingRefusal a × IsTypingRefusal b) ⊎ IsUnlowered entry program b)) }
+        TellsReplay entry program second all a b ⊎ (((a ≡ b) × (b.status ≢ 0)) ⊎ ((IsTypingRefusal a × IsTypingRefusal b) ⊎ IsUnlowered entry program b)) }
 {}
 
 /// What is answered with status 0 to a text that does not begin as that of a failure or of a trace is a program that says more than the one that the words name.
